@@ -1,29 +1,67 @@
-# Installs the program of these sources (scripts/program.sh) with its manual page and its completion for bash. Building the program
-# is no part of it: ./rst2pseudoxml and scripts/build.sh do that, where the kit is.
+# Installs the program of these sources (scripts/program.sh) with its manual page, the pages that this cites, the integrations, and
+# completions for three shells. Building the program is no part of it: scripts/build.sh does that, where the kit is.
 PREFIX = /usr/local
 DESTDIR =
+PROGRAM = rst2pseudoxml
+MANPAGE = $(PROGRAM).1
+STATIC = yes
 
-bin = $(DESTDIR)$(PREFIX)/bin
-man = $(DESTDIR)$(PREFIX)/share/man/man1
-completions = $(DESTDIR)$(PREFIX)/share/bash-completion/completions
+share = $(DESTDIR)$(PREFIX)/share
+own = $(PREFIX)/share/rst2pseudoxml
+bash = $(share)/bash-completion/completions/$(PROGRAM)
+zsh = $(share)/zsh/site-functions/_$(PROGRAM)
+fish = $(share)/fish/vendor_completions.d/$(PROGRAM).fish
+scripts = check-pages.sh check-trees.sh
+files = docutils-names.txt sphinx-names.txt flycheck-rst2pseudoxml.el rst2pseudoxml.py vscode-tasks.json
+pages = docs/PROFILE.md docs/DOCUTILS.md docs/INTEGRATIONS.md
+
+# What is installed runs the program that is installed with it.
+named = sed \
+	-e 's|^\( *program=\)rst2pseudoxml$$|\1"$(PREFIX)/bin/$(PROGRAM)"|' \
+	-e 's|^PROGRAM = "rst2pseudoxml"|PROGRAM = "$(PREFIX)/bin/$(PROGRAM)"|' \
+	-e 's|:command ("rst2pseudoxml"|:command ("$(PREFIX)/bin/$(PROGRAM)"|' \
+	-e 's|"check-pages.sh"|"$(own)/check-pages.sh"|' \
+	-e 's|^\(.compdef\) rst2pseudoxml$$|\1 $(PROGRAM)|' \
+	-e 's|^\(complete -c\) rst2pseudoxml|\1 $(PROGRAM)|' \
+	-e 's|^\(complete -F _rst2pseudoxml\) rst2pseudoxml|\1 $(PROGRAM)|'
 
 help:
-	@echo 'make install      installs rst2pseudoxml below $(DESTDIR)$(PREFIX)'
+	@echo 'make install      installs $(PROGRAM) below $(DESTDIR)$(PREFIX)'
 	@echo 'make uninstall    removes what was installed there'
+	@echo 'make dist         makes a tarball of the last commit, whose name has the version'
 	@echo 'make check        passes all tests, which takes the kit and an hour or more'
-	@echo 'PREFIX is /usr/local if not given; DESTDIR, if given, is put before it.'
+	@echo 'PREFIX is /usr/local if not given; DESTDIR, if given, is put before it. PROGRAM names the program'
+	@echo '(rst2pseudoxml if not given, as in the package of Docutils), and MANPAGE its page ($(MANPAGE)).'
+	@echo 'The static program is installed if there is one; with STATIC=no the one that needs the C library of the system.'
 
 install:
-	program=$$(scripts/program.sh) && \
-	mkdir -p "$(bin)" "$(man)" "$(completions)" && \
-	install -m 755 "$$program" "$(bin)/rst2pseudoxml"
-	install -m 644 docs/rst2pseudoxml.1 "$(man)/rst2pseudoxml.1"
-	install -m 644 completion/rst2pseudoxml.bash "$(completions)/rst2pseudoxml"
+	[ "$(STATIC)" = no ] || set -- --static; \
+	program=$$(scripts/program.sh "$$@") && \
+	mkdir -p "$(DESTDIR)$(PREFIX)/bin" "$(share)/man/man1" "$(DESTDIR)$(own)" "$(share)/doc/rst2pseudoxml/profile" && \
+	mkdir -p "$$(dirname "$(bash)")" "$$(dirname "$(zsh)")" "$$(dirname "$(fish)")" && \
+	rm -f "$(DESTDIR)$(PREFIX)/bin/$(PROGRAM)" && cp "$$program" "$(DESTDIR)$(PREFIX)/bin/$(PROGRAM)" && \
+	chmod 755 "$(DESTDIR)$(PREFIX)/bin/$(PROGRAM)"
+	sed -e 's|^rst2pseudoxml|$(PROGRAM)|' -e 's|\([^/]\)rst2pseudoxml|\1$(PROGRAM)|g' -e 's|/usr/local|$(PREFIX)|g' docs/rst2pseudoxml.1 >"$(share)/man/man1/$(MANPAGE)"
+	$(named) completion/rst2pseudoxml.bash >"$(bash)"
+	$(named) completion/_rst2pseudoxml >"$(zsh)"
+	$(named) completion/rst2pseudoxml.fish >"$(fish)"
+	for file in $(scripts) $(files); do $(named) "integrations/$$file" >"$(DESTDIR)$(own)/$$file" || exit; done
+	cp $(pages) "$(share)/doc/rst2pseudoxml"
+	cp docs/profile/*.md "$(share)/doc/rst2pseudoxml/profile"
+	cd "$(share)/doc/rst2pseudoxml" && chmod 644 *.md profile/*.md
+	cd "$(DESTDIR)$(own)" && chmod 644 $(files) && chmod 755 $(scripts)
+	chmod 644 "$(share)/man/man1/$(MANPAGE)" "$(bash)" "$(zsh)" "$(fish)"
 
 uninstall:
-	rm -f "$(bin)/rst2pseudoxml" "$(man)/rst2pseudoxml.1" "$(completions)/rst2pseudoxml"
+	rm -f "$(DESTDIR)$(PREFIX)/bin/$(PROGRAM)" "$(share)/man/man1/$(MANPAGE)" "$(bash)" "$(zsh)" "$(fish)"
+	rm -rf "$(DESTDIR)$(own)" "$(share)/doc/rst2pseudoxml"
+
+dist:
+	name=rst2pseudoxml-$$(sed -n 's/^\.TH .* "rst2pseudoxml \([0-9.]*\)".*/\1/p' docs/rst2pseudoxml.1) && \
+	git archive --prefix="$$name/" -o "$$name.tar.gz" HEAD && \
+	echo "$$name.tar.gz"
 
 check:
 	./check
 
-.PHONY: help install uninstall check
+.PHONY: help install uninstall dist check

@@ -1,4 +1,4 @@
-#!/usr/bin/env bash
+#!/bin/sh
 # Compares the tree of each X.rst in a folder with the file X.tree beside it, and shows the differences.
 #
 #     check-trees.sh [--update] [--] FOLDER
@@ -8,8 +8,6 @@
 # missing, or can't be made, 2 if nothing was compared. A page is read by standard input, so its source is `<stdin>` on every
 # machine. The program is that of the checkout that this script is in; a copy of the script runs the `rst2pseudoxml` on the PATH.
 set -u
-program=$(dirname -- "$(dirname -- "$(readlink -f -- "$0")")")/rst2pseudoxml
-[ -f "$program" ] || program=rst2pseudoxml
 
 refuse() { # LINE
   printf 'check-trees.sh: %s\n' "$1" >&2
@@ -26,7 +24,7 @@ write_tree() { # TREE: by a file beside it, so that it is never half written
 }
 
 check_tree() { # PAGE
-  local tree=${1%.rst}.tree status
+  tree=${1%.rst}.tree
   "$program" --verbose --halt=none >"$made/tree" 2>"$made/said" <"$1"
   status=$?
   if [ "$status" != 0 ]; then
@@ -38,7 +36,7 @@ check_tree() { # PAGE
   if [ "$update" = yes ]; then
     cmp -s -- "$tree" "$made/tree" || write_tree "$tree"
   elif [ -e "$tree" ]; then
-    diff -au --label "$tree" --label "what $1 is now" -- "$tree" "$made/tree"
+    diff -au -L "$tree" -L "what $1 is now" -- "$tree" "$made/tree"
   else
     printf '%s: there is no %s; --update writes it\n' "$1" "$tree"
     return 1
@@ -54,13 +52,18 @@ fi
 [ "${1-}" = -- ] && shift
 [ $# = 1 ] || refuse "usage: check-trees.sh [--update] [--] FOLDER"
 case $1 in -*) folder=./$1 ;; *) folder=$1 ;; esac
-shopt -s nullglob
-pages=("$folder"/*.rst)
-[ ${#pages[@]} -gt 0 ] || refuse "there is no .rst file in $1"
-command -v -- "$program" >/dev/null || refuse "there is no rst2pseudoxml on the PATH"
+set -- "$folder"/*.rst
+[ -e "$1" ] || [ -h "$1" ] || refuse "there is no .rst file in ${folder#./}"
+beside=$(dirname -- "$(readlink -f -- "$0")")/../rst2pseudoxml
+if [ -f "$beside" ]; then
+  program=$(RST2PSEUDOXML_PATH=print "$beside") || exit 2
+else
+  program=rst2pseudoxml
+fi
+command -v -- "$program" >/dev/null || refuse "there is no program $program"
 made=$(mktemp -d) && trap 'rm -rf -- "$made"' EXIT || exit 2
 failed=0
-for page in "${pages[@]}"; do
+for page; do
   check_tree "$page" || failed=1
 done
 exit $failed

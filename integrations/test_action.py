@@ -15,13 +15,12 @@ import yaml
 
 TOP = pathlib.Path(__file__).resolve().parent.parent
 ACTION = yaml.safe_load((TOP / "action.yml").read_text())
-MATCHER = TOP / "integrations" / "github-problem-matcher.json"
-WARNING = "1: (WARNING/2) Inline emphasis start-string without end-string."
+WARNING = "::warning file=%s,line=1::Inline emphasis start-string without end-string."
 PAGES = {"good.rst": "fine\n", "in a folder/deeper/b c.rst": "A *word\n", "-x.rst": "A *word\n", ".hidden/d.rst": "A *word\n"}
 
 
 def run_step(workspace, **given):
-    """The status of the step, and the lines that it prints after the one that names the matcher."""
+    """The status of the step, and the lines that it prints."""
     (step,) = ACTION["runs"]["steps"]
     inputs = {name: given.pop(name, about["default"]) for name, about in ACTION["inputs"].items()}
     assert not given, given
@@ -38,9 +37,7 @@ def run_step(workspace, **given):
         stdout=subprocess.PIPE,
         stderr=subprocess.STDOUT,
     )
-    first, *lines = done.stdout.decode("utf-8").split("\n")
-    assert first == f"::add-matcher::{MATCHER}" and MATCHER.is_file(), first
-    return done.returncode, lines[:-1]
+    return done.returncode, done.stdout.decode("utf-8").splitlines()
 
 
 class Action(unittest.TestCase):
@@ -57,22 +54,35 @@ class Action(unittest.TestCase):
         self.assertEqual(run_step(self.workspace, **given), (status, lines))
 
     def test_all_pages(self):
-        self.same(1, [f"./-x.rst:{WARNING}", f"in a folder/deeper/b c.rst:{WARNING}"])
+        self.same(1, [WARNING % "-x.rst", WARNING % "in a folder/deeper/b c.rst"])
 
     def test_names_and_patterns(self):
         self.same(0, [], files="good.rst")
-        self.same(1, [f"in a folder/deeper/b c.rst:{WARNING}"], files="good.rst\nin a folder/*/*.rst\n")
+        self.same(1, [WARNING % "in a folder/deeper/b c.rst"], files="good.rst\nin a folder/*/*.rst\n")
 
     def test_level(self):
         self.same(0, [], level="error")
         self.same(2, ["check-pages.sh: no such level: loud"], level="loud")
 
     def test_nothing_matches(self):
-        self.same(1, ["docs/*.rst: rst2pseudoxml: cannot open docs/*.rst"], files="docs/*.rst\ngood.rst")
-        self.same(2, ["check-pages.sh: no file was named (usage: check-pages.sh [--level=LEVEL] [--] FILE..)"], files="")
+        self.same(1, ["::error file=docs/*.rst::cannot open docs/*.rst"], files="docs/*.rst\ngood.rst")
+        status, (line,) = run_step(self.workspace, files="")
+        self.assertEqual((status, line[:38]), (2, "check-pages.sh: no file was named (usa"))
+
+    def test_known_names(self):
+        (self.workspace / "sphinx.rst").write_text(":ref:`a` :ours:`b`\n")
+        unknown = '::error file=sphinx.rst,line=1::Unknown interpreted text role "%s".'
+        given = {"files": "sphinx.rst", "level": "error"}
+        hint = "sphinx.rst: passes with --known="
+        self.same(1, [unknown % "ref", unknown % "ours", hint + "role:ref,role:ours"], **given)
+        self.same(1, [unknown % "ours", hint + "role:ours"], known="@sphinx-names.txt", **given)
+        self.same(0, [], known="@sphinx-names.txt\nrole:ours,other\n", **given)
+        (self.workspace / ".rst-known").write_text("@sphinx-names.txt\nours\n")
+        self.same(0, [], **given)
 
     def test_inputs_are_no_commands(self):
-        self.same(1, ["$(echo good.rst): rst2pseudoxml: cannot open $(echo good.rst)"], files="$(echo good.rst)")
+        self.same(1, ["::error file=$(echo good.rst)::cannot open $(echo good.rst)"], files="$(echo good.rst)")
+        self.same(2, ["check-pages.sh: cannot read $(echo good.rst)"], known="@$(echo good.rst)", files="good.rst")
 
 
 class Hook(unittest.TestCase):

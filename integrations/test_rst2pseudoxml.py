@@ -71,6 +71,18 @@ class Assertions(unittest.TestCase):
             ],
         )
 
+    def test_marks(self):
+        for expected, marked in (
+            ("    Hallo\n", ["-    Hallo", "?     ^", "+    Hello", "?     ^"]),
+            ("    Hello \n", ["-    Hello ", "?         ^", "+    Hello"]),
+            ("    Hell\n", ["-    Hell", "+    Hello", "?        ^"]),
+            ("    Hello  \n    you\n", ["-    Hello  ", "?         ^^", "-    you", "+    Hello"]),
+        ):
+            with self.subTest(expected=expected), self.assertRaises(AssertionError) as failed:
+                assert_tree("Hello", HELLO.replace("        Hello\n", expected.replace("    ", " " * 8)))
+            lines = str(failed.exception).split("\n")
+            self.assertEqual([line for line in lines[4:] if line[:1] in tuple("-+?")], [line.replace("    ", " " * 8, 1) for line in marked])
+
     def test_spaces_and_line_ends_count(self):
         for expected in (HELLO.replace("Hello", "Hello "), HELLO + "\n", HELLO.rstrip("\n"), " " + HELLO, ""):
             with self.subTest(expected=expected), self.assertRaises(AssertionError):

@@ -9,7 +9,7 @@ if [[ "$(scripts/program.sh 2>/dev/null)" == */"$program" ]]; then
   exit 0
 fi
 sources=$(scripts/digest.sh)
-echo "rst2pseudoxml: proving and building the program; this takes some minutes the first time" >&2
+echo "rst2pseudoxml: proving and building the program: about an hour the first time (\`rt try\` in crates/rst2pseudoxml runs it without proofs)" >&2
 rm -f "$program.sources"
 log=$(mktemp) && trap 'rm -f "$log"' EXIT
 if ! (cd crates/rst2pseudoxml && rt run </dev/null 2>&1 >/dev/null | tee "$log" | { grep --line-buffered '^rt:' || true; }) >&2; then

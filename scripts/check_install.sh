@@ -1,6 +1,7 @@
 #!/usr/bin/env bash
-# Tests make install: installs into a folder of its own, runs the program that is there, looks at its manual page, tries the
-# completion, and uninstalls.
+# Tests make install: installs into a folder of its own, runs what is there, looks at the manual page, tries the completions, and
+# uninstalls, with the usual names and with others; and make dist. Prints a line for each shell that is missing.
+# shellcheck disable=SC2016 # backticks of reStructuredText
 set -u
 unset MAKEFLAGS MAKELEVEL
 top=$(cd -- "$(dirname -- "$0")/.." && pwd)
@@ -24,11 +25,20 @@ files() {
   (cd "$target" && find . -type f | LC_ALL=C sort)
 }
 
+names() { # PROGRAM: what is installed by other names than in the checkout
+  printf './opt/rst/%s\n' "bin/$1" "share/bash-completion/completions/$1" "share/fish/vendor_completions.d/$1.fish" "share/man/man1/$1.1" "share/zsh/site-functions/_$1"
+}
+pages=$(cd "$top/docs" && printf './opt/rst/share/doc/rst2pseudoxml/%s\n' DOCUTILS.md INTEGRATIONS.md PROFILE.md profile/*)
+integrations=$(cd "$top/integrations" && printf './opt/rst/share/rst2pseudoxml/%s\n' check-*.sh *-names.txt flycheck* *.json rst2pseudoxml.py)
+all() { printf '%s\n' "$(names "$1")" "$pages" "$integrations" | LC_ALL=C sort; }
+hello=$'<document source="<stdin>">\n    <paragraph>\n        Hello'
+
 same 'make install' '' "$(of_make install)"
-same 'what is installed' "./opt/rst/bin/rst2pseudoxml
-./opt/rst/share/bash-completion/completions/rst2pseudoxml
-./opt/rst/share/man/man1/rst2pseudoxml.1" "$(files)"
-same 'the program' $'<document source="<stdin>">\n    <paragraph>\n        Hello' "$(printf 'Hello' | "$installed/bin/rst2pseudoxml" 2>&1)"
+same 'what is installed' "$(all rst2pseudoxml)" "$(files)"
+same 'the program' "$hello" "$(printf 'Hello' | "$installed/bin/rst2pseudoxml" 2>&1)"
+same 'who may read' '' "$(find "$target" -type f ! -perm -a+r)"
+same 'what runs' 'bin/rst2pseudoxml share/rst2pseudoxml/check-pages.sh share/rst2pseudoxml/check-trees.sh' \
+  "$(cd "$installed" && find . -type f -perm -a+x | LC_ALL=C sort | sed 's|./||' | paste -sd ' ')"
 if command -v man >/dev/null; then
   same 'the manual page' 'rst2pseudoxml - print the document tree of reStructuredText as pseudo-XML' \
     "$(MANWIDTH=100 man -l "$installed/share/man/man1/rst2pseudoxml.1" 2>&1 | sed -n 's/^ *\(rst2pseudoxml - .*\)/\1/p')"
@@ -61,7 +71,60 @@ same 'after the options' '' "$(completed -- --ha)"
 documented=$(sed -n 's/^| \(`-[^|]*\)|.*/\1/p' "$top/docs/profile/options.md" | grep -o -- '--*[a-z][a-z-]*' | sort)
 same 'the options of the page' "$documented" "$(completed - | tr '|' '\n' | tr -d = | sort)"
 
+# zsh and fish.
+if command -v zsh >/dev/null; then
+  same 'zsh' '' "$(zsh -fc "fpath=('$installed/share/zsh/site-functions' \$fpath); autoload -U compinit && compinit -D -u && autoload +X _rst2pseudoxml" 2>&1)"
+  same 'the options in zsh' "$documented" "$(grep -o '[{"(,]-[a-z]*[+,}=]\|--[a-z-]*[=[}]' "$installed/share/zsh/site-functions/_rst2pseudoxml" | tr -d '{}"(,+=[' | sort -u)"
+else
+  echo "skipped: the completion of zsh, as there is none"
+fi
+if command -v fish >/dev/null; then
+  same 'fish' "$(tr ' ' '\n' <<<"$documented" | grep -- -- | sort)" \
+    "$(HOME=$folder fish -c "source $(printf %q "$installed")/share/fish/vendor_completions.d/rst2pseudoxml.fish; complete -C 'rst2pseudoxml --'" 2>&1 | sed 's/[=[:space:]].*//' | sort)"
+else
+  echo "skipped: the completion of fish, as there is none"
+fi
+
+same 'a folder from here' '' "$(cd "$top" && make -s install DESTDIR="$(realpath --relative-to="$top" "$target")" PREFIX=/opt/rst 2>&1)"
 same 'make uninstall' '' "$(of_make uninstall)"
 same 'what is left' '' "$(files)"
+
+# Another name: what is installed runs the program of that name, wherever the PATH leads.
+of_make() { # TARGET
+  make -s -C "$top" "$1" DESTDIR= PREFIX="$installed" PROGRAM=rst-tree MANPAGE=tree.1 2>&1 || echo "status $?"
+}
+same 'make install, another name' '' "$(of_make install)"
+same 'what is installed, another name' "$(all rst-tree | sed 's|man1/rst-tree|man1/tree|' | LC_ALL=C sort)" "$(files)"
+same 'the program, another name' "$hello" "$(printf 'Hello' | "$installed/bin/rst-tree" 2>&1)"
+printf 'A *word\n' >page.rst
+warning='page.rst:1: (WARNING/2) Inline emphasis start-string without end-string.'
+same 'check-pages.sh' "$warning"$'\nstatus 1' "$("$installed/share/rst2pseudoxml/check-pages.sh" page.rst 2>&1; echo "status $?")"
+same 'check-trees.sh' $'written: ./page.tree\nstatus 0' "$("$installed/share/rst2pseudoxml/check-trees.sh" --update . 2>&1; echo "status $?")"
+printf ':ref:`a`\n' >page.rst
+same 'the names of Sphinx' '' "$("$installed/share/rst2pseudoxml/check-pages.sh" --known=@sphinx-names.txt page.rst 2>&1)"
+if command -v python3 >/dev/null; then
+  same 'the Python module' "$hello" "$(PYTHONDONTWRITEBYTECODE=1 PYTHONPATH=$installed/share/rst2pseudoxml python3 -c 'import rst2pseudoxml; print(rst2pseudoxml.tree("Hello"), end="")' 2>&1)"
+fi
+same 'the name in completions' '1 1 10' "$(cd "$installed/share" && grep -ch -- ' rst-tree\( \|$\)' bash-completion/completions/rst-tree zsh/site-functions/_rst-tree fish/vendor_completions.d/rst-tree.fish | paste -sd ' ')"
+same 'the name in the page' '0' "$(grep -c '^\.[BI].* rst2pseudoxml' "$installed/share/man/man1/tree.1")"
+if [ "$("$top/scripts/program.sh")" != "$("$top/scripts/program.sh" --static)" ]; then
+  of_make install >/dev/null
+  same 'the static program' '' "$(cmp "$installed/bin/rst-tree" "$("$top/scripts/program.sh" --static)" 2>&1)"
+  make -s -C "$top" install STATIC=no DESTDIR= PREFIX="$installed" PROGRAM=rst-tree MANPAGE=tree.1
+  same 'the other program' '' "$(cmp "$installed/bin/rst-tree" "$("$top/scripts/program.sh")" 2>&1)"
+fi
+same 'make uninstall, another name' '' "$(of_make uninstall)"
+same 'what is left, another name' '' "$(files)"
+
+if commit=$(git -C "$top" rev-parse --verify -q HEAD 2>/dev/null); then
+  git clone -q --no-local "$top" clone && git -C clone checkout -q "$commit"
+  version=$(sed -n 's/^\.TH .* "rst2pseudoxml \(.*\)" ".*/\1/p' clone/docs/rst2pseudoxml.1)
+  same 'make dist' "rst2pseudoxml-$version.tar.gz" "$(make -s -C clone dist 2>&1)"
+  tar -xzf "clone/rst2pseudoxml-$version.tar.gz"
+  same 'a tarball' "$hello"$'\nstatus 0' "$(printf 'Hello' | "rst2pseudoxml-$version/rst2pseudoxml" 2>&1; echo "status $?")"
+  same 'a clean checkout' '' "$(git -C clone status --short)"
+else
+  echo "skipped: make dist, as the checkout is no git repository"
+fi
 echo "make install: $wrong wrong"
 [ "$wrong" = 0 ]

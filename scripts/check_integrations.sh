@@ -1,7 +1,8 @@
 #!/usr/bin/env bash
-# Tests integrations/, the hook for pre-commit and the action for GitHub with the tools that this machine has: python3, pytest,
-# the module yaml, pre-commit, Emacs, Flycheck. Prints a line for each that is skipped. The status is 0 if what was run passed,
+# Tests integrations/, the hook for pre-commit and the action for GitHub with the tools that this machine has: several awk, python3,
+# pytest, the module yaml, pre-commit, Emacs, Flycheck. Prints a line for each that is skipped. The status is 0 if what was run passed,
 # 1 if a test failed, 77 if nothing could be run. It leaves nothing in the checkout.
+# shellcheck disable=SC2016 # backticks of reStructuredText
 set -u
 top=$(cd -- "$(dirname -- "$0")/.." && pwd)
 here=$top/integrations
@@ -52,13 +53,102 @@ check_pages() {
   same 'a higher level' '0 ' "$(answer "$check" --level=error -- 'a b.rst')"
   same 'refused pages' "1 deep.rst: rst2pseudoxml: line 3: nesting too deep
 bytes.rst: rst2pseudoxml: not UTF-8 at byte 1
-a folder: rst2pseudoxml: read failed
+memory.rst: rst2pseudoxml: read failed
 none.rst: rst2pseudoxml: cannot open none.rst
-a b.rst:$warning" "$(answer "$check" deep.rst bytes.rst 'a folder' none.rst 'a b.rst')"
-  same 'no file' '2 check-pages.sh: no file was named (usage: check-pages.sh [--level=LEVEL] [--] FILE..)' "$(answer "$check" --)"
-  shows 'help' 0 '    check-pages.sh [--level=LEVEL] [--] FILE..' "$check" --help
+a b.rst:$warning" "$(answer "$check" deep.rst bytes.rst memory.rst none.rst 'a b.rst')"
+  local usage='[--level=LEVEL] [--known=NAMES|@FILE].. [--format=FORMAT] [--] FILE|FOLDER..'
+  same 'no file' "2 check-pages.sh: no file was named (usage: check-pages.sh $usage)" "$(answer "$check" --)"
+  shows 'help' 0 "    check-pages.sh $usage" "$check" --help
+  same 'no format' '2 check-pages.sh: no such format: xml' "$(answer "$check" --format=xml good.rst)"
+  mkdir -p tree/b/.hidden tree/empty && cp ./-x.rst tree/b && cp ./-x.rst 'tree/a *.txt' && cp ./-x.rst tree/b/.hidden/c.rst && cp ./-x.rst tree/no.md
+  same 'a folder' "1 tree/a *.txt:$warning
+tree/b/-x.rst:$warning
+a b.rst:$warning" "$(answer "$check" tree 'a b.rst')"
+  same 'this folder' "1 ./a *.txt:$warning
+./b/-x.rst:$warning" "$(cd tree && answer "$check" .)"
+  same 'a folder without pages' '2 check-pages.sh: there is no *.rst or *.txt in tree/empty' "$(answer "$check" tree/empty)"
   same 'no option' '2 check-pages.sh: no such option: -x.rst' "$(answer "$check" -x.rst)"
   same 'no level' '2 check-pages.sh: no such level: loud' "$(answer "$check" --level=loud good.rst)"
+}
+
+check_known() {
+  local check=$here/check-pages.sh awk
+  mkdir known && cd known || exit 1
+  cat >page.rst <<'END'
+.. Spam:: an option
+
+   page.rst:1: (ERROR/3) No message.
+
+   .. _In Spam: u
+   .. _`with: colon`: u
+   .. |sub| image:: a
+   .. [CIT] x
+
+   .. ham::
+      :name: by name
+
+   `text <https://example.org/>`_
+
+See :ni:`x` |today| |sub| `in spam`_ [cit]_ `by name`_ text_ `with: colon`_
+
+.. _far: nowhere_
+
+.. |day| date:: %d
+.. |ni|  replace:: a :ni:`x`
+.. |b|   replace:: |day|
+
+far_ |Day| |ni| |b|
+
+.. role:: own(emphasis)
+
+:own:`x`
+
+.. code-block:: py
+   :linenos:
+
+   x
+END
+  local other='page.rst:17: (ERROR/3) Indirect hyperlink target "far" refers to target "nowhere", which does not exist.'
+  local today='page.rst:15: (ERROR/3) Undefined substitution referenced: "today".'
+  for awk in gawk mawk original-awk 'busybox awk'; do
+    command -v "${awk% awk}" >/dev/null || continue
+    printf '#!/bin/sh\nexec %s "$@"\n' "$awk" >./awk
+    chmod +x awk
+    same "known names, $awk" "1 $today
+$other" "$(PATH=.:$PATH answer "$check" --known=spam,Ni,role --known='directive:date, code-block' page.rst)"
+    same "what is defined elsewhere, $awk" '0 ' "$(PATH=.:$PATH answer "$check" --known=spam,ni,role,date,code-block,substitution:today,target:Nowhere page.rst)"
+  done
+  rm awk
+  printf ':a:`x`\n\n.. b::\n' >short.rst
+  local a='short.rst:1: (ERROR/3) Unknown interpreted text role "a".' b='short.rst:3: (ERROR/3) Unknown directive type "b".'
+  same 'an option that helps' "1 $a
+$b
+
+.. b::
+short.rst: passes with --known=role:a,directive:b" "$(answer "$check" short.rst)"
+  same 'with that option' '0 ' "$(answer "$check" --known=role:a,directive:b short.rst)"
+  same 'not the other kind' "1 $a
+short.rst: passes with --known=role:a" "$(answer "$check" --known=directive:a,b short.rst)"
+  printf '*x\n' >>short.rst
+  same 'no option helps' "1 $a" "$(answer "$check" --known=b short.rst | grep -v WARN)"
+  printf '# ours\n\n  a \r\ndirective:b\n@more.txt\n' >names.txt
+  printf '@names.txt\nc\n' >more.txt
+  same 'a file' '0 ' "$(answer "$check" --level=error --known=@names.txt short.rst)"
+  same 'no file of names' '2 check-pages.sh: cannot read none.txt' "$(answer "$check" --known=@none.txt short.rst)"
+  mkdir project && mv short.rst project && cp names.txt project/.rst-known && cp more.txt project
+  same "a project's file" '0 ' "$(answer "$check" --level=error --known=target:x project)"
+  same "the file of this folder" '0 ' "$(cd project && cp .rst-known names.txt && answer "$check" --level=error short.rst)"
+  printf '.. toctree::\n\n:func:`a` :c:func:`b` :mod:`c`\n\n.. contents::\n.. py:class:: x\n' >sphinx.rst
+  same 'names of Sphinx' '0 ' "$(answer "$check" --known=@sphinx-names.txt sphinx.rst)"
+  for names in "$here"/*-names.txt; do
+    same "${names##*/}, each once" '' "$(grep -v '^#' "$names" | grep . | sort | uniq -d)"
+    same "${names##*/}, kinds" '' "$(grep -vxE '#.*||@docutils-names.txt|(directive|role|substitution):[a-z][a-z0-9:-]*' "$names")"
+  done
+  for name in $(sed -n 's/^directive://p' "$here/docutils-names.txt"); do
+    printf '.. %s:: a\n\n' "$name"
+  done >docutils.rst
+  same 'directives of Docutils that the program reads' "$(grep -c ^directive: "$here/docutils-names.txt")" "$("$top/rst2pseudoxml" docutils.rst 2>&1 >/dev/null | grep -c 'Unknown directive type')"
+  cd ..
 }
 
 check_trees() {
@@ -104,11 +194,11 @@ check_copies() { # they run the program on the PATH, where those of the checkout
 
 check_python() {
   if ! command -v python3 >/dev/null; then
-    echo "skipped: the Python module, the problem matchers, pytest and the action, as there is no python3"
+    echo "skipped: the Python module, the formats, pytest and the action, as there is no python3"
     return
   fi
   succeeds 'the Python module' python3 "$here/test_rst2pseudoxml.py"
-  succeeds 'the problem matchers' python3 "$here/test_problem_matchers.py"
+  succeeds 'the formats' python3 "$here/test_formats.py"
   cp -- "$here/rst2pseudoxml.py" copy/of
   shows 'a copy of the Python module' 1 'rst2pseudoxml.Refused: rst2pseudoxml: ended with status -9' \
     env PATH="$folder/path:$PATH" PYTHONPATH=copy/of python3 -c 'import rst2pseudoxml; rst2pseudoxml.tree("")'
@@ -135,14 +225,23 @@ END
   fi
 }
 
+check_digests() { # the hook runs nothing where scripts/program.sh finds no program of these sources
+  mkdir -p revision/scripts revision/integrations && cp -- "$here/pre-commit.sh" revision/integrations
+  printf '#!/bin/sh\necho "$@"\n' | tee revision/scripts/program.sh >revision/integrations/check-pages.sh
+  chmod +x revision/*/*.sh
+  same 'the hook on these sources' '0 --level=error -- a b' "$(answer revision/integrations/pre-commit.sh --level=error -- 'a b')"
+  printf '#!/bin/sh\necho "other sources" >&2\nexit 1\n' >revision/scripts/program.sh
+  same 'the hook on other sources' '1 other sources' "$(answer revision/integrations/pre-commit.sh --level=error -- 'a b')"
+}
+
 check_hook() { # as it was last committed, since pre-commit runs a clone
   local commit
   if ! command -v pre-commit >/dev/null || ! commit=$(git -C "$top" rev-parse HEAD 2>/dev/null); then
     echo "skipped: the hook, as there is no pre-commit, or the checkout is no git repository"
     return
   fi
-  if ! grep -qx "sources $("$top/scripts/digest.sh")" "$top/dist/BUILT"; then
-    echo "skipped: the hook, as it runs the program in dist/, which isn't of these sources"
+  if ! "$top/scripts/program.sh" >/dev/null 2>&1; then
+    echo "skipped: the hook, as dist/ isn't of these sources"
     return
   fi
   mkdir pages && cp -- good.rst ./-x.rst pages && cd pages || exit 1
@@ -173,15 +272,18 @@ check_emacs() {
 
 warning='1: (WARNING/2) Inline emphasis start-string without end-string.'
 echo fine >good.rst
+ln -s /proc/self/mem memory.rst # a file that can be opened, and not read
 echo 'A *word' | tee -- 'a b.rst' ./-x.rst >/dev/null
 echo 'c. one' >info.rst
 printf 'text\n\n%sa\n' "$(printf -- '- %.0s' {1..251})" >deep.rst
 printf 'a\377' >bytes.rst
 mkdir 'a folder'
 check_pages
+check_known
 check_trees
 check_copies
 check_python
+check_digests
 check_hook
 check_emacs
 echo "integrations: $wrong wrong"

@@ -1,6 +1,6 @@
 #!/usr/bin/env bash
 # Tests ./rst2pseudoxml: that arguments, standard input and the exit status pass through it, from any folder, that the
-# program works over real streams, and (on a copy of the checkout) that it never runs a program of other sources.
+# program works over real streams, and (on a copy of the checkout) which program it runs, and what it says where sources were changed.
 # shellcheck disable=SC2016 # a change of the copy is given as text
 set -u
 top=$(cd -- "$(dirname -- "$0")/.." && pwd)
@@ -68,85 +68,83 @@ same 'a full disk' '1 rst2pseudoxml: write failed' "$? $(cat err)"
 "$top/rst2pseudoxml" <. >out 2>err
 same 'a folder as input' '1 rst2pseudoxml: read failed' "$? $(cat out err)"
 
-# A copy of what ./rst2pseudoxml reads of the checkout, with a program in dist/, as on a fresh one, and a PATH without the kit.
+# A copy of what ./rst2pseudoxml reads of the checkout, with the program in dist/, as on a fresh one, and a PATH without the kit and bash.
 copy="$folder/a copy"
-mkdir "$copy" tools only_du
-(cd "$top" && tar --exclude=rst2pseudoxml-static -cf - rst2pseudoxml crates.txt crates/*/src scripts dist) | tar -C "$copy" -xf -
+mkdir "$copy" tools
+(cd "$top" && tar --exclude='rst2pseudoxml-static' -cf - rst2pseudoxml crates.txt crates/*/src scripts dist) | tar -C "$copy" -xf -
 cp "$("$top/scripts/program.sh")" "$copy/dist/rst2pseudoxml"
-(cd "$copy/dist" && sha256sum rst2pseudoxml >rst2pseudoxml.sha256)
+built=$copy/crates/rst2pseudoxml/out/rst2pseudoxml
+source=$copy/crates/rst_text/src/lib.rt
+cp -p "$source" before
+sums() { (cd "$copy/dist" && sha256sum rst2pseudoxml* | grep -v sha256 >rst2pseudoxml.sha256); }
+sums
 sed -i "s/^sources .*/sources $("$copy/scripts/digest.sh")/" "$copy/dist/BUILT"
-for tool in awk bash cat chmod cut dirname du env find grep mkdir mktemp mv readlink rm sed sha256sum sort stat xargs; do
+for tool in awk cat cut dirname find grep readlink sed sha256sum sort touch xargs; do
   ln -s "$(command -v "$tool")" tools/
 done
-ln -s "$(command -v du)" only_du/
-run() { # [PROGRAM] : what a call in the copy with no kit answers
-  printf 'Hello, world' | PATH=$folder/tools "${1:-$copy/rst2pseudoxml}" 2>&1
+as_of() { # PATH COMMAND.. : what a command prints with this PATH, and its status
+  local path=$1
+  shift
+  printf 'Hello, world' | PATH=$path "$@" 2>&1
   echo "status $?"
 }
+call() { # a call that looks at the sources, since it finds no note of an earlier one
+  rm -rf "$copy/.looked"
+  as_of "$folder/tools" "$copy/rst2pseudoxml"
+}
+quick() { # a call that runs no other program
+  as_of "$folder/none" "$copy/rst2pseudoxml"
+}
 runs=$hello$'\nstatus 0'
-refuses="rst2pseudoxml: the program in dist/ is of other sources than these, and none of these was built here; building one needs the kit (README, 'The kit')"$'\nstatus 1'
-kept=$copy/out/program
+others='rst2pseudoxml: nothing has been built from these sources, and dist/ is of others; `rt try` in crates/rst2pseudoxml '
+others+='runs these without proofs (about a minute), scripts/build.sh proves and builds them (about an hour the first time)'
+damaged="rst2pseudoxml: the programs in dist/ don't have the checksums in dist/rst2pseudoxml.sha256, and nothing was built here"$'\nstatus 1'
+changed="$others
+rst2pseudoxml: so a program of older sources runs, dist/rst2pseudoxml
+$runs"
 
-same 'a copy' "$runs" "$(run)"
-same 'just made' 'nothing is kept' "$([ -e "$kept" ] || echo nothing is kept)"
-sleep 4
-same 'a little later' "$runs" "$(run)"
-same 'a kept answer' "$hello" "$(printf 'Hello, world' | PATH=$folder/only_du "$copy/rst2pseudoxml" 2>&1)"
+same 'a copy' "$runs" "$(call)"
 ln -s "$copy/rst2pseudoxml" to_copy
-same 'a copy by a link' "$runs" "$(run ./to_copy)"
-same 'in its folder' "$runs" "$(cd "$copy" && run ./rst2pseudoxml)"
-same 'by sh' "$hello" "$(cd "$copy" && printf 'Hello, world' | sh rst2pseudoxml)"
+same 'a copy by a link' "$runs" "$(as_of "$folder/tools" ./to_copy)"
+same 'in its folder' "$runs" "$(cd "$copy" && as_of "$folder/tools" ./rst2pseudoxml)"
+for shell in sh bash dash 'busybox sh'; do
+  if command -v "${shell% sh}" >/dev/null; then
+    # shellcheck disable=SC2086 # two words
+    same "by $shell" "$runs" "$(cd "$copy" && as_of "$PATH" $shell rst2pseudoxml)"
+  fi
+done
+same 'its path' "$copy/dist/rst2pseudoxml"$'\nstatus 0' "$(RST2PSEUDOXML_PATH=print call)"
+same 'its length' yes "$([ "$(grep -vc '^#' "$copy/rst2pseudoxml")" -le 20 ] && echo yes)"
 
-# Changes of the sources, each in a copy of its own in which an answer is kept: the kept answer doesn't hold any longer.
+# The times of a checkout are in any order; one digest settles it.
+touch -d '1 minute' "$source" && touch -d '1 hour ago' "$copy"/dist/*
+same 'sources from the future' "$runs" "$(call)"
+touch "$source"
+same 'sources that were written last' "$runs" "$(call)"
+rm "$copy/.looked" 2>/dev/null
+same 'the second call' "$runs" "$(quick)"
+
+# Changes of the sources, each taken back.
 changes=(
-  'an edit' 'echo "// one line more" >>"$source"'
-  'an edit of the same size and time' 'cp -p after "$source"'
-  'another file in its place' 'mv after "$source"'
-  'a file more' 'echo >"$crate/src/more.rt"'
-  'a folder more' 'mkdir "$crate/src/more" && echo >"$crate/src/more/a.rt"'
-  'a file less' 'rm "$source"'
-  'a file renamed' 'mv "$source" "$source.old"'
-  'a link in its place' 'ln -sf "$folder/after" "$source"'
-  'another crate in use' 'sed -i "s/^rst_text:/& test_outline/" "$changed/crates.txt"'
-  'a program of other sources' 'sed -i "s/^sources ./sources x/" "$changed/dist/BUILT"'
+  'an edit' 'echo "// one line more" >>"$source"' 'cp -p before "$source"'
+  'another file in its place' 'mv after "$source"' 'cp -p before "$source"'
+  'a file more' 'echo >"$crate/src/more.rt"' 'rm "$crate/src/more.rt"'
+  'a folder more' 'mkdir "$crate/src/more" && echo >"$crate/src/more/a.rt"' 'rm -r "$crate/src/more"'
+  'a file less' 'rm "$source"' 'cp -p before "$source"'
+  'a file renamed' 'mv "$source" "$source.old"' 'mv "$source.old" "$source"'
+  'a link in its place' 'ln -sf "$folder/after" "$source"' 'rm "$source" && cp -p before "$source"'
+  'another crate in use' 'sed -i "s/^rst_text:/& test_outline/" "$copy/crates.txt"' 'sed -i "s/ test_outline//" "$copy/crates.txt"'
 )
-for ((i = 0; i < ${#changes[@]}; i += 2)); do
-  cp -rp "$copy" "changed $i"
-done
-sleep 4
-for ((i = 0; i < ${#changes[@]}; i += 2)); do
-  changed="$folder/changed $i"
-  crate=$changed/crates/rst_text
-  source=$crate/src/lib.rt
-  run "$changed/rst2pseudoxml" >/dev/null
-  same "before ${changes[i]}" "$hello" "$(printf 'Hello, world' | PATH=$folder/only_du "$changed/rst2pseudoxml" 2>&1)"
-  cp -p "$source" before
-  tr 'a-y' 'b-z' <before >after
-  touch -r before after
-  eval "${changes[i + 1]}"
-  same "${changes[i]}" "$refuses" "$(run "$changed/rst2pseudoxml")"
-done
-
-source=$copy/crates/rst_text/src/lib.rt
 crate=$copy/crates/rst_text
-cp -p "$source" before
-mv "$crate" "$crate.old"
-same 'a crate renamed' $'rst2pseudoxml: crates.txt names rst_text, and there is no folder crates/rst_text/src\nstatus 1' "$(run)"
-mv "$crate.old" "$crate"
-same 'a crate renamed, and back' "$runs" "$(run)"
-rm "$source"
-same 'a file less' "$refuses" "$(run)"
-cp -p before "$source"
-same 'the file again' "$runs" "$(run)"
-mv "$source" linked_source
-ln -s "$folder/linked_source" "$source"
-rm -f "$kept"
-sleep 4
-same 'a source that is a link' "$runs" "$(run)"
-same 'an answer with a link' 'nothing is kept' "$([ -e "$kept" ] || echo nothing is kept)"
-echo '// one line more' >>linked_source
-same 'an edit of a linked source' "$refuses" "$(run)"
-rm "$source" && cp -p before "$source"
+for ((i = 0; i < ${#changes[@]}; i += 3)); do
+  tr 'a-y' 'b-z' <before >after
+  sleep 0.1 # longer than the steps of a file's time
+  eval "${changes[i + 1]}"
+  same "${changes[i]}" "$changed" "$(call)"
+  same "${changes[i]}, again" "$changed" "$(call)"
+  eval "${changes[i + 2]}"
+  same "${changes[i]}, taken back" "$runs" "$(call)"
+done
 
 # What isn't in the program changes nothing.
 echo '// a row more' >>"$copy/crates/rst2pseudoxml/src/rows.rt"
@@ -154,49 +152,74 @@ echo '// a test more' >>"$copy/crates/test_libraries/src/lib.rt"
 printf '\n# a comment\ntest_more: rst_text\n' >>"$copy/crates.txt"
 printf '#[cfg(test)]\nmod more_tests;\n' >>"$copy/crates/rst2pseudoxml/src/main.rt"
 echo >"$copy/crates/rst2pseudoxml/src/more_tests.rt"
-same 'more tests' "$runs" "$(run)"
+same 'more tests' "$runs" "$(call)"
 
-# A program that was built here is taken before the shipped one, while its note holds.
-built=$copy/crates/rst2pseudoxml/out/rst2pseudoxml
+# A program that was built here runs while it is newer than the shipped one; scripts/program.sh takes it while its note holds.
 mkdir "${built%/*}"
+sleep 0.1
 printf '#!/bin/sh\necho "built here"\n' >"$built"
 chmod +x "$built"
-same 'a build without a note' "$runs" "$(run)"
+same 'a build' $'built here\nstatus 0' "$(quick)"
+of_sources() { as_of "$folder/tools" "$copy/scripts/program.sh"; }
+same 'a build without a note' "$copy/dist/rst2pseudoxml"$'\nstatus 0' "$(of_sources)"
 "$copy/scripts/digest.sh" >"$built.sources"
-same 'a build of these sources' $'built here\nstatus 0' "$(run)"
+same 'a build of these sources' "$built"$'\nstatus 0' "$(of_sources)"
+touch "$source"
+same 'a build before a source was written again' $'built here\nstatus 0' "$(call)"
+rm "$copy/.looked" 2>/dev/null
+same 'a build, the second call' $'built here\nstatus 0' "$(quick)"
+echo '// one line more' >>"$source"
+older="rst2pseudoxml: so a program of older sources runs, crates/rst2pseudoxml/out/rst2pseudoxml"
+same 'an edit after a build' "$others"$'\n'"$older"$'\nbuilt here\nstatus 0' "$(call)"
+cp -p before "$source"
 touch -d '1 minute ago' "$built.sources"
-same 'a build that is newer than its note' "$runs" "$(run)"
+same 'a build that is newer than its note' "$copy/dist/rst2pseudoxml"$'\nstatus 0' "$(of_sources)"
+sleep 0.1
+touch "$copy/dist/rst2pseudoxml"
+same 'a build that is older than the shipped program' "$runs" "$(quick)"
 rm -r "${built%/*}"
 
-# Calls at the same time, of which each would keep the answer.
-rm -f "$kept"
-sleep 4
-for call in 1 2 3 4; do
-  run >"call$call" &
+# Calls at the same time, and calls that can note nothing.
+rm -f "$copy/.looked"
+for place in 1 2 3 4; do
+  as_of "$folder/none" "$copy/rst2pseudoxml" >"call$place" &
 done
 wait
 same 'calls at the same time' "$runs$runs$runs$runs" "$(cat call1)$(cat call2)$(cat call3)$(cat call4)"
-same 'what they leave' 'program' "$(ls "$copy/out")"
-echo "found='" >"$kept"
-same 'a damaged answer' "$runs" "$(run)"
-
-# Where nothing can be kept. (Modes don't keep root from writing, a file in the folder's place does.)
-rm -r "$copy/out"
-echo >"$copy/out"
+rm -f "$copy/.looked" && mkdir "$copy/.looked"
+same 'no note' "$runs" "$(quick)"
+rmdir "$copy/.looked"
 chmod -R a-w "$copy"
-same 'nothing can be written' "$runs" "$(run)"
-same 'nothing can be written, again' "$runs" "$(run)"
+chmod a+rx "$folder"
+other_user=()
+[ "$(id -u)" != 0 ] || other_user=(setpriv --reuid=65534 --clear-groups) # modes don't keep root from writing
+if [ ${#other_user[@]} = 0 ] || "${other_user[@]}" test -x "$copy/rst2pseudoxml" 2>/dev/null; then
+  same 'nothing can be written' "$runs" "$(as_of "$PATH" "${other_user[@]}" "$copy/rst2pseudoxml")"
+fi
 chmod -R u+w "$copy"
-echo '// one line more' >>"$source"
-same 'an edit where nothing can be written' "$refuses" "$(run)"
-cp -p before "$source"
+
+# What scripts/program.sh, which knows the digests, says of dist/.
+same 'the shipped program' "$copy/dist/rst2pseudoxml"$'\nstatus 0' "$(of_sources)"
+mv "$crate" "$crate.old"
+same 'a crate renamed' $'rst2pseudoxml: crates.txt names rst_text, and there is no folder crates/rst_text/src\nstatus 1' "$(of_sources)"
+mv "$crate.old" "$crate"
+sed -i 's/^sources ./sources x/' "$copy/dist/BUILT"
+same 'a program of other sources' "$others"$'\nstatus 1' "$(of_sources)"
+sed -i "s/^sources .*/sources $("$copy/scripts/digest.sh")/" "$copy/dist/BUILT"
 printf '#!/bin/sh\nexit 127\n' >"$copy/dist/rst2pseudoxml"
-same 'a damaged program' $'rst2pseudoxml: the program in dist/ isn\'t the one that dist/rst2pseudoxml.sha256 says, and none was built here\nstatus 1' "$(run)"
-(cd "$copy/dist" && sha256sum rst2pseudoxml >rst2pseudoxml.sha256)
-same 'another system' "rst2pseudoxml: no program in dist/ runs here; they are for $(sed -n 's/^system //p' "$copy/dist/BUILT")"$'\nstatus 1' "$(run)"
+same 'a damaged program' "$damaged" "$(of_sources)"
+sums
+same 'another system' "rst2pseudoxml: no program in dist/ runs here; they are for $(sed -n 's/^system //p' "$copy/dist/BUILT")"$'\nstatus 1' "$(of_sources)"
 printf '#!/bin/sh\necho "the static program"\n' >"$copy/dist/rst2pseudoxml-static"
 chmod +x "$copy/dist/rst2pseudoxml-static"
-(cd "$copy/dist" && sha256sum rst2pseudoxml rst2pseudoxml-static >rst2pseudoxml.sha256)
-same 'a system for the static program alone' $'the static program\nstatus 0' "$(run)"
+sums
+same 'a system for the static program alone' "$copy/dist/rst2pseudoxml-static"$'\nstatus 0' "$(of_sources)"
+same 'the static program is preferred' $'the static program\nstatus 0' "$(call)"
+printf '#!/bin/sh\n' >"$copy/dist/rst2pseudoxml"
+sums
+same 'the first program' "$copy/dist/rst2pseudoxml"$'\nstatus 0' "$(of_sources)"
+same 'with --static' "$copy/dist/rst2pseudoxml-static"$'\nstatus 0' "$(as_of "$folder/tools" "$copy/scripts/program.sh" --static)"
+rm "$copy"/dist/rst2pseudoxml*
+same 'no program' "$damaged" "$(call)"
 echo "./rst2pseudoxml: $wrong wrong"
 [ "$wrong" = 0 ]

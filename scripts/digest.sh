@@ -1,8 +1,8 @@
-#!/usr/bin/env bash
+#!/bin/sh
 # Prints the digest of the sources that a build of the program depends on: those of its crate and of the crates that it uses by
 # crates.txt, with their lines there. Other crates are no part of it (those of tests), nor are comments, nor the modules that main.rt
-# compiles under test alone. With --folders it prints the folders of these sources.
-set -euo pipefail
+# compiles under test alone.
+set -eu
 cd -- "$(dirname -- "$0")/.."
 program=crates/rst2pseudoxml/src
 
@@ -24,27 +24,22 @@ lines=$(awk '
   }
   END { need("rst2pseudoxml") }
 ' crates.txt)
-folders=()
-while IFS=' :' read -r crate _; do
-  folder=crates/$crate/src
-  if [ ! -d "$folder" ]; then
-    echo "rst2pseudoxml: crates.txt names $crate, and there is no folder $folder" >&2
+set --
+for crate in $(printf '%s\n' "$lines" | sed 's/[: ].*//'); do
+  if [ ! -d "crates/$crate/src" ]; then
+    echo "rst2pseudoxml: crates.txt names $crate, and there is no folder crates/$crate/src" >&2
     exit 1
   fi
-  folders+=("$folder")
-done <<<"$lines"
-if [ "${1:-}" = --folders ]; then
-  printf '%s\n' "${folders[@]}"
-  exit
-fi
+  set -- "$@" "crates/$crate/src"
+done
 
 # main.rt is taken without the two lines that name a module of tests.
-left_out=(-not -path "$program/main.rt")
-while read -r module; do
-  left_out+=(-not -path "$program/$module.rt" -not -path "$program/$module/*")
-done < <(sed -n '/^#\[cfg(test)\]$/{n;s/^mod \([a-z0-9_]*\);$/\1/p;}' "$program/main.rt")
+set -- "$@" -type f ! -path "$program/main.rt"
+for module in $(sed -n '/^#\[cfg(test)\]$/{n;s/^mod \([a-z0-9_]*\);$/\1/p;}' "$program/main.rt"); do
+  set -- "$@" ! -path "$program/$module.rt" ! -path "$program/$module/*"
+done
 {
-  sha256sum <<<"$lines"
+  printf '%s\n' "$lines" | sha256sum
   sed '/^#\[cfg(test)\]$/{N;/\nmod [a-z0-9_]*;$/d;}' "$program/main.rt" | sha256sum
-  find -L "${folders[@]}" -type f "${left_out[@]}" -print0 | LC_ALL=C sort -z | xargs -0 sha256sum
+  find -L "$@" -print0 | LC_ALL=C sort -z | xargs -0 sha256sum
 } | sha256sum | cut -d ' ' -f 1

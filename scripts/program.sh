@@ -1,30 +1,41 @@
-#!/usr/bin/env bash
+#!/bin/sh
 # Prints the path of the program of these sources: the one that was built here or, if there is none, the first of the shipped ones
-# that runs here. If none does, one line on standard error says so, and the status is 1.
-set -euo pipefail
+# that runs here. With --static the shipped static program comes first. If there is none, one line on standard error says why, and
+# the status is 1.
+# shellcheck disable=SC3013 # POSIX has -nt since 2024
+set -eu
 top=$(CDPATH='' cd -- "$(dirname -- "$0")/.." && pwd)
 sources=$("$top/scripts/digest.sh")
-
-# The note beside a program that was built here says of which sources it is. A program that is newer than its note was built since,
-# perhaps of others.
 built=$top/crates/rst2pseudoxml/out/rst2pseudoxml
-if [ -x "$built" ] && [ ! "$built" -nt "$built.sources" ] && [ "$(cat "$built.sources" 2>/dev/null)" = "$sources" ]; then
-  echo "$built"
-  exit
-fi
-
 shipped=$top/dist/rst2pseudoxml
+
+# The note beside a program that was built here has the digest of its sources. A program that is newer than its note was built later,
+# perhaps from others.
+is_of_these() { # PROGRAM
+  if [ "$1" = "$built" ]; then
+    [ -x "$built" ] && ! [ "$built" -nt "$built.sources" ] && [ "$(cat "$built.sources" 2>/dev/null)" = "$sources" ]
+  else
+    [ -z "$fault" ] && "$1" </dev/null >/dev/null 2>&1
+  fi
+}
+
+fault=''
 if ! grep -qxs "sources $sources" "$top/dist/BUILT"; then
-  echo "rst2pseudoxml: the program in dist/ is of other sources than these, and none of these was built here; building one needs the kit (README, 'The kit')" >&2
-elif ! (cd -- "$top/dist" && sha256sum --quiet --status --check rst2pseudoxml.sha256) 2>/dev/null; then
-  echo "rst2pseudoxml: the program in dist/ isn't the one that dist/rst2pseudoxml.sha256 says, and none was built here" >&2
-else
-  for program in "$shipped" "$shipped-static"; do
-    if "$program" </dev/null >/dev/null 2>&1; then
-      echo "$program"
-      exit
-    fi
-  done
-  echo "rst2pseudoxml: no program in dist/ runs here; they are for $(sed -n 's/^system //p' "$top/dist/BUILT")" >&2
+  fault="nothing has been built from these sources, and dist/ is of others; \`rt try\` in crates/rst2pseudoxml runs these without \
+proofs (about a minute), scripts/build.sh proves and builds them (about an hour the first time)"
+elif ! (cd -- "$top/dist" && sha256sum -c rst2pseudoxml.sha256) >/dev/null 2>&1; then
+  fault="the programs in dist/ don't have the checksums in dist/rst2pseudoxml.sha256, and nothing was built here"
 fi
+if [ "${1-}" = --static ]; then
+  set -- "$shipped-static" "$built" "$shipped"
+else
+  set -- "$built" "$shipped" "$shipped-static"
+fi
+for program in "$@"; do
+  if is_of_these "$program"; then
+    echo "$program"
+    exit
+  fi
+done
+echo "rst2pseudoxml: ${fault:-no program in dist/ runs here; they are for $(sed -n 's/^system //p' "$top/dist/BUILT")}" >&2
 exit 1
