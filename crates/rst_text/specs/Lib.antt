@@ -15,4 +15,4 @@ pub mod Names
 pub mod Faults
 pub mod Counted
 pub mod Runs
-pub mod Printable
+pub mod Ordinary
