@@ -1,13 +1,20 @@
 -- The kind of a line, row by row.
-use Rattle.std.proofs.Common.{◌≡◌, ℕ, List, refl, sym, subst}
+use Rattle.std.proofs.Common.{◌≡◌, ℕ, Bool, true, false, ◌&&◌, ◌==◌, List, [], ◌∷◌, None, true≢false, refl, sym, ap, subst, ◌∙◌, arith}
 use Rattle.std.specs.Prelude.{if◌then◌else◌, is_some}
+use Rattle.std.specs.Char.{is_ascii_alphabetic}
+use Rattle.std.specs.List.{list_all}
+use Rattle.std.proofs.lemmas.Bool.{eqb-true}
+use Rattle.std.proofs.lemmas.Bool.Decides.{nat_tests}
 use Rattle.rst_text.specs.Block.{Block, front_text, is_blank}
-use Rattle.rst_markup_lines.specs.Front.{begins_with, first}
+use Rattle.rst_markup_lines.specs.Front.{begins_by, begins_with, first}
+use Rattle.rst_markup_lines.specs.OptionMarker.{option_at, options_from}
 use Rattle.rst_markup_lines.specs.Marker.{bullet, bullet_by, doctest, line_bar}
 use Rattle.rst_markup_lines.specs.Field.{field_of}
 use Rattle.rst_markup_lines.specs.Border.{is_grid_border, is_simple_border}
 use Rattle.rst_markup_lines.specs.ExplicitMarks.{dots, underscores}
-use Rattle.rst_markup_lines.specs.Adornment.{adornment_of}
+use Rattle.rst_markup_lines.specs.Adornment.{is_punctuation, adornment_of}
+use Rattle.rst_markup_lines.specs.Class.{is_in}
+use Rattle.rst_markup_lines.specs.declared.class.Class.TheVariants.{Either}
 use Rattle.rst_markup_blocks.specs.Conditions.{next_text, after_text, item_enumerator, item_option}
 use Rattle.rst_markup_blocks.specs.Kinds.{later_kinds, first_kind, kind_at}
 use Rattle.rst_markup_blocks.specs.Begun.{kind_in, IsMarked, IsBegun}
@@ -54,3 +61,68 @@ begun_of X t next after begun a b d kind mark = record {
 pub bullet_is : (t : List ℕ) → bullet t ≡ bullet_by (first t) t
 unfolding bullet
 bullet_is t = refl
+
+-- ---- a text that begins with a letter
+
+-- a letter is none of the characters that the other rows begin with
+other : (c d : ℕ) → is_ascii_alphabetic c ≡ true → is_ascii_alphabetic d ≡ false → (c == d) ≡ false
+other c d h k = by_case (c == d) refl
+  where
+    by_case : (same : Bool) → (c == d) ≡ same → same ≡ false
+    by_case true s = absurd (true≢false (sym h ∙ ap is_ascii_alphabetic (eqb-true c d s) ∙ k))
+    by_case false s = refl
+
+and-false : (b : Bool) → (b && false) ≡ false
+and-false true = refl
+and-false false = refl
+
+no-punctuation : (c : ℕ) → is_ascii_alphabetic c ≡ true → is_punctuation c ≡ false
+no-punctuation c h = grind (arith, nat_tests)
+
+no-bullet : (c : ℕ) (cs : List ℕ) → is_ascii_alphabetic c ≡ true → bullet (c ∷ cs) ≡ None
+unfolding bullet
+no-bullet c cs h = rw (other c 42 h refl, other c 43 h refl, other c 45 h refl, other c 0x2022 h refl, other c 0x2023 h refl, other c 0x2043 h refl) refl
+
+no-field : (c : ℕ) (cs : List ℕ) → is_ascii_alphabetic c ≡ true → field_of (c ∷ cs) ≡ None
+unfolding field_of
+no-field c cs h = rw (other c 58 h refl) refl
+
+no-option : (c : ℕ) (cs next after : List ℕ) → is_ascii_alphabetic c ≡ true → item_option (c ∷ cs) next after ≡ None
+unfolding item_option options_from option_at
+no-option c cs next after h = rw (other c 47 h refl, other c 45 h refl, other c 43 h refl) refl
+
+no-doctest : (c : ℕ) (cs : List ℕ) → is_ascii_alphabetic c ≡ true → doctest (c ∷ cs) ≡ None
+unfolding doctest
+no-doctest c cs h = rw (other c 62 h refl) refl
+
+no-bar : (c : ℕ) (cs : List ℕ) → is_ascii_alphabetic c ≡ true → line_bar (c ∷ cs) ≡ None
+unfolding line_bar
+no-bar c cs h = rw (other c 124 h refl) refl
+
+no-grid : (c : ℕ) (cs : List ℕ) → is_ascii_alphabetic c ≡ true → is_grid_border (c ∷ cs) ≡ false
+unfolding is_grid_border
+no-grid c cs h = rw (other c 43 h refl, and-false (list_all (is_in (Either 45 43)) (c ∷ cs))) (and-false _)
+
+no-simple : (c : ℕ) (cs : List ℕ) → is_ascii_alphabetic c ≡ true → is_simple_border (c ∷ cs) ≡ false
+unfolding is_simple_border
+no-simple c cs h = rw (other c 61 h refl) (and-false _)
+
+no-dots : (c : ℕ) (cs : List ℕ) → is_ascii_alphabetic c ≡ true → dots (c ∷ cs) ≡ None
+unfolding dots
+no-dots c cs h = rw (other c 46 h refl) refl
+
+no-underscores : (c : ℕ) (cs : List ℕ) → is_ascii_alphabetic c ≡ true → underscores (c ∷ cs) ≡ None
+unfolding underscores
+no-underscores c cs h = rw (other c 95 h refl) refl
+
+no-adornment : (c : ℕ) (cs : List ℕ) → is_ascii_alphabetic c ≡ true → adornment_of (c ∷ cs) ≡ None
+unfolding adornment_of
+no-adornment c cs h = rw (no-punctuation c h) refl
+
+-- then only an enumerator is none of a text
+pub letter_kind : (X : Block) (t next after : List ℕ) → begins_by is_ascii_alphabetic t ≡ true → front_text X ≡ t → next_text X ≡ next → after_text X ≡ after
+    → kind_at X ≡ (if is_some (item_enumerator t next) then Enumerator else Text)
+letter_kind X [] next after h a b d = absurd (true≢false (sym h))
+letter_kind X (c ∷ cs) next after h a b d =
+    kind_at_is X (c ∷ cs) next after a b d
+    ∙ rw (later_kind_is X (c ∷ cs) a, other c 32 h refl, no-bullet c cs h, no-field c cs h, no-option c cs next after h, no-doctest c cs h, no-bar c cs h, no-grid c cs h, no-simple c cs h, no-dots c cs h, no-underscores c cs h, no-adornment c cs h) refl

@@ -1,9 +1,11 @@
 //! What begins at a line, with what its mark says.
 ghost use Rattle.std.specs.Prelude.{◌≡◌, ℕ, List, ◌+◌, ◌<◌, ◌≤◌, length, drop};
+ghost use Rattle.std.specs.Char.{is_ascii_alphabetic};
 ghost use Rattle.std.specs.Str.{chars};
 ghost use Rattle.rst_text.specs.Block.{Block, front_text};
 ghost use Rattle.rst_text.specs.Looked.{capped};
 ghost use Rattle.rst_text.specs.Shown.{block_of};
+ghost use Rattle.rst_markup_lines.specs.Front.{begins_by};
 ghost use Rattle.rst_markup_blocks.specs.Conditions.{next_text, after_text};
 ghost use Rattle.rst_markup_blocks.specs.Kinds.{first_kind, kind_at, kind_of, later_kinds};
 ghost use Rattle.rst_markup_blocks.specs.Begun as spec;
@@ -83,12 +85,29 @@ pub fn begun_at(view: &View<'_>, at: usize, looks: &mut Looks) -> Begun
     begun_by(text, next, after)
 }
 
+/// Whether a text begins with a letter of ASCII.
+fn begins_with_letter(text: &str) -> bool
+    ensures { result ≡ begins_by is_ascii_alphabetic (chars text.now) }
+{
+    match front(text) {
+        Some(c) => c.is_ascii_alphabetic(),
+        None => false,
+    }
+}
+
 /// What begins at a line before the next two: the first row of the table of constructs whose condition holds.
 #[tactic(auto, using(crate::proofs::KindRows::bullet_is))]
 fn begun_by(text: &str, next: &str, after: &str) -> Begun
     ensures kind { (X : Block) → front_text X ≡ chars text.now → next_text X ≡ chars next.now → after_text X ≡ chars after.now → spec.kind_in result ≡ kind_at X }
     ensures mark { spec.IsMarked (chars text.now) (chars next.now) (chars after.now) result }
 {
+    // Most lines begin with a letter, at which only an enumerator or a text can begin.
+    if begins_with_letter(text) {
+        return match item_enumerator(text, next) {
+            Some(enumerator) => Begun::Enumerator(enumerator),
+            None => Begun::Text,
+        };
+    }
     if is_blank(text) {
         return Begun::Blank;
     }

@@ -1,5 +1,5 @@
--- A line that is expanded a character at a time.
-use Rattle.std.proofs.Common.{◌≡◌, ℕ, zero, suc, ◌+◌, ◌-◌, ◌%◌, ◌<◌, ◌==◌, nat_eq, Bool, true, false, cond, ◌&&◌, ◌||◌, List, [], ◌∷◌, ◌++◌, length, replicate, refl, sym, ap, ◌∙◌, subst, arith, append_assoc, append-nil}
+-- A line that is expanded part by part.
+use Rattle.std.proofs.Common.{◌≡◌, ℕ, zero, suc, ◌+◌, ◌-◌, ◌%◌, ◌<◌, ◌==◌, nat_eq, Bool, true, false, cond, ◌&&◌, ◌||◌, List, [], ◌∷◌, ◌++◌, length, replicate, refl, sym, ap, ◌∙◌, arith, append_assoc, append-nil}
 use Rattle.std.specs.Str.{IsUtf8, chars}
 use Rattle.std.proofs.Math.Utf8.{scalar, scalars, encode, encodes}
 use Rattle.std.proofs.lemmas.Bool.{eqb-true}
@@ -13,12 +13,6 @@ use Rattle.rst_text.proofs.Scanning.{past_char}
 pub record Expands (tab column : ℕ) (line rest : List ℕ) (piece : List ℕ) : Type 0 where
   pub bytes : line ++ encodes (expanded_from tab column (chars rest)) ≡ encodes (expanded_from tab 0 piece)
   pub utf8 : IsUtf8 rest
-
-pub Expands-start : (tab : ℕ) (line rest text : List ℕ) → IsUtf8 text → rest ≡ text → line ≡ [] → Expands tab 0 line rest (chars text)
-Expands-start tab line rest text good same none = record {
-  bytes = ap (λ l. l ++ encodes (expanded_from tab 0 (chars rest))) none ∙ ap (λ l. encodes (expanded_from tab 0 (chars l))) same;
-  utf8 = subst IsUtf8 (sym same) good;
-}
 
 pub Expands-char : (tab column : ℕ) (line rest piece after : List ℕ) (c : ℕ) → Expands tab column line rest piece → rest ≡ encode c ++ after → (c ≡ 9 → ⊥)
     → Expands tab (column + 1) (line ++ encode (shown c)) after piece

@@ -5,7 +5,7 @@ use Rattle.std.specs.Char.{is_whitespace}
 use Rattle.std.proofs.Common.{min, Some, None}
 use Rattle.std.proofs.lemmas.Bool.{eqb-true, le-leb, leb-true}
 use Rattle.std.proofs.lemmas.List.{drop-drop}
-use Rattle.rst_text.specs.Block.{Block, is_blank, indentation, shorten, cut}
+use Rattle.rst_text.specs.Block.{Block, is_blank, indentation, shorten}
 use Rattle.rst_text.specs.Lines.{is_line_text, are_lines, ends_white}
 use Rattle.rst_text.specs.MayCut.{is_indented}
 use Rattle.rst_text.specs.Extent.{extent, extent_of, least_indent}

@@ -1,5 +1,5 @@
 -- A text that is read a character at a time.
-use Rattle.std.proofs.Common.{◌≡◌, ℕ, ◌+◌, Bool, true, false, List, [], ◌∷◌, ◌++◌, length, take, refl, sym, ap, ◌∙◌, subst, append_assoc, append-nil, length-append}
+use Rattle.std.proofs.Common.{◌≡◌, ℕ, ◌+◌, Bool, true, List, [], ◌∷◌, ◌++◌, length, take, refl, sym, ap, ◌∙◌, subst, append_assoc, append-nil, length-append}
 use Rattle.std.specs.Str.{IsUtf8, chars, NonePass, IsCharBoundary}
 use Rattle.std.proofs.Math.Utf8.{scalar, scalars, encode, encodes}
 use Rattle.std.proofs.Math.Seq.{take-append_seam}
@@ -12,9 +12,6 @@ pub record Scans (text front rest : List ℕ) : Type 0 where
   pub utf8 : IsUtf8 rest
   pub scalar : scalars front ≡ true
 
-pub Scans-start : (text rest : List ℕ) → IsUtf8 text → rest ≡ text → Scans text [] rest
-Scans-start text rest good e = record { bytes = sym e; utf8 = subst IsUtf8 (sym e) good; scalar = refl }
-
 -- what stands behind a character of a text, and the character itself
 pub past_char : (rest after : List ℕ) (c : ℕ) → IsUtf8 rest → rest ≡ encode c ++ after → (scalar c ≡ true) × IsUtf8 after
 past_char rest after c good e =
@@ -23,10 +20,10 @@ past_char rest after c good e =
     let t = and_true (scalar c) (scalars f.0) s in
     (t.0, (f.0, (t.1, f.2)))
 
-scalars-push : (front : List ℕ) (c : ℕ) → scalars front ≡ true → scalar c ≡ true → scalars (front ++ c ∷ []) ≡ true
-scalars-push [] c s t = rw t refl
-scalars-push (d ∷ front) c s t =
-    let h = and_true (scalar d) (scalars front) s in rw (h.0) (scalars-push front c h.1 t)
+pub scalars-append : (front more : List ℕ) → scalars front ≡ true → scalars more ≡ true → scalars (front ++ more) ≡ true
+scalars-append [] more s t = t
+scalars-append (d ∷ front) more s t =
+    let h = and_true (scalar d) (scalars front) s in rw (h.0) (scalars-append front more h.1 t)
 
 pub Scans-step : (text front rest after : List ℕ) (c : ℕ) → Scans text front rest → rest ≡ encode c ++ after → Scans text (front ++ c ∷ []) after
 Scans-step text front rest after c s e =
@@ -35,12 +32,12 @@ Scans-step text front rest after c s e =
       bytes = s.bytes ∙ ap (λ l. encodes front ++ l) e ∙ sym (append_assoc (encodes front) (encode c) after)
           ∙ ap (λ l. (encodes front ++ l) ++ after) (sym (append-nil (encode c))) ∙ ap (λ l. l ++ after) (sym (encodes-append front (c ∷ [])));
       utf8 = p.1;
-      scalar = scalars-push front c s.scalar p.0;
+      scalar = scalars-append front (c ∷ []) s.scalar (rw (p.0) refl);
     }
 
-pub NonePass-push : (p : ℕ → Bool) (front : List ℕ) (c : ℕ) → NonePass p front → p c ≡ false → NonePass p (front ++ c ∷ [])
-NonePass-push p [] c clear e = (e, tt)
-NonePass-push p (d ∷ front) c clear e = (clear.0, NonePass-push p front c clear.1 e)
+pub NonePass-append : (p : ℕ → Bool) (front more : List ℕ) → NonePass p front → NonePass p more → NonePass p (front ++ more)
+NonePass-append p [] more clear next = next
+NonePass-append p (d ∷ front) more clear next = (clear.0, NonePass-append p front more clear.1 next)
 
 -- the characters of the text
 pub chars-scanned : (text front rest : List ℕ) → Scans text front rest → chars text ≡ front ++ chars rest

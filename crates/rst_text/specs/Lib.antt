@@ -15,5 +15,5 @@ pub mod Names
 pub mod Faults
 pub mod Counted
 pub mod Runs
-pub mod Printable
+pub mod Ordinary
 pub mod Written

@@ -5,13 +5,13 @@ ghost use Rattle.rst_text.specs.Block.{front_text, first_number};
 ghost use Rattle.rst_text.specs.Faults.{Gives};
 ghost use Rattle.rst_text.specs.Kept.{IsEmptyRun};
 ghost use Rattle.rst_text.specs.Lines.{is_line_end, pieces, shown, expanded, tidied, lines_of};
-ghost use Rattle.rst_text.specs.Printable.{ArePrintable};
+ghost use Rattle.rst_text.specs.Ordinary.{AreOrdinary};
 ghost use Rattle.rst_text.specs.Source.{texts_with, spread, ArePlaced};
 ghost use Rattle.rst_text.specs.Text.{chars_of};
 
 use super::fault::TextFault;
 use super::kept::Kept;
-use super::printable::printable_len;
+use super::ordinary::ordinary_len;
 use std::alloc::{AllocError, Global};
 use std::marker::Model;
 
@@ -53,7 +53,7 @@ impl Lines {
         let mut kept = Kept::with_room(alloc, text.len())?;
         let mut rest = text;
         while !rest.is_empty() {
-            if let Some((piece, after)) = printable_piece(rest) {
+            if let Some((piece, after)) = ordinary_piece(rest) {
                 kept.push(trimmed(piece))?;
                 rest = after;
                 continue;
@@ -158,14 +158,14 @@ pub fn is_line_end(c: char) -> bool
     )
 }
 
-/// The first piece of a text, if a line feed ends it and it is printable ASCII, and what follows the line feed.
-fn printable_piece(text: &str) -> Option<(&str, &str)>
+/// The first piece of a text, if a line feed ends it and its bytes are ordinary, and what follows the line feed.
+fn ordinary_piece(text: &str) -> Option<(&str, &str)>
     ensures pieces { IfSome result (λ first. pieces (chars text.now) ≡ chars first.0.now ∷ pieces (chars first.1.now)) }
-    ensures printable { IfSome result (λ first. ArePrintable first.0.now) }
+    ensures ordinary { IfSome result (λ first. AreOrdinary first.0.now) }
     ensures shorter { IfSome result (λ first. length first.1.now < length text.now) }
     ensures text { IfSome result (λ first. IsUtf8 first.1.now) }
 {
-    let (piece, rest) = text.split_at(printable_len(text));
+    let (piece, rest) = text.split_at(ordinary_len(text));
     let after = rest.strip_prefix('\n')?;
     Some((piece, after))
 }
@@ -177,23 +177,28 @@ fn first_piece(text: &str) -> (&str, &str)
     ensures shorter { length result.1.now < length text.now }
     ensures text { IsUtf8 result.1.now }
 {
-    let mut rest = text.chars();
-    while let Some(c) = rest.next() {
+    let mut left = text;
+    'left: loop {
+        let (_, special) = left.split_at(ordinary_len(left));
+        let mut rest = special.chars();
+        let Some(c) = rest.next() else {
+            return (text, "");
+        };
+        let after = rest.as_str();
         if is_line_end(c) {
-            let after = rest.as_str();
             let (piece, _) = text.split_at(text.len() - after.len() - c.len_utf8());
             if c == '\r' {
                 return (piece, after.strip_prefix('\n').unwrap_or(after));
             }
             return (piece, after);
         }
+        left = after;
     }
-    (text, "")
 }
 
-/// A piece of printable ASCII, in which no tab stands, without white characters at its end.
+/// A piece of ordinary bytes, in which no tab stands, without white characters at its end.
 fn trimmed(text: &str) -> &str
-    requires { ArePrintable text.now }
+    requires { AreOrdinary text.now }
     ensures { (tab : ℕ) → chars result.now ≡ tidied tab (chars text.now) }
 {
     text.trim_end()
@@ -214,22 +219,18 @@ fn expand(alloc: Global, piece: &str, tab: usize) -> Result<String, AllocError>
     requires to { tab ≤ 99 }
     ensures { IfOk result (λ line. chars_of line ≡ expanded tab (chars piece.now)) }
 {
-    if printable_len(piece) == piece.len() {
-        String::from_str(alloc, piece)
-    } else {
-        expand_any(alloc, piece, tab)
-    }
-}
-
-/// The same, character by character.
-fn expand_any(alloc: Global, piece: &str, tab: usize) -> Result<String, AllocError>
-    requires from { 1 ≤ tab }
-    requires to { tab ≤ 99 }
-    ensures { IfOk result (λ line. chars_of line ≡ expanded tab (chars piece.now)) }
-{
     let mut line = String::with_capacity(alloc, piece.len())?;
     let mut column = 0usize;
-    for c in piece.chars() {
+    let mut left = piece;
+    'left: loop {
+        let (run, special) = left.split_at(ordinary_len(left));
+        line.push_str(run)?;
+        column += run.chars().count();
+        let mut rest = special.chars();
+        let Some(c) = rest.next() else {
+            return Ok(line);
+        };
+        left = rest.as_str();
         if c == '\t' {
             let wide = tab - column % tab;
             for _ in 0..wide {
@@ -241,7 +242,6 @@ fn expand_any(alloc: Global, piece: &str, tab: usize) -> Result<String, AllocErr
             column += 1;
         }
     }
-    Ok(line)
 }
 
 /// A character as it stands in a line: form feed and vertical tab are a space.

@@ -1,4 +1,4 @@
-use Rattle.rst_text.proofs.PrintableLemmas.{trimmed-line}
+use Rattle.rst_text.proofs.OrdinaryLemmas.{trimmed-line}
 use Rattle.rst_text.proofs.lines.trimmed.Goals as goal
 
 pub returns : goal.returns
