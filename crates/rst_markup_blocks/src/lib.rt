@@ -18,6 +18,7 @@ pub mod laws;
 mod lines;
 mod part;
 mod row;
+pub mod rows;
 mod table_line;
 mod table_rows;
 

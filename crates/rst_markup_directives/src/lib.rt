@@ -14,6 +14,7 @@ mod messages;
 mod name;
 mod option;
 mod options;
+pub mod rows;
 mod target;
 mod value;
 

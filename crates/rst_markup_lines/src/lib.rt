@@ -15,6 +15,7 @@ mod option;
 mod options;
 mod place;
 mod roman;
+pub mod rows;
 mod text;
 
 pub use adornment::{Adornment, adornment_of, is_punctuation};

@@ -1,0 +1,285 @@
+//! Worked examples of directives, their options and what is wrong with them, as theorems on the definitions alone: the prover computes what a
+//! definition gives for a text that is written out.
+#![tactic(auto, unfolding(crate::proofs::Computing::rst_markup_directives))]
+
+ghost use Rattle.std.specs.Prelude.{◌≡◌, true, false, Some, None, Ok, Err, codes, ◌∷◌, ◌++◌, [], map};
+ghost use Rattle.std.specs.List.{filter};
+ghost use Rattle.std.specs.Option.{is_some};
+ghost use Rattle.rst_text.specs.Written.{block};
+ghost use Rattle.rst_markup_directives.specs.Argument.{language, nothing, title, uri};
+ghost use Rattle.rst_markup_directives.specs.Directive.{directive_at, found, read_block, wrong};
+ghost use Rattle.rst_markup_directives.specs.Judgement.{content_fault, permitted};
+ghost use Rattle.rst_markup_directives.specs.Measure.{alignment_of, measure_of, scale_of};
+ghost use Rattle.rst_markup_directives.specs.Message.{fault_text, wrong_text};
+ghost use Rattle.rst_markup_directives.specs.Name.{directive_named, has_option};
+ghost use Rattle.rst_markup_directives.specs.OptionName.{option_named};
+ghost use Rattle.rst_markup_directives.specs.Options.{fields_in};
+ghost use Rattle.rst_markup_directives.specs.Target.{located, named, target_value};
+ghost use Rattle.rst_markup_directives.specs.Value.{called, classed, ids_of, linked, measured, numbered, placed, plain, value_of};
+ghost use Rattle.rst_markup_directives.specs.Wrong.{duplicate, inside, invalid, many_arguments, no_argument, no_content, not_in_substitution, option_block, replace_not_here, topic_not_here, unknown, unknown_directive};
+ghost use Rattle.rst_markup_directives.specs.Wrong as faults;
+ghost use Rattle.rst_markup_directives.specs.declared.fault.Detail.TheVariants.{ContentNotPermitted, NotOneParagraph};
+ghost use Rattle.rst_markup_directives.specs.declared.fault.DirectiveFault.TheVariants.{Inside, NoContent, NotInSubstitution, ReplaceNotHere, TopicNotHere, Unknown};
+ghost use Rattle.rst_markup_directives.specs.declared.found.Place.TheVariants.{Body, Substitution, Top as Sections};
+ghost use Rattle.rst_markup_directives.specs.declared.measure.Alignment.TheVariants.{Bottom, Center, Left, Middle, Right, Top};
+ghost use Rattle.rst_markup_directives.specs.declared.name.Name.TheVariants.{Admonition, Attention, Caution, Code, Danger, Error, Figure, Hint, Image, Important, Note, Replace, Tip, Topic, Warning};
+ghost use Rattle.rst_markup_directives.specs.declared.option.OptionName.TheVariants.{Align, Alt, Class, FigureClass, FigureWidth, Height, Name as NameOption, Scale, Target, Width};
+
+/// Which directive a name is of.
+pub fn names()
+    ensures admonitions { map (λ t. directive_named (codes t) false) ("attention" ∷ "caution" ∷ "danger" ∷ "error" ∷ "hint" ∷ "important" ∷ "note"
+        ∷ "tip" ∷ "warning" ∷ [])
+        ≡ Some Attention ∷ Some Caution ∷ Some Danger ∷ Some Error ∷ Some Hint ∷ Some Important ∷ Some Note ∷ Some Tip ∷ Some Warning ∷ [] }
+    ensures others { map (λ t. directive_named (codes t) false) ("admonition" ∷ "topic" ∷ "image" ∷ "figure" ∷ "replace" ∷ [])
+        ≡ Some Admonition ∷ Some Topic ∷ Some Image ∷ Some Figure ∷ Some Replace ∷ [] }
+    ensures code { map (λ t. directive_named (codes t) true) ("code" ∷ "code-block" ∷ "sourcecode" ∷ []) ≡ Some Code ∷ Some Code ∷ Some Code ∷ [] }
+    ensures no_code { map (λ t. directive_named (codes t) false) ("code" ∷ "code-block" ∷ "sourcecode" ∷ []) ≡ None ∷ None ∷ None ∷ [] }
+    ensures case_of_letters { map (λ t. directive_named (codes t) true) ("NoTe" ∷ "Code-Block" ∷ "tıp" ∷ []) ≡ Some Note ∷ Some Code ∷ None ∷ [] }
+    ensures left_out { filter (λ t. is_some (directive_named (codes t) true)) ("raw" ∷ "include" ∷ "table" ∷ "csv-table" ∷ "list-table" ∷ "math"
+        ∷ "contents" ∷ "class" ∷ "container" ∷ "rubric" ∷ "sidebar" ∷ "parsed-literal" ∷ "role" ∷ "unicode" ∷ "date" ∷ "notes" ∷ "not" ∷ [])
+        ≡ [] }
+{}
+
+/// Which options the directives have.
+pub fn option_names()
+    ensures each { map (λ t. option_named (codes t)) ("alt" ∷ "height" ∷ "width" ∷ "scale" ∷ "align" ∷ "target" ∷ "class" ∷ "name" ∷ "figwidth"
+        ∷ "figclass" ∷ [])
+        ≡ Some Alt ∷ Some Height ∷ Some Width ∷ Some Scale ∷ Some Align ∷ Some Target ∷ Some Class ∷ Some NameOption ∷ Some FigureWidth
+        ∷ Some FigureClass ∷ [] }
+    ensures case_of_letters { map (λ t. option_named (codes t)) ("FigWidth" ∷ "alt text" ∷ "number-lines" ∷ [])
+        ≡ Some FigureWidth ∷ None ∷ None ∷ [] }
+    ensures image { filter (λ o. has_option Image o) (Alt ∷ Height ∷ Width ∷ Scale ∷ Align ∷ Target ∷ Class ∷ NameOption ∷ FigureWidth ∷ FigureClass
+        ∷ [])
+        ≡ Alt ∷ Height ∷ Width ∷ Scale ∷ Align ∷ Target ∷ Class ∷ NameOption ∷ [] }
+    ensures figure { filter (λ o. has_option Figure o) (Alt ∷ Target ∷ Class ∷ NameOption ∷ FigureWidth ∷ FigureClass ∷ [])
+        ≡ Alt ∷ Target ∷ Class ∷ NameOption ∷ FigureWidth ∷ FigureClass ∷ [] }
+    ensures note { filter (λ o. has_option Note o) (Alt ∷ Scale ∷ Align ∷ Target ∷ Class ∷ NameOption ∷ FigureClass ∷ []) ≡ Class ∷ NameOption ∷ [] }
+    ensures code { filter (λ o. has_option Code o) (Alt ∷ Width ∷ Class ∷ NameOption ∷ []) ≡ Class ∷ NameOption ∷ [] }
+    ensures replace { filter (λ o. has_option Replace o) (Alt ∷ Class ∷ NameOption ∷ []) ≡ [] }
+{}
+
+/// Measures, scales and alignments.
+pub fn measures()
+    ensures units { filter (λ unit. is_some (measure_of (codes "2" ++ codes unit) false false)) ("" ∷ "em" ∷ "ex" ∷ "px" ∷ "in" ∷ "cm" ∷ "mm" ∷ "pt"
+        ∷ "pc" ∷ "%" ∷ "PX" ∷ "rem" ∷ "e" ∷ [])
+        ≡ "" ∷ "em" ∷ "ex" ∷ "px" ∷ "in" ∷ "cm" ∷ "mm" ∷ "pt" ∷ "pc" ∷ [] }
+    ensures spaces { measure_of (codes "1.50  em") true false ≡ Some (codes "1.50em") }
+    ensures percent { measure_of (codes "50 %") true false ≡ Some (codes "50%") }
+    ensures without_unit { measure_of (codes "300") true false ≡ Some (codes "300") }
+    ensures pixels { map (λ t. measure_of (codes t) true true) ("300" ∷ "30%" ∷ []) ≡ Some (codes "300px") ∷ Some (codes "30%") ∷ [] }
+    ensures numbers { filter (λ t. is_some (measure_of (codes t) true false)) ("5." ∷ ".5" ∷ "1.5.2" ∷ "1,5" ∷ "-1" ∷ "1 2" ∷ "px" ∷ "1p x" ∷ "" ∷ [])
+        ≡ [] }
+    ensures scales { map (λ t. scale_of (codes t)) ("50" ∷ "050" ∷ "50%" ∷ "50  %" ∷ "999999999" ∷ [])
+        ≡ Some 50 ∷ Some 50 ∷ Some 50 ∷ Some 50 ∷ Some 999999999 ∷ [] }
+    ensures no_scales { filter (λ t. is_some (scale_of (codes t))) ("1000000000" ∷ "5.5" ∷ "%" ∷ "50 px" ∷ "50%%" ∷ "-5" ∷ "" ∷ []) ≡ [] }
+    ensures alignments { map (λ t. alignment_of (codes t) true) ("top" ∷ "middle" ∷ "bottom" ∷ "left" ∷ "center" ∷ "right" ∷ [])
+        ≡ Some Top ∷ Some Middle ∷ Some Bottom ∷ Some Left ∷ Some Center ∷ Some Right ∷ [] }
+    ensures not_vertical { filter (λ t. is_some (alignment_of (codes t) false)) ("top" ∷ "middle" ∷ "bottom" ∷ "left" ∷ "center" ∷ "right" ∷ [])
+        ≡ "left" ∷ "center" ∷ "right" ∷ [] }
+    ensures exact_words { filter (λ t. is_some (alignment_of (codes t) true)) ("Left" ∷ "centre" ∷ "left right" ∷ "" ∷ []) ≡ [] }
+{}
+
+/// What the text of a target leads to.
+pub fn targets()
+    ensures name { target_value (codes "a-b_") ≡ Some (named (codes "a-b")) }
+    ensures phrase { target_value (codes "`A  b\\_`_") ≡ Some (named (codes "A  b_")) }
+    ensures phrase_of_two_lines { target_value (codes "`a\n   b`_") ≡ Some (named (codes "a\nb")) }
+    ensures embedded { target_value (codes "`a <b>`_") ≡ Some (named (codes "a <b>")) }
+    ensures escaped_backquote { target_value (codes "`a\\`b`_") ≡ Some (named (codes "a`b")) }
+    ensures lines { target_value (codes "http://a.org/ b\n\n  c") ≡ Some (located (codes "http://a.org/bc")) }
+    ensures escaped_underscore { target_value (codes "a\\_") ≡ Some (located (codes "a_")) }
+    ensures two_underscores { target_value (codes "a__") ≡ Some (located (codes "a__")) }
+    ensures two_words { target_value (codes "a b_") ≡ Some (located (codes "ab_")) }
+    ensures two_phrases { target_value (codes "`a` `b`_") ≡ Some (located (codes "`a``b`_")) }
+    ensures phrase_with_a_space { target_value (codes "`a `_") ≡ Some (located (codes "`a`_")) }
+    ensures escaped_end { target_value (codes "`a\\`_") ≡ Some (located (codes "`a`_")) }
+    ensures short { map (λ t. target_value (codes t)) ("_" ∷ "``_" ∷ []) ≡ Some (located (codes "_")) ∷ Some (located (codes "``_")) ∷ [] }
+    ensures nothing_left { map (λ t. target_value (codes t)) ("" ∷ "\\" ∷ "\\ " ∷ []) ≡ None ∷ None ∷ None ∷ [] }
+{}
+
+/// What the values of options mean.
+pub fn values()
+    ensures classes { ids_of (codes "Wide  my_table") ≡ Some (codes "wide" ∷ codes "my-table" ∷ []) }
+    ensures no_classes { map (λ t. ids_of (codes t)) ("" ∷ "a 1" ∷ []) ≡ None ∷ None ∷ [] }
+    ensures empty_alt { value_of Image Alt (codes "") ≡ Some (plain []) }
+    ensures alt { value_of Image Alt (codes "A\\ b") ≡ Some (plain (codes "A\\ b")) }
+    ensures name { value_of Note NameOption (codes "A\n  b") ≡ Some (called (codes "a b")) }
+    ensures height { map (λ t. value_of Image Height (codes t)) ("50" ∷ "50%" ∷ []) ≡ Some (measured (codes "50")) ∷ None ∷ [] }
+    ensures width { map (λ t. value_of Figure Width (codes t)) ("50" ∷ "50%" ∷ [])
+        ≡ Some (measured (codes "50")) ∷ Some (measured (codes "50%")) ∷ [] }
+    ensures figure_width { map (λ t. value_of Figure FigureWidth (codes t)) ("50" ∷ "image" ∷ []) ≡ Some (measured (codes "50px")) ∷ None ∷ [] }
+    ensures align { map (λ d. value_of d Align (codes "middle")) (Image ∷ Figure ∷ []) ≡ Some (placed Middle) ∷ None ∷ [] }
+    ensures target { map (λ t. value_of Image Target (codes t)) ("a_" ∷ "" ∷ []) ≡ Some (linked (named (codes "a")) (codes "a_")) ∷ None ∷ [] }
+{}
+
+/// The fields of an option block.
+pub fn option_blocks()
+    ensures values { fields_in (codes ":a:  b" ∷ codes "    c" ∷ codes "  d" ∷ codes ":e f:" ∷ codes "   g" ∷ codes ":h:" ∷ [])
+        ≡ Some ((codes "a", codes "b\n  c\nd") ∷ (codes "e f", codes "g") ∷ (codes "h", []) ∷ []) }
+    ensures text { fields_in (codes ":a: b" ∷ codes "c" ∷ []) ≡ None }
+    ensures indented_first { fields_in (codes "  b" ∷ codes ":a: b" ∷ []) ≡ None }
+{}
+
+/// The argument, options and content of a directive's block.
+pub fn blocks()
+    ensures content_alone { read_block Note false (record { from = 0; to = 3; first_cut = 9; rest_cut = 3 }) (block ("a" ∷ "" ∷ ":class: b" ∷ []))
+        ≡ Ok (record {
+          name = Note;
+          argument = nothing;
+          options = [];
+          content = record {
+            first = record { from = 0; to = 3; first_cut = 9; rest_cut = 3 };
+            second = record { from = 3; to = 3; first_cut = 3; rest_cut = 3 };
+          };
+        }) }
+    ensures two_parts { read_block Tip false (record { from = 5; to = 10; first_cut = 9; rest_cut = 3 }) (block ("a" ∷ ":class: b" ∷ "" ∷ "" ∷ "c"
+        ∷ []))
+        ≡ Ok (record {
+          name = Tip;
+          argument = nothing;
+          options = (Class, classed (codes "b" ∷ []))
+              ∷ [];
+          content = record {
+            first = record { from = 5; to = 6; first_cut = 9; rest_cut = 3 };
+            second = record { from = 9; to = 10; first_cut = 3; rest_cut = 3 };
+          };
+        }) }
+    ensures with_title { read_block Topic false (record { from = 0; to = 5; first_cut = 10; rest_cut = 3 }) (block ("A" ∷ "B" ∷ ":name: C d" ∷ ""
+        ∷ "e" ∷ []))
+        ≡ Ok (record {
+          name = Topic;
+          argument = title (record { from = 0; to = 2; first_cut = 10; rest_cut = 3 });
+          options = (NameOption, called (codes "c d"))
+              ∷ [];
+          content = record {
+            first = record { from = 0; to = 0; first_cut = 10; rest_cut = 3 };
+            second = record { from = 4; to = 5; first_cut = 3; rest_cut = 3 };
+          };
+        }) }
+    ensures with_uri { read_block Image false (record { from = 0; to = 3; first_cut = 10; rest_cut = 3 }) (block ("a b" ∷ "c.png" ∷ ":Scale: 5" ∷ []))
+        ≡ Ok (record {
+          name = Image;
+          argument = uri (codes "abc.png");
+          options = (Scale, numbered 5)
+              ∷ [];
+          content = record {
+            first = record { from = 0; to = 0; first_cut = 10; rest_cut = 3 };
+            second = record { from = 3; to = 3; first_cut = 3; rest_cut = 3 };
+          };
+        }) }
+    ensures field_in_a_replacement { read_block Replace false (record { from = 0; to = 1; first_cut = 13; rest_cut = 0 }) (block (":class: a" ∷ []))
+        ≡ Ok (record {
+          name = Replace;
+          argument = nothing;
+          options = [];
+          content = record {
+            first = record { from = 0; to = 1; first_cut = 13; rest_cut = 0 };
+            second = record { from = 1; to = 1; first_cut = 0; rest_cut = 0 };
+          };
+        }) }
+    ensures with_language { read_block Code false (record { from = 0; to = 3; first_cut = 9; rest_cut = 3 }) (block ("C++" ∷ "" ∷ ":a: b" ∷ []))
+        ≡ Ok (record {
+          name = Code;
+          argument = language (codes "C++");
+          options = [];
+          content = record {
+            first = record { from = 0; to = 0; first_cut = 9; rest_cut = 3 };
+            second = record { from = 2; to = 3; first_cut = 3; rest_cut = 3 };
+          };
+        }) }
+    ensures late_code { read_block Code true (record { from = 2; to = 3; first_cut = 3; rest_cut = 3 }) (block (":class: c" ∷ []))
+        ≡ Ok (record {
+          name = Code;
+          argument = nothing;
+          options = [];
+          content = record {
+            first = record { from = 2; to = 2; first_cut = 3; rest_cut = 3 };
+            second = record { from = 2; to = 3; first_cut = 3; rest_cut = 3 };
+          };
+        }) }
+{}
+
+/// What is wrong with an option or an argument, of which the first counts.
+pub fn wrong_blocks()
+    ensures two_languages { read_block Code false (record { from = 0; to = 2; first_cut = 9; rest_cut = 3 }) (block ("a" ∷ "b" ∷ []))
+        ≡ Err many_arguments }
+    ensures unknown_option { read_block Image false (record { from = 0; to = 4; first_cut = 0; rest_cut = 0 }) (block (":scale: x" ∷ ":alt: a"
+        ∷ ":alt: b" ∷ ":Foo: c" ∷ []))
+        ≡ Err (unknown (codes "Foo")) }
+    ensures duplicate_option { read_block Image false (record { from = 0; to = 3; first_cut = 0; rest_cut = 0 }) (block (":scale: x" ∷ ":alt: a"
+        ∷ ":ALT: b" ∷ []))
+        ≡ Err (duplicate (codes "ALT")) }
+    ensures invalid_value { read_block Image false (record { from = 0; to = 2; first_cut = 0; rest_cut = 0 }) (block (":alt: a" ∷ ":scale: x" ∷ []))
+        ≡ Err (invalid (codes "scale")) }
+    ensures missing_argument { read_block Image false (record { from = 0; to = 1; first_cut = 0; rest_cut = 0 }) (block (":alt: a" ∷ []))
+        ≡ Err no_argument }
+    ensures text_among_options { read_block Note false (record { from = 0; to = 2; first_cut = 0; rest_cut = 0 }) (block (":class: a" ∷ "b" ∷ []))
+        ≡ Err option_block }
+{}
+
+/// Where a directive may stand, and with which content.
+pub fn places()
+    ensures unknown_name { permitted None Body ≡ Err Unknown }
+    ensures unknown_in_a_definition { permitted None Substitution ≡ Err NotInSubstitution }
+    ensures in_a_definition { map (λ d. permitted (Some d) Substitution) (Image ∷ Replace ∷ Figure ∷ Note ∷ [])
+        ≡ Ok Image ∷ Ok Replace ∷ Err NotInSubstitution ∷ Err NotInSubstitution ∷ [] }
+    ensures without_content { map (λ d. content_fault d true Body false) (Note ∷ Admonition ∷ Topic ∷ Code ∷ Replace ∷ Image ∷ Figure ∷ [])
+        ≡ Some NoContent ∷ Some NoContent ∷ Some NoContent ∷ Some NoContent ∷ Some NoContent ∷ None ∷ None ∷ [] }
+    ensures with_content { map (λ d. content_fault d false Body true) (Note ∷ Topic ∷ Image ∷ Figure ∷ Replace ∷ [])
+        ≡ None ∷ Some TopicNotHere ∷ Some (Inside ContentNotPermitted) ∷ None ∷ Some ReplaceNotHere ∷ [] }
+    ensures topic { content_fault Topic false Sections false ≡ None }
+    ensures replacement { map (λ paragraph. content_fault Replace false Substitution paragraph) (true ∷ false ∷ [])
+        ≡ None ∷ Some (Inside NotOneParagraph) ∷ [] }
+    ensures two_paragraphs { content_fault Replace false Body false ≡ Some (Inside NotOneParagraph) }
+{}
+
+/// Whole directives.
+pub fn directives()
+    ensures figure { directive_at false (block (".. Figure:: a.png" ∷ "   :align: left" ∷ "" ∷ "   b"
+        ∷ [])) 0 (record { name = record { from = 3; to = 9 }; block = record { from = 0; to = 4; first_cut = 12; rest_cut = 3 } }) Body false
+        ≡ found (record {
+          name = Figure;
+          argument = uri (codes "a.png");
+          options = (Align, placed Left)
+              ∷ [];
+          content = record {
+            first = record { from = 0; to = 0; first_cut = 12; rest_cut = 3 };
+            second = record { from = 3; to = 4; first_cut = 3; rest_cut = 3 };
+          };
+        }) }
+    ensures late { directive_at false (block (".. note::" ∷ "" ∷ "   :class: a" ∷ "" ∷ "   b"
+        ∷ [])) 0 (record { name = record { from = 3; to = 7 }; block = record { from = 2; to = 5; first_cut = 3; rest_cut = 3 } }) Body false
+        ≡ found (record {
+          name = Note;
+          argument = nothing;
+          options = (Class, classed (codes "a" ∷ []))
+              ∷ [];
+          content = record {
+            first = record { from = 2; to = 2; first_cut = 3; rest_cut = 3 };
+            second = record { from = 4; to = 5; first_cut = 3; rest_cut = 3 };
+          };
+        }) }
+    ensures content_of_an_image { directive_at false (block ("x" ∷ ".. image:: a" ∷ "" ∷ "   b"
+        ∷ [])) 1 (record { name = record { from = 3; to = 8 }; block = record { from = 1; to = 4; first_cut = 11; rest_cut = 3 } }) Body true
+        ≡ wrong (inside faults.content_not_permitted) (record { from = 1; to = 4; first_cut = 0; rest_cut = 0 }) }
+    ensures options_before_content { directive_at false (block (".. topic::" ∷ "   :foo:"
+        ∷ [])) 0 (record { name = record { from = 3; to = 8 }; block = record { from = 1; to = 2; first_cut = 3; rest_cut = 3 } }) Body false
+        ≡ wrong (inside (unknown (codes "foo"))) (record { from = 0; to = 2; first_cut = 0; rest_cut = 0 }) }
+{}
+
+/// The texts of messages.
+pub fn messages()
+    ensures unknown_name { fault_text unknown_directive (codes "foo") ≡ codes "Unknown directive type \"foo\"." }
+    ensures unknown_option { fault_text (inside (unknown (codes "bar"))) (codes "Note")
+        ≡ codes "Error in \"Note\" directive:\nunknown option: \"bar\"." }
+    ensures options { map (λ w. wrong_text w) (option_block ∷ duplicate (codes "alt") ∷ invalid (codes "scale") ∷ [])
+        ≡ codes "invalid option block." ∷ codes "duplicate option \"alt\"." ∷ codes "invalid value of option \"scale\"." ∷ [] }
+    ensures others { map (λ w. wrong_text w) (no_argument ∷ many_arguments ∷ faults.content_not_permitted ∷ faults.not_one_paragraph ∷ [])
+        ≡ codes "1 argument(s) required, 0 supplied." ∷ codes "at most 1 argument permitted." ∷ codes "no content permitted."
+        ∷ codes "may contain a single paragraph only." ∷ [] }
+    ensures without_content { fault_text no_content (codes "tip") ≡ codes "Content block expected for the \"tip\" directive; none found." }
+    ensures topic { fault_text topic_not_here (codes "topic") ≡ codes "The \"topic\" directive may not be used within topics or body elements." }
+    ensures replacement { fault_text replace_not_here (codes "replace")
+        ≡ codes "Invalid context: the \"replace\" directive can only be used within a substitution definition." }
+    ensures definition { fault_text not_in_substitution (codes "a") ≡ codes "Substitution definition \"a\" may hold only image or replace." }
+{}
