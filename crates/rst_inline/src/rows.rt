@@ -16,9 +16,11 @@ pub fn roles()
     ensures text { map role_tag (codes "emphasis" ∷ codes "strong" ∷ codes "literal" ∷ []) ≡ Some Emphasis ∷ Some Strong ∷ Some Literal ∷ [] }
     ensures low_and_high { map role_tag (codes "subscript" ∷ codes "sub" ∷ codes "superscript" ∷ codes "sup" ∷ [])
         ≡ Some Subscript ∷ Some Subscript ∷ Some Superscript ∷ Some Superscript ∷ [] }
-    ensures titles { map role_tag (codes "title-reference" ∷ codes "title" ∷ codes "t" ∷ []) ≡ Some TitleReference ∷ Some TitleReference ∷ Some TitleReference ∷ [] }
+    ensures titles { map role_tag (codes "title-reference" ∷ codes "title" ∷ codes "t" ∷ [])
+        ≡ Some TitleReference ∷ Some TitleReference ∷ Some TitleReference ∷ [] }
     ensures exactly { map role_tag (codes "Sub" ∷ codes "title_reference" ∷ []) ≡ None ∷ None ∷ [] }
-    ensures others { map role_tag (codes "code" ∷ codes "math" ∷ codes "raw" ∷ codes "pep" ∷ codes "rfc" ∷ []) ≡ None ∷ None ∷ None ∷ None ∷ None ∷ [] }
+    ensures others { map role_tag (codes "code" ∷ codes "math" ∷ codes "raw" ∷ codes "pep" ∷ codes "rfc" ∷ [])
+        ≡ None ∷ None ∷ None ∷ None ∷ None ∷ [] }
     ensures in_front { Shows ":sub:`a`" ("<subscript>" ∷ "    a" ∷ []) }
     ensures behind { Shows "`a`:sub:" ("<subscript>" ∷ "    a" ∷ []) }
     ensures by_default { Shows "`a`" ("<title_reference>" ∷ "    a" ∷ []) }
@@ -56,16 +58,25 @@ pub fn embedded()
     ensures anonymous_uri { Shows "`A <u>`__" ("<reference name=\"A\" rawsource=\"`A <u>`__\" refuri=\"u\">" ∷ "    A" ∷ []) }
     ensures alias { Shows "`A <B  c_>`_" ("<reference name=\"A\" rawsource=\"`A <B  c_>`_\" refname=\"b c\">" ∷ "    A" ∷ []) }
     ensures anonymous_alias { Shows "`A <b_>`__" ("<reference name=\"A\" rawsource=\"`A <b_>`__\" refname=\"b\">" ∷ "    A" ∷ []) }
-    ensures uri_like_alias { Shows "`a <http://x.org/b_>`_" ("<reference name=\"a\" rawsource=\"`a <http://x.org/b_>`_\" refname=\"http://x.org/b\">" ∷ "    a" ∷ []) }
-    ensures white_in_a_uri { Shows "`a <u v>`_" ("<reference name=\"a\" rawsource=\"`a <u v>`_\" refuri=\"uv\">" ∷ "    a" ∷ "<target inline=\"1\" own_name=\"a\" refuri=\"uv\">" ∷ []) }
-    ensures uri_alone { Shows "`<U v>`_" ("<reference name=\"Uv\" rawsource=\"`<U v>`_\" refuri=\"Uv\">" ∷ "    Uv" ∷ "<target inline=\"1\" own_name=\"uv\" refuri=\"Uv\">" ∷ []) }
-    ensures alias_alone { Shows "`<Foo  Bar_>`_" ("<reference name=\"Foo Bar\" rawsource=\"`<Foo  Bar_>`_\" refname=\"foo bar\">" ∷ "    Foo  Bar" ∷ []) }
-    ensures escaped_underscore { Shows "`<b\\_>`_" ("<reference name=\"b_\" rawsource=\"`<b\\_>`_\" refuri=\"b_\">" ∷ "    b_" ∷ "<target inline=\"1\" own_name=\"b_\" refuri=\"b_\">" ∷ []) }
-    ensures underscore_alone { Shows "`a <_>`_" ("<reference name=\"a\" rawsource=\"`a <_>`_\" refuri=\"_\">" ∷ "    a" ∷ "<target inline=\"1\" own_name=\"a\" refuri=\"_\">" ∷ []) }
-    ensures escaped_white { Shows "`a\\ <u>`_" ("<reference name=\"a\" rawsource=\"`a\\ <u>`_\" refuri=\"u\">" ∷ "    a" ∷ "<target inline=\"1\" own_name=\"a\" refuri=\"u\">" ∷ []) }
+    ensures uri_like_alias { Shows "`a <http://x.org/b_>`_"
+        ("<reference name=\"a\" rawsource=\"`a <http://x.org/b_>`_\" refname=\"http://x.org/b\">" ∷ "    a" ∷ []) }
+    ensures white_in_a_uri { Shows "`a <u v>`_"
+        ("<reference name=\"a\" rawsource=\"`a <u v>`_\" refuri=\"uv\">" ∷ "    a" ∷ "<target inline=\"1\" own_name=\"a\" refuri=\"uv\">" ∷ []) }
+    ensures uri_alone { Shows "`<U v>`_"
+        ("<reference name=\"Uv\" rawsource=\"`<U v>`_\" refuri=\"Uv\">" ∷ "    Uv" ∷ "<target inline=\"1\" own_name=\"uv\" refuri=\"Uv\">" ∷ []) }
+    ensures alias_alone { Shows "`<Foo  Bar_>`_"
+        ("<reference name=\"Foo Bar\" rawsource=\"`<Foo  Bar_>`_\" refname=\"foo bar\">" ∷ "    Foo  Bar" ∷ []) }
+    ensures escaped_underscore { Shows "`<b\\_>`_"
+        ("<reference name=\"b_\" rawsource=\"`<b\\_>`_\" refuri=\"b_\">" ∷ "    b_" ∷ "<target inline=\"1\" own_name=\"b_\" refuri=\"b_\">" ∷ []) }
+    ensures underscore_alone { Shows "`a <_>`_"
+        ("<reference name=\"a\" rawsource=\"`a <_>`_\" refuri=\"_\">" ∷ "    a" ∷ "<target inline=\"1\" own_name=\"a\" refuri=\"_\">" ∷ []) }
+    ensures escaped_white { Shows "`a\\ <u>`_"
+        ("<reference name=\"a\" rawsource=\"`a\\ <u>`_\" refuri=\"u\">" ∷ "    a" ∷ "<target inline=\"1\" own_name=\"a\" refuri=\"u\">" ∷ []) }
     ensures last_angle { Shows "`a <b> <c>`_"
-        ("<reference name=\"a <b>\" rawsource=\"`a <b> <c>`_\" refuri=\"c\">" ∷ "    a <b>" ∷ "<target inline=\"1\" own_name=\"a <b>\" refuri=\"c\">" ∷ []) }
-    ensures angle_inside { Shows "`a <>>`_" ("<reference name=\"a\" rawsource=\"`a <>>`_\" refuri=\">\">" ∷ "    a" ∷ "<target inline=\"1\" own_name=\"a\" refuri=\">\">" ∷ []) }
+        ("<reference name=\"a <b>\" rawsource=\"`a <b> <c>`_\" refuri=\"c\">" ∷ "    a <b>" ∷ "<target inline=\"1\" own_name=\"a <b>\" refuri=\"c\">"
+        ∷ []) }
+    ensures angle_inside { Shows "`a <>>`_"
+        ("<reference name=\"a\" rawsource=\"`a <>>`_\" refuri=\">\">" ∷ "    a" ∷ "<target inline=\"1\" own_name=\"a\" refuri=\">\">" ∷ []) }
 {}
 
 /// Phrases with angle brackets in which nothing is embedded.
@@ -83,8 +94,10 @@ pub fn plain_angles()
 /// Substitution references.
 pub fn substitutions()
     ensures alone { Shows "|A  b|" ("<substitution_reference rawsource=\"|A  b|\" refname=\"A b\">" ∷ "    A  b" ∷ []) }
-    ensures with_a_reference { Shows "|A|_" ("<reference rawsource=\"|A|_\" refname=\"a\">" ∷ "    <substitution_reference rawsource=\"|A|\" refname=\"A\">" ∷ "        A" ∷ []) }
-    ensures anonymous { Shows "|a|__" ("<reference anonymous=\"1\" rawsource=\"|a|__\">" ∷ "    <substitution_reference rawsource=\"|a|\" refname=\"a\">" ∷ "        a" ∷ []) }
+    ensures with_a_reference { Shows "|A|_"
+        ("<reference rawsource=\"|A|_\" refname=\"a\">" ∷ "    <substitution_reference rawsource=\"|A|\" refname=\"A\">" ∷ "        A" ∷ []) }
+    ensures anonymous { Shows "|a|__"
+        ("<reference anonymous=\"1\" rawsource=\"|a|__\">" ∷ "    <substitution_reference rawsource=\"|a|\" refname=\"a\">" ∷ "        a" ∷ []) }
 {}
 
 /// References to footnotes and citations.
@@ -101,20 +114,26 @@ pub fn labels()
 /// Messages.
 pub fn messages()
     ensures unended { Shows "**a *b ``c"
-        ("<problematic message=\"0\">" ∷ "    **" ∷ "a " ∷ "<problematic message=\"1\">" ∷ "    *" ∷ "b " ∷ "<problematic message=\"2\">" ∷ "    ``" ∷ "c"
+        ("<problematic message=\"0\">" ∷ "    **" ∷ "a " ∷ "<problematic message=\"1\">" ∷ "    *" ∷ "b " ∷ "<problematic message=\"2\">" ∷ "    ``"
+        ∷ "c"
         ∷ "WARNING: Inline strong start-string without end-string." ∷ "WARNING: Inline emphasis start-string without end-string."
         ∷ "WARNING: Inline literal start-string without end-string." ∷ []) }
     ensures unended_names { Shows "_`a |b `c"
-        ("<problematic message=\"0\">" ∷ "    _`" ∷ "a " ∷ "<problematic message=\"1\">" ∷ "    |" ∷ "b " ∷ "<problematic message=\"2\">" ∷ "    `" ∷ "c"
+        ("<problematic message=\"0\">" ∷ "    _`" ∷ "a " ∷ "<problematic message=\"1\">" ∷ "    |" ∷ "b " ∷ "<problematic message=\"2\">" ∷ "    `"
+        ∷ "c"
         ∷ "WARNING: Inline target start-string without end-string." ∷ "WARNING: Inline substitution_reference start-string without end-string."
         ∷ "WARNING: Inline interpreted text or phrase reference start-string without end-string." ∷ []) }
     ensures unended_role { Shows ":sub:`a"
-        ("<problematic message=\"0\">" ∷ "    :sub:`" ∷ "a" ∷ "WARNING: Inline interpreted text or phrase reference start-string without end-string." ∷ []) }
-    ensures unknown_role { Shows ":Nope:`a`" ("<problematic message=\"0\">" ∷ "    :Nope:`a`" ∷ "ERROR: Unknown interpreted text role \"Nope\"." ∷ []) }
+        ("<problematic message=\"0\">" ∷ "    :sub:`" ∷ "a" ∷ "WARNING: Inline interpreted text or phrase reference start-string without end-string."
+        ∷ []) }
+    ensures unknown_role { Shows ":Nope:`a`"
+        ("<problematic message=\"0\">" ∷ "    :Nope:`a`" ∷ "ERROR: Unknown interpreted text role \"Nope\"." ∷ []) }
     ensures two_roles { Shows ":nope:`a`:sub:"
         ("<problematic message=\"0\">" ∷ "    :nope:`a`:sub:"
         ∷ "WARNING: Multiple roles in interpreted text (both prefix and suffix present; only one allowed)." ∷ []) }
-    ensures mismatch { Shows ":sub:`a`_" ("<problematic message=\"0\">" ∷ "    :sub:`a`_" ∷ "WARNING: Mismatch: both interpreted text role and reference suffix." ∷ []) }
-    ensures anonymous_mismatch { Shows ":sub:`a`__" ("<problematic message=\"0\">" ∷ "    :sub:`a`__" ∷ "WARNING: Mismatch: both interpreted text role and reference suffix." ∷ []) }
+    ensures mismatch { Shows ":sub:`a`_"
+        ("<problematic message=\"0\">" ∷ "    :sub:`a`_" ∷ "WARNING: Mismatch: both interpreted text role and reference suffix." ∷ []) }
+    ensures anonymous_mismatch { Shows ":sub:`a`__"
+        ("<problematic message=\"0\">" ∷ "    :sub:`a`__" ∷ "WARNING: Mismatch: both interpreted text role and reference suffix." ∷ []) }
     ensures line { map (λ note. note.line) (notes_of (codes "a\n*b") 7 (pieces_of (codes "a\n*b"))) ≡ 7 ∷ [] }
 {}

@@ -35,7 +35,7 @@ pub fn starts()
 /// Where an end may stand.
 pub fn ends()
     ensures inside_a_word { Cuts "*a*b*" ((Marked Emphasis Bare, "*a*b*") ∷ []) }
-    ensures after_white { Cuts "*a *b*" ((Marked Emphasis Bare, "*a *b*") ∷ []) }
+    ensures after_white { Cuts "*a * b*" ((Marked Emphasis Bare, "*a * b*") ∷ []) }
     ensures before_a_letter { Cuts "*a*b" ((Unended Emphasis, "*") ∷ (Plain, "a*b") ∷ []) }
     ensures first { Cuts "*a* b*" ((Marked Emphasis Bare, "*a*") ∷ (Plain, " b*") ∷ []) }
     ensures character_between { Cuts "**** a**" ((Marked Strong Bare, "**** a**") ∷ []) }
@@ -62,12 +62,14 @@ pub fn strings()
 /// What stands behind a substitution and behind interpreted text.
 pub fn tails()
     ensures substitutions { Cuts "|a| |a|_ |a|__"
-        ((Marked Substitution Bare, "|a|") ∷ (Plain, " ") ∷ (Marked Substitution Named, "|a|_") ∷ (Plain, " ") ∷ (Marked Substitution Anonymous, "|a|__") ∷ []) }
+        ((Marked Substitution Bare, "|a|") ∷ (Plain, " ") ∷ (Marked Substitution Named, "|a|_") ∷ (Plain, " ")
+        ∷ (Marked Substitution Anonymous, "|a|__") ∷ []) }
     ensures phrases { Cuts "`a` `a`_ `a`__"
-        ((Marked Interpreted Bare, "`a`") ∷ (Plain, " ") ∷ (Marked Interpreted Named, "`a`_") ∷ (Plain, " ") ∷ (Marked Interpreted Anonymous, "`a`__") ∷ []) }
+        ((Marked Interpreted Bare, "`a`") ∷ (Plain, " ") ∷ (Marked Interpreted Named, "`a`_") ∷ (Plain, " ") ∷ (Marked Interpreted Anonymous, "`a`__")
+        ∷ []) }
     ensures substitution_before_a_letter { Cuts "|a|_b" ((Unended Substitution, "|") ∷ (Plain, "a|_b") ∷ []) }
     ensures three_underscores { Cuts "`a`___" ((Unended Interpreted, "`") ∷ (Plain, "a`___") ∷ []) }
-    ensures phrase_of_white { Cuts "`a `b`_" ((Marked Interpreted Named, "`a `b`_") ∷ []) }
+    ensures phrase_of_white { Cuts "`a ` b`_" ((Marked Interpreted Named, "`a ` b`_") ∷ []) }
     ensures role_behind { Cuts "`a`:sub:" ((Marked Interpreted Role, "`a`:sub:") ∷ []) }
     ensures role_before_a_letter { Cuts "`a`:sub:b" ((Marked Interpreted Bare, "`a`") ∷ (Plain, ":sub:b") ∷ []) }
     ensures role_before_an_underscore { Cuts "`a`:sub:_" ((Marked Interpreted Bare, "`a`") ∷ (Plain, ":sub:_") ∷ []) }
@@ -124,9 +126,10 @@ pub fn labels()
 pub fn uris()
     ensures characters { filter is_uri_char (codes "!\"#$%&'()*+,-./:;<=>?@[\\]^_`{|}~ aZ09ä") ≡ codes "!#$%&'()*+,-./:;=?@[]_~aZ09" }
     ensures trailing_characters { filter is_uri_trail (codes "!\"#$%&'()*+,-./:;<=>?@[\\]^_`{|}~") ≡ codes "!'),.:;?]" }
-    ensures schemes { Cuts "file:///a ftp://a http://a https://a irc://a mailto:a@b news:a"
-        ((Uri, "file:///a") ∷ (Plain, " ") ∷ (Uri, "ftp://a") ∷ (Plain, " ") ∷ (Uri, "http://a") ∷ (Plain, " ") ∷ (Uri, "https://a") ∷ (Plain, " ")
-        ∷ (Uri, "irc://a") ∷ (Plain, " ") ∷ (Uri, "mailto:a@b") ∷ (Plain, " ") ∷ (Uri, "news:a") ∷ []) }
+    ensures slash_schemes { Cuts "file:///a ftp://a https://a http://a irc://a"
+        ((Uri, "file:///a") ∷ (Plain, " ") ∷ (Uri, "ftp://a") ∷ (Plain, " ") ∷ (Uri, "https://a") ∷ (Plain, " ") ∷ (Uri, "http://a") ∷ (Plain, " ")
+        ∷ (Uri, "irc://a") ∷ []) }
+    ensures colon_schemes { Cuts "mailto:a@b news:a" ((Uri, "mailto:a@b") ∷ (Plain, " ") ∷ (Uri, "news:a") ∷ []) }
     ensures other_scheme { Cuts "gopher://a xhttp://a http:/a" ((Plain, "gopher://a xhttp://a http:/a") ∷ []) }
     ensures any_case { Cuts "HttP://A" ((Uri, "HttP://A") ∷ []) }
     ensures punctuation { Cuts "(http://a.b/c.)" ((Plain, "(") ∷ (Uri, "http://a.b/c") ∷ (Plain, ".)") ∷ []) }

@@ -4,6 +4,7 @@
 
 ghost use Rattle.std.specs.Prelude.{◌≡◌, Some, None, codes, map, [], ◌∷◌};
 ghost use Rattle.std.specs.List.{flat_map};
+ghost use Rattle.rst_text.specs.Written.{written};
 ghost use Rattle.rst_tree.specs.Attributes.{attr};
 ghost use Rattle.rst_tree.specs.Forest.{bare, element, words};
 ghost use Rattle.rst_tree.specs.KeyNames.{key_name};
@@ -24,10 +25,12 @@ ghost use Rattle.rst_tree.specs.declared.tag.Tag.TheVariants as tag;
 /// Elements and texts.
 pub fn trees()
     ensures nested { print_of (Element tag.Document [] (element tag.Paragraph [] (words (codes "a") bare) 1 (words (codes "b") bare)) 1)
-        ≡ codes "<document>\n    <paragraph>\n        a\n    b\n" }
-    ensures lines { print_of (Element tag.Paragraph [] (words (codes "a\n\nb\n") bare) 1) ≡ codes "<paragraph>\n    a\n    \n    b\n" }
-    ensures empty_text { print_of (Element tag.Paragraph [] (words [] bare) 1) ≡ codes "<paragraph>\n" }
-    ensures two_texts { print_of (Element tag.Paragraph [] (words (codes "a") (words (codes "b") bare)) 1) ≡ codes "<paragraph>\n    a\n    b\n" }
+        ≡ written ("<document>" ∷ "    <paragraph>" ∷ "        a" ∷ "    b" ∷ []) }
+    ensures lines { print_of (Element tag.Paragraph [] (words (codes "a\n\nb\n") bare) 1)
+        ≡ written ("<paragraph>" ∷ "    a" ∷ "    " ∷ "    b" ∷ []) }
+    ensures empty_text { print_of (Element tag.Paragraph [] (words [] bare) 1) ≡ written ("<paragraph>" ∷ []) }
+    ensures two_texts { print_of (Element tag.Paragraph [] (words (codes "a") (words (codes "b") bare)) 1)
+        ≡ written ("<paragraph>" ∷ "    a" ∷ "    b" ∷ []) }
 {}
 
 /// Attributes.
@@ -36,13 +39,15 @@ pub fn attributes()
     ensures empty_text { shown_attr (attr key.Alt (Text [])) ≡ codes " alt=\"\"" }
     ensures number { shown_attr (attr key.Cols (Number 12)) ≡ codes " cols=\"12\"" }
     ensures list { shown_attr (attr key.Names (Listed (codes "a b" ∷ codes "c\\d" ∷ []))) ≡ codes " names=\"a\\ b c\\\\d\"" }
-    ensures empty_lists { flat_map (λ k. shown_attr (attr k (Listed []))) (key.Backrefs ∷ key.Classes ∷ key.Dupnames ∷ key.Ids ∷ key.Names ∷ []) ≡ [] }
+    ensures empty_lists { flat_map (λ k. shown_attr (attr k (Listed []))) (key.Backrefs ∷ key.Classes ∷ key.Dupnames ∷ key.Ids ∷ key.Names ∷ [])
+        ≡ [] }
     ensures hidden { flat_map (λ k. shown_attr (attr k (Number 1))) (key.Inline ∷ key.Message ∷ key.OwnName ∷ key.Rawsource ∷ key.Refname ∷ []) ≡ [] }
 {}
 
 /// Names of elements and attributes.
 pub fn names()
-    ensures elements_to_label { map tag_name (tag.Address ∷ tag.Admonition ∷ tag.Attention ∷ tag.Attribution ∷ tag.Author ∷ tag.Authors ∷ tag.BlockQuote ∷ tag.BulletList
+    ensures elements_to_label { map tag_name
+        (tag.Address ∷ tag.Admonition ∷ tag.Attention ∷ tag.Attribution ∷ tag.Author ∷ tag.Authors ∷ tag.BlockQuote ∷ tag.BulletList
         ∷ tag.Caption ∷ tag.Caution ∷ tag.Citation ∷ tag.CitationReference ∷ tag.Classifier ∷ tag.Colspec ∷ tag.Comment ∷ tag.Contact
         ∷ tag.Copyright ∷ tag.Danger ∷ tag.Date ∷ tag.Definition ∷ tag.DefinitionList ∷ tag.DefinitionListItem ∷ tag.Description ∷ tag.Docinfo
         ∷ tag.DoctestBlock ∷ tag.Document ∷ tag.Emphasis ∷ tag.Entry ∷ tag.EnumeratedList ∷ tag.Error ∷ tag.Field ∷ tag.FieldBody ∷ tag.FieldList
@@ -54,7 +59,8 @@ pub fn names()
         ∷ codes "document" ∷ codes "emphasis" ∷ codes "entry" ∷ codes "enumerated_list" ∷ codes "error" ∷ codes "field" ∷ codes "field_body"
         ∷ codes "field_list" ∷ codes "field_name" ∷ codes "figure" ∷ codes "footnote" ∷ codes "footnote_reference" ∷ codes "hint" ∷ codes "image"
         ∷ codes "important" ∷ codes "label" ∷ [] }
-    ensures elements_from_legend { map tag_name (tag.Legend ∷ tag.Line ∷ tag.LineBlock ∷ tag.ListItem ∷ tag.Literal ∷ tag.LiteralBlock ∷ tag.Note ∷ tag.Option
+    ensures elements_from_legend { map tag_name
+        (tag.Legend ∷ tag.Line ∷ tag.LineBlock ∷ tag.ListItem ∷ tag.Literal ∷ tag.LiteralBlock ∷ tag.Note ∷ tag.Option
         ∷ tag.OptionArgument ∷ tag.OptionGroup ∷ tag.OptionList ∷ tag.OptionListItem ∷ tag.OptionString ∷ tag.Organization ∷ tag.Paragraph
         ∷ tag.Problematic ∷ tag.Reference ∷ tag.Revision ∷ tag.Row ∷ tag.Section ∷ tag.Status ∷ tag.Strong ∷ tag.Subscript
         ∷ tag.SubstitutionDefinition ∷ tag.SubstitutionReference ∷ tag.Subtitle ∷ tag.Superscript ∷ tag.SystemMessage ∷ tag.Table ∷ tag.Target
@@ -67,7 +73,8 @@ pub fn names()
         ∷ codes "subtitle" ∷ codes "superscript" ∷ codes "system_message" ∷ codes "table" ∷ codes "target" ∷ codes "tbody" ∷ codes "term"
         ∷ codes "tgroup" ∷ codes "thead" ∷ codes "tip" ∷ codes "title" ∷ codes "title_reference" ∷ codes "topic" ∷ codes "transition"
         ∷ codes "version" ∷ codes "warning" ∷ [] }
-    ensures attributes { map key_name (key.Align ∷ key.Alt ∷ key.Anonymous ∷ key.Auto ∷ key.Backrefs ∷ key.Bullet ∷ key.Classes ∷ key.Cols ∷ key.Colwidth
+    ensures attributes { map key_name
+        (key.Align ∷ key.Alt ∷ key.Anonymous ∷ key.Auto ∷ key.Backrefs ∷ key.Bullet ∷ key.Classes ∷ key.Cols ∷ key.Colwidth
         ∷ key.Delimiter ∷ key.Dupnames ∷ key.Enumtype ∷ key.Height ∷ key.Ids ∷ key.Level ∷ key.Line ∷ key.Morecols ∷ key.Morerows ∷ key.Name
         ∷ key.Names ∷ key.Prefix ∷ key.Refid ∷ key.Refuri ∷ key.Scale ∷ key.Source ∷ key.Start ∷ key.Suffix ∷ key.Title ∷ key.Type_ ∷ key.Uri
         ∷ key.Width ∷ key.XmlSpace ∷ [])
@@ -83,10 +90,13 @@ pub fn messages()
         ≡ codes "INFO" ∷ codes "WARNING" ∷ codes "ERROR" ∷ codes "SEVERE" ∷ [] }
     ensures line { message_of (codes "<stdin>") (record { level = level.Warning; line = 12; text = codes "a\nb"; block = None })
         ≡ codes "<stdin>:12: (WARNING/2) a\nb\n" }
-    ensures line_with_its_source { message_of (codes "<stdin>") (record { level = level.Severe; line = 2; text = codes "a"; block = Some (codes "x\ny") })
+    ensures line_with_its_source { message_of
+        (codes "<stdin>") (record { level = level.Severe; line = 2; text = codes "a"; block = Some (codes "x\ny") })
         ≡ codes "<stdin>:2: (SEVERE/4) a\n\nx\ny\n" }
-    ensures element { print_of (with_printed_attrs (Some (codes "s")) (note_node (record { level = level.Error; line = 3; text = codes "a"; block = Some (codes "b") })))
-        ≡ codes "<system_message level=\"3\" line=\"3\" source=\"s\" type=\"ERROR\">\n    <paragraph>\n        a\n    <literal_block xml:space=\"preserve\">\n        b\n" }
+    ensures element { print_of
+        (with_printed_attrs (Some (codes "s")) (note_node (record { level = level.Error; line = 3; text = codes "a"; block = Some (codes "b") })))
+        ≡ written ("<system_message level=\"3\" line=\"3\" source=\"s\" type=\"ERROR\">" ∷ "    <paragraph>" ∷ "        a"
+        ∷ "    <literal_block xml:space=\"preserve\">" ∷ "        b" ∷ []) }
     ensures ids { print_of (with_printed_attrs (Some (codes "s")) (Element tag.SystemMessage
         (attr key.Backrefs (Listed (codes "p" ∷ [])) ∷ attr key.Ids (Listed (codes "m" ∷ [])) ∷ attr key.Level (Number 1) ∷ []) bare 5))
         ≡ codes "<system_message backrefs=\"p\" ids=\"m\" level=\"1\" line=\"5\" source=\"s\" type=\"INFO\">\n" }
