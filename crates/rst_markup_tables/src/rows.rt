@@ -117,6 +117,7 @@ pub fn simple_spans()
 pub fn simple_faults()
     ensures margin { BreaksSimple ("== ==" ∷ "abc d" ∷ "== ==" ∷ []) (Margin 2) 3 }
     ensures margin_in_the_second_line { BreaksSimple ("== ==" ∷ "a  b" ∷ "  c" ∷ "== ==" ∷ []) (Margin 3) 4 }
+    ensures wide_character_in_the_margin { BreaksSimple ("== ==" ∷ "a中 b" ∷ "== ==" ∷ []) (Margin 2) 3 }
     ensures column_left_out { BreaksSimple ("== == ==" ∷ "a     c" ∷ "--    --" ∷ "== == ==" ∷ []) (ColumnSpan 3) 4 }
     ensures one_dash { BreaksSimple ("== ==" ∷ "a  b" ∷ "-" ∷ "== ==" ∷ []) (ColumnSpan 3) 4 }
     ensures rules_before_margins { BreaksSimple ("== ==" ∷ "abc d" ∷ "a  b" ∷ "-- -" ∷ "== ==" ∷ []) (ColumnSpan 4) 5 }
