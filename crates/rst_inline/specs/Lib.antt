@@ -5,3 +5,4 @@ pub mod Embedded
 pub mod Elements
 pub mod Readings
 pub mod Results
+pub mod Reads

@@ -10,6 +10,7 @@ mod nodes;
 mod reading;
 mod references;
 mod roles;
+pub mod rows;
 mod texts;
 mod written;
 

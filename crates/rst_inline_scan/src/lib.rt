@@ -11,6 +11,7 @@ mod missing;
 mod names;
 mod piece;
 mod quiet;
+pub mod rows;
 mod scanner;
 mod tails;
 mod uri;

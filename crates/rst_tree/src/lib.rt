@@ -15,6 +15,7 @@ mod phrase;
 mod printing;
 mod reading;
 mod rewriting;
+pub mod rows;
 mod tag;
 mod text;
 mod tree;

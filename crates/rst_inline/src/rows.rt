@@ -1,0 +1,139 @@
+//! Worked examples of inline markup, as theorems on the definitions alone: the prover computes what a text that is written out means, and prints
+//! its nodes with all their attributes, and then its messages.
+#![tactic(auto, unfolding(crate::proofs::Computing::rst_inline))]
+
+ghost use Rattle.std.specs.Prelude.{◌≡◌, Some, None, codes, map, [], ◌∷◌};
+ghost use Rattle.rst_inline.specs.Reads.{Shows};
+ghost use Rattle.rst_inline.specs.Results.{nodes_behind, notes_of};
+ghost use Rattle.rst_inline.specs.Roles.{role_tag};
+ghost use Rattle.rst_inline_scan.specs.Reading.{pieces_of};
+ghost use Rattle.rst_tree.specs.Forest.{bare, words};
+ghost use Rattle.rst_tree.specs.declared.node.Node.TheVariants.{Element};
+ghost use Rattle.rst_tree.specs.declared.tag.Tag.TheVariants.{Emphasis, Strong, Literal, Subscript, Superscript, TitleReference};
+
+/// What roles make.
+pub fn roles()
+    ensures text { map role_tag (codes "emphasis" ∷ codes "strong" ∷ codes "literal" ∷ []) ≡ Some Emphasis ∷ Some Strong ∷ Some Literal ∷ [] }
+    ensures low_and_high { map role_tag (codes "subscript" ∷ codes "sub" ∷ codes "superscript" ∷ codes "sup" ∷ [])
+        ≡ Some Subscript ∷ Some Subscript ∷ Some Superscript ∷ Some Superscript ∷ [] }
+    ensures titles { map role_tag (codes "title-reference" ∷ codes "title" ∷ codes "t" ∷ [])
+        ≡ Some TitleReference ∷ Some TitleReference ∷ Some TitleReference ∷ [] }
+    ensures exactly { map role_tag (codes "Sub" ∷ codes "title_reference" ∷ []) ≡ None ∷ None ∷ [] }
+    ensures others { map role_tag (codes "code" ∷ codes "math" ∷ codes "raw" ∷ codes "pep" ∷ codes "rfc" ∷ [])
+        ≡ None ∷ None ∷ None ∷ None ∷ None ∷ [] }
+    ensures in_front { Shows ":sub:`a`" ("<subscript>" ∷ "    a" ∷ []) }
+    ensures behind { Shows "`a`:sub:" ("<subscript>" ∷ "    a" ∷ []) }
+    ensures by_default { Shows "`a`" ("<title_reference>" ∷ "    a" ∷ []) }
+{}
+
+/// Text between start-strings and end-strings.
+pub fn markup()
+    ensures kinds { Shows "a *b* **c** ``d``"
+        ("a " ∷ "<emphasis>" ∷ "    b" ∷ " " ∷ "<strong>" ∷ "    c" ∷ " " ∷ "<literal>" ∷ "    d" ∷ []) }
+    ensures escapes { Shows "*a\\*b\\ c*" ("<emphasis>" ∷ "    a*bc" ∷ []) }
+    ensures literal_escapes { Shows "``a\\ b``" ("<literal>" ∷ "    a\\ b" ∷ []) }
+    ensures nothing_between { Shows "*a*\\ *b*" ("<emphasis>" ∷ "    a" ∷ "<emphasis>" ∷ "    b" ∷ []) }
+    ensures last_backslash { Shows "a\\" ("a" ∷ []) }
+    ensures backslash_alone { Shows "\\" [] }
+    ensures two_lines { Shows "*a\nb* c\nd" ("<emphasis>" ∷ "    a" ∷ "    b" ∷ " c" ∷ "d" ∷ []) }
+    ensures target { Shows "_`A  b\\_`" ("<target inline=\"1\" own_name=\"a b_\">" ∷ "    A  b_" ∷ []) }
+    ensures line { nodes_behind (codes "*a*") 7 [] (pieces_of (codes "*a*")) ≡ Element Emphasis [] (words (codes "a") bare) 7 ∷ [] }
+{}
+
+/// References by a name and by a phrase.
+pub fn references()
+    ensures name { Shows "A.b_" ("<reference name=\"A.b\" rawsource=\"A.b_\" refname=\"a.b\">" ∷ "    A.b" ∷ []) }
+    ensures anonymous { Shows "a__" ("<reference anonymous=\"1\" name=\"a\" rawsource=\"a__\">" ∷ "    a" ∷ []) }
+    ensures phrase { Shows "`A  b`_" ("<reference name=\"A b\" rawsource=\"`A  b`_\" refname=\"a b\">" ∷ "    A  b" ∷ []) }
+    ensures anonymous_phrase { Shows "`A b`__" ("<reference anonymous=\"1\" name=\"A b\" rawsource=\"`A b`__\">" ∷ "    A b" ∷ []) }
+    ensures escapes { Shows "`\\  a\\_`_" ("<reference name=\"a_\" rawsource=\"`\\  a\\_`_\" refname=\"a_\">" ∷ "     a_" ∷ []) }
+    ensures uri { Shows "HTTP://A.b" ("<reference rawsource=\"HTTP://A.b\" refuri=\"HTTP://A.b\">" ∷ "    HTTP://A.b" ∷ []) }
+{}
+
+/// URIs and aliases in phrases.
+pub fn embedded()
+    ensures uri { Shows "`A <http://b>`_"
+        ("<reference name=\"A\" rawsource=\"`A <http://b>`_\" refuri=\"http://b\">" ∷ "    A"
+        ∷ "<target inline=\"1\" own_name=\"a\" refuri=\"http://b\">" ∷ []) }
+    ensures anonymous_uri { Shows "`A <u>`__" ("<reference name=\"A\" rawsource=\"`A <u>`__\" refuri=\"u\">" ∷ "    A" ∷ []) }
+    ensures alias { Shows "`A <B  c_>`_" ("<reference name=\"A\" rawsource=\"`A <B  c_>`_\" refname=\"b c\">" ∷ "    A" ∷ []) }
+    ensures anonymous_alias { Shows "`A <b_>`__" ("<reference name=\"A\" rawsource=\"`A <b_>`__\" refname=\"b\">" ∷ "    A" ∷ []) }
+    ensures uri_like_alias { Shows "`a <http://x.org/b_>`_"
+        ("<reference name=\"a\" rawsource=\"`a <http://x.org/b_>`_\" refname=\"http://x.org/b\">" ∷ "    a" ∷ []) }
+    ensures white_in_a_uri { Shows "`a <u v>`_"
+        ("<reference name=\"a\" rawsource=\"`a <u v>`_\" refuri=\"uv\">" ∷ "    a" ∷ "<target inline=\"1\" own_name=\"a\" refuri=\"uv\">" ∷ []) }
+    ensures uri_alone { Shows "`<U v>`_"
+        ("<reference name=\"Uv\" rawsource=\"`<U v>`_\" refuri=\"Uv\">" ∷ "    Uv" ∷ "<target inline=\"1\" own_name=\"uv\" refuri=\"Uv\">" ∷ []) }
+    ensures alias_alone { Shows "`<Foo  Bar_>`_"
+        ("<reference name=\"Foo Bar\" rawsource=\"`<Foo  Bar_>`_\" refname=\"foo bar\">" ∷ "    Foo  Bar" ∷ []) }
+    ensures escaped_underscore { Shows "`<b\\_>`_"
+        ("<reference name=\"b_\" rawsource=\"`<b\\_>`_\" refuri=\"b_\">" ∷ "    b_" ∷ "<target inline=\"1\" own_name=\"b_\" refuri=\"b_\">" ∷ []) }
+    ensures underscore_alone { Shows "`a <_>`_"
+        ("<reference name=\"a\" rawsource=\"`a <_>`_\" refuri=\"_\">" ∷ "    a" ∷ "<target inline=\"1\" own_name=\"a\" refuri=\"_\">" ∷ []) }
+    ensures escaped_white { Shows "`a\\ <u>`_"
+        ("<reference name=\"a\" rawsource=\"`a\\ <u>`_\" refuri=\"u\">" ∷ "    a" ∷ "<target inline=\"1\" own_name=\"a\" refuri=\"u\">" ∷ []) }
+    ensures last_angle { Shows "`a <b> <c>`_"
+        ("<reference name=\"a <b>\" rawsource=\"`a <b> <c>`_\" refuri=\"c\">" ∷ "    a <b>" ∷ "<target inline=\"1\" own_name=\"a <b>\" refuri=\"c\">"
+        ∷ []) }
+    ensures angle_inside { Shows "`a <>>`_"
+        ("<reference name=\"a\" rawsource=\"`a <>>`_\" refuri=\">\">" ∷ "    a" ∷ "<target inline=\"1\" own_name=\"a\" refuri=\">\">" ∷ []) }
+{}
+
+/// Phrases with angle brackets in which nothing is embedded.
+pub fn plain_angles()
+    ensures no_white { Shows "`x<u>`_" ("<reference name=\"x<u>\" rawsource=\"`x<u>`_\" refname=\"x<u>\">" ∷ "    x<u>" ∷ []) }
+    ensures white_in_front { Shows "`a < u>`_" ("<reference name=\"a < u>\" rawsource=\"`a < u>`_\" refname=\"a < u>\">" ∷ "    a < u>" ∷ []) }
+    ensures white_at_the_end { Shows "`a <u >`_" ("<reference name=\"a <u >\" rawsource=\"`a <u >`_\" refname=\"a <u >\">" ∷ "    a <u >" ∷ []) }
+    ensures nothing { Shows "`a <>`_" ("<reference name=\"a <>\" rawsource=\"`a <>`_\" refname=\"a <>\">" ∷ "    a <>" ∷ []) }
+    ensures text_behind { Shows "`a <u> b`_" ("<reference name=\"a <u> b\" rawsource=\"`a <u> b`_\" refname=\"a <u> b\">" ∷ "    a <u> b" ∷ []) }
+    ensures escaped_opening { Shows "`a \\<u>`_" ("<reference name=\"a <u>\" rawsource=\"`a \\<u>`_\" refname=\"a <u>\">" ∷ "    a <u>" ∷ []) }
+    ensures escaped_closing { Shows "`a <u\\>`_" ("<reference name=\"a <u>\" rawsource=\"`a <u\\>`_\" refname=\"a <u>\">" ∷ "    a <u>" ∷ []) }
+    ensures no_reference { Shows "`a <u>`" ("<title_reference>" ∷ "    a <u>" ∷ []) }
+{}
+
+/// Substitution references.
+pub fn substitutions()
+    ensures alone { Shows "|A  b|" ("<substitution_reference rawsource=\"|A  b|\" refname=\"A b\">" ∷ "    A  b" ∷ []) }
+    ensures with_a_reference { Shows "|A|_"
+        ("<reference rawsource=\"|A|_\" refname=\"a\">" ∷ "    <substitution_reference rawsource=\"|A|\" refname=\"A\">" ∷ "        A" ∷ []) }
+    ensures anonymous { Shows "|a|__"
+        ("<reference anonymous=\"1\" rawsource=\"|a|__\">" ∷ "    <substitution_reference rawsource=\"|a|\" refname=\"a\">" ∷ "        a" ∷ []) }
+{}
+
+/// References to footnotes and citations.
+pub fn labels()
+    ensures digits { Shows "[0129]_" ("<footnote_reference rawsource=\"[0129]_\" refname=\"0129\">" ∷ "    0129" ∷ []) }
+    ensures autonumbered { Shows "[#]_" ("<footnote_reference auto=\"1\" rawsource=\"[#]_\">" ∷ []) }
+    ensures named { Shows "[#A]_" ("<footnote_reference auto=\"1\" rawsource=\"[#A]_\" refname=\"a\">" ∷ []) }
+    ensures symbol { Shows "[*]_" ("<footnote_reference auto=\"*\" rawsource=\"[*]_\">" ∷ []) }
+    ensures citation { Shows "[Ab]_" ("<citation_reference rawsource=\"[Ab]_\" refname=\"ab\">" ∷ "    Ab" ∷ []) }
+    ensures digit_and_letter { Shows "[1a]_" ("<citation_reference rawsource=\"[1a]_\" refname=\"1a\">" ∷ "    1a" ∷ []) }
+    ensures other_digits { Shows "[१]_" ("<citation_reference rawsource=\"[१]_\" refname=\"१\">" ∷ "    १" ∷ []) }
+{}
+
+/// Messages.
+pub fn messages()
+    ensures unended { Shows "**a *b ``c"
+        ("<problematic message=\"0\">" ∷ "    **" ∷ "a " ∷ "<problematic message=\"1\">" ∷ "    *" ∷ "b " ∷ "<problematic message=\"2\">" ∷ "    ``"
+        ∷ "c"
+        ∷ "WARNING: Inline strong start-string without end-string." ∷ "WARNING: Inline emphasis start-string without end-string."
+        ∷ "WARNING: Inline literal start-string without end-string." ∷ []) }
+    ensures unended_names { Shows "_`a |b `c"
+        ("<problematic message=\"0\">" ∷ "    _`" ∷ "a " ∷ "<problematic message=\"1\">" ∷ "    |" ∷ "b " ∷ "<problematic message=\"2\">" ∷ "    `"
+        ∷ "c"
+        ∷ "WARNING: Inline target start-string without end-string." ∷ "WARNING: Inline substitution_reference start-string without end-string."
+        ∷ "WARNING: Inline interpreted text or phrase reference start-string without end-string." ∷ []) }
+    ensures unended_role { Shows ":sub:`a"
+        ("<problematic message=\"0\">" ∷ "    :sub:`" ∷ "a" ∷ "WARNING: Inline interpreted text or phrase reference start-string without end-string."
+        ∷ []) }
+    ensures unknown_role { Shows ":Nope:`a`"
+        ("<problematic message=\"0\">" ∷ "    :Nope:`a`" ∷ "ERROR: Unknown interpreted text role \"Nope\"." ∷ []) }
+    ensures two_roles { Shows ":nope:`a`:sub:"
+        ("<problematic message=\"0\">" ∷ "    :nope:`a`:sub:"
+        ∷ "WARNING: Multiple roles in interpreted text (both prefix and suffix present; only one allowed)." ∷ []) }
+    ensures mismatch { Shows ":sub:`a`_"
+        ("<problematic message=\"0\">" ∷ "    :sub:`a`_" ∷ "WARNING: Mismatch: both interpreted text role and reference suffix." ∷ []) }
+    ensures anonymous_mismatch { Shows ":sub:`a`__"
+        ("<problematic message=\"0\">" ∷ "    :sub:`a`__" ∷ "WARNING: Mismatch: both interpreted text role and reference suffix." ∷ []) }
+    ensures line { map (λ note. note.line) (notes_of (codes "a\n*b") 7 (pieces_of (codes "a\n*b"))) ≡ 7 ∷ [] }
+{}

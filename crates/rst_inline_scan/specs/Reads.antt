@@ -1,0 +1,23 @@
+-- The pieces of a text that is written out, for worked examples. No rule of markup.
+use Prim.Native.String.{String}
+use Rattle.std.specs.Prelude.{◌≡◌, ℕ, List, map, take, drop, codes}
+use Rattle.rst_inline_scan.specs.Characters.{Text}
+use Rattle.rst_inline_scan.specs.Reading.{pieces_of}
+use Rattle.rst_inline_scan.specs.declared.piece.Kind.{Kind}
+use Rattle.rst_inline_scan.specs.declared.piece.Piece.{Piece}
+
+-- the kind of a piece, and the piece as it is written
+abbrev pub cut : Text → Piece → Kind × Text
+cut t p = (p.kind, drop p.from (take p.to t))
+
+-- a kind and a text that is written out
+abbrev pub spelled_cut : Kind × String → Kind × Text
+spelled_cut (kind, text) = (kind, codes text)
+
+-- the text falls into these pieces
+abbrev pub Cuts : String → List (Kind × String) → Type 0
+Cuts text cuts = map (cut (codes text)) (pieces_of (codes text)) ≡ map spelled_cut cuts
+
+-- what the markup of each piece encloses
+abbrev pub contents : String → List Text
+contents text = map (λ p. drop p.content_from (take p.content_to (codes text))) (pieces_of (codes text))

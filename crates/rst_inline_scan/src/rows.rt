@@ -1,0 +1,158 @@
+//! Worked examples of the pieces of an inline text, as theorems on the definitions alone: the prover computes what a definition gives for a text
+//! that is written out.
+#![tactic(auto, unfolding(crate::proofs::Computing::rst_inline_scan))]
+
+ghost use Rattle.std.specs.Prelude.{◌≡◌, true, false, codes, filter, [], ◌∷◌};
+ghost use Rattle.rst_inline_scan.specs.Characters.{may_follow, may_precede};
+ghost use Rattle.rst_inline_scan.specs.Escapes.{unescaped};
+ghost use Rattle.rst_inline_scan.specs.Names.{is_simple_name};
+ghost use Rattle.rst_inline_scan.specs.Reads.{Cuts, contents};
+ghost use Rattle.rst_inline_scan.specs.Uri.{is_uri_char, is_uri_trail};
+ghost use Rattle.rst_inline_scan.specs.declared.piece.Kind.TheVariants.{Plain, Marked, Unended, Label, Reference, Uri};
+ghost use Rattle.rst_inline_scan.specs.declared.piece.Markup.TheVariants.{Strong, Emphasis, Literal, Target, Substitution, Interpreted};
+ghost use Rattle.rst_inline_scan.specs.declared.piece.Suffix.TheVariants.{Bare, Role, Named, Anonymous};
+
+/// The characters that may stand before a start and after an end.
+pub fn characters()
+    ensures before { filter may_precede (codes "!\"#$%&'()*+,-./:;<=>?@[\\]^_`{|}~ aZ09") ≡ codes "\"'(-/:<[{ " }
+    ensures after { filter may_follow (codes "!\"#$%&'()*+,-./:;<=>?@[\\]^_`{|}~ aZ09") ≡ codes "!\"'),-./:;>?\\]} " }
+    ensures before_past_ascii { filter may_precede (codes "«»“”‘’「」¡–€‿ä") ≡ codes "«»“”‘’「¡–" }
+    ensures after_past_ascii { filter may_follow (codes "«»“”‘’「」¡–€‿ä") ≡ codes "«»“”‘’」¡–" }
+{}
+
+/// Where a start may stand.
+pub fn starts()
+    ensures inside_a_word { Cuts "a*b*" ((Plain, "a*b*") ∷ []) }
+    ensures before_white { Cuts "2 * 3 * 4" ((Plain, "2 * 3 * 4") ∷ []) }
+    ensures quoted { Cuts "'*' \"*\" <*> (*) [*] {*}" ((Plain, "'*' \"*\" <*> (*) [*] {*}") ∷ []) }
+    ensures other_bracket { Cuts "(*]" ((Plain, "(") ∷ (Unended Emphasis, "*") ∷ (Plain, "]") ∷ []) }
+    ensures quoted_role { Cuts "(:sub:`)x`" ((Plain, "(:sub:") ∷ (Marked Interpreted Bare, "`)x`") ∷ []) }
+    ensures escaped { Cuts "\\*a*" ((Plain, "\\*a*") ∷ []) }
+    ensures escaped_white { Cuts "*a*\\ *b*" ((Marked Emphasis Bare, "*a*") ∷ (Plain, "\\ ") ∷ (Marked Emphasis Bare, "*b*") ∷ []) }
+    ensures after_a_start { Cuts "**a_" ((Unended Strong, "**") ∷ (Plain, "a_") ∷ []) }
+{}
+
+/// Where an end may stand.
+pub fn ends()
+    ensures inside_a_word { Cuts "*a*b*" ((Marked Emphasis Bare, "*a*b*") ∷ []) }
+    ensures after_white { Cuts "*a * b*" ((Marked Emphasis Bare, "*a * b*") ∷ []) }
+    ensures before_a_letter { Cuts "*a*b" ((Unended Emphasis, "*") ∷ (Plain, "a*b") ∷ []) }
+    ensures first { Cuts "*a* b*" ((Marked Emphasis Bare, "*a*") ∷ (Plain, " b*") ∷ []) }
+    ensures character_between { Cuts "**** a**" ((Marked Strong Bare, "**** a**") ∷ []) }
+    ensures escaped { Cuts "*a\\* b*" ((Marked Emphasis Bare, "*a\\* b*") ∷ []) }
+    ensures escaped_backslash { Cuts "*a\\\\* b*" ((Marked Emphasis Bare, "*a\\\\*") ∷ (Plain, " b*") ∷ []) }
+    ensures literal_backslash { Cuts "``a\\`` b``" ((Marked Literal Bare, "``a\\``") ∷ (Plain, " b``") ∷ []) }
+{}
+
+/// The strings of each kind of markup.
+pub fn strings()
+    ensures ended { Cuts "**a** *b* ``c`` _`d` |e| `f`"
+        ((Marked Strong Bare, "**a**") ∷ (Plain, " ") ∷ (Marked Emphasis Bare, "*b*") ∷ (Plain, " ") ∷ (Marked Literal Bare, "``c``") ∷ (Plain, " ")
+        ∷ (Marked Target Bare, "_`d`") ∷ (Plain, " ") ∷ (Marked Substitution Bare, "|e|") ∷ (Plain, " ") ∷ (Marked Interpreted Bare, "`f`") ∷ []) }
+    ensures unended { Cuts "**a *b ``c _`d |e `f"
+        ((Unended Strong, "**") ∷ (Plain, "a ") ∷ (Unended Emphasis, "*") ∷ (Plain, "b ") ∷ (Unended Literal, "``") ∷ (Plain, "c ")
+        ∷ (Unended Target, "_`") ∷ (Plain, "d ") ∷ (Unended Substitution, "|") ∷ (Plain, "e ") ∷ (Unended Interpreted, "`") ∷ (Plain, "f") ∷ []) }
+    ensures star_in_strong { Cuts "**a*b**" ((Marked Strong Bare, "**a*b**") ∷ []) }
+    ensures two_stars_end_emphasis { Cuts "*a**" ((Marked Emphasis Bare, "*a**") ∷ []) }
+    ensures three_backquotes { Cuts "```a```" ((Marked Literal Bare, "```a```") ∷ []) }
+    ensures doubled { Cuts "`` a` ||b|" ((Plain, "`` a` ||b|") ∷ []) }
+    ensures target_is_no_reference { Cuts "_`a`_" ((Unended Target, "_`") ∷ (Plain, "a`_") ∷ []) }
+{}
+
+/// What stands behind a substitution and behind interpreted text.
+pub fn tails()
+    ensures substitutions { Cuts "|a| |a|_ |a|__"
+        ((Marked Substitution Bare, "|a|") ∷ (Plain, " ") ∷ (Marked Substitution Named, "|a|_") ∷ (Plain, " ")
+        ∷ (Marked Substitution Anonymous, "|a|__") ∷ []) }
+    ensures phrases { Cuts "`a` `a`_ `a`__"
+        ((Marked Interpreted Bare, "`a`") ∷ (Plain, " ") ∷ (Marked Interpreted Named, "`a`_") ∷ (Plain, " ") ∷ (Marked Interpreted Anonymous, "`a`__")
+        ∷ []) }
+    ensures substitution_before_a_letter { Cuts "|a|_b" ((Unended Substitution, "|") ∷ (Plain, "a|_b") ∷ []) }
+    ensures three_underscores { Cuts "`a`___" ((Unended Interpreted, "`") ∷ (Plain, "a`___") ∷ []) }
+    ensures phrase_of_white { Cuts "`a ` b`_" ((Marked Interpreted Named, "`a ` b`_") ∷ []) }
+    ensures role_behind { Cuts "`a`:sub:" ((Marked Interpreted Role, "`a`:sub:") ∷ []) }
+    ensures role_before_a_letter { Cuts "`a`:sub:b" ((Marked Interpreted Bare, "`a`") ∷ (Plain, ":sub:b") ∷ []) }
+    ensures role_before_an_underscore { Cuts "`a`:sub:_" ((Marked Interpreted Bare, "`a`") ∷ (Plain, ":sub:_") ∷ []) }
+    ensures role_between { Cuts "`a`:sub:`b`" ((Marked Interpreted Bare, "`a`") ∷ (Plain, ":sub:") ∷ (Marked Interpreted Bare, "`b`") ∷ []) }
+{}
+
+/// Roles in front of interpreted text.
+pub fn roles()
+    ensures one { Cuts "a :sub:`b`" ((Plain, "a ") ∷ (Marked Interpreted Bare, ":sub:`b`") ∷ []) }
+    ensures two { Cuts ":sub:`a`:sup:" ((Marked Interpreted Role, ":sub:`a`:sup:") ∷ []) }
+    ensures with_underscore { Cuts ":sub:`a`_" ((Marked Interpreted Named, ":sub:`a`_") ∷ []) }
+    ensures unended { Cuts ":sub:`a" ((Unended Interpreted, ":sub:`") ∷ (Plain, "a") ∷ []) }
+    ensures with_white { Cuts ":a b:`c`" ((Plain, ":a b:") ∷ (Marked Interpreted Bare, "`c`") ∷ []) }
+    ensures two_colons { Cuts ":a::`b`" ((Plain, ":a::") ∷ (Marked Interpreted Bare, "`b`") ∷ []) }
+    ensures joined { Cuts ":a:b-c:`d`" ((Marked Interpreted Bare, ":a:b-c:`d`") ∷ []) }
+{}
+
+/// References by a simple name.
+pub fn references()
+    ensures named { Cuts "(a_) b__." ((Plain, "(") ∷ (Reference Named, "a_") ∷ (Plain, ") ") ∷ (Reference Anonymous, "b__") ∷ (Plain, ".") ∷ []) }
+    ensures joined { Cuts "a.b-c:d+e_f_" ((Reference Named, "a.b-c:d+e_f_") ∷ []) }
+    ensures two_joints { Cuts "a--b_" ((Plain, "a--") ∷ (Reference Named, "b_") ∷ []) }
+    ensures joint_at_the_end { Cuts "a._" ((Plain, "a._") ∷ []) }
+    ensures before_a_letter { Cuts "a_b a__b" ((Plain, "a_b a__b") ∷ []) }
+    ensures before_a_bracket { Cuts "a_(" ((Plain, "a_(") ∷ []) }
+    ensures underscore_before { Cuts "_a_" ((Plain, "_a_") ∷ []) }
+    ensures past_ascii { Cuts "ß_ ²_ €_" ((Reference Named, "ß_") ∷ (Plain, " ") ∷ (Reference Named, "²_") ∷ (Plain, " €_") ∷ []) }
+    ensures escaped { Cuts "a\\_ \\b_" ((Plain, "a\\_ \\b_") ∷ []) }
+{}
+
+/// Simple names.
+pub fn names()
+    ensures joined { is_simple_name (codes "a-1_b") ≡ true }
+    ensures two_joints { is_simple_name (codes "a..b") ≡ false }
+    ensures joint_in_front { is_simple_name (codes "-a") ≡ false }
+    ensures joint_at_the_end { is_simple_name (codes "a-") ≡ false }
+    ensures empty { is_simple_name [] ≡ false }
+{}
+
+/// References to footnotes and citations.
+pub fn labels()
+    ensures forms { Cuts "[1]_ [#]_ [#a]_ [*]_ [a.b]_"
+        ((Label, "[1]_") ∷ (Plain, " ") ∷ (Label, "[#]_") ∷ (Plain, " ") ∷ (Label, "[#a]_") ∷ (Plain, " ") ∷ (Label, "[*]_") ∷ (Plain, " ")
+        ∷ (Label, "[a.b]_") ∷ []) }
+    ensures anonymous { Cuts "[1]__" ((Plain, "[1]__") ∷ []) }
+    ensures side_by_side { Cuts "[1]_[2]_" ((Plain, "[1]_[2]_") ∷ []) }
+    ensures inside_a_word { Cuts "a[1]_" ((Plain, "a[1]_") ∷ []) }
+    ensures with_white { Cuts "[a b]_" ((Plain, "[a b]_") ∷ []) }
+    ensures reference_in_brackets { Cuts "[a_]_" ((Plain, "[") ∷ (Reference Named, "a_") ∷ (Plain, "]_") ∷ []) }
+    ensures symbol_with_a_name { Cuts "[*a]_" ((Plain, "[") ∷ (Unended Emphasis, "*") ∷ (Plain, "a]_") ∷ []) }
+{}
+
+/// Standalone URIs.
+pub fn uris()
+    ensures characters { filter is_uri_char (codes "!\"#$%&'()*+,-./:;<=>?@[\\]^_`{|}~ aZ09ä") ≡ codes "!#$%&'()*+,-./:;=?@[]_~aZ09" }
+    ensures trailing_characters { filter is_uri_trail (codes "!\"#$%&'()*+,-./:;<=>?@[\\]^_`{|}~") ≡ codes "!'),.:;?]" }
+    ensures slash_schemes { Cuts "file:///a ftp://a https://a http://a irc://a"
+        ((Uri, "file:///a") ∷ (Plain, " ") ∷ (Uri, "ftp://a") ∷ (Plain, " ") ∷ (Uri, "https://a") ∷ (Plain, " ") ∷ (Uri, "http://a") ∷ (Plain, " ")
+        ∷ (Uri, "irc://a") ∷ []) }
+    ensures colon_schemes { Cuts "mailto:a@b news:a" ((Uri, "mailto:a@b") ∷ (Plain, " ") ∷ (Uri, "news:a") ∷ []) }
+    ensures other_scheme { Cuts "gopher://a xhttp://a http:/a" ((Plain, "gopher://a xhttp://a http:/a") ∷ []) }
+    ensures any_case { Cuts "HttP://A" ((Uri, "HttP://A") ∷ []) }
+    ensures punctuation { Cuts "(http://a.b/c.)" ((Plain, "(") ∷ (Uri, "http://a.b/c") ∷ (Plain, ".)") ∷ []) }
+    ensures bracket_in_it { Cuts "http://a/(b)" ((Uri, "http://a/(b") ∷ (Plain, ")") ∷ []) }
+    ensures nothing { Cuts "http:// http://." ((Plain, "http:// http://.") ∷ []) }
+    ensures not_free { Cuts "http://x< http://xé" ((Plain, "http://x< http://xé") ∷ []) }
+    ensures reference_first { Cuts "mailto:a_ http://a_" ((Reference Named, "mailto:a_") ∷ (Plain, " ") ∷ (Uri, "http://a_") ∷ []) }
+    ensures escaped { Cuts "\\http://a" ((Plain, "\\http://a") ∷ []) }
+{}
+
+/// A text without its escapes.
+pub fn escapes()
+    ensures white { unescaped (codes "a\\ b\\\nc") ≡ codes "abc" }
+    ensures character { unescaped (codes "\\*a\\b") ≡ codes "*ab" }
+    ensures backslash { unescaped (codes "\\\\ \\\\\\*") ≡ codes "\\ \\*" }
+    ensures last { unescaped (codes "a\\") ≡ codes "a" }
+{}
+
+/// What the markup of pieces encloses.
+pub fn enclosed()
+    ensures marked { contents "**a** *b* ``c`` _`d` |e|__"
+        ≡ codes "a" ∷ codes " " ∷ codes "b" ∷ codes " " ∷ codes "c" ∷ codes " " ∷ codes "d" ∷ codes " " ∷ codes "e" ∷ [] }
+    ensures interpreted { contents ":s:`a`:t: `b`__" ≡ codes "a" ∷ codes " " ∷ codes "b" ∷ [] }
+    ensures names { contents "[#a]_ b_ http://c" ≡ codes "#a" ∷ codes " " ∷ codes "b" ∷ codes " " ∷ codes "http://c" ∷ [] }
+    ensures unended { contents ":s:`a" ≡ [] ∷ codes "a" ∷ [] }
+{}

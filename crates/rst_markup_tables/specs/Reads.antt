@@ -1,0 +1,41 @@
+-- Tables that are written out, for worked examples. No rule of markup.
+use Prim.Native.String.{String}
+use Rattle.std.specs.Prelude.{◌≡◌, ℕ, ◌+◌, List, [], ◌∷◌, codes}
+use Rattle.rst_text.specs.Block.{Block}
+use Rattle.rst_text.specs.Written.{block}
+use Rattle.rst_markup_tables.specs.GridTable.{malformed}
+use Rattle.rst_markup_tables.specs.SimpleTable.{simple_table}
+use Rattle.rst_markup_tables.specs.Tiling.{grid_table}
+use Rattle.rst_markup_tables.specs.declared.results.Cell.{Cell}
+use Rattle.rst_markup_tables.specs.declared.results.TableDetail.{TableDetail}
+use Rattle.rst_markup_tables.specs.declared.results.TableResult.{TableResult}
+use Rattle.rst_markup_tables.specs.declared.results.TableResult.TheVariants.{Table}
+
+-- lines with numbers from n on
+abbrev pub numbered : ℕ → List String → Block
+numbered n [] = []
+numbered n (text ∷ texts) = record { number = n; text = codes text } ∷ numbered (n + 1) texts
+
+-- a cell that takes so many more rows and columns, with its lines from line n on
+abbrev pub cell : ℕ → ℕ → ℕ → List String → Cell
+cell rows columns n texts = record { morerows = rows; morecols = columns; lines = numbered n texts }
+
+-- a cell in one row and one column
+abbrev pub plain : ℕ → List String → Cell
+plain n texts = cell 0 0 n texts
+
+-- The lines begin with a grid table of the first n lines: the widths of its columns, how many rows are in its head, and its rows.
+abbrev pub Grids : List String → List ℕ → ℕ → List (List Cell) → ℕ → Type 0
+Grids text widths head rows n = grid_table (block text) 0 ≡ Table widths head rows n
+
+-- the same of a simple table
+abbrev pub Simples : List String → List ℕ → ℕ → List (List Cell) → ℕ → Type 0
+Simples text widths head rows n = simple_table (block text) 0 ≡ Table widths head rows n
+
+-- the first n lines are a malformed grid table
+abbrev pub BreaksGrid : List String → TableDetail → ℕ → Type 0
+BreaksGrid text detail n = grid_table (block text) 0 ≡ malformed 1 0 n detail
+
+-- the same of a simple table
+abbrev pub BreaksSimple : List String → TableDetail → ℕ → Type 0
+BreaksSimple text detail n = simple_table (block text) 0 ≡ malformed 1 0 n detail

@@ -1,0 +1,144 @@
+//! Worked examples of tables, as theorems on the definitions alone: the prover computes what the lines of a table that is written out give.
+#![tactic(auto, unfolding(crate::proofs::Computing::rst_markup_tables))]
+
+ghost use Rattle.std.specs.Prelude.{◌≡◌, codes, map, [], ◌∷◌};
+ghost use Rattle.rst_text.specs.Written.{block};
+ghost use Rattle.rst_markup_tables.specs.Messages.{malformed_text};
+ghost use Rattle.rst_markup_tables.specs.Reads.{BreaksGrid, BreaksSimple, Grids, Simples, cell, plain};
+ghost use Rattle.rst_markup_tables.specs.Tiling.{grid_table};
+ghost use Rattle.rst_markup_tables.specs.declared.results.TableDetail.TheVariants.{BottomBorderMissing, RightEdgeBroken, TwoHeadRules, ParseIncomplete, BorderMismatch, BottomMissing, ColumnSpan, Margin};
+ghost use Rattle.rst_markup_tables.specs.declared.results.TableResult.TheVariants.{Table};
+
+/// The cells of grid tables.
+pub fn grid_cells()
+    ensures one { Grids ("+---+" ∷ "| a |" ∷ "+---+" ∷ []) (3 ∷ []) 0 ((plain 2 ("a" ∷ []) ∷ []) ∷ []) 3 }
+    ensures two_columns { Grids ("+---+---+" ∷ "| a | b |" ∷ "+---+---+" ∷ []) (3 ∷ 3 ∷ []) 0
+        ((plain 2 ("a" ∷ []) ∷ plain 2 ("b" ∷ []) ∷ []) ∷ []) 3 }
+    ensures two_rows { Grids ("+---+" ∷ "| a |" ∷ "+---+" ∷ "| b |" ∷ "+---+" ∷ []) (3 ∷ []) 0
+        ((plain 2 ("a" ∷ []) ∷ []) ∷ (plain 4 ("b" ∷ []) ∷ []) ∷ []) 5 }
+    ensures wide_character { Grids ("+----+" ∷ "| 中 |" ∷ "+----+" ∷ []) (4 ∷ []) 0 ((plain 2 ("中" ∷ []) ∷ []) ∷ []) 3 }
+    ensures least_indentation { Grids ("+------+" ∷ "|   a  |" ∷ "|      |" ∷ "|  b   |" ∷ "+------+" ∷ []) (6 ∷ []) 0
+        ((plain 2 (" a" ∷ "" ∷ "b" ∷ []) ∷ []) ∷ []) 5 }
+    ensures bar_in_a_text { Grids ("+---+" ∷ "|a|b|" ∷ "+---+" ∷ []) (3 ∷ []) 0 ((plain 2 ("a|b" ∷ []) ∷ []) ∷ []) 3 }
+    ensures place { grid_table (block ("x" ∷ "" ∷ "+---+" ∷ "| a |" ∷ "+---+" ∷ [])) 2 ≡ Table (3 ∷ []) 0 ((plain 4 ("a" ∷ []) ∷ []) ∷ []) 5 }
+{}
+
+/// The heads of grid tables.
+pub fn grid_heads()
+    ensures one { Grids ("+---+" ∷ "| a |" ∷ "+===+" ∷ "| b |" ∷ "+---+" ∷ []) (3 ∷ []) 1
+        ((plain 2 ("a" ∷ []) ∷ []) ∷ (plain 4 ("b" ∷ []) ∷ []) ∷ []) 5 }
+    ensures two_columns { Grids ("+---+---+" ∷ "| a | b |" ∷ "+===+===+" ∷ "| c | d |" ∷ "+---+---+" ∷ []) (3 ∷ 3 ∷ []) 1
+        ((plain 2 ("a" ∷ []) ∷ plain 2 ("b" ∷ []) ∷ []) ∷ (plain 4 ("c" ∷ []) ∷ plain 4 ("d" ∷ []) ∷ []) ∷ []) 5 }
+    ensures two_rows { Grids ("+---+" ∷ "| a |" ∷ "+---+" ∷ "| b |" ∷ "+===+" ∷ "| c |" ∷ "+---+" ∷ []) (3 ∷ []) 2
+        ((plain 2 ("a" ∷ []) ∷ []) ∷ (plain 4 ("b" ∷ []) ∷ []) ∷ (plain 6 ("c" ∷ []) ∷ []) ∷ []) 7 }
+    ensures without_lines { Grids ("+---+" ∷ "+===+" ∷ "| a |" ∷ "+---+" ∷ []) (3 ∷ []) 1 ((plain 2 [] ∷ []) ∷ (plain 3 ("a" ∷ []) ∷ []) ∷ []) 4 }
+    ensures dash_in_the_rule { Grids ("+---+" ∷ "| a |" ∷ "+=-=+" ∷ "| b |" ∷ "+---+" ∷ []) (3 ∷ []) 0
+        ((cell 1 0 2 (" a" ∷ "=-=" ∷ " b" ∷ []) ∷ []) ∷ [] ∷ []) 5 }
+{}
+
+/// Cells of several rows and columns, and the bounds of rows and columns, in grid tables.
+pub fn grid_spans()
+    ensures rows { Grids ("+---+---+" ∷ "| a | b |" ∷ "|   +---+" ∷ "|   | c |" ∷ "+---+---+" ∷ []) (3 ∷ 3 ∷ []) 0
+        ((cell 1 0 2 ("a" ∷ "" ∷ "" ∷ []) ∷ plain 2 ("b" ∷ []) ∷ []) ∷ (plain 4 ("c" ∷ []) ∷ []) ∷ []) 5 }
+    ensures columns { Grids ("+---+---+" ∷ "| a     |" ∷ "+---+---+" ∷ "| b | c |" ∷ "+---+---+" ∷ []) (3 ∷ 3 ∷ []) 0
+        ((cell 0 1 2 ("a" ∷ []) ∷ []) ∷ (plain 4 ("b" ∷ []) ∷ plain 4 ("c" ∷ []) ∷ []) ∷ []) 5 }
+    ensures spiral { Grids ("+-+---+" ∷ "|a|b  |" ∷ "| +-+-+" ∷ "| |c| |" ∷ "+-+-+d|" ∷ "|e  | |" ∷ "+---+-+" ∷ []) (1 ∷ 1 ∷ 1 ∷ []) 0
+        ((cell 1 0 2 ("a" ∷ "" ∷ "" ∷ []) ∷ cell 0 1 2 ("b" ∷ []) ∷ [])
+        ∷ (plain 4 ("c" ∷ []) ∷ cell 1 0 4 ("" ∷ "d" ∷ "" ∷ []) ∷ [])
+        ∷ (cell 0 1 6 ("e" ∷ []) ∷ []) ∷ []) 7 }
+    ensures bound_in_the_top_side { Grids ("+--+--+" ∷ "| a   |" ∷ "+-----+" ∷ []) (2 ∷ 2 ∷ []) 0 ((cell 0 1 2 ("a" ∷ []) ∷ []) ∷ []) 3 }
+    ensures bound_in_the_bottom_side { Grids ("+-----+" ∷ "| a   |" ∷ "+--+--+" ∷ []) (2 ∷ 2 ∷ []) 0 ((cell 0 1 2 ("a" ∷ []) ∷ []) ∷ []) 3 }
+    ensures bound_in_the_left_side { Grids ("+---+" ∷ "|   |" ∷ "+   |" ∷ "|   |" ∷ "+---+" ∷ []) (3 ∷ []) 0
+        ((cell 1 0 2 ("" ∷ "" ∷ "" ∷ []) ∷ []) ∷ [] ∷ []) 5 }
+    ensures bound_in_the_right_side { Grids ("+---+" ∷ "|   |" ∷ "|   +" ∷ "| a |" ∷ "+---+" ∷ []) (3 ∷ []) 0
+        ((cell 1 0 2 ("" ∷ "" ∷ "a" ∷ []) ∷ []) ∷ [] ∷ []) 5 }
+{}
+
+/// Where grid tables end.
+pub fn grid_ends()
+    ensures last_border { Grids ("+---+" ∷ "| a |" ∷ "+---+" ∷ "+---+" ∷ "| b |" ∷ []) (3 ∷ []) 0
+        ((plain 2 ("a" ∷ []) ∷ []) ∷ (plain 4 [] ∷ []) ∷ []) 4 }
+    ensures other_text { Grids ("+---+" ∷ "| a |" ∷ "+---+" ∷ "x" ∷ []) (3 ∷ []) 0 ((plain 2 ("a" ∷ []) ∷ []) ∷ []) 3 }
+    ensures blank_line { Grids ("+---+" ∷ "| a |" ∷ "+---+" ∷ "" ∷ "+---+" ∷ []) (3 ∷ []) 0 ((plain 2 ("a" ∷ []) ∷ []) ∷ []) 3 }
+{}
+
+/// What can be wrong with grid tables.
+pub fn grid_faults()
+    ensures no_bottom_border { BreaksGrid ("+---+" ∷ "| a |" ∷ "+--" ∷ []) BottomBorderMissing 3 }
+    ensures border_in_the_second_line { BreaksGrid ("+---+" ∷ "+---+" ∷ []) BottomBorderMissing 2 }
+    ensures longer_line { BreaksGrid ("+---+" ∷ "| a  |" ∷ "+---+" ∷ []) RightEdgeBroken 3 }
+    ensures open_line { BreaksGrid ("+---+" ∷ "| a x" ∷ "+---+" ∷ []) RightEdgeBroken 3 }
+    ensures two_head_rules { BreaksGrid ("+---+" ∷ "| a |" ∷ "+===+" ∷ "| b |" ∷ "+===+" ∷ "| c |" ∷ "+---+" ∷ []) (TwoHeadRules 3 5) 7 }
+    ensures no_tiling { BreaksGrid ("+---+---+" ∷ "| a | b |" ∷ "+---+   |" ∷ "| c   d |" ∷ "+---+---+" ∷ []) ParseIncomplete 5 }
+{}
+
+/// The rows of simple tables.
+pub fn simple_rows()
+    ensures two_lines { Simples ("== ==" ∷ "a  b c" ∷ "   d" ∷ "== ==" ∷ []) (2 ∷ 3 ∷ []) 0
+        ((plain 2 ("a" ∷ "" ∷ []) ∷ plain 2 ("b c" ∷ "d" ∷ []) ∷ []) ∷ []) 4 }
+    ensures two_rows { Simples ("== ==" ∷ "a  b" ∷ "c  d" ∷ "== ==" ∷ []) (2 ∷ 2 ∷ []) 0
+        ((plain 2 ("a" ∷ []) ∷ plain 2 ("b" ∷ []) ∷ []) ∷ (plain 3 ("c" ∷ []) ∷ plain 3 ("d" ∷ []) ∷ []) ∷ []) 4 }
+    ensures blank_line_between { Simples ("== ==" ∷ "a  b" ∷ "" ∷ "   c" ∷ "== ==" ∷ []) (2 ∷ 2 ∷ []) 0
+        ((plain 2 ("a" ∷ "" ∷ "" ∷ []) ∷ plain 2 ("b" ∷ "" ∷ "c" ∷ []) ∷ []) ∷ []) 5 }
+    ensures first_column_blank { Simples ("== ==" ∷ "" ∷ "   b" ∷ "== ==" ∷ []) (2 ∷ 2 ∷ []) 0
+        ((plain 3 ("" ∷ []) ∷ plain 3 ("b" ∷ []) ∷ []) ∷ []) 4 }
+    ensures short_line { Simples ("== ==" ∷ "a" ∷ "== ==" ∷ []) (2 ∷ 2 ∷ []) 0 ((plain 2 ("a" ∷ []) ∷ plain 2 ("" ∷ []) ∷ []) ∷ []) 3 }
+    ensures long_line { Simples ("== ==" ∷ "a  bcdef" ∷ "== ==" ∷ []) (2 ∷ 5 ∷ []) 0 ((plain 2 ("a" ∷ []) ∷ plain 2 ("bcdef" ∷ []) ∷ []) ∷ []) 3 }
+    ensures wide_character { Simples ("== ==" ∷ "日 b" ∷ "== ==" ∷ []) (2 ∷ 2 ∷ []) 0 ((plain 2 ("日" ∷ []) ∷ plain 2 ("b" ∷ []) ∷ []) ∷ []) 3 }
+    ensures wide_space { Simples ("== ==" ∷ "a  b" ∷ "\u{3000} c" ∷ "== ==" ∷ []) (2 ∷ 2 ∷ []) 0
+        ((plain 2 ("a" ∷ []) ∷ plain 2 ("b" ∷ []) ∷ []) ∷ (plain 3 ("" ∷ []) ∷ plain 3 ("c" ∷ []) ∷ []) ∷ []) 4 }
+    ensures no_break_space { Simples ("== ==" ∷ "a  b" ∷ "\u{a0}  c" ∷ "== ==" ∷ []) (2 ∷ 2 ∷ []) 0
+        ((plain 2 ("a" ∷ "" ∷ []) ∷ plain 2 ("b" ∷ "c" ∷ []) ∷ []) ∷ []) 4 }
+{}
+
+/// The heads of simple tables.
+pub fn simple_heads()
+    ensures one { Simples ("== ==" ∷ "a  b" ∷ "== ==" ∷ "c  d" ∷ "== ==" ∷ []) (2 ∷ 2 ∷ []) 1
+        ((plain 2 ("a" ∷ []) ∷ plain 2 ("b" ∷ []) ∷ []) ∷ (plain 4 ("c" ∷ []) ∷ plain 4 ("d" ∷ []) ∷ []) ∷ []) 5 }
+    ensures blank_line_after_the_border { Simples ("== ==" ∷ "a  b" ∷ "== ==" ∷ "" ∷ "== ==" ∷ []) (2 ∷ 2 ∷ []) 0
+        ((plain 2 ("a" ∷ []) ∷ plain 2 ("b" ∷ []) ∷ []) ∷ []) 3 }
+    ensures without_rows { Simples ("== ==" ∷ "== ==" ∷ "a  b" ∷ "== ==" ∷ []) (2 ∷ 2 ∷ []) 0
+        ((plain 3 ("a" ∷ []) ∷ plain 3 ("b" ∷ []) ∷ []) ∷ []) 4 }
+    ensures without_a_body { Simples ("== ==" ∷ "a  b" ∷ "== ==" ∷ "== ==" ∷ []) (2 ∷ 2 ∷ []) 1
+        ((plain 2 ("a" ∷ []) ∷ plain 2 ("b" ∷ []) ∷ []) ∷ []) 4 }
+{}
+
+/// Cells of several columns in simple tables.
+pub fn simple_spans()
+    ensures rule { Simples ("== == ==" ∷ "a  b  c" ∷ "-- -----" ∷ "d  e" ∷ "== == ==" ∷ []) (2 ∷ 2 ∷ 2 ∷ []) 0
+        ((plain 2 ("a" ∷ []) ∷ cell 0 1 2 ("b  c" ∷ []) ∷ []) ∷ (plain 4 ("d" ∷ []) ∷ plain 4 ("e" ∷ []) ∷ plain 4 ("" ∷ []) ∷ []) ∷ []) 5 }
+    ensures row_before_another { Simples ("== ==" ∷ "a  b" ∷ "c d" ∷ "-----" ∷ "== ==" ∷ []) (2 ∷ 2 ∷ []) 0
+        ((plain 2 ("a" ∷ []) ∷ plain 2 ("b" ∷ []) ∷ []) ∷ (cell 0 1 3 ("c d" ∷ []) ∷ []) ∷ []) 5 }
+    ensures widest_line { Simples ("== ==" ∷ "a bbbbbbbb" ∷ "-----" ∷ "c  d" ∷ "== ==" ∷ []) (2 ∷ 7 ∷ []) 0
+        ((cell 0 1 2 ("a bbbbbbbb" ∷ []) ∷ []) ∷ (plain 4 ("c" ∷ []) ∷ plain 4 ("d" ∷ []) ∷ []) ∷ []) 5 }
+{}
+
+/// What can be wrong with simple tables.
+pub fn simple_faults()
+    ensures margin { BreaksSimple ("== ==" ∷ "abc d" ∷ "== ==" ∷ []) (Margin 2) 3 }
+    ensures margin_in_the_second_line { BreaksSimple ("== ==" ∷ "a  b" ∷ "  c" ∷ "== ==" ∷ []) (Margin 3) 4 }
+    ensures wide_character_in_the_margin { BreaksSimple ("== ==" ∷ "a中 b" ∷ "== ==" ∷ []) (Margin 2) 3 }
+    ensures column_left_out { BreaksSimple ("== == ==" ∷ "a     c" ∷ "--    --" ∷ "== == ==" ∷ []) (ColumnSpan 3) 4 }
+    ensures one_dash { BreaksSimple ("== ==" ∷ "a  b" ∷ "-" ∷ "== ==" ∷ []) (ColumnSpan 3) 4 }
+    ensures rules_before_margins { BreaksSimple ("== ==" ∷ "abc d" ∷ "a  b" ∷ "-- -" ∷ "== ==" ∷ []) (ColumnSpan 4) 5 }
+    ensures longer_border { BreaksSimple ("== ==" ∷ "a  b" ∷ "== ===" ∷ []) BorderMismatch 3 }
+    ensures shorter_head_border { BreaksSimple ("== ==" ∷ "a  b" ∷ "== =" ∷ "c  d" ∷ "== ==" ∷ []) BorderMismatch 3 }
+    ensures no_border { BreaksSimple ("== ==" ∷ "a  b" ∷ "" ∷ "c" ∷ []) BottomMissing 4 }
+    ensures head_border_alone { BreaksSimple ("== ==" ∷ "a  b" ∷ "== ==" ∷ "c  d" ∷ []) BottomMissing 3 }
+{}
+
+/// What is said of malformed tables.
+pub fn messages()
+    ensures grid { map malformed_text (BottomBorderMissing ∷ RightEdgeBroken ∷ TwoHeadRules 3 12 ∷ ParseIncomplete ∷ [])
+        ≡ codes "Malformed table.\nBottom border missing."
+        ∷ codes "Malformed table.\nRight edge broken."
+        ∷ codes "Malformed table.\nMultiple head/body row separators (table lines 3 and 12); only one allowed."
+        ∷ codes "Malformed table.\nMalformed table; parse incomplete."
+        ∷ [] }
+    ensures simple { map malformed_text (BorderMismatch ∷ BottomMissing ∷ ColumnSpan 3 ∷ Margin 12 ∷ [])
+        ≡ codes "Malformed table.\nBottom border or header rule does not match top border."
+        ∷ codes "Malformed table.\nNo bottom table border found."
+        ∷ codes "Malformed table.\nColumn span alignment problem in table line 3."
+        ∷ codes "Malformed table.\nText in column margin in table line 12."
+        ∷ [] }
+{}
