@@ -177,7 +177,7 @@ pub fn images()
         ("<reference name=\"B c\" rawsource=\"`B  c`_\" refname=\"b c\"> 2" ∷ "    <image uri=\"a\"> 2" ∷ []) }
     ensures linked_to_a_uri { Says (image_element (codes "a") ((Target, linked (located (codes "bc")) (codes "b c")) ∷ []) 2 true None ∷ [])
         ("<reference rawsource=\"b c\" refuri=\"bc\"> 2" ∷ "    <image uri=\"a\"> 2" ∷ []) }
-    ensures alignments { Says (map (λ where. image_element (codes "a") ((Align, placed where) ∷ []) 1 false None)
+    ensures alignments { Says (map (λ side. image_element (codes "a") ((Align, placed side) ∷ []) 1 false None)
         (Top ∷ Middle ∷ Bottom ∷ Left ∷ Center ∷ Right ∷ []))
         ("<image align=\"top\" uri=\"a\"> 1" ∷ "<image align=\"middle\" uri=\"a\"> 1" ∷ "<image align=\"bottom\" uri=\"a\"> 1"
         ∷ "<image align=\"left\" uri=\"a\"> 1" ∷ "<image align=\"center\" uri=\"a\"> 1" ∷ "<image align=\"right\" uri=\"a\"> 1" ∷ []) }

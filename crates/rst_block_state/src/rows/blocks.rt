@@ -44,6 +44,8 @@ pub fn literals()
     ensures at_the_beginning { Reads ("::" ∷ "x" ∷ [])
         ("<document>" ∷ "    <system_message level=\"1\">" ∷ "        <paragraph>" ∷ "            Possible incomplete section title."
         ∷ "            Treating the overline as ordinary text because it's so short." ∷ "    <paragraph>" ∷ "        ::" ∷ "        x" ∷ []) }
+    ensures escaped_white_before_the_colons { Reads ("a\\ ::" ∷ "" ∷ "  b" ∷ [])
+        ("<document>" ∷ "    <paragraph>" ∷ "        a" ∷ "    <literal_block xml:space=\"preserve\">" ∷ "        b" ∷ []) }
 {}
 
 /// Quoted literal blocks.
@@ -151,6 +153,9 @@ pub fn attributions()
     ensures in_an_item { Reads ("- a" ∷ "" ∷ "  -- b" ∷ [])
         ("<document>" ∷ "    <bullet_list bullet=\"-\">" ∷ "        <list_item>" ∷ "            <paragraph>" ∷ "                a"
         ∷ "            <paragraph>" ∷ "                -- b" ∷ []) }
+    ensures after_another { Reads ("  a" ∷ "" ∷ "  -- b" ∷ "" ∷ "  -- c" ∷ [])
+        ("<document>" ∷ "    <block_quote>" ∷ "        <paragraph>" ∷ "            a" ∷ "        <attribution>" ∷ "            b"
+        ∷ "    <block_quote>" ∷ "        <paragraph>" ∷ "            -- c" ∷ []) }
 {}
 
 /// Doctest blocks.

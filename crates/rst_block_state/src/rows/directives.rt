@@ -45,6 +45,11 @@ pub fn admonitions()
         ("<document>" ∷ "    <system_message level=\"3\">" ∷ "        <paragraph>"
         ∷ "            Content block expected for the \"admonition\" directive; none found."
         ∷ "        <literal_block xml:space=\"preserve\">" ∷ "            .. admonition:: A" ∷ []) }
+    ensures options_after_a_blank_line { Reads (".. note::" ∷ "" ∷ "   :class: x" ∷ "" ∷ "   t" ∷ [])
+        ("<document>" ∷ "    <note classes=\"x\">" ∷ "        <paragraph>" ∷ "            t" ∷ []) }
+    ensures class_of_a_digit { Reads (".. admonition:: :sub:`2`" ∷ "" ∷ "   a" ∷ [])
+        ("<document>" ∷ "    <admonition classes=\"admonition-\">" ∷ "        <title>" ∷ "            <subscript>" ∷ "                2"
+        ∷ "        <paragraph>" ∷ "            a" ∷ []) }
 {}
 
 /// Topics.
@@ -72,6 +77,13 @@ pub fn images()
         ("<document> 0" ∷ "    <reference name=\"B c\" rawsource=\"`B  c`_\" refname=\"b c\"> 1" ∷ "        <image uri=\"a\"> 1" ∷ []) }
     ensures target_by_uri { Means (".. image:: a" ∷ "   :target: b c" ∷ []) 0
         ("<document> 0" ∷ "    <reference rawsource=\"b c\" refuri=\"bc\"> 1" ∷ "        <image uri=\"a\"> 1" ∷ []) }
+    ensures uri_after_a_blank_line { Reads (".. image::" ∷ "" ∷ "   a.png" ∷ []) ("<document>" ∷ "    <image uri=\"a.png\">" ∷ []) }
+    ensures empty_values { Means (".. image:: a" ∷ "   :alt:" ∷ "   :name:" ∷ []) 0
+        ("<document> 0" ∷ "    <image alt=\"\" own_name=\"\" uri=\"a\"> 1" ∷ []) }
+    ensures alignments { Reads (".. image:: a" ∷ "   :align: top" ∷ ".. image:: b" ∷ "   :align: bottom" ∷ ".. image:: c" ∷ "   :align: left"
+        ∷ ".. image:: d" ∷ "   :align: center" ∷ ".. image:: e" ∷ "   :align: right" ∷ [])
+        ("<document>" ∷ "    <image align=\"top\" uri=\"a\">" ∷ "    <image align=\"bottom\" uri=\"b\">"
+        ∷ "    <image align=\"left\" uri=\"c\">" ∷ "    <image align=\"center\" uri=\"d\">" ∷ "    <image align=\"right\" uri=\"e\">" ∷ []) }
 {}
 
 /// Images that are wrong.
@@ -112,6 +124,10 @@ pub fn wrong_images()
         ("<document>" ∷ "    <system_message level=\"3\">" ∷ "        <paragraph>" ∷ "            Error in \"image\" directive:"
         ∷ "            invalid option block." ∷ "        <literal_block xml:space=\"preserve\">" ∷ "            .. image:: a"
         ∷ "               :alt: b" ∷ "               c" ∷ []) }
+    ensures unknown_option_and_no_uri { Reads (".. image::" ∷ "   :foo: 1" ∷ [])
+        ("<document>" ∷ "    <system_message level=\"3\">" ∷ "        <paragraph>" ∷ "            Error in \"image\" directive:"
+        ∷ "            unknown option: \"foo\"." ∷ "        <literal_block xml:space=\"preserve\">" ∷ "            .. image::"
+        ∷ "               :foo: 1" ∷ []) }
 {}
 
 /// Figures.
@@ -141,6 +157,18 @@ pub fn figures()
         ∷ "            <problematic message=\"0\"> 3" ∷ "                *" ∷ "            b" ∷ "        <legend> 0"
         ∷ "            <paragraph> 5" ∷ "                c" ∷ "    <system_message level=\"2\" message=\"0\"> 3" ∷ "        <paragraph> 3"
         ∷ "            Inline emphasis start-string without end-string." ∷ []) }
+    ensures width_of_the_figure { Reads (".. figure:: a.png" ∷ "   :figwidth: 50%" ∷ "" ∷ "   cap" ∷ "" ∷ "   leg" ∷ [])
+        ("<document>" ∷ "    <figure width=\"50%\">" ∷ "        <image uri=\"a.png\">" ∷ "        <caption>" ∷ "            cap"
+        ∷ "        <legend>" ∷ "            <paragraph>" ∷ "                leg" ∷ []) }
+    ensures comment_before_a_text { Means (".. figure:: a" ∷ "" ∷ "   .." ∷ "   b" ∷ []) 0
+        ("<document> 0" ∷ "    <figure> 1" ∷ "        <image uri=\"a\"> 1" ∷ "        <legend> 0"
+        ∷ "            <system_message level=\"2\"> 4" ∷ "                <paragraph> 4"
+        ∷ "                    Explicit markup ends without a blank line; unexpected unindent." ∷ "            <paragraph> 4"
+        ∷ "                b" ∷ []) }
+    ensures info_first { Means (".. figure:: a" ∷ "" ∷ "   --" ∷ []) 0
+        ("<document> 0" ∷ "    <figure> 1" ∷ "        <image uri=\"a\"> 1" ∷ "    <system_message level=\"3\"> 1" ∷ "        <paragraph> 1"
+        ∷ "            Figure caption must be a paragraph or empty comment." ∷ "        <literal_block xml:space=\"preserve\"> 1"
+        ∷ "            .. figure:: a" ∷ "            " ∷ "               --" ∷ []) }
 {}
 
 /// Program code.
@@ -185,4 +213,7 @@ pub fn directives()
         ("<document>" ∷ "    <system_message level=\"3\">" ∷ "        <paragraph>" ∷ "            Error in \"replace\" directive:"
         ∷ "            may contain a single paragraph only." ∷ "        <literal_block xml:space=\"preserve\">"
         ∷ "            .. replace:: - a" ∷ []) }
+    ensures note_and_image { Reads (".. note:: Hi" ∷ "" ∷ "   x" ∷ ".. image:: a.png" ∷ "   :scale: 50%" ∷ [])
+        ("<document>" ∷ "    <note>" ∷ "        <paragraph>" ∷ "            Hi" ∷ "        <paragraph>" ∷ "            x"
+        ∷ "    <image scale=\"50\" uri=\"a.png\">" ∷ []) }
 {}

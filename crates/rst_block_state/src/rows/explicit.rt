@@ -107,6 +107,18 @@ pub fn wrong_substitutions()
     ensures no_space_behind_the_bar { Reads (".. |a|b| image:: c" ∷ ".. |d|" ∷ [])
         ("<document>" ∷ "    <substitution_definition>" ∷ "        <image alt=\"a|b\" uri=\"c\">" ∷ "    <comment xml:space=\"preserve\">"
         ∷ "        |d|" ∷ []) }
+    ensures no_single_paragraph { Reads (".. |a| replace:: - b" ∷ "" ∷ ".. |c| replace:: ::" ∷ "" ∷ ".. |d| replace:: e::" ∷ "" ∷ "     f"
+        ∷ "" ∷ ".. |g| replace::" ∷ "   h" ∷ "     i" ∷ [])
+        ("<document>" ∷ "    <system_message level=\"3\">" ∷ "        <paragraph>" ∷ "            Error in \"replace\" directive:"
+        ∷ "            may contain a single paragraph only." ∷ "        <literal_block xml:space=\"preserve\">"
+        ∷ "            .. |a| replace:: - b" ∷ "    <system_message level=\"3\">" ∷ "        <paragraph>"
+        ∷ "            Error in \"replace\" directive:" ∷ "            may contain a single paragraph only."
+        ∷ "        <literal_block xml:space=\"preserve\">" ∷ "            .. |c| replace:: ::" ∷ "    <system_message level=\"3\">"
+        ∷ "        <paragraph>" ∷ "            Error in \"replace\" directive:" ∷ "            may contain a single paragraph only."
+        ∷ "        <literal_block xml:space=\"preserve\">" ∷ "            .. |d| replace:: e::" ∷ "            " ∷ "                 f"
+        ∷ "    <system_message level=\"3\">" ∷ "        <paragraph>" ∷ "            Error in \"replace\" directive:"
+        ∷ "            may contain a single paragraph only." ∷ "        <literal_block xml:space=\"preserve\">"
+        ∷ "            .. |g| replace::" ∷ "               h" ∷ "                 i" ∷ []) }
 {}
 
 /// Comments.

@@ -51,6 +51,10 @@ pub fn bullets()
         ∷ "            b" ∷ []) }
     ensures no_mark { Reads ("-a" ∷ "" ∷ "*b* c" ∷ [])
         ("<document>" ∷ "    <paragraph>" ∷ "        -a" ∷ "    <paragraph>" ∷ "        <emphasis>" ∷ "            b" ∷ "         c" ∷ []) }
+    ensures comment_between { Reads ("- a" ∷ "" ∷ ".." ∷ "" ∷ "- b" ∷ [])
+        ("<document>" ∷ "    <bullet_list bullet=\"-\">" ∷ "        <list_item>" ∷ "            <paragraph>" ∷ "                a"
+        ∷ "    <comment xml:space=\"preserve\">" ∷ "    <bullet_list bullet=\"-\">" ∷ "        <list_item>" ∷ "            <paragraph>"
+        ∷ "                b" ∷ []) }
 {}
 
 /// Enumerators.

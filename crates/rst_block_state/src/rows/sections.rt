@@ -23,6 +23,10 @@ pub fn paragraphs()
         ("<document> 0" ∷ "    <paragraph text_messages=\"1\"> 1" ∷ "        a" ∷ "        <problematic message=\"0\"> 1" ∷ "            *"
         ∷ "        b" ∷ "    <system_message level=\"2\" message=\"0\"> 1" ∷ "        <paragraph> 1"
         ∷ "            Inline emphasis start-string without end-string." ∷ "    <paragraph> 4" ∷ "        c" ∷ []) }
+    ensures line_ends { Means ("a\tb\r" ∷ "\r" ∷ "-\tc\rd" ∷ []) 0
+        ("<document> 0" ∷ "    <paragraph> 1" ∷ "        a       b" ∷ "    <bullet_list bullet=\"-\"> 3" ∷ "        <list_item> 3"
+        ∷ "            <paragraph> 3" ∷ "                c" ∷ "    <system_message level=\"2\"> 4" ∷ "        <paragraph> 4"
+        ∷ "            Bullet list ends without a blank line; unexpected unindent." ∷ "    <paragraph> 4" ∷ "        d" ∷ []) }
 {}
 
 /// Sections and their titles.
@@ -134,6 +138,17 @@ pub fn misplaced_titles()
         ("<document> 0" ∷ "    <system_message level=\"3\"> 1" ∷ "        <paragraph> 1"
         ∷ "            Invalid section title or transition marker." ∷ "        <literal_block xml:space=\"preserve\"> 1" ∷ "            ===="
         ∷ "            ----" ∷ "    <paragraph> 4" ∷ "        x" ∷ []) }
+    ensures blank_line_at_the_end { Means ("====" ∷ "T" ∷ "" ∷ []) 0
+        ("<document> 0" ∷ "    <system_message level=\"4\"> 1" ∷ "        <paragraph> 1"
+        ∷ "            Missing matching underline for section title overline." ∷ "        <literal_block xml:space=\"preserve\"> 1"
+        ∷ "            ====" ∷ "            T" ∷ []) }
+    ensures inconsistent_after_an_info { Means ("A" ∷ "=" ∷ "" ∷ "B" ∷ "-" ∷ "" ∷ "C" ∷ "=" ∷ "" ∷ "==" ∷ "****" ∷ []) 0
+        ("<document> 0" ∷ "    <section own_name=\"a\"> 1" ∷ "        <title> 1" ∷ "            A" ∷ "        <section own_name=\"b\"> 4"
+        ∷ "            <title> 4" ∷ "                B" ∷ "    <section own_name=\"c\"> 7" ∷ "        <title> 7" ∷ "            C"
+        ∷ "        <system_message level=\"1\"> 10" ∷ "            <paragraph> 10" ∷ "                Possible incomplete section title."
+        ∷ "                Treating the overline as ordinary text because it's so short." ∷ "        <system_message level=\"4\"> 10"
+        ∷ "            <paragraph> 10" ∷ "                Title level inconsistent:" ∷ "            <literal_block xml:space=\"preserve\"> 10"
+        ∷ "                ==" ∷ "                ****" ∷ []) }
 {}
 
 /// Titles where none is recognized.

@@ -40,6 +40,10 @@ pub fn grids()
         ∷ "            <tbody> 0" ∷ "                <row> 0" ∷ "                    <entry> 0" ∷ "                        <paragraph> 2"
         ∷ "                            a" ∷ "    <system_message level=\"2\"> 4" ∷ "        <paragraph> 4"
         ∷ "            Blank line required after table." ∷ "    <paragraph> 4" ∷ "        x" ∷ []) }
+    ensures empty_head { Reads ("+---+" ∷ "+===+" ∷ "| a |" ∷ "+---+" ∷ [])
+        ("<document>" ∷ "    <table>" ∷ "        <tgroup cols=\"1\">" ∷ "            <colspec colwidth=\"3\">" ∷ "            <thead>"
+        ∷ "                <row>" ∷ "                    <entry>" ∷ "            <tbody>" ∷ "                <row>"
+        ∷ "                    <entry>" ∷ "                        <paragraph>" ∷ "                            a" ∷ []) }
 {}
 
 /// Grid tables that are malformed.
@@ -103,6 +107,22 @@ pub fn simple_tables()
         ∷ "                    <entry> 0" ∷ "                        <paragraph> 4" ∷ "                            c"
         ∷ "                    <entry> 0" ∷ "    <system_message level=\"2\"> 6" ∷ "        <paragraph> 6"
         ∷ "            Blank line required after table." ∷ "    <paragraph> 6" ∷ "        x" ∷ []) }
+    ensures empty_head { Reads ("== ==" ∷ "== ==" ∷ "a  b" ∷ "== ==" ∷ [])
+        ("<document>" ∷ "    <table>" ∷ "        <tgroup cols=\"2\">" ∷ "            <colspec colwidth=\"2\">"
+        ∷ "            <colspec colwidth=\"2\">" ∷ "            <tbody>" ∷ "                <row>" ∷ "                    <entry>"
+        ∷ "                        <paragraph>" ∷ "                            a" ∷ "                    <entry>"
+        ∷ "                        <paragraph>" ∷ "                            b" ∷ []) }
+    ensures empty_body { Reads ("== ==" ∷ "a  b" ∷ "== ==" ∷ "== ==" ∷ [])
+        ("<document>" ∷ "    <table>" ∷ "        <tgroup cols=\"2\">" ∷ "            <colspec colwidth=\"2\">"
+        ∷ "            <colspec colwidth=\"2\">" ∷ "            <thead>" ∷ "                <row>" ∷ "                    <entry>"
+        ∷ "                        <paragraph>" ∷ "                            a" ∷ "                    <entry>"
+        ∷ "                        <paragraph>" ∷ "                            b" ∷ "            <tbody>" ∷ []) }
+    ensures span_of_all_columns { Reads ("== ==" ∷ "a b" ∷ "-----" ∷ "c  d" ∷ "== ==" ∷ [])
+        ("<document>" ∷ "    <table>" ∷ "        <tgroup cols=\"2\">" ∷ "            <colspec colwidth=\"2\">"
+        ∷ "            <colspec colwidth=\"2\">" ∷ "            <tbody>" ∷ "                <row>"
+        ∷ "                    <entry morecols=\"1\">" ∷ "                        <paragraph>" ∷ "                            a b"
+        ∷ "                <row>" ∷ "                    <entry>" ∷ "                        <paragraph>" ∷ "                            c"
+        ∷ "                    <entry>" ∷ "                        <paragraph>" ∷ "                            d" ∷ []) }
 {}
 
 /// Simple tables that are malformed.

@@ -106,4 +106,5 @@ pub fn nesting()
     ensures cell { IsTooDeep 0 ("+---+" ∷ "| a |" ∷ "+---+" ∷ []) 2 }
     ensures line_blocks { IsTooDeep 1 ("| a" ∷ "|  b" ∷ "|   c" ∷ []) 3 }
     ensures replacement { IsTooDeep 0 (".. |a| replace:: b" ∷ []) 1 }
+    ensures in_order { IsTooDeep 1 ("- a" ∷ "" ∷ "  - b" ∷ "" ∷ "- - c" ∷ []) 3 }
 {}
