@@ -9,7 +9,7 @@ use Rattle.rst_block_sections.specs.Sections.{document_of}
 use Rattle.rst_block_state.specs.Nodes.{document_items}
 use Rattle.rst_block_state.specs.Numbered.{Numbered, ◌>>=◌, just}
 
--- the document of some lines, where blocks may be nested this deep, and how many messages on texts there are
+-- the document of some lines, where blocks may be nested this deep, and how many messages on texts were counted
 abbrev pub read_in : ℕ → List String → Result (Node × ℕ) ℕ
 read_in levels text = (do
   items ← document_items (record { nesting = levels; line_limit = 1000; code = true; docinfo = true }) (block text)
@@ -28,11 +28,12 @@ Reads text tree = print_if (read_in 9 text) ≡ Ok (encode_utf8_all (written tre
 abbrev pub IsTooDeep : ℕ → List String → ℕ → Type 0
 IsTooDeep levels text line = read_in levels text ≡ Err line
 
--- all that a document says that was read, and how many messages on texts there are
+-- all that a document says that was read, and how many messages on texts were counted
 abbrev pub whole_if : Result (Node × ℕ) ℕ → Result (List ℕ × ℕ) ℕ
 whole_if (Ok (root, count)) = Ok (whole (root ∷ []), count)
 whole_if (Err line) = Err line
 
--- these lines mean a document that says all that stands in this tree, and on its texts there are so many messages
+-- These lines mean a document that says all that stands in this tree, and so many messages on texts are counted. A message is counted also where the
+-- text is dropped.
 abbrev pub Means : List String → ℕ → List String → Type 0
 Means text count tree = whole_if (read_in 9 text) ≡ Ok (encode_utf8_all (written tree), count)

@@ -14,7 +14,7 @@ pub fn admonitions()
         ∷ "        <paragraph>" ∷ "            g" ∷ "    <tip>" ∷ "        <paragraph>" ∷ "            h" ∷ "    <warning>"
         ∷ "        <paragraph>" ∷ "            i" ∷ []) }
     ensures options { Means (".. Note::" ∷ "   :class: A b C" ∷ "   :name: N  m" ∷ "" ∷ "   x" ∷ "" ∷ "   - y" ∷ []) 0
-        ("<document> 0" ∷ "    <note classes=\"a b c\" own_name=\"n  m\"> 1" ∷ "        <paragraph> 5" ∷ "            x"
+        ("<document> 0" ∷ "    <note classes=\"a b c\" own_name=\"n m\"> 1" ∷ "        <paragraph> 5" ∷ "            x"
         ∷ "        <bullet_list bullet=\"-\"> 7" ∷ "            <list_item> 7" ∷ "                <paragraph> 7" ∷ "                    y" ∷ []) }
     ensures content_beside_the_mark { Means (".. note:: a" ∷ "   b" ∷ "" ∷ "   c" ∷ []) 0
         ("<document> 0" ∷ "    <note> 1" ∷ "        <paragraph> 1" ∷ "            a" ∷ "            b" ∷ "        <paragraph> 4"
@@ -148,7 +148,7 @@ pub fn figures()
         ∷ "               :align: top" ∷ []) }
     ensures empty_comment { Reads (".. figure:: a" ∷ "" ∷ "   .." ∷ "" ∷ "   b" ∷ [])
         ("<document>" ∷ "    <figure>" ∷ "        <image uri=\"a\">" ∷ "        <legend>" ∷ "            <paragraph>" ∷ "                b" ∷ []) }
-    ensures no_caption { Means (".. figure:: a" ∷ "" ∷ "   - b" ∷ "" ∷ "   *c" ∷ []) 0
+    ensures no_caption { Means (".. figure:: a" ∷ "" ∷ "   - b" ∷ "" ∷ "   *c" ∷ []) 1
         ("<document> 0" ∷ "    <figure> 1" ∷ "        <image uri=\"a\"> 1" ∷ "    <system_message level=\"3\"> 1" ∷ "        <paragraph> 1"
         ∷ "            Figure caption must be a paragraph or empty comment." ∷ "        <literal_block xml:space=\"preserve\"> 1"
         ∷ "            .. figure:: a" ∷ "            " ∷ "               - b" ∷ "            " ∷ "               *c" ∷ []) }

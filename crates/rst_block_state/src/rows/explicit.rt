@@ -20,9 +20,9 @@ pub fn footnotes()
 
 /// Citations.
 pub fn citations()
-    ensures one { Means (".. [Ab-1] c" ∷ ".. [٣] d" ∷ []) 0
+    ensures one { Means (".. [Ab-1] c" ∷ ".. [２] d" ∷ []) 0
         ("<document> 0" ∷ "    <citation own_name=\"ab-1\"> 1" ∷ "        <label> 1" ∷ "            Ab-1" ∷ "        <paragraph> 1"
-        ∷ "            c" ∷ "    <citation own_name=\"٣\"> 2" ∷ "        <label> 2" ∷ "            ٣" ∷ "        <paragraph> 2"
+        ∷ "            c" ∷ "    <citation own_name=\"２\"> 2" ∷ "        <label> 2" ∷ "            ２" ∷ "        <paragraph> 2"
         ∷ "            d" ∷ []) }
     ensures no_label { Reads (".. [a b] c" ∷ []) ("<document>" ∷ "    <comment xml:space=\"preserve\">" ∷ "        [a b] c" ∷ []) }
 {}

@@ -13,7 +13,6 @@ pub fn paragraphs()
         ("<document>" ∷ "    <paragraph>" ∷ "        a" ∷ "    <paragraph>" ∷ "        b" ∷ []) }
     ensures tab { Reads ("a" ∷ "" ∷ "\tb" ∷ [])
         ("<document>" ∷ "    <paragraph>" ∷ "        a" ∷ "    <block_quote>" ∷ "        <paragraph>" ∷ "            b" ∷ []) }
-    ensures ideographic_space { Reads ("　a" ∷ []) ("<document>" ∷ "    <paragraph>" ∷ "        　a" ∷ []) }
     ensures unexpected_indentation { Means ("a" ∷ "b" ∷ "  c" ∷ "d" ∷ []) 0
         ("<document> 0" ∷ "    <paragraph> 1" ∷ "        a" ∷ "        b" ∷ "    <system_message level=\"3\"> 3" ∷ "        <paragraph> 3"
         ∷ "            Unexpected indentation." ∷ "    <block_quote> 3" ∷ "        <paragraph> 3" ∷ "            c"
@@ -60,7 +59,7 @@ pub fn sections()
         ∷ "        <system_message level=\"4\"> 10" ∷ "            <paragraph> 10" ∷ "                Title level inconsistent:"
         ∷ "            <literal_block xml:space=\"preserve\"> 10" ∷ "                D" ∷ "                ~" ∷ "        <paragraph> 13"
         ∷ "            d" ∷ "        <section own_name=\"e\"> 15" ∷ "            <title> 15" ∷ "                E" ∷ []) }
-    ensures inconsistent_overline { Means ("A" ∷ "=" ∷ "" ∷ "B" ∷ "-" ∷ "" ∷ "C" ∷ "=" ∷ "" ∷ "===" ∷ " *D" ∷ "===" ∷ []) 0
+    ensures inconsistent_overline { Means ("A" ∷ "=" ∷ "" ∷ "B" ∷ "-" ∷ "" ∷ "C" ∷ "=" ∷ "" ∷ "===" ∷ " *D" ∷ "===" ∷ []) 1
         ("<document> 0" ∷ "    <section own_name=\"a\"> 1" ∷ "        <title> 1" ∷ "            A" ∷ "        <section own_name=\"b\"> 4"
         ∷ "            <title> 4" ∷ "                B" ∷ "    <section own_name=\"c\"> 7" ∷ "        <title> 7" ∷ "            C"
         ∷ "        <system_message level=\"4\"> 11" ∷ "            <paragraph> 11" ∷ "                Title level inconsistent:"
