@@ -7,7 +7,7 @@ use Rattle.rst_tree.specs.declared.node.Node.{Node}
 use Rattle.rst_block_nodes.specs.Whole.{whole}
 use Rattle.rst_block_sections.specs.Sections.{document_of}
 use Rattle.rst_block_state.specs.Nodes.{document_items}
-use Rattle.rst_block_state.specs.Numbered.{Numbered, ◌>>=◌, just}
+use Rattle.rst_block_state.specs.Numbered.{◌>>=◌, just}
 
 -- the document of some lines, where blocks may be nested this deep, and how many messages on texts were counted
 abbrev pub read_in : ℕ → List String → Result (Node × ℕ) ℕ
