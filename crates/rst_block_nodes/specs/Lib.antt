@@ -9,3 +9,4 @@ pub mod Terms
 pub mod Numbered
 pub mod Readings
 pub mod LineBlocks
+pub mod Whole

@@ -11,6 +11,7 @@ mod lists;
 mod messages;
 mod nodes;
 mod numbers;
+pub mod rows;
 mod sections;
 mod settings;
 mod tables;

@@ -3,6 +3,7 @@
 
 mod heading;
 mod nodes;
+pub mod rows;
 mod sectioning;
 
 pub use heading::{Heading, Style};

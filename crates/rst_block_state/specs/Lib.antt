@@ -30,3 +30,4 @@ pub mod BudgetLaws
 pub mod Reaches
 pub mod Ledger
 pub mod LedgerLaws
+pub mod Reads

@@ -8,6 +8,7 @@ mod heading;
 mod open_block;
 mod paragraph;
 mod part;
+pub mod rows;
 mod run;
 mod step;
 mod texts;

@@ -1,0 +1,39 @@
+-- What a document means, as the tree of it before any transform, for worked examples. No rule of markup.
+use Prim.Native.String.{String}
+use Rattle.std.specs.Prelude.{◌≡◌, ℕ, true, List, [], ◌∷◌, encode_utf8_all, Result, Ok, Err}
+use Rattle.rst_text.specs.Written.{block, written}
+use Rattle.rst_tree.specs.Print.{print_of}
+use Rattle.rst_tree.specs.declared.node.Node.{Node}
+use Rattle.rst_block_nodes.specs.Whole.{whole}
+use Rattle.rst_block_sections.specs.Sections.{document_of}
+use Rattle.rst_block_state.specs.Nodes.{document_items}
+use Rattle.rst_block_state.specs.Numbered.{◌>>=◌, just}
+
+-- the document of some lines, where blocks may be nested this deep, and how many messages on texts were counted
+abbrev pub read_in : ℕ → List String → Result (Node × ℕ) ℕ
+read_in levels text = (do
+  items ← document_items (record { nesting = levels; line_limit = 1000; code = true; docinfo = true }) (block text)
+  just (document_of items)) 0
+
+-- what is printed of a document that was read
+abbrev pub print_if : Result (Node × ℕ) ℕ → Result (List ℕ) ℕ
+print_if (Ok (root, count)) = Ok (print_of root)
+print_if (Err line) = Err line
+
+-- of these lines this tree is printed
+abbrev pub Reads : List String → List String → Type 0
+Reads text tree = print_if (read_in 9 text) ≡ Ok (encode_utf8_all (written tree))
+
+-- these lines begin a block that is nested too deeply at a line, where blocks may be nested this deep
+abbrev pub IsTooDeep : ℕ → List String → ℕ → Type 0
+IsTooDeep levels text line = read_in levels text ≡ Err line
+
+-- all that a document says that was read, and how many messages on texts were counted
+abbrev pub whole_if : Result (Node × ℕ) ℕ → Result (List ℕ × ℕ) ℕ
+whole_if (Ok (root, count)) = Ok (whole (root ∷ []), count)
+whole_if (Err line) = Err line
+
+-- These lines mean a document that says all that stands in this tree, and so many messages on texts are counted. A message is counted also where the
+-- text is dropped.
+abbrev pub Means : List String → ℕ → List String → Type 0
+Means text count tree = whole_if (read_in 9 text) ≡ Ok (encode_utf8_all (written tree), count)
