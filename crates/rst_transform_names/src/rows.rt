@@ -105,90 +105,106 @@ pub fn names_of_elements()
       new_loses = true;
       message = Some (record { level = Info; strength = Implicit });
     } }
-    ensures of_a_footnote { (rule_by (Some (record { holder = By 0; strength = Implicit; id = codes "a"; uri = None })) (item Footnote [] 1)).now ≡ New }
-    ensures one_uri { (rule_by (Some (record { holder = By 0; strength = Explicit; id = codes "a"; uri = Some (codes "u") }))
-        (item Target (says Refuri "u" ∷ []) 1)).now ≡ Old }
-    ensures two_uris { (rule_by (Some (record { holder = By 0; strength = Explicit; id = codes "a"; uri = Some (codes "u") }))
-        (item Target (says Refuri "v" ∷ []) 1)).now ≡ NobodyNow }
-    ensures no_uri { (rule_by (Some (record { holder = By 0; strength = Explicit; id = codes "a"; uri = None })) (item Target [] 1)).now ≡ NobodyNow }
+    ensures of_a_footnote { (rule_by (Some (record { holder = By 0; strength = Implicit; id = codes "a"; uri = None })) (item Footnote [] 1)).now
+        ≡ New }
+    ensures one_uri { (rule_by (Some (record { holder = By 0; strength = Explicit; id = codes "a"; uri = Some (codes "u") })) (item Target
+        (says Refuri "u" ∷ []) 1)).now
+        ≡ Old }
+    ensures two_uris { (rule_by (Some (record { holder = By 0; strength = Explicit; id = codes "a"; uri = Some (codes "u") })) (item Target
+        (says Refuri "v" ∷ []) 1)).now
+        ≡ NobodyNow }
+    ensures no_uri { (rule_by (Some (record { holder = By 0; strength = Explicit; id = codes "a"; uri = None })) (item Target [] 1)).now
+        ≡ NobodyNow }
 {}
 
 /// What messages on equal names say, and where they refer to.
 pub fn messages()
-    ensures on_a_target { Prints (duplicate_name (record { level = Warning; strength = Explicit }) (item Target (says OwnName "a b" ∷ []) 3) (codes "a-b-1"))
+    ensures on_a_target { Prints (duplicate_name (record { level = Warning; strength = Explicit }) (item Target (says OwnName "a b"
+        ∷ []) 3) (codes "a-b-1"))
         ("<system_message backrefs=\"a-b-1\" level=\"2\" line=\"3\" type=\"WARNING\">" ∷ "    <paragraph>"
         ∷ "        Duplicate explicit target name: \"a b\"." ∷ []) }
-    ensures on_a_section { Prints (duplicate_name (record { level = Info; strength = Implicit }) (item Section (says OwnName "a" ∷ []) 2) (codes "a-1"))
+    ensures on_a_section { Prints (duplicate_name (record { level = Info; strength = Implicit }) (item Section (says OwnName "a"
+        ∷ []) 2) (codes "a-1"))
         ("<system_message backrefs=\"a-1\" level=\"1\" line=\"2\" type=\"INFO\">" ∷ "    <paragraph>"
         ∷ "        Duplicate implicit target name: \"a\"." ∷ []) }
     ensures on_a_definition { Prints (duplicate_definition (item SubstitutionDefinition (says OwnName "a" ∷ []) 4))
-        ("<system_message level=\"3\" line=\"4\" type=\"ERROR\">" ∷ "    <paragraph>"
-        ∷ "        Duplicate substitution definition name: \"a\"." ∷ []) }
+        ("<system_message level=\"3\" line=\"4\" type=\"ERROR\">" ∷ "    <paragraph>" ∷ "        Duplicate substitution definition name: \"a\"."
+        ∷ []) }
 {}
 
 /// Where the message on an element's name comes.
 pub fn places()
-    ensures in_a_section { Prints (with_name_messages ((0, text "here") ∷ []) (document (element Section (counts Serial 0 ∷ [])
-        (element Title [] [] ∷ paragraph "b" ∷ []) ∷ [])))
+    ensures in_a_section { Prints (with_name_messages ((0, text "here") ∷ []) (document (element Section (counts Serial 0 ∷ []) (element Title [] []
+        ∷ paragraph "b" ∷ []) ∷ [])))
         ("<document>" ∷ "    <section>" ∷ "        <title>" ∷ "        here" ∷ "        <paragraph>" ∷ "            b" ∷ []) }
-    ensures after_messages_of_a_title { Prints (with_name_messages ((0, text "here") ∷ []) (document (element Section
-        (counts Serial 0 ∷ counts TextMessages 1 ∷ []) (element Title [] [] ∷ element SystemMessage [] [] ∷ paragraph "b" ∷ []) ∷ [])))
-        ("<document>" ∷ "    <section>" ∷ "        <title>" ∷ "        <system_message line=\"1\">" ∷ "        here" ∷ "        <paragraph>" ∷ "            b" ∷ []) }
-    ensures before_a_target { Prints (with_name_messages ((0, text "here") ∷ []) (document (paragraph "a" ∷ element Target (counts Serial 0 ∷ []) [] ∷ [])))
+    ensures after_messages_of_a_title { Prints (with_name_messages ((0, text "here") ∷ []) (document (element Section (counts Serial 0
+        ∷ counts TextMessages 1 ∷ []) (element Title [] [] ∷ element SystemMessage [] [] ∷ paragraph "b" ∷ []) ∷ [])))
+        ("<document>" ∷ "    <section>" ∷ "        <title>" ∷ "        <system_message line=\"1\">" ∷ "        here" ∷ "        <paragraph>"
+        ∷ "            b" ∷ []) }
+    ensures before_a_target { Prints (with_name_messages ((0, text "here") ∷ []) (document (paragraph "a" ∷ element Target (counts Serial 0 ∷ []) []
+        ∷ [])))
         ("<document>" ∷ "    <paragraph>" ∷ "        a" ∷ "    here" ∷ "    <target>" ∷ []) }
     ensures of_another_element { Prints (with_name_messages ((1, text "here") ∷ []) (document (element Target (counts Serial 0 ∷ []) [] ∷ [])))
         ("<document>" ∷ "    <target>" ∷ []) }
-    ensures in_a_text { Prints (with_name_messages ((0, text "here") ∷ []) (document (element Paragraph (counts TextMessages 1 ∷ [])
-        (element Target (counts Inline 1 ∷ counts Serial 0 ∷ []) [] ∷ []) ∷ element SystemMessage [] [] ∷ paragraph "b" ∷ [])))
-        ("<document>" ∷ "    <paragraph>" ∷ "        <target>" ∷ "    <system_message line=\"1\">" ∷ "    here" ∷ "    <paragraph>" ∷ "        b" ∷ []) }
-    ensures texts_before_elements { Prints (with_name_messages ((0, text "first") ∷ (1, text "second") ∷ []) (document (element Paragraph []
-        (element Target (counts Inline 1 ∷ counts Serial 0 ∷ []) [] ∷ []) ∷ element Target (counts Serial 1 ∷ []) [] ∷ [])))
+    ensures in_a_text { Prints (with_name_messages ((0, text "here") ∷ []) (document (element Paragraph (counts TextMessages 1
+        ∷ []) (element Target (counts Inline 1 ∷ counts Serial 0 ∷ []) [] ∷ []) ∷ element SystemMessage [] [] ∷ paragraph "b" ∷ [])))
+        ("<document>" ∷ "    <paragraph>" ∷ "        <target>" ∷ "    <system_message line=\"1\">" ∷ "    here" ∷ "    <paragraph>" ∷ "        b"
+        ∷ []) }
+    ensures texts_before_elements { Prints (with_name_messages ((0, text "first") ∷ (1, text "second")
+        ∷ []) (document (element Paragraph [] (element Target (counts Inline 1 ∷ counts Serial 0 ∷ []) [] ∷ []) ∷ element Target (counts Serial 1
+        ∷ []) [] ∷ [])))
         ("<document>" ∷ "    <paragraph>" ∷ "        <target>" ∷ "    first" ∷ "    second" ∷ "    <target>" ∷ []) }
-    ensures of_a_term { Prints (with_name_messages ((0, text "here") ∷ []) (element DefinitionListItem []
-        (element Term [] (element Target (counts Inline 1 ∷ counts Serial 0 ∷ []) [] ∷ []) ∷ element Definition [] (paragraph "d" ∷ []) ∷ [])))
-        ("<definition_list_item>" ∷ "    <term>" ∷ "        <target>" ∷ "    <definition>" ∷ "        here" ∷ "        <paragraph>" ∷ "            d" ∷ []) }
-    ensures of_a_classifier { Prints (with_name_messages ((0, text "here") ∷ []) (element DefinitionListItem []
-        (element Term (counts TextMessages 1 ∷ []) [] ∷ element Classifier [] (element Target (counts Inline 1 ∷ counts Serial 0 ∷ []) [] ∷ [])
+    ensures of_a_term { Prints (with_name_messages ((0, text "here")
+        ∷ []) (element DefinitionListItem [] (element Term [] (element Target (counts Inline 1 ∷ counts Serial 0 ∷ []) [] ∷ [])
+        ∷ element Definition [] (paragraph "d" ∷ []) ∷ [])))
+        ("<definition_list_item>" ∷ "    <term>" ∷ "        <target>" ∷ "    <definition>" ∷ "        here" ∷ "        <paragraph>"
+        ∷ "            d" ∷ []) }
+    ensures of_a_classifier { Prints (with_name_messages ((0, text "here") ∷ []) (element DefinitionListItem [] (element Term (counts TextMessages 1
+        ∷ []) [] ∷ element Classifier [] (element Target (counts Inline 1 ∷ counts Serial 0 ∷ []) [] ∷ [])
         ∷ element Definition [] (element SystemMessage [] [] ∷ paragraph "d" ∷ []) ∷ [])))
-        ("<definition_list_item>" ∷ "    <term>" ∷ "    <classifier>" ∷ "        <target>" ∷ "    <definition>" ∷ "        <system_message line=\"1\">"
-        ∷ "        here" ∷ "        <paragraph>" ∷ "            d" ∷ []) }
-    ensures of_a_field_name { Prints (with_name_messages ((0, text "here") ∷ []) (element Field []
-        (element FieldName [] (element Target (counts Inline 1 ∷ counts Serial 0 ∷ []) [] ∷ []) ∷ element FieldBody [] [] ∷ [])))
+        ("<definition_list_item>" ∷ "    <term>" ∷ "    <classifier>" ∷ "        <target>" ∷ "    <definition>"
+        ∷ "        <system_message line=\"1\">" ∷ "        here" ∷ "        <paragraph>" ∷ "            d" ∷ []) }
+    ensures of_a_field_name { Prints (with_name_messages ((0, text "here")
+        ∷ []) (element Field [] (element FieldName [] (element Target (counts Inline 1 ∷ counts Serial 0 ∷ []) [] ∷ []) ∷ element FieldBody [] []
+        ∷ [])))
         ("<field>" ∷ "    <field_name>" ∷ "        <target>" ∷ "    <field_body>" ∷ "        here" ∷ []) }
-    ensures of_a_nested_line { Prints (with_name_messages ((0, text "here") ∷ []) (document (element LineBlock [] (element LineBlock []
-        (element Line [] (element Target (counts Inline 1 ∷ counts Serial 0 ∷ []) [] ∷ []) ∷ []) ∷ []) ∷ paragraph "b" ∷ [])))
-        ("<document>" ∷ "    <line_block>" ∷ "        <line_block>" ∷ "            <line>" ∷ "                <target>" ∷ "    here" ∷ "    <paragraph>"
-        ∷ "        b" ∷ []) }
-    ensures of_an_attribution { Prints (with_name_messages ((0, text "here") ∷ []) (document (element BlockQuote []
-        (element Attribution [] (element Target (counts Inline 1 ∷ counts Serial 0 ∷ []) [] ∷ []) ∷ []) ∷ [])))
+    ensures of_a_nested_line { Prints (with_name_messages ((0, text "here")
+        ∷ []) (document (element LineBlock [] (element LineBlock [] (element Line [] (element Target (counts Inline 1 ∷ counts Serial 0 ∷ []) []
+        ∷ []) ∷ []) ∷ []) ∷ paragraph "b" ∷ [])))
+        ("<document>" ∷ "    <line_block>" ∷ "        <line_block>" ∷ "            <line>" ∷ "                <target>" ∷ "    here"
+        ∷ "    <paragraph>" ∷ "        b" ∷ []) }
+    ensures of_an_attribution { Prints (with_name_messages ((0, text "here")
+        ∷ []) (document (element BlockQuote [] (element Attribution [] (element Target (counts Inline 1 ∷ counts Serial 0 ∷ []) [] ∷ []) ∷ [])
+        ∷ [])))
         ("<document>" ∷ "    <block_quote>" ∷ "        <attribution>" ∷ "            <target>" ∷ "    here" ∷ []) }
-    ensures of_a_caption { Prints (with_name_messages ((0, text "here") ∷ []) (document (element Figure []
-        (element Caption [] (element Target (counts Inline 1 ∷ counts Serial 0 ∷ []) [] ∷ []) ∷ []) ∷ [])))
+    ensures of_a_caption { Prints (with_name_messages ((0, text "here")
+        ∷ []) (document (element Figure [] (element Caption [] (element Target (counts Inline 1 ∷ counts Serial 0 ∷ []) [] ∷ []) ∷ []) ∷ [])))
         ("<document>" ∷ "    <figure>" ∷ "        <caption>" ∷ "            <target>" ∷ "    here" ∷ []) }
-    ensures of_an_image_in_a_reference { Prints (with_name_messages ((0, text "here") ∷ []) (document (element Reference []
-        (element Image (counts Serial 0 ∷ []) [] ∷ []) ∷ [])))
+    ensures of_an_image_in_a_reference { Prints (with_name_messages ((0, text "here")
+        ∷ []) (document (element Reference [] (element Image (counts Serial 0 ∷ []) [] ∷ []) ∷ [])))
         ("<document>" ∷ "    here" ∷ "    <reference>" ∷ "        <image>" ∷ []) }
-    ensures of_an_image_in_a_definition { Prints (with_name_messages ((0, text "here") ∷ []) (document (element SubstitutionDefinition []
-        (element Reference [] (element Image (counts Serial 0 ∷ []) [] ∷ []) ∷ []) ∷ [])))
+    ensures of_an_image_in_a_definition { Prints (with_name_messages ((0, text "here")
+        ∷ []) (document (element SubstitutionDefinition [] (element Reference [] (element Image (counts Serial 0 ∷ []) [] ∷ []) ∷ []) ∷ [])))
         ("<document>" ∷ "    here" ∷ "    <substitution_definition>" ∷ "        <reference>" ∷ "            <image>" ∷ []) }
-    ensures of_an_image_in_a_figure { Prints (with_name_messages ((0, text "here") ∷ []) (document (element Figure []
-        (element Image (counts Serial 0 ∷ []) [] ∷ []) ∷ [])))
+    ensures of_an_image_in_a_figure { Prints (with_name_messages ((0, text "here")
+        ∷ []) (document (element Figure [] (element Image (counts Serial 0 ∷ []) [] ∷ []) ∷ [])))
         ("<document>" ∷ "    <figure>" ∷ "        here" ∷ "        <image>" ∷ []) }
 {}
 
 /// What registration writes at the elements: ids, names and lost names, and what problematics and their messages have of one another.
 pub fn written()
-    ensures names { Prints (walked_node (heeded_next is_registered left_behind) (heeded_out is_registered with_given)
-        (given (standing 0 (Some (codes "a")) true ∷ standing 1 (Some (codes "a-1")) false ∷ standing 2 (Some (codes "target-1")) false ∷ []) [] [])
-        (document (element Section (says OwnName "a" ∷ []) (paragraph "b" ∷ element Target (says OwnName "a" ∷ []) [] ∷ []) ∷ element Target [] [] ∷ [])))
-        ("<document>" ∷ "    <section dupnames=\"a\" ids=\"a\">" ∷ "        <paragraph>" ∷ "            b" ∷ "        <target ids=\"a-1\" names=\"a\">"
-        ∷ "    <target ids=\"target-1\">" ∷ []) }
-    ensures definition { Prints (walked_node (heeded_next is_registered left_behind) (heeded_out is_registered with_given)
-        (given (standing 0 None false ∷ []) [] []) (document (element SubstitutionDefinition (says OwnName "A" ∷ []) [] ∷ [])))
+    ensures names { Prints (walked_node (heeded_next is_registered left_behind) (heeded_out is_registered with_given) (given (standing 0 (Some
+        (codes "a")) true ∷ standing 1 (Some (codes "a-1")) false ∷ standing 2 (Some (codes "target-1")) false
+        ∷ []) [] []) (document (element Section (says OwnName "a" ∷ []) (paragraph "b" ∷ element Target (says OwnName "a" ∷ []) [] ∷ [])
+        ∷ element Target [] [] ∷ [])))
+        ("<document>" ∷ "    <section dupnames=\"a\" ids=\"a\">" ∷ "        <paragraph>" ∷ "            b"
+        ∷ "        <target ids=\"a-1\" names=\"a\">" ∷ "    <target ids=\"target-1\">" ∷ []) }
+    ensures definition { Prints (walked_node (heeded_next is_registered left_behind) (heeded_out is_registered with_given) (given
+        (standing 0 None false ∷ []) [] []) (document (element SubstitutionDefinition (says OwnName "A" ∷ []) [] ∷ [])))
         ("<document>" ∷ "    <substitution_definition names=\"A\">" ∷ []) }
-    ensures problematics { Prints (walked_node (heeded_next is_registered left_behind) (heeded_out is_registered with_given)
-        (given [] (1 ∷ 2 ∷ 1 ∷ []) (record { id = Some 1; problematics = codes "problematic-1" ∷ codes "problematic-2" ∷ [] } ∷ []))
-        (document (element Problematic (counts Message 0 ∷ []) [] ∷ element Problematic (counts Message 0 ∷ []) []
+    ensures problematics { Prints (walked_node (heeded_next is_registered left_behind) (heeded_out is_registered with_given) (given [] (1 ∷ 2 ∷ 1
+        ∷ []) (record { id = Some 1; problematics = codes "problematic-1" ∷ codes "problematic-2" ∷ [] }
+        ∷ [])) (document (element Problematic (counts Message 0 ∷ []) [] ∷ element Problematic (counts Message 0 ∷ []) []
         ∷ element SystemMessage (counts Message 0 ∷ []) [] ∷ [])))
         ("<document>" ∷ "    <problematic ids=\"problematic-1\" refid=\"system-message-1\">"
         ∷ "    <problematic ids=\"problematic-2\" refid=\"system-message-1\">"
