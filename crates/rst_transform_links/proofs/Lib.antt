@@ -1,3 +1,4 @@
+pub mod Computing
 pub mod Holding
 pub mod Idle
 pub mod LinkKinds

@@ -6,6 +6,7 @@ mod holders;
 pub mod laws;
 mod link_transform;
 mod links;
+pub mod rows;
 mod settling;
 
 pub use footnote_orders::{

@@ -1,3 +1,4 @@
+pub mod Computing
 pub mod IdLemmas
 pub mod MessageGaps
 pub mod MessagePlaces

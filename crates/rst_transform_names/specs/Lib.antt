@@ -9,3 +9,4 @@ pub mod Registering
 pub mod Registry
 pub mod Rulings
 pub mod Written
+pub mod Trees

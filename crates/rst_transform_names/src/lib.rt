@@ -11,6 +11,7 @@ mod placing;
 mod registrants;
 mod registration;
 mod registry;
+pub mod rows;
 mod rulings;
 mod weaving;
 mod writing;

@@ -1,3 +1,4 @@
+pub mod Computing
 pub mod Additions
 pub mod Listing
 pub mod OneAnswer

@@ -5,3 +5,4 @@ pub mod Reading
 pub mod Reports
 pub mod States
 pub mod Alike
+pub mod Written

@@ -8,6 +8,7 @@ mod lists;
 mod problematics;
 mod reading;
 mod report;
+pub mod rows;
 mod texts;
 
 pub use context::Context;

@@ -1,0 +1,71 @@
+//! Worked examples of the elements that references join, of the orders of footnotes, and of where names lead, as theorems on the definitions alone.
+#![tactic(auto, unfolding(crate::proofs::Computing::rst_transform_links))]
+
+ghost use Rattle.std.specs.Prelude.{◌≡◌, Some, None, codes, [], ◌∷◌, map};
+ghost use Rattle.rst_tree.specs.declared.key.Key.TheVariants.{Auto, Ids, Mark, Rawsource, Refid, Refname, Refuri, Serial};
+ghost use Rattle.rst_tree.specs.declared.tag.Tag.TheVariants.{BlockQuote, Footnote, FootnoteReference, Label, Paragraph, Reference, Target};
+ghost use Rattle.rst_transform_names.specs.declared.names.Holder.TheVariants.{Element as By, Nobody, Unregistered};
+ghost use Rattle.rst_transform_names.specs.Trees.{counts, element, lists, paragraph, says, text};
+ghost use Rattle.rst_transform_work.specs.Written.{document_of, Shows};
+ghost use Rattle.rst_transform_links.specs.declared.links.Outcome.TheVariants.{Stays, Fails, Failed};
+ghost use Rattle.rst_transform_links.specs.FootnoteOrders.{found_by_order, order_name};
+ghost use Rattle.rst_transform_links.specs.declared.footnote_orders.Order.TheVariants.{Numbers, Symbols};
+ghost use Rattle.rst_transform_links.specs.Holders.{holder_place, lead_of, name_lead};
+ghost use Rattle.rst_transform_links.specs.Linkings.{linked_of};
+ghost use Rattle.rst_transform_links.specs.Links.{changed_document};
+ghost use Rattle.rst_transform_links.specs.Outcomes.{adds};
+
+/// The elements that references join, each with the place of the one that it stands in.
+pub fn linked()
+    ensures in_order { map (λ one. one.1) (linked_of (document_of (element Footnote [] (element Label [] []
+        ∷ element Paragraph [] (element Reference [] [] ∷ []) ∷ []) ∷ element Target [] [] ∷ [])))
+        ≡ None ∷ Some 0 ∷ Some 0 ∷ None ∷ [] }
+    ensures innermost { map (λ one. one.1) (linked_of (document_of (element Target [] []
+        ∷ element Footnote [] (element Reference [] (element BlockQuote [] (element Target [] [] ∷ []) ∷ []) ∷ element Reference [] [] ∷ []) ∷ [])))
+        ≡ None ∷ None ∷ Some 1 ∷ Some 2 ∷ Some 1 ∷ [] }
+{}
+
+/// References without names find the footnotes of their kind in order.
+pub fn footnotes_by_order()
+    ensures each_kind { found_by_order (linked_of (document_of (element FootnoteReference (says Auto "1" ∷ []) []
+        ∷ element FootnoteReference (says Auto "*" ∷ []) [] ∷ element FootnoteReference (says Auto "1" ∷ []) [] ∷ element Footnote (says Mark "*"
+        ∷ []) [] ∷ element Footnote (says Mark "#" ∷ []) [] ∷ element Footnote (says Mark "#" ∷ []) [] ∷ [])))
+        ≡ Some 4 ∷ Some 3 ∷ Some 5 ∷ None ∷ None ∷ None ∷ [] }
+    ensures left_over { found_by_order (linked_of (document_of (element FootnoteReference (says Auto "1" ∷ []) []
+        ∷ element FootnoteReference (says Auto "1" ∷ []) [] ∷ element Footnote (says Mark "#" ∷ []) [] ∷ [])))
+        ≡ Some 2 ∷ None ∷ None ∷ [] }
+    ensures with_names { found_by_order (linked_of (document_of (element FootnoteReference (says Auto "1" ∷ says Refname "a" ∷ []) []
+        ∷ element FootnoteReference (says Auto "1" ∷ []) [] ∷ element Footnote (says Mark "#a" ∷ []) [] ∷ element Footnote (says Mark "1" ∷ []) []
+        ∷ element Footnote (says Mark "#" ∷ []) [] ∷ [])))
+        ≡ None ∷ Some 4 ∷ None ∷ None ∷ None ∷ [] }
+{}
+
+/// Where targets and names lead.
+pub fn leads()
+    ensures to_a_uri { lead_of (element Target (says Refid "a" ∷ says Refuri "u" ∷ []) []) ≡ Some (says Refuri "u") }
+    ensures to_an_id { lead_of (element Target (lists Ids ("b" ∷ []) ∷ says Refid "a" ∷ []) []) ≡ Some (says Refid "a") }
+    ensures nowhere { lead_of (element Target (lists Ids ("b" ∷ []) ∷ []) []) ≡ None }
+    ensures through_a_target { name_lead (Some (element Target (says Refid "a" ∷ []) [])) None (codes "b") ≡ says Refid "a" }
+    ensures to_its_own_id { name_lead (Some (element Footnote (lists Ids ("footnote-1" ∷ "x" ∷ []) ∷ []) [])) None (codes "x") ≡ says Refid "x" }
+    ensures to_its_own_uri { name_lead None (Some (codes "u")) (codes "x") ≡ says Refuri "u" }
+{}
+
+/// The places of the elements that hold names.
+pub fn holders()
+    ensures last_of_a_number { holder_place 2 (linked_of (document_of (element Target (counts Serial 0 ∷ []) [] ∷ element Target (counts Serial 1
+        ∷ []) [] ∷ element Target (counts Serial 1 ∷ []) [] ∷ []))) (By 1)
+        ≡ Some 2 }
+    ensures no_element { map (holder_place 2 (linked_of (document_of (element Target (counts Serial 0 ∷ []) [] ∷ [])))) (By 1 ∷ Nobody
+        ∷ Unregistered ∷ [])
+        ≡ None ∷ None ∷ None ∷ [] }
+{}
+
+/// What becomes of the elements.
+pub fn outcomes()
+    ensures addition { Shows (changed_document (adds (Some (says Refuri "u")) ∷ Stays (record { attr = None; shown = Some (codes "1") })
+        ∷ []) (document_of (element Reference [] (text "a" ∷ []) ∷ element Label [] (text "x" ∷ []) ∷ [])))
+        ("<document>" ∷ "    <reference refuri=\"u\">" ∷ "        a" ∷ "    <label>" ∷ "        1" ∷ []) }
+    ensures problematic { Shows (changed_document (Failed (lists Ids ("problematic-1" ∷ []) ∷ []) ∷ adds None
+        ∷ []) (document_of (element Reference (says Rawsource "`a`_" ∷ []) (text "a" ∷ []) ∷ element Reference [] [] ∷ [])))
+        ("<document>" ∷ "    <problematic ids=\"problematic-1\">" ∷ "        `a`_" ∷ "    <reference>" ∷ []) }
+{}

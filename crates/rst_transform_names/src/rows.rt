@@ -1,0 +1,212 @@
+//! Worked examples of ids, equal names and the messages on them, as theorems on the definitions alone: the prover computes what a definition
+//! gives for names and trees that are written out.
+#![tactic(auto, unfolding(crate::proofs::Computing::rst_transform_names))]
+
+ghost use Rattle.std.specs.Prelude.{◌≡◌, true, false, Some, None, codes, [], ◌∷◌};
+ghost use Rattle.rst_tree.specs.declared.key.Key.TheVariants.{Inline, Message, OwnName, Refuri, Serial, TextMessages};
+ghost use Rattle.rst_tree.specs.declared.node.Node.{Node};
+ghost use Rattle.rst_tree.specs.declared.note.Level.TheVariants.{Info, Warning};
+ghost use Rattle.rst_tree.specs.declared.tag.Tag.TheVariants.{Attribution, BlockQuote, Caption, Classifier, Definition, DefinitionListItem, Field, FieldBody, FieldName, Figure, Footnote, Image, Line, LineBlock, Paragraph, Problematic, Reference, Section, SubstitutionDefinition, SystemMessage, Target, Term, Title};
+ghost use Rattle.rst_tree.specs.Walk.{item, walked_node};
+ghost use Rattle.rst_tree_index.specs.Marks.{heeded_next, heeded_out};
+ghost use Rattle.rst_tree_index.specs.Registered.{is_registered};
+ghost use Rattle.rst_transform_names.specs.declared.names.Holder.TheVariants.{Nobody, Element as By, Unregistered};
+ghost use Rattle.rst_transform_names.specs.declared.names.Strength.TheVariants.{Implicit, Explicit};
+ghost use Rattle.rst_transform_names.specs.declared.rulings.Now.TheVariants.{Old, New, Nobody as NobodyNow};
+ghost use Rattle.rst_transform_names.specs.DuplicateMessages.{duplicate_definition, duplicate_name};
+ghost use Rattle.rst_transform_names.specs.Ids.{number_in, number_of, numbered, wanted_id};
+ghost use Rattle.rst_transform_names.specs.NameMessages.{with_name_messages};
+ghost use Rattle.rst_transform_names.specs.Registry.{rule_by, standing};
+ghost use Rattle.rst_transform_names.specs.Rulings.{ruling_for};
+ghost use Rattle.rst_transform_names.specs.Trees.{counts, document, element, lists, paragraph, says, text, Prints};
+ghost use Rattle.rst_transform_names.specs.Written.{given, left_behind, with_given};
+
+/// What a name gives as an id, and the numbers behind ids that are taken.
+pub fn ids()
+    ensures of_a_name { wanted_id (codes "1. To be") ≡ codes "to-be" }
+    ensures of_no_name { wanted_id [] ≡ [] }
+    ensures with_a_number { numbered (codes "a") 12 ≡ codes "a-12" }
+    ensures behind_the_last_hyphen { number_of (codes "a-1-2") ≡ Some (codes "a-1", 2) }
+    ensures no_number { number_of (codes "a-b") ≡ None }
+    ensures without_a_hyphen { number_of (codes "a1") ≡ None }
+    ensures nothing_in_front { number_of (codes "-1") ≡ Some ([], 1) }
+    ensures from_one { number_in (codes "0") ≡ None }
+    ensures without_a_zero_in_front { number_in (codes "01") ≡ None }
+    ensures zero_at_the_end { number_in (codes "10") ≡ Some 10 }
+    ensures no_digits { number_in [] ≡ None }
+    ensures largest { number_in (codes "18446744073709551615") ≡ Some 18446744073709551615 }
+    ensures too_large { number_in (codes "18446744073709551616") ≡ None }
+{}
+
+/// What becomes of equal names: those of sections are implicit, all others explicit.
+pub fn equal_names()
+    ensures first { ruling_for None Implicit false ≡ record { now = New; old_loses = false; new_loses = false; message = None } }
+    ensures section_then_target { ruling_for (Some (Implicit, By 0)) Explicit false ≡ record {
+      now = New;
+      old_loses = true;
+      new_loses = false;
+      message = Some (record { level = Info; strength = Implicit });
+    } }
+    ensures lost_sections_then_target { ruling_for (Some (Implicit, Nobody)) Explicit false ≡ record {
+      now = New;
+      old_loses = false;
+      new_loses = false;
+      message = None;
+    } }
+    ensures target_then_same_uri { ruling_for (Some (Explicit, By 0)) Explicit true ≡ record {
+      now = Old;
+      old_loses = false;
+      new_loses = true;
+      message = Some (record { level = Info; strength = Explicit });
+    } }
+    ensures target_then_target { ruling_for (Some (Explicit, By 0)) Explicit false ≡ record {
+      now = NobodyNow;
+      old_loses = true;
+      new_loses = true;
+      message = Some (record { level = Warning; strength = Explicit });
+    } }
+    ensures lost_targets_then_target { ruling_for (Some (Explicit, Nobody)) Explicit true ≡ record {
+      now = NobodyNow;
+      old_loses = false;
+      new_loses = true;
+      message = Some (record { level = Warning; strength = Explicit });
+    } }
+    ensures section_then_section { ruling_for (Some (Implicit, By 0)) Implicit false ≡ record {
+      now = NobodyNow;
+      old_loses = true;
+      new_loses = true;
+      message = Some (record { level = Info; strength = Implicit });
+    } }
+    ensures lost_sections_then_section { ruling_for (Some (Implicit, Nobody)) Implicit false ≡ record {
+      now = NobodyNow;
+      old_loses = false;
+      new_loses = true;
+      message = Some (record { level = Info; strength = Implicit });
+    } }
+    ensures target_then_section { ruling_for (Some (Explicit, By 0)) Implicit false ≡ record {
+      now = Old;
+      old_loses = false;
+      new_loses = true;
+      message = Some (record { level = Info; strength = Implicit });
+    } }
+    ensures lost_targets_then_section { ruling_for (Some (Explicit, Nobody)) Implicit false ≡ record {
+      now = NobodyNow;
+      old_loses = false;
+      new_loses = true;
+      message = Some (record { level = Info; strength = Implicit });
+    } }
+{}
+
+/// How a new element gives its name, and when two elements have one URI.
+pub fn names_of_elements()
+    ensures of_a_section { rule_by (Some (record { holder = By 0; strength = Explicit; id = codes "a"; uri = None })) (item Section [] 1) ≡ record {
+      now = Old;
+      old_loses = false;
+      new_loses = true;
+      message = Some (record { level = Info; strength = Implicit });
+    } }
+    ensures of_a_footnote { (rule_by (Some (record { holder = By 0; strength = Implicit; id = codes "a"; uri = None })) (item Footnote [] 1)).now
+        ≡ New }
+    ensures one_uri { (rule_by (Some (record { holder = By 0; strength = Explicit; id = codes "a"; uri = Some (codes "u") })) (item Target
+        (says Refuri "u" ∷ []) 1)).now
+        ≡ Old }
+    ensures two_uris { (rule_by (Some (record { holder = By 0; strength = Explicit; id = codes "a"; uri = Some (codes "u") })) (item Target
+        (says Refuri "v" ∷ []) 1)).now
+        ≡ NobodyNow }
+    ensures no_uri { (rule_by (Some (record { holder = By 0; strength = Explicit; id = codes "a"; uri = None })) (item Target [] 1)).now
+        ≡ NobodyNow }
+{}
+
+/// What messages on equal names say, and where they refer to.
+pub fn messages()
+    ensures on_a_target { Prints (duplicate_name (record { level = Warning; strength = Explicit }) (item Target (says OwnName "a b"
+        ∷ []) 3) (codes "a-b-1"))
+        ("<system_message backrefs=\"a-b-1\" level=\"2\" line=\"3\" type=\"WARNING\">" ∷ "    <paragraph>"
+        ∷ "        Duplicate explicit target name: \"a b\"." ∷ []) }
+    ensures on_a_section { Prints (duplicate_name (record { level = Info; strength = Implicit }) (item Section (says OwnName "a"
+        ∷ []) 2) (codes "a-1"))
+        ("<system_message backrefs=\"a-1\" level=\"1\" line=\"2\" type=\"INFO\">" ∷ "    <paragraph>"
+        ∷ "        Duplicate implicit target name: \"a\"." ∷ []) }
+    ensures on_a_definition { Prints (duplicate_definition (item SubstitutionDefinition (says OwnName "a" ∷ []) 4))
+        ("<system_message level=\"3\" line=\"4\" type=\"ERROR\">" ∷ "    <paragraph>" ∷ "        Duplicate substitution definition name: \"a\"."
+        ∷ []) }
+{}
+
+/// Where the message on an element's name comes.
+pub fn places()
+    ensures in_a_section { Prints (with_name_messages ((0, text "here") ∷ []) (document (element Section (counts Serial 0 ∷ []) (element Title [] []
+        ∷ paragraph "b" ∷ []) ∷ [])))
+        ("<document>" ∷ "    <section>" ∷ "        <title>" ∷ "        here" ∷ "        <paragraph>" ∷ "            b" ∷ []) }
+    ensures after_messages_of_a_title { Prints (with_name_messages ((0, text "here") ∷ []) (document (element Section (counts Serial 0
+        ∷ counts TextMessages 1 ∷ []) (element Title [] [] ∷ element SystemMessage [] [] ∷ paragraph "b" ∷ []) ∷ [])))
+        ("<document>" ∷ "    <section>" ∷ "        <title>" ∷ "        <system_message line=\"1\">" ∷ "        here" ∷ "        <paragraph>"
+        ∷ "            b" ∷ []) }
+    ensures before_a_target { Prints (with_name_messages ((0, text "here") ∷ []) (document (paragraph "a" ∷ element Target (counts Serial 0 ∷ []) []
+        ∷ [])))
+        ("<document>" ∷ "    <paragraph>" ∷ "        a" ∷ "    here" ∷ "    <target>" ∷ []) }
+    ensures of_another_element { Prints (with_name_messages ((1, text "here") ∷ []) (document (element Target (counts Serial 0 ∷ []) [] ∷ [])))
+        ("<document>" ∷ "    <target>" ∷ []) }
+    ensures in_a_text { Prints (with_name_messages ((0, text "here") ∷ []) (document (element Paragraph (counts TextMessages 1
+        ∷ []) (element Target (counts Inline 1 ∷ counts Serial 0 ∷ []) [] ∷ []) ∷ element SystemMessage [] [] ∷ paragraph "b" ∷ [])))
+        ("<document>" ∷ "    <paragraph>" ∷ "        <target>" ∷ "    <system_message line=\"1\">" ∷ "    here" ∷ "    <paragraph>" ∷ "        b"
+        ∷ []) }
+    ensures texts_before_elements { Prints (with_name_messages ((0, text "first") ∷ (1, text "second")
+        ∷ []) (document (element Paragraph [] (element Target (counts Inline 1 ∷ counts Serial 0 ∷ []) [] ∷ []) ∷ element Target (counts Serial 1
+        ∷ []) [] ∷ [])))
+        ("<document>" ∷ "    <paragraph>" ∷ "        <target>" ∷ "    first" ∷ "    second" ∷ "    <target>" ∷ []) }
+    ensures of_a_term { Prints (with_name_messages ((0, text "here")
+        ∷ []) (element DefinitionListItem [] (element Term [] (element Target (counts Inline 1 ∷ counts Serial 0 ∷ []) [] ∷ [])
+        ∷ element Definition [] (paragraph "d" ∷ []) ∷ [])))
+        ("<definition_list_item>" ∷ "    <term>" ∷ "        <target>" ∷ "    <definition>" ∷ "        here" ∷ "        <paragraph>"
+        ∷ "            d" ∷ []) }
+    ensures of_a_classifier { Prints (with_name_messages ((0, text "here") ∷ []) (element DefinitionListItem [] (element Term (counts TextMessages 1
+        ∷ []) [] ∷ element Classifier [] (element Target (counts Inline 1 ∷ counts Serial 0 ∷ []) [] ∷ [])
+        ∷ element Definition [] (element SystemMessage [] [] ∷ paragraph "d" ∷ []) ∷ [])))
+        ("<definition_list_item>" ∷ "    <term>" ∷ "    <classifier>" ∷ "        <target>" ∷ "    <definition>"
+        ∷ "        <system_message line=\"1\">" ∷ "        here" ∷ "        <paragraph>" ∷ "            d" ∷ []) }
+    ensures of_a_field_name { Prints (with_name_messages ((0, text "here")
+        ∷ []) (element Field [] (element FieldName [] (element Target (counts Inline 1 ∷ counts Serial 0 ∷ []) [] ∷ []) ∷ element FieldBody [] []
+        ∷ [])))
+        ("<field>" ∷ "    <field_name>" ∷ "        <target>" ∷ "    <field_body>" ∷ "        here" ∷ []) }
+    ensures of_a_nested_line { Prints (with_name_messages ((0, text "here")
+        ∷ []) (document (element LineBlock [] (element LineBlock [] (element Line [] (element Target (counts Inline 1 ∷ counts Serial 0 ∷ []) []
+        ∷ []) ∷ []) ∷ []) ∷ paragraph "b" ∷ [])))
+        ("<document>" ∷ "    <line_block>" ∷ "        <line_block>" ∷ "            <line>" ∷ "                <target>" ∷ "    here"
+        ∷ "    <paragraph>" ∷ "        b" ∷ []) }
+    ensures of_an_attribution { Prints (with_name_messages ((0, text "here")
+        ∷ []) (document (element BlockQuote [] (element Attribution [] (element Target (counts Inline 1 ∷ counts Serial 0 ∷ []) [] ∷ []) ∷ [])
+        ∷ [])))
+        ("<document>" ∷ "    <block_quote>" ∷ "        <attribution>" ∷ "            <target>" ∷ "    here" ∷ []) }
+    ensures of_a_caption { Prints (with_name_messages ((0, text "here")
+        ∷ []) (document (element Figure [] (element Caption [] (element Target (counts Inline 1 ∷ counts Serial 0 ∷ []) [] ∷ []) ∷ []) ∷ [])))
+        ("<document>" ∷ "    <figure>" ∷ "        <caption>" ∷ "            <target>" ∷ "    here" ∷ []) }
+    ensures of_an_image_in_a_reference { Prints (with_name_messages ((0, text "here")
+        ∷ []) (document (element Reference [] (element Image (counts Serial 0 ∷ []) [] ∷ []) ∷ [])))
+        ("<document>" ∷ "    here" ∷ "    <reference>" ∷ "        <image>" ∷ []) }
+    ensures of_an_image_in_a_definition { Prints (with_name_messages ((0, text "here")
+        ∷ []) (document (element SubstitutionDefinition [] (element Reference [] (element Image (counts Serial 0 ∷ []) [] ∷ []) ∷ []) ∷ [])))
+        ("<document>" ∷ "    here" ∷ "    <substitution_definition>" ∷ "        <reference>" ∷ "            <image>" ∷ []) }
+    ensures of_an_image_in_a_figure { Prints (with_name_messages ((0, text "here")
+        ∷ []) (document (element Figure [] (element Image (counts Serial 0 ∷ []) [] ∷ []) ∷ [])))
+        ("<document>" ∷ "    <figure>" ∷ "        here" ∷ "        <image>" ∷ []) }
+{}
+
+/// What registration writes at the elements: ids, names and lost names, and what problematics and their messages have of one another.
+pub fn written()
+    ensures names { Prints (walked_node (heeded_next is_registered left_behind) (heeded_out is_registered with_given) (given (standing 0 (Some
+        (codes "a")) true ∷ standing 1 (Some (codes "a-1")) false ∷ standing 2 (Some (codes "target-1")) false
+        ∷ []) [] []) (document (element Section (says OwnName "a" ∷ []) (paragraph "b" ∷ element Target (says OwnName "a" ∷ []) [] ∷ [])
+        ∷ element Target [] [] ∷ [])))
+        ("<document>" ∷ "    <section dupnames=\"a\" ids=\"a\">" ∷ "        <paragraph>" ∷ "            b"
+        ∷ "        <target ids=\"a-1\" names=\"a\">" ∷ "    <target ids=\"target-1\">" ∷ []) }
+    ensures definition { Prints (walked_node (heeded_next is_registered left_behind) (heeded_out is_registered with_given) (given
+        (standing 0 None false ∷ []) [] []) (document (element SubstitutionDefinition (says OwnName "A" ∷ []) [] ∷ [])))
+        ("<document>" ∷ "    <substitution_definition names=\"A\">" ∷ []) }
+    ensures problematics { Prints (walked_node (heeded_next is_registered left_behind) (heeded_out is_registered with_given) (given [] (1 ∷ 2 ∷ 1
+        ∷ []) (record { id = Some 1; problematics = codes "problematic-1" ∷ codes "problematic-2" ∷ [] }
+        ∷ [])) (document (element Problematic (counts Message 0 ∷ []) [] ∷ element Problematic (counts Message 0 ∷ []) []
+        ∷ element SystemMessage (counts Message 0 ∷ []) [] ∷ [])))
+        ("<document>" ∷ "    <problematic ids=\"problematic-1\" refid=\"system-message-1\">"
+        ∷ "    <problematic ids=\"problematic-2\" refid=\"system-message-1\">"
+        ∷ "    <system_message backrefs=\"problematic-1 problematic-2\" ids=\"system-message-1\" line=\"1\">" ∷ []) }
+{}
