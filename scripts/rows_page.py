@@ -38,7 +38,7 @@ CLAUSE = re.compile(r"^    ensures (\w+) \{ (.*?) \}(?=\n    ensures|\n*\Z)", re
 SECTION = re.compile(r"\(([A-Z][\w ]+), '([^']+)'\)")
 STRINGS = re.compile(r'"((?:[^"\\]|\\.)*)"')
 TREE = re.compile(r"(Reads|Means)\s+(\[\]|\(.*?∷ \[\]\))\s*(\d*)\s*(\[\]|\(.*?∷ \[\]\))", re.S)
-ESCAPES = {"n": "\n", "t": "\t", "r": "\r"}
+ESCAPES = {"n": "\n", "t": "\t", "r": "␍"}
 
 
 def lines_of(words):

@@ -23,7 +23,7 @@ ghost use Rattle.rst_block_nodes.specs.Targets.{may_replace, target_node};
 ghost use Rattle.rst_block_nodes.specs.Texts.{message_node, section_node};
 ghost use Rattle.rst_block_nodes.specs.Whole.{Says, read_nodes};
 
-/// Texts, the messages on them, and sections.
+/// Texts, the messages on them, and sections (Markup Specification, 'Paragraphs').
 pub fn texts()
     ensures empty { Says (plain_node tag.Paragraph 2 [] ∷ preserved_node tag.Comment 3 [] ∷ [])
         ("<paragraph> 2" ∷ "<comment xml:space=\"preserve\"> 3" ∷ []) }
@@ -41,7 +41,7 @@ pub fn texts()
         ("<section own_name=\"a\" text_messages=\"3\"> 2" ∷ "    <title> 2" ∷ "        a" ∷ []) }
 {}
 
-/// Bullet lists and enumerated lists.
+/// Bullet lists and enumerated lists (Markup Specification, 'Bullet Lists').
 pub fn lists()
     ensures bullet { Says (bullet_list_node 8226 3 ∷ []) ("<bullet_list bullet=\"•\"> 3" ∷ []) }
     ensures parentheses { Says (option_to_list (option_map (λ e. enumerated_list_node e 3) (enumerator_of (codes "(1) a"))))
@@ -61,7 +61,7 @@ pub fn lists()
     ensures start { start_text (codes "ci") 101 ≡ codes "Enumerated list start value not ordinal-1: \"ci\" (ordinal 101)" }
 {}
 
-/// Options of option lists.
+/// Options of option lists (Markup Specification, 'Option Lists').
 pub fn options()
     ensures alone { Says (option_node (codes "-a") None 2 ∷ []) ("<option> 2" ∷ "    <option_string> 2" ∷ "        -a" ∷ []) }
     ensures space { Says (option_node (codes "-a") (Some (Space, codes "B")) 2 ∷ [])
@@ -72,7 +72,7 @@ pub fn options()
         ("<option> 2" ∷ "    <option_string> 2" ∷ "        -a" ∷ "    <option_argument delimiter=\"\"> 2" ∷ "        B" ∷ []) }
 {}
 
-/// Terms of definition lists, and their classifiers.
+/// Terms of definition lists, and their classifiers (Markup Specification, 'Definition Lists').
 pub fn terms()
     ensures alone { Says (term_nodes (codes "a: b :c") 2 0) ("<term> 2" ∷ "    a: b :c" ∷ []) }
     ensures classifiers { Says (term_nodes (codes "a  :   b : c") 2 0)
@@ -88,7 +88,7 @@ pub fn terms()
         ("<term text_messages=\"1\"> 2" ∷ "    a" ∷ "<classifier> 2" ∷ "    <problematic message=\"4\"> 2" ∷ "        *" ∷ "    b" ∷ []) }
 {}
 
-/// Line blocks.
+/// Line blocks (Markup Specification, 'Line Blocks').
 pub fn line_blocks()
     ensures level { Says (read_nodes (line_block 1 (record { indent = 2; line = 3; text_line = 3; text = codes "a" }
         ∷ record { indent = 2; line = 4; text_line = 5; text = codes "b\nc" } ∷ []) 0))
@@ -107,7 +107,7 @@ pub fn line_blocks()
         ∷ "    <paragraph> 4" ∷ "        Inline emphasis start-string without end-string." ∷ []) }
 {}
 
-/// Footnotes and citations, targets and substitution definitions.
+/// Footnotes and citations, targets and substitution definitions (Markup Specification, 'Explicit Markup Blocks').
 pub fn labels()
     ensures number { Says (footnote_node (codes "12") 3 ∷ []) ("<footnote mark=\"12\" own_name=\"12\"> 3" ∷ "    <label> 3" ∷ "        12" ∷ []) }
     ensures numbered { Says (footnote_node (codes "#") 3 ∷ []) ("<footnote auto=\"1\" mark=\"#\"> 3" ∷ "    <label> 3" ∷ []) }
@@ -120,7 +120,7 @@ pub fn labels()
     ensures substitution { Says (substitution_definition_node (codes "A b") 3 ∷ []) ("<substitution_definition own_name=\"A b\"> 3" ∷ []) }
 {}
 
-/// What may stand in a replacement text.
+/// What may stand in a replacement text (Directives, 'Replacement Text').
 pub fn replacements()
     ensures roles { may_replace (nodes_behind (codes "*a* **b** ``c`` :sub:`d` :sup:`e` `f` |g| h") 1 []
         (pieces_of (codes "*a* **b** ``c`` :sub:`d` :sup:`e` `f` |g| h"))) ≡ true }
@@ -132,14 +132,14 @@ pub fn replacements()
     ensures problematic { may_replace (nodes_behind (codes "*a") 1 [] (pieces_of (codes "*a"))) ≡ false }
 {}
 
-/// Parts of tables.
+/// Parts of tables (Markup Specification, 'Grid Tables').
 pub fn tables()
     ensures columns { Says (tgroup_node (3 ∷ 12 ∷ []) 2 ∷ [])
         ("<tgroup cols=\"2\"> 2" ∷ "    <colspec colwidth=\"3\"> 2" ∷ "    <colspec colwidth=\"12\"> 2" ∷ []) }
     ensures spans { Says (entry_node 1 2 0 ∷ entry_node 0 0 0 ∷ []) ("<entry morecols=\"2\" morerows=\"1\"> 0" ∷ "<entry> 0" ∷ []) }
 {}
 
-/// Admonitions, topics and program code.
+/// Admonitions, topics and program code (Directives, 'Specific Admonitions').
 pub fn directives()
     ensures tags { Says (map (λ name. directive_element name [] 1)
         (Attention ∷ Caution ∷ Danger ∷ Error ∷ Hint ∷ Important ∷ Note ∷ Tip ∷ Warning ∷ Admonition ∷ Topic ∷ []))
@@ -157,7 +157,7 @@ pub fn directives()
         ("<literal_block classes=\"code C++ a\" xml:space=\"preserve\"> 2" ∷ "    b" ∷ []) }
 {}
 
-/// Images and figures.
+/// Images and figures (Directives, 'Image').
 pub fn images()
     ensures alone { Says (image_element (codes "a.png") [] 2 false None ∷ []) ("<image uri=\"a.png\"> 2" ∷ []) }
     ensures options { Says (image_element (codes "a") ((Alt, plain (codes "b")) ∷ (Height, measured (codes "1em")) ∷ (Width, measured (codes "2%"))

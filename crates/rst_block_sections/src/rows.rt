@@ -10,7 +10,7 @@ ghost use Rattle.rst_block_nodes.specs.Whole.{Says};
 ghost use Rattle.rst_block_sections.specs.Sections.{document_of, plain};
 ghost use Rattle.rst_block_sections.specs.Written.{title};
 
-/// The levels of titles.
+/// The levels of titles (Markup Specification, 'Sections').
 pub fn levels()
     ensures none { Says (document_of (plain (plain_node Paragraph 1 (codes "a")) ∷ []) ∷ [])
         ("<document> 0" ∷ "    <paragraph> 1" ∷ "        a" ∷ []) }
@@ -37,7 +37,7 @@ pub fn levels()
         ∷ "                    F" ∷ []) }
 {}
 
-/// What sections hold.
+/// What sections hold (Markup Specification, 'Sections').
 pub fn contents()
     ensures before_the_first { Says (document_of (plain (plain_node Paragraph 1 (codes "a")) ∷ title 61 false 3 "B" [] None
         ∷ plain (plain_node Paragraph 5 (codes "c")) ∷ []) ∷ [])

@@ -11,7 +11,7 @@ ghost use Rattle.rst_tree.specs.Forest.{bare, words};
 ghost use Rattle.rst_tree.specs.declared.node.Node.TheVariants.{Element};
 ghost use Rattle.rst_tree.specs.declared.tag.Tag.TheVariants.{Emphasis, Strong, Literal, Subscript, Superscript, TitleReference};
 
-/// What roles make.
+/// What roles make (Markup Specification, 'Interpreted Text').
 pub fn roles()
     ensures text { map role_tag (codes "emphasis" ∷ codes "strong" ∷ codes "literal" ∷ []) ≡ Some Emphasis ∷ Some Strong ∷ Some Literal ∷ [] }
     ensures low_and_high { map role_tag (codes "subscript" ∷ codes "sub" ∷ codes "superscript" ∷ codes "sup" ∷ [])
@@ -26,7 +26,7 @@ pub fn roles()
     ensures by_default { Shows "`a`" ("<title_reference>" ∷ "    a" ∷ []) }
 {}
 
-/// Text between start-strings and end-strings.
+/// Text between start-strings and end-strings (Markup Specification, 'Inline Markup').
 pub fn markup()
     ensures kinds { Shows "a *b* **c** ``d``"
         ("a " ∷ "<emphasis>" ∷ "    b" ∷ " " ∷ "<strong>" ∷ "    c" ∷ " " ∷ "<literal>" ∷ "    d" ∷ []) }
@@ -40,7 +40,7 @@ pub fn markup()
     ensures line { nodes_behind (codes "*a*") 7 [] (pieces_of (codes "*a*")) ≡ Element Emphasis [] (words (codes "a") bare) 7 ∷ [] }
 {}
 
-/// References by a name and by a phrase.
+/// References by a name and by a phrase (Markup Specification, 'Hyperlink References').
 pub fn references()
     ensures name { Shows "A.b_" ("<reference name=\"A.b\" rawsource=\"A.b_\" refname=\"a.b\">" ∷ "    A.b" ∷ []) }
     ensures anonymous { Shows "a__" ("<reference anonymous=\"1\" name=\"a\" rawsource=\"a__\">" ∷ "    a" ∷ []) }
@@ -50,7 +50,7 @@ pub fn references()
     ensures uri { Shows "HTTP://A.b" ("<reference rawsource=\"HTTP://A.b\" refuri=\"HTTP://A.b\">" ∷ "    HTTP://A.b" ∷ []) }
 {}
 
-/// URIs and aliases in phrases.
+/// URIs and aliases in phrases (Markup Specification, 'Embedded URIs and Aliases').
 pub fn embedded()
     ensures uri { Shows "`A <http://b>`_"
         ("<reference name=\"A\" rawsource=\"`A <http://b>`_\" refuri=\"http://b\">" ∷ "    A"
@@ -79,7 +79,7 @@ pub fn embedded()
         ("<reference name=\"a\" rawsource=\"`a <>>`_\" refuri=\">\">" ∷ "    a" ∷ "<target inline=\"1\" own_name=\"a\" refuri=\">\">" ∷ []) }
 {}
 
-/// Phrases with angle brackets in which nothing is embedded.
+/// Phrases with angle brackets in which nothing is embedded (Markup Specification, 'Embedded URIs and Aliases').
 pub fn plain_angles()
     ensures no_white { Shows "`x<u>`_" ("<reference name=\"x<u>\" rawsource=\"`x<u>`_\" refname=\"x<u>\">" ∷ "    x<u>" ∷ []) }
     ensures white_in_front { Shows "`a < u>`_" ("<reference name=\"a < u>\" rawsource=\"`a < u>`_\" refname=\"a < u>\">" ∷ "    a < u>" ∷ []) }
@@ -91,7 +91,7 @@ pub fn plain_angles()
     ensures no_reference { Shows "`a <u>`" ("<title_reference>" ∷ "    a <u>" ∷ []) }
 {}
 
-/// Substitution references.
+/// Substitution references (Markup Specification, 'Substitution References').
 pub fn substitutions()
     ensures alone { Shows "|A  b|" ("<substitution_reference rawsource=\"|A  b|\" refname=\"A b\">" ∷ "    A  b" ∷ []) }
     ensures with_a_reference { Shows "|A|_"
@@ -100,7 +100,7 @@ pub fn substitutions()
         ("<reference anonymous=\"1\" rawsource=\"|a|__\">" ∷ "    <substitution_reference rawsource=\"|a|\" refname=\"a\">" ∷ "        a" ∷ []) }
 {}
 
-/// References to footnotes and citations.
+/// References to footnotes and citations (Markup Specification, 'Footnote References').
 pub fn labels()
     ensures digits { Shows "[0129]_" ("<footnote_reference rawsource=\"[0129]_\" refname=\"0129\">" ∷ "    0129" ∷ []) }
     ensures autonumbered { Shows "[#]_" ("<footnote_reference auto=\"1\" rawsource=\"[#]_\">" ∷ []) }
@@ -111,7 +111,7 @@ pub fn labels()
     ensures other_digits { Shows "[१]_" ("<citation_reference rawsource=\"[१]_\" refname=\"१\">" ∷ "    १" ∷ []) }
 {}
 
-/// Messages.
+/// Messages (Markup Specification, 'Error Handling').
 pub fn messages()
     ensures unended { Shows "**a *b ``c"
         ("<problematic message=\"0\">" ∷ "    **" ∷ "a " ∷ "<problematic message=\"1\">" ∷ "    *" ∷ "b " ∷ "<problematic message=\"2\">" ∷ "    ``"

@@ -12,7 +12,7 @@ ghost use Rattle.rst_inline_scan.specs.declared.piece.Kind.TheVariants.{Plain, M
 ghost use Rattle.rst_inline_scan.specs.declared.piece.Markup.TheVariants.{Strong, Emphasis, Literal, Target, Substitution, Interpreted};
 ghost use Rattle.rst_inline_scan.specs.declared.piece.Suffix.TheVariants.{Bare, Role, Named, Anonymous};
 
-/// The characters that may stand before a start and after an end.
+/// The characters that may stand before a start and after an end (Markup Specification, 'Inline markup recognition rules').
 pub fn characters()
     ensures before { filter may_precede (codes "!\"#$%&'()*+,-./:;<=>?@[\\]^_`{|}~ aZ09") ≡ codes "\"'(-/:<[{ " }
     ensures after { filter may_follow (codes "!\"#$%&'()*+,-./:;<=>?@[\\]^_`{|}~ aZ09") ≡ codes "!\"'),-./:;>?\\]} " }
@@ -20,7 +20,7 @@ pub fn characters()
     ensures after_past_ascii { filter may_follow (codes "«»“”‘’「」¡–€‿ä") ≡ codes "«»“”‘’」¡–" }
 {}
 
-/// Where a start may stand.
+/// Where a start may stand (Markup Specification, 'Inline markup recognition rules').
 pub fn starts()
     ensures inside_a_word { Cuts "a*b*" ((Plain, "a*b*") ∷ []) }
     ensures before_white { Cuts "2 * 3 * 4" ((Plain, "2 * 3 * 4") ∷ []) }
@@ -32,7 +32,7 @@ pub fn starts()
     ensures after_a_start { Cuts "**a_" ((Unended Strong, "**") ∷ (Plain, "a_") ∷ []) }
 {}
 
-/// Where an end may stand.
+/// Where an end may stand (Markup Specification, 'Inline markup recognition rules').
 pub fn ends()
     ensures inside_a_word { Cuts "*a*b*" ((Marked Emphasis Bare, "*a*b*") ∷ []) }
     ensures after_white { Cuts "*a * b*" ((Marked Emphasis Bare, "*a * b*") ∷ []) }
@@ -44,7 +44,7 @@ pub fn ends()
     ensures literal_backslash { Cuts "``a\\`` b``" ((Marked Literal Bare, "``a\\``") ∷ (Plain, " b``") ∷ []) }
 {}
 
-/// The strings of each kind of markup.
+/// The strings of each kind of markup (Markup Specification, 'Inline Markup').
 pub fn strings()
     ensures ended { Cuts "**a** *b* ``c`` _`d` |e| `f`"
         ((Marked Strong Bare, "**a**") ∷ (Plain, " ") ∷ (Marked Emphasis Bare, "*b*") ∷ (Plain, " ") ∷ (Marked Literal Bare, "``c``") ∷ (Plain, " ")
@@ -59,7 +59,7 @@ pub fn strings()
     ensures target_is_no_reference { Cuts "_`a`_" ((Unended Target, "_`") ∷ (Plain, "a`_") ∷ []) }
 {}
 
-/// What stands behind a substitution and behind interpreted text.
+/// What stands behind a substitution and behind interpreted text (Markup Specification, 'Hyperlink References').
 pub fn tails()
     ensures substitutions { Cuts "|a| |a|_ |a|__"
         ((Marked Substitution Bare, "|a|") ∷ (Plain, " ") ∷ (Marked Substitution Named, "|a|_") ∷ (Plain, " ")
@@ -76,7 +76,7 @@ pub fn tails()
     ensures role_between { Cuts "`a`:sub:`b`" ((Marked Interpreted Bare, "`a`") ∷ (Plain, ":sub:") ∷ (Marked Interpreted Bare, "`b`") ∷ []) }
 {}
 
-/// Roles in front of interpreted text.
+/// Roles in front of interpreted text (Markup Specification, 'Interpreted Text').
 pub fn roles()
     ensures one { Cuts "a :sub:`b`" ((Plain, "a ") ∷ (Marked Interpreted Bare, ":sub:`b`") ∷ []) }
     ensures two { Cuts ":sub:`a`:sup:" ((Marked Interpreted Role, ":sub:`a`:sup:") ∷ []) }
@@ -87,7 +87,7 @@ pub fn roles()
     ensures joined { Cuts ":a:b-c:`d`" ((Marked Interpreted Bare, ":a:b-c:`d`") ∷ []) }
 {}
 
-/// References by a simple name.
+/// References by a simple name (Markup Specification, 'Hyperlink References').
 pub fn references()
     ensures named { Cuts "(a_) b__." ((Plain, "(") ∷ (Reference Named, "a_") ∷ (Plain, ") ") ∷ (Reference Anonymous, "b__") ∷ (Plain, ".") ∷ []) }
     ensures joined { Cuts "a.b-c:d+e_f_" ((Reference Named, "a.b-c:d+e_f_") ∷ []) }
@@ -100,7 +100,7 @@ pub fn references()
     ensures escaped { Cuts "a\\_ \\b_" ((Plain, "a\\_ \\b_") ∷ []) }
 {}
 
-/// Simple names.
+/// Simple names (Markup Specification, 'Reference Names').
 pub fn names()
     ensures joined { is_simple_name (codes "a-1_b") ≡ true }
     ensures two_joints { is_simple_name (codes "a..b") ≡ false }
@@ -109,7 +109,7 @@ pub fn names()
     ensures empty { is_simple_name [] ≡ false }
 {}
 
-/// References to footnotes and citations.
+/// References to footnotes and citations (Markup Specification, 'Footnote References').
 pub fn labels()
     ensures forms { Cuts "[1]_ [#]_ [#a]_ [*]_ [a.b]_"
         ((Label, "[1]_") ∷ (Plain, " ") ∷ (Label, "[#]_") ∷ (Plain, " ") ∷ (Label, "[#a]_") ∷ (Plain, " ") ∷ (Label, "[*]_") ∷ (Plain, " ")
@@ -122,7 +122,7 @@ pub fn labels()
     ensures symbol_with_a_name { Cuts "[*a]_" ((Plain, "[") ∷ (Unended Emphasis, "*") ∷ (Plain, "a]_") ∷ []) }
 {}
 
-/// Standalone URIs.
+/// Standalone URIs (Markup Specification, 'Standalone Hyperlinks').
 pub fn uris()
     ensures characters { filter is_uri_char (codes "!\"#$%&'()*+,-./:;<=>?@[\\]^_`{|}~ aZ09ä") ≡ codes "!#$%&'()*+,-./:;=?@[]_~aZ09" }
     ensures trailing_characters { filter is_uri_trail (codes "!\"#$%&'()*+,-./:;<=>?@[\\]^_`{|}~") ≡ codes "!'),.:;?]" }
@@ -140,7 +140,7 @@ pub fn uris()
     ensures escaped { Cuts "\\http://a" ((Plain, "\\http://a") ∷ []) }
 {}
 
-/// A text without its escapes.
+/// A text without its escapes (Markup Specification, 'Escaping Mechanism').
 pub fn escapes()
     ensures white { unescaped (codes "a\\ b\\\nc") ≡ codes "abc" }
     ensures character { unescaped (codes "\\*a\\b") ≡ codes "*ab" }
@@ -148,7 +148,7 @@ pub fn escapes()
     ensures last { unescaped (codes "a\\") ≡ codes "a" }
 {}
 
-/// What the markup of pieces encloses.
+/// What the markup of pieces encloses (Markup Specification, 'Inline Markup').
 pub fn enclosed()
     ensures marked { contents "**a** *b* ``c`` _`d` |e|__"
         ≡ codes "a" ∷ codes " " ∷ codes "b" ∷ codes " " ∷ codes "c" ∷ codes " " ∷ codes "d" ∷ codes " " ∷ codes "e" ∷ [] }

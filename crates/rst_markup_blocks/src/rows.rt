@@ -15,7 +15,7 @@ ghost use Rattle.rst_markup_blocks.specs.declared.forms.CommentCause.TheVariants
 ghost use Rattle.rst_markup_blocks.specs.declared.forms.Explicit.TheVariants.{Anonymous as AnonymousTarget, Citation, Comment, Directive, EmptyComment, Footnote, Substitution, Target};
 ghost use Rattle.rst_markup_blocks.specs.declared.kind.Kind.TheVariants.{Adornment, Anonymous, Blank, Bullet, Doctest, Enumerator, Explicit, Field, Grid, Line, OptionItem, Quote, Simple, Text};
 
-/// What a line begins.
+/// What a line begins (Markup Specification, 'Body Elements').
 pub fn kinds()
     ensures each { map (λ t. kind_at (block (t ∷ []))) ("" ∷ " - a" ∷ "- a" ∷ "1. a" ∷ ":a: b" ∷ "-a  b" ∷ ">>> a" ∷ "| a" ∷ "+---+" ∷ "= =" ∷ ".. a"
         ∷ "__ a" ∷ "==" ∷ "a" ∷ [])
@@ -31,7 +31,7 @@ pub fn kinds()
     ensures option_with_text { kind_at (block ("-a  b" ∷ "c" ∷ [])) ≡ OptionItem }
 {}
 
-/// Where items, quotes and blocks of one kind of line end.
+/// Where items, quotes and blocks of one kind of line end (Markup Specification, 'Body Elements').
 pub fn bodies()
     ensures bullet { construct_size false (block ("- a" ∷ "  b" ∷ "" ∷ "   c" ∷ "" ∷ " d" ∷ [])) ≡ 4 }
     ensures bullet_spaces { construct_size false (block ("-   a" ∷ "  b" ∷ [])) ≡ 1 }
@@ -47,7 +47,7 @@ pub fn bodies()
     ensures definition { construct_size false (block ("a" ∷ "   b" ∷ "" ∷ " c" ∷ "d" ∷ [])) ≡ 4 }
 {}
 
-/// Where paragraphs end, with the literal blocks that they announce.
+/// Where paragraphs end, with the literal blocks that they announce (Markup Specification, 'Paragraphs').
 pub fn paragraphs()
     ensures blank { construct_size false (block ("a" ∷ "- b" ∷ "" ∷ "c" ∷ [])) ≡ 2 }
     ensures indented { construct_size false (block ("a" ∷ "b" ∷ "  c" ∷ "d" ∷ [])) ≡ 2 }
@@ -63,7 +63,7 @@ pub fn paragraphs()
     ensures short_underline { construct_size true (block ("abcd" ∷ "===" ∷ "e" ∷ "" ∷ [])) ≡ 3 }
 {}
 
-/// What a text is, by the line below it.
+/// What a text is, by the line below it (Markup Specification, 'Sections').
 pub fn texts()
     ensures wide { text_form (codes "日本") (codes "====") ≡ Title false }
     ensures wider { text_form (codes "日本a") (codes "====") ≡ Title true }
@@ -73,7 +73,7 @@ pub fn texts()
         ≡ Paragraph ∷ Paragraph ∷ Definition ∷ Definition ∷ Paragraph ∷ [] }
 {}
 
-/// What a line of one punctuation character is, by the lines below it.
+/// What a line of one punctuation character is, by the lines below it (Markup Specification, 'Sections').
 pub fn adornments()
     ensures transition { adorned_form true (record { character = 45; len = 4 }) (codes "") (Some (codes "a")) ≡ Transition }
     ensures three_alone { adorned_form true (record { character = 45; len = 3 }) (codes "") None ≡ AdornedText }
@@ -99,7 +99,7 @@ pub fn adornments()
     ensures colons_at_the_top { adorned_form true (record { character = 58; len = 2 }) (codes "a") None ≡ ShortOverline }
 {}
 
-/// How many lines a line of one punctuation character takes with it.
+/// How many lines a line of one punctuation character takes with it (Markup Specification, 'Sections').
 pub fn adorned()
     ensures transition { construct_size true (block ("----" ∷ "" ∷ "a" ∷ [])) ≡ 1 }
     ensures overlined { construct_size true (block ("===" ∷ " a" ∷ "===" ∷ "b" ∷ [])) ≡ 3 }
@@ -114,7 +114,7 @@ pub fn adorned()
     ensures colons { construct_size false (block ("::" ∷ "" ∷ "  a" ∷ "b" ∷ [])) ≡ 3 }
 {}
 
-/// Where tables end.
+/// Where tables end (Markup Specification, 'Grid Tables').
 pub fn tables()
     ensures grid { construct_size false (block ("+---+" ∷ "| a |" ∷ "+---+" ∷ "| b |" ∷ "+---+" ∷ "| c |" ∷ "" ∷ [])) ≡ 5 }
     ensures grid_before_text { construct_size false (block ("+---+" ∷ "| a |" ∷ "+---+" ∷ "b" ∷ "+---+" ∷ [])) ≡ 3 }
@@ -128,7 +128,7 @@ pub fn tables()
     ensures simple_without_border { construct_size false (block ("= =" ∷ "a b" ∷ "" ∷ "c" ∷ [])) ≡ 4 }
 {}
 
-/// The attributions of block quotes, at line 2 of a quote.
+/// The attributions of block quotes, at line 2 of a quote (Markup Specification, 'Block Quotes').
 pub fn attributions()
     ensures one_line { attribution_at 2 (block ("--  a" ∷ "" ∷ "  b" ∷ [])) ≡ Some (record { marker = 4; end = 3; indent = 0 }) }
     ensures three_lines { attribution_at 2 (block ("-- a" ∷ "   b" ∷ "   c" ∷ "" ∷ "d" ∷ [])) ≡ Some (record { marker = 3; end = 5; indent = 3 }) }
@@ -136,7 +136,7 @@ pub fn attributions()
     ensures uneven { attribution_at 2 (block ("-- a" ∷ "   b" ∷ "  c" ∷ [])) ≡ None }
 {}
 
-/// Explicit markup, and where its parts are.
+/// Explicit markup, and where its parts are (Markup Specification, 'Explicit Markup Blocks').
 pub fn explicit_markup()
     ensures footnote { explicit_of 2 (block (".. [1] a" ∷ "   b" ∷ "" ∷ "  c" ∷ "d" ∷ []))
         ≡ Footnote (record { from = 4; to = 5 }) (record { from = 2; to = 6; first_cut = 7; rest_cut = 2 }) }
@@ -164,7 +164,7 @@ pub fn explicit_markup()
         ≡ Directive (record { name = record { from = 3; to = 4 }; block = record { from = 0; to = 1; first_cut = 7; rest_cut = 0 } }) }
 {}
 
-/// Comments, and why they are some.
+/// Comments, and why they are some (Markup Specification, 'Comments').
 pub fn comments()
     ensures plain { explicit_of 0 (block ("..  a: b" ∷ "      c" ∷ "" ∷ "   d" ∷ "e" ∷ []))
         ≡ Comment (record { from = 0; to = 4; first_cut = 4; rest_cut = 3 }) Plain }
@@ -185,7 +185,7 @@ pub fn comments()
     ensures underscores_size { construct_size false (block ("__ a" ∷ " b" ∷ "" ∷ " c" ∷ [])) ≡ 2 }
 {}
 
-/// All constructs of a text.
+/// All constructs of a text (Markup Specification, 'Body Elements').
 pub fn constructs()
     ensures document { spans true (block ("" ∷ "A" ∷ "=" ∷ "" ∷ "a::" ∷ "" ∷ " b" ∷ "" ∷ "- c" ∷ "" ∷ "- d" ∷ "e" ∷ " f" ∷ []))
         ≡ record { start = 1; stop = 3 } ∷ record { start = 4; stop = 7 } ∷ record { start = 8; stop = 9 } ∷ record { start = 10; stop = 11 }

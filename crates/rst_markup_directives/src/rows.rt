@@ -25,7 +25,7 @@ ghost use Rattle.rst_markup_directives.specs.declared.measure.Alignment.TheVaria
 ghost use Rattle.rst_markup_directives.specs.declared.name.Name.TheVariants.{Admonition, Attention, Caution, Code, Danger, Error, Figure, Hint, Image, Important, Note, Replace, Tip, Topic, Warning};
 ghost use Rattle.rst_markup_directives.specs.declared.option.OptionName.TheVariants.{Align, Alt, Class, FigureClass, FigureWidth, Height, Name as NameOption, Scale, Target, Width};
 
-/// Which directive a name is of.
+/// Which directive a name is of (Markup Specification, 'Directives').
 pub fn names()
     ensures admonitions { map (λ t. directive_named (codes t) false) ("attention" ∷ "caution" ∷ "danger" ∷ "error" ∷ "hint" ∷ "important" ∷ "note"
         ∷ "tip" ∷ "warning" ∷ [])
@@ -40,7 +40,7 @@ pub fn names()
         ≡ [] }
 {}
 
-/// Which options the directives have.
+/// Which options the directives have (Directives, 'Common Options').
 pub fn option_names()
     ensures each { map (λ t. option_named (codes t)) ("alt" ∷ "height" ∷ "width" ∷ "scale" ∷ "align" ∷ "target" ∷ "class" ∷ "name" ∷ "figwidth"
         ∷ "figclass" ∷ [])
@@ -58,7 +58,7 @@ pub fn option_names()
     ensures replace { filter (λ o. has_option Replace o) (Alt ∷ Class ∷ NameOption ∷ []) ≡ [] }
 {}
 
-/// Measures, scales and alignments.
+/// Measures, scales and alignments (Markup Specification, 'Length Units').
 pub fn measures()
     ensures units { filter (λ unit. is_some (measure_of (codes "2" ++ codes unit) false false)) ("" ∷ "em" ∷ "ex" ∷ "px" ∷ "in" ∷ "cm" ∷ "mm" ∷ "pt"
         ∷ "pc" ∷ "%" ∷ "PX" ∷ "rem" ∷ "e" ∷ [])
@@ -79,7 +79,7 @@ pub fn measures()
     ensures exact_words { filter (λ t. is_some (alignment_of (codes t) true)) ("Left" ∷ "centre" ∷ "left right" ∷ "" ∷ []) ≡ [] }
 {}
 
-/// What the text of a target leads to.
+/// What the text of a target leads to (Markup Specification, 'Hyperlink Targets').
 pub fn targets()
     ensures name { target_value (codes "a-b_") ≡ Some (named (codes "a-b")) }
     ensures phrase { target_value (codes "`A  b\\_`_") ≡ Some (named (codes "A  b_")) }
@@ -97,7 +97,7 @@ pub fn targets()
     ensures nothing_left { map (λ t. target_value (codes t)) ("" ∷ "\\" ∷ "\\ " ∷ []) ≡ None ∷ None ∷ None ∷ [] }
 {}
 
-/// What the values of options mean.
+/// What the values of options mean (Directives, 'Common Options').
 pub fn values()
     ensures classes { ids_of (codes "Wide  my_table") ≡ Some (codes "wide" ∷ codes "my-table" ∷ []) }
     ensures no_classes { map (λ t. ids_of (codes t)) ("" ∷ "a 1" ∷ []) ≡ None ∷ None ∷ [] }
@@ -112,7 +112,7 @@ pub fn values()
     ensures target { map (λ t. value_of Image Target (codes t)) ("a_" ∷ "" ∷ []) ≡ Some (linked (named (codes "a")) (codes "a_")) ∷ None ∷ [] }
 {}
 
-/// The fields of an option block.
+/// The fields of an option block (Markup Specification, 'Directives').
 pub fn option_blocks()
     ensures values { fields_in (codes ":a:  b" ∷ codes "    c" ∷ codes "  d" ∷ codes ":e f:" ∷ codes "   g" ∷ codes ":h:" ∷ [])
         ≡ Some ((codes "a", codes "b\n  c\nd") ∷ (codes "e f", codes "g") ∷ (codes "h", []) ∷ []) }
@@ -120,7 +120,7 @@ pub fn option_blocks()
     ensures indented_first { fields_in (codes "  b" ∷ codes ":a: b" ∷ []) ≡ None }
 {}
 
-/// The argument, options and content of a directive's block.
+/// The argument, options and content of a directive's block (Markup Specification, 'Directives').
 pub fn blocks()
     ensures content_alone { read_block Note false (record { from = 0; to = 3; first_cut = 9; rest_cut = 3 }) (block ("a" ∷ "" ∷ ":class: b" ∷ []))
         ≡ Ok (record {
@@ -199,7 +199,7 @@ pub fn blocks()
         }) }
 {}
 
-/// What is wrong with an option or an argument, of which the first counts.
+/// What is wrong with an option or an argument, of which the first counts (Markup Specification, 'Directives').
 pub fn wrong_blocks()
     ensures two_languages { read_block Code false (record { from = 0; to = 2; first_cut = 9; rest_cut = 3 }) (block ("a" ∷ "b" ∷ []))
         ≡ Err many_arguments }
@@ -217,7 +217,7 @@ pub fn wrong_blocks()
         ≡ Err option_block }
 {}
 
-/// Where a directive may stand, and with which content.
+/// Where a directive may stand, and with which content (Markup Specification, 'Directives').
 pub fn places()
     ensures unknown_name { permitted None Body ≡ Err Unknown }
     ensures unknown_in_a_definition { permitted None Substitution ≡ Err NotInSubstitution }
@@ -233,7 +233,7 @@ pub fn places()
     ensures two_paragraphs { content_fault Replace false Body false ≡ Some (Inside NotOneParagraph) }
 {}
 
-/// Whole directives.
+/// Whole directives (Markup Specification, 'Directives').
 pub fn directives()
     ensures figure { directive_at false (block (".. Figure:: a.png" ∷ "   :align: left" ∷ "" ∷ "   b"
         ∷ [])) 0 (record { name = record { from = 3; to = 9 }; block = record { from = 0; to = 4; first_cut = 12; rest_cut = 3 } }) Body false
@@ -267,7 +267,7 @@ pub fn directives()
         ≡ wrong (inside (unknown (codes "foo"))) (record { from = 0; to = 2; first_cut = 0; rest_cut = 0 }) }
 {}
 
-/// The texts of messages.
+/// The texts of messages (Markup Specification, 'Directives').
 pub fn messages()
     ensures unknown_name { fault_text unknown_directive (codes "foo") ≡ codes "Unknown directive type \"foo\"." }
     ensures unknown_option { fault_text (inside (unknown (codes "bar"))) (codes "Note")

@@ -24,7 +24,7 @@ ghost use Rattle.rst_markup_lines.specs.declared.explicit_marks.SubstitutionMark
 ghost use Rattle.rst_markup_lines.specs.declared.explicit_marks.TargetMark.TheVariants.{Anonymous, Named};
 ghost use Rattle.rst_markup_lines.specs.declared.option.Delimiter.TheVariants.{Equals, Nothing, Space};
 
-/// What begins an item of a bullet list, a doctest block, and a line of a line block.
+/// What begins an item of a bullet list, a doctest block, and a line of a line block (Markup Specification, 'Bullet Lists').
 pub fn bullets()
     ensures six { filter (λ c. is_some (bullet (c ∷ codes " a"))) (codes "*+-.o#=·•‣⁃") ≡ codes "*+-•‣⁃" }
     ensures spaces { bullet (codes "*   a") ≡ Some (record { cut = 4; bare = false }) }
@@ -39,7 +39,7 @@ pub fn bullets()
     ensures substitution { line_bar (codes "|a| b") ≡ None }
 {}
 
-/// Enumerators: what stands round the ordinal, the ordinal, and the marker.
+/// Enumerators: what stands round the ordinal, the ordinal, and the marker (Markup Specification, 'Enumerated Lists').
 pub fn enumerators()
     ensures period { enumerator_of (codes "12. a")
         ≡ Some (record { format = Period; written = record { ordinals = Arabic 12; len = 2 }; marker = record { cut = 4; bare = false } }) }
@@ -63,7 +63,7 @@ pub fn enumerators()
     ensures without_space { filter (λ t. is_some (enumerator_of (codes t))) ("1.a" ∷ "1)a" ∷ "(1)a" ∷ "1 . a" ∷ []) ≡ [] }
 {}
 
-/// Roman numerals.
+/// Roman numerals (Markup Specification, 'Enumerated Lists').
 pub fn numerals()
     ensures ones { map (λ t. roman Lower (codes t)) ("iii" ∷ "iv" ∷ "v" ∷ "viii" ∷ "ix" ∷ []) ≡ Some 3 ∷ Some 4 ∷ Some 5 ∷ Some 8 ∷ Some 9 ∷ [] }
     ensures tens { map (λ t. roman Lower (codes t)) ("xl" ∷ "lx" ∷ "xc" ∷ "xcix" ∷ []) ≡ Some 40 ∷ Some 60 ∷ Some 90 ∷ Some 99 ∷ [] }
@@ -74,7 +74,7 @@ pub fn numerals()
     ensures other_case { roman Upper (codes "xi") ≡ None }
 {}
 
-/// How a list's first ordinal is read, and what an ordinal is in a sequence.
+/// How a list's first ordinal is read, and what an ordinal is in a sequence (Markup Specification, 'Enumerated Lists').
 pub fn readings()
     ensures lower_i { option_map (λ e. first_reading e.written.ordinals) (enumerator_of (codes "i. a"))
         ≡ Some (record { sequence = LowerRoman; ordinal = 1 }) }
@@ -98,7 +98,7 @@ pub fn readings()
     ensures auto_in_numbers { ordinal_in Numbers Auto ≡ None }
 {}
 
-/// Which lines go on with the list of an enumerator.
+/// Which lines go on with the list of an enumerator (Markup Specification, 'Enumerated Lists').
 pub fn next_items()
     ensures number { option_map (λ e. filter (λ t. begins_next e (codes t)) ("1. b" ∷ "2. b" ∷ "02. b" ∷ "3. b" ∷ "2." ∷ "2) b" ∷ "(2) b" ∷ "ii. b"
         ∷ "b. b" ∷ "#. b" ∷ [])) (enumerator_of (codes "1. a"))
@@ -116,7 +116,7 @@ pub fn next_items()
         ≡ Some ("#. b" ∷ []) }
 {}
 
-/// The names of fields.
+/// The names of fields (Markup Specification, 'Field Lists').
 pub fn fields()
     ensures two_words { field_of (codes ":a b:  c")
         ≡ Some (record { name = record { from = 1; to = 4 }; marker = record { cut = 7; bare = false } }) }
@@ -134,7 +134,7 @@ pub fn fields()
     ensures unclosed { filter (λ t. is_some (field_of (codes t))) (":a" ∷ ":a:b" ∷ ":a\\:" ∷ "a: b" ∷ []) ≡ [] }
 {}
 
-/// The options of an option list's item.
+/// The options of an option list's item (Markup Specification, 'Option Lists').
 pub fn options()
     ensures listed { options_in (codes "-a, --long=X, /V <y z>  d")
         ≡ record { string = record { from = 0; to = 2 }; argument = None }
@@ -156,7 +156,7 @@ pub fn options()
         ≡ "-a, -b" ∷ [] }
 {}
 
-/// Lines of one punctuation character, the borders of tables, and the colons at a paragraph's end.
+/// Lines of one punctuation character, the borders of tables, and the colons at a paragraph's end (Markup Specification, 'Sections').
 pub fn lines()
     ensures adornment { adornment_of (codes "====") ≡ Some (record { character = 61; len = 4 }) }
     ensures one { adornment_of (codes "-") ≡ Some (record { character = 45; len = 1 }) }
@@ -172,13 +172,13 @@ pub fn lines()
         ≡ "a::" ∷ "::" ∷ "a:::" ∷ "a\\\\::" ∷ [] }
 {}
 
-/// The marks of attributions.
+/// The marks of attributions (Markup Specification, 'Block Quotes').
 pub fn attributions()
     ensures dashes { map (λ t. attribution_of (codes t)) ("-- a" ∷ "---a" ∷ "—   a" ∷ "—- a" ∷ []) ≡ Some 3 ∷ Some 3 ∷ Some 4 ∷ Some 1 ∷ [] }
     ensures others { filter (λ t. is_some (attribution_of (codes t))) ("- a" ∷ "---- a" ∷ "– a" ∷ "--" ∷ "---" ∷ "—" ∷ "a -- b" ∷ []) ≡ [] }
 {}
 
-/// What begins explicit markup, and a directive.
+/// What begins explicit markup, and a directive (Markup Specification, 'Explicit Markup Blocks').
 pub fn explicit_marks()
     ensures two_dots { dots (codes "..  a") ≡ Some (record { cut = 4; bare = false }) }
     ensures other_dots { map (λ t. dots (codes t)) (".." ∷ "..a" ∷ "... a" ∷ ". a" ∷ [])
@@ -195,7 +195,7 @@ pub fn explicit_marks()
         ≡ [] }
 {}
 
-/// The labels of footnotes and citations.
+/// The labels of footnotes and citations (Markup Specification, 'Footnotes').
 pub fn labels()
     ensures number { label_of (codes "[12] a") ≡ Some (record { kind = Footnote; len = 2; marker = record { cut = 5; bare = false } }) }
     ensures named { label_of (codes "[#a-b]") ≡ Some (record { kind = Footnote; len = 4; marker = record { cut = 6; bare = true } }) }
@@ -208,7 +208,7 @@ pub fn labels()
         ≡ [] }
 {}
 
-/// The names of targets.
+/// The names of targets (Markup Specification, 'Hyperlink Targets').
 pub fn targets()
     ensures plain { target_of (codes "_a b: c") ≡ Some (Named 1 3 (record { cut = 6; bare = false })) }
     ensures colon_inside { target_of (codes "_a:b:") ≡ Some (Named 1 3 (record { cut = 5; bare = true })) }
@@ -224,7 +224,7 @@ pub fn targets()
         ≡ [] }
 {}
 
-/// The names of substitution definitions.
+/// The names of substitution definitions (Markup Specification, 'Substitution Definitions').
 pub fn substitutions()
     ensures named { substitution_of (codes "|a b|  image:: c") ≡ Some (Defined 3 (record { cut = 7; bare = false })) }
     ensures bar_inside { substitution_of (codes "|a|b| image:: c") ≡ Some (Defined 3 (record { cut = 6; bare = false })) }

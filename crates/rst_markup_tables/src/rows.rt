@@ -9,7 +9,7 @@ ghost use Rattle.rst_markup_tables.specs.Tiling.{grid_table};
 ghost use Rattle.rst_markup_tables.specs.declared.results.TableDetail.TheVariants.{BottomBorderMissing, RightEdgeBroken, TwoHeadRules, ParseIncomplete, BorderMismatch, BottomMissing, ColumnSpan, Margin};
 ghost use Rattle.rst_markup_tables.specs.declared.results.TableResult.TheVariants.{Table};
 
-/// The cells of grid tables.
+/// The cells of grid tables (Markup Specification, 'Grid Tables').
 pub fn grid_cells()
     ensures one { Grids ("+---+" ∷ "| a |" ∷ "+---+" ∷ []) (3 ∷ []) 0 ((plain 2 ("a" ∷ []) ∷ []) ∷ []) 3 }
     ensures two_columns { Grids ("+---+---+" ∷ "| a | b |" ∷ "+---+---+" ∷ []) (3 ∷ 3 ∷ []) 0
@@ -23,7 +23,7 @@ pub fn grid_cells()
     ensures place { grid_table (block ("x" ∷ "" ∷ "+---+" ∷ "| a |" ∷ "+---+" ∷ [])) 2 ≡ Table (3 ∷ []) 0 ((plain 4 ("a" ∷ []) ∷ []) ∷ []) 5 }
 {}
 
-/// The heads of grid tables.
+/// The heads of grid tables (Markup Specification, 'Grid Tables').
 pub fn grid_heads()
     ensures one { Grids ("+---+" ∷ "| a |" ∷ "+===+" ∷ "| b |" ∷ "+---+" ∷ []) (3 ∷ []) 1
         ((plain 2 ("a" ∷ []) ∷ []) ∷ (plain 4 ("b" ∷ []) ∷ []) ∷ []) 5 }
@@ -36,7 +36,7 @@ pub fn grid_heads()
         ((cell 1 0 2 (" a" ∷ "=-=" ∷ " b" ∷ []) ∷ []) ∷ [] ∷ []) 5 }
 {}
 
-/// Cells of several rows and columns, and the bounds of rows and columns, in grid tables.
+/// Cells of several rows and columns, and the bounds of rows and columns, in grid tables (Markup Specification, 'Grid Tables').
 pub fn grid_spans()
     ensures rows { Grids ("+---+---+" ∷ "| a | b |" ∷ "|   +---+" ∷ "|   | c |" ∷ "+---+---+" ∷ []) (3 ∷ 3 ∷ []) 0
         ((cell 1 0 2 ("a" ∷ "" ∷ "" ∷ []) ∷ plain 2 ("b" ∷ []) ∷ []) ∷ (plain 4 ("c" ∷ []) ∷ []) ∷ []) 5 }
@@ -54,7 +54,7 @@ pub fn grid_spans()
         ((cell 1 0 2 ("" ∷ "" ∷ "a" ∷ []) ∷ []) ∷ [] ∷ []) 5 }
 {}
 
-/// Where grid tables end.
+/// Where grid tables end (Markup Specification, 'Grid Tables').
 pub fn grid_ends()
     ensures last_border { Grids ("+---+" ∷ "| a |" ∷ "+---+" ∷ "+---+" ∷ "| b |" ∷ []) (3 ∷ []) 0
         ((plain 2 ("a" ∷ []) ∷ []) ∷ (plain 4 [] ∷ []) ∷ []) 4 }
@@ -62,7 +62,7 @@ pub fn grid_ends()
     ensures blank_line { Grids ("+---+" ∷ "| a |" ∷ "+---+" ∷ "" ∷ "+---+" ∷ []) (3 ∷ []) 0 ((plain 2 ("a" ∷ []) ∷ []) ∷ []) 3 }
 {}
 
-/// What can be wrong with grid tables.
+/// What can be wrong with grid tables (Markup Specification, 'Grid Tables').
 pub fn grid_faults()
     ensures no_bottom_border { BreaksGrid ("+---+" ∷ "| a |" ∷ "+--" ∷ []) BottomBorderMissing 3 }
     ensures border_in_the_second_line { BreaksGrid ("+---+" ∷ "+---+" ∷ []) BottomBorderMissing 2 }
@@ -72,7 +72,7 @@ pub fn grid_faults()
     ensures no_tiling { BreaksGrid ("+---+---+" ∷ "| a | b |" ∷ "+---+   |" ∷ "| c   d |" ∷ "+---+---+" ∷ []) ParseIncomplete 5 }
 {}
 
-/// The rows of simple tables.
+/// The rows of simple tables (Markup Specification, 'Simple Tables').
 pub fn simple_rows()
     ensures two_lines { Simples ("== ==" ∷ "a  b c" ∷ "   d" ∷ "== ==" ∷ []) (2 ∷ 3 ∷ []) 0
         ((plain 2 ("a" ∷ "" ∷ []) ∷ plain 2 ("b c" ∷ "d" ∷ []) ∷ []) ∷ []) 4 }
@@ -91,7 +91,7 @@ pub fn simple_rows()
         ((plain 2 ("a" ∷ "" ∷ []) ∷ plain 2 ("b" ∷ "c" ∷ []) ∷ []) ∷ []) 4 }
 {}
 
-/// The heads of simple tables.
+/// The heads of simple tables (Markup Specification, 'Simple Tables').
 pub fn simple_heads()
     ensures one { Simples ("== ==" ∷ "a  b" ∷ "== ==" ∷ "c  d" ∷ "== ==" ∷ []) (2 ∷ 2 ∷ []) 1
         ((plain 2 ("a" ∷ []) ∷ plain 2 ("b" ∷ []) ∷ []) ∷ (plain 4 ("c" ∷ []) ∷ plain 4 ("d" ∷ []) ∷ []) ∷ []) 5 }
@@ -103,7 +103,7 @@ pub fn simple_heads()
         ((plain 2 ("a" ∷ []) ∷ plain 2 ("b" ∷ []) ∷ []) ∷ []) 4 }
 {}
 
-/// Cells of several columns in simple tables.
+/// Cells of several columns in simple tables (Markup Specification, 'Simple Tables').
 pub fn simple_spans()
     ensures rule { Simples ("== == ==" ∷ "a  b  c" ∷ "-- -----" ∷ "d  e" ∷ "== == ==" ∷ []) (2 ∷ 2 ∷ 2 ∷ []) 0
         ((plain 2 ("a" ∷ []) ∷ cell 0 1 2 ("b  c" ∷ []) ∷ []) ∷ (plain 4 ("d" ∷ []) ∷ plain 4 ("e" ∷ []) ∷ plain 4 ("" ∷ []) ∷ []) ∷ []) 5 }
@@ -113,7 +113,7 @@ pub fn simple_spans()
         ((cell 0 1 2 ("a bbbbbbbb" ∷ []) ∷ []) ∷ (plain 4 ("c" ∷ []) ∷ plain 4 ("d" ∷ []) ∷ []) ∷ []) 5 }
 {}
 
-/// What can be wrong with simple tables.
+/// What can be wrong with simple tables (Markup Specification, 'Simple Tables').
 pub fn simple_faults()
     ensures margin { BreaksSimple ("== ==" ∷ "abc d" ∷ "== ==" ∷ []) (Margin 2) 3 }
     ensures margin_in_the_second_line { BreaksSimple ("== ==" ∷ "a  b" ∷ "  c" ∷ "== ==" ∷ []) (Margin 3) 4 }
@@ -127,7 +127,7 @@ pub fn simple_faults()
     ensures head_border_alone { BreaksSimple ("== ==" ∷ "a  b" ∷ "== ==" ∷ "c  d" ∷ []) BottomMissing 3 }
 {}
 
-/// What is said of malformed tables.
+/// What is said of malformed tables (Markup Specification, 'Simple Tables').
 pub fn messages()
     ensures grid { map malformed_text (BottomBorderMissing ∷ RightEdgeBroken ∷ TwoHeadRules 3 12 ∷ ParseIncomplete ∷ [])
         ≡ codes "Malformed table.\nBottom border missing."

@@ -15,7 +15,7 @@ ghost use Rattle.rst_transform_links.specs.Linkings.{linked_of};
 ghost use Rattle.rst_transform_links.specs.Links.{changed_document};
 ghost use Rattle.rst_transform_links.specs.Outcomes.{adds};
 
-/// The elements that references join, each with the place of the one that it stands in.
+/// The elements that references join, each with the place of the one that it stands in (Markup Specification, 'Hyperlink References').
 pub fn linked()
     ensures in_order { map (λ one. one.1) (linked_of (document_of (element Footnote [] (element Label [] []
         ∷ element Paragraph [] (element Reference [] [] ∷ []) ∷ []) ∷ element Target [] [] ∷ [])))
@@ -25,7 +25,7 @@ pub fn linked()
         ≡ None ∷ None ∷ Some 1 ∷ Some 2 ∷ Some 1 ∷ [] }
 {}
 
-/// References without names find the footnotes of their kind in order.
+/// References without names find the footnotes of their kind in order (Markup Specification, 'Auto-Numbered Footnotes').
 pub fn footnotes_by_order()
     ensures each_kind { found_by_order (linked_of (document_of (element FootnoteReference (says Auto "1" ∷ []) []
         ∷ element FootnoteReference (says Auto "*" ∷ []) [] ∷ element FootnoteReference (says Auto "1" ∷ []) [] ∷ element Footnote (says Mark "*"
@@ -40,7 +40,7 @@ pub fn footnotes_by_order()
         ≡ None ∷ Some 4 ∷ None ∷ None ∷ None ∷ [] }
 {}
 
-/// Where targets and names lead.
+/// Where targets and names lead (Markup Specification, 'Hyperlink Targets').
 pub fn leads()
     ensures to_a_uri { lead_of (element Target (says Refid "a" ∷ says Refuri "u" ∷ []) []) ≡ Some (says Refuri "u") }
     ensures to_an_id { lead_of (element Target (lists Ids ("b" ∷ []) ∷ says Refid "a" ∷ []) []) ≡ Some (says Refid "a") }
@@ -50,7 +50,7 @@ pub fn leads()
     ensures to_its_own_uri { name_lead None (Some (codes "u")) (codes "x") ≡ says Refuri "u" }
 {}
 
-/// The places of the elements that hold names.
+/// The places of the elements that hold names (Markup Specification, 'Hyperlink Targets').
 pub fn holders()
     ensures last_of_a_number { holder_place 2 (linked_of (document_of (element Target (counts Serial 0 ∷ []) [] ∷ element Target (counts Serial 1
         ∷ []) [] ∷ element Target (counts Serial 1 ∷ []) [] ∷ []))) (By 1)
@@ -60,7 +60,7 @@ pub fn holders()
         ≡ None ∷ None ∷ None ∷ [] }
 {}
 
-/// What becomes of the elements.
+/// What becomes of the elements (Markup Specification, 'Hyperlink Targets').
 pub fn outcomes()
     ensures addition { Shows (changed_document (adds (Some (says Refuri "u")) ∷ Stays (record { attr = None; shown = Some (codes "1") })
         ∷ []) (document_of (element Reference [] (text "a" ∷ []) ∷ element Label [] (text "x" ∷ []) ∷ [])))

@@ -21,7 +21,7 @@ ghost use Rattle.rst_transform_names.specs.Rulings.{ruling_for};
 ghost use Rattle.rst_transform_names.specs.Trees.{counts, document, element, lists, paragraph, says, text, Prints};
 ghost use Rattle.rst_transform_names.specs.Written.{given, left_behind, with_given};
 
-/// What a name gives as an id, and the numbers behind ids that are taken.
+/// What a name gives as an id, and the numbers behind ids that are taken (Directives, 'Identifier Normalization').
 pub fn ids()
     ensures of_a_name { wanted_id (codes "1. To be") ≡ codes "to-be" }
     ensures of_no_name { wanted_id [] ≡ [] }
@@ -38,7 +38,7 @@ pub fn ids()
     ensures too_large { number_in (codes "18446744073709551616") ≡ None }
 {}
 
-/// What becomes of equal names: those of sections are implicit, all others explicit.
+/// What becomes of equal names: those of sections are implicit, all others explicit (Markup Specification, 'Implicit Hyperlink Targets').
 pub fn equal_names()
     ensures first { ruling_for None Implicit false ≡ record { now = New; old_loses = false; new_loses = false; message = None } }
     ensures section_then_target { ruling_for (Some (Implicit, By 0)) Explicit false ≡ record {
@@ -97,7 +97,7 @@ pub fn equal_names()
     } }
 {}
 
-/// How a new element gives its name, and when two elements have one URI.
+/// How a new element gives its name, and when two elements have one URI (Markup Specification, 'Reference Names').
 pub fn names_of_elements()
     ensures of_a_section { rule_by (Some (record { holder = By 0; strength = Explicit; id = codes "a"; uri = None })) (item Section [] 1) ≡ record {
       now = Old;
@@ -117,7 +117,7 @@ pub fn names_of_elements()
         ≡ NobodyNow }
 {}
 
-/// What messages on equal names say, and where they refer to.
+/// What messages on equal names say, and where they refer to (Markup Specification, 'Implicit Hyperlink Targets').
 pub fn messages()
     ensures on_a_target { Prints (duplicate_name (record { level = Warning; strength = Explicit }) (item Target (says OwnName "a b"
         ∷ []) 3) (codes "a-b-1"))
@@ -132,7 +132,7 @@ pub fn messages()
         ∷ []) }
 {}
 
-/// Where the message on an element's name comes.
+/// Where the message on an element's name comes (Markup Specification, 'Implicit Hyperlink Targets').
 pub fn places()
     ensures in_a_section { Prints (with_name_messages ((0, text "here") ∷ []) (document (element Section (counts Serial 0 ∷ []) (element Title [] []
         ∷ paragraph "b" ∷ []) ∷ [])))
@@ -191,7 +191,8 @@ pub fn places()
         ("<document>" ∷ "    <figure>" ∷ "        here" ∷ "        <image>" ∷ []) }
 {}
 
-/// What registration writes at the elements: ids, names and lost names, and what problematics and their messages have of one another.
+/// What registration writes at the elements: ids, names and lost names, and what problematics and their messages have of one another (Document
+/// Tree, 'Attribute Reference').
 pub fn written()
     ensures names { Prints (walked_node (heeded_next is_registered left_behind) (heeded_out is_registered with_given) (given (standing 0 (Some
         (codes "a")) true ∷ standing 1 (Some (codes "a-1")) false ∷ standing 2 (Some (codes "target-1")) false

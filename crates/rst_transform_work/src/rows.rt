@@ -13,7 +13,7 @@ ghost use Rattle.rst_transform_work.specs.Problematics.{problematic_attrs, refer
 ghost use Rattle.rst_transform_work.specs.Reading.{identifier, is_title, may_precede, name_in};
 ghost use Rattle.rst_transform_work.specs.Reports.{next_report, report_node};
 
-/// Messages, and the problematics that belong to them.
+/// Messages, and the problematics that belong to them (Markup Specification, 'Error Handling').
 pub fn messages()
     ensures first_number { (next_report 3 [] Error 7 (codes "a") true).number ≡ 3 }
     ensures next_number { (next_report 3 (next_report 3 [] Error 7 (codes "a") true ∷ []) Warning 9 (codes "b") false).number ≡ 4 }
@@ -27,7 +27,7 @@ pub fn messages()
         ("<problematic ids=\"problematic-1\" refid=\"system-message-1\">" ∷ []) }
 {}
 
-/// Ids and names that go to an element: they stand after its own.
+/// Ids and names that go to an element: they stand after its own (Document Tree, 'Attribute Reference').
 pub fn passed_on()
     ensures after_its_own { Prints (named (lists Ids ("a" ∷ "b" ∷ []) ∷ lists Names ("c" ∷ []) ∷ []) (element Paragraph (lists Ids ("x" ∷ [])
         ∷ lists Names ("y" ∷ []) ∷ []) []))
@@ -37,7 +37,7 @@ pub fn passed_on()
     ensures to_none { Prints (named (lists Ids ("a b" ∷ []) ∷ []) (element Paragraph [] [])) ("<paragraph ids=\"a\\ b\">" ∷ []) }
 {}
 
-/// What may stand before the lone section of a document, and what a title is.
+/// What may stand before the lone section of a document, and what a title is (Markup Specification, 'Document Title').
 pub fn before_a_section()
     ensures allowed { map may_precede (element Comment [] [] ∷ element Target [] [] ∷ element SubstitutionDefinition [] []
         ∷ element SystemMessage [] [] ∷ [])
@@ -48,7 +48,7 @@ pub fn before_a_section()
         ≡ true ∷ true ∷ false ∷ false ∷ [] }
 {}
 
-/// The name and the id that a text gives.
+/// The name and the id that a text gives (Markup Specification, 'Reference Names').
 pub fn names()
     ensures name { name_in (codes "A  b") ≡ codes "a b" }
     ensures id { identifier (codes "X y: 1") ≡ codes "x-y-1" }

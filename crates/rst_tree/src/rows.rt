@@ -22,7 +22,7 @@ ghost use Rattle.rst_tree.specs.declared.note.Level.TheVariants as level;
 ghost use Rattle.rst_tree.specs.declared.phrase.Phrase.TheVariants as phrase;
 ghost use Rattle.rst_tree.specs.declared.tag.Tag.TheVariants as tag;
 
-/// Elements and texts.
+/// Elements and texts (Document Tree, 'Element Reference').
 pub fn trees()
     ensures nested { print_of (Element tag.Document [] (element tag.Paragraph [] (words (codes "a") bare) 1 (words (codes "b") bare)) 1)
         ≡ written ("<document>" ∷ "    <paragraph>" ∷ "        a" ∷ "    b" ∷ []) }
@@ -33,7 +33,7 @@ pub fn trees()
         ≡ written ("<paragraph>" ∷ "    a" ∷ "    b" ∷ []) }
 {}
 
-/// Attributes.
+/// Attributes (Document Tree, 'Attribute Reference').
 pub fn attributes()
     ensures text { shown_attr (attr key.Name (Text (codes "a\"<&>\\ b"))) ≡ codes " name=\"a\"<&>\\ b\"" }
     ensures empty_text { shown_attr (attr key.Alt (Text [])) ≡ codes " alt=\"\"" }
@@ -44,7 +44,7 @@ pub fn attributes()
     ensures hidden { flat_map (λ k. shown_attr (attr k (Number 1))) (key.Inline ∷ key.Message ∷ key.OwnName ∷ key.Rawsource ∷ key.Refname ∷ []) ≡ [] }
 {}
 
-/// Names of elements and attributes.
+/// Names of elements and attributes (Document Tree, 'Element Reference').
 pub fn names()
     ensures elements_to_label { map tag_name
         (tag.Address ∷ tag.Admonition ∷ tag.Attention ∷ tag.Attribution ∷ tag.Author ∷ tag.Authors ∷ tag.BlockQuote ∷ tag.BulletList
@@ -84,7 +84,7 @@ pub fn names()
         ∷ codes "source" ∷ codes "start" ∷ codes "suffix" ∷ codes "title" ∷ codes "type" ∷ codes "uri" ∷ codes "width" ∷ codes "xml:space" ∷ [] }
 {}
 
-/// Messages.
+/// Messages (Document Tree, 'Element Reference').
 pub fn messages()
     ensures levels { map level_name (level.Info ∷ level.Warning ∷ level.Error ∷ level.Severe ∷ [])
         ≡ codes "INFO" ∷ codes "WARNING" ∷ codes "ERROR" ∷ codes "SEVERE" ∷ [] }

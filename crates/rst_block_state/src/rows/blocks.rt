@@ -4,7 +4,7 @@
 ghost use Rattle.std.specs.Prelude.{[], ◌∷◌};
 ghost use Rattle.rst_block_state.specs.Reads.{Means, Reads};
 
-/// Indented literal blocks.
+/// Indented literal blocks (Markup Specification, 'Indented Literal Blocks').
 pub fn literals()
     ensures indented { Means ("a::" ∷ "" ∷ "    b" ∷ "   c" ∷ "" ∷ "     d" ∷ "" ∷ "e" ∷ []) 0
         ("<document> 0" ∷ "    <paragraph> 1" ∷ "        a:" ∷ "    <literal_block xml:space=\"preserve\"> 3" ∷ "         b" ∷ "        c"
@@ -48,7 +48,7 @@ pub fn literals()
         ("<document>" ∷ "    <paragraph>" ∷ "        a" ∷ "    <literal_block xml:space=\"preserve\">" ∷ "        b" ∷ []) }
 {}
 
-/// Quoted literal blocks.
+/// Quoted literal blocks (Markup Specification, 'Quoted Literal Blocks').
 pub fn quoted_literals()
     ensures lines { Means ("a::" ∷ "" ∷ "> b" ∷ ">c" ∷ "" ∷ "d" ∷ []) 0
         ("<document> 0" ∷ "    <paragraph> 1" ∷ "        a:" ∷ "    <literal_block xml:space=\"preserve\"> 3" ∷ "        > b" ∷ "        >c"
@@ -65,7 +65,7 @@ pub fn quoted_literals()
         ∷ "            b" ∷ []) }
 {}
 
-/// Line blocks.
+/// Line blocks (Markup Specification, 'Line Blocks').
 pub fn line_blocks()
     ensures lines { Means ("| a" ∷ "| *b*" ∷ "c" ∷ []) 0
         ("<document> 0" ∷ "    <line_block> 1" ∷ "        <line> 1" ∷ "            a" ∷ "        <line> 2" ∷ "            <emphasis> 2"
@@ -100,7 +100,7 @@ pub fn line_blocks()
         ∷ "        <paragraph> 2" ∷ "            Inline emphasis start-string without end-string." ∷ []) }
 {}
 
-/// Block quotes.
+/// Block quotes (Markup Specification, 'Block Quotes').
 pub fn quotes()
     ensures after_a_paragraph { Means ("a" ∷ "" ∷ "  b" ∷ "" ∷ "  c" ∷ "" ∷ "d" ∷ []) 0
         ("<document> 0" ∷ "    <paragraph> 1" ∷ "        a" ∷ "    <block_quote> 3" ∷ "        <paragraph> 3" ∷ "            b"
@@ -118,7 +118,7 @@ pub fn quotes()
         ∷ "        b" ∷ []) }
 {}
 
-/// Attributions of block quotes.
+/// Attributions of block quotes (Markup Specification, 'Block Quotes').
 pub fn attributions()
     ensures one { Means ("  a" ∷ "" ∷ "  -- b" ∷ "" ∷ "  c" ∷ []) 0
         ("<document> 0" ∷ "    <block_quote> 1" ∷ "        <paragraph> 1" ∷ "            a" ∷ "        <attribution> 3" ∷ "            b"
@@ -158,7 +158,7 @@ pub fn attributions()
         ∷ "    <block_quote>" ∷ "        <paragraph>" ∷ "            -- c" ∷ []) }
 {}
 
-/// Doctest blocks.
+/// Doctest blocks (Markup Specification, 'Doctest Blocks').
 pub fn doctests()
     ensures lines { Means ("x" ∷ "" ∷ ">>> print(1)" ∷ "1" ∷ "  2" ∷ "" ∷ "y" ∷ []) 0
         ("<document> 0" ∷ "    <paragraph> 1" ∷ "        x" ∷ "    <doctest_block xml:space=\"preserve\"> 3" ∷ "        >>> print(1)"

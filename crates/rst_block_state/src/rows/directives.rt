@@ -4,7 +4,7 @@
 ghost use Rattle.std.specs.Prelude.{[], ◌∷◌};
 ghost use Rattle.rst_block_state.specs.Reads.{Means, Reads};
 
-/// Admonitions.
+/// Admonitions (Directives, 'Specific Admonitions').
 pub fn admonitions()
     ensures kinds { Reads (".. attention:: a" ∷ ".. caution:: b" ∷ ".. danger:: c" ∷ ".. error:: d" ∷ ".. hint:: e" ∷ ".. important:: f"
         ∷ ".. note:: g" ∷ ".. tip:: h" ∷ ".. warning:: i" ∷ [])
@@ -52,7 +52,7 @@ pub fn admonitions()
         ∷ "        <paragraph>" ∷ "            a" ∷ []) }
 {}
 
-/// Topics.
+/// Topics (Directives, 'Topic').
 pub fn topics()
     ensures one { Reads (".. topic:: A" ∷ "   :class: b" ∷ "" ∷ "   c" ∷ [])
         ("<document>" ∷ "    <topic classes=\"b\">" ∷ "        <title>" ∷ "            A" ∷ "        <paragraph>" ∷ "            c" ∷ []) }
@@ -67,7 +67,7 @@ pub fn topics()
         ∷ "                <literal_block xml:space=\"preserve\">" ∷ "                    .. topic:: A" ∷ []) }
 {}
 
-/// Images.
+/// Images (Directives, 'Image').
 pub fn images()
     ensures options { Means (".. image:: a" ∷ "   b.png" ∷ "   :alt: c d" ∷ "   :height: 3.5 em" ∷ "   :width: 50 %" ∷ "   :scale: 050 %"
         ∷ "   :align: middle" ∷ "   :class: E" ∷ "   :name: F" ∷ []) 0
@@ -86,7 +86,7 @@ pub fn images()
         ∷ "    <image align=\"left\" uri=\"c\">" ∷ "    <image align=\"center\" uri=\"d\">" ∷ "    <image align=\"right\" uri=\"e\">" ∷ []) }
 {}
 
-/// Images that are wrong.
+/// Images that are wrong (Directives, 'Image').
 pub fn wrong_images()
     ensures without_a_uri { Reads (".. image::" ∷ "   :alt: a" ∷ [])
         ("<document>" ∷ "    <system_message level=\"3\">" ∷ "        <paragraph>" ∷ "            Error in \"image\" directive:"
@@ -130,7 +130,7 @@ pub fn wrong_images()
         ∷ "               :foo: 1" ∷ []) }
 {}
 
-/// Figures.
+/// Figures (Directives, 'Figure').
 pub fn figures()
     ensures caption_and_legend { Means (".. figure:: a.png" ∷ "" ∷ "   B *c*" ∷ "" ∷ "   d" ∷ "" ∷ "   - e" ∷ []) 0
         ("<document> 0" ∷ "    <figure> 1" ∷ "        <image uri=\"a.png\"> 1" ∷ "        <caption> 3" ∷ "            B "
@@ -171,7 +171,7 @@ pub fn figures()
         ∷ "            .. figure:: a" ∷ "            " ∷ "               --" ∷ []) }
 {}
 
-/// Program code.
+/// Program code (Directives, 'Code').
 pub fn code()
     ensures languages { Reads (".. code:: C++" ∷ "" ∷ "   a" ∷ "     *b*" ∷ "" ∷ "   c" ∷ "" ∷ ".. code-block::" ∷ "" ∷ "   d" ∷ ""
         ∷ ".. sourcecode:: x" ∷ "   :class: E" ∷ "" ∷ "   f" ∷ [])
@@ -190,7 +190,7 @@ pub fn code()
         ∷ "            .. code:: a" ∷ []) }
 {}
 
-/// Other directives, and where directives begin.
+/// Other directives, and where directives begin (Markup Specification, 'Directives').
 pub fn directives()
     ensures unknown { Means ("x" ∷ "" ∷ ".. no.Such:: a" ∷ "   :b: c" ∷ "" ∷ "   d" ∷ "" ∷ "e" ∷ []) 0
         ("<document> 0" ∷ "    <paragraph> 1" ∷ "        x" ∷ "    <system_message level=\"3\"> 3" ∷ "        <paragraph> 3"

@@ -4,7 +4,7 @@
 ghost use Rattle.std.specs.Prelude.{[], ◌∷◌};
 ghost use Rattle.rst_block_state.specs.Reads.{Means, Reads};
 
-/// Footnotes.
+/// Footnotes (Markup Specification, 'Footnotes').
 pub fn footnotes()
     ensures kinds { Means (".. [1] a" ∷ ".. [#] b" ∷ ".. [#N m] c" ∷ ".. [#Nm] d" ∷ ".. [*] e" ∷ ".. [] f" ∷ []) 0
         ("<document> 0" ∷ "    <footnote mark=\"1\" own_name=\"1\"> 1" ∷ "        <label> 1" ∷ "            1" ∷ "        <paragraph> 1"
@@ -18,7 +18,7 @@ pub fn footnotes()
         ∷ "        <label> 5" ∷ "            2" ∷ "        <paragraph> 7" ∷ "            d" ∷ []) }
 {}
 
-/// Citations.
+/// Citations (Markup Specification, 'Citations').
 pub fn citations()
     ensures one { Means (".. [Ab-1] c" ∷ ".. [２] d" ∷ []) 0
         ("<document> 0" ∷ "    <citation own_name=\"ab-1\"> 1" ∷ "        <label> 1" ∷ "            Ab-1" ∷ "        <paragraph> 1"
@@ -27,7 +27,7 @@ pub fn citations()
     ensures no_label { Reads (".. [a b] c" ∷ []) ("<document>" ∷ "    <comment xml:space=\"preserve\">" ∷ "        [a b] c" ∷ []) }
 {}
 
-/// Hyperlink targets.
+/// Hyperlink targets (Markup Specification, 'Hyperlink Targets').
 pub fn targets()
     ensures destinations { Means (".. _A: http://x.org/a b" ∷ ".. _b: A_" ∷ ".. _c: `D" ∷ "   e`_" ∷ ".. _f:" ∷ []) 0
         ("<document> 0" ∷ "    <target own_name=\"a\" refuri=\"http://x.org/ab\"> 1" ∷ "    <target own_name=\"b\" refname=\"a\"> 2"
@@ -50,7 +50,7 @@ pub fn targets()
         ∷ "            Explicit markup ends without a blank line; unexpected unindent." ∷ "    <paragraph> 2" ∷ "        b" ∷ []) }
 {}
 
-/// Substitution definitions.
+/// Substitution definitions (Markup Specification, 'Substitution Definitions').
 pub fn substitutions()
     ensures replacement { Means (".. |A  b| replace:: c *d*" ∷ "   e" ∷ []) 0
         ("<document> 0" ∷ "    <substitution_definition own_name=\"A b\"> 1" ∷ "        c " ∷ "        <emphasis> 1" ∷ "            d"
@@ -68,7 +68,7 @@ pub fn substitutions()
         ("<document>" ∷ "    <substitution_definition>" ∷ "        b:" ∷ "    <substitution_definition>" ∷ "        --" ∷ []) }
 {}
 
-/// Substitution definitions that are wrong.
+/// Substitution definitions that are wrong (Markup Specification, 'Substitution Definitions').
 pub fn wrong_substitutions()
     ensures empty_or_invalid { Means (".. |a  B| c" ∷ []) 0
         ("<document> 0" ∷ "    <system_message level=\"2\"> 1" ∷ "        <paragraph> 1"
@@ -121,7 +121,7 @@ pub fn wrong_substitutions()
         ∷ "            .. |g| replace::" ∷ "               h" ∷ "                 i" ∷ []) }
 {}
 
-/// Comments.
+/// Comments (Markup Specification, 'Comments').
 pub fn comments()
     ensures lines { Means (".. a" ∷ "   b" ∷ "" ∷ "     *c*" ∷ "" ∷ "d" ∷ []) 0
         ("<document> 0" ∷ "    <comment xml:space=\"preserve\"> 1" ∷ "        a" ∷ "        b" ∷ "        " ∷ "          *c*"

@@ -4,7 +4,7 @@
 ghost use Rattle.std.specs.Prelude.{[], ◌∷◌};
 ghost use Rattle.rst_block_state.specs.Reads.{Means, Reads};
 
-/// Bullet lists.
+/// Bullet lists (Markup Specification, 'Bullet Lists').
 pub fn bullets()
     ensures marks { Reads ("* a" ∷ "" ∷ "+ b" ∷ "" ∷ "- c" ∷ "" ∷ "• d" ∷ "" ∷ "‣ e" ∷ "" ∷ "⁃ f" ∷ [])
         ("<document>" ∷ "    <bullet_list bullet=\"*\">" ∷ "        <list_item>" ∷ "            <paragraph>" ∷ "                a"
@@ -57,7 +57,7 @@ pub fn bullets()
         ∷ "                b" ∷ []) }
 {}
 
-/// Enumerators.
+/// Enumerators (Markup Specification, 'Enumerated Lists').
 pub fn enumerators()
     ensures arabic { Reads ("1. a" ∷ "2. b" ∷ "" ∷ "10. c" ∷ [])
         ("<document>" ∷ "    <enumerated_list enumtype=\"arabic\" prefix=\"\" suffix=\".\">" ∷ "        <list_item>"
@@ -106,7 +106,7 @@ pub fn enumerators()
         ∷ "        1234567890. c" ∷ []) }
 {}
 
-/// Enumerated lists.
+/// Enumerated lists (Markup Specification, 'Enumerated Lists').
 pub fn enumerated_lists()
     ensures number_signs { Reads ("#. a" ∷ "#. b" ∷ "" ∷ "3. c" ∷ "#. d" ∷ [])
         ("<document>" ∷ "    <enumerated_list enumtype=\"arabic\" prefix=\"\" suffix=\".\">" ∷ "        <list_item>"
@@ -165,7 +165,7 @@ pub fn enumerated_lists()
         ∷ "            <paragraph> 6" ∷ "                c" ∷ []) }
 {}
 
-/// Definition lists.
+/// Definition lists (Markup Specification, 'Definition Lists').
 pub fn definitions()
     ensures items { Means ("a" ∷ "  b" ∷ "c" ∷ "  d" ∷ "" ∷ "  e" ∷ "" ∷ "f" ∷ "  g" ∷ []) 0
         ("<document> 0" ∷ "    <definition_list> 1" ∷ "        <definition_list_item> 1" ∷ "            <term> 1" ∷ "                a"
@@ -219,7 +219,7 @@ pub fn definitions()
         ∷ "                    c" ∷ []) }
 {}
 
-/// Field lists.
+/// Field lists (Markup Specification, 'Field Lists').
 pub fn fields()
     ensures items { Means (":a: b" ∷ ":c d:" ∷ "  e" ∷ "" ∷ "  f" ∷ "" ∷ ":g:" ∷ []) 0
         ("<document> 0" ∷ "    <field_list> 1" ∷ "        <field> 1" ∷ "            <field_name> 1" ∷ "                a"
@@ -258,7 +258,7 @@ pub fn fields()
         ∷ "        c" ∷ []) }
 {}
 
-/// Option lists.
+/// Option lists (Markup Specification, 'Option Lists').
 pub fn options()
     ensures kinds { Reads ("-a  b" ∷ "+c  d" ∷ "--long-name  e" ∷ "/V  f" ∷ [])
         ("<document>" ∷ "    <option_list>" ∷ "        <option_list_item>" ∷ "            <option_group>" ∷ "                <option>"

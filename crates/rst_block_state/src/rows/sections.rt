@@ -4,7 +4,7 @@
 ghost use Rattle.std.specs.Prelude.{[], ◌∷◌};
 ghost use Rattle.rst_block_state.specs.Reads.{Means, Reads};
 
-/// Paragraphs.
+/// Paragraphs (Markup Specification, 'Paragraphs').
 pub fn paragraphs()
     ensures empty { Reads [] ("<document>" ∷ []) }
     ensures of_lines { Reads ("a" ∷ "b" ∷ "" ∷ "c" ∷ [])
@@ -28,7 +28,7 @@ pub fn paragraphs()
         ∷ "            Bullet list ends without a blank line; unexpected unindent." ∷ "    <paragraph> 4" ∷ "        d" ∷ []) }
 {}
 
-/// Sections and their titles.
+/// Sections and their titles (Markup Specification, 'Sections').
 pub fn sections()
     ensures underlined { Reads ("A" ∷ "=" ∷ "" ∷ "b" ∷ [])
         ("<document>" ∷ "    <section>" ∷ "        <title>" ∷ "            A" ∷ "        <paragraph>" ∷ "            b" ∷ []) }
@@ -73,7 +73,7 @@ pub fn sections()
         ("<document>" ∷ "    <section>" ∷ "        <title>" ∷ "            A " ∷ "            <emphasis>" ∷ "                b" ∷ []) }
 {}
 
-/// Titles whose adornment is shorter than they are.
+/// Titles whose adornment is shorter than they are (Markup Specification, 'Sections').
 pub fn short_titles()
     ensures underline { Means ("Title" ∷ "====" ∷ []) 0
         ("<document> 0" ∷ "    <section own_name=\"title\" text_messages=\"1\"> 1" ∷ "        <title> 1" ∷ "            Title"
@@ -114,7 +114,7 @@ pub fn short_titles()
         ∷ "        <title> 1" ∷ "            ==" ∷ []) }
 {}
 
-/// Adornments that make no title.
+/// Adornments that make no title (Markup Specification, 'Sections').
 pub fn misplaced_titles()
     ensures mismatch { Means ("====" ∷ "T" ∷ "----" ∷ []) 0
         ("<document> 0" ∷ "    <system_message level=\"4\"> 1" ∷ "        <paragraph> 1" ∷ "            Title overline & underline mismatch."
@@ -150,7 +150,7 @@ pub fn misplaced_titles()
         ∷ "                ==" ∷ "                ****" ∷ []) }
 {}
 
-/// Titles where none is recognized.
+/// Titles where none is recognized (Markup Specification, 'Sections').
 pub fn titles_in_items()
     ensures underlined { Means ("- Title" ∷ "  =====" ∷ []) 0
         ("<document> 0" ∷ "    <bullet_list bullet=\"-\"> 1" ∷ "        <list_item> 1" ∷ "            <system_message level=\"4\"> 2"
@@ -187,7 +187,7 @@ pub fn titles_in_items()
         ∷ "                    Treating it as ordinary text because it's so short." ∷ "            <paragraph> 1" ∷ "                ---" ∷ []) }
 {}
 
-/// Transitions.
+/// Transitions (Markup Specification, 'Transitions').
 pub fn transitions()
     ensures one { Means ("a" ∷ "" ∷ "----" ∷ "" ∷ "b" ∷ []) 0
         ("<document> 0" ∷ "    <paragraph> 1" ∷ "        a" ∷ "    <transition> 3" ∷ "    <paragraph> 5" ∷ "        b" ∷ []) }

@@ -4,7 +4,7 @@
 ghost use Rattle.std.specs.Prelude.{[], ◌∷◌};
 ghost use Rattle.rst_block_state.specs.Reads.{Means, Reads};
 
-/// Grid tables.
+/// Grid tables (Markup Specification, 'Grid Tables').
 pub fn grids()
     ensures one_cell { Means ("x" ∷ "" ∷ "+---+" ∷ "| a |" ∷ "+---+" ∷ []) 0
         ("<document> 0" ∷ "    <paragraph> 1" ∷ "        x" ∷ "    <table> 3" ∷ "        <tgroup cols=\"1\"> 3"
@@ -46,7 +46,7 @@ pub fn grids()
         ∷ "                    <entry>" ∷ "                        <paragraph>" ∷ "                            a" ∷ []) }
 {}
 
-/// Grid tables that are malformed.
+/// Grid tables that are malformed (Markup Specification, 'Grid Tables').
 pub fn malformed_grids()
     ensures bottom_missing { Means ("+---+" ∷ "| a |" ∷ "x" ∷ []) 0
         ("<document> 0" ∷ "    <system_message level=\"3\"> 1" ∷ "        <paragraph> 1" ∷ "            Malformed table."
@@ -68,7 +68,7 @@ pub fn malformed_grids()
         ∷ "            | a | b |" ∷ "            +---+   |" ∷ "            | c   d |" ∷ "            +---+---+" ∷ []) }
 {}
 
-/// Simple tables.
+/// Simple tables (Markup Specification, 'Simple Tables').
 pub fn simple_tables()
     ensures columns { Means ("== ==" ∷ "a  b" ∷ "c  d" ∷ "== ==" ∷ []) 0
         ("<document> 0" ∷ "    <table> 1" ∷ "        <tgroup cols=\"2\"> 1" ∷ "            <colspec colwidth=\"2\"> 1"
@@ -125,7 +125,7 @@ pub fn simple_tables()
         ∷ "                    <entry>" ∷ "                        <paragraph>" ∷ "                            d" ∷ []) }
 {}
 
-/// Simple tables that are malformed.
+/// Simple tables that are malformed (Markup Specification, 'Simple Tables').
 pub fn malformed_simple_tables()
     ensures border_mismatch { Reads ("== ==" ∷ "a  b" ∷ "== ===" ∷ [])
         ("<document>" ∷ "    <system_message level=\"3\">" ∷ "        <paragraph>" ∷ "            Malformed table."

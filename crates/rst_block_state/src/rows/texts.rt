@@ -4,7 +4,7 @@
 ghost use Rattle.std.specs.Prelude.{[], ◌∷◌};
 ghost use Rattle.rst_block_state.specs.Reads.{IsTooDeep, Means, Reads};
 
-/// Inline markup.
+/// Inline markup (Markup Specification, 'Inline Markup').
 pub fn inline_markup()
     ensures kinds { Reads ("a **b** ``\\x`` :sub:`2` *c*" ∷ [])
         ("<document>" ∷ "    <paragraph>" ∷ "        a " ∷ "        <strong>" ∷ "            b" ∷ "         " ∷ "        <literal>"
@@ -55,7 +55,7 @@ pub fn inline_markup()
     ensures nul { Reads ("a\tb" ∷ []) ("<document>" ∷ "    <paragraph>" ∷ "        a       b" ∷ []) }
 {}
 
-/// References.
+/// References (Markup Specification, 'Hyperlink References').
 pub fn references()
     ensures by_name { Means ("Python_ and `Here  There`_." ∷ []) 0
         ("<document> 0" ∷ "    <paragraph> 1" ∷ "        <reference name=\"Python\" rawsource=\"Python_\" refname=\"python\"> 1"
@@ -87,7 +87,7 @@ pub fn references()
         ("<document> 0" ∷ "    <paragraph> 1" ∷ "        <target inline=\"1\" own_name=\"a b\"> 1" ∷ "            A b" ∷ []) }
 {}
 
-/// How deeply blocks may be nested.
+/// How deeply blocks may be nested (Markup Specification, 'Body Elements').
 pub fn nesting()
     ensures item { IsTooDeep 1 ("- a" ∷ "" ∷ "  - b" ∷ []) 3 }
     ensures fits { Means ("- a" ∷ "" ∷ "  b" ∷ []) 0
