@@ -219,18 +219,19 @@ fn expand(alloc: Global, piece: &str, tab: usize) -> Result<String, AllocError>
     requires to { tab ≤ 99 }
     ensures { IfOk result (λ line. chars_of line ≡ expanded tab (chars piece.now)) }
 {
-    let mut line = String::with_capacity(alloc, piece.len())?;
+    // Few lines have more than two tabs.
+    let mut line = String::with_capacity(alloc, piece.len().saturating_add(2 * tab))?;
     let mut column = 0usize;
     let mut left = piece;
     'left: loop {
         let (run, special) = left.split_at(ordinary_len(left));
         line.push_str(run)?;
-        column += run.chars().count();
         let mut rest = special.chars();
         let Some(c) = rest.next() else {
             return Ok(line);
         };
         left = rest.as_str();
+        column += run.chars().count();
         if c == '\t' {
             let wide = tab - column % tab;
             for _ in 0..wide {

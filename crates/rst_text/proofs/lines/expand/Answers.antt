@@ -8,8 +8,7 @@ use Rattle.rst_text.proofs.lines.expand.Goals as goal
 
 pub returns-in_default : goal.returns-in_default
 returns-in_default c =
-    let counted : c.count-column.result ≡ length (chars c.split_at.result.0.now) = search (rules, chars_from_encodes) in
-    let x = Expands-run _ _ _ _ _ _ _ _ _ c.left.invariant.0 c.ordinary_len.ensures c.split_at.ensures.front counted c.in_ok-push_str.ensures.bytes in
+    let x = Expands-run _ _ _ _ _ _ _ _ _ c.left.invariant.0 c.ordinary_len.ensures c.split_at.ensures.front refl c.in_ok-push_str.ensures.bytes in
     Expands-end _ _ _ _ _ x (ap length (sym (c.chars-rest.ensures.rest ∙ c.split_at.ensures.back)) ∙ c.in_default.ensures.steps.0.0) c.utf8.piece (omega arith)
 
 pub left-preserved-then-c-eq9 : goal.left-preserved-then-c-eq9
