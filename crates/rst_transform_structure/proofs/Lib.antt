@@ -1,3 +1,4 @@
+pub mod Computing
 pub mod KeptKinds
 pub mod KeptTransitions
 pub mod LastNodes

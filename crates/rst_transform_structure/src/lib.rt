@@ -3,6 +3,7 @@
 
 pub mod last_section;
 pub mod laws;
+pub mod rows;
 pub mod targets;
 pub mod title;
 pub mod transitions;
