@@ -192,7 +192,7 @@ pub fn places()
 {}
 
 /// What registration writes at the elements: ids, names and lost names, and what problematics and their messages have of one another (Document
-/// Tree, 'Attribute Reference').
+/// Tree, 'Attribute Reference') (Document Tree, 'Attribute Reference').
 pub fn written()
     ensures names { Prints (walked_node (heeded_next is_registered left_behind) (heeded_out is_registered with_given) (given (standing 0 (Some
         (codes "a")) true ∷ standing 1 (Some (codes "a-1")) false ∷ standing 2 (Some (codes "target-1")) false

@@ -21,7 +21,7 @@ ghost use Rattle.rst_transform_structure.specs.Targets.{known_after, retargeted}
 ghost use Rattle.rst_transform_structure.specs.Title.{lone_section, title_names, titled};
 ghost use Rattle.rst_transform_structure.specs.Transitions.{with_places, with_reports};
 
-/// A lone section's title becomes the document's, and that of a lone subsection the subtitle.
+/// A lone section's title becomes the document's, and that of a lone subsection the subtitle (Markup Specification, 'Document Title').
 pub fn titles()
     ensures title { Shows (titled (document_of (element Section (lists Ids ("a" ∷ []) ∷ lists Names ("a" ∷ []) ∷ []) (element Title [] (text "A"
         ∷ []) ∷ paragraph "b" ∷ []) ∷ [])))
@@ -52,7 +52,7 @@ pub fn titles()
         ≡ codes "a" ∷ codes "b" ∷ [] }
 {}
 
-/// Names that pass to another element; of names that aren't known none becomes known.
+/// Names that pass to another element; of names that aren't known none becomes known (Markup Specification, 'Hyperlink Targets').
 pub fn passed_names()
     ensures known { passed (codes "a" ∷ codes "b" ∷ []) Unregistered (codes "b") (Some
         (record { holder = By 0; strength = Explicit; id = codes "b"; uri = None }))
@@ -67,7 +67,7 @@ pub fn passed_names()
         ≡ Some (record { holder = By 2; strength = Explicit; id = codes "a"; uri = None }) }
 {}
 
-/// Internal targets hand their ids and names to the element after them.
+/// Internal targets hand their ids and names to the element after them (Markup Specification, 'Hyperlink Targets').
 pub fn targets()
     ensures to_a_paragraph { retargeted [] (node_items (document (element Target (lists Ids ("a" ∷ []) ∷ lists Names ("a" ∷ []) ∷ []) []
         ∷ paragraph "b" ∷ [])))
@@ -112,7 +112,7 @@ pub fn targets()
         ≡ node_items (document (element Paragraph [] (element Target (lists Ids ("a" ∷ []) ∷ counts Inline 1 ∷ []) [] ∷ []) ∷ paragraph "b" ∷ [])) }
 {}
 
-/// Transitions: those that end a section move out of it, and those that stand where none may get messages.
+/// Transitions: those that end a section move out of it, and those that stand where none may get messages (Markup Specification, 'Transitions').
 pub fn transitions()
     ensures between { Shows (with_places 0 [] (document_of (paragraph "a" ∷ element Transition [] [] ∷ paragraph "b" ∷ [])))
         ("<document>" ∷ "    <paragraph>" ∷ "        a" ∷ "    <transition>" ∷ "    <paragraph>" ∷ "        b" ∷ []) }
@@ -157,7 +157,7 @@ pub fn transitions()
         ≡ 4 ∷ 5 ∷ 6 ∷ [] }
 {}
 
-/// The last section, with the messages of the transforms that have no place of their own.
+/// The last section, with the messages of the transforms that have no place of their own (Markup Specification, 'Error Handling').
 pub fn last_section()
     ensures with_messages { Shows (with_last (section_of (next_report 0 [] Warning 2 (codes "a") false
         ∷ referring (codes "system-message-1") (codes "problematic-1") (next_report 0 [] Error 3 (codes "b") true)
