@@ -1,76 +1,125 @@
 -- Between calm characters nothing begins.
-use Rattle.std.proofs.Common.{◌≡◌, ◌≢◌, ⊎_elim, ◌⊎◌, inl, inr, ℕ, zero, suc, ◌+◌, ◌-◌, ◌<◌, ◌≤◌, Bool, true, false, ◌&&◌, ◌||◌, ◌==◌, None, length, get_or, true≢false, refl, sym, ap, ◌∙◌, subst, arith}
+use Rattle.std.proofs.Common.{◌≡◌, ◌≢◌, ⊎_elim, ◌⊎◌, inl, inr, ℕ, ◌+◌, ◌-◌, ◌<◌, ◌≤◌, Bool, true, false, not, ◌&&◌, ◌||◌, ◌==◌, None, length, get_or, true≢false, refl, sym, ap, ◌∙◌, subst, arith}
+use Rattle.std.specs.Prelude.{nat_lt}
 use Rattle.std.specs.Char.{is_ascii_alphanumeric}
-use Rattle.std.proofs.lemmas.Bool.{eqb-true, cases_lt}
+use Rattle.std.proofs.lemmas.Bool.{ltb-true, lt-ltb, eqb-true, and_parts, cases_lt}
 use Rattle.std.proofs.lemmas.Bool.Decides.{nat_tests}
 use Rattle.rst_text.specs.Runs.{PassBetween}
-use Rattle.rst_text.proofs.PlacesLemmas.{cases_bool}
-use Rattle.rst_inline_scan.specs.Characters.{Text}
+use Rattle.rst_text.proofs.PlacesLemmas.{cases_bool, lt_eq_gt}
+use Rattle.rst_inline_scan.specs.Characters.{Text, has, may_follow, is_free_behind}
 use Rattle.rst_inline_scan.specs.Escapes.{is_escaped}
-use Rattle.rst_inline_scan.specs.Words.{IsWord, goes_on}
-use Rattle.rst_inline_scan.specs.Calm.{is_calm, IsStep}
+use Rattle.rst_inline_scan.specs.Names.{is_joint, is_name_at, ends_name}
+use Rattle.rst_inline_scan.specs.Tails.{name_tail}
+use Rattle.rst_inline_scan.specs.Marked.{has_start}
+use Rattle.rst_inline_scan.specs.Calm.{is_calm, is_calm_at, AreCalm, is_of_name, IsStep}
 use Rattle.rst_inline_scan.specs.Pieces.{piece_at, HasNoStart}
+use Rattle.rst_inline_scan.specs.declared.piece.Markup.TheVariants.{Target}
 use Rattle.rst_inline_scan.proofs.EscapeLemmas.{other-bare, is_escaped-bare}
-use Rattle.rst_inline_scan.proofs.WordLemmas.{differs, absent, lacks-by, no-piece-lacking, goes_on-space, goes_on-feed, goes_on-comma}
+use Rattle.rst_inline_scan.proofs.WordLemmas.{IsBarred, Lacks, differs, absent, letter-behind, no-target, no-label, no-letter-at, no-underscore, no-piece-barred}
 
--- from one place up to another all are calm, no word of them ends at the other, and it isn't the text's end
+-- from one place up to another all are calm, the last is none of a name, and the other isn't the text's end
 pub record IsCalm (t : Text) (from to : ℕ) : Type 0 where
   pub above : from ≤ to
   pub within : from < to → to < length t
-  pub calm : PassBetween is_calm t from to
-  pub edge : from < to → is_ascii_alphanumeric (get_or t (to - 1) 0) ≡ false
+  pub calm : AreCalm t from to
+  pub edge : from < to → is_of_name (get_or t (to - 1) 0) ≡ false
 
--- ---- words among them
+-- ---- a calm place
 
--- one of the calm characters that aren't in words
-space_of : (c : ℕ) → is_calm c ≡ true → is_ascii_alphanumeric c ≡ false → (c ≡ 32) ⊎ ((c ≡ 10) ⊎ (c ≡ 44))
-space_of c h k = go (c == 32) (c == 10) (c == 44) refl refl refl (rest h)
+-- an underscore stands there, with a letter or a digit behind it
+abbrev IsInner : Text → ℕ → Type 0
+IsInner t i = ((get_or t i 0 == 95) ≡ true) × (is_ascii_alphanumeric (get_or t (i + 1) 0) ≡ true)
+
+either : (t : Text) (i : ℕ) → is_calm_at t i ≡ true → (is_calm (get_or t i 0) ≡ true) ⊎ IsInner t i
+either t i h = ⊎_elim
+    (λ calm. inl calm)
+    (λ other. inr (and_parts (get_or t i 0 == 95) (is_ascii_alphanumeric (get_or t (i + 1) 0)) (subst (λ b. (b || (get_or t i 0 == 95 && is_ascii_alphanumeric (get_or t (i + 1) 0))) ≡ true) other h)))
+    (cases_bool (is_calm (get_or t i 0)))
+
+abbrev is_loose : ℕ → Bool
+is_loose c = is_calm c || c == 95
+
+loose : (t : Text) (i : ℕ) → is_calm_at t i ≡ true → is_loose (get_or t i 0) ≡ true
+loose t i h = ⊎_elim
+    (λ calm. ap (λ b. b || get_or t i 0 == 95) calm)
+    (λ inner. ap is_loose (eqb-true (get_or t i 0) 95 inner.0))
+    (either t i h)
+
+low : (c : ℕ) → is_loose c ≡ true → c < 128
+low c h = ⊎_elim
+    (λ calm. ltb-true c 128 (and_parts (nat_lt c 128) _ calm).0)
+    (λ other. let same : c ≡ 95 = eqb-true c 95 (subst (λ b. (b || c == 95) ≡ true) other h) in omega arith)
+    (cases_bool (is_calm c))
+
+calm-target : (t : Text) (i : ℕ) → is_calm_at t i ≡ true → has_start Target t i ≡ false
+calm-target t i h = ⊎_elim
+    (λ calm. no-target t i (absent is_calm t i 95 calm refl))
+    (λ inner. behind (absent is_ascii_alphanumeric t (i + 1) 96 inner.1 refl))
+    (either t i h)
   where
-    rest : is_calm c ≡ true → (c == 32 || (c == 10 || c == 44)) ≡ true
-    rest e = sym (ap (λ b. b || (c == 32 || (c == 10 || c == 44))) k) ∙ e
+    behind : has t (i + 1) 96 ≡ false → has_start Target t i ≡ false
+    behind none = rw none (grind (arith, nat_tests))
 
-    go : (a b d : Bool) → (c == 32) ≡ a → (c == 10) ≡ b → (c == 44) ≡ d → (a || (b || d)) ≡ true → (c ≡ 32) ⊎ ((c ≡ 10) ⊎ (c ≡ 44))
-    go true b d p q r e = inl (eqb-true c 32 p)
-    go false true d p q r e = inr (inl (eqb-true c 10 q))
-    go false false true p q r e = inr (inr (eqb-true c 44 r))
-    go false false false p q r e = absurd (true≢false (sym e))
+-- behind an underscore no name ends where a letter or a digit stands
+letter-unended : (t : Text) (k : ℕ) → k + 1 < length t → is_ascii_alphanumeric (get_or t (k + 1) 0) ≡ true → ends_name t k ≡ false
+unfolding ends_name name_tail
+letter-unended t k within letter =
+    let second = absent is_ascii_alphanumeric t (k + 1) 95 letter refl in
+    let behind : is_free_behind t (k + 1) ≡ false = rw (letter-behind (get_or t (k + 1) 0) letter, lt-ltb (k + 1) (length t) within) refl in
+    rw (second, behind) (grind (arith, nat_tests))
 
--- nothing goes on with a word there
-goes_on-calm : (t : Text) (i : ℕ) → is_calm (get_or t i 0) ≡ true → is_ascii_alphanumeric (get_or t i 0) ≡ false → goes_on t i ≡ false
-goes_on-calm t i h k = ⊎_elim (λ space. sym (goes_on-space t i space)) (λ rest. ⊎_elim (λ feed. sym (goes_on-feed t i feed)) (λ comma. sym (goes_on-comma t i comma)) rest) (space_of (get_or t i 0) h k)
+calm-unended : (t : Text) (k : ℕ) → k + 1 < length t → is_calm_at t k ≡ true → ends_name t k ≡ false
+calm-unended t k within h = ⊎_elim
+    (λ calm. no-underscore t k (absent is_calm t k 95 calm refl))
+    (λ inner. letter-unended t k within inner.1)
+    (either t k h)
 
-longer : (t : Text) (i e : ℕ) → is_ascii_alphanumeric (get_or t i 0) ≡ true → IsWord t (i + 1) e → IsWord t i e
-longer t i e here run = record {
-  above = let above = run.above in omega arith;
-  within = run.within;
-  letters = λ k low less. ⊎_elim
-      (λ first. let same : k ≡ i = omega arith in subst (λ n. is_ascii_alphanumeric (get_or t n 0) ≡ true) (sym same) here)
-      (λ past. run.letters k past less)
-      (cases_lt k (i + 1));
-  stops = run.stops;
-}
+-- ---- a run of them
 
-empty : (t : Text) (i : ℕ) → i ≤ length t → is_ascii_alphanumeric (get_or t i 0) ≡ false → IsWord t i i
-empty t i within here = record { above = omega arith; within = within; letters = λ k low less. absurd (omega arith); stops = λ inside. here }
+pub calm-longer : (t : Text) (from at to : ℕ) → AreCalm t from at → get_or t at 0 ≡ 95 → is_ascii_alphanumeric (get_or t (at + 1) 0) ≡ true → PassBetween is_calm t (at + 1) to → AreCalm t from to
+calm-longer t from at to calm underscore letter run k above less = ⊎_elim
+    (λ before. calm k above before)
+    (λ rest. ⊎_elim
+    (λ here. subst (λ n. is_calm_at t n ≡ true) (sym here) (rw (underscore, letter) refl))
+    (λ past. ap (λ b. b || (get_or t k 0 == 95 && is_ascii_alphanumeric (get_or t (k + 1) 0))) (run k (omega arith) less))
+    rest)
+    (lt_eq_gt k at)
 
--- the word that begins at a place ends no later than where no letter or digit stands
-word-within : (t : Text) (n i last : ℕ) → i + n ≡ last → last < length t → is_ascii_alphanumeric (get_or t last 0) ≡ false → (e : ℕ) × IsWord t i e × (e ≤ last)
-word-within t zero i last order within stop =
-    let same : i ≡ last = omega arith in
-    (i, empty t i (omega arith) (subst (λ k. is_ascii_alphanumeric (get_or t k 0) ≡ false) (sym same) stop), omega arith)
-word-within t (suc n) i last order within stop = ⊎_elim
-    (λ letter. let rest = word-within t n (i + 1) last (omega arith) within stop in (rest.0, longer t i rest.0 letter rest.1, rest.2))
-    (λ other. (i, empty t i (omega arith) other, omega arith))
-    (cases_bool (is_ascii_alphanumeric (get_or t i 0)))
+parts : (c : ℕ) → is_of_name c ≡ false → (is_ascii_alphanumeric c ≡ false) × (is_joint c ≡ false)
+parts c h = ⊎_elim
+    (λ letter. absurd (true≢false (sym (ap (λ b. b || is_joint c) letter) ∙ h)))
+    (λ other. (other, subst (λ b. (b || is_joint c) ≡ false) other h))
+    (cases_bool (is_ascii_alphanumeric c))
+
+no-name-at : (t : Text) (i : ℕ) → is_calm_at t i ≡ true → is_of_name (get_or t i 0) ≡ false → is_name_at t i ≡ false
+unfolding is_name_at
+no-name-at t i calm h =
+    let other = parts (get_or t i 0) h in
+    rw (no-letter-at t i (get_or t i 0) refl (low _ (loose t i calm)) other.0, other.1) refl
 
 none-calm : (t : Text) (begin from to i : ℕ) → IsCalm t from to → from ≤ i → i < to → piece_at t begin i ≡ None
-none-calm t begin from to i run low less =
+none-calm t begin from to i run above less =
     let within : to < length t = run.within (omega arith) in
-    let word = word-within t (to - 1 - i) i (to - 1) (omega arith) (omega arith) (run.edge (omega arith)) in
-    let short = word.2 in
-    let above = word.1.above in
-    let calm_end = run.calm word.0 (omega arith) (omega arith) in
-    no-piece-lacking t begin i word.0 word.1 (lacks-by is_calm t i (run.calm i low less) refl refl refl refl refl) (absent is_calm t i 91 (run.calm i low less) refl) (goes_on-calm t word.0 calm_end (word.1.stops (omega arith)))
+    let calm : (k : ℕ) → i ≤ k → k < to → is_calm_at t k ≡ true = λ k more below. run.calm k (omega arith) below in
+    let here = loose t i (calm i (omega arith) less) in
+    let last = calm (to - 1) (omega arith) (omega arith) in
+    let edge = run.edge (omega arith) in
+    no-piece-barred t begin i (to - 1)
+    (record {
+      above = omega arith;
+      unended = λ k more upto. calm-unended t k (omega arith) (calm k (omega arith) (omega arith));
+      colon = λ k more upto. absent is_loose t k 58 (loose t k (calm k more (omega arith))) refl;
+      name = λ inside. no-name-at t (to - 1) last edge;
+      letter = λ inside. (parts (get_or t (to - 1) 0) edge).0;
+    })
+    (record {
+      star = absent is_loose t i 42 here refl;
+      grave = absent is_loose t i 96 here refl;
+      target = calm-target t i (calm i (omega arith) less);
+      bar = absent is_loose t i 124 here refl;
+      colon = absent is_loose t i 58 here refl;
+    })
+    (no-label t i (absent is_loose t i 91 here refl))
 
 -- so they are stepped over
 pub calm-step : (t : Text) (from to : ℕ) → IsCalm t from to → IsStep t from to
@@ -78,7 +127,7 @@ calm-step t from to run = record {
   above = run.above;
   within = run.within;
   none = λ begin i low less. none-calm t begin from to i run low less;
-  bare = λ some same. true≢false (sym (ap (λ c. c == 92) same) ∙ differs is_calm (get_or t (to - 1) 0) 92 (run.calm (to - 1) (omega arith) (omega arith)) refl);
+  bare = λ some same. true≢false (sym (ap (λ c. c == 92) same) ∙ differs is_loose (get_or t (to - 1) 0) 92 (loose t (to - 1) (run.calm (to - 1) (omega arith) (omega arith))) refl);
 }
 
 -- ---- steps

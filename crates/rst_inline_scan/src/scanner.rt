@@ -114,8 +114,9 @@ fn pieces_by(alloc: Global, text: &[char], bytes: &[u8]) -> Result<Vec<Piece>, A
     let mut place = 0;
     let mut escaped = false;
     let mut missing = Missing::of(text);
+    let mut searched = 0;
     while place < text.len() {
-        let (start, start_escaped) = step(bytes, place, escaped);
+        let (start, start_escaped) = step(bytes, place, escaped, &mut searched);
         let end = word_end(text, start);
         match piece_at(text, start, end, start_escaped, &mut missing) {
             Some(piece) => {
