@@ -201,6 +201,8 @@ FAMILIES = {
     "one long word with underscores": lambda n: "a_" * n + "a\n",
     "one long word with dashes": lambda n: "a-" * n + "\n",
     "one long word with dashes, and a colon": lambda n: "a-" * n + ":\n",
+    "one long word that isn't ASCII, and a colon": lambda n: "é" * n + ":\n",
+    "emphasis in text that isn't ASCII": lambda n: lines(n, "été *là* "),
     "one long URI": lambda n: "http://" + "a/" * n + "\n",
     "backslashes": lambda n: "\\" * n + "\n",
 }

@@ -1,8 +1,9 @@
 -- Between calm characters nothing begins.
-use Rattle.std.proofs.Common.{◌≡◌, ◌≢◌, ⊎_elim, ◌⊎◌, inl, inr, ℕ, ◌+◌, ◌-◌, ◌<◌, ◌≤◌, Bool, true, false, not, ◌&&◌, ◌||◌, ◌==◌, None, length, get_or, true≢false, refl, sym, ap, ◌∙◌, subst, arith}
+use Rattle.std.proofs.Common.{◌≡◌, ◌≢◌, ⊎_elim, ◌⊎◌, inl, inr, ℕ, zero, suc, ◌+◌, ◌-◌, ◌<◌, ◌≤◌, List, [], ◌∷◌, map, Bool, true, false, not, ◌&&◌, ◌||◌, ◌==◌, None, length, get_or, true≢false, refl, sym, ap, ◌∙◌, subst, arith}
 use Rattle.std.specs.Prelude.{nat_lt}
 use Rattle.std.specs.Char.{is_ascii_alphanumeric}
-use Rattle.std.proofs.lemmas.Bool.{ltb-true, lt-ltb, eqb-true, and_parts, cases_lt}
+use Rattle.std.proofs.lemmas.List.{length-map}
+use Rattle.std.proofs.lemmas.Bool.{lt-ltb, eqb-true, and_parts, cases_lt}
 use Rattle.std.proofs.lemmas.Bool.Decides.{nat_tests}
 use Rattle.rst_text.specs.Runs.{PassBetween}
 use Rattle.rst_text.proofs.PlacesLemmas.{cases_bool, lt_eq_gt}
@@ -11,11 +12,11 @@ use Rattle.rst_inline_scan.specs.Escapes.{is_escaped}
 use Rattle.rst_inline_scan.specs.Names.{is_joint, is_name_at, ends_name}
 use Rattle.rst_inline_scan.specs.Tails.{name_tail}
 use Rattle.rst_inline_scan.specs.Marked.{has_start}
-use Rattle.rst_inline_scan.specs.Calm.{is_calm, is_calm_at, AreCalm, is_of_name, IsStep}
+use Rattle.rst_inline_scan.specs.Calm.{AreBytesOf, byte_of, is_calm, is_calm_at, AreCalm, is_of_name, IsStep}
 use Rattle.rst_inline_scan.specs.Pieces.{piece_at, HasNoStart}
 use Rattle.rst_inline_scan.specs.declared.piece.Markup.TheVariants.{Target}
 use Rattle.rst_inline_scan.proofs.EscapeLemmas.{other-bare, is_escaped-bare}
-use Rattle.rst_inline_scan.proofs.WordLemmas.{IsBarred, Lacks, differs, absent, letter-behind, no-target, no-label, no-letter-at, no-underscore, no-piece-barred}
+use Rattle.rst_inline_scan.proofs.WordLemmas.{IsBarred, or_false, Lacks, differs, absent, letter-behind, no-target, no-label, no-letter-at, no-underscore, no-piece-barred}
 
 -- from one place up to another all are calm, the last is none of a name, and the other isn't the text's end
 pub record IsCalm (t : Text) (from to : ℕ) : Type 0 where
@@ -44,12 +45,6 @@ loose t i h = ⊎_elim
     (λ calm. ap (λ b. b || get_or t i 0 == 95) calm)
     (λ inner. ap is_loose (eqb-true (get_or t i 0) 95 inner.0))
     (either t i h)
-
-low : (c : ℕ) → is_loose c ≡ true → c < 128
-low c h = ⊎_elim
-    (λ calm. ltb-true c 128 (and_parts (nat_lt c 128) _ calm).0)
-    (λ other. let same : c ≡ 95 = eqb-true c 95 (subst (λ b. (b || c == 95) ≡ true) other h) in omega arith)
-    (cases_bool (is_calm c))
 
 calm-target : (t : Text) (i : ℕ) → is_calm_at t i ≡ true → has_start Target t i ≡ false
 calm-target t i h = ⊎_elim
@@ -85,32 +80,38 @@ calm-longer t from at to calm underscore letter run k above less = ⊎_elim
     rest)
     (lt_eq_gt k at)
 
-parts : (c : ℕ) → is_of_name c ≡ false → (is_ascii_alphanumeric c ≡ false) × (is_joint c ≡ false)
-parts c h = ⊎_elim
-    (λ letter. absurd (true≢false (sym (ap (λ b. b || is_joint c) letter) ∙ h)))
-    (λ other. (other, subst (λ b. (b || is_joint c) ≡ false) other h))
-    (cases_bool (is_ascii_alphanumeric c))
+-- what no name holds
+record IsOther (c : ℕ) : Type 0 where
+  low : c < 128
+  letter : is_ascii_alphanumeric c ≡ false
+  joint : is_joint c ≡ false
 
-no-name-at : (t : Text) (i : ℕ) → is_calm_at t i ≡ true → is_of_name (get_or t i 0) ≡ false → is_name_at t i ≡ false
+other : (c : ℕ) → is_of_name c ≡ false → IsOther c
+other c h =
+    let first = or_false (not (nat_lt c 128)) (is_ascii_alphanumeric c || is_joint c) h in
+    let rest = or_false (is_ascii_alphanumeric c) (is_joint c) first.1 in
+    record { low = below first.0; letter = rest.0; joint = rest.1 }
+  where
+    below : not (nat_lt c 128) ≡ false → c < 128
+    below e = grind (arith, nat_tests)
+
+no-name-at : (t : Text) (i : ℕ) → IsOther (get_or t i 0) → is_name_at t i ≡ false
 unfolding is_name_at
-no-name-at t i calm h =
-    let other = parts (get_or t i 0) h in
-    rw (no-letter-at t i (get_or t i 0) refl (low _ (loose t i calm)) other.0, other.1) refl
+no-name-at t i here = rw (no-letter-at t i (get_or t i 0) refl here.low here.letter, here.joint) refl
 
 none-calm : (t : Text) (begin from to i : ℕ) → IsCalm t from to → from ≤ i → i < to → piece_at t begin i ≡ None
 none-calm t begin from to i run above less =
     let within : to < length t = run.within (omega arith) in
     let calm : (k : ℕ) → i ≤ k → k < to → is_calm_at t k ≡ true = λ k more below. run.calm k (omega arith) below in
     let here = loose t i (calm i (omega arith) less) in
-    let last = calm (to - 1) (omega arith) (omega arith) in
-    let edge = run.edge (omega arith) in
+    let edge = other (get_or t (to - 1) 0) (run.edge (omega arith)) in
     no-piece-barred t begin i (to - 1)
     (record {
       above = omega arith;
       unended = λ k more upto. calm-unended t k (omega arith) (calm k (omega arith) (omega arith));
       colon = λ k more upto. absent is_loose t k 58 (loose t k (calm k more (omega arith))) refl;
-      name = λ inside. no-name-at t (to - 1) last edge;
-      letter = λ inside. (parts (get_or t (to - 1) 0) edge).0;
+      name = λ inside. no-name-at t (to - 1) edge;
+      letter = λ inside. edge.letter;
     })
     (record {
       star = absent is_loose t i 42 here refl;
@@ -128,6 +129,58 @@ calm-step t from to run = record {
   within = run.within;
   none = λ begin i low less. none-calm t begin from to i run low less;
   bare = λ some same. true≢false (sym (ap (λ c. c == 92) same) ∙ differs is_loose (get_or t (to - 1) 0) 92 (loose t (to - 1) (run.calm (to - 1) (omega arith) (omega arith))) refl);
+}
+
+-- ---- the bytes of a text
+
+bytes-get : (t : Text) (k : ℕ) → get_or (map byte_of t) k 0 ≡ byte_of (get_or t k 0)
+bytes-get [] k = refl
+bytes-get (c ∷ cs) zero = refl
+bytes-get (c ∷ cs) (suc k) = bytes-get cs k
+
+pub bytes-of_text : (t : Text) → AreBytesOf t (map byte_of t)
+bytes-of_text t = record {
+  long = length-map t byte_of;
+  ascii = λ k h. same (get_or t k 0) (get_or (map byte_of t) k 0) (bytes-get t k) h;
+  past = λ k h. past (get_or t k 0) (get_or (map byte_of t) k 0) (bytes-get t k) h;
+}
+  where
+    same : (c b : ℕ) → b ≡ byte_of c → b < 128 → c ≡ b
+    same c b e h = grind (arith, nat_tests)
+
+    past : (c b : ℕ) → b ≡ byte_of c → 128 ≤ b → 128 ≤ c
+    past c b e h = grind (arith, nat_tests)
+
+pub bytes-of_ascii : (t bytes : Text) → bytes ≡ t → AreBytesOf t bytes
+bytes-of_ascii t bytes e = subst (λ bs. AreBytesOf t bs) (sym e) (record { long = refl; ascii = λ k h. refl; past = λ k h. h })
+
+past-calm : (c : ℕ) → 128 ≤ c → is_calm c ≡ true
+past-calm c h = grind (arith, nat_tests)
+
+letter-low : (c : ℕ) → is_ascii_alphanumeric c ≡ true → c < 128
+letter-low c h = grind (arith, nat_tests)
+
+calm-at_same : (t bytes : Text) (k : ℕ) → AreBytesOf t bytes → is_calm_at bytes k ≡ true → is_calm_at t k ≡ true
+calm-at_same t bytes k of h = ⊎_elim
+    (λ low.
+    let here = of.ascii k low in
+    ⊎_elim
+    (λ calm. ap (λ b. b || (get_or t k 0 == 95 && is_ascii_alphanumeric (get_or t (k + 1) 0))) (ap is_calm here ∙ calm))
+    (λ inner.
+    let behind = of.ascii (k + 1) (letter-low (get_or bytes (k + 1) 0) inner.1) in
+    rw (here ∙ eqb-true (get_or bytes k 0) 95 inner.0, ap is_ascii_alphanumeric behind ∙ inner.1) refl)
+    (either bytes k h))
+    (λ high. ap (λ b. b || (get_or t k 0 == 95 && is_ascii_alphanumeric (get_or t (k + 1) 0))) (past-calm (get_or t k 0) (of.past k high)))
+    (cases_lt (get_or bytes k 0) 128)
+
+pub calm-same : (t bytes : Text) (from to : ℕ) → AreBytesOf t bytes → IsCalm bytes from to → IsCalm t from to
+calm-same t bytes from to of run = record {
+  above = run.above;
+  within = λ some. let within = run.within some in let long = of.long in omega arith;
+  calm = λ k above less. calm-at_same t bytes k of (run.calm k above less);
+  edge = λ some.
+      let here = of.ascii (to - 1) (other (get_or bytes (to - 1) 0) (run.edge some)).low in
+      ap is_of_name here ∙ run.edge some;
 }
 
 -- ---- steps
@@ -168,17 +221,9 @@ pub record Stepped (t : Text) (from place start : ℕ) (after : Bool) : Type 0 w
   pub none : HasNoStart t from from start
   pub escaped : after ≡ is_escaped t from start
 
--- the bytes of ASCII are the text; of another text there are none, and then no step is done
-step-of : (t bytes : Text) (place start : ℕ) → (0 < length bytes → bytes ≡ t) → IsStep bytes place start → IsStep t place start
-step-of t bytes place start same over = ⊎_elim
-    (λ some. let within = over.within some in subst (λ (x : Text). IsStep x place start) (same (omega arith)) over)
-    (λ none. record { above = over.above; within = λ some. absurd (omega arith); none = λ begin i low less. absurd (omega arith); bare = λ some. absurd (omega arith) })
-    (cases_lt place start)
-
-pub stepped : (t bytes : Text) (from place start : ℕ) (escaped after : Bool) → from ≤ place → place < length t → (0 < length bytes → bytes ≡ t) → HasNoStart t from from place → escaped ≡ is_escaped t from place
-    → IsStep bytes place start → after ≡ (escaped && start == place) → Stepped t from place start after
-stepped t bytes from place start escaped after order inside same none known over is =
-    let step = step-of t bytes place start same over in
+pub stepped : (t : Text) (from place start : ℕ) (escaped after : Bool) → from ≤ place → place < length t → HasNoStart t from from place → escaped ≡ is_escaped t from place
+    → IsStep t place start → after ≡ (escaped && start == place) → Stepped t from place start after
+stepped t from place start escaped after order inside none known step is =
     record {
       above = step.above;
       below = ⊎_elim step.within (λ none. let above = step.above in omega arith) (cases_lt place start);

@@ -1,13 +1,14 @@
 -- In a quiet text nothing begins.
-use Rattle.std.proofs.Common.{◌≡◌, ⊎_elim, ℕ, ◌+◌, ◌<◌, Bool, true, false, ◌||◌, ◌==◌, cond, List, [], ◌∷◌, Option, Some, None, length, option_and_then, option_map, get_or, true≢false, refl, sym, ap, ◌∙◌, subst, arith}
+use Rattle.std.proofs.Common.{◌≡◌, ⊎_elim, ℕ, ◌+◌, ◌<◌, ◌≤◌, Bool, true, false, ◌||◌, ◌==◌, cond, List, [], ◌∷◌, Option, Some, None, length, option_and_then, option_map, get_or, true≢false, refl, sym, ap, ◌∙◌, subst, arith}
 use Rattle.std.specs.Prelude.{nat_lt}
 use Rattle.std.specs.List.{list_all}
-use Rattle.std.specs.Str.{IsAscii}
+use Rattle.std.specs.Str.{chars, IsUtf8}
+use Rattle.std.proofs.Math.Utf8.{encode, encodes}
+use Rattle.std.proofs.lemmas.Str.{encode_ascii, encodes-chars}
 use Rattle.std.proofs.lemmas.Bool.{ltb-true, eqb-true, and_parts, cases_lt}
 use Rattle.std.proofs.lemmas.Bool.Decides.{nat_tests}
-use Rattle.std.proofs.lemmas.List.{get_or_past}
 use Rattle.std.proofs.lemmas.List.Elements.{All-from_get_or}
-use Rattle.std.proofs.lemmas.List.Folds.{list_all_at}
+use Rattle.std.proofs.lemmas.List.Folds.{list_all_at, list_all-append}
 use Rattle.std.proofs.lemmas.List.Sums.{list_all-from_AllPass}
 use Rattle.rst_text.proofs.PlacesLemmas.{cases_bool}
 use Rattle.rst_inline_scan.specs.Characters.{Text, has}
@@ -84,11 +85,22 @@ quiet-one (c ∷ cs) h some = quiet-pieces (c ∷ cs) h
 
 -- ---- its characters
 
-pub quiet-ascii : (t : Text) → quiet t ≡ true → IsAscii t
-quiet-ascii t h i = ⊎_elim
-    (λ inside. ltb-true (get_or t i 0) 128 (and_parts (nat_lt (get_or t i 0) 128) _ (quiet-at t i h inside)).0)
-    (λ past. let none : get_or t i 0 ≡ 0 = get_or_past t i 0 past in omega arith)
-    (cases_lt i (length t))
+past-ascii : (c : ℕ) → 128 ≤ c → is_quiet c ≡ true
+past-ascii c high = grind (arith, nat_tests)
+
+spelled : (cs : List ℕ) → quiet (encodes cs) ≡ true → quiet cs ≡ true
+spelled [] h = refl
+spelled (c ∷ cs) h =
+    let parts = and_parts (quiet (encode c)) (quiet (encodes cs)) (sym (list_all-append is_quiet (encode c) (encodes cs)) ∙ h) in
+    let first : is_quiet c ≡ true = ⊎_elim
+    (λ low. (and_parts (is_quiet c) true (subst (λ bs. quiet bs ≡ true) (encode_ascii c low) parts.0)).0)
+    (λ high. past-ascii c high)
+    (cases_lt c 128) in
+    rw first (spelled cs parts.1)
+
+-- a text is quiet whose bytes are
+pub quiet-chars : (bs : List ℕ) → IsUtf8 bs → quiet bs ≡ true → quiet (chars bs) ≡ true
+quiet-chars bs utf8 h = spelled (chars bs) (subst (λ t. quiet t ≡ true) (sym (encodes-chars bs utf8)) h)
 
 pub quiet-plain : (t : Text) → quiet t ≡ true → has_backslash t ≡ false
 quiet-plain [] h = refl

@@ -89,7 +89,7 @@ record Ends (t : Text) (i : ℕ) : Type 0 where
   pub colon : has t i 58 ≡ false
   pub name : i < length t → is_name_at t i ≡ false
 
-or_false : (a b : Bool) → (a || b) ≡ false → (a ≡ false) × (b ≡ false)
+pub or_false : (a b : Bool) → (a || b) ≡ false → (a ≡ false) × (b ≡ false)
 or_false true b h = absurd (true≢false h)
 or_false false b h = (refl, h)
 

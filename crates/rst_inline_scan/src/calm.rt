@@ -1,12 +1,31 @@
 //! Calm characters, which are stepped over: at them no markup begins but a name or a URI, and none of these ends.
-ghost use Rattle.std.specs.Prelude.{◌≡◌, ◌-◌, ◌<◌, ◌≤◌, ◌&&◌, ◌==◌, false, slice_index, length};
-ghost use Rattle.rst_inline_scan.specs.Calm.{is_calm, AreCalm, is_of_name, IsStep};
+ghost use Rattle.std.specs.Prelude.{◌≡◌, ℕ, ◌-◌, ◌<◌, ◌≤◌, ◌&&◌, ◌==◌, false, List, slice_index, length, IfOk, map};
+ghost use Rattle.rst_inline_scan.specs.Calm.{AreBytesOf, byte_of, is_calm, AreCalm, is_of_name, IsStep};
 
 use super::names::is_joint;
 use rst_text::{ByteTest, run_end};
+use std::alloc::{AllocError, Global};
 use std::simd::prelude::*;
 
-/// Whether a byte is calm: ASCII, and none that markup begins or a name ends with, and no backslash.
+/// The byte for a character: that of ASCII, or one past ASCII.
+fn byte_of(c: char) -> u8
+    ensures { result ≡ byte_of c }
+{
+    if c.is_ascii() { c as u8 } else { 128 }
+}
+
+/// A byte for each character.
+pub(crate) fn bytes_of(alloc: Global, text: &[char]) -> Result<Vec<u8>, AllocError>
+    ensures { IfOk result (λ bytes. bytes.items ≡ map byte_of text.now) }
+{
+    let mut bytes = Vec::with_capacity(alloc, text.len())?;
+    for c in text {
+        bytes.push_reserved(byte_of(*c));
+    }
+    Ok(bytes)
+}
+
+/// Whether a byte is calm: none that markup begins or a name ends with, and no backslash.
 struct Calm;
 
 impl ByteTest for Calm {
@@ -15,13 +34,12 @@ impl ByteTest for Calm {
     ghost passes = { is_calm };
 
     fn passes(byte: u8) -> bool {
-        byte.is_ascii() && !matches!(byte, b'*' | b':' | b'[' | b'\\' | b'_' | b'`' | b'|')
+        !matches!(byte, b'*' | b':' | b'[' | b'\\' | b'_' | b'`' | b'|')
     }
 
     #[inline(always)]
     fn failing(bytes: u8x16) -> u64 {
-        let fails = bytes.simd_ge(u8x16::splat(128))
-            | bytes.simd_eq(u8x16::splat(b'*'))
+        let fails = bytes.simd_eq(u8x16::splat(b'*'))
             | bytes.simd_eq(u8x16::splat(b':'))
             | bytes.simd_eq(u8x16::splat(b'['))
             | bytes.simd_eq(u8x16::splat(b'\\'))
@@ -51,7 +69,7 @@ fn calm_end(bytes: &[u8], place: usize) -> usize
 fn is_of_name(byte: u8) -> bool
     ensures { result ≡ is_of_name byte }
 {
-    byte.is_ascii_alphanumeric() || is_joint(char::from(byte))
+    !byte.is_ascii() || byte.is_ascii_alphanumeric() || is_joint(char::from(byte))
 }
 
 /// Where the name begins that ends at `to`, but no place before `from`.
@@ -72,9 +90,10 @@ fn name_start(bytes: &[u8], from: usize, to: usize) -> usize
 /// The place behind the calm bytes from the place on, but not inside a name. Up to `searched` earlier steps have looked, so there
 /// nothing is looked for again.
 fn calm_step(bytes: &[u8], place: usize, searched: &mut usize) -> usize
-    ensures { IsStep bytes.now place result }
+    requires { place < length bytes.now }
+    ensures { (text : List ℕ) → AreBytesOf text bytes.now → IsStep text place result }
 {
-    if bytes.len() <= place || place < *searched {
+    if place < *searched {
         return place;
     }
     *searched = calm_end(bytes, place);
@@ -83,7 +102,8 @@ fn calm_step(bytes: &[u8], place: usize, searched: &mut usize) -> usize
 
 /// The same, and whether what stands there is escaped if what stands at `place` is or not.
 pub(crate) fn step(bytes: &[u8], place: usize, escaped: bool, searched: &mut usize) -> (usize, bool)
-    ensures over { IsStep bytes.now place result.0 }
+    requires { place < length bytes.now }
+    ensures over { (text : List ℕ) → AreBytesOf text bytes.now → IsStep text place result.0 }
     ensures escaped { result.1 ≡ (escaped && result.0 == place) }
 {
     let start = calm_step(bytes, place, searched);
