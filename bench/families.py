@@ -277,7 +277,13 @@ FAMILIES = {
     "unclosed roles": lambda n: lines(n, ":a:`b "),
     "unclosed labels": lambda n: "[" * n + "\n",
     "unclosed of each kind": lambda n: lines(n, "*a **b ``c `d _`e |f "),
+    "unclosed emphasis behind dashes": lambda n: lines(n, "a-*b "),
+    "words with underscores": lambda n: lines(n, "a_b_c "),
+    "one long word with underscores": lambda n: "a_" * n + "a\n",
     "one long word with dashes": lambda n: "a-" * n + "\n",
+    "one long word with dashes, and a colon": lambda n: "a-" * n + ":\n",
+    "one long word that isn't ASCII, and a colon": lambda n: "é" * n + ":\n",
+    "emphasis in text that isn't ASCII": lambda n: lines(n, "été *là* "),
     "one long URI": lambda n: "http://" + "a/" * n + "\n",
     "backslashes": lambda n: "\\" * n + "\n",
 }

@@ -1,8 +1,6 @@
 -- What a quiet text means: one text as it is written.
-use Rattle.std.proofs.Common.{◌≡◌, ℕ, ◌++◌, [], ◌∷◌, true, length, refl, sym, ap, ◌∙◌, subst, arith}
+use Rattle.std.proofs.Common.{◌≡◌, ℕ, ◌++◌, [], ◌∷◌, true, length, refl, sym, ap, ◌∙◌, arith}
 use Rattle.std.proofs.lemmas.List.{take_all}
-use Rattle.std.specs.Str.{chars}
-use Rattle.std.proofs.lemmas.Str.{chars-IsAscii}
 use Rattle.rst_tree.specs.Nodes.{nodes_of}
 use Rattle.rst_inline_scan.specs.Characters.{Text}
 use Rattle.rst_inline_scan.specs.Escapes.{unescaped}
@@ -10,7 +8,7 @@ use Rattle.rst_inline_scan.specs.Pieces.{plain_from}
 use Rattle.rst_inline_scan.specs.Quiet.{quiet}
 use Rattle.rst_inline_scan.specs.declared.piece.Piece.{Piece}
 use Rattle.rst_inline_scan.proofs.EscapeLemmas.{unescaped-plain}
-use Rattle.rst_inline_scan.proofs.QuietLemmas.{whole, quiet-pieces, quiet-ascii, quiet-plain}
+use Rattle.rst_inline_scan.proofs.QuietLemmas.{whole, quiet-pieces, quiet-plain}
 use Rattle.rst_inline.specs.declared.nodes.Pieces.{Pieces}
 use Rattle.rst_inline.specs.Elements.{text_children}
 use Rattle.rst_inline.specs.Parts.{source}
@@ -37,7 +35,6 @@ quiet-notes [] line h = refl
 quiet-notes (c ∷ cs) line h = sym (ap (λ m. notes_by m line ++ []) (reading-all (c ∷ cs) line h))
 
 -- what was read of a quiet text
-pub quiet-read : (t : Text) (line : ℕ) (read : Pieces) → quiet t ≡ true → read.nodes.items ≡ nodes_of (text_children t) → read.notes.items ≡ [] → IsRead (chars t) line read
+pub quiet-read : (t : Text) (line : ℕ) (read : Pieces) → quiet t ≡ true → read.nodes.items ≡ nodes_of (text_children t) → read.notes.items ≡ [] → IsRead t line read
 quiet-read t line read h nodes notes =
-    subst (λ (x : Text). IsRead x line read) (sym (chars-IsAscii t (quiet-ascii t h)))
     (whole t, quiet-pieces t h, record { nodes = nodes ∙ quiet-nodes t line h; notes = notes ∙ quiet-notes t line h })

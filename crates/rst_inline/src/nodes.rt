@@ -41,7 +41,7 @@ pub fn inline(alloc: Global, text: &str, line: usize) -> Result<Pieces, InlineFa
 
 /// The same of a quiet text, whatever its line: it is one plain piece, so it is neither made characters nor scanned.
 fn quiet(alloc: Global, text: &str) -> Result<Pieces, InlineFault>
-    requires { quiet text.now ≡ true }
+    requires { quiet (chars text.now) ≡ true }
     ensures { (line : ℕ) → Gives (IsRead (chars text.now) line) result }
 {
     let children = text_nodes(alloc, text)?;

@@ -1,76 +1,126 @@
 -- Between calm characters nothing begins.
-use Rattle.std.proofs.Common.{◌≡◌, ◌≢◌, ⊎_elim, ◌⊎◌, inl, inr, ℕ, zero, suc, ◌+◌, ◌-◌, ◌<◌, ◌≤◌, Bool, true, false, ◌&&◌, ◌||◌, ◌==◌, None, length, get_or, true≢false, refl, sym, ap, ◌∙◌, subst, arith}
+use Rattle.std.proofs.Common.{◌≡◌, ◌≢◌, ⊎_elim, ◌⊎◌, inl, inr, ℕ, zero, suc, ◌+◌, ◌-◌, ◌<◌, ◌≤◌, List, [], ◌∷◌, map, Bool, true, false, not, ◌&&◌, ◌||◌, ◌==◌, None, length, get_or, true≢false, refl, sym, ap, ◌∙◌, subst, arith}
+use Rattle.std.specs.Prelude.{nat_lt}
 use Rattle.std.specs.Char.{is_ascii_alphanumeric}
-use Rattle.std.proofs.lemmas.Bool.{eqb-true, cases_lt}
+use Rattle.std.proofs.lemmas.List.{length-map}
+use Rattle.std.proofs.lemmas.Bool.{lt-ltb, eqb-true, and_parts, cases_lt}
 use Rattle.std.proofs.lemmas.Bool.Decides.{nat_tests}
 use Rattle.rst_text.specs.Runs.{PassBetween}
-use Rattle.rst_text.proofs.PlacesLemmas.{cases_bool}
-use Rattle.rst_inline_scan.specs.Characters.{Text}
+use Rattle.rst_text.proofs.PlacesLemmas.{cases_bool, lt_eq_gt}
+use Rattle.rst_inline_scan.specs.Characters.{Text, has, may_follow, is_free_behind}
 use Rattle.rst_inline_scan.specs.Escapes.{is_escaped}
-use Rattle.rst_inline_scan.specs.Words.{IsWord, goes_on}
-use Rattle.rst_inline_scan.specs.Calm.{is_calm, IsStep}
+use Rattle.rst_inline_scan.specs.Names.{is_joint, is_name_at, ends_name}
+use Rattle.rst_inline_scan.specs.Tails.{name_tail}
+use Rattle.rst_inline_scan.specs.Marked.{has_start}
+use Rattle.rst_inline_scan.specs.Calm.{AreBytesOf, byte_of, is_calm, is_calm_at, AreCalm, is_of_name, IsStep}
 use Rattle.rst_inline_scan.specs.Pieces.{piece_at, HasNoStart}
+use Rattle.rst_inline_scan.specs.declared.piece.Markup.TheVariants.{Target}
 use Rattle.rst_inline_scan.proofs.EscapeLemmas.{other-bare, is_escaped-bare}
-use Rattle.rst_inline_scan.proofs.WordLemmas.{differs, absent, lacks-by, no-piece-lacking, goes_on-space, goes_on-feed, goes_on-comma}
+use Rattle.rst_inline_scan.proofs.WordLemmas.{IsBarred, or_false, Lacks, differs, absent, letter-behind, no-target, no-label, no-letter-at, no-underscore, no-piece-barred}
 
--- from one place up to another all are calm, no word of them ends at the other, and it isn't the text's end
+-- from one place up to another all are calm, the last is none of a name, and the other isn't the text's end
 pub record IsCalm (t : Text) (from to : ℕ) : Type 0 where
   pub above : from ≤ to
   pub within : from < to → to < length t
-  pub calm : PassBetween is_calm t from to
-  pub edge : from < to → is_ascii_alphanumeric (get_or t (to - 1) 0) ≡ false
+  pub calm : AreCalm t from to
+  pub edge : from < to → is_of_name (get_or t (to - 1) 0) ≡ false
 
--- ---- words among them
+-- ---- a calm place
 
--- one of the calm characters that aren't in words
-space_of : (c : ℕ) → is_calm c ≡ true → is_ascii_alphanumeric c ≡ false → (c ≡ 32) ⊎ ((c ≡ 10) ⊎ (c ≡ 44))
-space_of c h k = go (c == 32) (c == 10) (c == 44) refl refl refl (rest h)
+-- an underscore stands there, with a letter or a digit behind it
+abbrev IsInner : Text → ℕ → Type 0
+IsInner t i = ((get_or t i 0 == 95) ≡ true) × (is_ascii_alphanumeric (get_or t (i + 1) 0) ≡ true)
+
+either : (t : Text) (i : ℕ) → is_calm_at t i ≡ true → (is_calm (get_or t i 0) ≡ true) ⊎ IsInner t i
+either t i h = ⊎_elim
+    (λ calm. inl calm)
+    (λ other. inr (and_parts (get_or t i 0 == 95) (is_ascii_alphanumeric (get_or t (i + 1) 0)) (subst (λ b. (b || (get_or t i 0 == 95 && is_ascii_alphanumeric (get_or t (i + 1) 0))) ≡ true) other h)))
+    (cases_bool (is_calm (get_or t i 0)))
+
+abbrev is_loose : ℕ → Bool
+is_loose c = is_calm c || c == 95
+
+loose : (t : Text) (i : ℕ) → is_calm_at t i ≡ true → is_loose (get_or t i 0) ≡ true
+loose t i h = ⊎_elim
+    (λ calm. ap (λ b. b || get_or t i 0 == 95) calm)
+    (λ inner. ap is_loose (eqb-true (get_or t i 0) 95 inner.0))
+    (either t i h)
+
+calm-target : (t : Text) (i : ℕ) → is_calm_at t i ≡ true → has_start Target t i ≡ false
+calm-target t i h = ⊎_elim
+    (λ calm. no-target t i (absent is_calm t i 95 calm refl))
+    (λ inner. behind (absent is_ascii_alphanumeric t (i + 1) 96 inner.1 refl))
+    (either t i h)
   where
-    rest : is_calm c ≡ true → (c == 32 || (c == 10 || c == 44)) ≡ true
-    rest e = sym (ap (λ b. b || (c == 32 || (c == 10 || c == 44))) k) ∙ e
+    behind : has t (i + 1) 96 ≡ false → has_start Target t i ≡ false
+    behind none = rw none (grind (arith, nat_tests))
 
-    go : (a b d : Bool) → (c == 32) ≡ a → (c == 10) ≡ b → (c == 44) ≡ d → (a || (b || d)) ≡ true → (c ≡ 32) ⊎ ((c ≡ 10) ⊎ (c ≡ 44))
-    go true b d p q r e = inl (eqb-true c 32 p)
-    go false true d p q r e = inr (inl (eqb-true c 10 q))
-    go false false true p q r e = inr (inr (eqb-true c 44 r))
-    go false false false p q r e = absurd (true≢false (sym e))
+-- behind an underscore no name ends where a letter or a digit stands
+letter-unended : (t : Text) (k : ℕ) → k + 1 < length t → is_ascii_alphanumeric (get_or t (k + 1) 0) ≡ true → ends_name t k ≡ false
+unfolding ends_name name_tail
+letter-unended t k within letter =
+    let second = absent is_ascii_alphanumeric t (k + 1) 95 letter refl in
+    let behind : is_free_behind t (k + 1) ≡ false = rw (letter-behind (get_or t (k + 1) 0) letter, lt-ltb (k + 1) (length t) within) refl in
+    rw (second, behind) (grind (arith, nat_tests))
 
--- nothing goes on with a word there
-goes_on-calm : (t : Text) (i : ℕ) → is_calm (get_or t i 0) ≡ true → is_ascii_alphanumeric (get_or t i 0) ≡ false → goes_on t i ≡ false
-goes_on-calm t i h k = ⊎_elim (λ space. sym (goes_on-space t i space)) (λ rest. ⊎_elim (λ feed. sym (goes_on-feed t i feed)) (λ comma. sym (goes_on-comma t i comma)) rest) (space_of (get_or t i 0) h k)
+calm-unended : (t : Text) (k : ℕ) → k + 1 < length t → is_calm_at t k ≡ true → ends_name t k ≡ false
+calm-unended t k within h = ⊎_elim
+    (λ calm. no-underscore t k (absent is_calm t k 95 calm refl))
+    (λ inner. letter-unended t k within inner.1)
+    (either t k h)
 
-longer : (t : Text) (i e : ℕ) → is_ascii_alphanumeric (get_or t i 0) ≡ true → IsWord t (i + 1) e → IsWord t i e
-longer t i e here run = record {
-  above = let above = run.above in omega arith;
-  within = run.within;
-  letters = λ k low less. ⊎_elim
-      (λ first. let same : k ≡ i = omega arith in subst (λ n. is_ascii_alphanumeric (get_or t n 0) ≡ true) (sym same) here)
-      (λ past. run.letters k past less)
-      (cases_lt k (i + 1));
-  stops = run.stops;
-}
+-- ---- a run of them
 
-empty : (t : Text) (i : ℕ) → i ≤ length t → is_ascii_alphanumeric (get_or t i 0) ≡ false → IsWord t i i
-empty t i within here = record { above = omega arith; within = within; letters = λ k low less. absurd (omega arith); stops = λ inside. here }
+pub calm-longer : (t : Text) (from at to : ℕ) → AreCalm t from at → get_or t at 0 ≡ 95 → is_ascii_alphanumeric (get_or t (at + 1) 0) ≡ true → PassBetween is_calm t (at + 1) to → AreCalm t from to
+calm-longer t from at to calm underscore letter run k above less = ⊎_elim
+    (λ before. calm k above before)
+    (λ rest. ⊎_elim
+    (λ here. subst (λ n. is_calm_at t n ≡ true) (sym here) (rw (underscore, letter) refl))
+    (λ past. ap (λ b. b || (get_or t k 0 == 95 && is_ascii_alphanumeric (get_or t (k + 1) 0))) (run k (omega arith) less))
+    rest)
+    (lt_eq_gt k at)
 
--- the word that begins at a place ends no later than where no letter or digit stands
-word-within : (t : Text) (n i last : ℕ) → i + n ≡ last → last < length t → is_ascii_alphanumeric (get_or t last 0) ≡ false → (e : ℕ) × IsWord t i e × (e ≤ last)
-word-within t zero i last order within stop =
-    let same : i ≡ last = omega arith in
-    (i, empty t i (omega arith) (subst (λ k. is_ascii_alphanumeric (get_or t k 0) ≡ false) (sym same) stop), omega arith)
-word-within t (suc n) i last order within stop = ⊎_elim
-    (λ letter. let rest = word-within t n (i + 1) last (omega arith) within stop in (rest.0, longer t i rest.0 letter rest.1, rest.2))
-    (λ other. (i, empty t i (omega arith) other, omega arith))
-    (cases_bool (is_ascii_alphanumeric (get_or t i 0)))
+-- what no name holds
+record IsOther (c : ℕ) : Type 0 where
+  low : c < 128
+  letter : is_ascii_alphanumeric c ≡ false
+  joint : is_joint c ≡ false
+
+other : (c : ℕ) → is_of_name c ≡ false → IsOther c
+other c h =
+    let first = or_false (not (nat_lt c 128)) (is_ascii_alphanumeric c || is_joint c) h in
+    let rest = or_false (is_ascii_alphanumeric c) (is_joint c) first.1 in
+    record { low = below first.0; letter = rest.0; joint = rest.1 }
+  where
+    below : not (nat_lt c 128) ≡ false → c < 128
+    below e = grind (arith, nat_tests)
+
+no-name-at : (t : Text) (i : ℕ) → IsOther (get_or t i 0) → is_name_at t i ≡ false
+unfolding is_name_at
+no-name-at t i here = rw (no-letter-at t i (get_or t i 0) refl here.low here.letter, here.joint) refl
 
 none-calm : (t : Text) (begin from to i : ℕ) → IsCalm t from to → from ≤ i → i < to → piece_at t begin i ≡ None
-none-calm t begin from to i run low less =
+none-calm t begin from to i run above less =
     let within : to < length t = run.within (omega arith) in
-    let word = word-within t (to - 1 - i) i (to - 1) (omega arith) (omega arith) (run.edge (omega arith)) in
-    let short = word.2 in
-    let above = word.1.above in
-    let calm_end = run.calm word.0 (omega arith) (omega arith) in
-    no-piece-lacking t begin i word.0 word.1 (lacks-by is_calm t i (run.calm i low less) refl refl refl refl refl) (absent is_calm t i 91 (run.calm i low less) refl) (goes_on-calm t word.0 calm_end (word.1.stops (omega arith)))
+    let calm : (k : ℕ) → i ≤ k → k < to → is_calm_at t k ≡ true = λ k more below. run.calm k (omega arith) below in
+    let here = loose t i (calm i (omega arith) less) in
+    let edge = other (get_or t (to - 1) 0) (run.edge (omega arith)) in
+    no-piece-barred t begin i (to - 1)
+    (record {
+      above = omega arith;
+      unended = λ k more upto. calm-unended t k (omega arith) (calm k (omega arith) (omega arith));
+      colon = λ k more upto. absent is_loose t k 58 (loose t k (calm k more (omega arith))) refl;
+      name = λ inside. no-name-at t (to - 1) edge;
+      letter = λ inside. edge.letter;
+    })
+    (record {
+      star = absent is_loose t i 42 here refl;
+      grave = absent is_loose t i 96 here refl;
+      target = calm-target t i (calm i (omega arith) less);
+      bar = absent is_loose t i 124 here refl;
+      colon = absent is_loose t i 58 here refl;
+    })
+    (no-label t i (absent is_loose t i 91 here refl))
 
 -- so they are stepped over
 pub calm-step : (t : Text) (from to : ℕ) → IsCalm t from to → IsStep t from to
@@ -78,7 +128,59 @@ calm-step t from to run = record {
   above = run.above;
   within = run.within;
   none = λ begin i low less. none-calm t begin from to i run low less;
-  bare = λ some same. true≢false (sym (ap (λ c. c == 92) same) ∙ differs is_calm (get_or t (to - 1) 0) 92 (run.calm (to - 1) (omega arith) (omega arith)) refl);
+  bare = λ some same. true≢false (sym (ap (λ c. c == 92) same) ∙ differs is_loose (get_or t (to - 1) 0) 92 (loose t (to - 1) (run.calm (to - 1) (omega arith) (omega arith))) refl);
+}
+
+-- ---- the bytes of a text
+
+bytes-get : (t : Text) (k : ℕ) → get_or (map byte_of t) k 0 ≡ byte_of (get_or t k 0)
+bytes-get [] k = refl
+bytes-get (c ∷ cs) zero = refl
+bytes-get (c ∷ cs) (suc k) = bytes-get cs k
+
+pub bytes-of_text : (t : Text) → AreBytesOf t (map byte_of t)
+bytes-of_text t = record {
+  long = length-map t byte_of;
+  ascii = λ k h. same (get_or t k 0) (get_or (map byte_of t) k 0) (bytes-get t k) h;
+  past = λ k h. past (get_or t k 0) (get_or (map byte_of t) k 0) (bytes-get t k) h;
+}
+  where
+    same : (c b : ℕ) → b ≡ byte_of c → b < 128 → c ≡ b
+    same c b e h = grind (arith, nat_tests)
+
+    past : (c b : ℕ) → b ≡ byte_of c → 128 ≤ b → 128 ≤ c
+    past c b e h = grind (arith, nat_tests)
+
+pub bytes-of_ascii : (t bytes : Text) → bytes ≡ t → AreBytesOf t bytes
+bytes-of_ascii t bytes e = subst (λ bs. AreBytesOf t bs) (sym e) (record { long = refl; ascii = λ k h. refl; past = λ k h. h })
+
+past-calm : (c : ℕ) → 128 ≤ c → is_calm c ≡ true
+past-calm c h = grind (arith, nat_tests)
+
+letter-low : (c : ℕ) → is_ascii_alphanumeric c ≡ true → c < 128
+letter-low c h = grind (arith, nat_tests)
+
+calm-at_same : (t bytes : Text) (k : ℕ) → AreBytesOf t bytes → is_calm_at bytes k ≡ true → is_calm_at t k ≡ true
+calm-at_same t bytes k of h = ⊎_elim
+    (λ low.
+    let here = of.ascii k low in
+    ⊎_elim
+    (λ calm. ap (λ b. b || (get_or t k 0 == 95 && is_ascii_alphanumeric (get_or t (k + 1) 0))) (ap is_calm here ∙ calm))
+    (λ inner.
+    let behind = of.ascii (k + 1) (letter-low (get_or bytes (k + 1) 0) inner.1) in
+    rw (here ∙ eqb-true (get_or bytes k 0) 95 inner.0, ap is_ascii_alphanumeric behind ∙ inner.1) refl)
+    (either bytes k h))
+    (λ high. ap (λ b. b || (get_or t k 0 == 95 && is_ascii_alphanumeric (get_or t (k + 1) 0))) (past-calm (get_or t k 0) (of.past k high)))
+    (cases_lt (get_or bytes k 0) 128)
+
+pub calm-same : (t bytes : Text) (from to : ℕ) → AreBytesOf t bytes → IsCalm bytes from to → IsCalm t from to
+calm-same t bytes from to of run = record {
+  above = run.above;
+  within = λ some. let within = run.within some in let long = of.long in omega arith;
+  calm = λ k above less. calm-at_same t bytes k of (run.calm k above less);
+  edge = λ some.
+      let here = of.ascii (to - 1) (other (get_or bytes (to - 1) 0) (run.edge some)).low in
+      ap is_of_name here ∙ run.edge some;
 }
 
 -- ---- steps
@@ -119,17 +221,9 @@ pub record Stepped (t : Text) (from place start : ℕ) (after : Bool) : Type 0 w
   pub none : HasNoStart t from from start
   pub escaped : after ≡ is_escaped t from start
 
--- the bytes of ASCII are the text; of another text there are none, and then no step is done
-step-of : (t bytes : Text) (place start : ℕ) → (0 < length bytes → bytes ≡ t) → IsStep bytes place start → IsStep t place start
-step-of t bytes place start same over = ⊎_elim
-    (λ some. let within = over.within some in subst (λ (x : Text). IsStep x place start) (same (omega arith)) over)
-    (λ none. record { above = over.above; within = λ some. absurd (omega arith); none = λ begin i low less. absurd (omega arith); bare = λ some. absurd (omega arith) })
-    (cases_lt place start)
-
-pub stepped : (t bytes : Text) (from place start : ℕ) (escaped after : Bool) → from ≤ place → place < length t → (0 < length bytes → bytes ≡ t) → HasNoStart t from from place → escaped ≡ is_escaped t from place
-    → IsStep bytes place start → after ≡ (escaped && start == place) → Stepped t from place start after
-stepped t bytes from place start escaped after order inside same none known over is =
-    let step = step-of t bytes place start same over in
+pub stepped : (t : Text) (from place start : ℕ) (escaped after : Bool) → from ≤ place → place < length t → HasNoStart t from from place → escaped ≡ is_escaped t from place
+    → IsStep t place start → after ≡ (escaped && start == place) → Stepped t from place start after
+stepped t from place start escaped after order inside none known step is =
     record {
       above = step.above;
       below = ⊎_elim step.within (λ none. let above = step.above in omega arith) (cases_lt place start);

@@ -9,7 +9,7 @@ use Rattle.rst_text.specs.Characters.{is_white}
 use Rattle.rst_text.specs.Places.{all_from}
 use Rattle.rst_text.proofs.CharacterLemmas.{is_alphanumeric-ascii}
 use Rattle.rst_text.proofs.PlacesLemmas.{cases_bool, lt_eq_gt, all_from-at, all_from-stop, last_from-is}
-use Rattle.rst_inline_scan.specs.Characters.{Text, has, may_precede, is_alnum_at}
+use Rattle.rst_inline_scan.specs.Characters.{Text, has, may_precede, may_follow, is_alnum_at}
 use Rattle.rst_inline_scan.specs.Escapes.{is_escaped}
 use Rattle.rst_inline_scan.specs.Tails.{name_tail}
 use Rattle.rst_inline_scan.specs.Names.{is_joint, is_name_at, role_end, ends_name, is_reference, name_end, reference_to, reference}
@@ -52,6 +52,11 @@ pub letter-before : (c : ℕ) → IsLetter c → may_precede c ≡ false
 unfolding may_precede is_white
 letter-before c h = not-so _ (unless-so _ _ (below (λ c. unless (is_ascii_alphanumeric c) (not (may_precede c))) refl c (letter-low c h)) h)
 
+-- nor behind an end
+pub letter-behind : (c : ℕ) → IsLetter c → may_follow c ≡ false
+unfolding may_follow is_white
+letter-behind c h = not-so _ (unless-so _ _ (below (λ c. unless (is_ascii_alphanumeric c) (not (may_follow c))) refl c (letter-low c h)) h)
+
 -- a character that passes a test is none that fails it
 pub differs : (p : ℕ → Bool) (c d : ℕ) → p c ≡ true → p d ≡ false → (c == d) ≡ false
 differs p c d h k = not-so _ (by_case (c == d) refl)
@@ -84,7 +89,7 @@ record Ends (t : Text) (i : ℕ) : Type 0 where
   pub colon : has t i 58 ≡ false
   pub name : i < length t → is_name_at t i ≡ false
 
-or_false : (a b : Bool) → (a || b) ≡ false → (a ≡ false) × (b ≡ false)
+pub or_false : (a b : Bool) → (a || b) ≡ false → (a ≡ false) × (b ≡ false)
 or_false true b h = absurd (true≢false h)
 or_false false b h = (refl, h)
 
@@ -98,20 +103,38 @@ ends-by t i h =
     let second = or_false (has t i 58) (nat_lt i (length t) && is_name_at t i) first.1 in
     record { underscore = first.0; colon = second.0; name = within-false i (length t) (is_name_at t i) second.1 }
 
-no-name : (t : Text) (i to : ℕ) → IsWord t i to → Ends t to → name_end t i ≡ None
-unfolding name_end
-no-name t i to word ends = sym (last_from-is (is_reference t i) (i + 1) (length t) None (λ k more less.
-    ⊎_elim
-    (λ inside. not_reference t i k (no-underscore t k (other-at t i to k 95 word (omega arith) inside refl)))
-    (λ rest. ⊎_elim
-    (λ same. not_reference t i k (no-underscore t k (subst (λ n. has t n 95 ≡ false) (sym same) ends.underscore)))
-    (λ past. is_reference-past t i k (all_from-stop (is_name_at t) i to k word.above past (ends.name (omega arith))))
-    rest)
-    (lt_eq_gt k to)))
+-- No name or scheme that begins at i goes past e: up to there none ends, and no place of a name is there.
+pub record IsBarred (t : Text) (i e : ℕ) : Type 0 where
+  pub above : i ≤ e
+  pub unended : (k : ℕ) → i < k → k ≤ e → ends_name t k ≡ false
+  pub colon : (k : ℕ) → i ≤ k → k ≤ e → has t k 58 ≡ false
+  pub name : e < length t → is_name_at t e ≡ false
+  pub letter : e < length t → is_ascii_alphanumeric (get_or t e 0) ≡ false
 
-no-reference : (t : Text) (i to : ℕ) → IsWord t i to → Ends t to → reference t i ≡ None
-unfolding reference
-no-reference t i to word ends = ap (option_and_then (reference_to t i)) (no-name t i to word ends)
+-- so where a word ends with which nothing goes on
+word-bars : (t : Text) (i to : ℕ) → IsWord t i to → goes_on t to ≡ false → IsBarred t i to
+word-bars t i to word stops =
+    let ends = ends-by t to stops in
+    let none : (k c : ℕ) → i ≤ k → k ≤ to → is_ascii_alphanumeric c ≡ false → has t to c ≡ false → has t k c ≡ false = λ k c above upto other last. ⊎_elim
+    (λ inside. other-at t i to k c word above inside other)
+    (λ past. let same : k ≡ to = omega arith in subst (λ n. has t n c ≡ false) (sym same) last)
+    (cases_lt k to) in
+    record {
+      above = word.above;
+      unended = λ k above upto. no-underscore t k (none k 95 (omega arith) upto refl ends.underscore);
+      colon = λ k above upto. none k 58 above upto refl ends.colon;
+      name = ends.name;
+      letter = word.stops;
+    }
+
+no-reference : (t : Text) (i e : ℕ) → IsBarred t i e → reference t i ≡ None
+unfolding reference name_end
+no-reference t i e bar =
+    ap (option_and_then (reference_to t i)) (sym (last_from-is (is_reference t i) (i + 1) (length t) None (λ k more less.
+    ⊎_elim
+    (λ low. not_reference t i k (bar.unended k (omega arith) (omega arith)))
+    (λ high. is_reference-past t i k (all_from-stop (is_name_at t) i e k bar.above (omega arith) (bar.name (omega arith))))
+    (cases_lt k (e + 1)))))
 
 -- ---- URIs
 
@@ -126,64 +149,66 @@ lower-colon c h = grind (arith, nat_tests)
 lower-letter : (c : ℕ) → IsLetter (to_ascii_lowercase c) → IsLetter c
 lower-letter c h = grind (arith, nat_tests)
 
-no-scheme : (t : Text) (i to : ℕ) (word : List ℕ) → IsWord t i to → has t to 58 ≡ false → named word ≡ true → has_any_case t i word ≡ true → ⊥
-no-scheme t i to [] run colon n h = true≢false (sym n)
-no-scheme t i to (c ∷ cs) run colon n h =
+no-scheme : (t : Text) (i e : ℕ) (word : List ℕ) → IsBarred t i e → named word ≡ true → has_any_case t i word ≡ true → ⊥
+no-scheme t i e [] bar n h = true≢false (sym n)
+no-scheme t i e (c ∷ cs) bar n h =
     let here = letter_before t i c cs h in
     let letter = letter_at t i c here.0 in
     let within : i < length t = letter.0 in
     let same : to_ascii_lowercase (get_or t i 0) ≡ c = letter.1 in
-    let order : i ≤ to = run.above in
+    let order : i ≤ e = bar.above in
     ⊎_elim
-    (λ inside. ⊎_elim
-    (λ is_colon. true≢false (sym (run.letters i (omega arith) inside) ∙ ap is_ascii_alphanumeric (lower-colon (get_or t i 0) (same ∙ eqb-true c 58 is_colon))))
-    (λ other. no-scheme t (i + 1) to cs
-    (record { above = omega arith; within = run.within; letters = λ k above less. run.letters k (omega arith) less; stops = run.stops })
-    colon (and_parts (is_ascii_alphanumeric c) (named cs) (subst (λ b. (b || (is_ascii_alphanumeric c && named cs)) ≡ true) other n)).1 here.1)
-    (cases_bool (c == 58)))
-    (λ past. let last : i ≡ to = omega arith in ⊎_elim
     (λ is_colon.
     let stands : get_or t i 0 ≡ 58 = lower-colon (get_or t i 0) (same ∙ eqb-true c 58 is_colon) in
     let shown : has t i 58 ≡ true = rw (stands, lt-ltb i (length t) within) refl in
-    true≢false (sym shown ∙ ap (λ n. has t n 58) last ∙ colon))
+    true≢false (sym shown ∙ bar.colon i (omega arith) order))
     (λ other.
-    let letter : is_ascii_alphanumeric c ≡ true = (and_parts (is_ascii_alphanumeric c) (named cs) (subst (λ b. (b || (is_ascii_alphanumeric c && named cs)) ≡ true) other n)).0 in
-    let mine : IsLetter (get_or t i 0) = lower-letter (get_or t i 0) (ap is_ascii_alphanumeric same ∙ letter) in
-    true≢false (sym mine ∙ ap (λ n. is_ascii_alphanumeric (get_or t n 0)) last ∙ run.stops (omega arith)))
-    (cases_bool (c == 58)))
-    (cases_lt i to)
+    let rest = and_parts (is_ascii_alphanumeric c) (named cs) (subst (λ b. (b || (is_ascii_alphanumeric c && named cs)) ≡ true) other n) in
+    ⊎_elim
+    (λ inside. no-scheme t (i + 1) e cs
+    (record { above = omega arith; unended = λ k above upto. bar.unended k (omega arith) upto; colon = λ k above upto. bar.colon k (omega arith) upto; name = bar.name; letter = bar.letter })
+    rest.1 here.1)
+    (λ past.
+    let last : i ≡ e = omega arith in
+    let mine : IsLetter (get_or t i 0) = lower-letter (get_or t i 0) (ap is_ascii_alphanumeric same ∙ rest.0) in
+    true≢false (sym mine ∙ ap (λ n. is_ascii_alphanumeric (get_or t n 0)) last ∙ bar.letter (omega arith)))
+    (cases_lt i e))
+    (cases_bool (c == 58))
 
-no-first : (t : Text) (i to : ℕ) (words : List (List ℕ)) → IsWord t i to → has t to 58 ≡ false → list_all named words ≡ true → find (has_any_case t i) words ≡ None
-no-first t i to [] run colon all = refl
-no-first t i to (word ∷ words) run colon all =
+no-first : (t : Text) (i e : ℕ) (words : List (List ℕ)) → IsBarred t i e → list_all named words ≡ true → find (has_any_case t i) words ≡ None
+no-first t i e [] bar all = refl
+no-first t i e (word ∷ words) bar all =
     let parts = and_parts (named word) (list_all named words) all in
     ⊎_elim
-    (λ yes. absurd (no-scheme t i to word run colon parts.0 yes))
-    (λ no. ap (λ b. cond b (Some word) (find (has_any_case t i) words)) no ∙ no-first t i to words run colon parts.1)
+    (λ yes. absurd (no-scheme t i e word bar parts.0 yes))
+    (λ no. ap (λ b. cond b (Some word) (find (has_any_case t i) words)) no ∙ no-first t i e words bar parts.1)
     (cases_bool (has_any_case t i word))
 
-no-uri : (t : Text) (i to : ℕ) → IsWord t i to → has t to 58 ≡ false → uri t i ≡ None
+no-uri : (t : Text) (i e : ℕ) → IsBarred t i e → uri t i ≡ None
 unfolding uri scheme_end
-no-uri t i to run colon = ap (option_map (uri_piece i)) (uri_end-none t i (ap (option_map (λ scheme. i + length scheme)) (no-first t i to schemes run colon refl)))
+no-uri t i e bar = ap (option_map (uri_piece i)) (uri_end-none t i (ap (option_map (λ scheme. i + length scheme)) (no-first t i e schemes bar refl)))
 
 -- ---- other markup
 
--- none of the characters stands at the place that start-strings and roles begin with
+-- no start-string stands at the place, and no role begins there
 pub record Lacks (t : Text) (i : ℕ) : Type 0 where
   pub star : has t i 42 ≡ false
   pub grave : has t i 96 ≡ false
-  pub underscore : has t i 95 ≡ false
+  pub target : has_start Target t i ≡ false
   pub bar : has t i 124 ≡ false
   pub colon : has t i 58 ≡ false
 
 pub absent : (p : ℕ → Bool) (t : Text) (i c : ℕ) → p (get_or t i 0) ≡ true → p c ≡ false → has t i c ≡ false
 absent p t i c h k = rw (differs p (get_or t i 0) c h k) (grind (arith, nat_tests))
 
+pub no-target : (t : Text) (i : ℕ) → has t i 95 ≡ false → has_start Target t i ≡ false
+no-target t i h = rw h refl
+
 pub lacks-by : (p : ℕ → Bool) (t : Text) (i : ℕ) → p (get_or t i 0) ≡ true → p 42 ≡ false → p 96 ≡ false → p 95 ≡ false → p 124 ≡ false → p 58 ≡ false → Lacks t i
 lacks-by p t i h star grave underscore bar colon = record {
   star = absent p t i 42 h star;
   grave = absent p t i 96 h grave;
-  underscore = absent p t i 95 h underscore;
+  target = no-target t i (absent p t i 95 h underscore);
   bar = absent p t i 124 h bar;
   colon = absent p t i 58 h colon;
 }
@@ -201,17 +226,17 @@ unfolding marked start_of
 no-marked t i lacks Strong = no-mark Strong t i i (rw lacks.star refl)
 no-marked t i lacks Emphasis = no-mark Emphasis t i i (rw lacks.star refl)
 no-marked t i lacks Literal = no-mark Literal t i i (rw lacks.grave refl)
-no-marked t i lacks Target = no-mark Target t i i (rw lacks.underscore refl)
+no-marked t i lacks Target = no-mark Target t i i lacks.target
 no-marked t i lacks Substitution = no-mark Substitution t i i (rw lacks.bar refl)
 no-marked t i lacks Interpreted = rw (no-role t i lacks.colon) (no-mark Interpreted t i i (rw lacks.grave refl))
 
-no-label : (t : Text) (i : ℕ) → has t i 91 ≡ false → label t i ≡ None
+pub no-label : (t : Text) (i : ℕ) → has t i 91 ≡ false → label t i ≡ None
 unfolding label
 no-label t i h = rw h refl
 
-no-markup : (t : Text) (i to : ℕ) → IsWord t i to → Lacks t i → has t i 91 ≡ false → Ends t to → markup_at t i ≡ None
+no-markup : (t : Text) (i e : ℕ) → IsBarred t i e → Lacks t i → label t i ≡ None → markup_at t i ≡ None
 unfolding markup_at
-no-markup t i to run lacks bracket ends =
+no-markup t i e bar lacks no_label =
     rw (
       no-marked t i lacks Strong,
       no-marked t i lacks Emphasis,
@@ -219,25 +244,25 @@ no-markup t i to run lacks bracket ends =
       no-marked t i lacks Target,
       no-marked t i lacks Substitution,
       no-marked t i lacks Interpreted,
-      no-label t i bracket,
-      no-reference t i to run ends,
-      no-uri t i to run ends.colon,
+      no_label,
+      no-reference t i e bar,
+      no-uri t i e bar,
     ) refl
 
--- no markup begins at a place that lacks its marks and where a word ends, which may be empty, with which nothing goes on
-pub no-piece-lacking : (t : Text) (from i to : ℕ) → IsWord t i to → Lacks t i → has t i 91 ≡ false → goes_on t to ≡ false → piece_at t from i ≡ None
+-- nothing begins at a place where none of these does
+pub no-piece-barred : (t : Text) (from i e : ℕ) → IsBarred t i e → Lacks t i → label t i ≡ None → piece_at t from i ≡ None
 unfolding piece_at
-no-piece-lacking t from i to run lacks bracket h = by_case (is_free t from i)
+no-piece-barred t from i e bar lacks no_label = by_case (is_free t from i)
   where
     by_case : (free : Bool) → cond free (markup_at t i) None ≡ None
-    by_case true = no-markup t i to run lacks bracket (ends-by t to h)
+    by_case true = no-markup t i e bar lacks no_label
     by_case false = refl
 
 -- nothing begins where a word does, if nothing goes on with it,
 pub no-piece : (t : Text) (from i to : ℕ) → IsWord t i to → i < to → goes_on t to ≡ false → piece_at t from i ≡ None
 no-piece t from i to run some h =
     let letter = run.letters i (omega arith) some in
-    no-piece-lacking t from i to run (lacks-by is_ascii_alphanumeric t i letter refl refl refl refl refl) (absent is_ascii_alphanumeric t i 91 letter refl) h
+    no-piece-barred t from i to (word-bars t i to run h) (lacks-by is_ascii_alphanumeric t i letter refl refl refl refl refl) (no-label t i (absent is_ascii_alphanumeric t i 91 letter refl))
 
 -- and further on in it nothing does.
 inside-word : (t : Text) (from i to k : ℕ) → IsWord t i to → i < k → k ≤ to → piece_at t from k ≡ None
@@ -293,7 +318,7 @@ feed-joint : (c : ℕ) → c ≡ 10 → is_joint c ≡ false
 unfolding is_joint
 feed-joint c h = rw h refl
 
-no-letter-at : (t : Text) (i c : ℕ) → get_or t i 0 ≡ c → c < 128 → is_ascii_alphanumeric c ≡ false → is_alnum_at t i ≡ false
+pub no-letter-at : (t : Text) (i c : ℕ) → get_or t i 0 ≡ c → c < 128 → is_ascii_alphanumeric c ≡ false → is_alnum_at t i ≡ false
 no-letter-at t i c h low e = rw (h, sym (is_alphanumeric-ascii c low) ∙ e) (grind (arith, nat_tests))
 
 quiet : (t : Text) (i : ℕ) → (get_or t i 0 == 95) ≡ false → (get_or t i 0 == 58) ≡ false → is_joint (get_or t i 0) ≡ false → is_alnum_at t i ≡ false → false ≡ goes_on t i
@@ -305,10 +330,3 @@ goes_on-space t i h = quiet t i (ap (λ c. c == 95) h) (ap (λ c. c == 58) h) (s
 
 pub goes_on-feed : (t : Text) (i : ℕ) → get_or t i 0 ≡ 10 → false ≡ goes_on t i
 goes_on-feed t i h = quiet t i (ap (λ c. c == 95) h) (ap (λ c. c == 58) h) (feed-joint _ h) (no-letter-at t i 10 h (omega arith) refl)
-
-comma-joint : (c : ℕ) → c ≡ 44 → is_joint c ≡ false
-unfolding is_joint
-comma-joint c h = rw h refl
-
-pub goes_on-comma : (t : Text) (i : ℕ) → get_or t i 0 ≡ 44 → false ≡ goes_on t i
-goes_on-comma t i h = quiet t i (ap (λ c. c == 95) h) (ap (λ c. c == 58) h) (comma-joint _ h) (no-letter-at t i 44 h (omega arith) refl)

@@ -1,13 +1,31 @@
-//! Calm characters: between them nothing begins.
-ghost use Rattle.std.specs.Prelude.{◌≡◌, ◌-◌, ◌<◌, ◌≤◌, ◌&&◌, ◌==◌, false, slice_index, length};
-ghost use Rattle.std.specs.Char.{is_ascii_alphanumeric};
-ghost use Rattle.rst_text.specs.Runs.{PassBetween};
-ghost use Rattle.rst_inline_scan.specs.Calm.{is_calm, IsStep};
+//! Calm characters, which are stepped over: at them no markup begins but a name or a URI, and none of these ends.
+ghost use Rattle.std.specs.Prelude.{◌≡◌, ℕ, ◌-◌, ◌<◌, ◌≤◌, ◌&&◌, ◌==◌, false, List, slice_index, length, IfOk, map};
+ghost use Rattle.rst_inline_scan.specs.Calm.{AreBytesOf, byte_of, is_calm, AreCalm, is_of_name, IsStep};
 
+use super::names::is_joint;
 use rst_text::{ByteTest, run_end};
+use std::alloc::{AllocError, Global};
 use std::simd::prelude::*;
 
-/// Whether a byte is calm: a letter or a digit, a space, a line feed or a comma.
+/// The byte for a character: that of ASCII, or one past ASCII.
+fn byte_of(c: char) -> u8
+    ensures { result ≡ byte_of c }
+{
+    if c.is_ascii() { c as u8 } else { 128 }
+}
+
+/// A byte for each character.
+pub(crate) fn bytes_of(alloc: Global, text: &[char]) -> Result<Vec<u8>, AllocError>
+    ensures { IfOk result (λ bytes. bytes.items ≡ map byte_of text.now) }
+{
+    let mut bytes = Vec::with_capacity(alloc, text.len())?;
+    for c in text {
+        bytes.push_reserved(byte_of(*c));
+    }
+    Ok(bytes)
+}
+
+/// Whether a byte is calm: none that markup begins or a name ends with, and no backslash.
 struct Calm;
 
 impl ByteTest for Calm {
@@ -16,62 +34,78 @@ impl ByteTest for Calm {
     ghost passes = { is_calm };
 
     fn passes(byte: u8) -> bool {
-        byte.is_ascii_alphanumeric() || matches!(byte, b' ' | b'\n' | b',')
+        !matches!(byte, b'*' | b':' | b'[' | b'\\' | b'_' | b'`' | b'|')
     }
 
     #[inline(always)]
     fn failing(bytes: u8x16) -> u64 {
-        let from_a = (bytes | u8x16::splat(0x20)) - u8x16::splat(b'a');
-        let from_0 = bytes - u8x16::splat(b'0');
-        let fails = from_a.simd_ge(u8x16::splat(26))
-            & from_0.simd_ge(u8x16::splat(10))
-            & bytes.simd_ne(u8x16::splat(b' '))
-            & bytes.simd_ne(u8x16::splat(b'\n'))
-            & bytes.simd_ne(u8x16::splat(b','));
+        let fails = bytes.simd_eq(u8x16::splat(b'*'))
+            | bytes.simd_eq(u8x16::splat(b':'))
+            | bytes.simd_eq(u8x16::splat(b'['))
+            | bytes.simd_eq(u8x16::splat(b'\\'))
+            | bytes.simd_eq(u8x16::splat(b'_'))
+            | bytes.simd_eq(u8x16::splat(b'`'))
+            | bytes.simd_eq(u8x16::splat(b'|'));
         fails.to_bitmask()
     }
 }
 
-/// The place behind the calm bytes from a place on, but not behind the last byte.
+/// The place behind the bytes from a place on that are calm, or underscores before a letter or a digit, but not behind the last byte.
 fn calm_end(bytes: &[u8], place: usize) -> usize
     requires { place < length bytes.now }
     ensures above { place ≤ result }
     ensures within { result < length bytes.now }
-    ensures calm { PassBetween is_calm bytes.now place result }
+    ensures calm { AreCalm bytes.now place result }
 {
-    run_end::<Calm>(bytes, place).min(bytes.len() - 1)
+    let last = bytes.len() - 1;
+    let mut at = run_end::<Calm>(bytes, place);
+    while at < last && bytes[at] == b'_' && bytes[at + 1].is_ascii_alphanumeric() {
+        at = run_end::<Calm>(bytes, at + 1);
+    }
+    at.min(last)
 }
 
-/// Where the word begins that ends at `to`, but no place before `from`.
-fn word_start(bytes: &[u8], from: usize, to: usize) -> usize
+/// Whether the name of a reference or the scheme of a URI may hold the byte.
+fn is_of_name(byte: u8) -> bool
+    ensures { result ≡ is_of_name byte }
+{
+    !byte.is_ascii() || byte.is_ascii_alphanumeric() || is_joint(char::from(byte))
+}
+
+/// Where the name begins that ends at `to`, but no place before `from`.
+fn name_start(bytes: &[u8], from: usize, to: usize) -> usize
     requires order { from ≤ to }
     requires within { to ≤ length bytes.now }
     ensures above { from ≤ result }
     ensures below { result ≤ to }
-    ensures edge { from < result → is_ascii_alphanumeric (slice_index bytes.now (result - 1)) ≡ false }
+    ensures edge { from < result → is_of_name (slice_index bytes.now (result - 1)) ≡ false }
 {
     let mut start = to;
-    while from < start && bytes[start - 1].is_ascii_alphanumeric() {
+    while from < start && is_of_name(bytes[start - 1]) {
         start -= 1;
     }
     start
 }
 
-/// The place behind the calm bytes from the place on, but not inside a word.
-fn calm_step(bytes: &[u8], place: usize) -> usize
-    ensures { IsStep bytes.now place result }
+/// The place behind the calm bytes from the place on, but not inside a name. Up to `searched` earlier steps have looked, so there
+/// nothing is looked for again.
+fn calm_step(bytes: &[u8], place: usize, searched: &mut usize) -> usize
+    requires { place < length bytes.now }
+    ensures { (text : List ℕ) → AreBytesOf text bytes.now → IsStep text place result }
 {
-    if bytes.len() <= place {
+    if place < *searched {
         return place;
     }
-    word_start(bytes, place, calm_end(bytes, place))
+    *searched = calm_end(bytes, place);
+    name_start(bytes, place, *searched)
 }
 
 /// The same, and whether what stands there is escaped if what stands at `place` is or not.
-pub(crate) fn step(bytes: &[u8], place: usize, escaped: bool) -> (usize, bool)
-    ensures over { IsStep bytes.now place result.0 }
+pub(crate) fn step(bytes: &[u8], place: usize, escaped: bool, searched: &mut usize) -> (usize, bool)
+    requires { place < length bytes.now }
+    ensures over { (text : List ℕ) → AreBytesOf text bytes.now → IsStep text place result.0 }
     ensures escaped { result.1 ≡ (escaped && result.0 == place) }
 {
-    let start = calm_step(bytes, place);
+    let start = calm_step(bytes, place, searched);
     (start, escaped && start == place)
 }

@@ -5,7 +5,7 @@ ghost use Rattle.rst_inline_scan.specs.Quiet.{is_quiet, quiet};
 use rst_text::{ByteTest, run_end};
 use std::simd::prelude::*;
 
-/// Whether a byte is quiet: ASCII, and no character that markup or an escape needs.
+/// Whether a byte is quiet: no character that markup or an escape needs.
 struct Quiet;
 
 impl ByteTest for Quiet {
@@ -14,13 +14,12 @@ impl ByteTest for Quiet {
     ghost passes = { is_quiet };
 
     fn passes(byte: u8) -> bool {
-        byte.is_ascii() && !matches!(byte, b'*' | b'_' | b'`' | b'|' | b':' | b'\\')
+        !matches!(byte, b'*' | b'_' | b'`' | b'|' | b':' | b'\\')
     }
 
     #[inline(always)]
     fn failing(bytes: u8x16) -> u64 {
-        let fails = bytes.simd_ge(u8x16::splat(128))
-            | bytes.simd_eq(u8x16::splat(b'*'))
+        let fails = bytes.simd_eq(u8x16::splat(b'*'))
             | bytes.simd_eq(u8x16::splat(b'_'))
             | bytes.simd_eq(u8x16::splat(b'`'))
             | bytes.simd_eq(u8x16::splat(b'|'))
@@ -30,8 +29,8 @@ impl ByteTest for Quiet {
     }
 }
 
-/// Whether a text is quiet: ASCII without the characters that markup or an escape needs. Such a text is one plain piece, or
-/// none where it is empty ([`super::quiet_is_one_piece`]).
+/// Whether the bytes are quiet: without the characters that markup or an escape needs. Then so is the text that they spell. Such a text is
+/// one plain piece, or none where it is empty ([`super::quiet_is_one_piece`]).
 pub fn is_quiet(text: &[u8]) -> bool
     ensures { result ≡ quiet text.now }
 {

@@ -1,11 +1,12 @@
 //! The scanner.
 ghost use Rattle.std.specs.Prelude.{◌≡◌, ℕ, ◌<◌, length, IfOk};
+ghost use Rattle.rst_inline_scan.specs.Calm.{AreBytesOf};
 ghost use Rattle.rst_inline_scan.specs.Escapes.{is_escaped};
 ghost use Rattle.rst_inline_scan.specs.Pieces.{markup_at, is_free, piece_at, plain_from, IsPieces};
 ghost use Rattle.rst_inline_scan.specs.Missing.{IsMissing};
 ghost use Rattle.rst_inline_scan.specs.Words.{IsWord};
 
-use super::calm::step;
+use super::calm::{bytes_of, step};
 use super::characters::may_precede;
 use super::escaping::escapes;
 use super::footnotes::label;
@@ -92,10 +93,11 @@ fn piece_at(
 pub fn pieces_of(alloc: Global, text: &[char]) -> Result<Vec<Piece>, AllocError>
     ensures { IfOk result (λ pieces. IsPieces text.now 0 pieces.items) }
 {
-    pieces_by(alloc, text, b"")
+    let bytes = bytes_of(alloc, text)?;
+    pieces_by(alloc, text, &bytes)
 }
 
-/// The same of a text that is ASCII, which `bytes` is, too: the steps over what holds no markup are wider in bytes.
+/// The same of a text whose characters `bytes` are.
 pub fn pieces_of_ascii(alloc: Global, text: &[char], bytes: &[u8]) -> Result<Vec<Piece>, AllocError>
     requires { bytes.now ≡ text.now }
     ensures { IfOk result (λ pieces. IsPieces text.now 0 pieces.items) }
@@ -103,9 +105,9 @@ pub fn pieces_of_ascii(alloc: Global, text: &[char], bytes: &[u8]) -> Result<Vec
     pieces_by(alloc, text, bytes)
 }
 
-/// The same of any text; `bytes` is the text if that is ASCII, or nothing.
+/// The same with a byte for each character: the steps over what holds no markup are wider in bytes.
 fn pieces_by(alloc: Global, text: &[char], bytes: &[u8]) -> Result<Vec<Piece>, AllocError>
-    requires { 0 < length bytes.now → bytes.now ≡ text.now }
+    requires { AreBytesOf text.now bytes.now }
     ensures { IfOk result (λ pieces. IsPieces text.now 0 pieces.items) }
 {
     // Prose has less than a piece for each 32 characters.
@@ -114,8 +116,9 @@ fn pieces_by(alloc: Global, text: &[char], bytes: &[u8]) -> Result<Vec<Piece>, A
     let mut place = 0;
     let mut escaped = false;
     let mut missing = Missing::of(text);
+    let mut searched = 0;
     while place < text.len() {
-        let (start, start_escaped) = step(bytes, place, escaped);
+        let (start, start_escaped) = step(bytes, place, escaped, &mut searched);
         let end = word_end(text, start);
         match piece_at(text, start, end, start_escaped, &mut missing) {
             Some(piece) => {

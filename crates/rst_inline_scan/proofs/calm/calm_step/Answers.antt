@@ -1,14 +1,14 @@
 use Rattle.std.proofs.Common.{◌<◌, ◌≤◌, length, arith}
-use Rattle.rst_inline_scan.proofs.CalmLemmas.{calm-step}
+use Rattle.rst_inline_scan.proofs.CalmLemmas.{calm-same, calm-step}
 use Rattle.rst_inline_scan.proofs.calm.calm_step.Goals as goal
 
 pub returns : goal.returns
-returns c =
-    let below : c.word_start.result ≤ c.calm_end.result = c.word_start.ensures.below in
+returns c text of =
+    let below : c.name_start.result ≤ c.calm_end.result = c.name_start.ensures.below in
     let within : c.calm_end.result < length c.args.bytes.now = c.calm_end.ensures.within in
-    calm-step c.args.bytes.now c.args.place c.word_start.result (record {
-      above = c.word_start.ensures.above;
+    calm-step text c.args.place c.name_start.result (calm-same text c.args.bytes.now c.args.place c.name_start.result of (record {
+      above = c.name_start.ensures.above;
       within = λ some. omega arith;
       calm = λ k low less. c.calm_end.ensures.calm k low (omega arith);
-      edge = c.word_start.ensures.edge;
-    })
+      edge = c.name_start.ensures.edge;
+    }))

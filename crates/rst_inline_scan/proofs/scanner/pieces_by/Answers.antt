@@ -22,8 +22,8 @@ loop-place-init c = record {
 
 pub loop-place-preserved-in-Some : goal.loop-place-preserved-in-Some
 loop-place-preserved-in-Some c =
-    let start = stepped c.args.text.now c.args.bytes.now c.loop-place.from c.loop-place.place c.step-start.result.0 c.loop-place.escaped c.step-start.result.1 (omega arith) (omega arith) c.requires
-    c.loop-place.invariant.none c.loop-place.invariant.escaped c.step-start.ensures.over c.step-start.ensures.escaped in
+    let start = stepped c.args.text.now c.loop-place.from c.loop-place.place c.step-start.result.0 c.loop-place.escaped c.step-start.result.1 (omega arith) (omega arith)
+    c.loop-place.invariant.none c.loop-place.invariant.escaped (c.step-start.ensures.over c.args.text.now c.requires) c.step-start.ensures.escaped in
     let later = start.above in
     let inside = start.below in
     let begins : piece_at c.args.text.now c.loop-place.from c.step-start.result.0 ≡ Some c.in-Some.piece = sym (c.piece_at.ensures.exact c.loop-place.from start.escaped) ∙ c.in-Some.is in
@@ -51,8 +51,8 @@ loop-place-preserved-in-Some c =
 
 pub loop-place-preserved-then-end-text : goal.loop-place-preserved-then-end-text
 loop-place-preserved-then-end-text c =
-    let start = stepped c.args.text.now c.args.bytes.now c.loop-place.from c.loop-place.place c.step-start.result.0 c.loop-place.escaped c.step-start.result.1 (omega arith) (omega arith) c.requires
-    c.loop-place.invariant.none c.loop-place.invariant.escaped c.step-start.ensures.over c.step-start.ensures.escaped in
+    let start = stepped c.args.text.now c.loop-place.from c.loop-place.place c.step-start.result.0 c.loop-place.escaped c.step-start.result.1 (omega arith) (omega arith)
+    c.loop-place.invariant.none c.loop-place.invariant.escaped (c.step-start.ensures.over c.args.text.now c.requires) c.step-start.ensures.escaped in
     let later = start.above in
     let inside = start.below in
     let here : piece_at c.args.text.now c.loop-place.from c.step-start.result.0 ≡ None = sym (c.piece_at.ensures.exact c.loop-place.from start.escaped) ∙ c.in-None.is in
@@ -68,8 +68,8 @@ loop-place-preserved-then-end-text c =
 
 pub loop-place-preserved : goal.loop-place-preserved
 loop-place-preserved c =
-    let start = stepped c.args.text.now c.args.bytes.now c.loop-place.from c.loop-place.place c.step-start.result.0 c.loop-place.escaped c.step-start.result.1 (omega arith) (omega arith) c.requires
-    c.loop-place.invariant.none c.loop-place.invariant.escaped c.step-start.ensures.over c.step-start.ensures.escaped in
+    let start = stepped c.args.text.now c.loop-place.from c.loop-place.place c.step-start.result.0 c.loop-place.escaped c.step-start.result.1 (omega arith) (omega arith)
+    c.loop-place.invariant.none c.loop-place.invariant.escaped (c.step-start.ensures.over c.args.text.now c.requires) c.step-start.ensures.escaped in
     let later = start.above in
     let inside = start.below in
     let above = c.word_end-end.ensures.above in
@@ -103,8 +103,8 @@ returns c =
 
 pub loop-place-smaller-in-Some : goal.loop-place-smaller-in-Some
 loop-place-smaller-in-Some c =
-    let start = stepped c.args.text.now c.args.bytes.now c.loop-place.from c.loop-place.place c.step-start.result.0 c.loop-place.escaped c.step-start.result.1 (omega arith) (omega arith) c.requires
-    c.loop-place.invariant.none c.loop-place.invariant.escaped c.step-start.ensures.over c.step-start.ensures.escaped in
+    let start = stepped c.args.text.now c.loop-place.from c.loop-place.place c.step-start.result.0 c.loop-place.escaped c.step-start.result.1 (omega arith) (omega arith)
+    c.loop-place.invariant.none c.loop-place.invariant.escaped (c.step-start.ensures.over c.args.text.now c.requires) c.step-start.ensures.escaped in
     let later = start.above in
     let inside = start.below in
     let begins : piece_at c.args.text.now c.loop-place.from c.step-start.result.0 ≡ Some c.in-Some.piece = sym (c.piece_at.ensures.exact c.loop-place.from start.escaped) ∙ c.in-Some.is in
@@ -112,3 +112,6 @@ loop-place-smaller-in-Some c =
     let some : c.step-start.result.0 < c.in-Some.piece.to = fits.some in
     let within : c.in-Some.piece.to ≤ length c.args.text.now = fits.within in
     omega arith
+
+pub step-start-requires : goal.step-start-requires
+step-start-requires c = let long = c.requires.long in omega arith

@@ -1,5 +1,5 @@
-use Rattle.std.proofs.Common.{ℕ, leb, cond, bit_or, arith}
-use Rattle.std.proofs.lemmas.Simd.{zip2_splat, zip2_splat_left}
+use Rattle.std.proofs.Common.{ℕ, bit_or, arith}
+use Rattle.std.proofs.lemmas.Simd.{zip2_splat}
 use Rattle.rst_text.proofs.LaneLemmas.{joined, masked}
 use Rattle.rst_inline_scan.specs.Quiet.{is_quiet}
 use Rattle.rst_text.specs.Runs.{fails}
@@ -9,7 +9,6 @@ pub returns : goal.returns
 returns c =
     let v = c.args.bytes in
     let long = c.fits-bytes.0 in
-    let wide = zip2_splat_left {X = ℕ} {Y = ℕ} {Z = ℕ} (λ a b. cond (leb a b) 255 0) 128 16 v long in
     masked _ (fails is_quiet) v _ (omega arith) c.fits-bytes.1
-    (joined bit_or _ _ v (joined bit_or _ _ v (joined bit_or _ _ v (joined bit_or _ _ v (joined bit_or _ _ v (joined bit_or _ _ v wide (zip2_splat {Y = ℕ} _ v 16 42 long))
+    (joined bit_or _ _ v (joined bit_or _ _ v (joined bit_or _ _ v (joined bit_or _ _ v (joined bit_or _ _ v (zip2_splat {Y = ℕ} _ v 16 42 long)
     (zip2_splat {Y = ℕ} _ v 16 95 long)) (zip2_splat {Y = ℕ} _ v 16 96 long)) (zip2_splat {Y = ℕ} _ v 16 124 long)) (zip2_splat {Y = ℕ} _ v 16 58 long)) (zip2_splat {Y = ℕ} _ v 16 92 long)) tt

@@ -1,0 +1,13 @@
+use Rattle.std.proofs.Common.{◌-◌, ◌≤◌, length}
+use Rattle.rst_inline_scan.specs.Calm.{AreCalm}
+use Rattle.rst_inline_scan.proofs.calm.calm_end.Given as goal
+
+abbrev pub invariant-loop-at : goal.invariant-loop-at
+invariant-loop-at l = record {
+  above : l.place ≤ l.at;
+  within : l.at ≤ length l.bytes;
+  calm : AreCalm l.bytes l.place l.at;
+}
+
+abbrev pub decreases-loop-at : goal.decreases-loop-at
+decreases-loop-at l = length l.bytes - l.at
