@@ -102,6 +102,10 @@ least-is f first n B h =
 abbrev pub drop_each : ℕ → List (ℕ × List ℕ) → List (ℕ × List ℕ)
 drop_each n ts = map (λ (t : ℕ × List ℕ). (t.0, drop n t.1)) ts
 
+pub drop_each-none : (ts : List (ℕ × List ℕ)) → ts ≡ drop_each 0 ts
+drop_each-none [] = refl
+drop_each-none (t ∷ ts) = ap (λ us. t ∷ us) (drop_each-none ts)
+
 text_at-drop : (n : ℕ) (ts : List (ℕ × List ℕ)) (k : ℕ) → text_at (drop_each n ts) k ≡ drop n (text_at ts k)
 text_at-drop n [] k = sym (drop-nil n)
 text_at-drop n (t ∷ ts) k = by (eqb t.0 k) refl (text_at-drop n ts k)

@@ -153,13 +153,16 @@ fn least_indent(texts: &[(usize, String)]) -> usize
 /// Texts without their first `n` characters.
 fn shortened(
     alloc: Global,
-    texts: &[(usize, String)],
+    texts: Vec<(usize, String)>,
     n: usize,
 ) -> Result<Vec<(usize, String)>, AllocError>
-    ensures { IfOk result (λ short. texts_with short.items ≡ map (λ (t : ℕ × List ℕ). (t.0, drop n t.1)) (texts_with texts.now)) }
+    ensures { IfOk result (λ short. texts_with short.items ≡ map (λ (t : ℕ × List ℕ). (t.0, drop n t.1)) (texts_with texts.items)) }
 {
+    if n == 0 {
+        return Ok(texts);
+    }
     let mut short = Vec::with_capacity(alloc, texts.len())?;
-    for (k, text) in texts {
+    for (k, text) in &texts {
         let text = String::from_str(alloc, skip(text.as_str(), n))?;
         short.push((*k, text))?;
     }
@@ -182,7 +185,7 @@ pub(crate) fn cell_lines(
 {
     let texts = cell_texts(alloc, lines, among, left, right)?;
     let least = least_indent(&texts);
-    let short = shortened(alloc, &texts, least)?;
+    let short = shortened(alloc, texts, least)?;
     let Some(last) = lines.last() else {
         return Ok(CellLines::of(0, 0, short));
     };
