@@ -24,13 +24,13 @@ cell rows columns n texts = record { morerows = rows; morecols = columns; lines 
 abbrev pub plain : ℕ → List String → Cell
 plain n texts = cell 0 0 n texts
 
--- The lines begin with a grid table of the first n lines: the widths of its columns, how many rows are in its head, and its rows.
-abbrev pub Grids : List String → List ℕ → ℕ → List (List Cell) → ℕ → Type 0
-Grids text widths head rows n = grid_table (block text) 0 ≡ Table widths head rows n
+-- the first n lines make a grid table: the widths of its columns, how many rows are in its head, and its rows
+abbrev pub MakesGrid : List String → List ℕ → ℕ → List (List Cell) → ℕ → Type 0
+MakesGrid text widths head rows n = grid_table (block text) 0 ≡ Table widths head rows n
 
 -- the same of a simple table
-abbrev pub Simples : List String → List ℕ → ℕ → List (List Cell) → ℕ → Type 0
-Simples text widths head rows n = simple_table (block text) 0 ≡ Table widths head rows n
+abbrev pub MakesSimple : List String → List ℕ → ℕ → List (List Cell) → ℕ → Type 0
+MakesSimple text widths head rows n = simple_table (block text) 0 ≡ Table widths head rows n
 
 -- the first n lines are a malformed grid table
 abbrev pub BreaksGrid : List String → TableDetail → ℕ → Type 0

@@ -4,62 +4,62 @@
 ghost use Rattle.std.specs.Prelude.{◌≡◌, codes, map, [], ◌∷◌};
 ghost use Rattle.rst_text.specs.Written.{block};
 ghost use Rattle.rst_markup_tables.specs.Messages.{malformed_text};
-ghost use Rattle.rst_markup_tables.specs.Reads.{BreaksGrid, BreaksSimple, Grids, Simples, cell, plain};
+ghost use Rattle.rst_markup_tables.specs.Reads.{BreaksGrid, BreaksSimple, MakesGrid, MakesSimple, cell, plain};
 ghost use Rattle.rst_markup_tables.specs.Tiling.{grid_table};
 ghost use Rattle.rst_markup_tables.specs.declared.results.TableDetail.TheVariants.{BottomBorderMissing, RightEdgeBroken, TwoHeadRules, ParseIncomplete, BorderMismatch, BottomMissing, ColumnSpan, Margin};
 ghost use Rattle.rst_markup_tables.specs.declared.results.TableResult.TheVariants.{Table};
 
 /// The cells of grid tables (Markup Specification, 'Grid Tables').
 pub fn grid_cells()
-    ensures one { Grids ("+---+" ∷ "| a |" ∷ "+---+" ∷ []) (3 ∷ []) 0 ((plain 2 ("a" ∷ []) ∷ []) ∷ []) 3 }
-    ensures two_columns { Grids ("+---+---+" ∷ "| a | b |" ∷ "+---+---+" ∷ []) (3 ∷ 3 ∷ []) 0
+    ensures one { MakesGrid ("+---+" ∷ "| a |" ∷ "+---+" ∷ []) (3 ∷ []) 0 ((plain 2 ("a" ∷ []) ∷ []) ∷ []) 3 }
+    ensures two_columns { MakesGrid ("+---+---+" ∷ "| a | b |" ∷ "+---+---+" ∷ []) (3 ∷ 3 ∷ []) 0
         ((plain 2 ("a" ∷ []) ∷ plain 2 ("b" ∷ []) ∷ []) ∷ []) 3 }
-    ensures two_rows { Grids ("+---+" ∷ "| a |" ∷ "+---+" ∷ "| b |" ∷ "+---+" ∷ []) (3 ∷ []) 0
+    ensures two_rows { MakesGrid ("+---+" ∷ "| a |" ∷ "+---+" ∷ "| b |" ∷ "+---+" ∷ []) (3 ∷ []) 0
         ((plain 2 ("a" ∷ []) ∷ []) ∷ (plain 4 ("b" ∷ []) ∷ []) ∷ []) 5 }
-    ensures wide_character { Grids ("+----+" ∷ "| 中 |" ∷ "+----+" ∷ []) (4 ∷ []) 0 ((plain 2 ("中" ∷ []) ∷ []) ∷ []) 3 }
-    ensures least_indentation { Grids ("+------+" ∷ "|   a  |" ∷ "|      |" ∷ "|  b   |" ∷ "+------+" ∷ []) (6 ∷ []) 0
+    ensures wide_character { MakesGrid ("+----+" ∷ "| 中 |" ∷ "+----+" ∷ []) (4 ∷ []) 0 ((plain 2 ("中" ∷ []) ∷ []) ∷ []) 3 }
+    ensures least_indentation { MakesGrid ("+------+" ∷ "|   a  |" ∷ "|      |" ∷ "|  b   |" ∷ "+------+" ∷ []) (6 ∷ []) 0
         ((plain 2 (" a" ∷ "" ∷ "b" ∷ []) ∷ []) ∷ []) 5 }
-    ensures bar_in_a_text { Grids ("+---+" ∷ "|a|b|" ∷ "+---+" ∷ []) (3 ∷ []) 0 ((plain 2 ("a|b" ∷ []) ∷ []) ∷ []) 3 }
+    ensures bar_in_a_text { MakesGrid ("+---+" ∷ "|a|b|" ∷ "+---+" ∷ []) (3 ∷ []) 0 ((plain 2 ("a|b" ∷ []) ∷ []) ∷ []) 3 }
     ensures place { grid_table (block ("x" ∷ "" ∷ "+---+" ∷ "| a |" ∷ "+---+" ∷ [])) 2 ≡ Table (3 ∷ []) 0 ((plain 4 ("a" ∷ []) ∷ []) ∷ []) 5 }
 {}
 
 /// The heads of grid tables (Markup Specification, 'Grid Tables').
 pub fn grid_heads()
-    ensures one { Grids ("+---+" ∷ "| a |" ∷ "+===+" ∷ "| b |" ∷ "+---+" ∷ []) (3 ∷ []) 1
+    ensures one { MakesGrid ("+---+" ∷ "| a |" ∷ "+===+" ∷ "| b |" ∷ "+---+" ∷ []) (3 ∷ []) 1
         ((plain 2 ("a" ∷ []) ∷ []) ∷ (plain 4 ("b" ∷ []) ∷ []) ∷ []) 5 }
-    ensures two_columns { Grids ("+---+---+" ∷ "| a | b |" ∷ "+===+===+" ∷ "| c | d |" ∷ "+---+---+" ∷ []) (3 ∷ 3 ∷ []) 1
+    ensures two_columns { MakesGrid ("+---+---+" ∷ "| a | b |" ∷ "+===+===+" ∷ "| c | d |" ∷ "+---+---+" ∷ []) (3 ∷ 3 ∷ []) 1
         ((plain 2 ("a" ∷ []) ∷ plain 2 ("b" ∷ []) ∷ []) ∷ (plain 4 ("c" ∷ []) ∷ plain 4 ("d" ∷ []) ∷ []) ∷ []) 5 }
-    ensures two_rows { Grids ("+---+" ∷ "| a |" ∷ "+---+" ∷ "| b |" ∷ "+===+" ∷ "| c |" ∷ "+---+" ∷ []) (3 ∷ []) 2
+    ensures two_rows { MakesGrid ("+---+" ∷ "| a |" ∷ "+---+" ∷ "| b |" ∷ "+===+" ∷ "| c |" ∷ "+---+" ∷ []) (3 ∷ []) 2
         ((plain 2 ("a" ∷ []) ∷ []) ∷ (plain 4 ("b" ∷ []) ∷ []) ∷ (plain 6 ("c" ∷ []) ∷ []) ∷ []) 7 }
-    ensures without_lines { Grids ("+---+" ∷ "+===+" ∷ "| a |" ∷ "+---+" ∷ []) (3 ∷ []) 1 ((plain 2 [] ∷ []) ∷ (plain 3 ("a" ∷ []) ∷ []) ∷ []) 4 }
-    ensures dash_in_the_rule { Grids ("+---+" ∷ "| a |" ∷ "+=-=+" ∷ "| b |" ∷ "+---+" ∷ []) (3 ∷ []) 0
+    ensures without_lines { MakesGrid ("+---+" ∷ "+===+" ∷ "| a |" ∷ "+---+" ∷ []) (3 ∷ []) 1 ((plain 2 [] ∷ []) ∷ (plain 3 ("a" ∷ []) ∷ []) ∷ []) 4 }
+    ensures dash_in_the_rule { MakesGrid ("+---+" ∷ "| a |" ∷ "+=-=+" ∷ "| b |" ∷ "+---+" ∷ []) (3 ∷ []) 0
         ((cell 1 0 2 (" a" ∷ "=-=" ∷ " b" ∷ []) ∷ []) ∷ [] ∷ []) 5 }
 {}
 
 /// Cells of several rows and columns, and the bounds of rows and columns, in grid tables (Markup Specification, 'Grid Tables').
 pub fn grid_spans()
-    ensures rows { Grids ("+---+---+" ∷ "| a | b |" ∷ "|   +---+" ∷ "|   | c |" ∷ "+---+---+" ∷ []) (3 ∷ 3 ∷ []) 0
+    ensures rows { MakesGrid ("+---+---+" ∷ "| a | b |" ∷ "|   +---+" ∷ "|   | c |" ∷ "+---+---+" ∷ []) (3 ∷ 3 ∷ []) 0
         ((cell 1 0 2 ("a" ∷ "" ∷ "" ∷ []) ∷ plain 2 ("b" ∷ []) ∷ []) ∷ (plain 4 ("c" ∷ []) ∷ []) ∷ []) 5 }
-    ensures columns { Grids ("+---+---+" ∷ "| a     |" ∷ "+---+---+" ∷ "| b | c |" ∷ "+---+---+" ∷ []) (3 ∷ 3 ∷ []) 0
+    ensures columns { MakesGrid ("+---+---+" ∷ "| a     |" ∷ "+---+---+" ∷ "| b | c |" ∷ "+---+---+" ∷ []) (3 ∷ 3 ∷ []) 0
         ((cell 0 1 2 ("a" ∷ []) ∷ []) ∷ (plain 4 ("b" ∷ []) ∷ plain 4 ("c" ∷ []) ∷ []) ∷ []) 5 }
-    ensures spiral { Grids ("+-+---+" ∷ "|a|b  |" ∷ "| +-+-+" ∷ "| |c| |" ∷ "+-+-+d|" ∷ "|e  | |" ∷ "+---+-+" ∷ []) (1 ∷ 1 ∷ 1 ∷ []) 0
+    ensures spiral { MakesGrid ("+-+---+" ∷ "|a|b  |" ∷ "| +-+-+" ∷ "| |c| |" ∷ "+-+-+d|" ∷ "|e  | |" ∷ "+---+-+" ∷ []) (1 ∷ 1 ∷ 1 ∷ []) 0
         ((cell 1 0 2 ("a" ∷ "" ∷ "" ∷ []) ∷ cell 0 1 2 ("b" ∷ []) ∷ [])
         ∷ (plain 4 ("c" ∷ []) ∷ cell 1 0 4 ("" ∷ "d" ∷ "" ∷ []) ∷ [])
         ∷ (cell 0 1 6 ("e" ∷ []) ∷ []) ∷ []) 7 }
-    ensures bound_in_the_top_side { Grids ("+--+--+" ∷ "| a   |" ∷ "+-----+" ∷ []) (2 ∷ 2 ∷ []) 0 ((cell 0 1 2 ("a" ∷ []) ∷ []) ∷ []) 3 }
-    ensures bound_in_the_bottom_side { Grids ("+-----+" ∷ "| a   |" ∷ "+--+--+" ∷ []) (2 ∷ 2 ∷ []) 0 ((cell 0 1 2 ("a" ∷ []) ∷ []) ∷ []) 3 }
-    ensures bound_in_the_left_side { Grids ("+---+" ∷ "|   |" ∷ "+   |" ∷ "|   |" ∷ "+---+" ∷ []) (3 ∷ []) 0
+    ensures bound_in_the_top_side { MakesGrid ("+--+--+" ∷ "| a   |" ∷ "+-----+" ∷ []) (2 ∷ 2 ∷ []) 0 ((cell 0 1 2 ("a" ∷ []) ∷ []) ∷ []) 3 }
+    ensures bound_in_the_bottom_side { MakesGrid ("+-----+" ∷ "| a   |" ∷ "+--+--+" ∷ []) (2 ∷ 2 ∷ []) 0 ((cell 0 1 2 ("a" ∷ []) ∷ []) ∷ []) 3 }
+    ensures bound_in_the_left_side { MakesGrid ("+---+" ∷ "|   |" ∷ "+   |" ∷ "|   |" ∷ "+---+" ∷ []) (3 ∷ []) 0
         ((cell 1 0 2 ("" ∷ "" ∷ "" ∷ []) ∷ []) ∷ [] ∷ []) 5 }
-    ensures bound_in_the_right_side { Grids ("+---+" ∷ "|   |" ∷ "|   +" ∷ "| a |" ∷ "+---+" ∷ []) (3 ∷ []) 0
+    ensures bound_in_the_right_side { MakesGrid ("+---+" ∷ "|   |" ∷ "|   +" ∷ "| a |" ∷ "+---+" ∷ []) (3 ∷ []) 0
         ((cell 1 0 2 ("" ∷ "" ∷ "a" ∷ []) ∷ []) ∷ [] ∷ []) 5 }
 {}
 
 /// Where grid tables end (Markup Specification, 'Grid Tables').
 pub fn grid_ends()
-    ensures last_border { Grids ("+---+" ∷ "| a |" ∷ "+---+" ∷ "+---+" ∷ "| b |" ∷ []) (3 ∷ []) 0
+    ensures last_border { MakesGrid ("+---+" ∷ "| a |" ∷ "+---+" ∷ "+---+" ∷ "| b |" ∷ []) (3 ∷ []) 0
         ((plain 2 ("a" ∷ []) ∷ []) ∷ (plain 4 [] ∷ []) ∷ []) 4 }
-    ensures other_text { Grids ("+---+" ∷ "| a |" ∷ "+---+" ∷ "x" ∷ []) (3 ∷ []) 0 ((plain 2 ("a" ∷ []) ∷ []) ∷ []) 3 }
-    ensures blank_line { Grids ("+---+" ∷ "| a |" ∷ "+---+" ∷ "" ∷ "+---+" ∷ []) (3 ∷ []) 0 ((plain 2 ("a" ∷ []) ∷ []) ∷ []) 3 }
+    ensures other_text { MakesGrid ("+---+" ∷ "| a |" ∷ "+---+" ∷ "x" ∷ []) (3 ∷ []) 0 ((plain 2 ("a" ∷ []) ∷ []) ∷ []) 3 }
+    ensures blank_line { MakesGrid ("+---+" ∷ "| a |" ∷ "+---+" ∷ "" ∷ "+---+" ∷ []) (3 ∷ []) 0 ((plain 2 ("a" ∷ []) ∷ []) ∷ []) 3 }
 {}
 
 /// What can be wrong with grid tables (Markup Specification, 'Grid Tables').
@@ -74,42 +74,42 @@ pub fn grid_faults()
 
 /// The rows of simple tables (Markup Specification, 'Simple Tables').
 pub fn simple_rows()
-    ensures two_lines { Simples ("== ==" ∷ "a  b c" ∷ "   d" ∷ "== ==" ∷ []) (2 ∷ 3 ∷ []) 0
+    ensures two_lines { MakesSimple ("== ==" ∷ "a  b c" ∷ "   d" ∷ "== ==" ∷ []) (2 ∷ 3 ∷ []) 0
         ((plain 2 ("a" ∷ "" ∷ []) ∷ plain 2 ("b c" ∷ "d" ∷ []) ∷ []) ∷ []) 4 }
-    ensures two_rows { Simples ("== ==" ∷ "a  b" ∷ "c  d" ∷ "== ==" ∷ []) (2 ∷ 2 ∷ []) 0
+    ensures two_rows { MakesSimple ("== ==" ∷ "a  b" ∷ "c  d" ∷ "== ==" ∷ []) (2 ∷ 2 ∷ []) 0
         ((plain 2 ("a" ∷ []) ∷ plain 2 ("b" ∷ []) ∷ []) ∷ (plain 3 ("c" ∷ []) ∷ plain 3 ("d" ∷ []) ∷ []) ∷ []) 4 }
-    ensures blank_line_between { Simples ("== ==" ∷ "a  b" ∷ "" ∷ "   c" ∷ "== ==" ∷ []) (2 ∷ 2 ∷ []) 0
+    ensures blank_line_between { MakesSimple ("== ==" ∷ "a  b" ∷ "" ∷ "   c" ∷ "== ==" ∷ []) (2 ∷ 2 ∷ []) 0
         ((plain 2 ("a" ∷ "" ∷ "" ∷ []) ∷ plain 2 ("b" ∷ "" ∷ "c" ∷ []) ∷ []) ∷ []) 5 }
-    ensures first_column_blank { Simples ("== ==" ∷ "" ∷ "   b" ∷ "== ==" ∷ []) (2 ∷ 2 ∷ []) 0
+    ensures first_column_blank { MakesSimple ("== ==" ∷ "" ∷ "   b" ∷ "== ==" ∷ []) (2 ∷ 2 ∷ []) 0
         ((plain 3 ("" ∷ []) ∷ plain 3 ("b" ∷ []) ∷ []) ∷ []) 4 }
-    ensures short_line { Simples ("== ==" ∷ "a" ∷ "== ==" ∷ []) (2 ∷ 2 ∷ []) 0 ((plain 2 ("a" ∷ []) ∷ plain 2 ("" ∷ []) ∷ []) ∷ []) 3 }
-    ensures long_line { Simples ("== ==" ∷ "a  bcdef" ∷ "== ==" ∷ []) (2 ∷ 5 ∷ []) 0 ((plain 2 ("a" ∷ []) ∷ plain 2 ("bcdef" ∷ []) ∷ []) ∷ []) 3 }
-    ensures wide_character { Simples ("== ==" ∷ "日 b" ∷ "== ==" ∷ []) (2 ∷ 2 ∷ []) 0 ((plain 2 ("日" ∷ []) ∷ plain 2 ("b" ∷ []) ∷ []) ∷ []) 3 }
-    ensures wide_space { Simples ("== ==" ∷ "a  b" ∷ "\u{3000} c" ∷ "== ==" ∷ []) (2 ∷ 2 ∷ []) 0
+    ensures short_line { MakesSimple ("== ==" ∷ "a" ∷ "== ==" ∷ []) (2 ∷ 2 ∷ []) 0 ((plain 2 ("a" ∷ []) ∷ plain 2 ("" ∷ []) ∷ []) ∷ []) 3 }
+    ensures long_line { MakesSimple ("== ==" ∷ "a  bcdef" ∷ "== ==" ∷ []) (2 ∷ 5 ∷ []) 0 ((plain 2 ("a" ∷ []) ∷ plain 2 ("bcdef" ∷ []) ∷ []) ∷ []) 3 }
+    ensures wide_character { MakesSimple ("== ==" ∷ "日 b" ∷ "== ==" ∷ []) (2 ∷ 2 ∷ []) 0 ((plain 2 ("日" ∷ []) ∷ plain 2 ("b" ∷ []) ∷ []) ∷ []) 3 }
+    ensures wide_space { MakesSimple ("== ==" ∷ "a  b" ∷ "\u{3000} c" ∷ "== ==" ∷ []) (2 ∷ 2 ∷ []) 0
         ((plain 2 ("a" ∷ []) ∷ plain 2 ("b" ∷ []) ∷ []) ∷ (plain 3 ("" ∷ []) ∷ plain 3 ("c" ∷ []) ∷ []) ∷ []) 4 }
-    ensures no_break_space { Simples ("== ==" ∷ "a  b" ∷ "\u{a0}  c" ∷ "== ==" ∷ []) (2 ∷ 2 ∷ []) 0
+    ensures no_break_space { MakesSimple ("== ==" ∷ "a  b" ∷ "\u{a0}  c" ∷ "== ==" ∷ []) (2 ∷ 2 ∷ []) 0
         ((plain 2 ("a" ∷ "" ∷ []) ∷ plain 2 ("b" ∷ "c" ∷ []) ∷ []) ∷ []) 4 }
 {}
 
 /// The heads of simple tables (Markup Specification, 'Simple Tables').
 pub fn simple_heads()
-    ensures one { Simples ("== ==" ∷ "a  b" ∷ "== ==" ∷ "c  d" ∷ "== ==" ∷ []) (2 ∷ 2 ∷ []) 1
+    ensures one { MakesSimple ("== ==" ∷ "a  b" ∷ "== ==" ∷ "c  d" ∷ "== ==" ∷ []) (2 ∷ 2 ∷ []) 1
         ((plain 2 ("a" ∷ []) ∷ plain 2 ("b" ∷ []) ∷ []) ∷ (plain 4 ("c" ∷ []) ∷ plain 4 ("d" ∷ []) ∷ []) ∷ []) 5 }
-    ensures blank_line_after_the_border { Simples ("== ==" ∷ "a  b" ∷ "== ==" ∷ "" ∷ "== ==" ∷ []) (2 ∷ 2 ∷ []) 0
+    ensures blank_line_after_the_border { MakesSimple ("== ==" ∷ "a  b" ∷ "== ==" ∷ "" ∷ "== ==" ∷ []) (2 ∷ 2 ∷ []) 0
         ((plain 2 ("a" ∷ []) ∷ plain 2 ("b" ∷ []) ∷ []) ∷ []) 3 }
-    ensures without_rows { Simples ("== ==" ∷ "== ==" ∷ "a  b" ∷ "== ==" ∷ []) (2 ∷ 2 ∷ []) 0
+    ensures without_rows { MakesSimple ("== ==" ∷ "== ==" ∷ "a  b" ∷ "== ==" ∷ []) (2 ∷ 2 ∷ []) 0
         ((plain 3 ("a" ∷ []) ∷ plain 3 ("b" ∷ []) ∷ []) ∷ []) 4 }
-    ensures without_a_body { Simples ("== ==" ∷ "a  b" ∷ "== ==" ∷ "== ==" ∷ []) (2 ∷ 2 ∷ []) 1
+    ensures without_a_body { MakesSimple ("== ==" ∷ "a  b" ∷ "== ==" ∷ "== ==" ∷ []) (2 ∷ 2 ∷ []) 1
         ((plain 2 ("a" ∷ []) ∷ plain 2 ("b" ∷ []) ∷ []) ∷ []) 4 }
 {}
 
 /// Cells of several columns in simple tables (Markup Specification, 'Simple Tables').
 pub fn simple_spans()
-    ensures rule { Simples ("== == ==" ∷ "a  b  c" ∷ "-- -----" ∷ "d  e" ∷ "== == ==" ∷ []) (2 ∷ 2 ∷ 2 ∷ []) 0
+    ensures rule { MakesSimple ("== == ==" ∷ "a  b  c" ∷ "-- -----" ∷ "d  e" ∷ "== == ==" ∷ []) (2 ∷ 2 ∷ 2 ∷ []) 0
         ((plain 2 ("a" ∷ []) ∷ cell 0 1 2 ("b  c" ∷ []) ∷ []) ∷ (plain 4 ("d" ∷ []) ∷ plain 4 ("e" ∷ []) ∷ plain 4 ("" ∷ []) ∷ []) ∷ []) 5 }
-    ensures row_before_another { Simples ("== ==" ∷ "a  b" ∷ "c d" ∷ "-----" ∷ "== ==" ∷ []) (2 ∷ 2 ∷ []) 0
+    ensures row_before_another { MakesSimple ("== ==" ∷ "a  b" ∷ "c d" ∷ "-----" ∷ "== ==" ∷ []) (2 ∷ 2 ∷ []) 0
         ((plain 2 ("a" ∷ []) ∷ plain 2 ("b" ∷ []) ∷ []) ∷ (cell 0 1 3 ("c d" ∷ []) ∷ []) ∷ []) 5 }
-    ensures widest_line { Simples ("== ==" ∷ "a bbbbbbbb" ∷ "-----" ∷ "c  d" ∷ "== ==" ∷ []) (2 ∷ 7 ∷ []) 0
+    ensures widest_line { MakesSimple ("== ==" ∷ "a bbbbbbbb" ∷ "-----" ∷ "c  d" ∷ "== ==" ∷ []) (2 ∷ 7 ∷ []) 0
         ((cell 0 1 2 ("a bbbbbbbb" ∷ []) ∷ []) ∷ (plain 4 ("c" ∷ []) ∷ plain 4 ("d" ∷ []) ∷ []) ∷ []) 5 }
 {}
 
