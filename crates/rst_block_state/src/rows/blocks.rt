@@ -46,6 +46,9 @@ pub fn literals()
         ∷ "            Treating the overline as ordinary text because it's so short." ∷ "    <paragraph>" ∷ "        ::" ∷ "        x" ∷ []) }
     ensures escaped_white_before_the_colons { Reads ("a\\ ::" ∷ "" ∷ "  b" ∷ [])
         ("<document>" ∷ "    <paragraph>" ∷ "        a" ∷ "    <literal_block xml:space=\"preserve\">" ∷ "        b" ∷ []) }
+    ensures colons_in_an_item { Reads ("- a" ∷ "" ∷ "  ::" ∷ "" ∷ "    b" ∷ [])
+        ("<document>" ∷ "    <bullet_list bullet=\"-\">" ∷ "        <list_item>" ∷ "            <paragraph>" ∷ "                a"
+        ∷ "            <literal_block xml:space=\"preserve\">" ∷ "                b" ∷ []) }
 {}
 
 /// Quoted literal blocks (Markup Specification, 'Quoted Literal Blocks').

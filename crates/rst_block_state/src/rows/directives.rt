@@ -169,6 +169,14 @@ pub fn figures()
         ("<document> 0" ∷ "    <figure> 1" ∷ "        <image uri=\"a\"> 1" ∷ "    <system_message level=\"3\"> 1" ∷ "        <paragraph> 1"
         ∷ "            Figure caption must be a paragraph or empty comment." ∷ "        <literal_block xml:space=\"preserve\"> 1"
         ∷ "            .. figure:: a" ∷ "            " ∷ "               --" ∷ []) }
+    ensures comment_with_text { Reads (".. figure:: a" ∷ "" ∷ "   .. b" ∷ [])
+        ("<document>" ∷ "    <figure>" ∷ "        <image uri=\"a\">" ∷ "    <system_message level=\"3\">" ∷ "        <paragraph>"
+        ∷ "            Figure caption must be a paragraph or empty comment." ∷ "        <literal_block xml:space=\"preserve\">"
+        ∷ "            .. figure:: a" ∷ "            " ∷ "               .. b" ∷ []) }
+    ensures target_first { Reads (".. figure:: a" ∷ "" ∷ "   .. _b:" ∷ [])
+        ("<document>" ∷ "    <figure>" ∷ "        <image uri=\"a\">" ∷ "    <system_message level=\"3\">" ∷ "        <paragraph>"
+        ∷ "            Figure caption must be a paragraph or empty comment." ∷ "        <literal_block xml:space=\"preserve\">"
+        ∷ "            .. figure:: a" ∷ "            " ∷ "               .. _b:" ∷ []) }
 {}
 
 /// Program code (Directives, 'Code').
@@ -188,6 +196,8 @@ pub fn code()
         ("<document>" ∷ "    <system_message level=\"3\">" ∷ "        <paragraph>"
         ∷ "            Content block expected for the \"code\" directive; none found." ∷ "        <literal_block xml:space=\"preserve\">"
         ∷ "            .. code:: a" ∷ []) }
+    ensures name { Means (".. code:: a" ∷ "   :name: B" ∷ "" ∷ "   c" ∷ []) 0
+        ("<document> 0" ∷ "    <literal_block classes=\"code a\" own_name=\"b\" xml:space=\"preserve\"> 1" ∷ "        c" ∷ []) }
 {}
 
 /// Other directives, and where directives begin (Markup Specification, 'Directives').

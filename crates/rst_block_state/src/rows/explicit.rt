@@ -37,8 +37,8 @@ pub fn targets()
         ∷ "    <target own_name=\"e: f\" refuri=\"w\"> 3" ∷ []) }
     ensures anonymous { Means ("__ u" ∷ "" ∷ ".. __: v_" ∷ []) 0
         ("<document> 0" ∷ "    <target anonymous=\"1\" refuri=\"u\"> 1" ∷ "    <target anonymous=\"1\" refname=\"v\"> 3" ∷ []) }
-    ensures several_lines { Reads (".. _a: http://x.org/" ∷ "   b/" ∷ "      c" ∷ "   d" ∷ [])
-        ("<document>" ∷ "    <target refuri=\"http://x.org/b/cd\">" ∷ []) }
+    ensures several_lines { Reads (".. _a: http://x.org/" ∷ "   b/" ∷ "      c" ∷ "   d" ∷ "" ∷ "__ e" ∷ "   f" ∷ [])
+        ("<document>" ∷ "    <target refuri=\"http://x.org/b/cd\">" ∷ "    <target anonymous=\"1\" refuri=\"ef\">" ∷ []) }
     ensures escapes { Reads (".. _a: b\\_" ∷ ".. _c: `d`\\_" ∷ [])
         ("<document>" ∷ "    <target refuri=\"b_\">" ∷ "    <target refuri=\"`d`_\">" ∷ []) }
     ensures malformed { Means (".. _a b" ∷ "" ∷ ".. _: c" ∷ []) 0
@@ -119,6 +119,14 @@ pub fn wrong_substitutions()
         ∷ "    <system_message level=\"3\">" ∷ "        <paragraph>" ∷ "            Error in \"replace\" directive:"
         ∷ "            may contain a single paragraph only." ∷ "        <literal_block xml:space=\"preserve\">"
         ∷ "            .. |g| replace::" ∷ "               h" ∷ "                 i" ∷ []) }
+    ensures white_after_the_bar { Reads (".. | a| image:: b" ∷ [])
+        ("<document>" ∷ "    <comment xml:space=\"preserve\">" ∷ "        | a| image:: b" ∷ []) }
+    ensures wrong_image { Reads (".. |a| image::" ∷ ".. |b| Image:: c" ∷ "" ∷ "   d" ∷ [])
+        ("<document>" ∷ "    <system_message level=\"3\">" ∷ "        <paragraph>" ∷ "            Error in \"image\" directive:"
+        ∷ "            1 argument(s) required, 0 supplied." ∷ "        <literal_block xml:space=\"preserve\">" ∷ "            .. |a| image::"
+        ∷ "    <system_message level=\"3\">" ∷ "        <paragraph>" ∷ "            Error in \"Image\" directive:"
+        ∷ "            no content permitted." ∷ "        <literal_block xml:space=\"preserve\">" ∷ "            .. |b| Image:: c"
+        ∷ "            " ∷ "               d" ∷ []) }
 {}
 
 /// Comments (Markup Specification, 'Comments').

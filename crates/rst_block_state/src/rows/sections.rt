@@ -59,11 +59,12 @@ pub fn sections()
         ∷ "        <system_message level=\"4\"> 10" ∷ "            <paragraph> 10" ∷ "                Title level inconsistent:"
         ∷ "            <literal_block xml:space=\"preserve\"> 10" ∷ "                D" ∷ "                ~" ∷ "        <paragraph> 13"
         ∷ "            d" ∷ "        <section own_name=\"e\"> 15" ∷ "            <title> 15" ∷ "                E" ∷ []) }
-    ensures inconsistent_overline { Means ("A" ∷ "=" ∷ "" ∷ "B" ∷ "-" ∷ "" ∷ "C" ∷ "=" ∷ "" ∷ "===" ∷ " *D" ∷ "===" ∷ []) 1
+    ensures inconsistent_overline { Means ("A" ∷ "=" ∷ "" ∷ "B" ∷ "-" ∷ "" ∷ "C" ∷ "=" ∷ "" ∷ "===" ∷ " *D" ∷ "===" ∷ "x" ∷ []) 1
         ("<document> 0" ∷ "    <section own_name=\"a\"> 1" ∷ "        <title> 1" ∷ "            A" ∷ "        <section own_name=\"b\"> 4"
         ∷ "            <title> 4" ∷ "                B" ∷ "    <section own_name=\"c\"> 7" ∷ "        <title> 7" ∷ "            C"
         ∷ "        <system_message level=\"4\"> 11" ∷ "            <paragraph> 11" ∷ "                Title level inconsistent:"
-        ∷ "            <literal_block xml:space=\"preserve\"> 11" ∷ "                ===" ∷ "                 *D" ∷ "                ===" ∷ []) }
+        ∷ "            <literal_block xml:space=\"preserve\"> 11" ∷ "                ===" ∷ "                 *D" ∷ "                ==="
+        ∷ "        <paragraph> 13" ∷ "            x" ∷ []) }
     ensures messages_of_a_title { Means ("A *b" ∷ "====" ∷ "" ∷ "c" ∷ []) 1
         ("<document> 0" ∷ "    <section own_name=\"a *b\" text_messages=\"1\"> 1" ∷ "        <title text_messages=\"1\"> 1" ∷ "            A "
         ∷ "            <problematic message=\"0\"> 1" ∷ "                *" ∷ "            b"
@@ -75,10 +76,11 @@ pub fn sections()
 
 /// Titles whose adornment is shorter than they are (Markup Specification, 'Sections').
 pub fn short_titles()
-    ensures underline { Means ("Title" ∷ "====" ∷ []) 0
+    ensures underline { Means ("Title" ∷ "====" ∷ "x" ∷ []) 0
         ("<document> 0" ∷ "    <section own_name=\"title\" text_messages=\"1\"> 1" ∷ "        <title> 1" ∷ "            Title"
         ∷ "        <system_message level=\"2\"> 2" ∷ "            <paragraph> 2" ∷ "                Title underline too short."
-        ∷ "            <literal_block xml:space=\"preserve\"> 2" ∷ "                Title" ∷ "                ====" ∷ []) }
+        ∷ "            <literal_block xml:space=\"preserve\"> 2" ∷ "                Title" ∷ "                ====" ∷ "        <paragraph> 3"
+        ∷ "            x" ∷ []) }
     ensures underline_as_text { Means ("Title" ∷ "===" ∷ []) 0
         ("<document> 0" ∷ "    <system_message level=\"1\"> 2" ∷ "        <paragraph> 2"
         ∷ "            Possible title underline, too short for the title." ∷ "            Treating it as ordinary text because it's so short."
@@ -94,11 +96,11 @@ pub fn short_titles()
         ("<document> 0" ∷ "    <section own_name=\"日本語\" text_messages=\"1\"> 1" ∷ "        <title> 1" ∷ "            日本語"
         ∷ "        <system_message level=\"2\"> 2" ∷ "            <paragraph> 2" ∷ "                Title underline too short."
         ∷ "            <literal_block xml:space=\"preserve\"> 2" ∷ "                日本語" ∷ "                ====" ∷ []) }
-    ensures overline { Means ("====" ∷ " Title" ∷ "====" ∷ []) 0
+    ensures overline { Means ("====" ∷ " Title" ∷ "====" ∷ "x" ∷ []) 0
         ("<document> 0" ∷ "    <section own_name=\"title\" text_messages=\"1\"> 2" ∷ "        <title> 2" ∷ "            Title"
         ∷ "        <system_message level=\"2\"> 1" ∷ "            <paragraph> 1" ∷ "                Title overline too short."
-        ∷ "            <literal_block xml:space=\"preserve\"> 1" ∷ "                ====" ∷ "                 Title"
-        ∷ "                ====" ∷ []) }
+        ∷ "            <literal_block xml:space=\"preserve\"> 1" ∷ "                ====" ∷ "                 Title" ∷ "                ===="
+        ∷ "        <paragraph> 4" ∷ "            x" ∷ []) }
     ensures indentation_counts { Means ("=====" ∷ " Title" ∷ "=====" ∷ []) 0
         ("<document> 0" ∷ "    <section own_name=\"title\" text_messages=\"1\"> 2" ∷ "        <title> 2" ∷ "            Title"
         ∷ "        <system_message level=\"2\"> 1" ∷ "            <paragraph> 1" ∷ "                Title overline too short."
@@ -112,13 +114,18 @@ pub fn short_titles()
         ("<document> 0" ∷ "    <system_message level=\"1\"> 1" ∷ "        <paragraph> 1" ∷ "            Possible incomplete section title."
         ∷ "            Treating the overline as ordinary text because it's so short." ∷ "    <section own_name=\"==\"> 1"
         ∷ "        <title> 1" ∷ "            ==" ∷ []) }
+    ensures adornment_between { Reads ("===" ∷ "---" ∷ "===" ∷ [])
+        ("<document>" ∷ "    <system_message level=\"1\">" ∷ "        <paragraph>" ∷ "            Possible incomplete section title."
+        ∷ "            Treating the overline as ordinary text because it's so short." ∷ "    <section>" ∷ "        <title>"
+        ∷ "            ===" ∷ "        <paragraph>" ∷ "            ===" ∷ []) }
 {}
 
 /// Adornments that make no title (Markup Specification, 'Sections').
 pub fn misplaced_titles()
-    ensures mismatch { Means ("====" ∷ "T" ∷ "----" ∷ []) 0
+    ensures mismatch { Means ("====" ∷ "T" ∷ "----" ∷ "x" ∷ []) 0
         ("<document> 0" ∷ "    <system_message level=\"4\"> 1" ∷ "        <paragraph> 1" ∷ "            Title overline & underline mismatch."
-        ∷ "        <literal_block xml:space=\"preserve\"> 1" ∷ "            ====" ∷ "            T" ∷ "            ----" ∷ []) }
+        ∷ "        <literal_block xml:space=\"preserve\"> 1" ∷ "            ====" ∷ "            T" ∷ "            ----" ∷ "    <paragraph> 4"
+        ∷ "        x" ∷ []) }
     ensures underline_of_another_length { Means ("====" ∷ "T" ∷ "=====" ∷ []) 0
         ("<document> 0" ∷ "    <system_message level=\"4\"> 1" ∷ "        <paragraph> 1" ∷ "            Title overline & underline mismatch."
         ∷ "        <literal_block xml:space=\"preserve\"> 1" ∷ "            ====" ∷ "            T" ∷ "            =====" ∷ []) }
@@ -133,10 +140,10 @@ pub fn misplaced_titles()
     ensures incomplete { Means ("====" ∷ "T" ∷ []) 0
         ("<document> 0" ∷ "    <system_message level=\"4\"> 1" ∷ "        <paragraph> 1" ∷ "            Incomplete section title."
         ∷ "        <literal_block xml:space=\"preserve\"> 1" ∷ "            ====" ∷ "            T" ∷ []) }
-    ensures invalid_marker { Means ("====" ∷ "----" ∷ "" ∷ "x" ∷ []) 0
+    ensures invalid_marker { Means ("====" ∷ "----" ∷ "x" ∷ []) 0
         ("<document> 0" ∷ "    <system_message level=\"3\"> 1" ∷ "        <paragraph> 1"
         ∷ "            Invalid section title or transition marker." ∷ "        <literal_block xml:space=\"preserve\"> 1" ∷ "            ===="
-        ∷ "            ----" ∷ "    <paragraph> 4" ∷ "        x" ∷ []) }
+        ∷ "            ----" ∷ "    <paragraph> 3" ∷ "        x" ∷ []) }
     ensures blank_line_at_the_end { Means ("====" ∷ "T" ∷ "" ∷ []) 0
         ("<document> 0" ∷ "    <system_message level=\"4\"> 1" ∷ "        <paragraph> 1"
         ∷ "            Missing matching underline for section title overline." ∷ "        <literal_block xml:space=\"preserve\"> 1"
@@ -156,12 +163,13 @@ pub fn titles_in_items()
         ("<document> 0" ∷ "    <bullet_list bullet=\"-\"> 1" ∷ "        <list_item> 1" ∷ "            <system_message level=\"4\"> 2"
         ∷ "                <paragraph> 2" ∷ "                    Unexpected section title."
         ∷ "                <literal_block xml:space=\"preserve\"> 2" ∷ "                    Title" ∷ "                    =====" ∷ []) }
-    ensures short { Means ("- Title" ∷ "  ====" ∷ []) 0
+    ensures short { Means ("- Title" ∷ "  ====" ∷ "  x" ∷ []) 0
         ("<document> 0" ∷ "    <bullet_list bullet=\"-\"> 1" ∷ "        <list_item> 1" ∷ "            <system_message level=\"2\"> 2"
         ∷ "                <paragraph> 2" ∷ "                    Title underline too short."
         ∷ "                <literal_block xml:space=\"preserve\"> 2" ∷ "                    Title" ∷ "                    ===="
         ∷ "            <system_message level=\"4\"> 2" ∷ "                <paragraph> 2" ∷ "                    Unexpected section title."
-        ∷ "                <literal_block xml:space=\"preserve\"> 2" ∷ "                    Title" ∷ "                    ====" ∷ []) }
+        ∷ "                <literal_block xml:space=\"preserve\"> 2" ∷ "                    Title" ∷ "                    ===="
+        ∷ "            <paragraph> 3" ∷ "                x" ∷ []) }
     ensures underline_as_text { Means ("- Title" ∷ "  ==" ∷ []) 0
         ("<document> 0" ∷ "    <bullet_list bullet=\"-\"> 1" ∷ "        <list_item> 1" ∷ "            <paragraph> 1" ∷ "                Title"
         ∷ "                ==" ∷ []) }

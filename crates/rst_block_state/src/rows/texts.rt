@@ -94,16 +94,18 @@ pub fn nesting()
         ("<document> 0" ∷ "    <bullet_list bullet=\"-\"> 1" ∷ "        <list_item> 1" ∷ "            <paragraph> 1" ∷ "                a"
         ∷ "            <paragraph> 3" ∷ "                b" ∷ []) }
     ensures blank_item { IsTooDeep 1 ("- - " ∷ "" ∷ "- - a" ∷ []) 3 }
-    ensures definition { IsTooDeep 0 ("a" ∷ "  b" ∷ []) 2 }
-    ensures field { IsTooDeep 0 ("" ∷ ":a: b" ∷ []) 2 }
-    ensures option { IsTooDeep 0 ("-a  b" ∷ []) 1 }
+    ensures enumerated_list { IsTooDeep 1 ("1. a" ∷ "" ∷ "   - b" ∷ []) 3 }
+    ensures definition { IsTooDeep 1 ("a" ∷ "  b" ∷ "" ∷ "  - c" ∷ []) 4 }
+    ensures field { IsTooDeep 1 ("" ∷ ":a: b" ∷ "" ∷ "  - c" ∷ []) 4 }
+    ensures option { IsTooDeep 1 ("-a  b" ∷ "" ∷ "    - c" ∷ []) 3 }
     ensures quote { IsTooDeep 1 ("  a" ∷ "" ∷ "  b" ∷ "    c" ∷ []) 4 }
-    ensures footnote { IsTooDeep 0 (".. [1]" ∷ "" ∷ "   a" ∷ []) 3 }
-    ensures citation { IsTooDeep 0 (".. [a] b" ∷ []) 1 }
-    ensures directive { IsTooDeep 0 (".. note::" ∷ "" ∷ "   a" ∷ []) 3 }
-    ensures second_block { IsTooDeep 1 (".. note:: a" ∷ "   :class: b" ∷ "" ∷ "   - c" ∷ []) 4 }
+    ensures footnote { IsTooDeep 1 (".. [1]" ∷ "" ∷ "   a" ∷ "" ∷ "   - b" ∷ []) 5 }
+    ensures citation { IsTooDeep 1 (".. [a] b" ∷ "" ∷ "   - c" ∷ []) 3 }
+    ensures directive { IsTooDeep 1 (".. note::" ∷ "" ∷ "   a" ∷ "" ∷ "   - b" ∷ []) 5 }
+    ensures second_block { IsTooDeep 1 (".. note:: a" ∷ "   :class: b" ∷ "" ∷ "   c" ∷ "" ∷ "   - d" ∷ []) 6 }
+    ensures figure { IsTooDeep 1 (".. figure:: a" ∷ "" ∷ "   b" ∷ "" ∷ "   - c" ∷ []) 5 }
     ensures wrong_directive { IsTooDeep 0 (".. note::" ∷ "   :alt: c" ∷ "" ∷ "   x" ∷ "a" ∷ "  b" ∷ []) 6 }
-    ensures cell { IsTooDeep 0 ("+---+" ∷ "| a |" ∷ "+---+" ∷ []) 2 }
+    ensures cell { IsTooDeep 1 ("+-----+" ∷ "| a   |" ∷ "|     |" ∷ "| - b |" ∷ "+-----+" ∷ []) 4 }
     ensures line_blocks { IsTooDeep 1 ("| a" ∷ "|  b" ∷ "|   c" ∷ []) 3 }
     ensures replacement { IsTooDeep 0 (".. |a| replace:: b" ∷ []) 1 }
     ensures in_order { IsTooDeep 1 ("- a" ∷ "" ∷ "  - b" ∷ "" ∷ "- - c" ∷ []) 3 }
