@@ -12,6 +12,8 @@ KIT = {
     "std": ["lib.Utf8.encode", "Rattle.std.specs.Fmt.digits"],
     **{library: [f"Rattle.{library}.proofs.Computing.{library}"] for library in ("ucd_case", "ucd_category", "unicode_width", "unicode_normalization")},
 }
+# the further names of `std` that the definitions of a crate go through
+FURTHER = {"rst_transform_docinfo": ["Rattle.std.specs.Str.trim_start", "Rattle.std.specs.Str.trim_end"]}
 WIDTH = 150
 
 
@@ -28,7 +30,7 @@ def shut(crate):
 
 
 def text_of(crate, libraries):
-    names = list(KIT["std"])
+    names = KIT["std"] + FURTHER.get(crate, [])
     for library in libraries:
         if library in KIT:
             names += KIT[library]

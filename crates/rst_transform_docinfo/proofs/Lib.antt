@@ -1,3 +1,4 @@
+pub mod Computing
 pub mod DocinfoKinds
 pub mod FieldKinds
 pub mod Gathering

@@ -3,3 +3,4 @@ pub mod Bibliography
 pub mod Docinfo
 pub mod Fields
 pub mod Gathered
+pub mod Written

@@ -6,3 +6,4 @@ mod bibliography;
 pub mod docinfo;
 mod field;
 pub mod laws;
+pub mod rows;

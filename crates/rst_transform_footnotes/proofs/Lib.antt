@@ -1,3 +1,4 @@
+pub mod Computing
 pub mod FreeNumbers
 pub mod FootnoteKinds
 pub mod FootnoteLemmas

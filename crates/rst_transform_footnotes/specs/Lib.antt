@@ -1,2 +1,3 @@
 pub mod Footnotes
 pub mod FootnoteLabels
+pub mod Written

@@ -31,6 +31,7 @@ pub fn footnotes_by_order()
         ∷ element FootnoteReference (says Auto "*" ∷ []) [] ∷ element FootnoteReference (says Auto "1" ∷ []) [] ∷ element Footnote (says Mark "*"
         ∷ []) [] ∷ element Footnote (says Mark "#" ∷ []) [] ∷ element Footnote (says Mark "#" ∷ []) [] ∷ [])))
         ≡ Some 4 ∷ Some 3 ∷ Some 5 ∷ None ∷ None ∷ None ∷ [] }
+    ensures kinds_in_words { map order_name (Numbers ∷ Symbols ∷ []) ≡ codes "autonumbered" ∷ codes "symbol" ∷ [] }
     ensures left_over { found_by_order (linked_of (document_of (element FootnoteReference (says Auto "1" ∷ []) []
         ∷ element FootnoteReference (says Auto "1" ∷ []) [] ∷ element Footnote (says Mark "#" ∷ []) [] ∷ [])))
         ≡ Some 2 ∷ None ∷ None ∷ [] }

@@ -4,3 +4,4 @@ pub mod Listed
 pub mod Messages
 pub mod MessagesIn
 pub mod Shown
+pub mod Written

@@ -4,5 +4,6 @@
 pub mod filter;
 pub mod laws;
 mod messages;
+pub mod rows;
 
 pub use messages::Messages;

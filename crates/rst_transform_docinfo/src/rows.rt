@@ -1,0 +1,107 @@
+//! Worked examples of bibliographic fields, as theorems on the definitions alone.
+#![tactic(auto, unfolding(crate::proofs::Computing::rst_transform_docinfo))]
+
+ghost use Rattle.std.specs.Prelude.{◌≡◌, Some, None, codes, [], ◌∷◌, map};
+ghost use Rattle.rst_tree.specs.declared.key.Key.TheVariants.{Ids, Names};
+ghost use Rattle.rst_tree.specs.declared.tag.Tag.TheVariants.{Author, BulletList, Comment, Contact, Copyright, Date, Emphasis, Field, FieldBody, FieldList, FieldName, ListItem, Organization, Paragraph, Revision, Status, Subtitle, SystemMessage, Title, Version};
+ghost use Rattle.rst_transform_docinfo.specs.declared.bibliography.Row.TheVariants.{Simple, Address, Authors, Topic, Generic};
+ghost use Rattle.rst_transform_docinfo.specs.declared.bibliography.TopicKind.TheVariants.{Dedication, Abstract};
+ghost use Rattle.rst_transform_names.specs.Trees.{document, element, lists, paragraph, says, text, Prints};
+ghost use Rattle.rst_transform_work.specs.Written.{document_of, Shows};
+ghost use Rattle.rst_transform_docinfo.specs.Authors.{names_in};
+ghost use Rattle.rst_transform_docinfo.specs.Bibliography.{row_of};
+ghost use Rattle.rst_transform_docinfo.specs.Docinfo.{docinfo_reports, with_docinfo};
+ghost use Rattle.rst_transform_docinfo.specs.Written.{field};
+
+/// The fields that are bibliographic, by their names.
+pub fn bibliographic_fields()
+    ensures simple { map row_of (codes "author" ∷ codes "organization" ∷ codes "contact" ∷ codes "version" ∷ codes "revision" ∷ codes "status"
+        ∷ codes "date" ∷ codes "copyright" ∷ [])
+        ≡ Simple Author ∷ Simple Organization ∷ Simple Contact ∷ Simple Version ∷ Simple Revision ∷ Simple Status ∷ Simple Date ∷ Simple Copyright
+        ∷ [] }
+    ensures others { map row_of (codes "address" ∷ codes "authors" ∷ codes "dedication" ∷ codes "abstract" ∷ [])
+        ≡ Address ∷ Authors ∷ Topic Dedication ∷ Topic Abstract ∷ [] }
+    ensures generic { map row_of (codes "title" ∷ codes "Author" ∷ codes "dates" ∷ [] ∷ []) ≡ Generic ∷ Generic ∷ Generic ∷ Generic ∷ [] }
+{}
+
+/// What the fields of a leading list become.
+pub fn fields()
+    ensures three { Shows (with_docinfo 0 [] (document_of (element FieldList [] (field "Author" (paragraph "Ann" ∷ [])
+        ∷ field "Version" (paragraph "1" ∷ []) ∷ field "X y" (paragraph "z" ∷ []) ∷ []) ∷ [])))
+        ("<document>" ∷ "    <docinfo>" ∷ "        <author>" ∷ "            Ann" ∷ "        <version>" ∷ "            1"
+        ∷ "        <field classes=\"x-y\">" ∷ "            <field_name>" ∷ "                X y" ∷ "            <field_body>"
+        ∷ "                <paragraph>" ∷ "                    z" ∷ []) }
+    ensures no_class { Shows (with_docinfo 0 [] (document_of (element FieldList [] (field "1" [] ∷ []) ∷ [])))
+        ("<document>" ∷ "    <docinfo>" ∷ "        <field>" ∷ "            <field_name>" ∷ "                1" ∷ "            <field_body>" ∷ []) }
+    ensures address { Shows (with_docinfo 0 [] (document_of (element FieldList [] (field "ADDRESS" (paragraph "a" ∷ []) ∷ []) ∷ [])))
+        ("<document>" ∷ "    <docinfo>" ∷ "        <address xml:space=\"preserve\">" ∷ "            a" ∷ []) }
+    ensures not_in_form { Shows (with_docinfo 0 [] (document_of (element FieldList [] (field "Date" [] ∷ []) ∷ paragraph "x" ∷ [])))
+        ("<document>" ∷ "    <docinfo>" ∷ "        <field classes=\"date\">" ∷ "            <field_name>" ∷ "                Date"
+        ∷ "            <field_body>" ∷ "                <system_message level=\"2\" line=\"1\" type=\"WARNING\">"
+        ∷ "                    <paragraph>" ∷ "                        Bibliographic field \"date\" is not in its form." ∷ "    <paragraph>"
+        ∷ "        x" ∷ []) }
+    ensures two_paragraphs { Shows (with_docinfo 0 [] (document_of (element FieldList [] (field "Status" (paragraph "a" ∷ paragraph "b" ∷ []) ∷ [])
+        ∷ [])))
+        ("<document>" ∷ "    <docinfo>" ∷ "        <field classes=\"status\">" ∷ "            <field_name>" ∷ "                Status"
+        ∷ "            <field_body>" ∷ "                <paragraph>" ∷ "                    a" ∷ "                <paragraph>"
+        ∷ "                    b" ∷ "                <system_message level=\"2\" line=\"1\" type=\"WARNING\">" ∷ "                    <paragraph>"
+        ∷ "                        Bibliographic field \"status\" is not in its form." ∷ []) }
+    ensures names { Shows (with_docinfo 0 [] (document_of (element FieldList (lists Ids ("l" ∷ []) ∷ []) (element Field (lists Ids ("f" ∷ [])
+        ∷ []) (element FieldName [] (text "date" ∷ []) ∷ element FieldBody [] (paragraph "x" ∷ []) ∷ []) ∷ []) ∷ [])))
+        ("<document>" ∷ "    <docinfo ids=\"l\">" ∷ "        <date ids=\"f\">" ∷ "            x" ∷ []) }
+{}
+
+/// Dedication and abstract: topics after the other elements, whatever the order of the fields.
+pub fn topics()
+    ensures both { Shows (with_docinfo 0 [] (document_of (element FieldList [] (field "Abstract" (paragraph "a" ∷ [])
+        ∷ field "Dedication" (paragraph "d" ∷ []) ∷ field "Date" (paragraph "x" ∷ []) ∷ []) ∷ [])))
+        ("<document>" ∷ "    <docinfo>" ∷ "        <date>" ∷ "            x" ∷ "    <topic classes=\"dedication\">" ∷ "        <title>"
+        ∷ "            Dedication" ∷ "        <paragraph>" ∷ "            d" ∷ "    <topic classes=\"abstract\">" ∷ "        <title>"
+        ∷ "            Abstract" ∷ "        <paragraph>" ∷ "            a" ∷ []) }
+    ensures alone { Shows (with_docinfo 0 [] (document_of (element FieldList (lists Ids ("l" ∷ []) ∷ []) (field "Abstract" (paragraph "a"
+        ∷ paragraph "b" ∷ []) ∷ []) ∷ [])))
+        ("<document>" ∷ "    <topic classes=\"abstract\" ids=\"l\">" ∷ "        <title>" ∷ "            Abstract" ∷ "        <paragraph>"
+        ∷ "            a" ∷ "        <paragraph>" ∷ "            b" ∷ []) }
+    ensures second { map (λ r. r.text) (docinfo_reports 0 [] (document_of (element FieldList [] (field "abstract" (paragraph "a" ∷ [])
+        ∷ field "abstract" (paragraph "b" ∷ []) ∷ []) ∷ [])))
+        ≡ codes "Bibliographic field \"abstract\" is not in its form." ∷ [] }
+    ensures first_of_the_name { map (λ r. r.number) (docinfo_reports 7 [] (document_of (element FieldList [] (field "abstract" []
+        ∷ field "abstract" (paragraph "b" ∷ []) ∷ field "dedication" (paragraph "b" ∷ []) ∷ []) ∷ [])))
+        ≡ 7 ∷ 8 ∷ [] }
+{}
+
+/// Authors.
+pub fn authors()
+    ensures one { Prints (document (names_in 1 (codes "Ann"))) ("<document>" ∷ "    <author>" ∷ "        Ann" ∷ []) }
+    ensures by_commas { Prints (document (names_in 1 (codes "A, B,, C ")))
+        ("<document>" ∷ "    <author>" ∷ "        A" ∷ "    <author>" ∷ "        B" ∷ "    <author>" ∷ "        C" ∷ []) }
+    ensures by_semicolons { Prints (document (names_in 1 (codes "A, B; C")))
+        ("<document>" ∷ "    <author>" ∷ "        A, B" ∷ "    <author>" ∷ "        C" ∷ []) }
+    ensures none_left { names_in 1 (codes " , ,") ≡ [] }
+    ensures field_of_none { map (λ r. r.text) (docinfo_reports 0 [] (document_of (element FieldList [] (field "authors" (paragraph ";" ∷ []) ∷ [])
+        ∷ [])))
+        ≡ codes "Bibliographic field \"authors\" is not in its form." ∷ [] }
+    ensures of_a_list { Shows (with_docinfo 0 [] (document_of (element FieldList [] (field "Authors" (element BulletList [] (element ListItem []
+        (paragraph "A, B" ∷ []) ∷ element ListItem [] (paragraph "C" ∷ []) ∷ []) ∷ []) ∷ []) ∷ [])))
+        ("<document>" ∷ "    <docinfo>" ∷ "        <authors>" ∷ "            <author>" ∷ "                A, B" ∷ "            <author>"
+        ∷ "                C" ∷ []) }
+    ensures of_markup { Shows (with_docinfo 0 [] (document_of (element FieldList [] (field "Authors" (element Paragraph [] (text "A; "
+        ∷ element Emphasis [] (text "B" ∷ []) ∷ []) ∷ []) ∷ []) ∷ [])))
+        ("<document>" ∷ "    <docinfo>" ∷ "        <authors>" ∷ "            <author>" ∷ "                A; " ∷ "                <emphasis>"
+        ∷ "                    B" ∷ []) }
+    ensures empty_item { map (λ r. r.text) (docinfo_reports 0 [] (document_of (element FieldList [] (field "authors" (element BulletList []
+        (element ListItem [] (paragraph "A" ∷ []) ∷ element ListItem [] [] ∷ []) ∷ []) ∷ []) ∷ [])))
+        ≡ codes "Bibliographic field \"authors\" is not in its form." ∷ [] }
+{}
+
+/// Which field list leads a document, and where its elements come.
+pub fn leading_list()
+    ensures after_titles { Shows (with_docinfo 0 [] (document_of (element Title [] [] ∷ element Subtitle [] [] ∷ element Comment [] []
+        ∷ element FieldList [] (field "date" (paragraph "x" ∷ []) ∷ []) ∷ [])))
+        ("<document>" ∷ "    <title>" ∷ "    <subtitle>" ∷ "    <docinfo>" ∷ "        <date>" ∷ "            x" ∷ "    <comment>" ∷ []) }
+    ensures after_a_message { Shows (with_docinfo 0 [] (document_of (element SystemMessage [] [] ∷ element FieldList [] (field "date" (paragraph "x"
+        ∷ []) ∷ []) ∷ [])))
+        ("<document>" ∷ "    <docinfo>" ∷ "        <date>" ∷ "            x" ∷ "    <system_message line=\"1\">" ∷ []) }
+    ensures after_a_paragraph { Shows (with_docinfo 0 [] (document_of (paragraph "a" ∷ element FieldList [] [] ∷ [])))
+        ("<document>" ∷ "    <paragraph>" ∷ "        a" ∷ "    <field_list>" ∷ []) }
+{}

@@ -1,0 +1,72 @@
+//! Worked examples of footnotes, their labels and the references that find them by the order, as theorems on the definitions alone.
+#![tactic(auto, unfolding(crate::proofs::Computing::rst_transform_footnotes))]
+
+ghost use Rattle.std.specs.Prelude.{◌≡◌, Some, None, codes, encode_utf8_all, [], ◌∷◌, map};
+ghost use Rattle.rst_tree.specs.declared.key.Key.TheVariants.{Auto, Ids, Mark, Names, Refname, Serial};
+ghost use Rattle.rst_tree.specs.declared.node.Node.TheVariants.{Element};
+ghost use Rattle.rst_tree.specs.declared.tag.Tag.TheVariants.{Citation, Footnote, FootnoteReference, Label};
+ghost use Rattle.rst_tree.specs.Forest.{bare};
+ghost use Rattle.rst_transform_names.specs.declared.names.Holder.TheVariants.{Element as By};
+ghost use Rattle.rst_transform_names.specs.declared.names.Strength.TheVariants.{Explicit};
+ghost use Rattle.rst_transform_names.specs.Trees.{counts, element, lists, says, text};
+ghost use Rattle.rst_transform_work.specs.Written.{document_of, Shows};
+ghost use Rattle.rst_transform_links.specs.declared.footnote_orders.Order.TheVariants.{Numbers, Symbols};
+ghost use Rattle.rst_transform_links.specs.FootnoteOrders.{found_by_order};
+ghost use Rattle.rst_transform_links.specs.Linkings.{linked_of};
+ghost use Rattle.rst_transform_footnotes.specs.FootnoteLabels.{labels, symbol_label};
+ghost use Rattle.rst_transform_footnotes.specs.Footnotes.{entry_of, first_left_over, own_number, report_of, too_many};
+ghost use Rattle.rst_transform_footnotes.specs.Written.{footnote, with_labels};
+
+/// The labels of symbol footnotes.
+pub fn symbols()
+    ensures in_order { map symbol_label (0 ∷ 1 ∷ 2 ∷ 3 ∷ 4 ∷ 5 ∷ 6 ∷ 7 ∷ 8 ∷ 9 ∷ [])
+        ≡ map (λ one. encode_utf8_all (codes one)) ("*" ∷ "†" ∷ "‡" ∷ "§" ∷ "¶" ∷ "#" ∷ "♠" ∷ "♥" ∷ "♦" ∷ "♣" ∷ []) }
+    ensures doubled { map symbol_label (10 ∷ 19 ∷ 21 ∷ []) ≡ map (λ one. encode_utf8_all (codes one)) ("**" ∷ "♣♣" ∷ "†††" ∷ []) }
+{}
+
+/// The labels of footnotes.
+pub fn numbers()
+    ensures written_numbers { labels (linked_of (document_of (footnote "#" [] ∷ footnote "1" [] ∷ footnote "#a" [] ∷ footnote "3" []
+        ∷ footnote "#" [] ∷ [])))
+        ≡ Some (codes "2") ∷ None ∷ Some (codes "1") ∷ None ∷ Some (codes "4") ∷ None ∷ Some (codes "3") ∷ None ∷ Some (codes "5") ∷ None ∷ [] }
+    ensures zero_in_front { labels (linked_of (document_of (element Footnote (says Mark "01" ∷ []) [] ∷ element Footnote (says Mark "#" ∷ []) []
+        ∷ [])))
+        ≡ Some (codes "01") ∷ Some (codes "1") ∷ [] }
+    ensures named_by_a_number { labels (linked_of (document_of (element Footnote (says Mark "#1" ∷ []) [] ∷ element Footnote (says Mark "#" ∷ []) []
+        ∷ [])))
+        ≡ Some (codes "1") ∷ Some (codes "2") ∷ [] }
+    ensures citation { labels (linked_of (document_of (element Citation [] [] ∷ element Footnote (says Mark "*" ∷ []) []
+        ∷ element Footnote (says Mark "#" ∷ []) [] ∷ [])))
+        ≡ None ∷ Some (codes "*") ∷ Some (codes "1") ∷ [] }
+{}
+
+/// References without names, and the footnotes that they find.
+pub fn references()
+    ensures numbered { Shows (with_labels (document_of (element FootnoteReference (says Auto "1" ∷ lists Ids ("footnote-reference-1" ∷ []) ∷ []) []
+        ∷ footnote "#" (says Auto "1" ∷ lists Ids ("footnote-1" ∷ []) ∷ []) ∷ footnote "1" (lists Ids ("footnote-2" ∷ []) ∷ lists Names ("1" ∷ [])
+        ∷ []) ∷ [])))
+        ("<document>" ∷ "    <footnote_reference auto=\"1\" ids=\"footnote-reference-1\" refid=\"footnote-1\">" ∷ "        2"
+        ∷ "    <footnote auto=\"1\" ids=\"footnote-1\" names=\"2\">" ∷ "        <label>" ∷ "            2"
+        ∷ "    <footnote ids=\"footnote-2\" names=\"1\">" ∷ "        <label>" ∷ "            1" ∷ []) }
+    ensures symbol { Shows (with_labels (document_of (element FootnoteReference (says Auto "*" ∷ []) [] ∷ footnote "*" (says Auto "*"
+        ∷ lists Ids ("footnote-1" ∷ "x" ∷ []) ∷ []) ∷ [])))
+        ("<document>" ∷ "    <footnote_reference auto=\"*\" refid=\"footnote-1\">" ∷ "        *" ∷ "    <footnote auto=\"*\" ids=\"footnote-1 x\">"
+        ∷ "        <label>" ∷ "            *" ∷ []) }
+    ensures of_a_name { Shows (with_labels (document_of (footnote "#a" (says Auto "1" ∷ lists Names ("a" ∷ []) ∷ []) ∷ [])))
+        ("<document>" ∷ "    <footnote auto=\"1\" names=\"a\">" ∷ "        <label>" ∷ "            1" ∷ []) }
+    ensures further_name { Shows (with_labels (document_of (footnote "#" (lists Names ("x" ∷ []) ∷ []) ∷ [])))
+        ("<document>" ∷ "    <footnote names=\"x 1\">" ∷ "        <label>" ∷ "            1" ∷ []) }
+{}
+
+/// References that find no footnote.
+pub fn left_over()
+    ensures numbered { too_many Numbers 1 ≡ codes "Too many autonumbered footnote references: only 1 corresponding footnotes available." }
+    ensures symbol { too_many Symbols 0 ≡ codes "Too many symbol footnote references: only 0 corresponding footnotes available." }
+    ensures first { let linked = linked_of (document_of (footnote "#" [] ∷ Element FootnoteReference (says Auto "1" ∷ []) bare 3
+        ∷ Element FootnoteReference (says Auto "*" ∷ []) bare 4 ∷ Element FootnoteReference (says Auto "1" ∷ []) bare 5
+        ∷ Element FootnoteReference (says Auto "1" ∷ []) bare 6 ∷ []))
+        in first_left_over Numbers (found_by_order linked) linked ≡ Some 5 }
+    ensures message { report_of (Some Symbols) (Some 0) (Some 1) ≡ Some 1 }
+    ensures known_number { entry_of (codes "1") (Some (codes "1")) (footnote "#" (lists Ids ("footnote-1" ∷ []) ∷ counts Serial 4 ∷ []))
+        ≡ Some (record { holder = By 4; strength = Explicit; id = codes "footnote-1"; uri = None }) }
+{}
