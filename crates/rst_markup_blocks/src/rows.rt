@@ -164,7 +164,7 @@ pub fn explicit_markup()
         ≡ Directive (record { name = record { from = 3; to = 4 }; block = record { from = 0; to = 1; first_cut = 7; rest_cut = 0 } }) }
 {}
 
-/// Comments: their texts, and what makes them comments.
+/// Comments: their texts, and what makes them comments (Markup Specification, 'Comments').
 pub fn comments()
     ensures plain { explicit_of 0 (block ("..  a: b" ∷ "      c" ∷ "" ∷ "   d" ∷ "e" ∷ []))
         ≡ Comment (record { from = 0; to = 4; first_cut = 4; rest_cut = 3 }) Plain }

@@ -13,7 +13,7 @@ ghost use Rattle.rst_transform_docinfo.specs.Bibliography.{row_of};
 ghost use Rattle.rst_transform_docinfo.specs.Docinfo.{docinfo_reports, with_docinfo};
 ghost use Rattle.rst_transform_docinfo.specs.Written.{field};
 
-/// The fields that are bibliographic, by their names.
+/// The fields that are bibliographic, by their names (Markup Specification, 'Bibliographic Fields').
 pub fn bibliographic_fields()
     ensures simple { map row_of (codes "author" ∷ codes "organization" ∷ codes "contact" ∷ codes "version" ∷ codes "revision" ∷ codes "status"
         ∷ codes "date" ∷ codes "copyright" ∷ [])
@@ -24,7 +24,7 @@ pub fn bibliographic_fields()
     ensures generic { map row_of (codes "title" ∷ codes "Author" ∷ codes "dates" ∷ [] ∷ []) ≡ Generic ∷ Generic ∷ Generic ∷ Generic ∷ [] }
 {}
 
-/// What the fields of a leading list become.
+/// What the fields of a leading list become (Markup Specification, 'Bibliographic Fields').
 pub fn fields()
     ensures three { Shows (with_docinfo 0 [] (document_of (element FieldList [] (field "Author" (paragraph "Ann" ∷ [])
         ∷ field "Version" (paragraph "1" ∷ []) ∷ field "X y" (paragraph "z" ∷ []) ∷ []) ∷ [])))
@@ -51,7 +51,7 @@ pub fn fields()
         ("<document>" ∷ "    <docinfo ids=\"l\">" ∷ "        <date ids=\"f\">" ∷ "            x" ∷ []) }
 {}
 
-/// Dedication and abstract: topics after the other elements, whatever the order of the fields.
+/// Dedication and abstract: topics after the other elements, whatever the order of the fields (Markup Specification, 'Bibliographic Fields').
 pub fn topics()
     ensures both { Shows (with_docinfo 0 [] (document_of (element FieldList [] (field "Abstract" (paragraph "a" ∷ [])
         ∷ field "Dedication" (paragraph "d" ∷ []) ∷ field "Date" (paragraph "x" ∷ []) ∷ []) ∷ [])))
@@ -70,7 +70,7 @@ pub fn topics()
         ≡ 7 ∷ 8 ∷ [] }
 {}
 
-/// Authors.
+/// Authors (Markup Specification, 'Bibliographic Fields').
 pub fn authors()
     ensures one { Prints (document (names_in 1 (codes "Ann"))) ("<document>" ∷ "    <author>" ∷ "        Ann" ∷ []) }
     ensures by_commas { Prints (document (names_in 1 (codes "A, B,, C ")))
@@ -94,7 +94,7 @@ pub fn authors()
         ≡ codes "Bibliographic field \"authors\" is not in its form." ∷ [] }
 {}
 
-/// Which field list leads a document, and where its elements come.
+/// Which field list leads a document, and where its elements come (Markup Specification, 'Bibliographic Fields').
 pub fn leading_list()
     ensures after_titles { Shows (with_docinfo 0 [] (document_of (element Title [] [] ∷ element Subtitle [] [] ∷ element Comment [] []
         ∷ element FieldList [] (field "date" (paragraph "x" ∷ []) ∷ []) ∷ [])))

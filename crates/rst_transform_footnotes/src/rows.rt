@@ -17,14 +17,14 @@ ghost use Rattle.rst_transform_footnotes.specs.FootnoteLabels.{labels, symbol_la
 ghost use Rattle.rst_transform_footnotes.specs.Footnotes.{entry_of, first_left_over, own_number, report_of, too_many};
 ghost use Rattle.rst_transform_footnotes.specs.Written.{footnote, with_labels};
 
-/// The labels of symbol footnotes.
+/// The labels of symbol footnotes (Markup Specification, 'Auto-Symbol Footnotes').
 pub fn symbols()
     ensures in_order { map symbol_label (0 ∷ 1 ∷ 2 ∷ 3 ∷ 4 ∷ 5 ∷ 6 ∷ 7 ∷ 8 ∷ 9 ∷ [])
         ≡ map (λ one. encode_utf8_all (codes one)) ("*" ∷ "†" ∷ "‡" ∷ "§" ∷ "¶" ∷ "#" ∷ "♠" ∷ "♥" ∷ "♦" ∷ "♣" ∷ []) }
     ensures doubled { map symbol_label (10 ∷ 19 ∷ 21 ∷ []) ≡ map (λ one. encode_utf8_all (codes one)) ("**" ∷ "♣♣" ∷ "†††" ∷ []) }
 {}
 
-/// The labels of footnotes.
+/// The labels of footnotes (Markup Specification, 'Auto-Numbered Footnotes').
 pub fn numbers()
     ensures written_numbers { labels (linked_of (document_of (footnote "#" [] ∷ footnote "1" [] ∷ footnote "#a" [] ∷ footnote "3" []
         ∷ footnote "#" [] ∷ [])))
@@ -40,7 +40,7 @@ pub fn numbers()
         ≡ None ∷ Some (codes "*") ∷ Some (codes "1") ∷ [] }
 {}
 
-/// References without names, and the footnotes that they find.
+/// References without names, and the footnotes that they find (Markup Specification, 'Auto-Numbered Footnotes').
 pub fn references()
     ensures numbered { Shows (with_labels (document_of (element FootnoteReference (says Auto "1" ∷ lists Ids ("footnote-reference-1" ∷ []) ∷ []) []
         ∷ footnote "#" (says Auto "1" ∷ lists Ids ("footnote-1" ∷ []) ∷ []) ∷ footnote "1" (lists Ids ("footnote-2" ∷ []) ∷ lists Names ("1" ∷ [])
@@ -58,7 +58,7 @@ pub fn references()
         ("<document>" ∷ "    <footnote names=\"x 1\">" ∷ "        <label>" ∷ "            1" ∷ []) }
 {}
 
-/// References that find no footnote.
+/// References that find no footnote (Markup Specification, 'Auto-Numbered Footnotes').
 pub fn left_over()
     ensures numbered { too_many Numbers 1 ≡ codes "Too many autonumbered footnote references: only 1 corresponding footnotes available." }
     ensures symbol { too_many Symbols 0 ≡ codes "Too many symbol footnote references: only 0 corresponding footnotes available." }

@@ -13,7 +13,7 @@ ghost use Rattle.rst_transform_messages.specs.Messages.{highest_level, is_number
 ghost use Rattle.rst_transform_messages.specs.MessagesIn.{messages_in};
 ghost use Rattle.rst_transform_messages.specs.Written.{note};
 
-/// The list of messages ends with the first that halts the run.
+/// The list of messages ends with the first that halts the run (Configuration, 'halt_level').
 pub fn halts()
     ensures at_the_level { until_halt FromError (note Warning "a" ∷ note Error "b" ∷ note Error "c" ∷ []) ≡ note Warning "a" ∷ note Error "b" ∷ [] }
     ensures above_the_level { until_halt FromError (note Severe "a" ∷ note Info "b" ∷ []) ≡ note Severe "a" ∷ [] }
@@ -22,7 +22,7 @@ pub fn halts()
     ensures highest_of_none { highest_level [] ≡ 0 }
 {}
 
-/// The messages in a document, in its order.
+/// The messages in a document, in its order (Markup Specification, 'Error Handling').
 pub fn messages()
     ensures in_order { messages_in (document (element BlockQuote [] (element SystemMessage (counts Level 2 ∷ counts Message 1 ∷ []) (paragraph "a"
         ∷ []) ∷ []) ∷ element SystemMessage (counts Level 1 ∷ []) (paragraph "b" ∷ []) ∷ []))
@@ -32,7 +32,7 @@ pub fn messages()
         ≡ record { level = Severe; line = 1; text = codes "a"; block = Some (codes "x") } ∷ [] }
 {}
 
-/// What is shown of a document: neither messages below the level nor the problematics of messages that aren't shown.
+/// What is shown of a document: neither messages below the level nor the problematics of messages that aren't shown (Configuration, 'report_level').
 pub fn filters()
     ensures below_the_level { Shows (with_filtered FromWarning (λ n. false) (document_of (element SystemMessage (counts Level 1 ∷ []) (paragraph "a"
         ∷ []) ∷ element SystemMessage (counts Level 2 ∷ []) [] ∷ [])))
