@@ -259,6 +259,29 @@ pub fn directives()
             second = record { from = 4; to = 5; first_cut = 3; rest_cut = 3 };
           };
         }) }
+    ensures late_code { directive_at true (block ("a" ∷ "" ∷ "" ∷ ".. code::" ∷ "" ∷ "   :class: c"
+        ∷ [])) 3 (record { name = record { from = 3; to = 7 }; block = record { from = 5; to = 6; first_cut = 3; rest_cut = 3 } }) Body true
+        ≡ found (record {
+          name = Code;
+          argument = nothing;
+          options = [];
+          content = record {
+            first = record { from = 5; to = 5; first_cut = 3; rest_cut = 3 };
+            second = record { from = 5; to = 6; first_cut = 3; rest_cut = 3 };
+          };
+        }) }
+    ensures code_in_the_next_line { directive_at true (block (".. code::" ∷ "   :class: c" ∷ "" ∷ "   b"
+        ∷ [])) 0 (record { name = record { from = 3; to = 7 }; block = record { from = 1; to = 4; first_cut = 3; rest_cut = 3 } }) Body true
+        ≡ found (record {
+          name = Code;
+          argument = nothing;
+          options = (Class, classed (codes "c" ∷ []))
+              ∷ [];
+          content = record {
+            first = record { from = 1; to = 1; first_cut = 3; rest_cut = 3 };
+            second = record { from = 3; to = 4; first_cut = 3; rest_cut = 3 };
+          };
+        }) }
     ensures content_of_an_image { directive_at false (block ("x" ∷ ".. image:: a" ∷ "" ∷ "   b"
         ∷ [])) 1 (record { name = record { from = 3; to = 8 }; block = record { from = 1; to = 4; first_cut = 11; rest_cut = 3 } }) Body true
         ≡ wrong (inside faults.content_not_permitted) (record { from = 1; to = 4; first_cut = 0; rest_cut = 0 }) }
