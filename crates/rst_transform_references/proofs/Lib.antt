@@ -1,3 +1,4 @@
+pub mod Computing
 pub mod ReferenceKinds
 pub mod Referring
 pub mod Resolves

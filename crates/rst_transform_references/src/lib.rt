@@ -5,3 +5,4 @@ mod backrefs;
 pub mod laws;
 mod meanings;
 pub mod resolve;
+pub mod rows;
