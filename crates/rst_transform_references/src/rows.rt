@@ -19,14 +19,15 @@ ghost use Rattle.rst_transform_references.specs.Backrefs.{referent_meant, with_b
 ghost use Rattle.rst_transform_references.specs.Meanings.{known_meaning, reference_name};
 ghost use Rattle.rst_transform_references.specs.Resolving.{outcome_of, reports_with, what_becomes};
 
-/// References that have a name.
+/// References that have a name (Markup Specification, 'Hyperlink References').
 pub fn names()
     ensures of_references { map reference_name (element Reference (says Refname "a" ∷ []) [] ∷ element FootnoteReference (says Refname "b" ∷ []) []
         ∷ element CitationReference (says Refname "c" ∷ []) [] ∷ element Target (says Refname "d" ∷ []) [] ∷ element Reference [] [] ∷ [])
         ≡ Some (codes "a") ∷ Some (codes "b") ∷ Some (codes "c") ∷ None ∷ None ∷ [] }
 {}
 
-/// What a name means, by what is known of it: `true` to a reference to a footnote or a citation, `false` to any other.
+/// What a name means, by what is known of it: `true` to a reference to a footnote or a citation, `false` to any other (Markup Specification,
+/// 'Hyperlink References').
 pub fn meanings()
     ensures not_known { (names : Names) → known_meaning (λ holder. None) [] names false None ≡ Unknown }
     ensures lost { (names : Names) → known_meaning (λ holder. None) [] names true (Some
@@ -46,7 +47,7 @@ pub fn meanings()
         ≡ Unknown }
 {}
 
-/// What becomes of a reference, by what its name means.
+/// What becomes of a reference, by what its name means (Markup Specification, 'Hyperlink References').
 pub fn outcomes()
     ensures leads { outcome_of [] 0 (element Reference (says Refname "a" ∷ []) []) (Leads (says Refuri "u") None) ≡ adds (Some (says Refuri "u")) }
     ensures shows_the_label { outcome_of (linked_of (document_of (element Footnote [] (element Label [] (text "7" ∷ [])
@@ -60,7 +61,7 @@ pub fn outcomes()
     ensures gone { what_becomes [] true 0 (element Reference (says Refname "a" ∷ []) []) (Some Unknown) ≡ adds None }
 {}
 
-/// What the messages on references say, and on which lines.
+/// What the messages on references say, and on which lines (Markup Specification, 'Hyperlink References').
 pub fn messages()
     ensures unknown { map (λ r. r.text) (reports_with 0 [] (element Reference (says Refname "a b" ∷ []) []) Unknown)
         ≡ codes "Unknown target name: \"a b\"." ∷ [] }
@@ -70,7 +71,7 @@ pub fn messages()
     ensures in_the_last_section { map (λ r. r.own) (reports_with 0 [] (element Reference [] []) Unknown) ≡ true ∷ [] }
 {}
 
-/// What footnotes and citations tell of the references to them.
+/// What footnotes and citations tell of the references to them (Document Tree, 'Attribute Reference').
 pub fn backrefs()
     ensures in_order { with_backrefs (Some 2 ∷ Some 3 ∷ None ∷ None ∷ Some 2
         ∷ []) (linked_of (document_of (element FootnoteReference (lists Ids ("r1" ∷ []) ∷ []) [] ∷ element CitationReference (lists Ids ("r2" ∷ [])
