@@ -1,3 +1,4 @@
+pub mod Computing
 pub mod Agreeing
 pub mod Following
 pub mod Leading

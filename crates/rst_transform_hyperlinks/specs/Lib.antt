@@ -1,3 +1,4 @@
 pub mod Anonymous
 pub mod Indirect
 pub mod Chains
+pub mod Written

@@ -1,3 +1,4 @@
+pub mod Computing
 pub mod AddingFound
 pub mod Defining
 pub mod ExpandedKinds

@@ -3,3 +3,4 @@ pub mod Expanded
 pub mod Expansion
 pub mod Numbering
 pub mod Outcomes
+pub mod Written

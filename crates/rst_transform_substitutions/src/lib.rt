@@ -8,3 +8,4 @@ pub mod laws;
 mod listing;
 mod numbering;
 mod outcomes;
+pub mod rows;
