@@ -18,7 +18,7 @@ ghost use Rattle.rst_transform_hyperlinks.specs.Anonymous.{agree, first_line, mi
 ghost use Rattle.rst_transform_hyperlinks.specs.Indirect.{failure_of, if_held, indirect_name, outcome_at, reports_from, with_reports};
 ghost use Rattle.rst_transform_hyperlinks.specs.Written.{with_pairs};
 
-/// Anonymous references take the anonymous targets in order.
+/// Anonymous references take the anonymous targets in order (Markup Specification, 'Anonymous Hyperlinks').
 pub fn anonymous()
     ensures to_a_uri { Shows (with_pairs (document_of (element Reference (counts Anonymous 1 ∷ []) (text "a" ∷ [])
         ∷ element Target (counts Anonymous 1 ∷ lists Ids ("target-1" ∷ []) ∷ says Refuri "u" ∷ []) [] ∷ [])))
@@ -43,7 +43,7 @@ pub fn anonymous()
     ensures line_of_a_target { first_line [] (linked_of (document_of (Element Target [] bare 3 ∷ Element Target [] bare 4 ∷ []))) ≡ 3 }
 {}
 
-/// Indirect targets: those that fail, and what becomes of the references to them.
+/// Indirect targets: those that fail, and what becomes of the references to them (Markup Specification, 'Hyperlink Targets').
 pub fn indirect()
     ensures name { map indirect_name (element Target (says Refname "b" ∷ []) [] ∷ element Reference (says Refname "b" ∷ []) []
         ∷ element Target [] [] ∷ [])

@@ -27,7 +27,7 @@ pub fn names()
 {}
 
 /// What a name means, by what is known of it: `true` to a reference to a footnote or a citation, `false` to any other (Markup Specification,
-/// 'Hyperlink References').
+/// 'Hyperlink References') (Markup Specification, 'Hyperlink References').
 pub fn meanings()
     ensures not_known { (names : Names) → known_meaning (λ holder. None) [] names false None ≡ Unknown }
     ensures lost { (names : Names) → known_meaning (λ holder. None) [] names true (Some

@@ -14,7 +14,7 @@ ghost use Rattle.rst_transform_substitutions.specs.declared.expansion.ExpansionF
 ghost use Rattle.rst_transform_substitutions.specs.Expansion.{expanded, fault_text, nodes_for};
 ghost use Rattle.rst_transform_substitutions.specs.Written.{definition, reference, stands_for, stands_in};
 
-/// Definitions and the names that find them.
+/// Definitions and the names that find them (Markup Specification, 'Substitution Definitions').
 pub fn definitions()
     ensures content { stands_for "a" (definition "a" (text "b " ∷ element Emphasis [] (text "c" ∷ []) ∷ []) ∷ [])
         ≡ Ok (text "b " ∷ element Emphasis [] (text "c" ∷ []) ∷ []) }
@@ -25,7 +25,7 @@ pub fn definitions()
     ensures none { stands_for "x" (definition "a" [] ∷ []) ≡ Err (Undefined (codes "x")) }
 {}
 
-/// References in definitions.
+/// References in definitions (Markup Specification, 'Substitution References').
 pub fn nested()
     ensures through_another { stands_for "a" (definition "a" (text "x" ∷ reference "b" ∷ text "z" ∷ []) ∷ definition "b" (text "y" ∷ []) ∷ [])
         ≡ Ok (text "x" ∷ text "y" ∷ text "z" ∷ []) }
@@ -42,7 +42,8 @@ pub fn nested()
     ensures first_fault { stands_for "a" (definition "a" (reference "a" ∷ reference "x" ∷ []) ∷ []) ≡ Err (Circular (codes "a")) }
 {}
 
-/// How much may stand for one reference. `found` finds a definition for each name, which refers to a name that is one character longer.
+/// How much may stand for one reference. `found` finds a definition for each name, which refers to a name that is one character longer (Markup
+/// Specification, 'Substitution References').
 pub fn bounds()
     ensures hundred_definitions { nodes_for (λ name. Some (
       length name,
@@ -63,7 +64,7 @@ pub fn bounds()
     ensures counted_first { expanded (λ name left. Err (Undefined name)) (forest_of (reference "x" ∷ [])) 0 ≡ Err TooLarge }
 {}
 
-/// What the messages on references that aren't replaced say.
+/// What the messages on references that aren't replaced say (Markup Specification, 'Substitution References').
 pub fn messages()
     ensures undefined { fault_text (codes "a") (Undefined (codes "x")) ≡ codes "Undefined substitution referenced: \"x\"." }
     ensures circular { fault_text (codes "a") (Circular (codes "b")) ≡ codes "Circular substitution definition referenced: \"b\"." }
