@@ -15,7 +15,8 @@ and compares. No code of the program is run for it. `scripts/rows_page.py` write
 in the crate's `src/rows.rt` or `src/rows/`.
 
 The tree of a document is the one before the transforms: titles are sections, and references aren't resolved yet. How the tree is after them is tested
-by running the program (`scripts/rows.py`).
+by running the program (`scripts/rows.py`). Where the count of messages on texts is given, the tree has all attributes, also those that only
+the transforms read, and each element's line. An example of a single definition is its clause.
 """
 # the documents of the standard, each with its sections in their order
 SECTIONS = {
