@@ -3,8 +3,8 @@
 ./rst2pseudoxml, of the Python module, and of check-pages.sh for each of 200 pages.
 
 All read the same short page, and take turns. ./rst2pseudoxml runs in copies of a fresh checkout, without and with a program that was
-built there, and once after a pause, as in a call that no other comes before. Fails if it costs more than 2 times the program where
-nothing was built, or the module more than 1.3 times.
+built there, and also after a pause, as a lone call does. Fails if it costs more than 2 times the program where nothing was built, or
+the module more than 1.3 times.
 """
 
 import resource
