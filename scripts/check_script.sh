@@ -92,7 +92,7 @@ call() { as_of "$folder/tools" "$copy/rst2pseudoxml"; }
 quick() { as_of "$folder/none" "$copy/rst2pseudoxml"; } # a call that can run nothing but the program
 runs=$hello$'\nstatus 0'
 others='rst2pseudoxml: nothing has been built from these sources, and dist/ is of others; `rt try` in crates/rst2pseudoxml '
-others+='runs these without proofs (about a minute), scripts/build.sh proves and builds them (about an hour the first time)'
+others+='runs these without proofs (about two minutes), scripts/build.sh proves and builds them (about an hour the first time)'
 damaged="rst2pseudoxml: the programs in dist/ don't have the checksums in dist/rst2pseudoxml.sha256, and nothing was built here"$'\nstatus 1'
 changed="$others
 rst2pseudoxml: so a program of older sources runs, dist/rst2pseudoxml
