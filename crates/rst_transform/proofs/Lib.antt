@@ -1,3 +1,3 @@
-pub mod NoNewKinds
-pub mod OneAnswer
-pub mod Registered
+pub mod Computing
+pub mod Linking
+pub mod Left

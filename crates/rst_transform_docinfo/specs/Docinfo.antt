@@ -1,6 +1,6 @@
 -- The document whose leading field list became its bibliography (reStructuredText Markup Specification, 'Bibliographic Fields'; Document
 -- Tree, 'docinfo').
-use Rattle.std.specs.Prelude.{◌≡◌, ℕ, Bool, true, false, ◌||◌, List, [], ◌∷◌, ◌++◌, take, drop, slice_get, Option, Some, None, if◌then◌else◌}
+use Rattle.std.specs.Prelude.{ℕ, Bool, true, false, ◌||◌, List, [], ◌∷◌, ◌++◌, take, drop, slice_get, Option, Some, None, if◌then◌else◌}
 use Rattle.std.specs.List.{prefix_len, remove}
 use Rattle.rst_tree.specs.declared.attrs.Attr.{Attr}
 use Rattle.rst_tree.specs.declared.node.Node.{Node}
@@ -11,8 +11,7 @@ use Rattle.rst_tree.specs.Forest.{Forest}
 use Rattle.rst_tree.specs.Nodes.{forest_of, nodes_of}
 use Rattle.rst_transform_work.specs.declared.report.Report.{Report}
 use Rattle.rst_transform_work.specs.declared.document.Document.{Document}
-use Rattle.rst_transform_work.specs.Reports.{KeepsRest}
-use Rattle.rst_transform_work.specs.States.{State}
+use Rattle.rst_transform_work.specs.Known.{Known}
 use Rattle.rst_transform_docinfo.specs.Gathered.{Gathered, docinfo_nodes, gathered, none_yet}
 use Rattle.rst_transform_work.specs.Reading.{is_title, may_precede}
 use Rattle.rst_transform_work.specs.Lists.{named}
@@ -71,15 +70,11 @@ abbrev pub reports_with : ℕ → List Report → Option Node → List Report
 reports_with first reports None = reports
 reports_with first reports (Some list) = list_reports first reports list
 
--- the document whose leading field list became its bibliography, and the messages then
-abbrev pub with_docinfo : ℕ → List Report → Document → Document
-with_docinfo first reports d = let nodes = nodes_of d.children in record d { children = forest_of (nodes_with first reports (leading_list nodes) nodes) }
-
-abbrev pub docinfo_reports : ℕ → List Report → Document → List Report
-docinfo_reports first reports d = reports_with first reports (leading_list (nodes_of d.children))
-
--- the document before and after
-pub record HasDocinfo (before after : State) : Type 0 where
-  pub document : after.document ≡ with_docinfo before.context.first_number before.context.reports.items before.document
-  pub reports : after.context.reports.items ≡ docinfo_reports before.context.first_number before.context.reports.items before.document
-  pub rest : KeepsRest before.context after.context
+-- the document whose leading field list became its bibliography, and what is known then
+abbrev pub with_docinfo : Document → Known → Document × Known
+with_docinfo document known =
+    let nodes = nodes_of document.children in
+    let list = leading_list nodes in (
+      record document { children = forest_of (nodes_with known.first_number known.reports list nodes) },
+      record known { reports = reports_with known.first_number known.reports list },
+    )

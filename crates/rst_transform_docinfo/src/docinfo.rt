@@ -3,11 +3,10 @@ ghost use Rattle.std.specs.Prelude.{◌≡◌, ◌≤◌, ◌++◌, take, drop, 
 ghost use Rattle.std.specs.List.{prefix_len};
 ghost use Rattle.rst_tree.specs.Faults.{Gives};
 ghost use Rattle.rst_tree.specs.Nodes.{forest_of, nodes_of};
-ghost use Rattle.rst_tree_index.specs.Kinds.{HasNoNewKinds};
-ghost use Rattle.rst_transform_docinfo.specs.Docinfo.{first_named, is_field_list, leading_list, list_gathered, list_in, list_place, may_lead, nodes_with, list_reports, replaced, reports_with, HasDocinfo};
+ghost use Rattle.rst_transform_docinfo.specs.Docinfo.{first_named, is_field_list, leading_list, list_gathered, list_in, list_place, may_lead, nodes_with, list_reports, replaced, reports_with, with_docinfo};
 ghost use Rattle.rst_transform_docinfo.specs.Gathered.{docinfo_nodes};
+ghost use Rattle.rst_transform_work.specs.Known.{Makes};
 ghost use Rattle.rst_transform_work.specs.Reports.{KeepsRest};
-ghost use Rattle.rst_transform_work.specs.States.{elements_of, state};
 ghost use Rattle.rst_transform_work.specs.Reading.{is_title};
 
 use crate::bibliography::Bibliography;
@@ -184,8 +183,7 @@ pub fn docinfo(
     document: Document,
     context: &mut Context,
 ) -> Result<Document, TreeFault>
-    ensures informed { Gives (λ after. HasDocinfo (state document context.old) (state after context.new)) result }
-    ensures kinds { Gives (λ after. HasNoNewKinds (elements_of document) (elements_of after)) result }
+    ensures { Gives (Makes (with_docinfo document) context.old context.new) result }
 {
     let Document {
         attrs,

@@ -110,6 +110,7 @@ fn add_linked<'a>(
 }
 
 /// Adds an element, if it is linked, that stands in the one at the place `outer`.
+#[inline(always)]
 fn add_own<'a>(
     node: &'a Node,
     tag: Tag,
@@ -129,6 +130,7 @@ fn add_own<'a>(
 
 /// The place of the innermost linked element that the nodes in one stand in: its own, behind so many, if it is linked, or else that of
 /// the one around it.
+#[inline(always)]
 fn inner_of(tag: Tag, outer: Option<usize>, before: usize) -> Option<usize>
     ensures { result ≡ inner_of before outer tag }
 {
@@ -171,7 +173,7 @@ impl Changes {
     }
 
     /// Whether every element stays as it is.
-    fn are_idle(&self) -> bool
+    pub fn are_idle(&self) -> bool
         ensures { result ≡ list_all is_idle self.now }
     {
         self.left.iter().all(|change| is_idle(change))
