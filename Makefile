@@ -1,5 +1,5 @@
-# Installs the program of these sources (scripts/program.sh) with its manual page, the pages that this cites, the integrations, and
-# completions for three shells. Building the program is no part of it: scripts/build.sh does that, where the kit is.
+# Installs the program of these sources (scripts/program.sh) with its manual page, the pages that the manual page cites, the
+# integrations, and completions for three shells. It doesn't build the program: scripts/build.sh does, if the kit is there.
 PREFIX = /usr/local
 DESTDIR =
 PROGRAM = rst2pseudoxml
@@ -29,7 +29,7 @@ help:
 	@echo 'make install      installs $(PROGRAM) below $(DESTDIR)$(PREFIX)'
 	@echo 'make uninstall    removes what was installed there'
 	@echo 'make dist         makes a tarball of the last commit, whose name has the version'
-	@echo 'make check        passes all tests, which takes the kit and an hour or more'
+	@echo 'make check        proves and tests everything, which takes the kit and an hour or more'
 	@echo 'PREFIX is /usr/local if not given; DESTDIR, if given, is put before it. PROGRAM names the program'
 	@echo '(rst2pseudoxml if not given, as in the package of Docutils), and MANPAGE its page ($(MANPAGE)).'
 	@echo 'The static program is installed if there is one; with STATIC=no the one that needs the C library of the system.'

@@ -2,14 +2,17 @@
 """Measures what a call costs, in CPU time of the system and the user, with that of starting it: of the programs in dist/, of
 ./rst2pseudoxml, of the Python module, and of check-pages.sh for each of 200 pages.
 
-All read the same short page, and take turns. Fails if ./rst2pseudoxml costs more than 2 times the program, or the module more than 1.3
-times.
+All read the same short page, and take turns. ./rst2pseudoxml runs in copies of a fresh checkout, without and with a program that was
+built there, and also after a pause, as a lone call does. Fails if it costs more than 2 times the program where nothing was built, or
+the module more than 1.3 times.
 """
 
 import resource
+import shutil
 import subprocess
 import sys
 import tempfile
+import time
 from pathlib import Path
 
 TOP = Path(__file__).resolve().parent.parent
@@ -18,8 +21,12 @@ from rst2pseudoxml import tree
 
 ROUNDS = 10
 PAGES = 20
+PAUSE = 0.05
 TEXT = "A *word*.\n"
-LIMITS = {"./rst2pseudoxml": 2, "integrations/rst2pseudoxml.py": 1.3}
+PROGRAM = "dist/rst2pseudoxml"
+SCRIPT = "./rst2pseudoxml"
+MODULE = "integrations/rst2pseudoxml.py"
+ALONE = ", after a pause"
 
 
 def spent() -> float:
@@ -28,16 +35,30 @@ def spent() -> float:
     return sum(usage.ru_utime + usage.ru_stime for usage in usages)
 
 
-def call(path: str):
+def copied(folder: Path, built: bool) -> Path:
+    """A copy of what ./rst2pseudoxml reads of this checkout, in a new folder, with the programs written last."""
+    sources = [path.relative_to(TOP) for path in TOP.glob("crates/*/src")]
+    for part in [Path("scripts"), *sources, Path("dist")]:
+        shutil.copytree(TOP / part, folder / part)
+    for name in ("crates.txt", "rst2pseudoxml"):
+        shutil.copy(TOP / name, folder)
+    for program in folder.glob("dist/rst2pseudoxml*"):
+        program.touch()
+    if built:
+        out = folder / "crates/rst2pseudoxml/out"
+        out.mkdir()
+        shutil.copy(TOP / PROGRAM, out)
+    return folder
+
+
+def call(program: Path, pause: float = 0):
     """A call of a program, as a function."""
-    command = [TOP / path]
-    return lambda: subprocess.run(command, input=TEXT.encode(), stdout=subprocess.PIPE, stderr=subprocess.PIPE, check=True)
 
+    def run():
+        time.sleep(pause)
+        subprocess.run([program], input=TEXT.encode(), stdout=subprocess.PIPE, stderr=subprocess.PIPE, check=True)
 
-def looking():
-    """A call of ./rst2pseudoxml that compares the times of the sources, which it does ten times a second at most."""
-    (TOP / ".looked").unlink(missing_ok=True)
-    call("./rst2pseudoxml")()
+    return run
 
 
 def milliseconds(calls: dict) -> dict:
@@ -53,22 +74,25 @@ def milliseconds(calls: dict) -> dict:
 
 
 def main() -> int:
-    with tempfile.TemporaryDirectory() as folder:
-        for number in range(PAGES * ROUNDS):
-            Path(folder, f"{number}.rst").write_text(TEXT)
-        check = [TOP / "integrations/check-pages.sh", folder]
-        calls = {name: call(name) for name in ("dist/rst2pseudoxml", "dist/rst2pseudoxml-static", "./rst2pseudoxml")}
-        calls["./rst2pseudoxml, where it compares times"] = looking
-        calls["integrations/rst2pseudoxml.py"] = lambda: tree(TEXT)
+    with tempfile.TemporaryDirectory() as temporary:
+        fresh, developers = (copied(Path(temporary, name), name == "built") for name in ("fresh", "built"))
+        calls = {name: call(fresh / name) for name in (PROGRAM, "dist/rst2pseudoxml-static", SCRIPT)}
+        calls[SCRIPT + ", where a program was built"] = call(developers / SCRIPT)
+        calls.update({name + ALONE: call(fresh / name, PAUSE) for name in (PROGRAM, SCRIPT)})
+        calls[MODULE] = lambda: tree(TEXT)
         tree(TEXT)  # finds the program
         costs = milliseconds(calls)
+        pages = Path(temporary, "pages")
+        pages.mkdir()
+        for number in range(PAGES * ROUNDS):
+            Path(pages, f"{number}.rst").write_text(TEXT)
         before = spent()
-        subprocess.run(check, check=True)
+        subprocess.run([TOP / "integrations/check-pages.sh", pages], check=True)
         costs["integrations/check-pages.sh, for a page"] = 1000 * (spent() - before) / (PAGES * ROUNDS)
-    program = costs["dist/rst2pseudoxml"]
+    times = {name: cost / costs[PROGRAM + ALONE if name.endswith(ALONE) else PROGRAM] for name, cost in costs.items()}
     for name, cost in costs.items():
-        print(f"{cost:6.2f} ms, {cost / program:.2f} times the program  {name}")
-    return int(any(costs[name] > limit * program for name, limit in LIMITS.items()))
+        print(f"{cost:6.2f} ms, {times[name]:.2f} times the program  {name}")
+    return int(max(times[SCRIPT], times[SCRIPT + ALONE]) > 2 or times[MODULE] > 1.3)
 
 
 if __name__ == "__main__":

@@ -25,7 +25,7 @@ def apart(n, first="a\n", last="b\n"):
 
 
 def indented(text, by):
-    """A text whose lines, but for the blank ones, are indented by so many spaces."""
+    """A text whose lines, but for the blank ones, are indented by this many spaces."""
     return "".join((" " * by + line if line.strip() else line) for line in text.splitlines(keepends=True))
 
 
@@ -127,7 +127,7 @@ more   words
 
 
 def mixed(size):
-    """A document of about so many bytes with all constructs in turns."""
+    """A document of about `size` bytes, with all constructs in turn."""
     return numbered(max(1, size // len(MIXED)), MIXED)
 
 
@@ -158,7 +158,7 @@ def grid_table(rows, columns):
 
 
 def nested_tables(lines):
-    """Grid tables of one cell, one inside another, as deep as `DEPTH`; the innermost holds a paragraph of so many lines."""
+    """Grid tables of one cell, one inside another, as deep as `DEPTH`; the innermost holds a paragraph of this many lines."""
     text = ["text"] * lines
     for _ in range(DEPTH):
         rule = "+" + "-" * len(text[0]) + "+"
@@ -199,7 +199,7 @@ def doubled(name, references):
     return f"{references}\n{twice}.. |a11| replace:: |{name}|\n.. |{name.upper()}| replace:: b\n"
 
 
-# A family gives for n a document of some multiple of n bytes; each is made for n, 2n and 4n.
+# For n, a family makes a document of some multiple of n bytes; it is measured at n, 2n and 4n.
 FAMILIES = {
     "paragraphs": lambda n: "some words\nin two lines\n\n" * n,
     "one paragraph": lambda n: "some words\n" * n,
@@ -277,7 +277,7 @@ FAMILIES = {
     "unclosed roles": lambda n: lines(n, ":a:`b "),
     "unclosed labels": lambda n: "[" * n + "\n",
     "unclosed of each kind": lambda n: lines(n, "*a **b ``c `d _`e |f "),
-    "unclosed emphasis behind dashes": lambda n: lines(n, "a-*b "),
+    "unclosed emphasis after dashes": lambda n: lines(n, "a-*b "),
     "words with underscores": lambda n: lines(n, "a_b_c "),
     "one long word with underscores": lambda n: "a_" * n + "a\n",
     "one long word with dashes": lambda n: "a-" * n + "\n",

@@ -5,15 +5,15 @@
 
 The documents that are mutated are the inputs of the worked rows (crates/rst2pseudoxml/src/rows_*.rt), those of the examples in docs/, and the
 document with every construct. A mutation changes some bytes, characters or lines, or joins parts of two documents; some documents are then
-written many times over. The arguments, too, are chosen at random. The same seed and number give the same document. Of each it is
-asked that
+written many times over. The arguments, too, are chosen at random. The same seed and number always make the same document. For each
+document it checks that
 
 - the status is 0, 1, 2, or 11 to 14;
 - standard output and standard error are UTF-8;
 - the messages on standard error are those of the tree, if no message halts the run;
-- a second run, with memory of 16 MB and 40 bytes for each byte of its input and output, gives the same;
+- a second run, with memory of 16 MB and 40 bytes for each byte of its input and output, prints the same;
 - neither run takes more than a second of CPU time;
-- the reference program, if one is beside the checkout (../shared/oracle, or the folder in RST_REFERENCE), gives the same.
+- the reference program, if one is beside the checkout (../shared/oracle, or the folder in RST_REFERENCE), prints the same.
 
 A document that fails is written to FOLDER as NUMBER.rst, its arguments as NUMBER.args; without FOLDER only its number is printed, and `--only`
 with the same seed repeats it. PROGRAM is by default the one that scripts/program.sh finds. The status is 1 if a document failed.
@@ -46,9 +46,9 @@ BASE = 16_000_000
 BYTES_FOR_A_BYTE = 40
 # No run may take all of the machine's memory.
 MOST = 2_000_000_000
-# A document is written so often that it has this many bytes.
+# A document that is written many times over has about this many bytes.
 REPEATED = 60_000
-# So many documents, up to this size, are given to the reference program at once.
+# The reference program gets this many documents at once, each of them no larger than this.
 BATCH = 200
 LARGEST_COMPARED = 4_000
 
@@ -155,7 +155,7 @@ MESSAGE = re.compile(r'^( *)<system_message [^\n]*level="(\d)" line="(\d+)" sour
 
 
 def dedented(tree, at, indent):
-    """The lines of a tree from a place on that are indented so far, without their indentation; and the place after them."""
+    """The lines of a tree, from a place on, that have this indentation, without it; and the place after them."""
     lines = []
     while tree.startswith(indent, at):
         end = tree.index("\n", at) + 1
@@ -212,7 +212,7 @@ def fault(path, arguments, data):
 
 
 def is_shown_alike(path, reference, folder):
-    """Whether the reference program gives the same for each input in a folder."""
+    """Whether the reference program prints the same for each input in a folder."""
     words = [sys.executable, str(reference / "compare.py"), "--jobs", "1", "--folder", folder, "--", path]
     done = subprocess.run(words, cwd=folder, stdout=subprocess.PIPE, text=True, check=False, env={**os.environ, "PYTHONDONTWRITEBYTECODE": "1"})
     if done.returncode:

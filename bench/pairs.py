@@ -7,7 +7,7 @@ For each pair it makes documents for n and 2n, where n is chosen so that the fir
 without what an empty document costs) for each byte of input and output, messages on standard error included. It prints the median, the ten
 pairs that cost most for each byte at 2n, and those whose cost for each byte grows by more than half from n to 2n; each of these is measured five
 more times, and the least counts. A run past the limit of CPU seconds is stopped and shown. All pairs take some fifteen minutes of CPU time.
-PROGRAM is by itself the one in dist/.
+PROGRAM is by default the one in dist/.
 """
 
 import argparse
@@ -175,7 +175,7 @@ class Program:
         return 1e9 * seconds / size, size, memory, status
 
     def grown(self, made, size, runs):
-        """The same for two documents, the first of which has about so many bytes, and the other twice as many copies."""
+        """The same for two documents, the first of which has about `size` bytes, and the other twice as many copies."""
         few, many = len(made(10).encode()), len(made(20).encode())
         n = max(10, 10 * (size - 2 * few + many) // (many - few))
         return [self.each_byte(made, count, runs) for count in (n, 2 * n)]
@@ -188,7 +188,7 @@ def show(title, first, last):
 
 def main():
     parser = argparse.ArgumentParser(description="Looks for pairs of constructs that cost more than their size.")
-    parser.add_argument("program", nargs="?", default=str(PROGRAMS[-1]), help="the program; by itself the one in dist/")
+    parser.add_argument("program", nargs="?", default=str(PROGRAMS[-1]), help="the program; by default the one in dist/")
     parser.add_argument("--bytes", type=int, default=25000, help="the size of the first document; the second has twice as many copies")
     parser.add_argument("--only", default="", help="the pairs whose names hold this word")
     parser.add_argument("--limit", type=int, default=20, help="the most CPU seconds of a run")

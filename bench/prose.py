@@ -29,7 +29,7 @@ CHINESE = (
 
 
 class Prose:
-    """What is written so far, of some words."""
+    """A text that is being written, from a list of words."""
 
     # how many of the words are pieces of markup
     share = 0.03
@@ -67,7 +67,7 @@ class Prose:
         return f"`{self.phrase()} {self.links} <https://example.org/{self.rng.choice(self.all_words)}/{self.links}>`_"
 
     def text(self, least, most, indent=""):
-        """Words with some markup, broken at 72 columns, each line but the first behind the indentation."""
+        """Words with some markup, broken at 72 columns, each line but the first indented."""
         lines, line = [], ""
         for word in self.words(least, most):
             word += "," if self.rng.random() < 0.08 else ""
@@ -156,7 +156,7 @@ def plain(size):
 
 
 def prose(size, words=None):
-    """A document of ordinary prose of about `size` characters of these words, English by itself, the same one whenever it is made."""
+    """A document of ordinary prose of about `size` characters of these words (by default English ones), the same each time."""
     made = Prose(words or WORDS)
     while made.size < size:
         made.section()

@@ -5,7 +5,7 @@
 
 The documents are those that some packages of Debian ship (`bench/documents.py`). Each package is fetched by `apt-get download` and
 unpacked into FOLDER, unless it is there already; nothing is installed. Without FOLDER that is a temporary one. Any other folder in
-FOLDER is compared as well, as if it were a package: so documents of one's own can be tried, with `--only`.
+FOLDER is compared as well, as if it were a package. Your own documents can be tried this way, with `--only`.
 
 Docutils is the one of the Python that runs this. It reads all documents in one process, this program has a process for each. Both read
 the same file, with the same path, and nothing halts. Docutils runs three times:
@@ -251,11 +251,11 @@ def versions() -> str:
 
 def main() -> int:
     parser = argparse.ArgumentParser(description="Compares trees of real documents with those of Docutils.")
-    parser.add_argument("folder", nargs="?", help="where the packages are, or are unpacked; by itself a temporary folder")
+    parser.add_argument("folder", nargs="?", help="where the packages are, or are unpacked; by default a temporary folder")
     parser.add_argument("--only", action="append", metavar="PACKAGE", help="this package alone, or these if given more than once")
     parser.add_argument("--jobs", type=int, choices=(1, 2, 3), default=1, help="how many of the three run side by side")
     parser.add_argument("--list", metavar="KIND", help="names the documents whose first difference is of this kind")
-    parser.add_argument("--program", default=str(TOP / "dist/rst2pseudoxml"), help="the program; by itself the one in dist/")
+    parser.add_argument("--program", default=str(TOP / "dist/rst2pseudoxml"), help="the program; by default the one in dist/")
     given = parser.parse_args()
     given.program = os.path.abspath(given.program)
     if not os.access(given.program, os.X_OK):

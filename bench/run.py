@@ -11,7 +11,7 @@ is linear, 2 quadratic. A run past the limit of CPU seconds is stopped, and larg
 machine whose speed varies from minute to minute more rounds help: each measures everything once more, and what it prints is
 the least of all rounds so far. Beside the documents cmark and md4c read the same text as Markdown, three times, if their libraries are
 installed (Debian's libcmark-dev, libmd4c-html0-dev).
-PROGRAM is by itself the one that was built here, or else the one in dist/.
+PROGRAM is by default the one that was built here, or else the one in dist/.
 
 With --counts it counts instructions under valgrind's callgrind, which is the same in each run on any machine: for each document, and for each
 family at n, those for each byte of the input, and for each byte of the input and the output. What an empty document costs is left out.
@@ -35,7 +35,7 @@ from prose import CHINESE, FRENCH, RUSSIAN, plain, prose
 
 TOP = pathlib.Path(__file__).resolve().parent.parent
 PROGRAMS = [TOP / "crates/rst2pseudoxml/out/rst2pseudoxml", TOP / "dist/rst2pseudoxml"]
-# The documents: for each the text of about so many bytes.
+# The documents, each as a function from a size in bytes to a text of about that size.
 DOCUMENTS = {
     "prose": prose,
     "plain paragraphs": plain,
@@ -240,7 +240,7 @@ def show(name, size, measured, note=""):
 
 def main():
     parser = argparse.ArgumentParser(description="Measures the program, and others where they are installed.")
-    parser.add_argument("program", nargs="?", help="the program; by itself the one that was built here, or else that in dist/")
+    parser.add_argument("program", nargs="?", help="the program; by default the one that was built here, or else that in dist/")
     parser.add_argument("--n", type=int, default=20000, help="the least size of a family")
     parser.add_argument("--only", default="", help="the inputs whose names hold this word")
     parser.add_argument("--limit", type=int, default=60, help="the most CPU seconds of a run")

@@ -275,7 +275,7 @@ function define(name,    count, lines, i, text) {
   return name
 }
 
-# The part of a text between the first places at which two patterns hold.
+# The part of a text between the first matches of two patterns.
 function between(text, from, to) {
   match(text, from)
   text = substr(text, RSTART + RLENGTH)
@@ -323,7 +323,7 @@ fi
 command -v -- "$program" >/dev/null || refuse "there is no program $program"
 
 left=$#
-while [ "$left" -gt 0 ]; do # the first name gives way to what it names, at the end
+while [ "$left" -gt 0 ]; do # takes the first name off, and adds what it names at the end
   page=$1 left=$((left - 1))
   shift
   case $page in

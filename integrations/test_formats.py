@@ -46,7 +46,7 @@ def problem(text, severity, pattern):
     if match is None:
         return None
     part = {key: match[group] for key, group in pattern.items() if isinstance(group, int)}
-    # A severity that VS Code doesn't know gives way to that of the matcher.
+    # If VS Code doesn't know a severity, it takes the matcher's.
     said = part.get("severity", "").lower()
     known = said if said in ("error", "warning", "info") else severity
     return part["file"], int(part["line"]) if "line" in part else None, known, part["message"]
@@ -93,7 +93,7 @@ class Formats(unittest.TestCase):
         return run(self.folder, str(HERE / "check-pages.sh"), "--level=info", f"--format={form}", *PAGES, "missing.rst")
 
     def severe(self, lines_of_message):
-        """The wanted messages with a severity in place of level and type, and so many lines of each text."""
+        """The wanted messages, with a severity in place of level and type, and this many lines of each text."""
         return [
             (file, line, SEVERITIES.get(level, "error"), "\n".join(text.split("\n")[:lines_of_message]))
             for file, line, level, _, text in WANTED

@@ -63,7 +63,7 @@ if [ -n "$kept" ]; then
   printf 'lists of lines, or of what may be lines:\n%s\n' "$kept"
   wrong=1
 fi
-# what the machine began would be there as long as it reads
+# a list that begins in rst_block would be kept for as long as the document is read
 if [ "$(sources rst_block | count 'let[^=]*= *\(Vec\|String\)::')" != 0 ]; then
   echo "a list begins in rst_block"
   wrong=1

@@ -88,16 +88,11 @@ as_of() { # PATH COMMAND.. : what a command prints with this PATH, and its statu
   printf 'Hello, world' | PATH=$path "$@" 2>&1
   echo "status $?"
 }
-call() { # a call that looks at the sources, since it finds no note of an earlier one
-  rm -rf "$copy/.looked"
-  as_of "$folder/tools" "$copy/rst2pseudoxml"
-}
-quick() { # a call that runs no other program
-  as_of "$folder/none" "$copy/rst2pseudoxml"
-}
+call() { as_of "$folder/tools" "$copy/rst2pseudoxml"; }
+quick() { as_of "$folder/none" "$copy/rst2pseudoxml"; } # a call that can run nothing but the program
 runs=$hello$'\nstatus 0'
 others='rst2pseudoxml: nothing has been built from these sources, and dist/ is of others; `rt try` in crates/rst2pseudoxml '
-others+='runs these without proofs (about a minute), scripts/build.sh proves and builds them (about an hour the first time)'
+others+='runs these without proofs (about two minutes), scripts/build.sh proves and builds them (about an hour the first time)'
 damaged="rst2pseudoxml: the programs in dist/ don't have the checksums in dist/rst2pseudoxml.sha256, and nothing was built here"$'\nstatus 1'
 changed="$others
 rst2pseudoxml: so a program of older sources runs, dist/rst2pseudoxml
@@ -117,16 +112,16 @@ same 'its path' "$copy/dist/rst2pseudoxml"$'\nstatus 0' "$(RST2PSEUDOXML_PATH=pr
 same 'its length' yes "$([ "$(grep -vc '^#' "$copy/rst2pseudoxml")" -le 20 ] && echo yes)"
 
 # The times of a checkout are in any order; one digest settles it.
-touch -d '1 minute' "$source" && touch -d '1 hour ago' "$copy"/dist/*
+crate=$copy/crates/rst_text
+touch -d '1 minute' "$crate/src" && touch -d '1 hour ago' "$copy"/dist/*
 same 'sources from the future' "$runs" "$(call)"
-touch "$source"
+touch "$crate/src"
 same 'sources that were written last' "$runs" "$(call)"
-rm "$copy/.looked" 2>/dev/null
 same 'the second call' "$runs" "$(quick)"
 
 # Changes of the sources, each taken back.
 changes=(
-  'an edit' 'echo "// one line more" >>"$source"' 'cp -p before "$source"'
+  'an edit' 'sed -i "\$a // one line more" "$source"' 'cp -p before "$source"'
   'another file in its place' 'mv after "$source"' 'cp -p before "$source"'
   'a file more' 'echo >"$crate/src/more.rt"' 'rm "$crate/src/more.rt"'
   'a folder more' 'mkdir "$crate/src/more" && echo >"$crate/src/more/a.rt"' 'rm -r "$crate/src/more"'
@@ -135,7 +130,6 @@ changes=(
   'a link in its place' 'ln -sf "$folder/after" "$source"' 'rm "$source" && cp -p before "$source"'
   'another crate in use' 'sed -i "s/^rst_text:/& test_outline/" "$copy/crates.txt"' 'sed -i "s/ test_outline//" "$copy/crates.txt"'
 )
-crate=$copy/crates/rst_text
 for ((i = 0; i < ${#changes[@]}; i += 3)); do
   tr 'a-y' 'b-z' <before >after
   sleep 0.1 # longer than the steps of a file's time
@@ -144,7 +138,11 @@ for ((i = 0; i < ${#changes[@]}; i += 3)); do
   same "${changes[i]}, again" "$changed" "$(call)"
   eval "${changes[i + 2]}"
   same "${changes[i]}, taken back" "$runs" "$(call)"
+  same "${changes[i]}, taken back, the second call" "$runs" "$(quick)"
 done
+echo '// one line more' >>"$source"
+same 'an edit in place, where nothing was built' "$runs" "$(quick)"
+cp -p before "$source"
 
 # What isn't in the program changes nothing.
 echo '// a row more' >>"$copy/crates/rst2pseudoxml/src/rows.rt"
@@ -166,10 +164,13 @@ same 'a build without a note' "$copy/dist/rst2pseudoxml"$'\nstatus 0' "$(of_sour
 same 'a build of these sources' "$built"$'\nstatus 0' "$(of_sources)"
 touch "$source"
 same 'a build before a source was written again' $'built here\nstatus 0' "$(call)"
-rm "$copy/.looked" 2>/dev/null
 same 'a build, the second call' $'built here\nstatus 0' "$(quick)"
-echo '// one line more' >>"$source"
 older="rst2pseudoxml: so a program of older sources runs, crates/rst2pseudoxml/out/rst2pseudoxml"
+sleep 0.1
+echo '// one line more' >>"$source"
+same 'an edit in place after a build' "$others"$'\n'"$older"$'\nbuilt here\nstatus 0' "$(call)"
+cp -p before "$source"
+sed -i '$a // one line more' "$source"
 same 'an edit after a build' "$others"$'\n'"$older"$'\nbuilt here\nstatus 0' "$(call)"
 cp -p before "$source"
 touch -d '1 minute ago' "$built.sources"
@@ -179,22 +180,23 @@ touch "$copy/dist/rst2pseudoxml"
 same 'a build that is older than the shipped program' "$runs" "$(quick)"
 rm -r "${built%/*}"
 
-# Calls at the same time, and calls that can note nothing.
-rm -f "$copy/.looked"
+# Calls at the same time, after a source was written.
+touch "$crate/src"
 for place in 1 2 3 4; do
-  as_of "$folder/none" "$copy/rst2pseudoxml" >"call$place" &
+  call >"call$place" &
 done
 wait
 same 'calls at the same time' "$runs$runs$runs$runs" "$(cat call1)$(cat call2)$(cat call3)$(cat call4)"
-rm -f "$copy/.looked" && mkdir "$copy/.looked"
-same 'no note' "$runs" "$(quick)"
-rmdir "$copy/.looked"
+
+# Where nothing can be written no digest is taken, which each call would have to do.
+sleep 0.1
+touch "$crate/src"
 chmod -R a-w "$copy"
 chmod a+rx "$folder"
 other_user=()
-[ "$(id -u)" != 0 ] || other_user=(setpriv --reuid=65534 --clear-groups) # modes don't keep root from writing
+[ "$(id -u)" != 0 ] || other_user=("$(command -v setpriv)" --reuid=65534 --clear-groups) # modes don't keep root from writing
 if [ ${#other_user[@]} = 0 ] || "${other_user[@]}" test -x "$copy/rst2pseudoxml" 2>/dev/null; then
-  same 'nothing can be written' "$runs" "$(as_of "$PATH" "${other_user[@]}" "$copy/rst2pseudoxml")"
+  same 'nothing can be written' "$runs" "$(as_of "$folder/none" "${other_user[@]}" "$copy/rst2pseudoxml")"
 fi
 chmod -R u+w "$copy"
 

@@ -1,7 +1,7 @@
 #!/bin/sh
 # Prints the digest of the sources that a build of the program depends on: those of its crate and of the crates that it uses by
-# crates.txt, with their lines there. Other crates are no part of it (those of tests), nor are comments, nor the modules that main.rt
-# compiles under test alone.
+# crates.txt, with their lines there. Other crates (those of tests) don't count, nor do comments in crates.txt and the modules that
+# main.rt compiles under test alone.
 set -eu
 cd -- "$(dirname -- "$0")/.."
 program=crates/rst2pseudoxml/src

@@ -4,8 +4,8 @@
     scripts/edits_together.py [--most N] CRATE..
 
 It takes the edits of must-fail/ and more-edits/, makes as many as N (25 if not given) in a copy of the crate, no two in functions of one name,
-and checks the crate once. So an edit costs some ten seconds, where scripts/edits.sh takes half a minute. It needs the libraries that `rt ci` built
-in this checkout (crates/*/out/rlib). The first check proves the crate; later ones prove again what an edit changed.
+and checks the crate once. That takes some ten seconds an edit; scripts/edits.sh takes half a minute. It needs the libraries that `rt ci`
+built in this checkout (crates/*/out/rlib). The first check proves the crate; later ones prove again what an edit changed.
 
 A function counts as refused if something of its own isn't proved; that a function it calls isn't proved doesn't count. An edit outside of a
 function, one of several functions, one that can't be made beside the others, and one that isn't refused beside them are tried alone; the first two

@@ -3,11 +3,12 @@
 
     scripts/failing.py [PROGRAM]
 
-The document is that of crates/rst2pseudoxml/src/whole_document.rt. An allocation that fails gives the one line that memory ran out, and
-nothing on standard output. A read or a write that fails, or a write that takes no byte, gives its own line, and nothing more on standard output;
-so what was written is a prefix of the whole. Short reads and writes change nothing: where they move one byte a call, a call fails
-after each byte. Allocations fail also in a run with all options that go together, over a file. PROGRAM is by default the one that scripts/program.sh
-finds. Without a C compiler, `cc` or the kit's, or if the program has the C library inside, nothing is tried, and the exit status is 77.
+The document is that of crates/rst2pseudoxml/src/whole_document.rt. If an allocation fails, the program has to print the one line that memory
+ran out, and nothing on standard output. If a read or a write fails, or a write takes no byte, it has to print the line for that, and nothing
+more on standard output, so what was written is a prefix of the whole. Short reads and writes must change nothing: with one byte a call, a call
+fails after each byte. Allocations fail also in a run with all options that go together, over a file. PROGRAM is by default the one that
+scripts/program.sh finds. Without a C compiler, `cc` or the kit's, or if the program has the C library inside, nothing is tried, and the exit
+status is 77.
 """
 
 import concurrent.futures
@@ -24,7 +25,7 @@ from rows import Source
 HERE = pathlib.Path(__file__).resolve().parent
 SKIPPED = 77
 NAME = b"rst2pseudoxml: "
-# So many bytes are moved by a read or a write at most; 0 for as many as there are.
+# The most bytes that a read or a write moves; 0 for as many as there are.
 STEPS = [1, 7, 97, 0]
 OPTIONS = "-r info --halt=5 --exit-status=error --no-doc-title --no-doc-info --tab-width=4 --line-length-limit=500".split()
 

@@ -22,7 +22,7 @@ is_of_these() { # PROGRAM
 fault=''
 if ! grep -qxs "sources $sources" "$top/dist/BUILT"; then
   fault="nothing has been built from these sources, and dist/ is of others; \`rt try\` in crates/rst2pseudoxml runs these without \
-proofs (about a minute), scripts/build.sh proves and builds them (about an hour the first time)"
+proofs (about two minutes), scripts/build.sh proves and builds them (about an hour the first time)"
 elif ! (cd -- "$top/dist" && sha256sum -c rst2pseudoxml.sha256) >/dev/null 2>&1; then
   fault="the programs in dist/ don't have the checksums in dist/rst2pseudoxml.sha256, and nothing was built here"
 fi

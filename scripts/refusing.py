@@ -4,7 +4,7 @@
     scripts/refusing.py [TESTS]..
 
 These tests are in the files `refused_tests.rt` of crates/rst2pseudoxml and of the crates of tests. TESTS are programs of a crate's tests, by
-default those that `rt ci` left. A test has to pass each time. All of the first allocations are refused, and of those after them each seventh. The
+default those that `rt ci` left. A test has to pass each time. Each of the first 500 allocations is refused, and after them every seventh. The
 status is 77 if there is no such program, or no C compiler, `cc` or the kit's.
 """
 
@@ -19,7 +19,7 @@ from program import TOP, program
 
 MADE = [file.parent.parent / f"out/{file.parent.parent.name}_tests" for file in sorted(TOP.glob("crates/*/src/refused_tests.rt"))]
 PREFIX = "refused_tests::"
-# So many allocations are all refused, and from then on each of STEP.
+# Each of the first allocations is refused, up to this number; after them every seventh.
 FIRST = 500
 STEP = 7
 
