@@ -150,7 +150,7 @@ list_there nodes place n there is at =
 
 -- what it became stands behind the titles
 pub list_replaced : (first : ℕ) (reports : List Report) (nodes rest made all : List Node) (place count : ℕ) (n : Node) → leading_list nodes ≡ Some n → place ≡ list_place nodes → rest ≡ remove nodes place
-    → made ≡ replaced first reports n → count ≡ prefix_len is_title rest → all ≡ take count rest ++ (made ++ drop count rest) → all ≡ nodes_with first reports (leading_list nodes) nodes
+    → made ≡ (replaced first reports n).0 → count ≡ prefix_len is_title rest → all ≡ take count rest ++ (made ++ drop count rest) → all ≡ (nodes_with first reports (leading_list nodes) nodes).0
 list_replaced first reports nodes rest made all place count n list there left is titles put =
-    put ∙ ap (λ k. take k rest ++ (made ++ drop k rest)) titles ∙ ap (λ m. behind_titles m rest) is ∙ ap (behind_titles (replaced first reports n)) (left ∙ ap (remove nodes) there)
-    ∙ sym (ap (λ o. nodes_with first reports o nodes) list)
+    put ∙ ap (λ k. take k rest ++ (made ++ drop k rest)) titles ∙ ap (λ m. behind_titles m rest) is ∙ ap (behind_titles (replaced first reports n).0) (left ∙ ap (remove nodes) there)
+    ∙ sym (ap (λ o. (nodes_with first reports o nodes).0) list)

@@ -25,15 +25,10 @@ first_named from (n ∷ ns) = named from n ∷ ns
 abbrev pub list_gathered : ℕ → List Report → Forest → Gathered
 list_gathered first reports fields = gathered first (none_yet reports) (nodes_of fields)
 
--- what becomes of a field list; the first node has the list's ids and names, too
-abbrev pub replaced : ℕ → List Report → Node → List Node
-replaced first reports (Element t a c l) = first_named a (docinfo_nodes l (list_gathered first reports c))
-replaced first reports (Text t) = []
-
--- the messages behind it
-abbrev pub list_reports : ℕ → List Report → Node → List Report
-list_reports first reports (Element t a c l) = (list_gathered first reports c).reports
-list_reports first reports (Text t) = reports
+-- what becomes of a field list, and the messages then; the first node has the list's ids and names, too
+abbrev pub replaced : ℕ → List Report → Node → List Node × List Report
+replaced first reports (Element t a c l) = let all = list_gathered first reports c in (first_named a (docinfo_nodes l all), all.reports)
+replaced first reports (Text t) = ([], reports)
 
 -- whether a node may stand before the field list: a title, a subtitle, a comment, a target, a substitution definition or a message
 abbrev pub may_lead : Node → Bool
@@ -62,19 +57,14 @@ abbrev pub behind_titles : List Node → List Node → List Node
 behind_titles more nodes = let titles = prefix_len is_title nodes in take titles nodes ++ (more ++ drop titles nodes)
 
 -- the nodes of a document with this leading list, if there is one, and the messages then
-abbrev pub nodes_with : ℕ → List Report → Option Node → List Node → List Node
-nodes_with first reports None nodes = nodes
-nodes_with first reports (Some list) nodes = behind_titles (replaced first reports list) (remove nodes (list_place nodes))
-
-abbrev pub reports_with : ℕ → List Report → Option Node → List Report
-reports_with first reports None = reports
-reports_with first reports (Some list) = list_reports first reports list
+abbrev pub nodes_with : ℕ → List Report → Option Node → List Node → List Node × List Report
+nodes_with first reports None nodes = (nodes, reports)
+nodes_with first reports (Some list) nodes =
+    let made = replaced first reports list in (behind_titles made.0 (remove nodes (list_place nodes)), made.1)
 
 -- the document whose leading field list became its bibliography, and what is known then
 abbrev pub with_docinfo : Document → Known → Document × Known
 with_docinfo document known =
     let nodes = nodes_of document.children in
-    let list = leading_list nodes in (
-      record document { children = forest_of (nodes_with known.first_number known.reports list nodes) },
-      record known { reports = reports_with known.first_number known.reports list },
-    )
+    let made = nodes_with known.first_number known.reports (leading_list nodes) nodes in
+    (record document { children = forest_of made.0 }, record known { reports = made.1 })

@@ -3,7 +3,7 @@ ghost use Rattle.std.specs.Prelude.{◌≡◌, ◌≤◌, ◌++◌, take, drop, 
 ghost use Rattle.std.specs.List.{prefix_len};
 ghost use Rattle.rst_tree.specs.Faults.{Gives};
 ghost use Rattle.rst_tree.specs.Nodes.{forest_of, nodes_of};
-ghost use Rattle.rst_transform_docinfo.specs.Docinfo.{first_named, is_field_list, leading_list, list_gathered, list_in, list_place, may_lead, nodes_with, list_reports, replaced, reports_with, with_docinfo};
+ghost use Rattle.rst_transform_docinfo.specs.Docinfo.{first_named, is_field_list, leading_list, list_gathered, list_in, list_place, may_lead, nodes_with, replaced, with_docinfo};
 ghost use Rattle.rst_transform_docinfo.specs.Gathered.{docinfo_nodes};
 ghost use Rattle.rst_transform_work.specs.Known.{Makes};
 ghost use Rattle.rst_transform_work.specs.Reports.{KeepsRest};
@@ -95,8 +95,8 @@ fn with_names(alloc: Global, mut nodes: Vec<Node>, attrs: &Attrs) -> Result<Vec<
 
 /// What the fields of a field list become, the first of it with the list's ids and names, too.
 fn replaced(alloc: Global, list: Node, context: &mut Context) -> Result<Vec<Node>, TreeFault>
-    ensures nodes { Gives (λ nodes. nodes.items ≡ replaced context.old.first_number context.old.reports.items list) result }
-    ensures reports { Gives (λ _. context.new.reports.items ≡ list_reports context.old.first_number context.old.reports.items list) result }
+    ensures nodes { Gives (λ nodes. nodes.items ≡ (replaced context.old.first_number context.old.reports.items list).0) result }
+    ensures reports { Gives (λ _. context.new.reports.items ≡ (replaced context.old.first_number context.old.reports.items list).1) result }
     ensures rest { Gives (λ _. KeepsRest context.old context.new) result }
 {
     match list {
@@ -134,8 +134,8 @@ fn with_bibliography(
     children: Children,
     context: &mut Context,
 ) -> Result<Children, TreeFault>
-    ensures nodes { let list = leading_list (nodes_of children) in Gives (λ all. all ≡ forest_of (nodes_with context.old.first_number context.old.reports.items list (nodes_of children))) result }
-    ensures reports { let list = leading_list (nodes_of children) in Gives (λ _. context.new.reports.items ≡ reports_with context.old.first_number context.old.reports.items list) result }
+    ensures nodes { let list = leading_list (nodes_of children) in Gives (λ all. all ≡ forest_of (nodes_with context.old.first_number context.old.reports.items list (nodes_of children)).0) result }
+    ensures reports { let list = leading_list (nodes_of children) in Gives (λ _. context.new.reports.items ≡ (nodes_with context.old.first_number context.old.reports.items list (nodes_of children)).1) result }
     ensures rest { Gives (λ _. KeepsRest context.old context.new) result }
 {
     let mut nodes = children.into_list();

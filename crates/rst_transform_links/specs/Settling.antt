@@ -30,14 +30,14 @@ abbrev pub firsts : List (Option ℕ) → List Outcome → List Held → List (O
 firsts before outcomes [] = before
 firsts before outcomes (one ∷ more) = firsts (before ++ first_in before outcomes one.1 ∷ []) outcomes more
 
--- an element is not gone when a message comes
-abbrev pub still_stands : ℕ → Option ℕ → Bool
-still_stands report None = true
-still_stands report (Some first) = nat_lt report first
+-- an element is still there when a message comes
+abbrev pub is_still_there : ℕ → Option ℕ → Bool
+is_still_there report None = true
+is_still_there report (Some first) = nat_lt report first
 
 -- the turn of the element at a place, if it becomes a problematic of one of so many messages: the message, and the place
 abbrev pub turn_of : ℕ → List (Option ℕ) → ℕ × Outcome → Option (ℕ × ℕ)
-turn_of reports around (place, Fails report) = if nat_lt report reports && still_stands report (at_place around place) then Some (report, place) else None
+turn_of reports around (place, Fails report) = if nat_lt report reports && is_still_there report (at_place around place) then Some (report, place) else None
 turn_of reports around (place, _) = None
 
 -- all turns, in document order

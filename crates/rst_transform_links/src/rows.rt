@@ -24,7 +24,7 @@ ghost use Rattle.rst_transform_links.specs.LinkTransforms.{link_changes};
 ghost use Rattle.rst_transform_links.specs.Outcomes.{adds};
 ghost use Rattle.rst_transform_links.specs.Settling.{settled};
 
-/// The elements that references join, each with the place of the one that it stands in (Markup Specification, 'Hyperlink References').
+/// The elements that references join, each with the place of the one that it is inside (Markup Specification, 'Hyperlink References').
 pub fn linked()
     ensures in_order { map (λ one. one.1) (linked_of (document_of (element Footnote [] (element Label [] []
         ∷ element Paragraph [] (element Reference [] [] ∷ []) ∷ []) ∷ element Target [] [] ∷ [])))

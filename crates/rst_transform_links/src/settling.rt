@@ -5,7 +5,7 @@ ghost use Rattle.rst_tree.specs.Faults.{Gives};
 ghost use Rattle.rst_transform_links.specs.Linkings.{held};
 ghost use Rattle.rst_transform_links.specs.Outcomes.{stays};
 ghost use Rattle.rst_transform_links.specs.Settling as spec;
-ghost use Rattle.rst_transform_links.specs.Settling.{by_message, earlier, first_in, firsts, still_stands, turn_of, turns_of};
+ghost use Rattle.rst_transform_links.specs.Settling.{by_message, earlier, first_in, firsts, is_still_there, turn_of, turns_of};
 ghost use Rattle.rst_transform_work.specs.Known.{Makes};
 
 use crate::links::{Changes, Linked, Outcome};
@@ -47,7 +47,7 @@ fn all_stay(outcomes: &[Outcome]) -> bool
     outcomes.iter().all(|outcome| outcome.stays())
 }
 
-/// For each element the first report for which one that it stands in becomes a problematic.
+/// For each element the first report for which one that it is inside becomes a problematic.
 fn first_around(
     alloc: Global,
     linked: &[Linked<'_>],
@@ -63,8 +63,8 @@ fn first_around(
     Ok(around)
 }
 
-/// The first report for which an element becomes a problematic that one stands in: the one at the place `outer`, or one that this
-/// stands in.
+/// The first report for which an element becomes a problematic that one is inside: the one at the place `outer`, or one that this
+/// is inside.
 fn first_in(around: &[Option<usize>], outcomes: &[Outcome], outer: Option<usize>) -> Option<usize>
     ensures { result ≡ first_in around.now outcomes.now outer }
 {
@@ -84,10 +84,10 @@ fn earlier(first: Option<usize>, outcome: &Outcome) -> Option<usize>
     }
 }
 
-/// Whether an element still stands when the turn of a report comes: one inside another is gone once that one became a
+/// Whether an element is still there when the turn of a report comes: one inside another is gone once that one became a
 /// problematic.
-fn still_stands(report: usize, around: Option<usize>) -> bool
-    ensures { result ≡ still_stands report around }
+fn is_still_there(report: usize, around: Option<usize>) -> bool
+    ensures { result ≡ is_still_there report around }
 {
     match around {
         Some(first) => report < first,
@@ -106,7 +106,7 @@ fn turn_of(
 {
     match outcome {
         Outcome::Fails(report)
-            if *report < reports && still_stands(*report, at_place(around, place)) => {
+            if *report < reports && is_still_there(*report, at_place(around, place)) => {
             Some((*report, place))
         }
         _ => None,
@@ -159,7 +159,7 @@ fn put_at(outcomes: &mut Vec<Outcome>, place: usize, outcome: Outcome)
     outcomes[place] = outcome;
 }
 
-/// Whether no element stands in one that becomes a problematic.
+/// Whether no element is inside one that becomes a problematic.
 fn do_all_remain(around: &[Option<usize>]) -> bool
     ensures { result ≡ list_all is_none around.now }
 {

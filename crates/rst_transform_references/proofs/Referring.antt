@@ -142,7 +142,7 @@ unreferred : (ids : ℕ → List (List ℕ)) (place : ℕ) (outcomes : List Outc
 unreferred ids place [] none = refl
 unreferred ids place (outcome ∷ more) none = rw (none place) (ap (λ rest. outcome ∷ rest) (unreferred ids (place + 1) more none))
 
--- no element tells something
+-- no element lists something
 pub none_listed : (places : Holder → Option ℕ) (all : List Held) (names : List ℕ → Option NameEntry) (outcomes : List Outcome) → list_any (λ (one : Held). refers_to_footnote_or_citation one.0) all ≡ false → outcomes ≡ with_backrefs (referents_of places all names) all outcomes
 none_listed places all names outcomes none =
     sym (unreferred (ids_of_references (referents_of places all names) all) 0 outcomes (λ i. none_meant places all names (found_by_order all) i 0 all none))

@@ -53,7 +53,7 @@ duplicate name = codes "Duplicate target name, cannot be used as a unique refere
 abbrev pub name_of : Node → List ℕ
 name_of node = unwrap_or (text_said Refname node) []
 
--- a reference fails for an ERROR of its own, which stands in the last section
+-- a reference fails for an ERROR of its own, which the last section shows
 abbrev pub failing : Node → List ℕ → Known → Outcome × Known
 failing node text known = (Fails (length known.reports), reported Error (line_of node) text true known)
 
@@ -87,7 +87,7 @@ module _ (places : Holder → Option ℕ) (linked : List Held) where
       let rest : List Outcome × Known = resolved_from (ended ++ (gone || fails own.0) ∷ []) more own.1 in
       (own.0 ∷ rest.0, rest.1)
 
--- What becomes of linked elements. In the end each footnote and citation tells the references to it, by names that are as before.
+-- What becomes of linked elements. In the end each footnote and citation lists the references to it; the names are as before.
 abbrev pub reference_outcomes : List Held → Known → List Outcome × Known
 reference_outcomes linked known =
     let places : Holder → Option ℕ = holder_place known.serials linked in

@@ -66,7 +66,7 @@ fn no_ids(alloc: Global, count: usize) -> Result<Vec<Texts>, TreeFault>
     Ok(lists)
 }
 
-/// Puts the id of a reference behind those of the footnote or citation that it refers to, if there is one.
+/// Adds the id of a reference to those of the footnote or citation that it refers to, if there is one.
 #[tactic(auto, using(crate::proofs::Referring::refers_to_none, crate::proofs::Referring::refers_without_id, crate::proofs::Referring::refers_past, crate::proofs::Referring::refers_within))]
 fn add_reference(
     alloc: Global,
@@ -146,7 +146,7 @@ fn any_refers_to_footnote_or_citation(linked: &[Linked<'_>]) -> bool
     false
 }
 
-/// What becomes of the linked elements, where each footnote and citation tells the ids of the references to it, in order.
+/// What becomes of the linked elements, where each footnote and citation lists the ids of the references to it, in order.
 pub fn with_backrefs<'l>(
     alloc: Global,
     linked: &'l [Linked<'l>],

@@ -186,7 +186,7 @@ fn outcome_of(
     }
 }
 
-/// Whether an element is gone: the one that it stands in is gone or fails.
+/// Whether an element is gone: the one that it is inside is gone or fails.
 fn is_gone(ended: &[bool], outer: Option<usize>) -> bool
     ensures { result ≡ is_gone ended.now outer }
 {

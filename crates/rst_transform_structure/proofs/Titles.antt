@@ -1,13 +1,9 @@
 -- Lone sections, and the names that move with their titles.
-use Rattle.std.proofs.Common.{◌≡◌, ◌∙◌, ℕ, ◌+◌, ◌<◌, List, [], ◌∷◌, ◌++◌, length, get_or, take, Bool, true, false, ◌&&◌, ◌||◌, Option, Some, None, refl, ap, sym, subst}
+use Rattle.std.proofs.Common.{◌≡◌, ◌∙◌, ℕ, ◌+◌, ◌<◌, List, [], ◌∷◌, ◌++◌, length, get_or, take, Bool, true, false, ◌&&◌, Option, Some, None, refl, ap, sym, subst}
 use Rattle.std.specs.Prelude.{if◌then◌else◌, option_map, Result, Ok, Err}
-use Rattle.std.specs.List.{list_all, list_any}
-use Rattle.std.specs.Str.{bytes_eq}
-use Rattle.std.proofs.lemmas.List.{take_more}
-use Rattle.std.proofs.lemmas.List.Folds.{list_any-append}
-use Rattle.std.proofs.lemmas.Slice.Eq.{bytes_eq-Decides}
+use Rattle.std.specs.List.{list_all}
+use Rattle.std.proofs.lemmas.List.{map-append, take_more}
 use Rattle.rst_transform_names.specs.Names.{held_by, moved, Knows}
-use Rattle.rst_transform_names.specs.declared.names.NameEntry.{NameEntry}
 use Rattle.rst_transform_names.specs.declared.names.Names.{Names}
 use Rattle.rst_transform_names.specs.declared.names.Holder.TheVariants.{Unregistered}
 use Rattle.rst_tree.proofs.Changes.{forest_of-nodes_of}
@@ -21,7 +17,9 @@ use Rattle.rst_tree.specs.Forest.{Forest, bare}
 use Rattle.rst_tree.specs.Nodes.{forest_of, join_node, nodes_of}
 use Rattle.rst_transform_structure.specs.declared.title.Section.{Section}
 use Rattle.rst_transform_work.specs.Lists.{listed}
-use Rattle.rst_transform_structure.specs.Title.{subtitle_names, title_names, behind, section, section_in, lone_section, Moves}
+use Rattle.rst_transform_structure.specs.Title.{subtitle_names, title_names, behind, section, section_in, lone_section}
+use Rattle.rst_transform_structure.specs.Passing.{with_number, Passes}
+use Rattle.rst_transform_structure.proofs.Passing.{Passes-more, Passes-then}
 use Rattle.rst_transform_work.specs.Reading.{may_precede}
 
 -- nodes in front of the body of a section, if there is one
@@ -80,37 +78,13 @@ no_section nodes items xs n e f is =
 pub put_back : (nodes back : Forest) (items pushed xs : List Node) (n m : Node) → nodes ≡ forest_of items → items ≡ xs ++ n ∷ [] → m ≡ n → pushed ≡ xs ++ m ∷ [] → back ≡ forest_of pushed → back ≡ nodes
 put_back nodes back items pushed xs n m e f is p b = b ∙ ap forest_of (p ∙ ap (λ z. xs ++ z ∷ []) is ∙ sym f) ∙ sym e
 
-moved_twice : (h : Option NameEntry) → moved Unregistered (moved Unregistered h) ≡ moved Unregistered h
-moved_twice None = refl
-moved_twice (Some h) = refl
-
--- a name moves
-moves_one : (x : List ℕ) (old new : Names) → Knows x (moved Unregistered (held_by old x)) old new → Moves (x ∷ []) old new
-moves_one x old new h name =
-    let same = (bytes_eq-Decides name x).0 in
-    h name ∙ (elim (bytes_eq name x) as (λ b. (b ≡ true → name ≡ x)
-    → (if b then moved Unregistered (held_by old x) else held_by old name) ≡ (if b || false then moved Unregistered (held_by old name) else held_by old name)) [
-      | true ↦ λ e. ap (λ n. moved Unregistered (held_by old n)) (sym (e refl))
-      | false ↦ λ e. refl
-    ] same)
-
--- names move, and then others
-pub Moves-then : (xs ys : List (List ℕ)) (a b c : Names) → Moves xs a b → Moves ys b c → Moves (xs ++ ys) a c
-Moves-then xs ys a b c h k name =
-    k name ∙ rw (h name, list_any-append (bytes_eq name) xs ys) (both (list_any (bytes_eq name) xs) (list_any (bytes_eq name) ys) (held_by a name))
-  where
-    both : (p q : Bool) (h : Option NameEntry) →
-        (if q then moved Unregistered (if p then moved Unregistered h else h) else (if p then moved Unregistered h else h)) ≡ (if p || q then moved Unregistered h else h)
-    both true true h = moved_twice h
-    both true false h = refl
-    both false true h = refl
-    both false false h = refl
-
 -- the names of a section move, and then those of the section in it
-pub title_moves : (nodes : Forest) (s : Section) (a b c : Names) → lone_section nodes ≡ Some s → Moves (listed OfNames s.attrs) a b → Moves (subtitle_names (lone_section s.body)) b c
-    → Moves (title_names (lone_section nodes)) a c
+pub title_moves : (nodes : Forest) (s : Section) (a b c : Names) → lone_section nodes ≡ Some s → Passes (with_number None (listed OfNames s.attrs)) a b
+    → Passes (with_number None (subtitle_names (lone_section s.body))) b c → Passes (with_number None (title_names (lone_section nodes))) a c
 title_moves nodes s a b c is h k =
-    subst (λ o. Moves (title_names o) a c) (sym is) (Moves-then (listed OfNames s.attrs) (subtitle_names (lone_section s.body)) a b c h k)
+    let both = Passes-then (with_number None (listed OfNames s.attrs)) (with_number None (subtitle_names (lone_section s.body))) a b c h k in
+    subst (λ o. Passes (with_number None (title_names o)) a c) (sym is)
+    (subst (λ names. Passes names a c) (sym (map-append (λ name. (name, None)) (listed OfNames s.attrs) (subtitle_names (lone_section s.body)))) both)
 
 -- what holds anyway holds if the call gives a value
 pub anyway : {A : Type 0} (P : Type 0) (r : Result A TreeFault) → P → Gives (λ _. P) r
@@ -118,7 +92,9 @@ anyway P (Ok done) p = p
 anyway P (Err NoMemory) p = tt
 
 -- one more name moves
-pub Moves-more : (xs : List (List ℕ)) (i : ℕ) (x y : List ℕ) (a b c : Names) → i < length xs → x ≡ get_or xs i x → y ≡ x → Moves (take i xs) a b → Knows y (moved Unregistered (held_by b y)) b c
-    → Moves (take (i + 1) xs) a c
+pub Moves-more : (xs : List (List ℕ)) (i : ℕ) (x y : List ℕ) (a b c : Names) → i < length xs → x ≡ get_or xs i x → y ≡ x → Passes (with_number None (take i xs)) a b
+    → Knows y (moved Unregistered (held_by b y)) b c → Passes (with_number None (take (i + 1) xs)) a c
 Moves-more xs i x y a b c fits at is h k =
-    subst (λ ys. Moves ys a c) (ap (λ z. take i xs ++ z ∷ []) (is ∙ at) ∙ sym (take_more xs i x fits)) (Moves-then (take i xs) (y ∷ []) a b c h (moves_one y b c k))
+    let more : with_number None (take i xs) ++ (x, None) ∷ [] ≡ with_number None (take (i + 1) xs) =
+    sym (map-append (λ name. (name, None)) (take i xs) (x ∷ [])) ∙ ap (λ z. with_number None (take i xs ++ z ∷ [])) at ∙ ap (with_number None) (sym (take_more xs i x fits)) in
+    subst (λ names. Passes names a c) more (Passes-more (with_number None (take i xs)) (x, None) y Unregistered a b c h is refl k)

@@ -1,8 +1,5 @@
 -- The title and the subtitle of a document (reStructuredText Markup Specification, 'Document Title').
-use Rattle.std.specs.Prelude.{◌≡◌, ℕ, List, [], ◌++◌, Option, Some, None, if◌then◌else◌, option_map}
-use Rattle.rst_transform_names.specs.Names.{held_by}
-use Rattle.rst_transform_names.specs.declared.names.Holder.TheVariants.{Unregistered}
-use Rattle.rst_transform_names.specs.declared.names.Names.{Names}
+use Rattle.std.specs.Prelude.{ℕ, List, [], ◌++◌, Option, Some, None, if◌then◌else◌, option_map}
 use Rattle.rst_tree.specs.declared.attrs.Attr.{Attr}
 use Rattle.rst_tree.specs.declared.attrs.Value.TheVariants.{Text as Says}
 use Rattle.rst_tree.specs.declared.key.Key.TheVariants.{Names as OfNames, Title}
@@ -14,10 +11,10 @@ use Rattle.rst_tree.specs.Forest.{Forest, bare, element, words}
 use Rattle.rst_tree.specs.Nodes.{join_node}
 use Rattle.rst_tree.specs.Tree.{text_in}
 use Rattle.rst_transform_structure.specs.declared.title.Section.{Section}
-use Rattle.rst_transform_structure.specs.Passing.{passed}
+use Rattle.rst_transform_structure.specs.Passing.{passed, with_number}
+use Rattle.rst_transform_work.specs.Known.{Known}
 use Rattle.rst_transform_work.specs.Lists.{listed, with_names}
 use Rattle.rst_transform_work.specs.declared.document.Document.{Document}
-use Rattle.rst_transform_work.specs.States.{State}
 use Rattle.rst_transform_work.specs.Reading.{may_precede}
 
 -- a section's attributes, its title, and its body: the nodes behind the title
@@ -81,12 +78,6 @@ abbrev pub title_names : Option Section → List (List ℕ)
 title_names None = []
 title_names (Some s) = listed OfNames s.attrs ++ subtitle_names (lone_section s.body)
 
--- an element without number holds each of these names that is known; of the others the same is known as before
-abbrev pub Moves : List (List ℕ) → Names → Names → Type 0
-Moves names old new = (name : List ℕ) → held_by new name ≡ passed names Unregistered name (held_by old name)
-
--- the document before and after
-pub record IsTitled (before after : State) : Type 0 where
-  pub document : after.document ≡ titled before.document
-  pub names : Moves (title_names (lone_section before.document.children)) before.context.names after.context.names
-  pub rest : after.context ≡ record before.context { names = after.context.names }
+-- the document with its title and its subtitle, and what is known then: they hold the names
+abbrev pub with_title : Document → Known → Document × Known
+with_title document known = (titled document, record known { names = passed (with_number None (title_names (lone_section document.children))) known.names })

@@ -3,8 +3,8 @@ ghost use Rattle.std.specs.Prelude.{◌≡◌, ◌∷◌, ◌++◌, [], map};
 ghost use Rattle.std.specs.List.{list_any};
 ghost use Rattle.rst_tree.specs.Faults.{Gives};
 ghost use Rattle.rst_tree.specs.Nodes.{forest_of, nodes_of};
-ghost use Rattle.rst_transform_work.specs.States.{state};
-ghost use Rattle.rst_transform_structure.specs.LastSection.{ids_moved, heading, is_shown, own_nodes, section_of, HasLastSection};
+ghost use Rattle.rst_transform_work.specs.Known.{Makes};
+ghost use Rattle.rst_transform_structure.specs.LastSection.{ids_moved, heading, is_shown, own_nodes, section_of, with_last_section};
 
 use rst_settings::Threshold;
 use rst_transform_work::{Context, Document, Report};
@@ -24,7 +24,7 @@ pub fn last_section(
     context: &mut Context,
     report: Threshold,
 ) -> Result<Document, TreeFault>
-    ensures { Gives (λ after. HasLastSection report (state document context.old) (state after context.new)) result }
+    ensures { Gives (Makes (with_last_section report document) context.old context.new) result }
 {
     if !is_any_shown(context.reports.as_slice(), report) {
         return Ok(document);

@@ -7,7 +7,7 @@ use Rattle.rst_transform_links.specs.Linkings.{held}
 use Rattle.rst_transform_references.specs.Resolving.{resolved_from}
 use Rattle.rst_transform_references.proofs.resolve.resolved.Given as goal
 
--- what becomes of the elements that are left, behind the outcomes so far, becomes of all
+-- the outcomes so far, and then what becomes of the elements that are left, are what becomes of all
 abbrev pub invariant-loop-one : goal.invariant-loop-one
 invariant-loop-one l =
     (after : Context) (rest : List Outcome) → Makes (resolved_from (place_at l.holders.places.items) (map held l.linked) l.ended.items (map held (drop l.one-index l.linked))) l.context after rest

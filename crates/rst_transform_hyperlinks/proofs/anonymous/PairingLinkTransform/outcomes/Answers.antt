@@ -11,4 +11,4 @@ returns-then-len c =
 pub returns : goal.returns
 returns c =
     failed_all (map held c.args.linked.now) c.in_ok-references.references.items c.in_ok-targets.targets.items c.args.context.now c.report_mismatch.new.context c.in_ok-outcomes-2.outcomes.items c.in_ok-report.report
-    (search rules) (search rules) (search rules) (search rules) (search rules) (search rules)
+    (search rules) (search rules) (search rules) (search rules) (search rules) (search rules) (search rules)

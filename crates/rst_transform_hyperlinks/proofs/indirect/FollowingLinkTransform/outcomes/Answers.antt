@@ -6,7 +6,7 @@ use Rattle.rst_transform_hyperlinks.proofs.indirect.FollowingLinkTransform.outco
 
 pub returns : goal.returns
 returns c =
-    let known = rw (c.as_slice.ensures.value, c.in_ok-steps.ensures) at c.in_ok-answers.ensures in
+    let answered = rw (c.as_slice.ensures.value, c.in_ok-steps.ensures) at c.in_ok-answers.ensures in
     leads_all (map held c.args.linked.now) c.args.context.now c.reports.new.context (place_at c.in_ok-holders.holders.places.items) c.in_ok-answers.answers.items c.in_ok-targets.targets.items c.in_ok-reports.reports.items
-    c.in_ok-outcomes.outcomes.items c.in_ok-holders.ensures known c.in_ok-targets.ensures (rw (c.as_slice-2.ensures.value) at c.in_ok-reports.ensures.places) (rw (c.as_slice-2.ensures.value) at c.in_ok-reports.ensures.reports)
+    c.in_ok-outcomes.outcomes.items c.in_ok-holders.ensures answered c.in_ok-targets.ensures (rw (c.as_slice-2.ensures.value) at c.in_ok-reports.ensures.places) (rw (c.as_slice-2.ensures.value) at c.in_ok-reports.ensures.reports)
     c.in_ok-reports.ensures.rest (rw (c.as_slice-3.ensures.value, c.as_slice-4.ensures.value, c.as_slice-5.ensures.value) at c.in_ok-outcomes.ensures)
