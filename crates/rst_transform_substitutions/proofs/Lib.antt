@@ -1,4 +1,5 @@
 pub mod Computing
+pub mod AddingFound
 pub mod Defining
 pub mod Expanding
 pub mod Leading

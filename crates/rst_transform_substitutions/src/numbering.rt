@@ -1,14 +1,13 @@
 //! Numbers of definitions, which show that one doesn't lead to another.
-ghost use Rattle.std.specs.Prelude.{◌≡◌, slice_get, true, map, List, ℕ};
-ghost use Rattle.std.specs.List.{flat_map, list_all};
-ghost use Rattle.std.specs.Option.{option_to_list};
+ghost use Rattle.std.specs.Prelude.{◌≡◌, ◌++◌, slice_get, true, map, List, ℕ};
+ghost use Rattle.std.specs.List.{list_all};
 ghost use Rattle.rst_tree.specs.Faults.{Gives};
-ghost use Rattle.rst_transform_substitutions.specs.Definitions.{known_found};
 ghost use Rattle.rst_transform_substitutions.specs.Numbering.{may_lead, places_found, AreOrdered};
 
 use crate::definitions::Definitions;
-use crate::listing::add_listed;
-use rst_tree::TreeFault;
+use crate::expansion::is_reference;
+use rst_transform_work::said;
+use rst_tree::{Children, Key, Node, TreeFault};
 use std::alloc::Global;
 
 /// What a search over the definitions does next with one of them.
@@ -40,29 +39,45 @@ fn referred(alloc: Global, definitions: &Definitions) -> Result<Vec<Vec<usize>>,
 {
     let mut referred = Vec::with_capacity(alloc, definitions.contents.len())?;
     for content in &definitions.contents {
-        let mut inner = Vec::new(alloc);
-        let mut names = Vec::new(alloc);
-        add_listed(content, &mut inner, &mut names)?;
-        referred.push(places_of(alloc, definitions, &names)?)?;
+        let mut places = Vec::new(alloc);
+        add_found(alloc, definitions, content, &mut places)?;
+        referred.push(places)?;
     }
     Ok(referred)
 }
 
-/// The places of the definitions that names find.
-fn places_of(
+/// Adds the places of the definitions that the references among nodes find, and those in them.
+fn add_found(
     alloc: Global,
     definitions: &Definitions,
-    names: &[&str],
-) -> Result<Vec<usize>, TreeFault>
-    ensures { Gives (λ places. places.items ≡ flat_map (λ name. option_to_list (known_found definitions.now name.now)) names.now) result }
+    nodes: &Children,
+    places: &mut Vec<usize>,
+) -> Result<(), TreeFault>
+    ensures { Gives (λ _. places.new.items ≡ places.old.items ++ places_found definitions.now nodes.now) result }
 {
-    let mut places = Vec::new(alloc);
-    for name in names {
-        if let Some(place) = definitions.find(alloc, name)? {
-            places.push(place)?;
+    for node in nodes.as_slice() {
+        match node {
+            Node::Text(_) => continue,
+            Node::Element {
+                tag,
+                attrs,
+                children,
+                ..
+            } => {
+                if is_reference(*tag) {
+                    let found = definitions.find(alloc, said(attrs, Key::Refname))?;
+                    let Some(place) = found else {
+                        continue;
+                    };
+                    places.push(place)?;
+                    continue;
+                }
+                add_found(alloc, definitions, children, places)?;
+                continue;
+            }
         }
     }
-    Ok(places)
+    Ok(())
 }
 
 /// Whether no place refers to one of a lower number.
