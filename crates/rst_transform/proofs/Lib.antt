@@ -1,3 +1,3 @@
 pub mod Computing
-pub mod Linking
+pub mod Skipping
 pub mod Left

@@ -16,12 +16,12 @@ use Rattle.rst_transform_work.specs.Known.{Holds, Known, Makes}
 use Rattle.rst_transform_work.specs.Reports.{report_in, IsReported, KeepsRest}
 use Rattle.rst_transform_work.proofs.Holding.{holds_names, holds_reported}
 use Rattle.rst_transform_footnotes.specs.FootnoteLabels.{labels}
-use Rattle.rst_transform_footnotes.specs.Footnotes.{first_left_over, footnote_outcomes, numbered_entry, outcomes_by, told, too_many, with_numbers}
+use Rattle.rst_transform_footnotes.specs.Footnotes.{first_left_over, footnote_outcomes, numbered_entry, outcomes_by, leftover, too_many, with_numbers}
 
 -- the references left over that there are
 pub left_over_of : (first : Option ℕ) (order : Order) (line footnotes counted place : ℕ) (text : List ℕ) (before after : Context) → first ≡ Some line → counted ≡ footnotes → text ≡ too_many order counted
     → place ≡ length before.reports.items → IsReported (report_in before Error line text true) before after → KeepsRest before after
-    → Makes (told first order footnotes) before after (Some place)
+    → Makes (leftover first order footnotes) before after (Some place)
 left_over_of None order line footnotes counted place text before after is count says at reports rest known h = absurd (cc)
 left_over_of (Some first) order line footnotes counted place text before after is count says at reports rest known h =
     let same : line ≡ first = sym (ap (λ found. unwrap_or found 0) is) in
@@ -30,8 +30,8 @@ left_over_of (Some first) order line footnotes counted place text before after i
 -- the steps, by what was listed
 pub decided : (linked : List Held) (list : List (Option (List ℕ))) (found : List (Option ℕ)) (before between after : Context) (names : Names) (numbers symbols : Option ℕ) (outcomes : List Outcome)
     → list ≡ labels linked → found ≡ found_by_order linked → ((name : List ℕ) → held_by names name ≡ with_numbers list linked (held_by before.names) name)
-    → Makes (told (first_left_over Numbers found linked) Numbers (length (in_order Numbers linked))) (record before { names = names }) between numbers
-    → Makes (told (first_left_over Symbols found linked) Symbols (length (in_order Symbols linked))) between after symbols
+    → Makes (leftover (first_left_over Numbers found linked) Numbers (length (in_order Numbers linked))) (record before { names = names }) between numbers
+    → Makes (leftover (first_left_over Symbols found linked) Symbols (length (in_order Symbols linked))) between after symbols
     → outcomes ≡ outcomes_by linked list found numbers symbols → Makes (footnote_outcomes linked) before after outcomes
 decided linked list found before between after names numbers symbols outcomes labelled finds hold by_numbers by_symbols become known h =
     let hold_now = rw labelled at hold in

@@ -61,7 +61,7 @@ Writing-end linked written place w past = record {
   tells = λ number low. rw (drop_all place linked past) at (w.become number (omega (arith, w.all, low)));
 }
 
--- a text once more, before or behind
+-- a text once more, before or after
 pub repeat_more : {A : Type 0} (n : ℕ) (xs : List A) → repeat n xs ++ xs ≡ xs ++ repeat n xs
 repeat_more zero xs = sym (append-nil xs)
 repeat_more (suc n) xs = append_assoc xs (repeat n xs) xs ∙ ap (λ more. xs ++ more) (repeat_more n xs)

@@ -55,7 +55,7 @@ is_to_number (Some mark) = starts_with nat_eq mark (codes "#")
 abbrev pub to_number : List Held → List Held
 to_number linked = filter (λ one. is_to_number (mark_of one.0)) linked
 
--- the label of a footnote, by that which it was written with, the free numbers that are left and how many symbol footnotes stand before
+-- the label of a footnote, by that which it was written with, the free numbers that are left and how many symbol footnotes come before it
 abbrev pub label_by : Option (List ℕ) → List ℕ → ℕ → Option (List ℕ)
 label_by None free before = None
 label_by (Some mark) free before =

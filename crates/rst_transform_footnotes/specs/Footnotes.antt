@@ -1,5 +1,5 @@
 -- Footnotes, and the references that find them by the order (Markup Specification, 'Footnotes').
-use Rattle.std.specs.Prelude.{ℕ, ◌&&◌, Bool, true, false, List, [], ◌∷◌, ◌++◌, codes, decimal, find, length, map, option_map, if◌then◌else◌, is_none, slice_get, Option, Some, None}
+use Rattle.std.specs.Prelude.{ℕ, ◌&&◌, Bool, true, false, List, [], ◌∷◌, ◌++◌, codes, decimal, find, length, map, option_and_then, option_map, if◌then◌else◌, is_none, slice_get, Option, Some, None}
 use Rattle.std.specs.List.{enumerate_from, filter_map}
 use Rattle.std.specs.Option.{option_or}
 use Rattle.std.specs.Str.{bytes_eq}
@@ -70,18 +70,18 @@ left_over order found placed = find (is_left_over order found) placed
 abbrev pub first_left_over : Order → List (Option ℕ) → List Held → Option ℕ
 first_left_over order found linked = option_map (λ p. line_of p.1.0) (left_over order found (enumerate_from 0 linked))
 
--- what the message on them says, where there are so many footnotes of the order
+-- what the message on them says, by how many footnotes of the order there are
 abbrev pub too_many : Order → ℕ → List ℕ
 too_many order footnotes = codes "Too many " ++ (order_name order ++ (codes " footnote references: only " ++ (decimal footnotes ++ codes " corresponding footnotes available.")))
 
--- one ERROR on them, on the line of the first, behind the other messages; its place is given
-abbrev pub told : Option ℕ → Order → ℕ → Known → Option ℕ × Known
-told None order footnotes known = (None, known)
-told (Some line) order footnotes known = (Some (length known.reports), reported Error line (too_many order footnotes) true known)
+-- one ERROR on them, on the line of the first, after the other messages; its place among them is given
+abbrev pub leftover : Option ℕ → Order → ℕ → Known → Option ℕ × Known
+leftover None order footnotes known = (None, known)
+leftover (Some line) order footnotes known = (Some (length known.reports), reported Error line (too_many order footnotes) true known)
 
 -- the same of those of some elements
-abbrev pub told_of : Order → List Held → Known → Option ℕ × Known
-told_of order linked = told (first_left_over order (found_by_order linked) linked) order (length (in_order order linked))
+abbrev pub leftover_of : Order → List Held → Known → Option ℕ × Known
+leftover_of order linked = leftover (first_left_over order (found_by_order linked) linked) order (length (in_order order linked))
 
 -- the message on the references of an order, by those on the two
 abbrev pub report_of : Option Order → Option ℕ → Option ℕ → Option ℕ
@@ -104,10 +104,9 @@ abbrev pub is_label : Node → Bool
 is_label (Element Label a c l) = true
 is_label _ = false
 
--- a label shows that of the footnote that it stands in
+-- a label shows that of the footnote that it is in
 abbrev pub label_in : List (Option (List ℕ)) → Option ℕ → Option (List ℕ)
-label_in labels None = None
-label_in labels (Some footnote) = at_place labels footnote
+label_in labels = option_and_then (at_place labels)
 
 -- the names of an element with its number
 abbrev pub with_number : Node → Option (List ℕ) → Option Attr
@@ -138,6 +137,6 @@ outcomes_by linked labels found numbers symbols = map (outcome_at linked labels 
 -- footnotes first.
 abbrev pub footnote_outcomes : List Held → Known → List Outcome × Known
 footnote_outcomes linked known =
-    let numbers : Option ℕ × Known = told_of Numbers linked (record known { names = with_numbers (labels linked) linked known.names }) in
-    let symbols : Option ℕ × Known = told_of Symbols linked numbers.1 in
+    let numbers : Option ℕ × Known = leftover_of Numbers linked (record known { names = with_numbers (labels linked) linked known.names }) in
+    let symbols : Option ℕ × Known = leftover_of Symbols linked numbers.1 in
     (outcomes_by linked (labels linked) (found_by_order linked) numbers.0 symbols.0, symbols.1)

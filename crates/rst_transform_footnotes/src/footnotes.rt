@@ -3,7 +3,7 @@ ghost use Rattle.std.specs.Prelude.{◌≡◌, ℕ, List, MatchOption, None, Som
 ghost use Rattle.std.specs.Option.{option_or};
 ghost use Rattle.rst_tree.specs.Faults.{Gives};
 ghost use Rattle.rst_transform_names.specs.Names.{held_by};
-ghost use Rattle.rst_transform_footnotes.specs.Footnotes.{entry_of, first_left_over, footnote_outcomes, is_label, label_in, labelled, lead_to_footnote, outcome_by, outcomes_by, own_number, referring, report_of, told, too_many, with_number, with_numbers};
+ghost use Rattle.rst_transform_footnotes.specs.Footnotes.{entry_of, first_left_over, footnote_outcomes, is_label, label_in, labelled, lead_to_footnote, outcome_by, outcomes_by, own_number, referring, report_of, leftover, too_many, with_number, with_numbers};
 ghost use Rattle.rst_transform_links.specs.Linkings.{held};
 ghost use Rattle.rst_transform_links.specs.LinkTransforms.{link_changes};
 ghost use Rattle.rst_transform_links.specs.FootnoteOrders.{in_order, reference_order};
@@ -208,7 +208,7 @@ fn leftover(
     found: &[Option<usize>],
     order: Order,
 ) -> Result<Option<usize>, TreeFault>
-    ensures { Gives (Makes (told (first_left_over order found.now (map held linked.now)) order (length (in_order order (map held linked.now)))) context.old context.new) result }
+    ensures { Gives (Makes (leftover (first_left_over order found.now (map held linked.now)) order (length (in_order order (map held linked.now)))) context.old context.new) result }
 {
     let Some(line) = first_left_over(linked, found, order) else {
         return Ok(None);
@@ -289,7 +289,7 @@ fn shown_at(alloc: Global, labels: &[Option<Text>], place: usize) -> Result<Opti
     }
 }
 
-/// A copy of the label of the footnote that a label stands in, if there is one.
+/// A copy of the label of the footnote that a label is in, if there is one.
 fn label_in(
     alloc: Global,
     labels: &[Option<Text>],

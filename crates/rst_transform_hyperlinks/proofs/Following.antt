@@ -92,7 +92,7 @@ filled_at found (one ∷ more) answers place within =
 module _ (steps : List (Option Step)) where
   -- ---- as many steps as there are places are enough
 
-  -- how many steps go on before a chain ends, if it does within so many
+  -- how many steps go on before a chain ends, if it does within a number of steps
   abbrev turns : ℕ → Step → ℕ
   turns zero step = 0
   turns (suc n) (Ends answer) = 0
@@ -129,7 +129,7 @@ module _ (steps : List (Option Step)) where
   ranks (x ∷ xs) zero k step at is = rw (eq-eqb k (rank_of x) (sym (ap rank_of at ∙ is))) refl
   ranks (x ∷ xs) (suc place) k step at is = or_true (eqb k (rank_of x)) (list_any (eqb k) (map rank_of xs)) (ranks xs place k step at is)
 
-  -- the chain from a place takes so many steps, and each further on takes fewer: all numbers below are taken too
+  -- each number of steps up to that of a chain from a place is that of a chain from some place
   here : (n place : ℕ) (step : Option Step) → at_place steps place ≡ step → turns n (step_at steps place) < n → n ≤ suc (length steps) → list_any (eqb (turns n (step_at steps place))) (map rank_of steps) ≡ true
   here n place None at over low = absurd (omega (arith, over, lost n place at))
   here n place (Some step) at over low =
@@ -182,7 +182,7 @@ module _ (steps : List (Option Step)) where
   at_step : (place : ℕ) (step : Step) → at_place steps place ≡ Some step → answer_of steps (at_place steps place) ≡ Some (end place)
   at_step place step at = ap (answer_of steps) at ∙ sym (ap (λ s. Some (comes_to steps (length steps) (unwrap_or s (To place)))) at)
 
-  -- a chain goes on from each of some places to one of them, or to the one behind them
+  -- a chain goes on from each of some places to one of them, or to the one after them
   abbrev GoesOn : List ℕ → ℕ → ℕ → Type 0
   GoesOn chain last place = (next : ℕ) × (at_place steps place ≡ Some (To next)) × (among next chain ⊎ (next ≡ last)) × (end place ≡ end last)
 

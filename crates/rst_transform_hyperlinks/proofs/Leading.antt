@@ -13,20 +13,20 @@ use Rattle.rst_transform_work.specs.Lists.{at_place}
 use Rattle.rst_transform_work.specs.Reports.{KeepsRest}
 use Rattle.rst_transform_work.proofs.Holding.{holds_reports}
 use Rattle.rst_transform_hyperlinks.specs.declared.chains.Answer.{Answer}
-use Rattle.rst_transform_hyperlinks.specs.Indirect.{indirect_outcomes, outcomes_from, targets_of, with_reports}
+use Rattle.rst_transform_hyperlinks.specs.Indirect.{indirect_outcomes, outcomes_by, targets_of, with_reports}
 use Rattle.rst_transform_hyperlinks.specs.Chains.{answers_of, steps_of}
 
 -- what is made of linked elements, by their answers and by the targets that they mean
 abbrev made : List Held → List (Option Answer) → List (Option ℕ) → ℕ → List Report → List Outcome × List Report
 made linked answers targets first reports =
-    let told : List (Option ℕ) × List Report = with_reports (at_place answers) first reports 0 linked in (outcomes_from (at_place answers) (at_place told.0) (at_place targets) 0 linked, told.1)
+    let told : List (Option ℕ) × List Report = with_reports (at_place answers) first reports 0 linked in (outcomes_by (at_place answers) (at_place told.0) (at_place targets) linked, told.1)
 
 -- where all answers, messages and targets are found, that is what becomes of the elements
 pub leads_all : (linked : List Held) (before after : Context) (places : Holder → Option ℕ) (answers : List (Option Answer)) (targets reports : List (Option ℕ)) (outcomes : List Outcome)
     → ((holder : Holder) → places holder ≡ holder_place before.serials linked holder) → answers ≡ answers_of (steps_of (held_by before.names) places linked)
     → targets ≡ targets_of (held_by before.names) places linked → reports ≡ (with_reports (at_place answers) before.first_number before.reports.items 0 linked).0
     → after.reports.items ≡ (with_reports (at_place answers) before.first_number before.reports.items 0 linked).1 → KeepsRest before after
-    → outcomes ≡ outcomes_from (at_place answers) (at_place reports) (at_place targets) 0 linked → Makes (indirect_outcomes linked) before after outcomes
+    → outcomes ≡ outcomes_by (at_place answers) (at_place reports) (at_place targets) linked → Makes (indirect_outcomes linked) before after outcomes
 leads_all linked before after places answers targets reports outcomes stand answered meant told reported rest become known h =
     let held : held_by before.names ≡ known.names = λ i name. h.names name i in
     let standing : places ≡ holder_place known.serials linked = λ i holder. (stand holder ∙ ap (λ (n : ℕ). holder_place n linked holder) h.serials) i in
@@ -35,6 +35,6 @@ leads_all linked before after places answers targets reports outcomes stand answ
     let same : made linked answers targets before.first_number before.reports.items
     ≡ made linked (answers_of (steps_of known.names (holder_place known.serials linked) linked)) (targets_of known.names (holder_place known.serials linked) linked) known.first_number known.reports =
     λ i. made linked (are i) (mean i) (h.first_number i) (h.reports i) in (
-      become ∙ ap (λ (rs : List (Option ℕ)). outcomes_from (at_place answers) (at_place rs) (at_place targets) 0 linked) told ∙ ap (λ (done : List Outcome × List Report). done.0) same,
+      become ∙ ap (λ (rs : List (Option ℕ)). outcomes_by (at_place answers) (at_place rs) (at_place targets) linked) told ∙ ap (λ (done : List Outcome × List Report). done.0) same,
       holds_reports before after known _ h rest (reported ∙ ap (λ (done : List Outcome × List Report). done.1) same),
     )

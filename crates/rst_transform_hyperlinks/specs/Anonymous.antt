@@ -81,7 +81,7 @@ mismatch references targets = codes "Anonymous hyperlink mismatch: " ++ (decimal
 abbrev pub failing : ℕ → Node → Outcome
 failing report node = if is_anonymous_reference node then Fails report else adds None
 
--- What becomes of linked elements. Where there aren't as many of the ones as of the others, an ERROR comes behind the other messages, and the
+-- What becomes of linked elements. Where there aren't as many of the ones as of the others, an ERROR comes after the other messages, and the
 -- references fail for it.
 abbrev pub anonymous_outcomes : List Held → Known → List Outcome × Known
 anonymous_outcomes linked known =

@@ -67,7 +67,7 @@ steps_of known places linked = map (λ one. own_step known places linked one.0) 
 abbrev pub step_at : List (Option Step) → ℕ → Step
 step_at steps place = unwrap_or (at_place steps place) (To place)
 
--- what a chain comes to that begins with a step: its end, within so many steps; where these are too few, it goes round in a circle
+-- what a chain comes to that begins with a step, within a number of steps: its end, or a circle if these are too few
 abbrev pub comes_to : List (Option Step) → ℕ → Step → Answer
 comes_to steps zero step = Circular
 comes_to steps (suc more) (Ends answer) = answer

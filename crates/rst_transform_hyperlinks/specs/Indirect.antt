@@ -1,5 +1,6 @@
 -- Indirect targets, which lead where the names that they refer to lead (Markup Specification, 'Hyperlink Targets').
-use Rattle.std.specs.Prelude.{ℕ, ◌+◌, Bool, true, false, List, [], ◌∷◌, ◌++◌, codes, drop, length, if◌then◌else◌, is_some, option_and_then, slice_get, unwrap_or, Option, Some, None}
+use Rattle.std.specs.Prelude.{ℕ, ◌+◌, Bool, true, false, List, [], ◌∷◌, ◌++◌, codes, drop, length, map, if◌then◌else◌, is_some, option_and_then, slice_get, unwrap_or, Option, Some, None}
+use Rattle.std.specs.List.{enumerate_from}
 use Rattle.rst_transform_names.specs.declared.names.NameEntry.{NameEntry}
 use Rattle.rst_transform_names.specs.declared.names.Holder.{Holder}
 use Rattle.rst_tree.specs.declared.key.Key.TheVariants.{Anonymous, OwnName, Refname}
@@ -40,7 +41,7 @@ failure name (Some Circular) = Some (circle_text name)
 abbrev pub failure_of : Node → Option Answer → Option (List ℕ)
 failure_of node answer = failure (unwrap_or (text_said OwnName node) []) answer
 
--- an ERROR comes behind the other messages, if an element fails; its place among them is given
+-- an ERROR comes after the other messages, if an element fails; its place among them is given
 abbrev pub with_report : ℕ → List Report → Node → Option (List ℕ) → Option ℕ × List Report
 with_report first reports node None = (None, reports)
 with_report first reports node (Some text) = (Some (length reports), reports ++ next_report first reports Error (line_of node) text true ∷ [])
@@ -99,21 +100,20 @@ abbrev pub outcome_or : Option Answer → Outcome → Outcome
 outcome_or (Some answer) other = led answer
 outcome_or None other = other
 
-abbrev pub outcome_at : (ℕ → Option Answer) → (ℕ → Option ℕ) → Node → Option ℕ → ℕ → Outcome
-outcome_at answers reports node target place = outcome_or (answers place) (outcome_through answers reports node target)
+-- what becomes of the element at a place
+abbrev pub outcome_at : (ℕ → Option Answer) → (ℕ → Option ℕ) → (ℕ → Option ℕ) → ℕ × Held → Outcome
+outcome_at answers reports targets (place, one) = outcome_or (answers place) (outcome_through answers reports one.0 (targets place))
 
--- what becomes of some elements, of which the first is at a place
-abbrev pub outcomes_from : (ℕ → Option Answer) → (ℕ → Option ℕ) → (ℕ → Option ℕ) → ℕ → List Held → List Outcome
-outcomes_from answers reports targets place [] = []
-outcomes_from answers reports targets place (one ∷ more) = outcome_at answers reports one.0 (targets place) place ∷ outcomes_from answers reports targets (place + 1) more
+abbrev pub outcomes_by : (ℕ → Option Answer) → (ℕ → Option ℕ) → (ℕ → Option ℕ) → List Held → List Outcome
+outcomes_by answers reports targets linked = map (outcome_at answers reports targets) (enumerate_from 0 linked)
 
--- What becomes of linked elements. Each indirect target leads where its answer says. Where that is nowhere, an ERROR comes behind the other
+-- What becomes of linked elements. Each indirect target leads where its answer says. Where that is nowhere, an ERROR comes after the other
 -- messages, and the references to the target fail for it.
 abbrev pub indirect_outcomes : List Held → Known → List Outcome × Known
 indirect_outcomes linked known =
     let places : Holder → Option ℕ = holder_place known.serials linked in
     let answers : ℕ → Option Answer = at_place (answers_of (steps_of known.names places linked)) in
     let reports : List (Option ℕ) × List Report = with_reports answers known.first_number known.reports 0 linked in (
-      outcomes_from answers (at_place reports.0) (at_place (targets_of known.names places linked)) 0 linked,
+      outcomes_by answers (at_place reports.0) (at_place (targets_of known.names places linked)) linked,
       record known { reports = reports.1 },
     )

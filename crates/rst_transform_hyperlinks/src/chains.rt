@@ -121,7 +121,7 @@ fn next_on(steps: &[Option<Step>], answers: &[Option<Answer>], place: usize) -> 
     }
 }
 
-/// The answer at a place where a chain stops; where there is none, no indirect target stands.
+/// The answer at a place where a chain stops; there is none where there is no indirect target.
 fn found_at(alloc: Global, answers: &[Option<Answer>], place: usize) -> Result<Answer, TreeFault>
     ensures { Gives (λ found. found ≡ unwrap_or (at_place answers.now place) Circular) result }
 {

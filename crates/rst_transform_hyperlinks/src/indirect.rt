@@ -5,7 +5,7 @@ ghost use Rattle.rst_tree.specs.declared.key.Key.TheVariants.{OwnName};
 ghost use Rattle.rst_transform_names.specs.Names.{held_by};
 ghost use Rattle.rst_transform_links.specs.Holders.{holding, place_at};
 ghost use Rattle.rst_transform_links.specs.LinkTransforms.{link_changes};
-ghost use Rattle.rst_transform_hyperlinks.specs.Indirect.{anonymous_from, circle_text, failure_of, indirect_outcomes, is_reference_node, led, missing_text, named_place, outcome_at, outcome_through, outcomes_from, targets_from, targets_of, with_report, with_reports};
+ghost use Rattle.rst_transform_hyperlinks.specs.Indirect.{anonymous_from, circle_text, failure_of, indirect_outcomes, is_reference_node, led, missing_text, named_place, outcome_or, outcome_through, outcomes_by, targets_from, targets_of, with_report, with_reports};
 ghost use Rattle.rst_transform_hyperlinks.specs.Chains.{element_at, has_holder, indirect_name, is_indirect, own_step, step_by, step_to, steps_of};
 ghost use Rattle.rst_transform_hyperlinks.specs.declared.chains.Answer.TheVariants.{Missing};
 ghost use Rattle.rst_transform_hyperlinks.specs.declared.chains.Step.TheVariants.{Ends};
@@ -413,7 +413,7 @@ fn outcome_at(
     target: Option<usize>,
     place: usize,
 ) -> Result<Outcome, TreeFault>
-    ensures { Gives (λ outcome. outcome ≡ outcome_at (at_place answers.now) (at_place reports.now) node.now target place) result }
+    ensures { Gives (λ outcome. outcome ≡ outcome_or (at_place answers.now place) (outcome_through (at_place answers.now) (at_place reports.now) node.now target)) result }
 {
     match answer_at(answers, place) {
         Some(answer) => led(alloc, answer),
@@ -429,7 +429,7 @@ fn outcomes(
     reports: &[Option<usize>],
     targets: &[Option<usize>],
 ) -> Result<Vec<Outcome>, TreeFault>
-    ensures { Gives (λ outcomes. outcomes.items ≡ outcomes_from (at_place answers.now) (at_place reports.now) (at_place targets.now) 0 (map held linked.now)) result }
+    ensures { Gives (λ outcomes. outcomes.items ≡ outcomes_by (at_place answers.now) (at_place reports.now) (at_place targets.now) (map held linked.now)) result }
 {
     let mut outcomes = Vec::with_capacity(alloc, linked.len())?;
     for (place, one) in linked.iter().enumerate() {

@@ -72,10 +72,11 @@ pub fn indirect()
     ensures places_of_messages { (with_reports (λ place. if nat_eq place 1 then None else Some Circular) 0 [] 0 (linked_of (document_of (element Target [] []
         ∷ element Target [] [] ∷ element Target [] [] ∷ [])))).0
         ≡ Some 0 ∷ None ∷ Some 1 ∷ [] }
-    ensures target { outcome_at (λ place. Some (Leads (says Refuri "u"))) (λ place. None) (element Target (says Refname "b" ∷ []) []) None 0
+    ensures target { outcome_at (λ place. Some (Leads (says Refuri "u"))) (λ place. None) (λ place. None) (0, (element Target (says Refname "b" ∷ []) [], None))
         ≡ adds (Some (says Refuri "u")) }
-    ensures failed_target { outcome_at (λ place. Some Circular) (λ place. Some 0) (element Target (says Refname "b" ∷ []) []) None 0 ≡ adds None }
-    ensures reference_to_a_failed_one { outcome_at (λ place. None) (λ place. Some 4) (element Reference [] []) (Some 1) 0 ≡ Fails 4 }
+    ensures failed_target { outcome_at (λ place. Some Circular) (λ place. Some 0) (λ place. None) (0, (element Target (says Refname "b" ∷ []) [], None))
+        ≡ adds None }
+    ensures reference_to_a_failed_one { outcome_at (λ place. None) (λ place. Some 4) (λ place. Some 1) (0, (element Reference [] [], None)) ≡ Fails 4 }
 {}
 
 /// Indirect targets lead where their chains of names end (Markup Specification, 'Hyperlink Targets').

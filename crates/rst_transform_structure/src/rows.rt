@@ -22,12 +22,12 @@ ghost use Rattle.rst_transform_structure.specs.Written.{held, known_from};
 
 /// A lone section's title becomes the document's, and that of a lone subsection the subtitle (Markup Specification, 'Document Title').
 pub fn titles()
-    ensures title { Shows (titled (document_of (element Section (lists Ids ("a" ∷ []) ∷ lists Names ("a" ∷ []) ∷ []) (element Title [] (text "A"
-        ∷ []) ∷ paragraph "b" ∷ []) ∷ [])))
+    ensures title { Shows (with_title (document_of (element Section (lists Ids ("a" ∷ []) ∷ lists Names ("a" ∷ []) ∷ []) (element Title [] (text "A"
+        ∷ []) ∷ paragraph "b" ∷ []) ∷ [])) (known_from 0 [])).0
         ("<document ids=\"a\" names=\"a\" title=\"A\">" ∷ "    <title>" ∷ "        A" ∷ "    <paragraph>" ∷ "        b" ∷ []) }
-    ensures subtitle { Shows (titled (document_of (element Section (lists Ids ("a" ∷ []) ∷ []) (element Title [] (text "A" ∷ [])
+    ensures subtitle { Shows (with_title (document_of (element Section (lists Ids ("a" ∷ []) ∷ []) (element Title [] (text "A" ∷ [])
         ∷ element Section (lists Dupnames ("b" ∷ []) ∷ lists Ids ("b" ∷ []) ∷ []) (element Title [] (text "B" ∷ []) ∷ paragraph "c" ∷ []) ∷ [])
-        ∷ [])))
+        ∷ [])) (known_from 0 [])).0
         ("<document ids=\"a\" title=\"A\">" ∷ "    <title>" ∷ "        A" ∷ "    <subtitle dupnames=\"b\" ids=\"b\">" ∷ "        B"
         ∷ "    <paragraph>" ∷ "        c" ∷ []) }
     ensures no_third { Shows (titled (document_of (element Section [] (element Title [] [] ∷ element Section [] (element Title [] []
@@ -41,8 +41,8 @@ pub fn titles()
         ("<document title=\"\">" ∷ "    <title>" ∷ "    <subtitle>" ∷ "    <system_message line=\"1\">" ∷ []) }
     ensures after_a_paragraph { Shows (titled (document_of (paragraph "a" ∷ element Section [] (element Title [] [] ∷ []) ∷ [])))
         ("<document>" ∷ "    <paragraph>" ∷ "        a" ∷ "    <section>" ∷ "        <title>" ∷ []) }
-    ensures two_sections { Shows (titled (document_of (element Section [] (element Title [] [] ∷ []) ∷ element Section [] (element Title [] [] ∷ [])
-        ∷ [])))
+    ensures two_sections { Shows (with_title (document_of (element Section [] (element Title [] [] ∷ []) ∷ element Section [] (element Title [] [] ∷ [])
+        ∷ [])) (known_from 0 [])).0
         ("<document>" ∷ "    <section>" ∷ "        <title>" ∷ "    <section>" ∷ "        <title>" ∷ []) }
     ensures comment_after_it { Shows (titled (document_of (element Section [] (element Title [] [] ∷ []) ∷ element Comment [] [] ∷ [])))
         ("<document>" ∷ "    <section>" ∷ "        <title>" ∷ "    <comment>" ∷ []) }
@@ -149,6 +149,8 @@ pub fn transitions()
         ("<document>" ∷ "    <section>" ∷ "        <title>" ∷ "        <paragraph>" ∷ "            a" ∷ "        <transition>"
         ∷ "        <system_message level=\"3\" line=\"1\" type=\"ERROR\">" ∷ "            <paragraph>"
         ∷ "                Document may not end with a transition." ∷ []) }
+    ensures in_a_quote { Shows (with_transitions (document_of (element BlockQuote [] (element Transition [] [] ∷ []) ∷ paragraph "a" ∷ [])) (known_from 0 [])).0
+        ("<document>" ∷ "    <block_quote>" ∷ "        <transition>" ∷ "    <paragraph>" ∷ "        a" ∷ []) }
     ensures numbers { map (λ r. r.number) (with_transitions (document_of (element Transition [] [] ∷ element Transition [] [] ∷ [])) (known_from 4 [])).1.reports
         ≡ 4 ∷ 5 ∷ 6 ∷ [] }
 {}
