@@ -1,3 +1,5 @@
 pub mod Computing
 pub mod Skipping
 pub mod Left
+pub mod Looking
+pub mod Sequence

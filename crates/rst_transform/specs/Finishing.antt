@@ -22,7 +22,7 @@ use Rattle.rst_transform_docinfo.specs.Docinfo.{with_docinfo}
 use Rattle.rst_transform_messages.specs.Filtered.{with_filtered}
 use Rattle.rst_transform_messages.specs.Listed.{report_said}
 use Rattle.rst_transform_messages.specs.Messages.{is_number_shown, notes_of, until_halt, Numbered}
-use Rattle.rst_transform_messages.specs.MessagesIn.{messages_in}
+use Rattle.rst_transform_messages.specs.MessagesIn.{messages_among}
 use Rattle.rst_transform.specs.declared.finishing.Finished.{Finished}
 use Rattle.rst_transform.specs.Linking.{with_links}
 
@@ -62,7 +62,7 @@ sectioned messages profile settings r =
 
 -- the messages in a registered document, and then those of the transforms
 abbrev pub all_messages : Registration → List Report → List Numbered
-all_messages r reports = messages_in r.root ++ map report_said reports
+all_messages r reports = messages_among (document_in r.root).children ++ map report_said reports
 
 -- What is left of a document that was parsed, in which so many numbers were given to messages: the document as it is shown, and the list of
 -- messages, up to the first that halts the run.

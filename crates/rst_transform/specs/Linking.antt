@@ -10,7 +10,7 @@ use Rattle.rst_transform_links.specs.LinkTransforms.{link_changes}
 use Rattle.rst_transform_hyperlinks.specs.Anonymous.{anonymous_outcomes}
 use Rattle.rst_transform_hyperlinks.specs.Indirect.{indirect_outcomes}
 use Rattle.rst_transform_footnotes.specs.Footnotes.{footnote_outcomes}
-use Rattle.rst_transform_references.specs.Resolved.{reference_outcomes}
+use Rattle.rst_transform_references.specs.Resolving.{reference_outcomes}
 use Rattle.rst_transform.specs.declared.linking.LinkTransform.{LinkTransform}
 use Rattle.rst_transform.specs.declared.linking.LinkTransform.TheVariants.{Anonymous, Indirect, Footnotes, References}
 

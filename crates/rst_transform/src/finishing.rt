@@ -136,7 +136,8 @@ fn transformed(
     let titled = with_title(alloc, retargeted, context, settings.title)?;
     let informed = with_info(alloc, titled, context, settings.info)?;
     let linked = resolve_links(alloc, informed, context)?;
-    transitions(alloc, linked, context)
+    let after = transitions(alloc, linked, context)?;
+    Ok(after)
 }
 
 /// A document whose substitution references are replaced, and whose internal targets handed on their ids and names. Most have neither.
@@ -151,7 +152,8 @@ fn with_early(
         return Ok(document);
     }
     let expanded = expand(alloc, document, context)?;
-    targets(alloc, expanded, context)
+    let retargeted = targets(alloc, expanded, context)?;
+    Ok(retargeted)
 }
 
 /// A document with its title, if that is asked for.

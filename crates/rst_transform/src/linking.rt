@@ -1,5 +1,5 @@
 //! The transforms of links, in order.
-ghost use Rattle.std.specs.Prelude.{map};
+ghost use Rattle.std.specs.Prelude.{◌<◌, ◌≤◌, length, map};
 ghost use Rattle.rst_tree.specs.Faults.{Gives};
 ghost use Rattle.rst_transform_links.specs.Linkings.{held};
 ghost use Rattle.rst_transform_links.specs.LinkTransforms.{link_changes};
@@ -62,8 +62,9 @@ fn resolve_by(
     let linked = linked_in(alloc, &document)?;
     let (changes, done) = first_changes(alloc, context, linked.as_slice(), transforms)?;
     drop(linked);
-    let document = with_changes(alloc, document, changes)?;
-    resolve_by(alloc, document, context, &transforms[done..])
+    let changed = with_changes(alloc, document, changes)?;
+    let after = resolve_by(alloc, changed, context, &transforms[done..])?;
+    Ok(after)
 }
 
 /// What the first of some transforms makes of linked elements that doesn't leave all as they are, and how many are done then.
@@ -73,17 +74,19 @@ fn first_changes(
     linked: &[Linked<'_>],
     transforms: &[LinkTransform],
 ) -> Result<(Changes, usize), TreeFault>
-    ensures { Gives (λ done. Makes (first_changes transforms.now (map held linked.now)) context.old context.new (done.0, done.1)) result }
+    ensures changes { Gives (λ done. Makes (first_changes transforms.now (map held linked.now)) context.old context.new (done.0, done.1)) result }
+    ensures some { Gives (λ done. 0 < length transforms.now → 0 < done.1) result }
+    ensures fits { Gives (λ done. done.1 ≤ length transforms.now) result }
 {
-    let mut done = 0;
-    for transform in transforms {
-        let changes = changes_by(alloc, context, linked, *transform)?;
-        done += 1;
-        if !changes.are_idle() {
-            return Ok((changes, done));
-        }
+    let Some((first, more)) = transforms.split_first() else {
+        return Ok((Changes::of(Vec::new(alloc)), 0));
+    };
+    let changes = changes_by(alloc, context, linked, *first)?;
+    if !changes.are_idle() {
+        return Ok((changes, 1));
     }
-    Ok((Changes::of(Vec::new(alloc)), done))
+    let (changes, done) = first_changes(alloc, context, linked, more)?;
+    Ok((changes, done + 1))
 }
 
 /// What a transform makes of linked elements.

@@ -19,16 +19,20 @@ pub fn has_early(nodes: &Children) -> bool
     ensures { result ≡ list_any is_early (items nodes.now) }
 {
     for node in nodes.as_slice() {
-        if let Node::Element {
+        let Node::Element {
             tag,
             attrs,
             children,
             ..
         } = node
-        {
-            if is_early(*tag, attrs) || has_early(children) {
-                return true;
-            }
+        else {
+            continue;
+        };
+        if is_early(*tag, attrs) {
+            return true;
+        }
+        if has_early(children) {
+            return true;
         }
     }
     false

@@ -30,7 +30,7 @@ abbrev pub replaced : ℕ → List Report → Node → List Node × List Report
 replaced first reports (Element t a c l) = let all = list_gathered first reports c in (first_named a (docinfo_nodes l all), all.reports)
 replaced first reports (Text t) = ([], reports)
 
--- whether a node may stand before the field list: a title, a subtitle, a comment, a target, a substitution definition or a message
+-- whether a node may come before the field list: a title, a subtitle, a comment, a target, a substitution definition or a message
 abbrev pub may_lead : Node → Bool
 may_lead n = is_title n || may_precede n
 
@@ -48,11 +48,11 @@ list_in (Some (Element t a c l)) = if is_field_list t then Some (Element t a c l
 list_in (Some (Text t)) = None
 list_in None = None
 
--- the field list of a document's nodes, if the first that may not stand before one is one
+-- the field list of a document's nodes, if the first that may not come before one is one
 abbrev pub leading_list : List Node → Option Node
 leading_list nodes = list_in (slice_get nodes (list_place nodes))
 
--- nodes with others behind the titles that stand first
+-- nodes with others after the titles that come first
 abbrev pub behind_titles : List Node → List Node → List Node
 behind_titles more nodes = let titles = prefix_len is_title nodes in take titles nodes ++ (more ++ drop titles nodes)
 

@@ -14,14 +14,14 @@ use rst_transform_work::{Context, Document, add_names, is_title, may_precede};
 use rst_tree::{Attrs, Children, Node, Tag, TreeFault};
 use std::alloc::Global;
 
-/// Whether a node may stand before the field list.
+/// Whether a node may come before the field list.
 fn may_lead(node: &Node) -> bool
     ensures { result ≡ may_lead node.now }
 {
     is_title(node) || may_precede(node)
 }
 
-/// How many nodes stand before the first that may not precede the field list.
+/// How many nodes come before the first that may not precede the field list.
 fn list_place(nodes: &[Node]) -> usize
     ensures { result ≡ list_place nodes.now }
 {
@@ -33,7 +33,7 @@ fn list_place(nodes: &[Node]) -> usize
     nodes.len()
 }
 
-/// How many titles stand first.
+/// How many titles come first.
 fn title_count(nodes: &[Node]) -> usize
     ensures { result ≡ prefix_len is_title nodes.now }
 {
@@ -149,7 +149,7 @@ fn with_bibliography(
 }
 
 /// Takes a field list out that is the first node of the document but for titles, comments, targets, substitution definitions
-/// and messages. What its fields become stands directly behind the titles: the `docinfo`, the dedication and the abstract
+/// and messages. What its fields become comes directly after the titles: the `docinfo`, the dedication and the abstract
 /// (Markup Specification, 'Bibliographic Fields').
 ///
 /// A bibliographic field that isn't in its form stays a field, with a WARNING as the last node in its body. Any other field

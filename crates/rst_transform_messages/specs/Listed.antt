@@ -10,7 +10,7 @@ pub record Lists (all : List Numbered) (list : Messages) : Type 0 where
   pub notes : list.notes.items ≡ until_halt list.halt (notes_of all)
   pub shown : (n : ℕ) → marked list.shown.items n ≡ is_number_shown list.report all n
 
--- the list holds more messages, behind those that it held
+-- the list holds more messages, after those that it held
 abbrev pub Adds : List Numbered → Messages → Messages → Type 0
 Adds more old new = (all : List Numbered) → Lists all old → Lists (all ++ more) new
 

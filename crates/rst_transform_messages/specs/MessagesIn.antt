@@ -1,4 +1,4 @@
--- The messages that stand in a document (Document Tree, 'system_message').
+-- The messages in a document (Document Tree, 'system_message').
 use Rattle.std.specs.Prelude.{ℕ, max, List, [], ◌∷◌, ◌++◌, if◌then◌else◌, slice_get, option_map}
 use Rattle.rst_tree.specs.declared.attrs.Attr.{Attr}
 use Rattle.rst_tree.specs.declared.key.Key.TheVariants.{Message}

@@ -139,7 +139,7 @@ impl Messages {
     }
 
     /// Whether the message of each number is shown, once all messages were added. No transform takes a message out of a
-    /// document, so those that are stand in it.
+    /// document, so those that are shown are in it.
     pub fn shown(&self) -> &[bool]
         ensures { (all : List Numbered) → Lists all self.now → (n : ℕ) → marked result.now n ≡ is_number_shown self.now.report all n }
     {

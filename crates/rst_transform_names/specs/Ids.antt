@@ -20,7 +20,7 @@ numbered base n = (base ++ codes "-") ++ decimal n
 abbrev pub number_in : List ℕ → Option ℕ
 number_in digits = let n = digits_value 10 digits in if bytes_eq digits (decimal n) && (nat_lt 0 n && nat_lt n (2 ^ 64)) then Some n else None
 
--- what stands before the last hyphen of an id, and what stands behind it, if it has one
+-- what comes before the last hyphen of an id, and what comes after it, if it has one
 abbrev pub parts_from : ℕ → List ℕ → Option (List ℕ × List ℕ) → Option (List ℕ × List ℕ)
 parts_from c cs None = if c == 45 then Some ([], cs) else None
 parts_from c cs (Some parts) = Some (c ∷ parts.0, parts.1)
@@ -29,7 +29,7 @@ abbrev pub parts_of : List ℕ → Option (List ℕ × List ℕ)
 parts_of [] = None
 parts_of (c ∷ cs) = parts_from c cs (parts_of cs)
 
--- the same where a number stands behind it
+-- the same where a number comes after it
 abbrev pub numbered_part : List ℕ × List ℕ → Option (List ℕ × ℕ)
 numbered_part parts = option_map (λ n. (parts.0, n)) (number_in parts.1)
 
@@ -68,7 +68,7 @@ abbrev pub least_from : (ℕ → Bool) → ℕ → ℕ → ℕ
 least_from test number zero = number
 least_from test number (suc more) = if test number then least_from test (number + 1) more else number
 
--- where these ids are taken, the id of a text and the least number from 1 that makes it free: each taken id stands in the way of one number at most
+-- where these ids are taken, the id of a text and the least number from 1 that makes it free: each taken id hinders one number at most
 abbrev pub least_free : List (List ℕ) → List ℕ → ℕ
 least_free taken base = least_from (λ number. is_among taken (numbered base number)) 1 (length taken)
 

@@ -24,7 +24,7 @@ use std::collections::BTreeMap;
 /// What registration gave an element that may have a name: any but messages and problematics.
 #[derive(Drop)]
 pub struct Standing {
-    /// Its number: how many of these elements stand before it.
+    /// Its number: how many of these elements come before it.
     pub serial: u64,
     /// Its id; a substitution definition has none.
     pub id: Option<Text>,

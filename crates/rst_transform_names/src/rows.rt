@@ -22,7 +22,7 @@ ghost use Rattle.rst_transform_names.specs.Rulings.{ruling_for};
 ghost use Rattle.rst_transform_names.specs.Trees.{counts, document, element, lists, paragraph, says, text, Prints, PrintsRegistered};
 ghost use Rattle.rst_transform_names.specs.Written.{given, left_behind, with_given};
 
-/// What a name gives as an id, and the numbers behind ids that are taken (Directives, 'Identifier Normalization').
+/// What a name gives as an id, and the numbers at the end of ids (Directives, 'Identifier Normalization').
 pub fn ids()
     ensures of_a_name { wanted_id (codes "1. To be") ≡ codes "to-be" }
     ensures of_no_name { wanted_id [] ≡ [] }

@@ -138,7 +138,7 @@ section_steps last ends t a c l inside s none is kept out =
     ended true h = h refl
     ended false h = refl
 
--- behind nodes of which none moves out, or none at all, nodes add their transitions; and none moves out where the document ends
+-- after nodes of which none moves out, or none at all, nodes add their transitions; and none moves out where the document ends
 record All (first : ℕ) (ends : Bool) (s : Siblings) (f : Forest) : Type 0 where
   pub all : all_of (placed_in first ends s f) ≡ all_of s ++ transitions_in (items f)
   pub ended : ends ≡ true → (placed_in first ends s f).moving ≡ []

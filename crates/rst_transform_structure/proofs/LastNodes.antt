@@ -41,6 +41,6 @@ one_more xs now first next i one new is nodes within at put hands =
           ∙ ap (λ ys. ys ++ drop (i + 1) xs) (sym (map-append ids_moved (take i xs) (one ∷ [])) ∙ ap (map ids_moved) more),
     )
 
--- a message that doesn't stand in the section adds nothing
+-- a message that isn't in the section adds nothing
 pub none_added : (nodes : Forest) (one : Report) → one.own ≡ false → nodes ≡ forest_of (nodes_of nodes ++ own_nodes (one ∷ []))
 none_added nodes one none = rw none (sym (ap forest_of (append-nil (nodes_of nodes)) ∙ forest_of-nodes_of nodes))

@@ -117,7 +117,7 @@ without_targets d context none =
     makes_names _ (passed (after next_reached changed_at (idle ts) (items d.children)).got) context context d (ap (λ f. record d { children = f }) (sym (none_changed ts d.children none)))
     (subst (λ g. Passes g context.names context.names) (sym got) (λ held are. are)) refl
 
--- texts put behind others that stand the last first
+-- texts put after others whose last comes first
 pub reversed_behind : (xs ys : List (List ℕ)) → reverse (xs ++ reverse ys) ≡ ys ++ reverse xs
 reversed_behind xs ys = reverse-append xs (reverse ys) ∙ ap (λ zs. zs ++ reverse xs) (reverse-reverse ys)
 

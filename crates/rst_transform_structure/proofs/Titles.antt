@@ -1,78 +1,51 @@
 -- Lone sections, and the names that move with their titles.
-use Rattle.std.proofs.Common.{◌≡◌, ◌∙◌, ℕ, ◌+◌, ◌<◌, List, [], ◌∷◌, ◌++◌, length, get_or, take, Bool, true, false, ◌&&◌, Option, Some, None, refl, ap, sym, subst}
+use Rattle.std.proofs.Common.{◌≡◌, ◌∙◌, ℕ, ◌+◌, ◌-◌, ◌<◌, List, [], ◌∷◌, ◌++◌, length, get_or, take, slice_get, Bool, true, false, Some, None, refl, ap, ap₂, sym, subst, arith}
 use Rattle.std.specs.Prelude.{if◌then◌else◌, option_map, Result, Ok, Err}
 use Rattle.std.specs.List.{list_all}
-use Rattle.std.proofs.lemmas.List.{map-append, take_more}
+use Rattle.std.proofs.lemmas.List.{length-append, map-append, take_more}
+use Rattle.std.proofs.lemmas.Option.{slice_get-get_or}
+use Rattle.std.proofs.Math.Seq.{get_or-append_seam, take-append_seam}
 use Rattle.rst_transform_names.specs.Names.{held_by, moved, Knows}
 use Rattle.rst_transform_names.specs.declared.names.Names.{Names}
 use Rattle.rst_transform_names.specs.declared.names.Holder.TheVariants.{Unregistered}
-use Rattle.rst_tree.proofs.Changes.{forest_of-nodes_of}
+use Rattle.rst_tree.proofs.Changes.{nodes_of-forest_of}
 use Rattle.rst_tree.specs.declared.fault.TreeFault.{TreeFault}
 use Rattle.rst_tree.specs.declared.fault.TreeFault.TheVariants.{NoMemory}
 use Rattle.rst_tree.specs.declared.key.Key.TheVariants.{Names as OfNames}
 use Rattle.rst_tree.specs.declared.node.Node.{Node}
-use Rattle.rst_tree.specs.declared.node.Node.TheVariants.{Element, Text}
 use Rattle.rst_tree.specs.Faults.{Gives}
-use Rattle.rst_tree.specs.Forest.{Forest, bare}
-use Rattle.rst_tree.specs.Nodes.{forest_of, join_node, nodes_of}
+use Rattle.rst_tree.specs.Forest.{Forest}
+use Rattle.rst_tree.specs.Nodes.{forest_of, nodes_of}
 use Rattle.rst_transform_structure.specs.declared.title.Section.{Section}
 use Rattle.rst_transform_work.specs.Lists.{listed}
-use Rattle.rst_transform_structure.specs.Title.{subtitle_names, title_names, behind, section, section_in, lone_section}
+use Rattle.rst_transform_structure.specs.Title.{lone_section, section_after, section_in, subtitle_names, title_names, with_before}
 use Rattle.rst_transform_structure.specs.Passing.{with_number, Passes}
 use Rattle.rst_transform_structure.proofs.Passing.{Passes-more, Passes-then}
 use Rattle.rst_transform_work.specs.Reading.{may_precede}
 
--- nodes in front of the body of a section, if there is one
-all_behind : List Node → Option Section → Option Section
-all_behind [] s = s
-all_behind (x ∷ xs) s = option_map (behind x) (all_behind xs s)
+-- nodes that end in this one
+last_is_lone : (nodes : Forest) (items xs : List Node) (n : Node) → nodes ≡ forest_of items → items ≡ xs ++ n ∷ [] → lone_section nodes ≡ section_after xs (Some n)
+last_is_lone nodes items xs n e f =
+    let all : nodes_of nodes ≡ xs ++ n ∷ [] = ap nodes_of e ∙ nodes_of-forest_of items ∙ f in
+    let place : length (nodes_of nodes) - 1 ≡ length xs = let k = ap length all ∙ length-append xs (n ∷ []) in omega (arith, k) in
+    let last : slice_get (xs ++ n ∷ []) (length xs) ≡ Some n =
+    slice_get-get_or (xs ++ n ∷ []) (length xs) n (let k = length-append xs (n ∷ []) in omega (arith, k)) ∙ ap Some (get_or-append_seam xs n [] n) in
+    ap₂ (λ ys k. section_after (take k ys) (slice_get ys k)) all place ∙ ap₂ section_after (take-append_seam xs (n ∷ [])) last
 
-all_behind-none : (xs : List Node) → all_behind xs None ≡ None
-unfolding all_behind
-all_behind-none [] = refl
-all_behind-none (x ∷ xs) = ap (option_map (behind x)) (all_behind-none xs)
-
-all_behind-some : (xs : List Node) (s : Section) → all_behind xs (Some s) ≡ Some (section s.attrs s.title (forest_of (xs ++ nodes_of s.body)))
-unfolding all_behind
-all_behind-some [] s = ap (λ f. Some (section s.attrs s.title f)) (sym (forest_of-nodes_of s.body))
-all_behind-some (x ∷ xs) s = ap (option_map (behind x)) (all_behind-some xs s)
-
--- a node with others behind it
-in_front : (x y : Node) (r : Forest) → lone_section (join_node x (join_node y r)) ≡ (if may_precede x then option_map (behind x) (lone_section (join_node y r)) else None)
-in_front (Element t a c l) (Element u b d m) r = refl
-in_front (Element t a c l) (Text u) r = refl
-in_front (Text t) y r = refl
-
-both_pass : (b k : Bool) (f : Section → Section) (r s : Option Section) → r ≡ (if k then s else None) → (if b then option_map f r else None) ≡ (if b && k then option_map f s else None)
-both_pass true true f r s e = ap (option_map f) e
-both_pass true false f r s e = ap (option_map f) e
-both_pass false k f r s e = refl
-
--- the last node is a lone section, if it is a section and all before may stand there
-last_is_lone : (xs : List Node) (n : Node) → lone_section (forest_of (xs ++ n ∷ [])) ≡ (if list_all may_precede xs then all_behind xs (section_in n) else None)
-unfolding all_behind
-last_is_lone [] (Element t a c l) = refl
-last_is_lone [] (Text t) = refl
-last_is_lone (x ∷ []) n = in_front x n bare ∙ both_pass (may_precede x) true (behind x) (lone_section (join_node n bare)) (section_in n) (last_is_lone [] n)
-last_is_lone (x ∷ y ∷ more) n =
-    in_front x y (forest_of (more ++ n ∷ []))
-    ∙ both_pass (may_precede x) (list_all may_precede (y ∷ more)) (behind x) (lone_section (forest_of (y ∷ more ++ n ∷ []))) (all_behind (y ∷ more) (section_in n)) (last_is_lone (y ∷ more) n)
-
--- what the lone section of nodes is that end in this one
+-- what their lone section is
 pub passed : (nodes : Forest) (items xs : List Node) (n : Node) (s made : Section) → nodes ≡ forest_of items → items ≡ xs ++ n ∷ [] → list_all may_precede xs ≡ true → section_in n ≡ Some s
-    → made ≡ section s.attrs s.title (forest_of (xs ++ nodes_of s.body)) → lone_section nodes ≡ Some made
-passed nodes items xs n s made e f all is m = rw (e, f, last_is_lone xs n, all, is, m) (all_behind-some xs s)
+    → made ≡ with_before xs s → lone_section nodes ≡ Some made
+passed nodes items xs n s made e f all is m = last_is_lone nodes items xs n e f ∙ (rw (all, is) (ap Some (sym m)))
 
 pub not_passed : (nodes : Forest) (items xs : List Node) (n : Node) → nodes ≡ forest_of items → items ≡ xs ++ n ∷ [] → list_all may_precede xs ≡ false → lone_section nodes ≡ None
-not_passed nodes items xs n e f all = rw (e, f, last_is_lone xs n, all) refl
+not_passed nodes items xs n e f all = last_is_lone nodes items xs n e f ∙ (rw all refl)
 
-none_behind : (b : Bool) (r : Option Section) → r ≡ None → (if b then r else None) ≡ None
-none_behind true r e = e
-none_behind false r e = refl
+either_none : (b : Bool) (xs : List Node) → (if b then option_map (with_before xs) None else None) ≡ None
+either_none true xs = refl
+either_none false xs = refl
 
 pub no_section : (nodes : Forest) (items xs : List Node) (n : Node) → nodes ≡ forest_of items → items ≡ xs ++ n ∷ [] → section_in n ≡ None → lone_section nodes ≡ None
-no_section nodes items xs n e f is =
-    rw (e, f, last_is_lone xs n) (none_behind (list_all may_precede xs) (all_behind xs (section_in n)) (ap (all_behind xs) is ∙ all_behind-none xs))
+no_section nodes items xs n e f is = last_is_lone nodes items xs n e f ∙ (rw is (either_none (list_all may_precede xs) xs))
 
 -- the nodes as they were, once the last is put back
 pub put_back : (nodes back : Forest) (items pushed xs : List Node) (n m : Node) → nodes ≡ forest_of items → items ≡ xs ++ n ∷ [] → m ≡ n → pushed ≡ xs ++ m ∷ [] → back ≡ forest_of pushed → back ≡ nodes

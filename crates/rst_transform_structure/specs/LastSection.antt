@@ -17,7 +17,7 @@ use Rattle.rst_transform_work.specs.declared.document.Document.{Document}
 use Rattle.rst_transform_work.specs.Known.{Known}
 use Rattle.rst_transform_work.specs.Reports.{report_node, without_ids}
 
--- a message stands in the last section and is at or above the report level
+-- a message is in the last section and is at or above the report level
 abbrev pub is_shown : Threshold → Report → Bool
 is_shown report own = own.own && is_reached report (level_number own.level)
 
@@ -25,7 +25,7 @@ is_shown report own = own.own && is_reached report (level_number own.level)
 abbrev pub heading : Node
 heading = Element Title [] (words (codes "Docutils System Messages") bare) 0
 
--- the messages that stand in it, as elements
+-- the messages in it, as elements
 abbrev pub own_nodes : List Report → List Node
 own_nodes reports = map report_node (filter (λ one. one.own) reports)
 
@@ -33,11 +33,11 @@ own_nodes reports = map report_node (filter (λ one. one.own) reports)
 abbrev pub section_of : List Report → Node
 section_of reports = Element Section (attr Classes (Listed (codes "system-messages" ∷ [])) ∷ []) (forest_of (heading ∷ own_nodes reports)) 0
 
--- a message whose ids have moved to its element, if that stands in the section
+-- a message whose ids have moved to its element, if that is in the section
 abbrev pub ids_moved : Report → Report
 ids_moved one = if one.own then without_ids one else one
 
--- the document with one more node behind the others
+-- the document with one more node after the others
 abbrev pub with_last : Node → Document → Document
 with_last n d = record d { children = forest_of (nodes_of d.children ++ n ∷ []) }
 

@@ -1,4 +1,4 @@
--- Internal targets, which hand their ids and names to the elements behind them (reStructuredText Markup Specification, 'Internal
+-- Internal targets, which hand their ids and names to the elements after them (reStructuredText Markup Specification, 'Internal
 -- Hyperlink Targets').
 use Rattle.std.specs.Prelude.{ℕ, List, [], ◌∷◌, ◌++◌, drop, map, slice_get, unwrap_or, Option, Bool, true, false, ◌&&◌, if◌then◌else◌}
 use Rattle.rst_tree.specs.declared.attrs.Attr.{Attr}
@@ -41,11 +41,11 @@ pub record Handed : Type 0 where
 abbrev pub handed : List (List ℕ) → List (List ℕ) → Handed
 handed ids names = record { ids = ids; names = names }
 
--- those of a target with these attributes, and behind them what it got itself
+-- those of a target with these attributes, and after them what it got itself
 abbrev pub handed_by : List Attr → Handed → Handed
 handed_by attrs h = handed (listed Ids attrs ++ h.ids) (listed OfNames attrs ++ h.names)
 
--- the attributes of an element that got ids and names: they stand behind its own
+-- the attributes of an element that got ids and names: they come after its own
 abbrev pub given : Handed → List Attr → List Attr
 given h attrs = with_listed OfNames h.names (with_listed Ids h.ids attrs)
 
@@ -58,7 +58,7 @@ with_refid (id ∷ more) attrs = with_attr Refid (Says id) attrs
 abbrev pub referring : List Attr → List Attr
 referring attrs = with_refid (listed Ids attrs) (without_key Dupnames (without_key OfNames (without_key Ids attrs)))
 
--- What is known at an element in document order: whether it and each one behind it takes ids, what it gets of the target directly before it, and the
+-- What is known at an element in document order: whether it and each one after it takes ids, what it gets of the target directly before it, and the
 -- names that those before it got and keep, each with the element's number.
 pub record Reached : Type 0 where
   pub takers : List Bool
@@ -72,7 +72,7 @@ reached takers handed got = record { takers = takers; handed = handed; got = got
 abbrev pub at_first : List Item → Reached
 at_first xs = reached (takers xs) (handed [] []) []
 
--- A target hands its ids and names to the element directly behind it in document order, if that takes them. An internal target holds no element,
+-- A target hands its ids and names to the element directly after it in document order, if that takes them. An internal target holds no element,
 -- so it is its next sibling, or else the next sibling of the nearest ancestor that has one.
 abbrev pub hands_on : Reached → Item → Bool
 hands_on r x = is_internal x && unwrap_or (slice_get r.takers 1) false

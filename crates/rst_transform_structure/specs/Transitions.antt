@@ -1,4 +1,4 @@
--- The places of transitions, and the messages on those that stand where none may (reStructuredText Markup Specification, 'Transitions').
+-- The places of transitions, and the messages on those in places where none may be (reStructuredText Markup Specification, 'Transitions').
 -- No element but the document and its sections holds a transition.
 use Rattle.std.specs.Prelude.{ℕ, ◌-◌, Bool, true, false, ◌&&◌, not, List, [], ◌∷◌, ◌++◌, length, slice_get, Option, Some, None, if◌then◌else◌, codes}
 use Rattle.std.specs.List.{filter, list_all}
@@ -60,6 +60,7 @@ pub record Siblings : Type 0 where
 abbrev pub so_far : Placed → Context → Siblings
 so_far p context = record { placed = p.nodes.items; moving = p.moving.items; reports = context.reports.items }
 
+-- no node, after these messages
 abbrev pub none_yet : List Report → Siblings
 none_yet reports = record { placed = []; moving = []; reports = reports }
 
@@ -67,7 +68,7 @@ none_yet reports = record { placed = []; moving = []; reports = reports }
 abbrev pub with_node : Node → Siblings → Siblings
 with_node n s = record s { placed = s.placed ++ n ∷ [] }
 
--- one more node, the next message on a transition of this line
+-- one more node, the next message on a transition of this line; the messages have numbers from the first on
 unfoldable pub with_message : ℕ → ℕ → List ℕ → Siblings → Siblings
 with_message first line text s =
     let next = next_report first s.reports Error line text false in record s { placed = s.placed ++ report_node next ∷ []; reports = s.reports ++ next ∷ [] }
@@ -99,7 +100,7 @@ is_last bare = true
 is_last (element t a c l r) = false
 is_last (words t r) = false
 
--- more nodes, behind those that have their places; the document ends with them or goes on
+-- more nodes, after those that have their places; the document ends with them or goes on
 unfoldable pub placed_in : ℕ → Bool → Siblings → Forest → Siblings
 placed_in first ends s bare = s
 placed_in first ends s (words t r) = placed_in first ends (with_node (Text t) s) r

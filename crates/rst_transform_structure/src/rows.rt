@@ -108,7 +108,7 @@ pub fn targets()
         ≡ document_of (element Paragraph [] (element Target (lists Ids ("a" ∷ []) ∷ counts Inline 1 ∷ []) [] ∷ []) ∷ paragraph "b" ∷ []) }
 {}
 
-/// Transitions: those that end a section move out of it, and those that stand where none may get messages (Markup Specification, 'Transitions').
+/// Transitions: those that end a section move out of it, and those in places where none may be get messages (Markup Specification, 'Transitions').
 pub fn transitions()
     ensures between { Shows (with_transitions (document_of (paragraph "a" ∷ element Transition [] [] ∷ paragraph "b" ∷ [])) (known_from 0 [])).0
         ("<document>" ∷ "    <paragraph>" ∷ "        a" ∷ "    <transition>" ∷ "    <paragraph>" ∷ "        b" ∷ []) }

@@ -100,7 +100,7 @@ impl Reader for TakerReader {
 #[derive(Drop)]
 struct Walking {
     alloc: Global,
-    /// For this element and each one behind it whether it takes ids.
+    /// For this element and each one after it whether it takes ids.
     takers: VecDeque<bool>,
     /// The ids that it gets, the last first: so each target adds its own at the end.
     ids: Vec<Text>,
@@ -218,7 +218,7 @@ fn refer(attrs: &mut Attrs, ids: &[Text]) -> Result<(), TreeFault>
     }
 }
 
-/// Puts texts behind others, the last first.
+/// Puts texts after others, the last first.
 fn add_backwards(texts: &mut Vec<Text>, more: &[Text]) -> Result<(), TreeFault>
     ensures { Gives (λ _. texts.new.items ≡ texts.old.items ++ reverse more.now) result }
 {

@@ -3,11 +3,11 @@ ghost use Rattle.std.specs.Prelude.{◌≡◌, ◌++◌, None};
 ghost use Rattle.std.specs.List.{list_all};
 ghost use Rattle.rst_tree.specs.declared.key.Key.TheVariants.{Names as OfNames};
 ghost use Rattle.rst_tree.specs.Faults.{Gives};
-ghost use Rattle.rst_tree.specs.Nodes.{forest_of, join_node, nodes_of};
+ghost use Rattle.rst_tree.specs.Nodes.{join_node};
 ghost use Rattle.rst_transform_work.specs.Known.{Makes};
 ghost use Rattle.rst_transform_work.specs.Lists.{with_names, listed};
 ghost use Rattle.rst_transform_work.specs.Made.{IsMadeOf};
-ghost use Rattle.rst_transform_structure.specs.Title.{lone_section, section_in, subtitle, subtitle_names, subtitled_by, title_attrs, title_names, titled_by, with_title};
+ghost use Rattle.rst_transform_structure.specs.Title.{lone_section, section_in, subtitle, subtitle_names, subtitled_by, title_attrs, title_names, titled_by, with_before, with_title};
 ghost use Rattle.rst_transform_structure.specs.Passing.{with_number, Passes};
 ghost use Rattle.rst_transform_work.specs.Reading.{may_precede};
 
@@ -34,7 +34,7 @@ use std::alloc::Global;
 ///         <comment>
 ///         <paragraph>
 ///
-/// Comments, targets, substitution definitions and messages may stand before the section.
+/// Comments, targets, substitution definitions and messages may come before the section.
 pub fn title(
     alloc: Global,
     document: Document,
@@ -77,7 +77,7 @@ fn titled(
     }
 }
 
-/// The nodes behind a document's title, once the subtitle is the first of them, if it gets one.
+/// The nodes after a document's title, once the subtitle is the first of them, if it gets one.
 fn subtitled(alloc: Global, nodes: Children, names: &mut Names) -> Result<Children, TreeFault>
     ensures nodes { Gives (λ all. all ≡ subtitled_by (lone_section nodes) nodes) result }
     ensures names { Gives (λ _. Passes (with_number None (subtitle_names (lone_section nodes))) names.old names.new) result }
@@ -92,7 +92,7 @@ fn subtitled(alloc: Global, nodes: Children, names: &mut Names) -> Result<Childr
     }
 }
 
-/// The nodes behind one more.
+/// The nodes after one more.
 fn with_first(first: Node, nodes: Children) -> Result<Children, TreeFault>
     ensures { Gives (λ all. all ≡ join_node first nodes) result }
 {
@@ -106,7 +106,7 @@ fn with_first(first: Node, nodes: Children) -> Result<Children, TreeFault>
 struct Section {
     attrs: Attrs,
     title: Node,
-    /// What stands behind the title. That of a lone section begins with what stands before the section.
+    /// What comes after the title. That of a lone section begins with what comes before the section.
     body: Children,
 }
 
@@ -142,9 +142,9 @@ impl Section {
         }
     }
 
-    /// The section with these nodes in front of its body.
+    /// The section with these nodes before its body.
     fn behind(self, before: Vec<Node>) -> Result<Section, TreeFault>
-        ensures { Gives (λ section. section ≡ record self { body = forest_of (before.items ++ nodes_of self.body) }) result }
+        ensures { Gives (λ section. section ≡ with_before before.items self) result }
     {
         let Section { attrs, title, body } = self;
         let mut nodes = before;

@@ -33,8 +33,8 @@ use std::alloc::Global;
 ///     <transition>
 ///     <section>
 ///
-/// One that the document ends with stays, and a message follows it. No element but the document and its sections holds a transition, so nothing
-/// else is gone through.
+/// One that the document ends with stays, and a message follows it. No element but the document and its sections holds a
+/// transition, so nothing else is gone through.
 pub fn transitions(
     alloc: Global,
     document: Document,
@@ -55,7 +55,7 @@ pub fn transitions(
     })
 }
 
-/// The nodes of an element, whose transitions have their places.
+/// The nodes of the document or a section, whose transitions have their places.
 #[derive(Drop)]
 struct Placed {
     nodes: Vec<Node>,

@@ -1,5 +1,4 @@
 pub mod Computing
-pub mod AddingFound
 pub mod Defining
 pub mod Expanding
 pub mod Leading
