@@ -43,7 +43,7 @@ after_first (first ∷ more) document known =
 -- no transform
 pub first_of_none : (transforms : List LinkTransform) (linked : List Held) (context : Context) (changes : List Outcome) → length transforms ≡ 0 → changes ≡ []
     → Makes (first_changes transforms linked) context context (changes, 0)
-first_of_none [] linked context changes none is known h = (ap (λ c. (c, 0)) is, h)
+first_of_none [] linked context changes none is = λ known h. (ap (λ c. (c, 0)) is, h)
 first_of_none (first ∷ more) linked context changes none is = absurd (omega (arith, none))
 
 module _ (transforms more : List LinkTransform) (first : LinkTransform) (linked : List Held) (old mid : Context) (changes : List Outcome) (cut : transforms ≡ first ∷ more)

@@ -38,9 +38,9 @@ returns-clause-finishes c =
     let all : first ++ map report_said c.last_section.new.context.reports.items ≡ all_messages r (after (document_in r.root)).1.reports =
     ap (λ reports. first ++ map report_said reports) done.1.reports in (
       c.into_node.ensures
-      ∙ ap document_node (c.in_ok-shown.ensures.document first listed c.in_ok-list.ensures.report)
-      ∙ ap₂ (λ (all : List Numbered) (d : Document). document_node (with_filtered settings.report (is_number_shown settings.report all) d)) all done.0,
+          ∙ ap document_node (c.in_ok-shown.ensures.document first listed c.in_ok-list.ensures.report)
+          ∙ ap₂ (λ (all : List Numbered) (d : Document). document_node (with_filtered settings.report (is_number_shown settings.report all) d)) all done.0,
       c.end-notes.ensures.notes _ (c.in_ok-shown.ensures.lists first listed)
-      ∙ ap (λ halt. until_halt halt (notes_of (first ++ map report_said c.last_section.new.context.reports.items))) (c.in_ok-shown.ensures.halt ∙ c.in_ok-list.ensures.halt)
-      ∙ ap (λ all. until_halt settings.halt (notes_of all)) all,
+          ∙ ap (λ halt. until_halt halt (notes_of (first ++ map report_said c.last_section.new.context.reports.items))) (c.in_ok-shown.ensures.halt ∙ c.in_ok-list.ensures.halt)
+          ∙ ap (λ all. until_halt settings.halt (notes_of all)) all,
     )
