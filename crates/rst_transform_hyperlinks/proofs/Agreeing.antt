@@ -1,5 +1,5 @@
 -- What becomes of linked elements, by whether there are as many anonymous references as anonymous targets.
-use Rattle.std.proofs.Common.{◌≡◌, ℕ, List, length, map, sym, ◌∙◌, ap, ap₂, true, false, nat_eq}
+use Rattle.std.proofs.Common.{◌≡◌, ℕ, List, [], length, map, sym, ◌∙◌, ap, ap₂, true, false, nat_eq}
 use Rattle.std.proofs.lemmas.List.{length-map}
 use Rattle.rst_tree.specs.declared.note.Level.TheVariants.{Error}
 use Rattle.rst_transform_links.specs.declared.links.Linked.{Linked}
@@ -20,12 +20,21 @@ counts_agree : (linked : List Held) (references targets : List Linked) → map h
     → nat_eq (length references) (length targets) ≡ agree linked
 counts_agree linked references targets is are = ap₂ nat_eq (counted references (anonymous_references linked) is) (counted targets (anonymous_targets linked) are)
 
--- where there are
+-- where there are, and some
 pub paired_all : (linked : List Held) (references targets : List Linked) (context : Context) (outcomes : List Outcome) → map held references ≡ anonymous_references linked → map held targets ≡ anonymous_targets linked
-    → nat_eq (length references) (length targets) ≡ true → outcomes ≡ paired linked (map held targets) → Makes (anonymous_outcomes linked) context context outcomes
-paired_all linked references targets context outcomes is are same become known h =
+    → nat_eq (length references) (length targets) ≡ true → nat_eq (length references) 0 ≡ false → outcomes ≡ paired linked (map held targets) → Makes (anonymous_outcomes linked) context context outcomes
+paired_all linked references targets context outcomes is are same some become known h =
     let all : agree linked ≡ true = sym (counts_agree linked references targets is are) ∙ same in
-    rw all (become ∙ ap (paired linked) are, h)
+    let more : nat_eq (length (anonymous_references linked)) 0 ≡ false = ap (λ n. nat_eq n 0) (sym (counted references (anonymous_references linked) is)) ∙ some in
+    rw (all, more) (become ∙ ap (paired linked) are, h)
+
+-- and where there are none
+pub none_paired : (linked : List Held) (references targets : List Linked) (context : Context) (outcomes : List Outcome) → map held references ≡ anonymous_references linked → map held targets ≡ anonymous_targets linked
+    → nat_eq (length references) (length targets) ≡ true → nat_eq (length references) 0 ≡ true → outcomes ≡ [] → Makes (anonymous_outcomes linked) context context outcomes
+none_paired linked references targets context outcomes is are same none become known h =
+    let all : agree linked ≡ true = sym (counts_agree linked references targets is are) ∙ same in
+    let no_more : nat_eq (length (anonymous_references linked)) 0 ≡ true = ap (λ n. nat_eq n 0) (sym (counted references (anonymous_references linked) is)) ∙ none in
+    rw (all, no_more) (become, h)
 
 -- where there aren't
 pub failed_all : (linked : List Held) (references targets : List Linked) (before after : Context) (outcomes : List Outcome) (report : ℕ) → map held references ≡ anonymous_references linked → map held targets ≡ anonymous_targets linked

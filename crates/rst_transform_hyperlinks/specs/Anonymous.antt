@@ -81,13 +81,13 @@ mismatch references targets = codes "Anonymous hyperlink mismatch: " ++ (decimal
 abbrev pub failing : ℕ → Node → Outcome
 failing report node = if is_anonymous_reference node then Fails report else adds None
 
--- What becomes of linked elements. Where there aren't as many of the ones as of the others, an ERROR comes after the other messages, and the
--- references fail for it.
+-- What becomes of linked elements: nothing if none of them is an anonymous reference or target. Where there aren't as many of the ones as of the
+-- others, an ERROR comes after the other messages, and the references fail for it.
 abbrev pub anonymous_outcomes : List Held → Known → List Outcome × Known
 anonymous_outcomes linked known =
     let references : List Held = anonymous_references linked in
     let targets : List Held = anonymous_targets linked in
-    if agree linked then (paired linked targets, known)
+    if agree linked then ((if nat_eq (length references) 0 then [] else paired linked targets), known)
     else (
       map (λ one. failing (length known.reports) one.0) linked,
       reported Error (first_line references targets) (mismatch (length references) (length targets)) true known,

@@ -1,6 +1,6 @@
 -- Indirect targets, which lead where the names that they refer to lead (Markup Specification, 'Hyperlink Targets').
-use Rattle.std.specs.Prelude.{ℕ, ◌+◌, Bool, true, false, List, [], ◌∷◌, ◌++◌, codes, drop, length, map, if◌then◌else◌, is_some, option_and_then, slice_get, unwrap_or, Option, Some, None}
-use Rattle.std.specs.List.{enumerate_from}
+use Rattle.std.specs.Prelude.{ℕ, ◌+◌, Bool, true, false, List, [], ◌∷◌, ◌++◌, codes, drop, length, map, if◌then◌else◌, is_none, is_some, option_and_then, slice_get, unwrap_or, Option, Some, None}
+use Rattle.std.specs.List.{enumerate_from, list_all}
 use Rattle.rst_transform_names.specs.declared.names.NameEntry.{NameEntry}
 use Rattle.rst_transform_names.specs.declared.names.Holder.{Holder}
 use Rattle.rst_tree.specs.declared.key.Key.TheVariants.{Anonymous, OwnName, Refname}
@@ -11,6 +11,7 @@ use Rattle.rst_tree.specs.Paths.{node_value}
 use Rattle.rst_transform_links.specs.declared.links.Outcome.{Outcome}
 use Rattle.rst_transform_links.specs.declared.links.Outcome.TheVariants.{Fails}
 use Rattle.rst_transform_hyperlinks.specs.declared.chains.Answer.{Answer}
+use Rattle.rst_transform_hyperlinks.specs.declared.chains.Step.{Step}
 use Rattle.rst_transform_hyperlinks.specs.declared.chains.Answer.TheVariants.{Leads, Missing, Circular}
 use Rattle.rst_transform_work.specs.declared.report.Report.{Report}
 use Rattle.rst_transform_hyperlinks.specs.Anonymous.{is_anonymous_reference, is_anonymous_target, is_reference}
@@ -107,13 +108,16 @@ outcome_at answers reports targets (place, one) = outcome_or (answers place) (ou
 abbrev pub outcomes_by : (ℕ → Option Answer) → (ℕ → Option ℕ) → (ℕ → Option ℕ) → List Held → List Outcome
 outcomes_by answers reports targets linked = map (outcome_at answers reports targets) (enumerate_from 0 linked)
 
--- What becomes of linked elements. Each indirect target leads where its answer says. Where that is nowhere, an ERROR comes after the other
--- messages, and the references to the target fail for it.
+-- What becomes of linked elements: nothing if none of them is an indirect target. Each indirect target leads where its answer says. Where that is
+-- nowhere, an ERROR comes after the other messages, and the references to the target fail for it.
 abbrev pub indirect_outcomes : List Held → Known → List Outcome × Known
 indirect_outcomes linked known =
     let places : Holder → Option ℕ = holder_place known.serials linked in
-    let answers : ℕ → Option Answer = at_place (answers_of (steps_of known.names places linked)) in
-    let reports : List (Option ℕ) × List Report = with_reports answers known.first_number known.reports 0 linked in (
+    let steps : List (Option Step) = steps_of known.names places linked in
+    let answers : ℕ → Option Answer = at_place (answers_of steps) in
+    let reports : List (Option ℕ) × List Report = with_reports answers known.first_number known.reports 0 linked in
+    if list_all is_none steps then ([], known)
+    else (
       outcomes_by answers (at_place reports.0) (at_place (targets_of known.names places linked)) linked,
       record known { reports = reports.1 },
     )

@@ -64,6 +64,9 @@ impl LinkTransform for Pairing {
         let references = anonymous_references(alloc, linked)?;
         let targets = anonymous_targets(alloc, linked)?;
         if references.len() == targets.len() {
+            if references.is_empty() {
+                return Ok(Vec::new(alloc));
+            }
             let outcomes = paired(alloc, linked, targets.as_slice())?;
             return Ok(outcomes);
         }

@@ -1,5 +1,6 @@
 //! Indirect targets.
-ghost use Rattle.std.specs.Prelude.{◌≡◌, drop, map, unwrap_or, MatchOption, None, Some, []};
+ghost use Rattle.std.specs.Prelude.{◌≡◌, drop, is_none, map, unwrap_or, MatchOption, None, Some, []};
+ghost use Rattle.std.specs.List.{list_all};
 ghost use Rattle.rst_tree.specs.Faults.{Gives};
 ghost use Rattle.rst_tree.specs.declared.key.Key.TheVariants.{OwnName};
 ghost use Rattle.rst_transform_names.specs.Names.{held_by};
@@ -79,6 +80,9 @@ impl LinkTransform for Following {
     ) -> Result<Vec<Outcome>, TreeFault> {
         let holders = Holders::of(alloc, linked, context.serials)?;
         let steps = first_steps(alloc, &context.names, &holders, linked)?;
+        if are_none(steps.as_slice()) {
+            return Ok(Vec::new(alloc));
+        }
         let targets = targets_of(alloc, &context.names, &holders, linked)?;
         let answers = answers(alloc, steps.as_slice())?;
         let reports = reports(alloc, context, linked, answers.as_slice())?;
@@ -91,6 +95,13 @@ impl LinkTransform for Following {
         )?;
         Ok(outcomes)
     }
+}
+
+/// Whether no element is an indirect target.
+fn are_none(steps: &[Option<Step>]) -> bool
+    ensures { result ≡ list_all is_none steps.now }
+{
+    steps.iter().all(|step| step.is_none())
 }
 
 /// The name that an indirect target refers to.
