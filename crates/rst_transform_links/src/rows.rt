@@ -80,7 +80,7 @@ pub fn outcomes()
         ("<document>" ∷ "    <problematic ids=\"problematic-1\">" ∷ "        `a`_" ∷ "    <reference>" ∷ []) }
 {}
 
-/// Elements that fail (Document Tree, 'problematic').
+/// Elements that fail (Markup Specification, 'Error Handling').
 pub fn failing()
     ensures message_by_message { let known : Known = record {
       ids = [];
@@ -117,7 +117,7 @@ pub fn failing()
         × (map (λ r. r.backrefs) done.1.reports ≡ (codes "problematic-1" ∷ []) ∷ (codes "problematic-2" ∷ []) ∷ []) }
 {}
 
-/// A transform that lets every element fail for one message.
+/// A transform that lets every element fail for one message (Markup Specification, 'Error Handling').
 pub fn changes()
     ensures document { let known : Known = record { ids = codes "problematic-1" ∷ []; names = λ _. None; reports = []; first_number = 5; serials = 0 } in
         let document : Document = document_of (element Footnote (says Rawsource "b" ∷ []) (element Reference [] [] ∷ [])

@@ -80,7 +80,7 @@ pub fn messages()
         map (λ r. r.own) (outcome_of [] (element Reference [] []) Unknown known).1.reports ≡ true ∷ [] }
 {}
 
-/// References by name in a document (Markup Specification, 'Hyperlink References', 'Footnotes').
+/// References by name in a document (Markup Specification, 'Hyperlink References').
 pub fn resolved()
     ensures by_name { let known : Known = record {
       ids = [];

@@ -71,7 +71,7 @@ pub fn messages()
     ensures too_large { fault_text (codes "a") TooLarge ≡ codes "Substitution expansion too large: \"a\"." }
 {}
 
-/// Documents after the transform (Markup Specification, 'Substitution References'; Document Tree, 'problematic').
+/// Documents after the transform (Markup Specification, 'Substitution References').
 pub fn documents()
     ensures replaced { leaves (element Paragraph [] (text "x " ∷ reference "a" ∷ text "." ∷ []) ∷ definition "a" (text "b" ∷ []) ∷ [])
         ≡ element Paragraph [] (text "x " ∷ text "b" ∷ text "." ∷ []) ∷ definition "a" (text "b" ∷ []) ∷ [] }
