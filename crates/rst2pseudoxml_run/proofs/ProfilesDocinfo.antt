@@ -1,17 +1,16 @@
 -- Documents without a leading field list are the same whether bibliographic fields are looked for or not.
-use Rattle.std.proofs.Common.{◌≡◌, ◌∙◌, ℕ, Bool, true, false, List, None, refl, sym, ap, ap₂}
+use Rattle.std.proofs.Common.{◌≡◌, ◌∙◌, ℕ, Bool, true, false, List, None, refl, sym, ap}
 use Rattle.rst_settings.specs.Profile.{Profile}
 use Rattle.rst_settings.specs.declared.Settings.{Settings}
 use Rattle.rst_tree.specs.Nodes.{forest_of, nodes_of}
 use Rattle.rst_tree.proofs.Changes.{forest_of-nodes_of}
 use Rattle.rst_tree.specs.declared.node.Node.{Node}
 use Rattle.rst_tree.specs.declared.note.Note.{Note}
-use Rattle.rst_transform_docinfo.specs.Docinfo.{docinfo_reports, nodes_with, reports_with, with_docinfo}
+use Rattle.rst_transform_docinfo.specs.Docinfo.{nodes_with, with_docinfo}
 use Rattle.rst_transform_names.specs.Registering.{registration, Registration}
 use Rattle.rst_transform_structure.specs.LastSection.{with_last_section}
 use Rattle.rst_transform_structure.specs.Transitions.{with_transitions}
 use Rattle.rst_transform_work.specs.declared.document.Document.{Document}
-use Rattle.rst_transform_work.specs.declared.report.Report.{Report}
 use Rattle.rst_transform_work.specs.Known.{Known}
 use Rattle.rst_transform.specs.Finishing.{all_messages, asked, document_in, known_at_first, leaves, left_of, titled_first}
 use Rattle.rst_transform.specs.Linking.{with_links}
@@ -20,10 +19,10 @@ use Rattle.rst2pseudoxml_run.specs.Profiles.{list_of, titled_of}
 -- a document without such a list stays as it is, and so do the messages
 without_list : (document : Document) (known : Known) → list_of document ≡ None → with_docinfo document known ≡ (document, known)
 without_list document known none =
-    ap₂ (λ (nodes : Document) (reports : List Report). (nodes, record known { reports = reports }))
-    (ap (λ nodes. record document { children = nodes })
-    (ap (λ list. forest_of (nodes_with known.first_number known.reports list (nodes_of document.children))) none ∙ forest_of-nodes_of document.children))
-    (ap (reports_with known.first_number known.reports) none)
+    ap (λ list.
+    let made = nodes_with known.first_number known.reports list (nodes_of document.children) in
+    (record document { children = forest_of made.0 }, record known { reports = made.1 })) none
+    ∙ ap (λ children. (record document { children = children }, known)) (forest_of-nodes_of document.children)
 
 asked_alike : (one other : Bool) (document : Document) (known : Known) → list_of document ≡ None → asked one with_docinfo document known ≡ asked other with_docinfo document known
 asked_alike true true document known none = refl

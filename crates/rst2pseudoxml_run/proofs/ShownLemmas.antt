@@ -10,7 +10,7 @@ use Rattle.rst_tree.specs.declared.node.Node.{Node}
 use Rattle.rst_transform.specs.declared.finishing.Finished.{Finished}
 use Rattle.rst2pseudoxml_run.specs.declared.end.End.{End}
 use Rattle.rst2pseudoxml_run.specs.declared.end.End.TheVariants.{Done, Read, TooLong, NotUtf8, NoMemory, WriteErr, WriteOut, TooDeep}
-use Rattle.rst2pseudoxml_run.specs.Headline.{Headline, Ends, Shows, Takes}
+use Rattle.rst2pseudoxml_run.specs.Headline.{Headline, Ends, IsUnread, Shows, Takes}
 use Rattle.rst2pseudoxml_run.specs.Reading.{read_of, IsMade, IsReadOf, Reads, Refuses}
 use Rattle.rst2pseudoxml_run.specs.Shown.{parts_of, result_of, result_of_read, result_of_text, Parts}
 
@@ -56,15 +56,15 @@ module _ (profile : Profile) (settings : Settings) (source bytes : List ℕ) whe
   refused input out err (WriteOut done) read short refuses no_out no_err = absurd refuses
 
   -- the end of a run whose bytes weren't all read
-  unread : {A : Type 0} (input out err : Stream) (end : End) → Takes {A = A} input bytes (Err end) → Untouched out → Untouched err → Ends Given input out err end
+  unread : (input out err : Stream) (end : End) → IsUnread input bytes end → Untouched out → Untouched err → Ends Given input out err end
   unread input out err TooLong long no_out no_err = (long_result long, no_out, no_err)
   unread input out err Read failed no_out no_err = (failed, no_out, no_err)
-  unread input out err NoMemory takes no_out no_err = (no_out, no_err)
-  unread input out err (NotUtf8 at) takes no_out no_err = absurd takes
-  unread input out err (TooDeep line) takes no_out no_err = absurd takes
-  unread input out err (Done status) takes no_out no_err = absurd takes
-  unread input out err (WriteErr done) takes no_out no_err = absurd takes
-  unread input out err (WriteOut done) takes no_out no_err = absurd takes
+  unread input out err NoMemory ground no_out no_err = (no_out, no_err)
+  unread input out err (NotUtf8 at) ground no_out no_err = absurd ground
+  unread input out err (TooDeep line) ground no_out no_err = absurd ground
+  unread input out err (Done status) ground no_out no_err = absurd ground
+  unread input out err (WriteErr done) ground no_out no_err = absurd ground
+  unread input out err (WriteOut done) ground no_out no_err = absurd ground
 
 -- the end of a run over bytes whose result is some parts
 ends_shown : (result : Result Parts End) (parts : Parts) (input out err : Stream) (end : End)
@@ -78,9 +78,9 @@ ends_shown result parts input out err TooLong read is shows = absurd shows
 ends_shown result parts input out err (NotUtf8 at) read is shows = absurd shows
 ends_shown result parts input out err (TooDeep line) read is shows = absurd shows
 
-module _ {A : Type 0} (profile : Profile) (settings : Settings) (source : List ℕ) (input out err : Stream) where
+module _ (profile : Profile) (settings : Settings) (source : List ℕ) (input out err : Stream) where
   -- a run over bytes of which a document was made
-  pub ends_read : (finished : Finished) (taken : Vec ℕ A) (end : End)
+  pub ends_read : {A : Type 0} (finished : Finished) (taken : Vec ℕ A) (end : End)
       → ((bytes : List ℕ) × HandsOut input bytes × Takes input bytes (Ok taken)) → Reads profile settings taken.items (Ok finished)
       → Shows (parts_of settings source finished.document finished.notes.items) out err end → Headline (result_of profile settings source) input out err end
   ends_read finished taken end (bytes, handed, (read, same, short)) reads shows =
@@ -88,12 +88,12 @@ module _ {A : Type 0} (profile : Profile) (settings : Settings) (source : List �
       (bytes, handed, ends_shown _ _ input out err end read (made_result profile settings source bytes finished short made) shows)
 
   -- one over bytes that were refused
-  pub ends_refused : (taken : Vec ℕ A) (end : End) → ((bytes : List ℕ) × HandsOut input bytes × Takes input bytes (Ok taken)) → Refuses profile settings taken.items end
+  pub ends_refused : {A : Type 0} (taken : Vec ℕ A) (end : End) → ((bytes : List ℕ) × HandsOut input bytes × Takes input bytes (Ok taken)) → Refuses profile settings taken.items end
       → Untouched out → Untouched err → Headline (result_of profile settings source) input out err end
   ends_refused taken end (bytes, handed, (read, same, short)) refuses no_out no_err =
       (bytes, handed, refused profile settings source bytes input out err end read short (subst (λ l. Refuses profile settings l end) same refuses) no_out no_err)
 
   -- one whose bytes weren't all read
-  pub ends_unread : (end : End) → ((bytes : List ℕ) × HandsOut input bytes × Takes {A = A} input bytes (Err end)) → Untouched out → Untouched err
+  pub ends_unread : (end : End) → ((bytes : List ℕ) × HandsOut input bytes × IsUnread input bytes end) → Untouched out → Untouched err
       → Headline (result_of profile settings source) input out err end
-  ends_unread end (bytes, handed, takes) no_out no_err = (bytes, handed, unread profile settings source bytes {A = A} input out err end takes no_out no_err)
+  ends_unread end (bytes, handed, ground) no_out no_err = (bytes, handed, unread profile settings source bytes input out err end ground no_out no_err)

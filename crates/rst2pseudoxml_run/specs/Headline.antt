@@ -39,13 +39,17 @@ Ends result input out err NoMemory = Untouched out × Untouched err
 abbrev pub Headline : (List ℕ → Result Parts End) → Stream → Stream → Stream → End → Type 0
 Headline result_of input out err end = (bytes : List ℕ) × HandsOut input bytes × Ends (result_of bytes) input out err end
 
+-- not all bytes were read, on this ground
+abbrev pub IsUnread : Stream → List ℕ → End → Type 0
+IsUnread input bytes TooLong = 16777216 < length bytes
+IsUnread input bytes Read = input.failed ≡ true
+IsUnread input bytes NoMemory = Unit {0}
+IsUnread input bytes _ = ⊥
+
 -- the bytes that were read, or the fault
 abbrev pub Takes : {A : Type 0} → Stream → List ℕ → Result (Vec ℕ A) End → Type 0
 Takes input bytes (Ok read) = IsReadOut input × (read.items ≡ bytes) × (length bytes ≤ 16777216)
-Takes input bytes (Err TooLong) = 16777216 < length bytes
-Takes input bytes (Err Read) = input.failed ≡ true
-Takes input bytes (Err NoMemory) = Unit {0}
-Takes input bytes (Err _) = ⊥
+Takes input bytes (Err end) = IsUnread input bytes end
 
 -- Reads, from a state of the reader to a later one, before which so many bytes have come. Each is made only while no more than 16,777,216
 -- bytes have come. One that fails, or gives 0 bytes, is the last.

@@ -1,5 +1,6 @@
 -- Texts that are written out, and what the program shows of them, for worked examples. No rule of markup.
 use Prim.Native.String.{String}
+use Rattle.std.proofs.Common.{arith}
 use Rattle.std.specs.Prelude.{◌≡◌, ℕ, true, List, [], Ok, codes, encode_utf8_all}
 use Rattle.rst_settings.specs.Profile.{profile_of}
 use Rattle.rst_settings.specs.declared.Settings.{Settings}
@@ -9,7 +10,7 @@ use Rattle.rst2pseudoxml_run.specs.Shown.{result_of}
 
 -- the settings of a call without options, but for the length of lines
 abbrev pub usual : Settings
-usual = record { report = Warning; halt = Severe; exit = Never; title = true; info = true; tab = 8; limit = 1000 }
+usual = record { report = Warning; halt = Severe; exit = Never; title = true; info = true; tab = 8; limit = 1000; tab_from = omega arith; tab_to = omega arith }
 
 -- For these lines, from the source `x`, these are printed on standard output and on standard error, with this exit status. (Blocks may be nested nine
 -- levels.)
