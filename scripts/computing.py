@@ -13,7 +13,10 @@ KIT = {
     **{library: [f"Rattle.{library}.proofs.Computing.{library}"] for library in ("ucd_case", "ucd_category", "unicode_width", "unicode_normalization")},
 }
 # the further names of `std` that the definitions of a crate go through
-FURTHER = {"rst_transform_docinfo": ["Rattle.std.specs.Str.trim_start", "Rattle.std.specs.Str.trim_end"]}
+FURTHER = {
+    "rst_transform_docinfo": ["Rattle.std.specs.Str.trim_start", "Rattle.std.specs.Str.trim_end"],
+    "rst2pseudoxml_run": ["Rattle.std.specs.Str.chars", "Rattle.std.specs.Str.is_utf8", "Rattle.std.specs.Str.Lossy.utf8_valid_len"],
+}
 WIDTH = 150
 
 

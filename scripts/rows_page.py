@@ -14,9 +14,10 @@ Each example is a theorem on the definition alone, in the order of the standard'
 and compares. No code of the program is run for it. `scripts/rows_page.py` writes this page from the theorems; the name of each is that of a clause
 in the crate's `src/rows.rt` or `src/rows/`.
 
-The tree of a document is the one before the transforms: titles are sections, and references aren't resolved yet. How the tree is after them is tested
-by running the program (`scripts/rows.py`). Where the count of messages on texts is given, the tree has all attributes, also those that only
-the transforms read, and each element's line. An example of a single definition is its clause.
+Where two trees are given, the second is what is printed on standard error. `Outputs` and `Reports` give what the program prints; any other tree of
+a document is the one before the transforms: titles are sections, and references aren't resolved yet. Where the count of messages on texts is
+given, the tree has all attributes, also those that only the transforms read, and each element's line. An example of a single definition is its
+clause.
 """
 # the documents of the standard, each with its sections in their order
 SECTIONS = {
@@ -38,7 +39,8 @@ FUNCTION = re.compile(r"((?:^///.*\n)+)pub fn (\w+)\(\)\n((?:    .*\n)+)\{\}", r
 CLAUSE = re.compile(r"^    ensures (\w+) \{ (.*?) \}(?=\n    ensures|\n*\Z)", re.M | re.S)
 SECTION = re.compile(r"\(([A-Z][\w ]+), '([^']+)'\)")
 STRINGS = re.compile(r'"((?:[^"\\]|\\.)*)"')
-TREE = re.compile(r"(Reads|Means)\s+(\[\]|\(.*?∷ \[\]\))\s*(\d*)\s*(\[\]|\(.*?∷ \[\]\))", re.S)
+LIST = r"(\[\]|\(.*?∷ \[\]\))"
+TREE = re.compile(rf"(?:Reads|Means|Outputs|Reports (\w+|\(.*?\}}\)))\s+{LIST}\s*(\d*)\s*{LIST}(?:\s*{LIST}\s*(\d+))?", re.S)
 ESCAPES = {"n": "\n", "t": "\t", "r": "␍"}
 
 
@@ -57,8 +59,16 @@ def shown(name, clause):
     if not tree:
         one = re.sub(r"\n *", " ", clause)
         return [f"- `{name}`: `{one}`"]
-    count = f", {tree[3]} messages on texts" if tree[3] else ""
-    return ["", f"`{name}`{count}", "", *fenced(lines_of(tree[2])), "", *fenced(lines_of(tree[4])), ""]
+    settings, text, count, printed, messages, status = tree.groups()
+    said = [f"`{name}`"]
+    if count:
+        said.append(f"{count} messages on texts")
+    if settings and settings != "usual":
+        said.append(f"`{re.search(r'{ (.*) }', settings)[1]}`")
+    if int(status or 0):
+        said.append(f"exit status {status}")
+    blocks = [text, printed, *([messages] if messages else [])]
+    return ["", ", ".join(said), *(line for block in blocks for line in ["", *fenced(lines_of(block))]), ""]
 
 
 def functions():

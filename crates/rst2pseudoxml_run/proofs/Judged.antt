@@ -1,29 +1,27 @@
--- Bytes are refused, or a document is read of their text.
-use Rattle.std.proofs.Common.{◌≡◌, ◌≤◌, ◌⊎◌, inl, inr, ℕ, List, length, refl, sym, subst}
-use Rattle.std.proofs.lemmas.Bool.{cases_lt}
-use Rattle.std.specs.Prelude.{Option, Some, None, Result, Ok, Err}
-use Rattle.std.specs.Str.Lossy.{utf8_valid_len}
+-- Each input has a result: what is shown of it, or why it is refused.
+use Rattle.std.proofs.Common.{◌≡◌, ℕ, Bool, true, false, List, length, refl}
+use Rattle.std.specs.Prelude.{if◌then◌else◌, nat_lt, Option, Some, None, Result, Ok, Err}
 use Rattle.rst_settings.specs.Profile.{Profile}
 use Rattle.rst_settings.specs.declared.Settings.{Settings}
 use Rattle.rst_text.specs.Lines.{lines_of}
 use Rattle.rst_text.specs.Text.{text_of}
 use Rattle.rst_tree.specs.declared.node.Node.{Node}
-use Rattle.rst2pseudoxml_run.specs.declared.end.End.{End}
-use Rattle.rst2pseudoxml_run.specs.declared.end.End.TheVariants.{TooLong, NotUtf8, TooDeep}
-use Rattle.rst2pseudoxml_run.specs.Reading.{read_of, IsReadOf}
-use Rattle.rst2pseudoxml_run.specs.Shown.{Answers}
+use Rattle.rst2pseudoxml_run.specs.declared.end.End.TheVariants.{TooLong}
+use Rattle.rst2pseudoxml_run.specs.Reading.{read_of}
+use Rattle.rst2pseudoxml_run.specs.Shown.{is_judged, result_of_read, result_of_text, IsJudged}
 
 module _ (profile : Profile) (settings : Settings) (source bytes : List ℕ) where
-  abbrev Judged : Type 0
-  Judged = ((refusal : End) × Answers profile settings source bytes (Err refusal)) ⊎ ((length bytes ≤ 16777216) × (read : Node × ℕ) × IsReadOf profile settings (text_of bytes) (Ok read))
+  by_read : (read : Result (Node × ℕ) ℕ) → is_judged (result_of_read profile settings source read) ≡ true
+  by_read (Ok read) = refl
+  by_read (Err line) = refl
 
-  by_read : length bytes ≤ 16777216 → (text : List ℕ) → text_of bytes ≡ Some text → (read : Result (Node × ℕ) ℕ) → read_of profile (lines_of settings.tab text) ≡ read → Judged
-  by_read short text is (Ok read) reads = inr (short, read, subst (λ t. IsReadOf profile settings t (Ok read)) (sym is) reads)
-  by_read short text is (Err line) reads = inl (TooDeep line, (short, subst (λ t. IsReadOf profile settings t (Err line)) (sym is) reads))
+  by_text : (text : Option (List ℕ)) → is_judged (result_of_text profile settings source bytes text) ≡ true
+  by_text None = refl
+  by_text (Some text) = by_read (read_of profile (lines_of settings.tab text))
 
-  by_text : length bytes ≤ 16777216 → (text : Option (List ℕ)) → text_of bytes ≡ text → Judged
-  by_text short None is = inl (NotUtf8 (utf8_valid_len bytes), (short, is, refl))
-  by_text short (Some text) is = by_read short text is (read_of profile (lines_of settings.tab text)) refl
+  by_length : (long : Bool) → is_judged (if long then Err TooLong else result_of_text profile settings source bytes (text_of bytes)) ≡ true
+  by_length true = refl
+  by_length false = by_text (text_of bytes)
 
-  pub judged : Judged
-  judged = elim (cases_lt 16777216 (length bytes)) [ inl long ↦ inl (TooLong, long) | inr short ↦ by_text short (text_of bytes) refl ]
+pub judged : IsJudged
+judged profile settings source bytes = by_length profile settings source bytes (nat_lt 16777216 (length bytes))

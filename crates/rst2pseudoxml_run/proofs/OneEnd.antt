@@ -10,8 +10,8 @@ use Rattle.rst2pseudoxml_run.specs.declared.end.End.{End}
 use Rattle.rst2pseudoxml_run.specs.declared.end.End.TheVariants.{Done, Read, TooLong, NotUtf8, TooDeep, NoMemory, WriteErr, WriteOut}
 use Rattle.rst2pseudoxml_run.specs.OneEnd.{is_own, Comes, EndAlike}
 use Rattle.rst2pseudoxml_run.specs.Headline.{Ends}
-use Rattle.rst2pseudoxml_run.specs.Shown.{Answers, Parts}
-use Rattle.rst2pseudoxml_run.proofs.OneAnswer.{one_answer}
+use Rattle.rst2pseudoxml_run.specs.Shown.{result_of, Parts}
+use Rattle.rst2pseudoxml_run.proofs.ShownLemmas.{long_result, too_long}
 
 -- what was handed out of known bytes is a front of them
 handed : (before after : Option (List ℕ)) (text bytes : List ℕ) → before ≡ Some text → Consumes before after bytes → (rest : List ℕ) × (text ≡ bytes ++ rest) × (IsAtEnd after → rest ≡ [])
@@ -31,35 +31,36 @@ gains_nothing None after h = tt
 gains_nothing (Some xs) None h = h
 gains_nothing (Some xs) (Some ys) h = h ∙ sym (append-nil xs)
 
--- what is written of an answer
+-- what is written of a result
 abbrev Shows : Result Parts End → Stream → Stream → End → Type 0
 Shows (Ok parts) out err end = (end ≡ Done parts.status) × Gains out parts.out × Gains err parts.err
 Shows (Err refusal) out err end = (end ≡ refusal) × Gains out [] × Gains err []
 
 module _ (profile : Profile) (settings : Settings) (source text : List ℕ) where
   abbrev Shown : Stream → Stream → End → Type 0
-  Shown out err end = (answer : Result Parts End) × Answers profile settings source text answer × Shows answer out err end
+  Shown out err end = Shows (result_of profile settings source text) out err end
 
-  of_all : (bytes : List ℕ) (answer : Result Parts End) → bytes ≡ text → Answers profile settings source bytes answer → Answers profile settings source text answer
-  of_all bytes answer same h = subst (λ b. Answers profile settings source b answer) same h
+  -- what is written where the bytes that were handed out are all
+  of_all : (bytes : List ℕ) (result : Result Parts End) (out err : Stream) (end : End) → bytes ≡ text → result_of profile settings source bytes ≡ result → Shows result out err end → Shown out err end
+  of_all bytes result out err end same is shows = subst (λ r. Shows r out err end) (sym is ∙ ap (result_of profile settings source) same) shows
 
-  shown : (input out err : Stream) (bytes : List ℕ) (end : End) → input.before ≡ Some text → Consumes input.before input.after bytes → is_own end ≡ true → Ends (Answers profile settings source bytes) input out err end → Shown out err end
+  shown : (input out err : Stream) (bytes : List ℕ) (end : End) → input.before ≡ Some text → Consumes input.before input.after bytes → is_own end ≡ true → Ends (result_of profile settings source bytes) input out err end → Shown out err end
   shown input out err bytes (Done status) e h own ends =
-      (Ok ends.1, of_all bytes (Ok ends.1) (all_handed input.before input.after text bytes e h ends.0.0) ends.2, (ap Done ends.3.0, ends.3.2.0, ends.3.1.0))
+      of_all bytes (Ok ends.1) out err (Done status) (all_handed input.before input.after text bytes e h ends.0.0) ends.2 (ap Done ends.3.0, ends.3.2.0, ends.3.1.0)
   shown input out err bytes (NotUtf8 at) e h own ends =
-      (Err (NotUtf8 at), of_all bytes (Err (NotUtf8 at)) (all_handed input.before input.after text bytes e h ends.0.0) ends.1, (refl, gains_nothing out.before out.after ends.2, gains_nothing err.before err.after ends.3))
+      of_all bytes (Err (NotUtf8 at)) out err (NotUtf8 at) (all_handed input.before input.after text bytes e h ends.0.0) ends.1 (refl, gains_nothing out.before out.after ends.2, gains_nothing err.before err.after ends.3)
   shown input out err bytes (TooDeep line) e h own ends =
-      (Err (TooDeep line), of_all bytes (Err (TooDeep line)) (all_handed input.before input.after text bytes e h ends.0.0) ends.1, (refl, gains_nothing out.before out.after ends.2, gains_nothing err.before err.after ends.3))
+      of_all bytes (Err (TooDeep line)) out err (TooDeep line) (all_handed input.before input.after text bytes e h ends.0.0) ends.1 (refl, gains_nothing out.before out.after ends.2, gains_nothing err.before err.after ends.3)
   shown input out err bytes TooLong e h own ends =
       let front = handed input.before input.after text bytes e h in
-      let long : 16777216 < length text = omega (arith, ends.0, ap length front.1, length-append bytes front.0) in
-      (Err TooLong, long, (refl, gains_nothing out.before out.after ends.1, gains_nothing err.before err.after ends.2))
+      let all : 16777216 < length text = omega (arith, too_long profile settings source bytes ends.0, ap length front.1, length-append bytes front.0) in
+      of_all text (Err TooLong) out err TooLong refl (long_result profile settings source text all) (refl, gains_nothing out.before out.after ends.1, gains_nothing err.before err.after ends.2)
   shown input out err bytes Read e h own ends = absurd (cc)
   shown input out err bytes NoMemory e h own ends = absurd (cc)
   shown input out err bytes (WriteErr done) e h own ends = absurd (cc)
   shown input out err bytes (WriteOut done) e h own ends = absurd (cc)
 
-  alike : (answer : Result Parts End) (out err also_out also_err : Stream) (end also : End) → Shows answer out err end → Shows answer also_out also_err also → EndAlike out err also_out also_err end also
+  alike : (result : Result Parts End) (out err also_out also_err : Stream) (end also : End) → Shows result out err end → Shows result also_out also_err also → EndAlike out err also_out also_err end also
   alike (Ok parts) out err also_out also_err end also f g =
       record { same = f.0 ∙ sym g.0; shown = parts.out; told = parts.err; out_gains = f.1; err_gains = f.2; also_out_gains = g.1; also_err_gains = g.2 }
   alike (Err refusal) out err also_out also_err end also f g =
@@ -68,7 +69,5 @@ module _ (profile : Profile) (settings : Settings) (source text : List ℕ) wher
   pub one_end : (input out err also_input also_out also_err : Stream) (end also : End) → Comes profile settings source text input out err end → Comes profile settings source text also_input also_out also_err also
       → EndAlike out err also_out also_err end also
   one_end input out err also_input also_out also_err end also f g =
-      let one = shown input out err f.headline.0 end f.holds f.headline.1 f.own f.headline.2 in
-      let other = shown also_input also_out also_err g.headline.0 also g.holds g.headline.1 g.own g.headline.2 in
-      let same : other.0 ≡ one.0 = one_answer profile settings source text other.0 one.0 other.1 one.1 in
-      alike one.0 out err also_out also_err end also one.2 (subst (λ answer. Shows answer also_out also_err also) same other.2)
+      alike (result_of profile settings source text) out err also_out also_err end also (shown input out err f.headline.0 end f.holds f.headline.1 f.own f.headline.2)
+      (shown also_input also_out also_err g.headline.0 also g.holds g.headline.1 g.own g.headline.2)

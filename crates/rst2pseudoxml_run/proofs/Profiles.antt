@@ -1,6 +1,7 @@
--- The first profile and the present one have the same answer.
-use Rattle.std.proofs.Common.{◌≡◌, ◌∙◌, ◌⊎◌, inl, inr, ℕ, ◌≤◌, Bool, true, false, List, length, refl, sym, ap, arith}
-use Rattle.std.specs.Prelude.{◌↔◌, Option, Some, None, Result, Ok, Err}
+-- The first profile and the present one have the same result.
+use Rattle.std.proofs.Common.{◌≡◌, ◌∙◌, ◌⊎◌, inl, inr, ℕ, ◌≤◌, false, List, length, refl, sym, ap, arith, ⊎_elim}
+use Rattle.std.proofs.lemmas.Bool.{cases_lt}
+use Rattle.std.specs.Prelude.{Option, Some, None, Result, Ok, Err}
 use Rattle.rst_block.specs.Documents.{document}
 use Rattle.rst_settings.specs.Profile.{profile_of}
 use Rattle.rst_settings.specs.declared.Settings.{Settings}
@@ -8,18 +9,17 @@ use Rattle.rst_text.specs.Block.{Block}
 use Rattle.rst_text.specs.Lines.{first_longer, lines_of}
 use Rattle.rst_text.specs.Text.{text_of}
 use Rattle.rst_tree.specs.declared.node.Node.{Node}
-use Rattle.rst_tree.specs.declared.note.Note.{Note}
-use Rattle.rst_transform.specs.Finishing.{Leaves}
-use Rattle.rst_transform.specs.declared.finishing.Finished.{Finished}
-use Rattle.rst_transform_work.specs.States.{State}
+use Rattle.rst_transform.specs.Finishing.{leaves}
 use Rattle.rst2pseudoxml_run.specs.CodeCalls.{IsWithoutCode}
-use Rattle.rst2pseudoxml_run.specs.declared.end.End.TheVariants.{Done, Read, TooLong, NotUtf8, TooDeep, NoMemory, WriteErr, WriteOut}
-use Rattle.rst2pseudoxml_run.specs.Profiles.{first_profile, list_of, AnswerAlike, CallsNoCode, HasNoList, IsTitledOf, NestsWithin, ProfilesAgree}
-use Rattle.rst2pseudoxml_run.specs.Reading.{read_by, read_of, IsMade, IsReadOf}
+use Rattle.rst2pseudoxml_run.specs.declared.end.End.TheVariants.{TooDeep}
+use Rattle.rst2pseudoxml_run.specs.Profiles.{first_profile, list_of, titled_of, CallsNoCode, HasNoList, NestsWithin, ProfilesAgree}
+use Rattle.rst2pseudoxml_run.specs.Reading.{read_by, read_of}
+use Rattle.rst2pseudoxml_run.specs.Shown.{parts_of, result_of, result_of_read, result_of_text}
 use Rattle.rst2pseudoxml_run.proofs.ProfilesCalls.{calls_agree}
 use Rattle.rst2pseudoxml_run.proofs.ProfilesCuts.{cells_keep, opened_keep}
 use Rattle.rst2pseudoxml_run.proofs.ProfilesLevels.{documents_follow}
-use Rattle.rst2pseudoxml_run.proofs.ProfilesDocinfo.{left_alike, left_with, left_without}
+use Rattle.rst2pseudoxml_run.proofs.ProfilesDocinfo.{left_alike, left_without_list}
+use Rattle.rst2pseudoxml_run.proofs.ShownLemmas.{long_result, short_result}
 
 -- what is read is a document, or is refused
 read_or_refused : {A B R : Type 0} (read : Result A B) → ((one : A) → read ≡ Ok one → R) → ((line : B) → read ≡ Err line → R) → R
@@ -42,77 +42,35 @@ module _ (settings : Settings) where
   lines_follow lines r limit free is =
       ap (λ n. read_by (first_longer n lines) (profile_of settings) lines) limit ∙ read_follows (first_longer 10000 lines) lines r free is
 
-  -- what is read of a text under the one profile is read under the other, where that isn't refused under the first
-  lines_alike : (lines : Block) (read : Result (Node × ℕ) ℕ) → settings.limit ≡ 10000 → IsWithoutCode lines → ((line : ℕ) → read_of first_profile lines ≡ Err line → ⊥)
-      → (read_of first_profile lines ≡ read) ↔ (read_of (profile_of settings) lines ≡ read)
-  lines_alike lines read limit free nests =
-      let same : read_of first_profile lines ≡ read_of (profile_of settings) lines =
-      read_or_refused (read_of first_profile lines) (λ one is. is ∙ sym (lines_follow lines one limit free is)) (λ line is. absurd (nests line is)) in
-      (λ is. sym same ∙ is, λ is. same ∙ is)
-
-  text_alike : (text : Option (List ℕ)) (read : Result (Node × ℕ) ℕ) → settings.limit ≡ 10000 → CallsNoCode settings text → ((line : ℕ) → IsReadOf first_profile settings text (Err line) → ⊥)
-      → IsReadOf first_profile settings text read ↔ IsReadOf (profile_of settings) settings text read
-  text_alike None read limit free nests = (λ is. is, λ is. is)
-  text_alike (Some text) read limit free nests = lines_alike (lines_of settings.tab text) read limit free nests
-
   -- what is left of a document
-  module _ (messages : ℕ) (document root : Node) (notes : List Note) where
-    abbrev Apart : Type 0
-    Apart = (settings.info ≡ false) ⊎ ((titled : State) → IsTitledOf messages settings document titled → list_of titled.document ≡ None)
+  left : (read : Node × ℕ) → (settings.info ≡ false) ⊎ (list_of (titled_of read.1 settings read.0) ≡ None)
+      → leaves read.1 first_profile settings read.0 ≡ leaves read.1 (profile_of settings) settings read.0
+  left read (inl off) = left_alike settings read.1 read.0 first_profile (profile_of settings) (sym off)
+  left read (inr none) = left_without_list settings read.1 read.0 first_profile (profile_of settings) none
 
-    left_alike_by : (info : Bool) → settings.info ≡ info → Apart
-        → Leaves messages first_profile settings document root notes ↔ Leaves messages (profile_of settings) settings document root notes
-    left_alike_by false off apart = (
-      left_alike settings messages document root notes first_profile (profile_of settings) (sym off),
-      left_alike settings messages document root notes (profile_of settings) first_profile off,
-    )
-    left_alike_by true on (inl off) = absurd (cc)
-    left_alike_by true on (inr none) = (
-      left_with settings messages document root notes first_profile (profile_of settings) refl on none,
-      left_without settings messages document root notes first_profile (profile_of settings) refl on none,
-    )
+  module _ (source bytes : List ℕ) (limit : settings.limit ≡ 10000) where
+    -- the result of lines, where they aren't refused under the first profile
+    lines_alike : (lines : Block) → IsWithoutCode lines → ((line : ℕ) → read_of first_profile lines ≡ Err line → ⊥)
+        → ((read : Node × ℕ) → read_of first_profile lines ≡ Ok read → (settings.info ≡ false) ⊎ (list_of (titled_of read.1 settings read.0) ≡ None))
+        → result_of_read first_profile settings source (read_of first_profile lines) ≡ result_of_read (profile_of settings) settings source (read_of (profile_of settings) lines)
+    lines_alike lines free nests apart = read_or_refused (read_of first_profile lines)
+        (λ read is.
+        ap (result_of_read first_profile settings source) is
+        ∙ ap (λ left. Ok (parts_of settings source left.0 left.1)) (left read (apart read is))
+        ∙ sym (ap (result_of_read (profile_of settings) settings source) (lines_follow lines read limit free is)))
+        (λ line is. absurd (nests line is))
 
-  -- bibliographic fields aren't looked for, or no field list leads the document
-  apart : (text : Option (List ℕ)) (document : Node) (messages : ℕ) → IsReadOf first_profile settings text (Ok (document, messages)) → (settings.info ≡ false) ⊎ HasNoList first_profile settings text
-      → (settings.info ≡ false) ⊎ ((titled : State) → IsTitledOf messages settings document titled → list_of titled.document ≡ None)
-  apart text document messages read (inl off) = inl off
-  apart text document messages read (inr none) = inr (λ titled is. none document messages titled read is)
-
-  module _ (text : Option (List ℕ)) (finished : Finished) (limit : settings.limit ≡ 10000) (free : CallsNoCode settings text) (nests : (line : ℕ) → IsReadOf first_profile settings text (Err line) → ⊥)
-      (list : (settings.info ≡ false) ⊎ HasNoList first_profile settings text) where
-    made_alike : IsMade first_profile settings text finished ↔ IsMade (profile_of settings) settings text finished
-    made_alike = (
-      λ made.
-          let read = (text_alike text (Ok (made.0.0, made.0.1)) limit free nests).0 made.0.2 in
-          let left = (left_alike_by made.0.1 made.0.0 finished.document finished.notes.items settings.info refl (apart text made.0.0 made.0.1 made.0.2 list)).0 made.0.3 in
-          ((made.0.0, made.0.1, read, left), made.1, made.2, made.3),
-      λ made.
-          let read = (text_alike text (Ok (made.0.0, made.0.1)) limit free nests).1 made.0.2 in
-          let left = (left_alike_by made.0.1 made.0.0 finished.document finished.notes.items settings.info refl (apart text made.0.0 made.0.1 read list)).1 made.0.3 in
-          ((made.0.0, made.0.1, read, left), made.1, made.2, made.3),
-    )
-
-  module _ (source bytes : List ℕ) (limit : settings.limit ≡ 10000) (free : CallsNoCode settings (text_of bytes)) (nests : NestsWithin first_profile settings source bytes)
-      (list : (settings.info ≡ false) ⊎ HasNoList first_profile settings (text_of bytes)) where
-    not_refused : length bytes ≤ 16777216 → (line : ℕ) → IsReadOf first_profile settings (text_of bytes) (Err line) → ⊥
-    not_refused short line is = nests line (short, is)
-
-    answers_alike : AnswerAlike first_profile (profile_of settings) settings source bytes
-    answers_alike (Ok parts) = (
-      λ is. (is.0, is.1, (made_alike (text_of bytes) is.1 limit free (not_refused is.0) list).0 is.2, is.3),
-      λ is. (is.0, is.1, (made_alike (text_of bytes) is.1 limit free (not_refused is.0) list).1 is.2, is.3),
-    )
-    answers_alike (Err TooLong) = (λ is. is, λ is. is)
-    answers_alike (Err (NotUtf8 at)) = (λ is. is, λ is. is)
-    answers_alike (Err (TooDeep line)) = (
-      λ is. absurd (nests line is),
-      λ is. (is.0, (text_alike (text_of bytes) (Err line) limit free (not_refused is.0)).1 is.1),
-    )
-    answers_alike (Err (Done status)) = (λ is. is, λ is. is)
-    answers_alike (Err Read) = (λ is. is, λ is. is)
-    answers_alike (Err NoMemory) = (λ is. is, λ is. is)
-    answers_alike (Err (WriteErr done)) = (λ is. is, λ is. is)
-    answers_alike (Err (WriteOut done)) = (λ is. is, λ is. is)
+    text_alike : (text : Option (List ℕ)) → CallsNoCode settings text → ((line : ℕ) → result_of_text first_profile settings source bytes text ≡ Err (TooDeep line) → ⊥)
+        → (settings.info ≡ false) ⊎ HasNoList first_profile settings text → result_of_text first_profile settings source bytes text ≡ result_of_text (profile_of settings) settings source bytes text
+    text_alike None free nests apart = refl
+    text_alike (Some text) free nests apart = lines_alike (lines_of settings.tab text) free
+        (λ line is. nests line (ap (result_of_read first_profile settings source) is))
+        (λ read is. elim apart [ inl off ↦ inl off | inr none ↦ inr (none read is) ])
 
 pub profiles_agree : ProfilesAgree
-profiles_agree settings source bytes limit free nests list = answers_alike settings source bytes limit free nests list
+profiles_agree settings source bytes limit free nests apart = ⊎_elim
+    (λ long. long_result first_profile settings source bytes long ∙ sym (long_result (profile_of settings) settings source bytes long))
+    (λ short.
+    let first = short_result first_profile settings source bytes short in
+    first ∙ text_alike settings source bytes limit (text_of bytes) free (λ line is. nests line (first ∙ is)) apart ∙ sym (short_result (profile_of settings) settings source bytes short))
+    (cases_lt 16777216 (length bytes))

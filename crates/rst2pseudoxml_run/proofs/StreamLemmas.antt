@@ -7,8 +7,13 @@ use Rattle.rst_text.specs.Counted.Written.{all, empty, some, last}
 use Rattle.std.specs.List.{flat_map, concat}
 use Rattle.std.proofs.lemmas.Grind.{flat_map-append}
 use Rattle.std.proofs.lemmas.List.{take_all, take-append-le, take_more, drop_more}
-use Rattle.std.specs.Io.KnownBytes.{Appends, Consumes}
+use Rattle.std.specs.Io.KnownBytes.{Appends, Consumes, Keeps}
 use Rattle.std.proofs.Math.Seq.{take-append-add, drop-cons}
+
+-- what isn't written to holds what it held
+pub untouched : (known : Option (List ℕ)) → Keeps known known
+untouched None = tt
+untouched (Some bytes) = refl
 
 pub Consumes-more : (a b c : Option (List ℕ)) (bs cs : List ℕ) → Consumes a b bs → Consumes b c cs → Consumes a c (bs ++ cs)
 Consumes-more None b c bs cs p q = tt

@@ -24,28 +24,32 @@ Shows parts out err (WriteOut done) = IsWritten err parts.err × IsPrintedInPart
 Shows parts out err NoMemory = Untouched out × Untouched err
 Shows parts out err _ = ⊥
 
--- The end of a run, where this is the answer to the bytes that it was handed.
-abbrev pub Ends : (Result Parts End → Type 0) → Stream → Stream → Stream → End → Type 0
-Ends Answer input out err (Done status) = IsReadOut input × (parts : Parts) × Answer (Ok parts) × Shows parts out err (Done status)
-Ends Answer input out err (WriteErr done) = IsReadOut input × (parts : Parts) × Answer (Ok parts) × Shows parts out err (WriteErr done)
-Ends Answer input out err (WriteOut done) = IsReadOut input × (parts : Parts) × Answer (Ok parts) × Shows parts out err (WriteOut done)
-Ends Answer input out err (NotUtf8 at) = IsReadOut input × Answer (Err (NotUtf8 at)) × Untouched out × Untouched err
-Ends Answer input out err (TooDeep line) = IsReadOut input × Answer (Err (TooDeep line)) × Untouched out × Untouched err
-Ends Answer input out err TooLong = Answer (Err TooLong) × Untouched out × Untouched err
-Ends Answer input out err Read = (input.failed ≡ true) × Untouched out × Untouched err
-Ends Answer input out err NoMemory = Untouched out × Untouched err
+-- The end of a run, where this is the result of the bytes that it was handed.
+abbrev pub Ends : Result Parts End → Stream → Stream → Stream → End → Type 0
+Ends result input out err (Done status) = IsReadOut input × (parts : Parts) × (result ≡ Ok parts) × Shows parts out err (Done status)
+Ends result input out err (WriteErr done) = IsReadOut input × (parts : Parts) × (result ≡ Ok parts) × Shows parts out err (WriteErr done)
+Ends result input out err (WriteOut done) = IsReadOut input × (parts : Parts) × (result ≡ Ok parts) × Shows parts out err (WriteOut done)
+Ends result input out err (NotUtf8 at) = IsReadOut input × (result ≡ Err (NotUtf8 at)) × Untouched out × Untouched err
+Ends result input out err (TooDeep line) = IsReadOut input × (result ≡ Err (TooDeep line)) × Untouched out × Untouched err
+Ends result input out err TooLong = (result ≡ Err TooLong) × Untouched out × Untouched err
+Ends result input out err Read = (input.failed ≡ true) × Untouched out × Untouched err
+Ends result input out err NoMemory = Untouched out × Untouched err
 
--- For every input, what a run shows and how it ends is the answer to the bytes that the reads handed out, each once.
-abbrev pub Headline : (List ℕ → Result Parts End → Type 0) → Stream → Stream → Stream → End → Type 0
-Headline Answer input out err end = (bytes : List ℕ) × HandsOut input bytes × Ends (Answer bytes) input out err end
+-- For every input, what a run shows and how it ends is the result of the bytes that the reads handed out, each once.
+abbrev pub Headline : (List ℕ → Result Parts End) → Stream → Stream → Stream → End → Type 0
+Headline result_of input out err end = (bytes : List ℕ) × HandsOut input bytes × Ends (result_of bytes) input out err end
+
+-- not all bytes were read, on this ground
+abbrev pub IsUnread : Stream → List ℕ → End → Type 0
+IsUnread input bytes TooLong = 16777216 < length bytes
+IsUnread input bytes Read = input.failed ≡ true
+IsUnread input bytes NoMemory = Unit {0}
+IsUnread input bytes _ = ⊥
 
 -- the bytes that were read, or the fault
 abbrev pub Takes : {A : Type 0} → Stream → List ℕ → Result (Vec ℕ A) End → Type 0
 Takes input bytes (Ok read) = IsReadOut input × (read.items ≡ bytes) × (length bytes ≤ 16777216)
-Takes input bytes (Err TooLong) = 16777216 < length bytes
-Takes input bytes (Err Read) = input.failed ≡ true
-Takes input bytes (Err NoMemory) = Unit {0}
-Takes input bytes (Err _) = ⊥
+Takes input bytes (Err end) = IsUnread input bytes end
 
 -- Reads, from a state of the reader to a later one, before which so many bytes have come. Each is made only while no more than 16,777,216
 -- bytes have come. One that fails, or gives 0 bytes, is the last.

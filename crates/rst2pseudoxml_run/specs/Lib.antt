@@ -1,4 +1,5 @@
 pub mod Shown
+pub mod Written
 pub mod Reading
 pub mod Headline
 pub mod Report

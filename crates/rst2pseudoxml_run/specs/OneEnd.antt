@@ -6,7 +6,7 @@ use Rattle.rst_text.specs.Counted.{Stream, Gains}
 use Rattle.rst2pseudoxml_run.specs.declared.end.End.{End}
 use Rattle.rst2pseudoxml_run.specs.declared.end.End.TheVariants.{Done, TooLong, NotUtf8, TooDeep}
 use Rattle.rst2pseudoxml_run.specs.Headline.{Headline}
-use Rattle.rst2pseudoxml_run.specs.Shown.{Answers}
+use Rattle.rst2pseudoxml_run.specs.Shown.{result_of}
 
 -- a run came to its own end: no read, no write and no growth failed
 abbrev pub is_own : End → Bool
@@ -20,7 +20,7 @@ is_own _ = false
 pub record Comes (profile : Profile) (settings : Settings) (source text : List ℕ) (input out err : Stream) (end : End) : Type 0 where
   pub holds : input.before ≡ Some text
   pub own : is_own end ≡ true
-  pub headline : Headline (Answers profile settings source) input out err end
+  pub headline : Headline (result_of profile settings source) input out err end
 
 -- two of them ended alike, and their writers gained the same
 pub record EndAlike (out err also_out also_err : Stream) (end also : End) : Type 0 where

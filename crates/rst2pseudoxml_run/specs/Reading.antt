@@ -1,5 +1,5 @@
 -- The document that an input is (Markup Specification, 'Syntax Details'; Configuration, `line_length_limit`).
-use Rattle.std.specs.Prelude.{◌≡◌, ℕ, ◌≤◌, true, List, [], ◌∷◌, ◌++◌, Option, None, Some, Result, Ok, Err, codes}
+use Rattle.std.specs.Prelude.{◌≡◌, ℕ, ◌≤◌, List, [], ◌∷◌, ◌++◌, Option, None, Some, Result, Ok, Err, codes}
 use Rattle.std.specs.Fmt.{decimal}
 use Rattle.std.specs.Str.Lossy.{utf8_valid_len}
 use Rattle.rst_block.specs.declared.parsing.Parsed.{Parsed}
@@ -9,9 +9,8 @@ use Rattle.rst_settings.specs.declared.Settings.{Settings}
 use Rattle.rst_text.specs.Block.{Block}
 use Rattle.rst_text.specs.Lines.{first_longer, lines_of}
 use Rattle.rst_text.specs.Text.{text_of}
-use Rattle.rst_transform.specs.Finishing.{Leaves}
-use Rattle.rst_transform_messages.specs.Messages.{EndsAtHalt, highest_level}
-use Rattle.rst_transform_messages.specs.Shown.{is_shown_in}
+use Rattle.rst_transform.specs.Finishing.{leaves}
+use Rattle.rst_transform_messages.specs.Messages.{highest_level}
 use Rattle.rst_transform.specs.declared.finishing.Finished.{Finished}
 use Rattle.rst_tree.specs.Messages.{note_node}
 use Rattle.rst_tree.specs.Nodes.{forest_of}
@@ -44,10 +43,6 @@ read_by (Some line) profile lines = Ok (long_document line, 0)
 abbrev pub read_of : Profile → Block → Result (Node × ℕ) ℕ
 read_of profile lines = read_by (first_longer profile.line_limit lines) profile lines
 
--- no message in a document is below the report level, and no message but the last one halts the run
-abbrev pub IsFinished : Settings → Node → List Note → Type 0
-IsFinished settings document notes = (is_shown_in settings.report document ≡ true) × EndsAtHalt settings.halt notes
-
 -- what is read of a text, if there is one
 abbrev pub IsReadOf : Profile → Settings → Option (List ℕ) → Result (Node × ℕ) ℕ → Type 0
 IsReadOf profile settings None read = ⊥
@@ -68,15 +63,13 @@ Parses profile settings bytes (Err end) = Refuses profile settings bytes end
 -- a document and messages are left of the document that is read of a text
 abbrev pub IsLeftOf : Profile → Settings → Option (List ℕ) → Node → List Note → Type 0
 IsLeftOf profile settings text document notes =
-    (root : Node) × (messages : ℕ) × IsReadOf profile settings text (Ok (root, messages))
-    × Leaves messages profile settings root document notes
+    (read : Node × ℕ) × IsReadOf profile settings text (Ok read) × (leaves read.1 profile settings read.0 ≡ (document, notes))
 
 -- the finished document of a text, and its messages with their highest level
 abbrev pub IsMade : Profile → Settings → Option (List ℕ) → Finished → Type 0
 IsMade profile settings text finished =
     let notes = finished.notes.items in
-    IsLeftOf profile settings text finished.document notes × IsFinished settings finished.document notes
-    × (finished.highest ≡ highest_level notes) × (finished.highest ≤ 4)
+    IsLeftOf profile settings text finished.document notes × (finished.highest ≡ highest_level notes) × (finished.highest ≤ 4)
 
 -- a document was made of the bytes, or they were refused, or memory ran out
 abbrev pub Reads : Profile → Settings → List ℕ → Result Finished End → Type 0

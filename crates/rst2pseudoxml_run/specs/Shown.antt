@@ -1,16 +1,17 @@
 -- What the program shows of a finished document: standard output, standard error and the exit status.
-use Rattle.std.specs.Prelude.{◌≡◌, ◌⊎◌, ℕ, ◌+◌, ◌<◌, ◌≤◌, Bool, ◌||◌, List, [], ◌∷◌, ◌++◌, length, filter, if◌then◌else◌, Option, None, Some, Result, Ok, Err, Vec, codes}
+use Rattle.std.specs.Prelude.{◌≡◌, ℕ, ◌+◌, Bool, true, false, ◌||◌, nat_lt, List, [], ◌∷◌, ◌++◌, length, filter, if◌then◌else◌, Option, None, Some, Result, Ok, Err, Vec, codes}
 use Rattle.std.specs.Fmt.{decimal}
 use Rattle.std.specs.List.{flat_map}
 use Rattle.std.specs.Str.Lossy.{utf8_valid_len}
 use Rattle.rst_text.specs.Counted.{inner_of}
+use Rattle.rst_text.specs.Lines.{lines_of}
 use Rattle.rst_text.specs.Text.{text_of}
 use Rattle.rst_text.specs.declared.counted.Counted.{Counted}
 use Rattle.rst_settings.specs.Profile.{Profile}
 use Rattle.rst_settings.specs.declared.Settings.{Settings}
 use Rattle.rst_settings.specs.Threshold.{is_reached}
 use Rattle.rst_transform_messages.specs.Messages.{highest_level}
-use Rattle.rst_transform.specs.declared.finishing.Finished.{Finished}
+use Rattle.rst_transform.specs.Finishing.{leaves}
 use Rattle.rst_tree.specs.LevelNames.{level_name, level_number}
 use Rattle.rst_tree.specs.Message.{message_of}
 use Rattle.rst_tree.specs.Print.{print_of}
@@ -20,7 +21,7 @@ use Rattle.rst_tree.specs.declared.note.Level.{Level}
 use Rattle.rst_tree.specs.declared.note.Note.{Note}
 use Rattle.rst2pseudoxml_run.specs.declared.end.End.{End}
 use Rattle.rst2pseudoxml_run.specs.declared.end.End.TheVariants.{TooLong, NotUtf8, TooDeep, NoMemory}
-use Rattle.rst2pseudoxml_run.specs.Reading.{IsReadOf, IsMade}
+use Rattle.rst2pseudoxml_run.specs.Reading.{read_of}
 
 -- standard output, standard error and the exit status
 pub record Parts : Type 0 where
@@ -73,30 +74,35 @@ parts_of settings source document notes =
     let halts = halting settings notes in
     record { out = shown_by source document halts; err = error_text settings source notes; status = ended_by settings notes halts }
 
--- The answer to some bytes: what is shown of the finished document that was made of their text, and of its messages; or the
--- refusal of what is too long, no UTF-8 or nested too deeply.
-abbrev pub Answers : Profile → Settings → List ℕ → List ℕ → Result Parts End → Type 0
-Answers profile settings source bytes (Ok parts) =
-    (length bytes ≤ 16777216) × (finished : Finished) × IsMade profile settings (text_of bytes) finished
-    × (parts ≡ parts_of settings source finished.document finished.notes.items)
-Answers profile settings source bytes (Err TooLong) = 16777216 < length bytes
-Answers profile settings source bytes (Err (NotUtf8 at)) = (length bytes ≤ 16777216) × (text_of bytes ≡ None) × (at ≡ utf8_valid_len bytes)
-Answers profile settings source bytes (Err (TooDeep line)) =
-    (length bytes ≤ 16777216) × IsReadOf profile settings (text_of bytes) (Err line)
-Answers profile settings source bytes (Err _) = ⊥
+-- what is shown of what is read of a text: of what is left of a document and of its messages; or the line at which blocks are nested too deeply
+abbrev pub result_of_read : Profile → Settings → List ℕ → Result (Node × ℕ) ℕ → Result Parts End
+result_of_read profile settings source (Ok read) = let left = leaves read.1 profile settings read.0 in Ok (parts_of settings source left.0 left.1)
+result_of_read profile settings source (Err line) = Err (TooDeep line)
 
--- that answer is one
-abbrev pub HasOneAnswer : Type 0
-HasOneAnswer =
-    (profile : Profile) (settings : Settings) (source bytes : List ℕ) (one other : Result Parts End)
-    → Answers profile settings source bytes one → Answers profile settings source bytes other → one ≡ other
+-- the same of some bytes and their text, if they are UTF-8
+abbrev pub result_of_text : Profile → Settings → List ℕ → List ℕ → Option (List ℕ) → Result Parts End
+result_of_text profile settings source bytes None = Err (NotUtf8 (utf8_valid_len bytes))
+result_of_text profile settings source bytes (Some text) = result_of_read profile settings source (read_of profile (lines_of settings.tab text))
 
--- bytes are refused, or a document is read of their text
+-- The result of some bytes: what is shown of them, or the refusal of what is too long, no UTF-8 or nested too deeply.
+abbrev pub result_of : Profile → Settings → List ℕ → List ℕ → Result Parts End
+result_of profile settings source bytes =
+    if nat_lt 16777216 (length bytes) then Err TooLong else result_of_text profile settings source bytes (text_of bytes)
+
+-- the refusals that a result may be
+abbrev pub is_refusal : End → Bool
+is_refusal TooLong = true
+is_refusal (NotUtf8 at) = true
+is_refusal (TooDeep line) = true
+is_refusal _ = false
+
+abbrev pub is_judged : Result Parts End → Bool
+is_judged (Ok parts) = true
+is_judged (Err end) = is_refusal end
+
+-- each input has a result, which is shown or is one of these refusals
 abbrev pub IsJudged : Type 0
-IsJudged =
-    (profile : Profile) (settings : Settings) (source bytes : List ℕ)
-    → ((refusal : End) × Answers profile settings source bytes (Err refusal))
-    ⊎ ((length bytes ≤ 16777216) × (read : Node × ℕ) × IsReadOf profile settings (text_of bytes) (Ok read))
+IsJudged = (profile : Profile) (settings : Settings) (source bytes : List ℕ) → is_judged (result_of profile settings source bytes) ≡ true
 
 -- the text of the messages was made, or memory ran out
 abbrev pub MakesErrorText : {A : Type 0} → Settings → List ℕ → List Note → Result (Counted (Vec ℕ A)) End → Type 0

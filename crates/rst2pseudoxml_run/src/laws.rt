@@ -1,14 +1,9 @@
 //! Laws on the definitions, each by a function that does nothing and whose contract is the law.
 ghost use Rattle.rst2pseudoxml_run.specs.OneEnd.{HasOneEnd};
 ghost use Rattle.rst2pseudoxml_run.specs.Profiles.{IsFirstProfile, ProfilesAgree};
-ghost use Rattle.rst2pseudoxml_run.specs.Shown.{HasOneAnswer, IsJudged};
+ghost use Rattle.rst2pseudoxml_run.specs.Shown.{IsJudged};
 
-/// The answer to some bytes is one: what is shown of them and the exit status, or why they are refused.
-pub fn one_answer()
-    ensures { HasOneAnswer }
-{}
-
-/// Bytes are refused, or a document is read of their text.
+/// Each input has a result: what is shown of it, or its refusal as too long, no UTF-8 or nested too deeply.
 pub fn judged()
     ensures { IsJudged }
 {}
@@ -25,7 +20,7 @@ pub fn first_profile()
     ensures { IsFirstProfile }
 {}
 
-/// The profile that the program ran under at first and the present one have the same answer where lines may have 10,000 characters, no line
+/// The profile that the program ran under at first and the present one have the same result where lines may have 10,000 characters, no line
 /// calls program code, no block is nested too deeply for the first one, and bibliographic fields aren't looked for or no field list leads
 /// the document.
 pub fn profiles_agree()

@@ -8,6 +8,7 @@ mod input;
 pub mod laws;
 mod line_limit;
 mod reporting;
+pub mod rows;
 mod running;
 
 pub use end::End;

@@ -4,7 +4,7 @@ ghost use Rattle.rst_settings.specs.Profile.{profile_of};
 ghost use Rattle.rst_text.specs.Counted.{inner_of, has_failed, between};
 ghost use Rattle.rst_transform_messages.specs.Messages.{highest_level};
 ghost use Rattle.rst2pseudoxml_run.specs.Headline.{Headline, Shows, ReadsOn, IsSent, IsQuiet};
-ghost use Rattle.rst2pseudoxml_run.specs.Shown.{Answers, parts_of};
+ghost use Rattle.rst2pseudoxml_run.specs.Shown.{parts_of, result_of};
 
 use crate::document::document_of;
 use crate::end::End;
@@ -34,7 +34,7 @@ pub fn run<R: ReadCall, O: WriteCall, E: WriteCall>(
     requires out { has_failed out.old ≡ false }
     requires err { has_failed err.old ≡ false }
 
-    ensures headline { Headline (Answers (profile_of settings.now) settings.now source.now)
+    ensures headline { Headline (result_of (profile_of settings.now) settings.now source.now)
         (between R.remaining input.old input.new)
         (between O.contents out.old out.new)
         (between E.contents err.old err.new) result }

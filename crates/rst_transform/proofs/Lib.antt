@@ -1,3 +1,5 @@
-pub mod NoNewKinds
-pub mod OneAnswer
-pub mod Registered
+pub mod Computing
+pub mod Skipping
+pub mod Left
+pub mod Looking
+pub mod Sequence

@@ -1,13 +1,14 @@
 -- Laws, which a reader of the definitions may pass over. No rule of markup: they follow from the definitions.
-use Rattle.std.specs.Prelude.{◌≡◌, ℕ, List}
+use Rattle.std.specs.Prelude.{◌≡◌, ℕ, true}
 use Rattle.rst_settings.specs.Profile.{Profile}
 use Rattle.rst_settings.specs.declared.Settings.{Settings}
 use Rattle.rst_tree.specs.declared.node.Node.{Node}
-use Rattle.rst_tree.specs.declared.note.Note.{Note}
-use Rattle.rst_transform.specs.Finishing.{Leaves}
+use Rattle.rst_transform_messages.specs.Messages.{EndsAtHalt}
+use Rattle.rst_transform_messages.specs.Shown.{is_shown_in}
+use Rattle.rst_transform.specs.Finishing.{leaves}
 
--- one thing is left of a document, and there is one list of messages
-abbrev pub LeavesOneThing : Type 0
-LeavesOneThing =
-    (messages : ℕ) (profile : Profile) (settings : Settings) (document one other : Node) (notes others : List Note)
-    → Leaves messages profile settings document one notes → Leaves messages profile settings document other others → (one ≡ other) × (notes ≡ others)
+-- no message in what is left of a document is below the report level, and no message but the last halts the run
+abbrev pub ShowsWhatIsAsked : Type 0
+ShowsWhatIsAsked =
+    (messages : ℕ) (profile : Profile) (settings : Settings) (document : Node)
+    → let left = leaves messages profile settings document in (is_shown_in settings.report left.0 ≡ true) × EndsAtHalt settings.halt left.1

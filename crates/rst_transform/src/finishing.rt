@@ -1,27 +1,28 @@
 //! All transforms, in order.
-ghost use Rattle.std.specs.Prelude.{◌≡◌, ◌≤◌, ◌++◌, map, IfOk, List, true};
+ghost use Rattle.std.specs.Prelude.{◌≡◌, ◌≤◌, ◌++◌, map, IfOk, List};
 ghost use Rattle.rst_settings.specs.Profile.{profile_of};
-ghost use Rattle.rst_tree_index.specs.Kinds.{HasNoNewKinds, HasNoNewLinkKinds};
 ghost use Rattle.rst_tree.specs.Faults.{Gives};
-ghost use Rattle.rst_transform_work.specs.States.{document_node, elements_of, state, IsDocument};
-ghost use Rattle.rst_transform_docinfo.specs.Docinfo.{HasDocinfo};
+ghost use Rattle.rst_transform_names.specs.Registering.{IsRegistered, Registration};
+ghost use Rattle.rst_transform_work.specs.Known.{Holds, Makes};
+ghost use Rattle.rst_transform_work.specs.States.{IsDocument};
+ghost use Rattle.rst_transform_docinfo.specs.Docinfo.{with_docinfo};
 ghost use Rattle.rst_transform_messages.specs.Filtered.{with_filtered};
-ghost use Rattle.rst_transform.specs.Finishing.{AreOfKinds, Finishes, IsStarted, IsTransformed, ResolvesLinks, Where};
-ghost use Rattle.rst_transform_messages.specs.Listed.{report_said, CameOf, Lists};
-ghost use Rattle.rst_transform_messages.specs.Messages.{highest_level, is_number_shown, EndsAtHalt, Numbered};
-ghost use Rattle.rst_transform_messages.specs.MessagesIn.{messages_in};
-ghost use Rattle.rst_transform_messages.specs.Shown.{is_shown_in};
-ghost use Rattle.rst_transform_structure.specs.Title.{IsTitled};
+ghost use Rattle.rst_transform_messages.specs.Listed.{report_said, Lists};
+ghost use Rattle.rst_transform_messages.specs.Messages.{highest_level, is_number_shown, Numbered};
+ghost use Rattle.rst_transform_messages.specs.MessagesIn.{messages_among};
+ghost use Rattle.rst_transform_structure.specs.Targets.{with_targets};
+ghost use Rattle.rst_transform_structure.specs.Title.{with_title};
+ghost use Rattle.rst_transform_substitutions.specs.Expanded.{with_expansions};
+ghost use Rattle.rst_transform.specs.Finishing.{asked, document_in, known_at_first, Finishes};
+ghost use Rattle.rst_transform.specs.Finishing as spec;
 
+use crate::linking::resolve_links;
+use crate::look::has_early;
 use rst_settings::{Settings, Threshold};
 use rst_transform_docinfo::docinfo::docinfo;
-use rst_transform_footnotes::footnotes::footnotes;
-use rst_transform_hyperlinks::anonymous::anonymous;
-use rst_transform_hyperlinks::indirect::indirect;
 use rst_transform_messages::Messages;
 use rst_transform_messages::filter::filter;
 use rst_transform_names::{Registered, register};
-use rst_transform_references::resolve::resolve;
 use rst_transform_structure::last_section::last_section;
 use rst_transform_structure::targets::targets;
 use rst_transform_structure::title::title;
@@ -29,7 +30,7 @@ use rst_transform_structure::transitions::transitions;
 use rst_transform_substitutions::expand::expand;
 use rst_transform_work::{Context, Document, Report};
 use rst_tree::{Node, Note, TreeFault};
-use rst_tree_index::{Kinds, Marked};
+use rst_tree_index::Marked;
 use std::alloc::Global;
 
 /// A document as it is printed, and the messages of the run.
@@ -55,16 +56,13 @@ pub fn finish(
 ) -> Result<Finished, TreeFault>
     requires document { IsDocument document }
     ensures finishes { Finishes messages (profile_of settings.now) settings.now document result }
-    ensures shown { IfOk result (λ done. is_shown_in settings.now.report done.document ≡ true) }
-    ensures halt { IfOk result (λ done. EndsAtHalt settings.now.halt done.notes.items) }
     ensures highest { IfOk result (λ done. done.highest ≡ highest_level done.notes.items) }
     ensures few { IfOk result (λ done. done.highest ≤ 4) }
 {
-    let kinds = document.kinds();
     let registered = register(alloc, document, messages)?;
-    let list = listed(alloc, &registered, kinds, messages, settings)?;
     let (start, mut context) = started(alloc, registered, messages);
-    let after = transformed(alloc, start, &mut context, kinds, settings)?;
+    let list = listed(alloc, &start, messages, settings)?;
+    let after = transformed(alloc, start, &mut context, settings)?;
     let sectioned = last_section(alloc, after, &mut context, settings.report)?;
     let (shown, list) = filtered(alloc, sectioned, context.reports, list, settings.report)?;
     let (notes, highest) = list.end();
@@ -75,20 +73,19 @@ pub fn finish(
     })
 }
 
-/// The messages in a registered document, whose elements are of some kinds but for what registration put in, in a list with room for so many.
+/// The messages in a registered document, in a list with room for so many.
 fn listed(
     alloc: Global,
-    registered: &Registered,
-    kinds: Kinds,
+    document: &Document,
     room: u64,
     settings: &Settings,
 ) -> Result<Messages, TreeFault>
     ensures halt { Gives (λ list. list.halt ≡ settings.now.halt) result }
     ensures report { Gives (λ list. list.report ≡ settings.now.report) result }
-    ensures lists { Gives (λ list. CameOf kinds registered.now → Lists (messages_in registered.now.root) list) result }
+    ensures lists { Gives (Lists (messages_among document.now.children)) result }
 {
     let mut list = Messages::with_room(alloc, room, settings.halt, settings.report)?;
-    list.add_registered(alloc, registered, kinds)?;
+    list.add_all(alloc, &document.children)?;
     Ok(list)
 }
 
@@ -103,7 +100,6 @@ fn filtered(
     ensures halt { Gives (λ done. done.1.halt ≡ list.halt) result }
     ensures lists { (all : List Numbered) → Lists all list → Gives (λ done. Lists (all ++ map report_said reports.items) done.1) result }
     ensures document { (all : List Numbered) → Lists all list → list.report ≡ report → Gives (λ done. done.0 ≡ with_filtered report (is_number_shown report (all ++ map report_said reports.items)) document) result }
-    ensures shown { Gives (λ done. is_shown_in report (document_node done.0) ≡ true) result }
 {
     let mut list = list;
     list.add_reports(reports)?;
@@ -114,7 +110,8 @@ fn filtered(
 /// A registered document before the transforms, where so many numbers were given to messages, and what is known beside it.
 fn started(alloc: Global, registered: Registered, messages: u64) -> (Document, Context)
     requires document { IsDocument registered.root }
-    ensures { IsStarted messages registered (state result.0 result.1) }
+    ensures document { result.0 ≡ document_in registered.root }
+    ensures known { (r : Registration) → IsRegistered r registered → Holds result.1 (known_at_first messages r) }
 {
     let context = Context {
         ids: registered.ids,
@@ -126,24 +123,37 @@ fn started(alloc: Global, registered: Registered, messages: u64) -> (Document, C
     (Document::of(registered.root), context)
 }
 
-/// A document with elements of some kinds after all transforms, in order.
+/// A document after all transforms, in order.
 fn transformed(
     alloc: Global,
     document: Document,
     context: &mut Context,
-    kinds: Kinds,
     settings: &Settings,
 ) -> Result<Document, TreeFault>
-    requires among { AreOfKinds kinds (elements_of document) }
-    ensures { Gives (λ after. IsTransformed (profile_of settings.now) settings.now (state document context.old) (state after context.new)) result }
+    ensures { Gives (Makes (spec.transformed (profile_of settings.now) settings.now document) context.old context.new) result }
 {
-    let expanded = expand(alloc, document, context, kinds.substitutions)?;
-    let retargeted = targets(alloc, expanded, context, kinds.targets)?;
+    let retargeted = with_early(alloc, document, context)?;
     let titled = with_title(alloc, retargeted, context, settings.title)?;
     let informed = with_info(alloc, titled, context, settings.info)?;
-    let linked = resolve_links(alloc, informed, context, kinds)?;
-    let after = transitions(alloc, linked, context, kinds.transitions)?;
+    let linked = resolve_links(alloc, informed, context)?;
+    let after = transitions(alloc, linked, context)?;
     Ok(after)
+}
+
+/// A document whose substitution references are replaced, and whose internal targets handed on their ids and names. Most have neither.
+fn with_early(
+    alloc: Global,
+    document: Document,
+    context: &mut Context,
+) -> Result<Document, TreeFault>
+    ensures { Gives (Makes (λ known. let expanded = with_expansions document known in with_targets expanded.0 expanded.1) context.old context.new) result }
+{
+    if !has_early(&document.children) {
+        return Ok(document);
+    }
+    let expanded = expand(alloc, document, context)?;
+    let retargeted = targets(alloc, expanded, context)?;
+    Ok(retargeted)
 }
 
 /// A document with its title, if that is asked for.
@@ -151,12 +161,11 @@ fn with_title(
     alloc: Global,
     document: Document,
     context: &mut Context,
-    asked: bool,
+    is_asked: bool,
 ) -> Result<Document, TreeFault>
-    ensures titled { Gives (λ after. Where asked IsTitled (state document context.old) (state after context.new)) result }
-    ensures kinds { Gives (λ after. HasNoNewKinds (elements_of document) (elements_of after)) result }
+    ensures { Gives (Makes (asked is_asked with_title document) context.old context.new) result }
 {
-    if !asked {
+    if !is_asked {
         return Ok(document);
     }
     title(alloc, document, context)
@@ -167,31 +176,12 @@ fn with_info(
     alloc: Global,
     document: Document,
     context: &mut Context,
-    asked: bool,
+    is_asked: bool,
 ) -> Result<Document, TreeFault>
-    ensures informed { Gives (λ after. Where asked HasDocinfo (state document context.old) (state after context.new)) result }
-    ensures kinds { Gives (λ after. HasNoNewKinds (elements_of document) (elements_of after)) result }
+    ensures { Gives (Makes (asked is_asked with_docinfo document) context.old context.new) result }
 {
-    if !asked {
+    if !is_asked {
         return Ok(document);
     }
     docinfo(alloc, document, context)
-}
-
-/// A document with elements of some kinds after the transforms of links, in order.
-fn resolve_links(
-    alloc: Global,
-    document: Document,
-    context: &mut Context,
-    kinds: Kinds,
-) -> Result<Document, TreeFault>
-    requires among { AreOfKinds kinds (elements_of document) }
-    ensures links { Gives (λ after. ResolvesLinks (state document context.old) (state after context.new)) result }
-    ensures kinds { Gives (λ after. HasNoNewLinkKinds (elements_of document) (elements_of after)) result }
-{
-    let paired = anonymous(alloc, document, context, kinds.anonymous)?;
-    let led = indirect(alloc, paired, context, kinds.indirect)?;
-    let numbered = footnotes(alloc, led, context, kinds.footnotes)?;
-    let after = resolve(alloc, numbered, context, kinds.links)?;
-    Ok(after)
 }

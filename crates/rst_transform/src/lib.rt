@@ -3,6 +3,8 @@
 
 mod finishing;
 pub mod laws;
+mod linking;
+mod look;
 
 pub use finishing::{Finished, finish};
 pub use rst_settings::Settings;

@@ -40,7 +40,7 @@ no_parts a (x ∷ []) l other = refl
 no_parts a (x ∷ y ∷ []) l other = absurd (other refl)
 no_parts a (x ∷ y ∷ z ∷ zs) l other = refl
 
--- what stands in the last of some nodes
+-- what is in the last of some nodes
 last_of : (xs : List Node) (n : Node) → last_in (forest_of (xs ++ n ∷ [])) ≡ nodes_in n
 last_of [] (Element t a c l) = refl
 last_of [] (Text t) = refl
@@ -76,7 +76,7 @@ bare_by_count bare = refl
 bare_by_count (element t a c l r) = grind arith
 bare_by_count (words t r) = grind arith
 
--- a paragraph that stands alone is the last of the nodes
+-- a paragraph alone is the last of the nodes
 pub in_paragraph : (f : Forest) → is_some (one_paragraph f) ≡ true → one_paragraph f ≡ Some (last_in f)
 in_paragraph (element t a c l bare) =
     elim (is_paragraph t) as (λ b. is_some (if b then Some c else None) ≡ true → (if b then Some c else None) ≡ Some c) [ true ↦ λ e. refl | false ↦ λ e. grind (arith, e) ]
@@ -148,9 +148,9 @@ pub list_there : (nodes : List Node) (place : ℕ) (n : Node) → place ≡ list
 list_there nodes place n there is at =
     ap (λ i. list_in (slice_get nodes i)) (sym there) ∙ found_list (slice_get nodes place) n is (at ∙ sym (unwrap_or-slice_get nodes place n))
 
--- what it became stands behind the titles
+-- what it became comes after the titles
 pub list_replaced : (first : ℕ) (reports : List Report) (nodes rest made all : List Node) (place count : ℕ) (n : Node) → leading_list nodes ≡ Some n → place ≡ list_place nodes → rest ≡ remove nodes place
-    → made ≡ replaced first reports n → count ≡ prefix_len is_title rest → all ≡ take count rest ++ (made ++ drop count rest) → all ≡ nodes_with first reports (leading_list nodes) nodes
+    → made ≡ (replaced first reports n).0 → count ≡ prefix_len is_title rest → all ≡ take count rest ++ (made ++ drop count rest) → all ≡ (nodes_with first reports (leading_list nodes) nodes).0
 list_replaced first reports nodes rest made all place count n list there left is titles put =
-    put ∙ ap (λ k. take k rest ++ (made ++ drop k rest)) titles ∙ ap (λ m. behind_titles m rest) is ∙ ap (behind_titles (replaced first reports n)) (left ∙ ap (remove nodes) there)
-    ∙ sym (ap (λ o. nodes_with first reports o nodes) list)
+    put ∙ ap (λ k. take k rest ++ (made ++ drop k rest)) titles ∙ ap (λ m. behind_titles m rest) is ∙ ap (behind_titles (replaced first reports n).0) (left ∙ ap (remove nodes) there)
+    ∙ sym (ap (λ o. (nodes_with first reports o nodes).0) list)

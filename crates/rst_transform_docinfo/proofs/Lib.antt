@@ -1,5 +1,2 @@
 pub mod Computing
-pub mod DocinfoKinds
-pub mod FieldKinds
 pub mod Gathering
-pub mod OneAnswer

@@ -48,7 +48,7 @@ of_text line paragraph None = Some (author line paragraph ∷ [])
 abbrev pub by_paragraph : ℕ → Forest → Option (List Node)
 by_paragraph line paragraph = of_text line paragraph (lone_text paragraph)
 
--- one more author in front, if all are there
+-- one more author first, if all are there
 abbrev pub and_author : ℕ → Option Forest → Option (List Node) → Option (List Node)
 and_author line None more = None
 and_author line (Some name) more = option_map (λ authors. author line name ∷ authors) more

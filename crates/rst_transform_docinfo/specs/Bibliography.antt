@@ -91,7 +91,7 @@ abbrev pub fault_report : ℕ → List Report → List ℕ → ℕ → Report
 fault_report first reports name line =
     next_report first reports Warning line (codes "Bibliographic field \"" ++ (name ++ codes "\" is not in its form.")) false
 
--- the same behind those that are known
+-- the same after those that are known
 abbrev pub fault_in : Context → List ℕ → ℕ → Report
 fault_in context name line = fault_report context.first_number context.reports.items name line
 

@@ -1,6 +1,6 @@
 -- The document whose leading field list became its bibliography (reStructuredText Markup Specification, 'Bibliographic Fields'; Document
 -- Tree, 'docinfo').
-use Rattle.std.specs.Prelude.{◌≡◌, ℕ, Bool, true, false, ◌||◌, List, [], ◌∷◌, ◌++◌, take, drop, slice_get, Option, Some, None, if◌then◌else◌}
+use Rattle.std.specs.Prelude.{ℕ, Bool, true, false, ◌||◌, List, [], ◌∷◌, ◌++◌, take, drop, slice_get, Option, Some, None, if◌then◌else◌}
 use Rattle.std.specs.List.{prefix_len, remove}
 use Rattle.rst_tree.specs.declared.attrs.Attr.{Attr}
 use Rattle.rst_tree.specs.declared.node.Node.{Node}
@@ -11,8 +11,7 @@ use Rattle.rst_tree.specs.Forest.{Forest}
 use Rattle.rst_tree.specs.Nodes.{forest_of, nodes_of}
 use Rattle.rst_transform_work.specs.declared.report.Report.{Report}
 use Rattle.rst_transform_work.specs.declared.document.Document.{Document}
-use Rattle.rst_transform_work.specs.Reports.{KeepsRest}
-use Rattle.rst_transform_work.specs.States.{State}
+use Rattle.rst_transform_work.specs.Known.{Known}
 use Rattle.rst_transform_docinfo.specs.Gathered.{Gathered, docinfo_nodes, gathered, none_yet}
 use Rattle.rst_transform_work.specs.Reading.{is_title, may_precede}
 use Rattle.rst_transform_work.specs.Lists.{named}
@@ -26,17 +25,12 @@ first_named from (n ∷ ns) = named from n ∷ ns
 abbrev pub list_gathered : ℕ → List Report → Forest → Gathered
 list_gathered first reports fields = gathered first (none_yet reports) (nodes_of fields)
 
--- what becomes of a field list; the first node has the list's ids and names, too
-abbrev pub replaced : ℕ → List Report → Node → List Node
-replaced first reports (Element t a c l) = first_named a (docinfo_nodes l (list_gathered first reports c))
-replaced first reports (Text t) = []
+-- what becomes of a field list, and the messages then; the first node has the list's ids and names, too
+abbrev pub replaced : ℕ → List Report → Node → List Node × List Report
+replaced first reports (Element t a c l) = let all = list_gathered first reports c in (first_named a (docinfo_nodes l all), all.reports)
+replaced first reports (Text t) = ([], reports)
 
--- the messages behind it
-abbrev pub list_reports : ℕ → List Report → Node → List Report
-list_reports first reports (Element t a c l) = (list_gathered first reports c).reports
-list_reports first reports (Text t) = reports
-
--- whether a node may stand before the field list: a title, a subtitle, a comment, a target, a substitution definition or a message
+-- whether a node may come before the field list: a title, a subtitle, a comment, a target, a substitution definition or a message
 abbrev pub may_lead : Node → Bool
 may_lead n = is_title n || may_precede n
 
@@ -54,32 +48,23 @@ list_in (Some (Element t a c l)) = if is_field_list t then Some (Element t a c l
 list_in (Some (Text t)) = None
 list_in None = None
 
--- the field list of a document's nodes, if the first that may not stand before one is one
+-- the field list of a document's nodes, if the first that may not come before one is one
 abbrev pub leading_list : List Node → Option Node
 leading_list nodes = list_in (slice_get nodes (list_place nodes))
 
--- nodes with others behind the titles that stand first
+-- nodes with others after the titles that come first
 abbrev pub behind_titles : List Node → List Node → List Node
 behind_titles more nodes = let titles = prefix_len is_title nodes in take titles nodes ++ (more ++ drop titles nodes)
 
 -- the nodes of a document with this leading list, if there is one, and the messages then
-abbrev pub nodes_with : ℕ → List Report → Option Node → List Node → List Node
-nodes_with first reports None nodes = nodes
-nodes_with first reports (Some list) nodes = behind_titles (replaced first reports list) (remove nodes (list_place nodes))
+abbrev pub nodes_with : ℕ → List Report → Option Node → List Node → List Node × List Report
+nodes_with first reports None nodes = (nodes, reports)
+nodes_with first reports (Some list) nodes =
+    let made = replaced first reports list in (behind_titles made.0 (remove nodes (list_place nodes)), made.1)
 
-abbrev pub reports_with : ℕ → List Report → Option Node → List Report
-reports_with first reports None = reports
-reports_with first reports (Some list) = list_reports first reports list
-
--- the document whose leading field list became its bibliography, and the messages then
-abbrev pub with_docinfo : ℕ → List Report → Document → Document
-with_docinfo first reports d = let nodes = nodes_of d.children in record d { children = forest_of (nodes_with first reports (leading_list nodes) nodes) }
-
-abbrev pub docinfo_reports : ℕ → List Report → Document → List Report
-docinfo_reports first reports d = reports_with first reports (leading_list (nodes_of d.children))
-
--- the document before and after
-pub record HasDocinfo (before after : State) : Type 0 where
-  pub document : after.document ≡ with_docinfo before.context.first_number before.context.reports.items before.document
-  pub reports : after.context.reports.items ≡ docinfo_reports before.context.first_number before.context.reports.items before.document
-  pub rest : KeepsRest before.context after.context
+-- the document whose leading field list became its bibliography, and what is known then
+abbrev pub with_docinfo : Document → Known → Document × Known
+with_docinfo document known =
+    let nodes = nodes_of document.children in
+    let made = nodes_with known.first_number known.reports (leading_list nodes) nodes in
+    (record document { children = forest_of made.0 }, record known { reports = made.1 })

@@ -128,7 +128,7 @@ fn parted(alloc: Global, text: &str, separator: char, line: usize) -> Result<Vec
     Ok(nodes)
 }
 
-/// Puts the author of a name behind others, unless the name is empty.
+/// Puts the author of a name after others, unless the name is empty.
 fn add_named(alloc: Global, nodes: &mut Vec<Node>, name: &str, line: usize) -> Result<(), TreeFault>
     ensures { Gives (λ _. nodes.new.items ≡ nodes.old.items ++ author_named line name.now) result }
 {

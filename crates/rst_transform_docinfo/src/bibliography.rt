@@ -254,7 +254,7 @@ fn message(alloc: Global, line: usize, name: &str, context: &mut Context) -> Res
     context.report_in_place(alloc, Level::Warning, line, text)
 }
 
-/// A body with one more node behind those in it.
+/// A body with one more node after those in it.
 fn with_child(body: Node, node: Node) -> Result<Node, TreeFault>
     ensures { Gives (λ all. all ≡ with_child node body) result }
 {
@@ -374,7 +374,7 @@ impl Bibliography {
         Ok(())
     }
 
-    /// Puts a field of this name that isn't in its form behind the elements of the `docinfo`.
+    /// Puts a field of this name that isn't in its form after the elements of the `docinfo`.
     fn put_fault(
         &mut self,
         alloc: Global,
@@ -423,7 +423,7 @@ fn info_nodes(alloc: Global, info: Vec<Node>, line: usize) -> Result<Vec<Node>, 
     Ok(nodes)
 }
 
-/// Nodes, and a topic behind them, if there is one.
+/// Nodes, and a topic after them, if there is one.
 fn with_topic(mut nodes: Vec<Node>, topic: Option<Node>) -> Result<Vec<Node>, TreeFault>
     ensures { Gives (λ all. all.items ≡ nodes.items ++ option_to_list topic) result }
 {

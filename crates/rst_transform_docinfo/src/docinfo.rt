@@ -3,11 +3,10 @@ ghost use Rattle.std.specs.Prelude.{◌≡◌, ◌≤◌, ◌++◌, take, drop, 
 ghost use Rattle.std.specs.List.{prefix_len};
 ghost use Rattle.rst_tree.specs.Faults.{Gives};
 ghost use Rattle.rst_tree.specs.Nodes.{forest_of, nodes_of};
-ghost use Rattle.rst_tree_index.specs.Kinds.{HasNoNewKinds};
-ghost use Rattle.rst_transform_docinfo.specs.Docinfo.{first_named, is_field_list, leading_list, list_gathered, list_in, list_place, may_lead, nodes_with, list_reports, replaced, reports_with, HasDocinfo};
+ghost use Rattle.rst_transform_docinfo.specs.Docinfo.{first_named, is_field_list, leading_list, list_gathered, list_in, list_place, may_lead, nodes_with, replaced, with_docinfo};
 ghost use Rattle.rst_transform_docinfo.specs.Gathered.{docinfo_nodes};
+ghost use Rattle.rst_transform_work.specs.Known.{Makes};
 ghost use Rattle.rst_transform_work.specs.Reports.{KeepsRest};
-ghost use Rattle.rst_transform_work.specs.States.{elements_of, state};
 ghost use Rattle.rst_transform_work.specs.Reading.{is_title};
 
 use crate::bibliography::Bibliography;
@@ -15,14 +14,14 @@ use rst_transform_work::{Context, Document, add_names, is_title, may_precede};
 use rst_tree::{Attrs, Children, Node, Tag, TreeFault};
 use std::alloc::Global;
 
-/// Whether a node may stand before the field list.
+/// Whether a node may come before the field list.
 fn may_lead(node: &Node) -> bool
     ensures { result ≡ may_lead node.now }
 {
     is_title(node) || may_precede(node)
 }
 
-/// How many nodes stand before the first that may not precede the field list.
+/// How many nodes come before the first that may not precede the field list.
 fn list_place(nodes: &[Node]) -> usize
     ensures { result ≡ list_place nodes.now }
 {
@@ -34,7 +33,7 @@ fn list_place(nodes: &[Node]) -> usize
     nodes.len()
 }
 
-/// How many titles stand first.
+/// How many titles come first.
 fn title_count(nodes: &[Node]) -> usize
     ensures { result ≡ prefix_len is_title nodes.now }
 {
@@ -96,8 +95,8 @@ fn with_names(alloc: Global, mut nodes: Vec<Node>, attrs: &Attrs) -> Result<Vec<
 
 /// What the fields of a field list become, the first of it with the list's ids and names, too.
 fn replaced(alloc: Global, list: Node, context: &mut Context) -> Result<Vec<Node>, TreeFault>
-    ensures nodes { Gives (λ nodes. nodes.items ≡ replaced context.old.first_number context.old.reports.items list) result }
-    ensures reports { Gives (λ _. context.new.reports.items ≡ list_reports context.old.first_number context.old.reports.items list) result }
+    ensures nodes { Gives (λ nodes. nodes.items ≡ (replaced context.old.first_number context.old.reports.items list).0) result }
+    ensures reports { Gives (λ _. context.new.reports.items ≡ (replaced context.old.first_number context.old.reports.items list).1) result }
     ensures rest { Gives (λ _. KeepsRest context.old context.new) result }
 {
     match list {
@@ -135,8 +134,8 @@ fn with_bibliography(
     children: Children,
     context: &mut Context,
 ) -> Result<Children, TreeFault>
-    ensures nodes { let list = leading_list (nodes_of children) in Gives (λ all. all ≡ forest_of (nodes_with context.old.first_number context.old.reports.items list (nodes_of children))) result }
-    ensures reports { let list = leading_list (nodes_of children) in Gives (λ _. context.new.reports.items ≡ reports_with context.old.first_number context.old.reports.items list) result }
+    ensures nodes { let list = leading_list (nodes_of children) in Gives (λ all. all ≡ forest_of (nodes_with context.old.first_number context.old.reports.items list (nodes_of children)).0) result }
+    ensures reports { let list = leading_list (nodes_of children) in Gives (λ _. context.new.reports.items ≡ (nodes_with context.old.first_number context.old.reports.items list (nodes_of children)).1) result }
     ensures rest { Gives (λ _. KeepsRest context.old context.new) result }
 {
     let mut nodes = children.into_list();
@@ -150,7 +149,7 @@ fn with_bibliography(
 }
 
 /// Takes a field list out that is the first node of the document but for titles, comments, targets, substitution definitions
-/// and messages. What its fields become stands directly behind the titles: the `docinfo`, the dedication and the abstract
+/// and messages. What its fields become comes directly after the titles: the `docinfo`, the dedication and the abstract
 /// (Markup Specification, 'Bibliographic Fields').
 ///
 /// A bibliographic field that isn't in its form stays a field, with a WARNING as the last node in its body. Any other field
@@ -184,8 +183,7 @@ pub fn docinfo(
     document: Document,
     context: &mut Context,
 ) -> Result<Document, TreeFault>
-    ensures informed { Gives (λ after. HasDocinfo (state document context.old) (state after context.new)) result }
-    ensures kinds { Gives (λ after. HasNoNewKinds (elements_of document) (elements_of after)) result }
+    ensures { Gives (Makes (with_docinfo document) context.old context.new) result }
 {
     let Document {
         attrs,

@@ -7,7 +7,7 @@ use rst_transform_work::folded;
 use rst_tree::{Attrs, Children, Node, Tag, TreeFault};
 use std::alloc::Global;
 
-/// A field of a field list (Document Tree, 'field'): a name, and behind it a body.
+/// A field of a field list (Document Tree, 'field'): a name, and after it a body.
 #[derive(Drop)]
 pub struct Field {
     pub attrs: Attrs,

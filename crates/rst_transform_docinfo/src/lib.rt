@@ -5,5 +5,4 @@ mod authors;
 mod bibliography;
 pub mod docinfo;
 mod field;
-pub mod laws;
 pub mod rows;

@@ -1,6 +1,6 @@
 -- The numbers that elements hold as names, one element after the other.
-use Rattle.std.proofs.Common.{◌≡◌, ℕ, List, map, drop, refl, sym}
-use Rattle.std.specs.Prelude.{Option, Some, None}
+use Rattle.std.proofs.Common.{ℕ, List, map, drop}
+use Rattle.std.specs.Prelude.{Option}
 use Rattle.std.specs.List.{enumerate_from}
 use Rattle.std.specs.Option.{option_or}
 use Rattle.rst_transform_names.specs.declared.names.NameEntry.{NameEntry}
@@ -8,15 +8,7 @@ use Rattle.rst_transform_names.specs.declared.names.Names.{Names}
 use Rattle.rst_transform_names.specs.Names.{held_by}
 use Rattle.rst_transform_links.specs.declared.links.Linked.{Linked}
 use Rattle.rst_transform_links.specs.Linkings.{held}
-use Rattle.rst_transform_footnotes.specs.Footnotes.{numbered_entry, KnowsOrElse}
-
-or_none : {A : Type 0} (x : Option A) → option_or x None ≡ x
-or_none None = refl
-or_none (Some x) = refl
-
--- nothing is said of a name
-pub nothing_more : (said : List ℕ → Option NameEntry) (names : Names) → ((name : List ℕ) → said name ≡ None) → KnowsOrElse said names names
-nothing_more said names none name = rw (none name) (sym (or_none (held_by names name)))
+use Rattle.rst_transform_footnotes.specs.Footnotes.{numbered_entry}
 
 -- what is known of names, or else what the elements that are left say of them
 abbrev pub known_with : List (Option (List ℕ)) → ℕ → List Linked → Names → List ℕ → Option NameEntry

@@ -1,6 +1,6 @@
 -- The labels of footnotes (Markup Specification, 'Auto-Numbered Footnotes' and 'Auto-Symbol Footnotes').
-use Rattle.std.specs.Prelude.{◌≡◌, ℕ, ◌<◌, ◌+◌, ◌/◌, ◌%◌, Bool, true, false, get_or, length, nat_eq, List, [], ◌∷◌, ◌++◌, codes, decimal, drop, encode_utf8, filter, if◌then◌else◌, slice_get, slice_index, slice_set, Option, Some, None, option_map}
-use Rattle.std.specs.List.{list_any, repeat, starts_with}
+use Rattle.std.specs.Prelude.{◌≡◌, ℕ, ◌<◌, ◌+◌, ◌/◌, ◌%◌, Bool, true, false, not, get_or, length, nat_eq, List, [], ◌∷◌, codes, decimal, drop, encode_utf8, filter, if◌then◌else◌, slice_get, slice_index, slice_set, Option, Some, None, option_map}
+use Rattle.std.specs.List.{filter_map, list_any, range_with_len, repeat, starts_with}
 use Rattle.std.specs.Str.{bytes_eq}
 use Rattle.rst_transform_names.specs.Ids.{number_in}
 use Rattle.rst_transform_links.specs.Linkings.{Held}
@@ -11,14 +11,13 @@ abbrev pub number_of : Option (List ℕ) → Option ℕ
 number_of None = None
 number_of (Some label) = number_in label
 
--- a label spells this number
-abbrev pub is_number : ℕ → Option ℕ → Bool
-is_number number None = false
-is_number number (Some spelled) = nat_eq spelled number
+-- the numbers that footnotes were written with
+abbrev pub numbers_in : List Held → List ℕ
+numbers_in linked = filter_map (λ one. number_of (mark_of one.0)) linked
 
 -- a footnote was written with a number
 abbrev pub is_written : ℕ → List Held → Bool
-is_written number linked = list_any (λ one. is_number number (number_of (mark_of one.0))) linked
+is_written number linked = list_any (nat_eq number) (numbers_in linked)
 
 -- the numbers with one more that was written, if there is one
 abbrev pub with_written : Option ℕ → List Bool → List Bool
@@ -30,13 +29,9 @@ pub record TellsWritten (linked : List Held) (written : List Bool) : Type 0 wher
   pub all : length written ≡ length linked + 1
   pub tells : (number : ℕ) → number < length written → get_or written number false ≡ is_written number linked
 
--- the numbers from 1, or another one, as many as there are elements, that no footnote was written with
-abbrev pub free_from : ℕ → List Held → List Held → List ℕ
-free_from number all [] = []
-free_from number all (one ∷ more) = (if is_written number all then [] else number ∷ []) ++ free_from (number + 1) all more
-
+-- the numbers from 1, as many as there are elements, that no footnote was written with
 abbrev pub free_numbers : List Held → List ℕ
-free_numbers linked = free_from 1 linked linked
+free_numbers linked = filter (λ number. not (is_written number linked)) (range_with_len 1 (length linked))
 
 -- the symbols: asterisk, dagger, double dagger, section mark, pilcrow, number sign, spade, heart, diamond and club
 abbrev pub symbols : List ℕ
@@ -60,7 +55,7 @@ is_to_number (Some mark) = starts_with nat_eq mark (codes "#")
 abbrev pub to_number : List Held → List Held
 to_number linked = filter (λ one. is_to_number (mark_of one.0)) linked
 
--- the label of a footnote, by that which it was written with, the free numbers that are left and how many symbol footnotes stand before
+-- the label of a footnote, by that which it was written with, the free numbers that are left and how many symbol footnotes come before it
 abbrev pub label_by : Option (List ℕ) → List ℕ → ℕ → Option (List ℕ)
 label_by None free before = None
 label_by (Some mark) free before =

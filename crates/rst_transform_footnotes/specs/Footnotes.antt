@@ -1,13 +1,11 @@
 -- Footnotes, and the references that find them by the order (Markup Specification, 'Footnotes').
-use Rattle.std.specs.Prelude.{◌≡◌, ℕ, ◌&&◌, Bool, true, false, List, [], ◌∷◌, ◌++◌, codes, decimal, find, length, map, option_map, if◌then◌else◌, is_none, slice_get, Option, Some, None}
+use Rattle.std.specs.Prelude.{ℕ, ◌&&◌, Bool, true, false, List, [], ◌∷◌, ◌++◌, codes, decimal, find, length, map, option_and_then, option_map, if◌then◌else◌, is_none, slice_get, Option, Some, None}
 use Rattle.std.specs.List.{enumerate_from, filter_map}
 use Rattle.std.specs.Option.{option_or}
 use Rattle.std.specs.Str.{bytes_eq}
 use Rattle.rst_transform_names.specs.declared.names.NameEntry.{NameEntry}
 use Rattle.rst_transform_names.specs.declared.names.Holder.TheVariants.{Element as HeldBy}
-use Rattle.rst_transform_names.specs.declared.names.Names.{Names as KnownNames}
 use Rattle.rst_transform_names.specs.declared.names.Strength.TheVariants.{Explicit}
-use Rattle.rst_transform_names.specs.Names.{held_by}
 use Rattle.rst_tree.specs.declared.attrs.Attr.{Attr}
 use Rattle.rst_tree.specs.declared.attrs.Value.TheVariants.{List as Listed}
 use Rattle.rst_tree.specs.declared.key.Key.TheVariants.{Ids, Names, Serial}
@@ -20,16 +18,14 @@ use Rattle.rst_transform_links.specs.declared.links.Outcome.{Outcome}
 use Rattle.rst_transform_links.specs.declared.links.Outcome.TheVariants.{Stays, Fails}
 use Rattle.rst_transform_links.specs.declared.footnote_orders.Order.{Order}
 use Rattle.rst_transform_links.specs.declared.footnote_orders.Order.TheVariants.{Numbers, Symbols}
-use Rattle.rst_transform_work.specs.declared.context.Context.{Context}
-use Rattle.rst_transform_work.specs.States.{State}
 use Rattle.rst_transform_links.specs.Holders.{lead_to_id}
 use Rattle.rst_transform_links.specs.Linkings.{Held}
-use Rattle.rst_transform_links.specs.LinkTransforms.{ChangesLinks}
 use Rattle.rst_transform_footnotes.specs.FootnoteLabels.{labels}
 use Rattle.rst_transform_links.specs.FootnoteOrders.{footnote_order, found_by_order, in_order, is_order, order_name, reference_order}
 use Rattle.rst_transform_links.specs.Outcomes.{adds}
 use Rattle.rst_transform_work.specs.Reading.{line_of, list_said, number_said}
-use Rattle.rst_transform_work.specs.Reports.{report_in, IsReported, KeepsRest}
+use Rattle.rst_transform_work.specs.Reports.{reported}
+use Rattle.rst_transform_work.specs.Known.{Known}
 use Rattle.rst_transform_work.specs.Lists.{at_place}
 
 -- ---- the numbers as names
@@ -56,13 +52,9 @@ entry_at labels name (place, one) = entry_of name (own_number one.0 (at_place la
 abbrev pub numbered_entry : List (Option (List ℕ)) → List (ℕ × Held) → List ℕ → Option NameEntry
 numbered_entry labels placed name = slice_get (filter_map (entry_at labels name) placed) 0
 
--- of each name is known what was known before, or else this
-abbrev pub KnowsOrElse : (List ℕ → Option NameEntry) → KnownNames → KnownNames → Type 0
-KnowsOrElse said before after = (name : List ℕ) → held_by after name ≡ option_or (held_by before name) (said name)
-
--- each of some elements holds its number, if it gets one and the name isn't known
-abbrev pub HoldNumbers : List (Option (List ℕ)) → List Held → KnownNames → KnownNames → Type 0
-HoldNumbers labels linked = KnowsOrElse (numbered_entry labels (enumerate_from 0 linked))
+-- what is known of names: what was known before, or else what those elements say
+abbrev pub with_numbers : List (Option (List ℕ)) → List Held → (List ℕ → Option NameEntry) → List ℕ → Option NameEntry
+with_numbers labels linked known name = option_or (known name) (numbered_entry labels (enumerate_from 0 linked) name)
 
 -- ---- the references that find no footnote
 
@@ -78,17 +70,18 @@ left_over order found placed = find (is_left_over order found) placed
 abbrev pub first_left_over : Order → List (Option ℕ) → List Held → Option ℕ
 first_left_over order found linked = option_map (λ p. line_of p.1.0) (left_over order found (enumerate_from 0 linked))
 
--- what the message on them says, where there are so many footnotes of the order
+-- what the message on them says, by how many footnotes of the order there are
 abbrev pub too_many : Order → ℕ → List ℕ
 too_many order footnotes = codes "Too many " ++ (order_name order ++ (codes " footnote references: only " ++ (decimal footnotes ++ codes " corresponding footnotes available.")))
 
--- one ERROR on them, on the line of the first, behind the other messages; its place is given
-abbrev pub TellsLeftOver : Option ℕ → Order → ℕ → Context → Context → Option ℕ → Type 0
-TellsLeftOver None order footnotes before after report = (after ≡ before) × (report ≡ None)
-TellsLeftOver (Some line) order footnotes before after report =
-    (report ≡ Some (length before.reports.items))
-    × IsReported (report_in before Error line (too_many order footnotes) true) before after
-    × KeepsRest before after
+-- one ERROR on them, on the line of the first, after the other messages; its place among them is given
+abbrev pub leftover : Option ℕ → Order → ℕ → Known → Option ℕ × Known
+leftover None order footnotes known = (None, known)
+leftover (Some line) order footnotes known = (Some (length known.reports), reported Error line (too_many order footnotes) true known)
+
+-- the same of those of some elements
+abbrev pub leftover_of : Order → List Held → Known → Option ℕ × Known
+leftover_of order linked = leftover (first_left_over order (found_by_order linked) linked) order (length (in_order order linked))
 
 -- the message on the references of an order, by those on the two
 abbrev pub report_of : Option Order → Option ℕ → Option ℕ → Option ℕ
@@ -111,10 +104,9 @@ abbrev pub is_label : Node → Bool
 is_label (Element Label a c l) = true
 is_label _ = false
 
--- a label shows that of the footnote that it stands in
+-- a label shows that of the footnote that it is in
 abbrev pub label_in : List (Option (List ℕ)) → Option ℕ → Option (List ℕ)
-label_in labels None = None
-label_in labels (Some footnote) = at_place labels footnote
+label_in labels = option_and_then (at_place labels)
 
 -- the names of an element with its number
 abbrev pub with_number : Node → Option (List ℕ) → Option Attr
@@ -141,27 +133,10 @@ outcome_at linked labels found numbers symbols (place, one) = outcome_by linked 
 abbrev pub outcomes_by : List Held → List (Option (List ℕ)) → List (Option ℕ) → Option ℕ → Option ℕ → List Outcome
 outcomes_by linked labels found numbers symbols = map (outcome_at linked labels found numbers symbols) (enumerate_from 0 linked)
 
-abbrev pub outcomes_of : List Held → Option ℕ → Option ℕ → List Outcome
-outcomes_of linked = outcomes_by linked (labels linked) (found_by_order linked)
-
--- ---- the whole
-
--- the message on the references of an order that find none
-abbrev pub TellsOf : Order → List Held → Context → Context → Option ℕ → Type 0
-TellsOf order linked before after report = TellsLeftOver (first_left_over order (found_by_order linked) linked) order (length (in_order order linked)) before after report
-
--- What becomes of the linked elements, and what is known before and after: the numbers are held as names, and then come the messages on the
--- references left over, those to numbered footnotes first.
-pub record DecidesFootnotes (linked : List Held) (before after : Context) (outcomes : List Outcome) : Type 0 where
-  pub names : KnownNames
-  pub numbers : Option ℕ
-  pub symbols : Option ℕ
-  pub between : Context
-  pub hold : HoldNumbers (labels linked) linked before.names names
-  pub tells_numbers : TellsOf Numbers linked (record before { names = names }) between numbers
-  pub tells_symbols : TellsOf Symbols linked between after symbols
-  pub become : outcomes ≡ outcomes_of linked numbers symbols
-
--- the document before and after
-abbrev pub NumbersFootnotes : State → State → Type 0
-NumbersFootnotes = ChangesLinks DecidesFootnotes
+-- What becomes of linked elements. The numbers are held as names, and then come the messages on the references left over, those to numbered
+-- footnotes first.
+abbrev pub footnote_outcomes : List Held → Known → List Outcome × Known
+footnote_outcomes linked known =
+    let numbers : Option ℕ × Known = leftover_of Numbers linked (record known { names = with_numbers (labels linked) linked known.names }) in
+    let symbols : Option ℕ × Known = leftover_of Symbols linked numbers.1 in
+    (outcomes_by linked (labels linked) (found_by_order linked) numbers.0 symbols.0, symbols.1)

@@ -135,7 +135,7 @@ fn first_number(alloc: Global, numbers: &[usize]) -> Result<Option<Text>, TreeFa
     }
 }
 
-/// The label of a footnote, by the free numbers that are left and how many symbol footnotes stand before it.
+/// The label of a footnote, by the free numbers that are left and how many symbol footnotes come before it.
 fn label_of(
     alloc: Global,
     node: &Node,
@@ -156,7 +156,7 @@ fn label_of(
     Ok(Some(Text::from_str(alloc, mark)?))
 }
 
-/// The free numbers that are left behind an element.
+/// The free numbers that are left after an element.
 fn left_free<'n>(node: &Node, free: &'n [usize]) -> &'n [usize]
     ensures { result.now ≡ (if is_to_number (mark_of node.now) then drop 1 free.now else free.now) }
 {

@@ -1,22 +1,22 @@
 //! Footnotes.
-ghost use Rattle.std.specs.Prelude.{◌≡◌, MatchOption, None, Some, false, length, map, slice_get};
+ghost use Rattle.std.specs.Prelude.{◌≡◌, ℕ, List, MatchOption, None, Some, length, map, slice_get};
+ghost use Rattle.std.specs.Option.{option_or};
 ghost use Rattle.rst_tree.specs.Faults.{Gives};
-ghost use Rattle.rst_tree_index.specs.Kinds.{kinds_of, HasNoNewLinkKinds};
-ghost use Rattle.rst_transform_footnotes.specs.Footnotes.{entry_of, first_left_over, is_label, label_in, labelled, lead_to_footnote, outcome_by, outcomes_by, own_number, referring, report_of, too_many, with_number, HoldNumbers, KnowsOrElse, NumbersFootnotes, TellsLeftOver};
+ghost use Rattle.rst_transform_names.specs.Names.{held_by};
+ghost use Rattle.rst_transform_footnotes.specs.Footnotes.{entry_of, first_left_over, footnote_outcomes, is_label, label_in, labelled, lead_to_footnote, outcome_by, outcomes_by, own_number, referring, report_of, leftover, too_many, with_number, with_numbers};
 ghost use Rattle.rst_transform_links.specs.Linkings.{held};
+ghost use Rattle.rst_transform_links.specs.LinkTransforms.{link_changes};
 ghost use Rattle.rst_transform_links.specs.FootnoteOrders.{in_order, reference_order};
+ghost use Rattle.rst_transform_work.specs.Known.{Makes};
 ghost use Rattle.rst_transform_work.specs.Lists.{at_place};
-ghost use Rattle.rst_transform_work.specs.States.{elements_of, state};
 
 use crate::footnote_labels::labels;
 use rst_transform_links::{
-    Addition, LinkTransform, Linked, Order, Outcome, change_links, footnote_order, found_by_order,
-    in_order, reference_order, text_attr,
+    Addition, Changes, LinkTransform, Linked, Order, Outcome, changes_by, footnote_order,
+    found_by_order, in_order, reference_order, text_attr,
 };
 use rst_transform_names::{Holder, NameEntry, Names, Strength};
-use rst_transform_work::{
-    Context, Document, at_place, first_said, line_of, list_said, number_said,
-};
+use rst_transform_work::{Context, at_place, first_said, line_of, list_said, number_said};
 use rst_tree::{Entry, Key, Level, Node, Tag, Text, TreeFault, Value};
 use std::alloc::Global;
 
@@ -57,29 +57,25 @@ use std::alloc::Global;
 ///         y
 /// ```
 ///
-/// References left over become problematics of one ERROR for each of the two numberings. `has` says whether the document may have a
-/// footnote or a reference to one; without them it stays as it is.
+/// References left over become problematics of one ERROR for each of the two numberings.
 pub fn footnotes(
     alloc: Global,
-    document: Document,
     context: &mut Context,
-    has: bool,
-) -> Result<Document, TreeFault>
-    requires has { has ≡ false → (kinds_of (elements_of document)).footnotes ≡ false }
-    ensures footnotes { Gives (λ after. NumbersFootnotes (state document context.old) (state after context.new)) result }
-    ensures kinds { Gives (λ after. HasNoNewLinkKinds (elements_of document) (elements_of after)) result }
+    linked: &[Linked<'_>],
+) -> Result<Changes, TreeFault>
+    ensures { Gives (Makes (link_changes footnote_outcomes (map held linked.now)) context.old context.new) result }
 {
-    let document = change_links::<Numbering>(alloc, document, context, has)?;
-    Ok(document)
+    let changes = changes_by::<Numbering>(alloc, context, linked)?;
+    Ok(changes)
 }
 
 /// The transform of links that numbers footnotes.
 struct Numbering;
 
 impl LinkTransform for Numbering {
-    ghost use Rattle.rst_transform_footnotes.specs.Footnotes.{DecidesFootnotes};
+    ghost use Rattle.rst_transform_footnotes.specs.Footnotes.{footnote_outcomes};
 
-    ghost decides = { DecidesFootnotes };
+    ghost decides = { footnote_outcomes };
 
     fn outcomes(
         alloc: Global,
@@ -130,7 +126,7 @@ fn hold_numbers(
     linked: &[Linked<'_>],
     labels: &[Option<Text>],
 ) -> Result<(), TreeFault>
-    ensures { Gives (λ _. HoldNumbers labels.now (map held linked.now) names.old names.new) result }
+    ensures { Gives (λ _. (name : List ℕ) → held_by names.new name ≡ with_numbers labels.now (map held linked.now) (held_by names.old) name) result }
 {
     for (place, one) in linked.iter().enumerate() {
         hold_own(alloc, names, one.element, labels, place)?;
@@ -146,7 +142,7 @@ fn hold_own(
     labels: &[Option<Text>],
     place: usize,
 ) -> Result<(), TreeFault>
-    ensures { Gives (λ _. KnowsOrElse (λ name. entry_of name (own_number element.now (at_place labels.now place)) element.now) names.old names.new) result }
+    ensures { Gives (λ _. (name : List ℕ) → held_by names.new name ≡ option_or (held_by names.old name) (entry_of name (own_number element.now (at_place labels.now place)) element.now)) result }
 {
     let Some(number) = own_number(element, labels, place) else {
         return Ok(());
@@ -161,7 +157,7 @@ fn hold_number(
     number: &str,
     footnote: &Node,
 ) -> Result<(), TreeFault>
-    ensures { Gives (λ _. KnowsOrElse (λ name. entry_of name (Some number.now) footnote.now) names.old names.new) result }
+    ensures { Gives (λ _. (name : List ℕ) → held_by names.new name ≡ option_or (held_by names.old name) (entry_of name (Some number.now) footnote.now)) result }
 {
     if let Some(_) = names.get(number) {
         return Ok(());
@@ -212,7 +208,7 @@ fn leftover(
     found: &[Option<usize>],
     order: Order,
 ) -> Result<Option<usize>, TreeFault>
-    ensures { Gives (TellsLeftOver (first_left_over order found.now (map held linked.now)) order (length (in_order order (map held linked.now))) context.old context.new) result }
+    ensures { Gives (Makes (leftover (first_left_over order found.now (map held linked.now)) order (length (in_order order (map held linked.now)))) context.old context.new) result }
 {
     let Some(line) = first_left_over(linked, found, order) else {
         return Ok(None);
@@ -293,7 +289,7 @@ fn shown_at(alloc: Global, labels: &[Option<Text>], place: usize) -> Result<Opti
     }
 }
 
-/// A copy of the label of the footnote that a label stands in, if there is one.
+/// A copy of the label of the footnote that a label is in, if there is one.
 fn label_in(
     alloc: Global,
     labels: &[Option<Text>],

@@ -3,5 +3,4 @@
 
 mod footnote_labels;
 pub mod footnotes;
-pub mod laws;
 pub mod rows;

@@ -1,324 +1,316 @@
--- Chains through indirect targets: what is known on them, and that this is what they come to.
-use Rattle.std.proofs.Common.{◌≡◌, ℕ, zero, suc, ◌+◌, ◌<◌, ◌⊎◌, inl, inr, List, [], ◌∷◌, ◌++◌, length, map, refl, sym, ◌∙◌, ap, subst, arith, true, false}
-use Rattle.std.specs.Prelude.{if◌then◌else◌, is_some, slice_set, unwrap_or, Option, Some, None}
+-- Chains through indirect targets: as many steps as there are places are enough, and what is known on a chain that is followed.
+use Rattle.std.proofs.Common.{◌≡◌, ℕ, zero, suc, ◌+◌, ◌<◌, ◌≤◌, ◌||◌, ◌⊎◌, inl, inr, List, [], ◌∷◌, ◌++◌, get_or, length, map, refl, sym, ◌∙◌, ap, subst, arith, Bool, true, false}
+use Rattle.std.specs.Prelude.{is_some, slice_set, unwrap_or, if◌then◌else◌, Option, Some, None}
+use Rattle.std.specs.List.{list_any, sum_by}
+use Rattle.std.proofs.lemmas.Bool.{cases_eq, cases_lt, eq-eqb}
+use Rattle.std.proofs.lemmas.List.{ext_get_or, get_or-set_other, get_or-set_same, length-map, length-set}
+use Rattle.std.proofs.lemmas.List.Sums.{sum_by-set}
+use Rattle.std.proofs.lemmas.Map.Steps.{le-length_from_below}
+use Rattle.std.proofs.Math.Dec.{eqb}
 use Rattle.rst_transform_hyperlinks.specs.declared.chains.Answer.{Answer}
 use Rattle.rst_transform_hyperlinks.specs.declared.chains.Answer.TheVariants.{Circular}
 use Rattle.rst_transform_hyperlinks.specs.declared.chains.Step.{Step}
 use Rattle.rst_transform_hyperlinks.specs.declared.chains.Step.TheVariants.{To, Ends}
-use Rattle.rst_transform_hyperlinks.specs.Chains.{at_once, ends, filled, goes_on, next_of, next_on, EndsAt, IsEnd, KnownBelow}
+use Rattle.rst_transform_hyperlinks.specs.Chains.{answer_of, answers_of, at_once, comes_to, filled, next_of, next_on, step_at, IsKnown, KnownBelow}
 use Rattle.rst_transform_work.specs.Lists.{at_place}
 
--- ---- lists of places and of answers
+-- ---- lists of answers
 
--- it holds of each member
-abbrev Each : (ℕ → Type 0) → List ℕ → Type 0
-Each P [] = Unit {0}
-Each P (one ∷ more) = P one × Each P more
-
-abbrev among : ℕ → List ℕ → Type 0
-among place [] = ⊥
-among place (one ∷ more) = (place ≡ one) ⊎ among place more
-
-each_more : (P : ℕ → Type 0) (chain : List ℕ) (place : ℕ) → Each P chain → P place → Each P (chain ++ place ∷ [])
-each_more P [] place all here = (here, tt)
-each_more P (one ∷ more) place all here = (all.0, each_more P more place all.1 here)
-
-each_as : (P Q : ℕ → Type 0) (chain : List ℕ) → ((place : ℕ) → P place → Q place) → Each P chain → Each Q chain
-each_as P Q [] to all = tt
-each_as P Q (one ∷ more) to all = (to one all.0, each_as P Q more to all.1)
-
-each_at : (P : ℕ → Type 0) (chain : List ℕ) (place : ℕ) → Each P chain → among place chain → P place
-each_at P [] place all h = absurd h
-each_at P (one ∷ more) place all (inl is) = subst P (sym is) all.0
-each_at P (one ∷ more) place all (inr h) = each_at P more place all.1 h
-
-among_more : (chain : List ℕ) (place last : ℕ) → among place chain → among place (chain ++ last ∷ [])
-among_more [] place last h = absurd h
-among_more (one ∷ more) place last (inl is) = inl is
-among_more (one ∷ more) place last (inr h) = inr (among_more more place last h)
-
-among_last : (chain : List ℕ) (place last : ℕ) → place ≡ last → among place (chain ++ last ∷ [])
-among_last [] place last is = inl is
-among_last (one ∷ more) place last is = inr (among_last more place last is)
-
--- answers, of which one is set
-set_all : (answers : List (Option Answer)) (n : ℕ) (v : Option Answer) → length (slice_set answers n v) ≡ length answers
-set_all [] n v = refl
-set_all (x ∷ xs) zero v = refl
-set_all (x ∷ xs) (suc n) v = ap suc (set_all xs n v)
+at_get : {A : Type 0} (list : List (Option A)) (place : ℕ) → at_place list place ≡ get_or list place None
+at_get [] place = refl
+at_get (x ∷ xs) zero = refl
+at_get (x ∷ xs) (suc place) = at_get xs place
 
 set_here : (answers : List (Option Answer)) (n : ℕ) (found : Answer) → n < length answers → at_place (slice_set answers n (Some found)) n ≡ Some found
-set_here [] n found within = absurd (omega (arith, within))
-set_here (x ∷ xs) zero found within = refl
-set_here (x ∷ xs) (suc n) found within = set_here xs n found (omega (arith, within))
+set_here answers n found within = at_get (slice_set answers n (Some found)) n ∙ get_or-set_same answers n (Some found) None within
 
-set_is : (answers : List (Option Answer)) (n place : ℕ) (found answer : Answer) → at_place (slice_set answers n (Some found)) place ≡ Some answer
-    → ((place ≡ n) × (answer ≡ found)) ⊎ (at_place answers place ≡ Some answer)
-set_is [] n place found answer h = absurd (cc)
-set_is (x ∷ xs) zero zero found answer h = inl (refl, cc)
-set_is (x ∷ xs) zero (suc place) found answer h = inr h
-set_is (x ∷ xs) (suc n) zero found answer h = inr h
-set_is (x ∷ xs) (suc n) (suc place) found answer h =
-    elim (set_is xs n place found answer h) [ inl is ↦ inl (ap suc is.0, is.1) | inr was ↦ inr was ]
+set_other : (answers : List (Option Answer)) (n place : ℕ) (v : Option Answer) → (place ≡ n → ⊥) → at_place (slice_set answers n v) place ≡ at_place answers place
+set_other answers n place v other = at_get (slice_set answers n v) place ∙ get_or-set_other answers n place v None other ∙ sym (at_get answers place)
 
-set_stays : (answers : List (Option Answer)) (n place : ℕ) (found : Answer) → is_some (at_place answers place) ≡ true → is_some (at_place (slice_set answers n (Some found)) place) ≡ true
-set_stays [] n place found h = h
-set_stays (x ∷ xs) zero zero found h = refl
-set_stays (x ∷ xs) zero (suc place) found h = h
-set_stays (x ∷ xs) (suc n) zero found h = h
-set_stays (x ∷ xs) (suc n) (suc place) found h = set_stays xs n place found h
-
-set_same : (answers : List (Option Answer)) (n place : ℕ) (found : Answer) → at_place answers place ≡ Some found → at_place (slice_set answers n (Some found)) place ≡ Some found
-set_same [] n place found h = h
-set_same (x ∷ xs) zero zero found h = refl
-set_same (x ∷ xs) zero (suc place) found h = h
-set_same (x ∷ xs) (suc n) zero found h = h
-set_same (x ∷ xs) (suc n) (suc place) found h = set_same xs n place found h
-
--- how many answers aren't known
-abbrev pub unknown : List (Option Answer) → ℕ
-unknown [] = 0
-unknown (None ∷ more) = unknown more + 1
-unknown (Some answer ∷ more) = unknown more
-
-set_fewer : (answers : List (Option Answer)) (n : ℕ) (found : Answer) → n < length answers → at_place answers n ≡ None → unknown (slice_set answers n (Some found)) < unknown answers
-set_fewer [] n found within h = absurd (omega (arith, within))
-set_fewer (None ∷ xs) zero found within h = omega arith
-set_fewer (Some a ∷ xs) zero found within h = absurd (cc)
-set_fewer (None ∷ xs) (suc n) found within h = let k = set_fewer xs n found (omega (arith, within)) h in omega (arith, k)
-set_fewer (Some a ∷ xs) (suc n) found within h = set_fewer xs n found (omega (arith, within)) h
-
--- what holds of a place holds within the list
 has_within : {A : Type 0} (list : List (Option A)) (place : ℕ) (one : A) → at_place list place ≡ Some one → place < length list
 has_within [] place one h = absurd (cc)
 has_within (x ∷ xs) zero one h = omega arith
 has_within (x ∷ xs) (suc place) one h = let k = has_within xs place one h in omega (arith, k)
 
--- answers, of which all in a chain are set
-fill_all : (found : Answer) (chain : List ℕ) (answers : List (Option Answer)) → length (filled found chain answers) ≡ length answers
-fill_all found [] answers = refl
-fill_all found (one ∷ more) answers = fill_all found more (slice_set answers one (Some found)) ∙ set_all answers one (Some found)
+or_true : (a b : Bool) → b ≡ true → (a || b) ≡ true
+or_true true b h = refl
+or_true false b h = h
 
-fill_is : (found : Answer) (chain : List ℕ) (answers : List (Option Answer)) (place : ℕ) (answer : Answer) → at_place (filled found chain answers) place ≡ Some answer
-    → (among place chain × (answer ≡ found)) ⊎ (at_place answers place ≡ Some answer)
-fill_is found [] answers place answer h = inr h
-fill_is found (one ∷ more) answers place answer h =
-    elim (fill_is found more (slice_set answers one (Some found)) place answer h) [
-      | inl on ↦ inl (inr on.0, on.1)
-      | inr set ↦ elim (set_is answers one place found answer set) [ inl is ↦ inl (inl is.0, is.1) | inr was ↦ inr was ]
+-- how many answers aren't known
+abbrev missing : Option Answer → ℕ
+missing None = 1
+missing (Some answer) = 0
+
+abbrev pub unknown : List (Option Answer) → ℕ
+unknown = sum_by missing
+
+set_fewer : (answers : List (Option Answer)) (n : ℕ) (found : Answer) → n < length answers → at_place answers n ≡ None → unknown (slice_set answers n (Some found)) < unknown answers
+set_fewer answers n found within h =
+    let less = sum_by-set missing answers n (Some found) None within in
+    omega (arith, less, ap missing (sym (at_get answers n) ∙ h))
+
+mapped_at : {A B : Type 0} (f : Option A → Option B) (xs : List (Option A)) (place : ℕ) → f None ≡ None → at_place (map f xs) place ≡ f (at_place xs place)
+mapped_at f [] place none = sym none
+mapped_at f (x ∷ xs) zero none = refl
+mapped_at f (x ∷ xs) (suc place) none = mapped_at f xs place none
+
+-- a place is one of some
+abbrev among : ℕ → List ℕ → Type 0
+among place [] = ⊥
+among place (one ∷ more) = (place ≡ one) ⊎ among place more
+
+among_more : (chain : List ℕ) (place last : ℕ) → among place chain ⊎ (place ≡ last) → among place (chain ++ last ∷ [])
+among_more [] place last (inl on) = absurd on
+among_more [] place last (inr is) = inl is
+among_more (one ∷ more) place last (inl (inl is)) = inl is
+among_more (one ∷ more) place last (inl (inr on)) = inr (among_more more place last (inl on))
+among_more (one ∷ more) place last (inr is) = inr (among_more more place last (inr is))
+
+among_split : (chain : List ℕ) (place last : ℕ) → among place (chain ++ last ∷ []) → among place chain ⊎ (place ≡ last)
+among_split [] place last (inl is) = inr is
+among_split [] place last (inr on) = absurd on
+among_split (one ∷ more) place last (inl is) = inl (inl is)
+among_split (one ∷ more) place last (inr on) = elim (among_split more place last on) [ inl there ↦ inl (inr there) | inr is ↦ inr is ]
+
+-- some places get an answer, and the others stay as they are
+filled_all : (found : Answer) (chain : List ℕ) (answers : List (Option Answer)) → length (filled found chain answers) ≡ length answers
+filled_all found [] answers = refl
+filled_all found (one ∷ more) answers = filled_all found more (slice_set answers one (Some found)) ∙ length-set answers one (Some found)
+
+filled_at : (found : Answer) (chain : List ℕ) (answers : List (Option Answer)) (place : ℕ) → ((p : ℕ) → among p chain → p < length answers)
+    → (among place chain × (at_place (filled found chain answers) place ≡ Some found)) ⊎ ((among place chain → ⊥) × (at_place (filled found chain answers) place ≡ at_place answers place))
+filled_at found [] answers place within = inr (λ on. on, refl)
+filled_at found (one ∷ more) answers place within =
+    elim (filled_at found more (slice_set answers one (Some found)) place (λ p on. subst (λ n. p < n) (sym (length-set answers one (Some found))) (within p (inr on)))) [
+      | inl set ↦ inl (inr set.0, set.1)
+      | inr off ↦ elim (cases_eq place one) [
+        | inl is ↦ inl (inl is, off.1 ∙ ap (at_place (slice_set answers one (Some found))) is ∙ set_here answers one found (within one (inl refl)))
+        | inr other ↦ inr (λ on. elim on [ inl is ↦ other is | inr there ↦ off.0 there ], off.1 ∙ set_other answers one place (Some found) other)
+      ]
     ]
 
-fill_stays : (found : Answer) (chain : List ℕ) (answers : List (Option Answer)) (place : ℕ) → is_some (at_place answers place) ≡ true → is_some (at_place (filled found chain answers) place) ≡ true
-fill_stays found [] answers place h = h
-fill_stays found (one ∷ more) answers place h = fill_stays found more (slice_set answers one (Some found)) place (set_stays answers one place found h)
+module _ (steps : List (Option Step)) where
+  -- ---- as many steps as there are places are enough
 
-fill_same : (found : Answer) (chain : List ℕ) (answers : List (Option Answer)) (place : ℕ) → at_place answers place ≡ Some found → at_place (filled found chain answers) place ≡ Some found
-fill_same found [] answers place h = h
-fill_same found (one ∷ more) answers place h = fill_same found more (slice_set answers one (Some found)) place (set_same answers one place found h)
+  -- how many steps go on before a chain ends, if it does within a number of steps
+  abbrev turns : ℕ → Step → ℕ
+  turns zero step = 0
+  turns (suc n) (Ends answer) = 0
+  turns (suc n) (To place) = suc (turns n (step_at steps place))
 
-fill_on : (found : Answer) (chain : List ℕ) (answers : List (Option Answer)) (place : ℕ) → place < length answers → among place chain → at_place (filled found chain answers) place ≡ Some found
-fill_on found [] answers place within h = absurd h
-fill_on found (one ∷ more) answers place within (inl is) =
-    fill_same found more (slice_set answers one (Some found)) place (subst (λ p. at_place (slice_set answers p (Some found)) place ≡ Some found) is (set_here answers place found within))
-fill_on found (one ∷ more) answers place within (inr h) =
-    fill_on found more (slice_set answers one (Some found)) place (subst (λ n. place < n) (sym (set_all answers one (Some found))) within) h
+  -- where a chain ends within some steps, it is the same within more
+  stable : (n m : ℕ) (step : Step) → turns n step < n → n ≤ m → (turns m step ≡ turns n step) × (comes_to steps n step ≡ comes_to steps m step)
+  stable zero m step over low = absurd (omega (arith, over))
+  stable (suc n) zero step over low = absurd (omega (arith, low))
+  stable (suc n) (suc m) (Ends answer) over low = (refl, refl)
+  stable (suc n) (suc m) (To place) over low = let more = stable n m (step_at steps place) (omega (arith, over)) (omega (arith, low)) in (ap suc more.0, more.1)
 
-none_by : (answer : Option Answer) → ((a : Answer) → answer ≡ Some a → ⊥) → answer ≡ None
-none_by None not = refl
-none_by (Some a) not = absurd (not a refl)
+  -- and where it doesn't, it comes to nothing
+  endless : (n : ℕ) (step : Step) → n ≤ turns n step → comes_to steps n step ≡ Circular
+  endless zero step on = refl
+  endless (suc n) (Ends answer) on = absurd (omega (arith, on))
+  endless (suc n) (To place) on = endless n (step_at steps place) (omega (arith, on))
 
-none_some : {A : Type 0} (x : Option A) (a : A) → x ≡ None → x ≡ Some a → ⊥
-none_some x a h k = let e : None ≡ Some a = sym h ∙ k in cc
+  grows : (n : ℕ) (step : Step) → turns n step ≤ turns (suc n) step
+  grows zero step = omega arith
+  grows (suc n) (Ends answer) = omega arith
+  grows (suc n) (To place) = omega (arith, grows n (step_at steps place))
 
-none_true : {A : Type 0} (x : Option A) → x ≡ None → is_some x ≡ true → ⊥
-none_true x h k = let e : false ≡ true = sym (ap is_some h) ∙ k in cc
+  -- a place without a step comes to nothing
+  lost : (n place : ℕ) → at_place steps place ≡ None → n ≤ turns n (step_at steps place)
+  lost zero place none = omega arith
+  lost (suc n) place none = subst (λ s. suc n ≤ turns (suc n) (unwrap_or s (To place))) (sym none) (omega (arith, lost n place none))
 
--- ---- ends of chains
+  abbrev rank_of : Option Step → ℕ
+  rank_of step = turns (suc (length steps)) (unwrap_or step (To 0))
 
-one_step : (step : Option Step) (one other : ℕ) → step ≡ Some (To one) → step ≡ Some (To other) → one ≡ other
-one_step step one other h k = cc
+  ranks : (xs : List (Option Step)) (place k : ℕ) (step : Step) → at_place xs place ≡ Some step → rank_of (Some step) ≡ k → list_any (eqb k) (map rank_of xs) ≡ true
+  ranks [] place k step at is = absurd (cc)
+  ranks (x ∷ xs) zero k step at is = rw (eq-eqb k (rank_of x) (sym (ap rank_of at ∙ is))) refl
+  ranks (x ∷ xs) (suc place) k step at is = or_true (eqb k (rank_of x)) (list_any (eqb k) (map rank_of xs)) (ranks xs place k step at is)
 
--- a chain that goes on ends where the next one does
-beyond : (steps : List (Option Step)) (place next : ℕ) (a : Answer) → at_place steps place ≡ Some (To next) → EndsAt steps place a → EndsAt steps next a
-beyond steps place next a to (ends p b is) = absurd (cc)
-beyond steps place next a to (goes_on p other b is e) = subst (λ (n : ℕ). EndsAt steps n a) (one_step (at_place steps place) other next is to) e
+  -- each number of steps up to that of a chain from a place is that of a chain from some place
+  here : (n place : ℕ) (step : Option Step) → at_place steps place ≡ step → turns n (step_at steps place) < n → n ≤ suc (length steps) → list_any (eqb (turns n (step_at steps place))) (map rank_of steps) ≡ true
+  here n place None at over low = absurd (omega (arith, over, lost n place at))
+  here n place (Some step) at over low =
+      ranks steps place (turns n (step_at steps place)) step at
+      (ap (λ s. turns (suc (length steps)) (unwrap_or s (To place))) (sym at) ∙ (stable n (suc (length steps)) (step_at steps place) over low).0)
 
-one_further : (steps : List (Option Step)) (place next : ℕ) (a : Answer) → at_place steps place ≡ Some (To next) → IsEnd steps next a → IsEnd steps place a
-one_further steps place next a to (inl e) = inl (goes_on place next a to e)
-one_further steps place next a to (inr none) = inr (none.0, λ other e. none.1 other (beyond steps place next other to e))
+  later : (n : ℕ) (step : Step) → turns n step < n → n ≤ suc (length steps) → (q : ℕ) → q < turns n step → list_any (eqb q) (map rank_of steps) ≡ true
+  later zero step over low q less = absurd (omega (arith, over))
+  later (suc n) (Ends answer) over low q less = absurd (omega (arith, less))
+  later (suc n) (To place) over low q less =
+      elim (cases_eq q (turns n (step_at steps place))) [
+        | inl is ↦ subst (λ k. list_any (eqb k) (map rank_of steps) ≡ true) (sym is) (here n place (at_place steps place) refl (omega (arith, over)) (omega (arith, low)))
+        | inr other ↦ later n (step_at steps place) (omega (arith, over)) (omega (arith, low)) q (omega (arith, less, other))
+      ]
 
-no_step : (steps : List (Option Step)) (place : ℕ) (a : Answer) → at_place steps place ≡ None → EndsAt steps place a → ⊥
-no_step steps place a h (ends p b is) = cc
-no_step steps place a h (goes_on p next b is e) = cc
+  -- so it takes fewer than there are places
+  fewer : (place : ℕ) → turns (suc (length steps)) (step_at steps place) < suc (length steps) → turns (suc (length steps)) (step_at steps place) < length steps
+  fewer place over =
+      let all = le-length_from_below (map rank_of steps) (turns (suc (length steps)) (step_at steps place) + 1) (λ q less.
+      elim (cases_eq q (turns (suc (length steps)) (step_at steps place))) [
+        | inl is ↦ subst (λ k. list_any (eqb k) (map rank_of steps) ≡ true) (sym is) (here (suc (length steps)) place (at_place steps place) refl over (omega arith))
+        | inr other ↦ later (suc (length steps)) (step_at steps place) over (omega arith) q (omega (arith, less, other))
+      ]) in
+      omega (arith, all, length-map steps rank_of)
 
--- it goes on from a place to one of some others
-abbrev Onto : List (Option Step) → List ℕ → ℕ → Type 0
-Onto steps others place = (next : ℕ) × (at_place steps place ≡ Some (To next)) × among next others
+  -- what the chain from a place comes to
+  abbrev end : ℕ → Answer
+  end place = comes_to steps (length steps) (step_at steps place)
 
--- a chain on which each goes on to one of them never ends
-circle : (steps : List (Option Step)) (chain : List ℕ) (place : ℕ) (a : Answer) → Each (Onto steps chain) chain → among place chain → EndsAt steps place a → ⊥
-circle steps chain place a closed on (ends p b is) = let onto = each_at (Onto steps chain) chain place closed on in let to : at_place steps place ≡ Some (To onto.0) = onto.1 in cc
-circle steps chain place a closed on (goes_on p next b is e) =
-    let onto = each_at (Onto steps chain) chain place closed on in
-    circle steps chain next a closed (subst (λ (n : ℕ). among n chain) (one_step (at_place steps place) onto.0 next onto.1 is) onto.2) e
+  enough : (place : ℕ) → end place ≡ comes_to steps (suc (length steps)) (step_at steps place)
+  enough place =
+      let step : Step = step_at steps place in
+      elim (cases_lt (turns (length steps) step) (length steps)) [
+        | inl over ↦ (stable (length steps) (suc (length steps)) step over (omega arith)).1
+        | inr on ↦ elim (cases_lt (turns (suc (length steps)) step) (suc (length steps))) [
+          | inl over ↦ absurd (omega (arith, fewer place over, grows (length steps) step, on))
+          | inr further ↦ endless (length steps) step on ∙ sym (endless (suc (length steps)) step further)
+        ]
+      ]
 
-next_from : (answer : Option Answer) (step : Option Step) (next : ℕ) → (if is_some answer then None else next_of step) ≡ Some next → (answer ≡ None) × (step ≡ Some (To next))
-next_from (Some answer) step next h = absurd (cc)
-next_from None None next h = absurd (cc)
-next_from None (Some (Ends answer)) next h = absurd (cc)
-next_from None (Some (To other)) next h = (refl, cc)
+  onward : (place next : ℕ) → at_place steps place ≡ Some (To next) → end place ≡ end next
+  onward place next to = enough place ∙ ap (λ s. comes_to steps (suc (length steps)) (unwrap_or s (To place))) to
 
--- ---- a chain that is followed
+  ended : (place : ℕ) (answer : Answer) → at_place steps place ≡ Some (Ends answer) → end place ≡ answer
+  ended place answer to = enough place ∙ ap (λ s. comes_to steps (suc (length steps)) (unwrap_or s (To place))) to
 
--- it goes on from a place in a chain to another in it, or to the place behind it
-abbrev GoesOn : List (Option Step) → List ℕ → ℕ → ℕ → Type 0
-GoesOn steps chain last place = (next : ℕ) × (at_place steps place ≡ Some (To next)) × (among next chain ⊎ (next ≡ last))
+  at_none : (place : ℕ) → at_place steps place ≡ None → end place ≡ Circular
+  at_none place none = endless (length steps) (step_at steps place) (lost (length steps) place none)
 
--- a chain from a start so far, to a place: those in it count as circular
-pub record Following (steps : List (Option Step)) (start : ℕ) (answers : List (Option Answer)) (chain : List ℕ) (place : ℕ) : Type 0 where
-  pub all : length answers ≡ length steps
-  pub right : (p : ℕ) (a : Answer) → at_place answers p ≡ Some a → (among p chain × (a ≡ Circular)) ⊎ IsEnd steps p a
-  pub only : (p : ℕ) → at_place steps p ≡ None → at_place answers p ≡ None
-  pub last : (p : ℕ) (a : Answer) → at_place steps p ≡ Some (Ends a) → is_some (at_place answers p) ≡ true
-  pub below : (p : ℕ) → p < start → is_some (at_place steps p) ≡ true → is_some (at_place answers p) ≡ true
-  pub goes : Each (GoesOn steps chain place) chain
-  pub onward : (a : Answer) → IsEnd steps place a → Each (λ p. IsEnd steps p a) chain
-  pub begun : (is_some (at_place answers start) ≡ true) ⊎ (place ≡ start)
+  at_step : (place : ℕ) (step : Step) → at_place steps place ≡ Some step → answer_of steps (at_place steps place) ≡ Some (end place)
+  at_step place step at = ap (answer_of steps) at ∙ sym (ap (λ s. Some (comes_to steps (length steps) (unwrap_or s (To place)))) at)
 
--- the place is set as circular, and the chain goes on to the next
-pub Following-more : (steps : List (Option Step)) (start : ℕ) (answers : List (Option Answer)) (chain : List ℕ) (place next : ℕ) → Following steps start answers chain place → next_on steps answers place ≡ Some next
-    → Following steps start (slice_set answers place (Some Circular)) (chain ++ place ∷ []) next
-Following-more steps start answers chain place next f goes =
-    let from : (at_place answers place ≡ None) × (at_place steps place ≡ Some (To next)) = next_from (at_place answers place) (at_place steps place) next goes in
-    let within : place < length answers = subst (λ n. place < n) (sym f.all) (has_within steps place (To next) from.1) in
-    record {
-      all = set_all answers place (Some Circular) ∙ f.all;
-      right = λ p a h.
-          elim (set_is answers place p Circular a h) [
-            | inl is ↦ inl (among_last chain p place is.0, is.1)
-            | inr was ↦ elim (f.right p a was) [ inl on ↦ inl (among_more chain p place on.0, on.1) | inr r ↦ inr r ]
-          ];
-      only = λ p h.
-          none_by (at_place (slice_set answers place (Some Circular)) p)
-          (λ a set. elim (set_is answers place p Circular a set) [
-            | inl is ↦ none_some (at_place steps p) (To next) h (ap (at_place steps) is.0 ∙ from.1)
-            | inr was ↦ none_some (at_place answers p) a (f.only p h) was
-          ]);
-      last = λ p a h. set_stays answers place p Circular (f.last p a h);
-      below = λ p low some. set_stays answers place p Circular (f.below p low some);
-      goes =
-          each_more (GoesOn steps (chain ++ place ∷ []) next) chain place
-          (each_as (GoesOn steps chain place) (GoesOn steps (chain ++ place ∷ []) next) chain
-          (λ p g. (g.0, g.1, elim g.2 [ inl on ↦ inl (among_more chain g.0 place on) | inr is ↦ inl (among_last chain g.0 place is) ])) f.goes)
-          (next, from.1, inr refl);
-      onward = λ a h. let here : IsEnd steps place a = one_further steps place next a from.1 h in each_more (λ p. IsEnd steps p a) chain place (f.onward a here) here;
-      begun = elim f.begun [
-        | inl k ↦ inl (set_stays answers place start Circular k)
-        | inr is ↦ inl (subst (λ s. is_some (at_place (slice_set answers place (Some Circular)) s) ≡ true) is (ap is_some (set_here answers place Circular within)))
-      ];
-    }
+  -- a chain goes on from each of some places to one of them, or to the one after them
+  abbrev GoesOn : List ℕ → ℕ → ℕ → Type 0
+  GoesOn chain last place = (next : ℕ) × (at_place steps place ≡ Some (To next)) × (among next chain ⊎ (next ≡ last)) × (end place ≡ end last)
 
--- fewer aren't known then
-pub Following-less : (steps : List (Option Step)) (start : ℕ) (answers : List (Option Answer)) (chain : List ℕ) (place next : ℕ) → Following steps start answers chain place → next_on steps answers place ≡ Some next
-    → unknown (slice_set answers place (Some Circular)) < unknown answers
-Following-less steps start answers chain place next f goes =
-    let from : (at_place answers place ≡ None) × (at_place steps place ≡ Some (To next)) = next_from (at_place answers place) (at_place steps place) next goes in
-    set_fewer answers place Circular (subst (λ n. place < n) (sym f.all) (has_within steps place (To next) from.1)) from.0
+  circle : (n : ℕ) (chain : List ℕ) (last place : ℕ) → ((p : ℕ) → among p chain → GoesOn chain last p) → among last chain → among place chain → comes_to steps n (step_at steps place) ≡ Circular
+  circle zero chain last place goes closed on = refl
+  circle (suc n) chain last place goes closed on =
+      let go : GoesOn chain last place = goes place on in
+      let there : among go.0 chain = elim go.2 [ inl there ↦ there | inr is ↦ subst (λ p. among p chain) (sym is) closed ] in
+      ap (λ s. comes_to steps (suc n) (unwrap_or s (To place))) go.1 ∙ circle n chain last go.0 goes closed there
 
--- ---- where a chain stops
+  -- ---- a chain that is followed
 
--- where a chain stops and nothing is known, no target stands
-stopped : (answer : Option Answer) (step : Option Step) → (if is_some answer then None else next_of step) ≡ None → ((a : Answer) → step ≡ Some (Ends a) → is_some answer ≡ true) → answer ≡ None → step ≡ None
-stopped (Some a) step h last is = absurd (cc)
-stopped None None h last is = refl
-stopped None (Some (Ends a)) h last is = let k : false ≡ true = last a refl in absurd (cc)
-stopped None (Some (To next)) h last is = absurd (cc)
+  -- a chain from a start so far, to a place: those in it count as circular
+  pub record Following (start : ℕ) (answers : List (Option Answer)) (chain : List ℕ) (place : ℕ) : Type 0 where
+    pub all : length answers ≡ length steps
+    pub each : (p : ℕ) → (among p chain × (at_place answers p ≡ Some Circular)) ⊎ (IsKnown steps answers p ⊎ (at_place answers p ≡ at_once (at_place steps p)))
+    pub below : (p : ℕ) → p < start → IsKnown steps answers p
+    pub goes : (p : ℕ) → among p chain → GoesOn chain place p
+    pub begun : among start chain ⊎ (start ≡ place)
 
-known_here : (answer : Option Answer) (step : Option Step) → (if is_some answer then None else next_of step) ≡ None → ((a : Answer) → step ≡ Some (Ends a) → is_some answer ≡ true) → is_some step ≡ true → is_some answer ≡ true
-known_here (Some a) step h last some = refl
-known_here None step h last some = absurd (none_true step (stopped None step h last refl) some)
+  next_from : (answer : Option Answer) (step : Option Step) (next : ℕ) → (if is_some answer then None else next_of step) ≡ Some next → (answer ≡ None) × (step ≡ Some (To next))
+  next_from (Some answer) step next h = absurd (cc)
+  next_from None None next h = absurd (cc)
+  next_from None (Some (Ends answer)) next h = absurd (cc)
+  next_from None (Some (To other)) next h = (refl, cc)
 
--- what is known there is what the chain comes to
-right_here : (steps : List (Option Step)) (start : ℕ) (answers : List (Option Answer)) (chain : List ℕ) (place : ℕ) → Following steps start answers chain place → next_on steps answers place ≡ None
-    → (here : Option Answer) → at_place answers place ≡ here → IsEnd steps place (unwrap_or here Circular)
-right_here steps start answers chain place f stops None e =
-    inr (refl, λ other end. no_step steps place other (stopped (at_place answers place) (at_place steps place) stops (λ a. f.last place a) e) end)
-right_here steps start answers chain place f stops (Some a) e =
-    elim (f.right place a e) [
-      | inl on ↦
-          let closed : Each (Onto steps chain) chain =
-          each_as (GoesOn steps chain place) (Onto steps chain) chain
-          (λ p g. (g.0, g.1, elim g.2 [ inl there ↦ there | inr is ↦ subst (λ (n : ℕ). among n chain) (sym is) on.0 ])) f.goes in
-          inr (on.1, λ other end. circle steps chain place other closed on.0 end)
-      | inr r ↦ r
-    ]
+  module _ (start : ℕ) (answers : List (Option Answer)) (chain : List ℕ) (place : ℕ) (f : Following start answers chain place) where
+    -- ---- it goes on
 
-low_or : (p start : ℕ) → p < start + 1 → (p < start) ⊎ (p ≡ start)
-low_or zero zero h = inr refl
-low_or zero (suc start) h = inl (omega arith)
-low_or (suc p) zero h = absurd (omega (arith, h))
-low_or (suc p) (suc start) h = elim (low_or p start (omega (arith, h))) [ inl low ↦ inl (omega (arith, low)) | inr is ↦ inr (ap suc is) ]
+    module _ (next : ℕ) (goes : next_on steps answers place ≡ Some next) where
+      from : (at_place answers place ≡ None) × (at_place steps place ≡ Some (To next))
+      from = next_from (at_place answers place) (at_place steps place) next goes
 
--- all in the chain are set as what it comes to
-pub Following-end : (steps : List (Option Step)) (start : ℕ) (answers : List (Option Answer)) (chain : List ℕ) (place : ℕ) (found : Answer) → Following steps start answers chain place → next_on steps answers place ≡ None
-    → found ≡ unwrap_or (at_place answers place) Circular → KnownBelow steps (start + 1) (filled found chain answers)
-Following-end steps start answers chain place found f stops is =
-    let E : ℕ → Type 0 = λ p. IsEnd steps p found in
-    let here : IsEnd steps place found = subst (λ (a : Answer). IsEnd steps place a) (sym is) (right_here steps start answers chain place f stops (at_place answers place) refl) in
-    let ended : Each E chain = f.onward found here in
-    record {
-      all = fill_all found chain answers ∙ f.all;
-      right = λ p a h.
-          elim (fill_is found chain answers p a h) [
-            | inl on ↦ subst (λ (b : Answer). IsEnd steps p b) (sym on.1) (each_at E chain p ended on.0)
-            | inr was ↦ elim (f.right p a was) [
-              | inl on ↦
-                  let e : Some found ≡ Some a = sym (fill_on found chain answers p (has_within answers p a was) on.0) ∙ h in
-                  let same : found ≡ a = cc in
-                  subst (λ (b : Answer). IsEnd steps p b) same (each_at E chain p ended on.0)
-              | inr r ↦ r
-            ]
-          ];
-      only = λ p h.
-          none_by (at_place (filled found chain answers) p)
-          (λ a set. elim (fill_is found chain answers p a set) [
-            | inl on ↦ let goes = each_at (GoesOn steps chain place) chain p f.goes on.0 in none_some (at_place steps p) (To goes.0) h goes.1
-            | inr was ↦ none_some (at_place answers p) a (f.only p h) was
-          ]);
-      last = λ p a h. fill_stays found chain answers p (f.last p a h);
-      below = λ p low some.
-          elim (low_or p start low) [
-            | inl lower ↦ fill_stays found chain answers p (f.below p lower some)
-            | inr at ↦ elim f.begun [
-              | inl k ↦ subst (λ s. is_some (at_place (filled found chain answers) s) ≡ true) (sym at) (fill_stays found chain answers start k)
-              | inr stays ↦
-                  let there : is_some (at_place steps place) ≡ true = subst (λ s. is_some (at_place steps s) ≡ true) (at ∙ sym stays) some in
-                  subst (λ s. is_some (at_place (filled found chain answers) s) ≡ true) (stays ∙ sym at)
-                  (fill_stays found chain answers place (known_here (at_place answers place) (at_place steps place) stops (λ a. f.last place a) there))
-            ]
-          ];
-    }
+      within : place < length answers
+      within = subst (λ n. place < n) (sym f.all) (has_within steps place (To next) from.1)
 
--- the chains that end with the first step
-once_at : (steps : List (Option Step)) (place : ℕ) → at_place (map at_once steps) place ≡ at_once (at_place steps place)
-once_at [] place = refl
-once_at (step ∷ more) zero = refl
-once_at (step ∷ more) (suc place) = once_at more place
+      -- a place that is known isn't the one that the chain goes on from
+      not_here : (p : ℕ) → IsKnown steps answers p → p ≡ place → ⊥
+      not_here p known is =
+          let none : None ≡ answer_of steps (Some (To next)) = sym from.0 ∙ subst (λ n. IsKnown steps answers n) is known ∙ ap (answer_of steps) from.1 in cc
 
-once_is : (step : Option Step) (a : Answer) → at_once step ≡ Some a → step ≡ Some (Ends a)
-once_is None a h = absurd (cc)
-once_is (Some (Ends b)) a h = cc
-once_is (Some (To next)) a h = absurd (cc)
+      pub Following-more : Following start (slice_set answers place (Some Circular)) (chain ++ place ∷ []) next
+      Following-more = record {
+        all = length-set answers place (Some Circular) ∙ f.all;
+        each = λ p.
+            elim (cases_eq p place) [
+              | inl is ↦ inl (among_more chain p place (inr is), ap (at_place (slice_set answers place (Some Circular))) is ∙ set_here answers place Circular within)
+              | inr other ↦
+                  let same : at_place (slice_set answers place (Some Circular)) p ≡ at_place answers p = set_other answers place p (Some Circular) other in
+                  elim (f.each p) [
+                    | inl on ↦ inl (among_more chain p place (inl on.0), same ∙ on.1)
+                    | inr (inl known) ↦ inr (inl (same ∙ known))
+                    | inr (inr once) ↦ inr (inr (same ∙ once))
+                  ]
+            ];
+        below = λ p low. set_other answers place p (Some Circular) (not_here p (f.below p low)) ∙ f.below p low;
+        goes = λ p on.
+            elim (among_split chain p place on) [
+              | inl there ↦
+                  let go : GoesOn chain place p = f.goes p there in
+                  (go.0, go.1, inl (among_more chain go.0 place go.2), go.3 ∙ onward place next from.1)
+              | inr is ↦ subst (λ n. GoesOn (chain ++ place ∷ []) next n) (sym is) (next, from.1, inr refl, onward place next from.1)
+            ];
+        begun = inl (among_more chain start place f.begun);
+      }
 
-once_all : (steps : List (Option Step)) → length (map at_once steps) ≡ length steps
-once_all [] = refl
-once_all (step ∷ more) = ap suc (once_all more)
+      -- fewer aren't known then
+      pub Following-less : unknown (slice_set answers place (Some Circular)) < unknown answers
+      Following-less = set_fewer answers place Circular within from.0
 
-pub Known-init : (steps : List (Option Step)) → KnownBelow steps 0 (map at_once steps)
-Known-init steps = record {
-  all = once_all steps;
-  right = λ p a h. inl (ends p a (once_is (at_place steps p) a (sym (once_at steps p) ∙ h)));
-  only = λ p h. once_at steps p ∙ ap at_once h;
-  last = λ p a h. ap is_some (once_at steps p ∙ ap at_once h);
-  below = λ p low some. absurd (omega (arith, low));
-}
+    -- ---- it stops
+
+    module _ (found : Answer) (stops : next_on steps answers place ≡ None) (is : found ≡ unwrap_or (at_place answers place) Circular) where
+      -- what is known where a chain stops
+      stopped : (answer : Option Answer) (step : Option Step) → at_place steps place ≡ step → (if is_some answer then None else next_of step) ≡ None
+          → (answer ≡ answer_of steps step) ⊎ (answer ≡ at_once step) → (unwrap_or answer Circular ≡ end place) × (answer ≡ answer_of steps step)
+      stopped answer None at h (inl known) = (ap (λ a. unwrap_or a Circular) known ∙ sym (at_none place at), known)
+      stopped answer None at h (inr once) = (ap (λ a. unwrap_or a Circular) once ∙ sym (at_none place at), once)
+      stopped answer (Some step) at h (inl known) =
+          (ap (λ a. unwrap_or a Circular) known ∙ sym (ap (λ s. comes_to steps (length steps) (unwrap_or s (To place))) at), known)
+      stopped answer (Some (Ends a)) at h (inr once) =
+          let e : a ≡ end place = sym (ended place a at) in
+          (ap (λ b. unwrap_or b Circular) once ∙ e, once ∙ ap Some (e ∙ ap (λ s. comes_to steps (length steps) (unwrap_or s (To place))) at))
+      stopped None (Some (To next)) at h (inr once) = absurd (cc)
+      stopped (Some a) (Some (To next)) at h (inr once) = absurd (cc)
+
+      right : (found ≡ end place) × (among place chain ⊎ IsKnown steps answers place)
+      right = elim (f.each place) [
+        | inl on ↦ (is ∙ ap (λ a. unwrap_or a Circular) on.1 ∙ sym (circle (length steps) chain place place f.goes on.0 on.0), inl on.0)
+        | inr known ↦ let s = stopped (at_place answers place) (at_place steps place) refl stops known in (is ∙ s.0, inr s.1)
+      ]
+
+      -- all in the chain are set
+      after : (p : ℕ) → IsKnown steps (filled found chain answers) p ⊎ ((among p chain → ⊥) × (at_place (filled found chain answers) p ≡ at_place answers p))
+      after p = elim (filled_at found chain answers p (λ q on. let go : GoesOn chain place q = f.goes q on in subst (λ n. q < n) (sym f.all) (has_within steps q (To go.0) go.1))) [
+        | inl set ↦ let go : GoesOn chain place p = f.goes p set.0 in inl (set.1 ∙ ap Some (right.0 ∙ sym go.3) ∙ sym (at_step p (To go.0) go.1))
+        | inr off ↦ inr off
+      ]
+
+      known_after : (p : ℕ) → among p chain ⊎ IsKnown steps answers p → IsKnown steps (filled found chain answers) p
+      known_after p known = elim (after p) [
+        | inl set ↦ set
+        | inr off ↦ elim known [ inl on ↦ absurd (off.0 on) | inr was ↦ off.1 ∙ was ]
+      ]
+
+      pub Following-end : KnownBelow steps (start + 1) (filled found chain answers)
+      Following-end = record {
+        all = filled_all found chain answers ∙ f.all;
+        each = λ p. elim (f.each p) [
+          | inl on ↦ inl (known_after p (inl on.0))
+          | inr (inl known) ↦ inl (known_after p (inr known))
+          | inr (inr once) ↦ elim (after p) [ inl set ↦ inl set | inr off ↦ inr (off.1 ∙ once) ]
+        ];
+        below = λ p low. elim (cases_eq p start) [
+          | inr other ↦ known_after p (inr (f.below p (omega (arith, low, other))))
+          | inl at ↦ known_after p (elim f.begun [
+            | inl on ↦ inl (subst (λ n. among n chain) (sym at) on)
+            | inr stays ↦ subst (λ n. among n chain ⊎ IsKnown steps answers n) (sym (at ∙ stays)) right.1
+          ])
+        ];
+      }
+
+  -- ---- all chains
+
+  pub Known-init : KnownBelow steps 0 (map at_once steps)
+  Known-init = record { all = length-map steps at_once; each = λ p. inr (mapped_at at_once steps p refl); below = λ p low. absurd (omega (arith, low)) }
+
+  pub Known-end : (answers : List (Option Answer)) → KnownBelow steps (length steps) answers → answers ≡ answers_of steps
+  Known-end answers k =
+      ext_get_or None answers (answers_of steps) (k.all ∙ sym (length-map steps (answer_of steps)))
+      (λ p low. sym (at_get answers p) ∙ k.below p (omega (arith, low, k.all)) ∙ sym (mapped_at (answer_of steps) steps p refl) ∙ at_get (answers_of steps) p)

@@ -1,49 +1,54 @@
 -- What becomes of linked elements, by the first steps from indirect targets.
-use Rattle.std.proofs.Common.{◌≡◌, ℕ, zero, suc, List, [], ◌∷◌, length, map, ◌∙◌, ap, subst}
-use Rattle.std.specs.Prelude.{option_map, slice_get, Option, Some}
+use Rattle.std.proofs.Common.{◌≡◌, ℕ, true, false, List, [], ◌∙◌, ap, sym}
+use Rattle.std.specs.List.{list_all}
+use Rattle.std.specs.Prelude.{is_none, Option}
 use Rattle.rst_transform_names.specs.declared.names.Holder.{Holder}
 use Rattle.rst_transform_names.specs.Names.{held_by}
-use Rattle.rst_transform_links.specs.declared.links.Linked.{Linked}
 use Rattle.rst_transform_links.specs.declared.links.Outcome.{Outcome}
 use Rattle.rst_transform_links.specs.Holders.{holder_place}
-use Rattle.rst_transform_links.specs.Linkings.{Held, held}
+use Rattle.rst_transform_links.specs.Linkings.{Held}
 use Rattle.rst_transform_work.specs.declared.context.Context.{Context}
+use Rattle.rst_transform_work.specs.declared.report.Report.{Report}
+use Rattle.rst_transform_work.specs.Known.{Makes}
 use Rattle.rst_transform_work.specs.Lists.{at_place}
 use Rattle.rst_transform_work.specs.Reports.{KeepsRest}
+use Rattle.rst_transform_work.proofs.Holding.{holds_reports}
 use Rattle.rst_transform_hyperlinks.specs.declared.chains.Answer.{Answer}
-use Rattle.rst_transform_hyperlinks.specs.Indirect.{element_at, outcomes_from, reports_from, targets_of, with_reports, AreAnswers, DecidesIndirect}
-use Rattle.rst_transform_hyperlinks.specs.Chains.{step_to, step_to_one, steps_of, KnownBelow}
-use Rattle.rst_transform_hyperlinks.proofs.Reaching.{are_answers}
+use Rattle.rst_transform_hyperlinks.specs.declared.chains.Step.{Step}
+use Rattle.rst_transform_hyperlinks.specs.Indirect.{indirect_outcomes, outcomes_by, targets_of, with_reports}
+use Rattle.rst_transform_hyperlinks.specs.Chains.{answers_of, steps_of}
 
--- the element at a place is what is held there
-pub held_at : (linked : List Linked) (place : ℕ) (one : Linked) → slice_get linked place ≡ Some one → slice_get (map held linked) place ≡ Some (held one)
-held_at [] place one h = absurd (cc)
-held_at (first ∷ more) zero one h = let same : first ≡ one = cc in ap (λ (l : Linked). Some (held l)) same
-held_at (first ∷ more) (suc place) one h = held_at more place one h
+-- what is made of linked elements, by their answers and by the targets that they mean
+abbrev made : List Held → List (Option Answer) → List (Option ℕ) → ℕ → List Report → List Outcome × List Report
+made linked answers targets first reports =
+    let told : List (Option ℕ) × List Report = with_reports (at_place answers) first reports 0 linked in (outcomes_by (at_place answers) (at_place told.0) (at_place targets) linked, told.1)
 
--- the first step to the one at a place goes by its element
-pub stepping : (linked : List Linked) (place : Option ℕ) (found : ℕ) (one : Linked) (uri : Option (List ℕ)) (id : List ℕ) → place ≡ Some found → slice_get linked found ≡ Some one
-    → step_to (map held linked) place uri id ≡ step_to_one found (Some one.element.now) uri id
-stepping linked place found one uri id is there =
-    ap (λ (p : Option ℕ). step_to (map held linked) p uri id) is ∙ ap (λ (h : Option Held). step_to_one found (option_map (λ (o : Held). o.0) h) uri id) (held_at linked found one there)
+-- no element is an indirect target
+pub leads_none : (linked : List Held) (context : Context) (places : Holder → Option ℕ) (steps : List (Option Step)) (outcomes : List Outcome) → ((holder : Holder) → places holder ≡ holder_place context.serials linked holder)
+    → steps ≡ steps_of (held_by context.names) places linked → list_all is_none steps ≡ true → outcomes ≡ [] → Makes (indirect_outcomes linked) context context outcomes
+leads_none linked context places steps outcomes stand found none become known h =
+    let held : held_by context.names ≡ known.names = λ i name. h.names name i in
+    let standing : places ≡ holder_place known.serials linked = λ i holder. (stand holder ∙ ap (λ (n : ℕ). holder_place n linked holder) h.serials) i in
+    let all : list_all is_none (steps_of known.names (holder_place known.serials linked) linked) ≡ true =
+    sym (λ i. list_all is_none (steps_of (held i) (standing i) linked)) ∙ ap (list_all is_none) (sym found) ∙ none in
+    rw all (become, h)
 
 -- where all answers, messages and targets are found, that is what becomes of the elements
 pub leads_all : (linked : List Held) (before after : Context) (places : Holder → Option ℕ) (answers : List (Option Answer)) (targets reports : List (Option ℕ)) (outcomes : List Outcome)
-    → ((holder : Holder) → places holder ≡ holder_place before.serials linked holder) → KnownBelow (steps_of before.names places linked) (length (steps_of before.names places linked)) answers
-    → targets ≡ targets_of before.names places linked → reports ≡ reports_from (at_place answers) (length before.reports.items) 0 linked
-    → after.reports.items ≡ with_reports (at_place answers) before.first_number before.reports.items 0 linked → KeepsRest before after
-    → outcomes ≡ outcomes_from (at_place answers) (at_place reports) (at_place targets) 0 linked → DecidesIndirect linked before after outcomes
-leads_all linked before after places answers targets reports outcomes stand known meant told reported rest become =
-    let standing : places ≡ holder_place before.serials linked = λ i holder. stand holder i in
-    let become_by = λ (rs ts : List (Option ℕ)). outcomes_from (at_place answers) (at_place rs) (at_place ts) 0 linked in
-    record {
-      answers = answers;
-      are =
-          subst (λ (p : Holder → Option ℕ). AreAnswers (held_by before.names) (λ holder. element_at linked (p holder)) linked answers) standing
-          (are_answers before.names places linked answers known);
-      reports = reported;
-      rest = rest;
-      become =
-          become ∙ ap (λ (rs : List (Option ℕ)). become_by rs targets) told
-          ∙ ap (become_by (reports_from (at_place answers) (length before.reports.items) 0 linked)) (meant ∙ ap (λ (p : Holder → Option ℕ). targets_of before.names p linked) standing);
-    }
+    → ((holder : Holder) → places holder ≡ holder_place before.serials linked holder) → answers ≡ answers_of (steps_of (held_by before.names) places linked)
+    → list_all is_none (steps_of (held_by before.names) places linked) ≡ false → targets ≡ targets_of (held_by before.names) places linked → reports ≡ (with_reports (at_place answers) before.first_number before.reports.items 0 linked).0
+    → after.reports.items ≡ (with_reports (at_place answers) before.first_number before.reports.items 0 linked).1 → KeepsRest before after
+    → outcomes ≡ outcomes_by (at_place answers) (at_place reports) (at_place targets) linked → Makes (indirect_outcomes linked) before after outcomes
+leads_all linked before after places answers targets reports outcomes stand answered some meant told reported rest become known h =
+    let held : held_by before.names ≡ known.names = λ i name. h.names name i in
+    let standing : places ≡ holder_place known.serials linked = λ i holder. (stand holder ∙ ap (λ (n : ℕ). holder_place n linked holder) h.serials) i in
+    let are : answers ≡ answers_of (steps_of known.names (holder_place known.serials linked) linked) = answered ∙ (λ i. answers_of (steps_of (held i) (standing i) linked)) in
+    let mean : targets ≡ targets_of known.names (holder_place known.serials linked) linked = meant ∙ (λ i. targets_of (held i) (standing i) linked) in
+    let same : made linked answers targets before.first_number before.reports.items
+    ≡ made linked (answers_of (steps_of known.names (holder_place known.serials linked) linked)) (targets_of known.names (holder_place known.serials linked) linked) known.first_number known.reports =
+    λ i. made linked (are i) (mean i) (h.first_number i) (h.reports i) in
+    let not_all : list_all is_none (steps_of known.names (holder_place known.serials linked) linked) ≡ false = sym (λ i. list_all is_none (steps_of (held i) (standing i) linked)) ∙ some in
+    rw not_all (
+      become ∙ ap (λ (rs : List (Option ℕ)). outcomes_by (at_place answers) (at_place rs) (at_place targets) linked) told ∙ ap (λ (done : List Outcome × List Report). done.0) same,
+      holds_reports before after known _ h rest (reported ∙ ap (λ (done : List Outcome × List Report). done.1) same),
+    )

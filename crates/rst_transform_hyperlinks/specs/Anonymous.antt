@@ -1,5 +1,5 @@
 -- Anonymous references and the targets that they refer to (Markup Specification, 'Anonymous Hyperlinks').
-use Rattle.std.specs.Prelude.{◌≡◌, ◌&&◌, ℕ, Bool, true, false, List, [], ◌∷◌, ◌++◌, codes, decimal, drop, filter, length, map, nat_eq, if◌then◌else◌, is_some, slice_get, Option, Some, None}
+use Rattle.std.specs.Prelude.{◌&&◌, ℕ, Bool, true, false, List, [], ◌∷◌, ◌++◌, codes, decimal, drop, filter, length, map, nat_eq, if◌then◌else◌, is_some, slice_get, Option, Some, None}
 use Rattle.rst_tree.specs.declared.attrs.Attr.{Attr}
 use Rattle.rst_tree.specs.declared.key.Key.TheVariants.{Anonymous, Ids, Refname}
 use Rattle.rst_tree.specs.declared.node.Node.{Node}
@@ -12,13 +12,11 @@ use Rattle.rst_tree_index.specs.Kinds.{is_target}
 use Rattle.rst_tree.specs.declared.note.Level.TheVariants.{Error}
 use Rattle.rst_transform_links.specs.declared.links.Outcome.{Outcome}
 use Rattle.rst_transform_links.specs.declared.links.Outcome.TheVariants.{Fails}
-use Rattle.rst_transform_work.specs.declared.context.Context.{Context}
 use Rattle.rst_transform_links.specs.Linkings.{Held}
-use Rattle.rst_transform_links.specs.LinkTransforms.{ChangesLinks}
 use Rattle.rst_transform_links.specs.Outcomes.{adds}
 use Rattle.rst_transform_work.specs.Reading.{line_of, list_said}
-use Rattle.rst_transform_work.specs.Reports.{report_in, IsReported, KeepsRest}
-use Rattle.rst_transform_work.specs.States.{State}
+use Rattle.rst_transform_work.specs.Known.{Known}
+use Rattle.rst_transform_work.specs.Reports.{reported}
 use Rattle.rst_transform_links.specs.Holders.{lead_of, lead_to_id}
 
 abbrev pub is_reference : Tag → Bool
@@ -79,26 +77,18 @@ first_line [] [] = 0
 abbrev pub mismatch : ℕ → ℕ → List ℕ
 mismatch references targets = codes "Anonymous hyperlink mismatch: " ++ (decimal references ++ (codes " references but " ++ (decimal targets ++ codes " targets.")))
 
--- the one ERROR of that comes behind the other messages
-abbrev pub ReportsMismatch : List Held → List Held → Context → Context → Type 0
-ReportsMismatch references targets before after =
-    let text : List ℕ = mismatch (length references) (length targets) in
-    IsReported (report_in before Error (first_line references targets) text true) before after × KeepsRest before after
-
 -- each anonymous reference fails for a message
 abbrev pub failing : ℕ → Node → Outcome
 failing report node = if is_anonymous_reference node then Fails report else adds None
 
--- what becomes of linked elements, by whether there are as many
-abbrev pub DecidesIf : Bool → List Held → Context → Context → List Outcome → Type 0
-DecidesIf true linked before after outcomes = (outcomes ≡ paired linked (anonymous_targets linked)) × (after ≡ before)
-DecidesIf false linked before after outcomes =
-    ReportsMismatch (anonymous_references linked) (anonymous_targets linked) before after
-    × (outcomes ≡ map (λ one. failing (length before.reports.items) one.0) linked)
-
-abbrev pub DecidesAnonymous : List Held → Context → Context → List Outcome → Type 0
-DecidesAnonymous linked = DecidesIf (agree linked) linked
-
--- the linked elements of a document change by that
-abbrev pub IsAnonymous : State → State → Type 0
-IsAnonymous = ChangesLinks DecidesAnonymous
+-- What becomes of linked elements: nothing if none of them is an anonymous reference or target. Where there aren't as many of the ones as of the
+-- others, an ERROR comes after the other messages, and the references fail for it.
+abbrev pub anonymous_outcomes : List Held → Known → List Outcome × Known
+anonymous_outcomes linked known =
+    let references : List Held = anonymous_references linked in
+    let targets : List Held = anonymous_targets linked in
+    if agree linked then ((if nat_eq (length references) 0 then [] else paired linked targets), known)
+    else (
+      map (λ one. failing (length known.reports) one.0) linked,
+      reported Error (first_line references targets) (mismatch (length references) (length targets)) true known,
+    )

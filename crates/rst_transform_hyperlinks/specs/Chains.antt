@@ -1,56 +1,86 @@
--- How the ends of the chains of indirect targets are found, by the places of elements. No rule of markup: Indirect says what they are.
-use Rattle.std.specs.Prelude.{◌≡◌, ◌⊎◌, ℕ, ◌<◌, true, List, [], ◌∷◌, length, map, if◌then◌else◌, is_some, option_map, slice_set, Option, Some, None}
+-- The chains of indirect targets, each of which refers to the name of the next, and what they come to (Markup Specification, 'Hyperlink
+-- Targets').
+use Rattle.std.specs.Prelude.{◌≡◌, ◌⊎◌, ℕ, zero, suc, ◌<◌, Bool, true, false, List, [], ◌∷◌, length, map, if◌then◌else◌, is_some, option_map, slice_get, slice_set, unwrap_or, Option, Some, None}
+use Rattle.rst_tree.specs.declared.attrs.Attr.{Attr}
+use Rattle.rst_tree.specs.declared.key.Key.TheVariants.{Refname}
 use Rattle.rst_tree.specs.declared.node.Node.{Node}
 use Rattle.rst_transform_names.specs.declared.names.Holder.{Holder}
+use Rattle.rst_transform_names.specs.declared.names.Holder.TheVariants.{Nobody, Element as Numbered, Unregistered}
 use Rattle.rst_transform_names.specs.declared.names.NameEntry.{NameEntry}
-use Rattle.rst_transform_names.specs.declared.names.Names.{Names}
-use Rattle.rst_transform_names.specs.Names.{held_by}
-use Rattle.rst_transform_links.specs.Holders.{name_lead}
+use Rattle.rst_transform_links.specs.Holders.{is_target_node, name_lead}
 use Rattle.rst_transform_links.specs.Linkings.{Held}
 use Rattle.rst_transform_hyperlinks.specs.declared.chains.Answer.{Answer}
 use Rattle.rst_transform_hyperlinks.specs.declared.chains.Answer.TheVariants.{Leads, Missing, Circular}
 use Rattle.rst_transform_hyperlinks.specs.declared.chains.Step.{Step}
 use Rattle.rst_transform_hyperlinks.specs.declared.chains.Step.TheVariants.{To, Ends}
-use Rattle.rst_transform_hyperlinks.specs.Indirect.{element_at, has_holder, indirect_name}
 use Rattle.rst_transform_work.specs.Lists.{at_place}
+use Rattle.rst_transform_work.specs.Reading.{text_said}
 
--- a chain ends where a name leads: its holder, and the URI and the id of the element that brought it
-abbrev pub ends_at_name : Option Node → Option (List ℕ) → List ℕ → Step
-ends_at_name holder uri id = Ends (Leads (name_lead holder uri id))
+-- ---- the step from each indirect target
 
--- the first step to an element at a place is there if it is another indirect target, or else where the name leads
-abbrev pub step_to_one : ℕ → Option Node → Option (List ℕ) → List ℕ → Step
-step_to_one place None uri id = ends_at_name None uri id
-step_to_one place (Some node) uri id = if is_some (indirect_name node) then To place else ends_at_name (Some node) uri id
+-- the name that an indirect target refers to
+abbrev pub indirect_name : Node → Option (List ℕ)
+indirect_name node = if is_target_node node then text_said Refname node else None
 
-abbrev pub step_to : List Held → Option ℕ → Option (List ℕ) → List ℕ → Step
-step_to linked None uri id = ends_at_name None uri id
-step_to linked (Some place) uri id = step_to_one place (element_at linked (Some place)) uri id
+-- an element holds a name unless those with equal names lost it
+abbrev pub has_holder : Holder → Bool
+has_holder Nobody = false
+has_holder (Numbered serial) = true
+has_holder Unregistered = true
 
--- the first step to a name, by what is known of it
+-- the linked element at a place
+abbrev pub element_at : List Held → Option ℕ → Option Node
+element_at linked None = None
+element_at linked (Some place) = option_map (λ one. one.0) (slice_get linked place)
+
+-- an element is an indirect target
+abbrev pub is_indirect : Option Node → Bool
+is_indirect None = false
+is_indirect (Some node) = is_some (indirect_name node)
+
+-- on to another indirect target, if one holds the name, or else to where the name leads
+abbrev pub step_on : Bool → Option ℕ → Attr → Step
+step_on true (Some place) lead = To place
+step_on true None lead = Ends (Leads lead)
+step_on false place lead = Ends (Leads lead)
+
+-- the step to a name, by the place of its holder and by what is known of it
+abbrev pub step_to : List Held → Option ℕ → NameEntry → Step
+step_to linked place entry =
+    let holder : Option Node = element_at linked place in step_on (is_indirect holder) place (name_lead holder entry.uri entry.id)
+
+-- the same by the places of the holders of names; nowhere, if no element holds the name
 abbrev pub step_by : List Held → (Holder → Option ℕ) → List ℕ → Option NameEntry → Step
 step_by linked places name None = Ends (Missing name)
-step_by linked places name (Some known) = if has_holder known.holder then step_to linked (places known.holder) known.uri known.id else Ends (Missing name)
-
--- the first step to what a name means among linked elements, by the places of the holders
-abbrev pub first_step : Names → (Holder → Option ℕ) → List Held → List ℕ → Step
-first_step names places linked name = step_by linked places name (held_by names name)
+step_by linked places name (Some entry) = if has_holder entry.holder then step_to linked (places entry.holder) entry else Ends (Missing name)
 
 -- the first step from an element, if it is an indirect target
-abbrev pub own_step : Names → (Holder → Option ℕ) → List Held → Node → Option Step
-own_step names places linked node = option_map (first_step names places linked) (indirect_name node)
+abbrev pub own_step : (List ℕ → Option NameEntry) → (Holder → Option ℕ) → List Held → Node → Option Step
+own_step known places linked node = option_map (λ name. step_by linked places name (known name)) (indirect_name node)
 
-abbrev pub steps_of : Names → (Holder → Option ℕ) → List Held → List (Option Step)
-steps_of names places linked = map (λ one. own_step names places linked one.0) linked
+abbrev pub steps_of : (List ℕ → Option NameEntry) → (Holder → Option ℕ) → List Held → List (Option Step)
+steps_of known places linked = map (λ one. own_step known places linked one.0) linked
 
--- where the chain from a place ends, by the first step from each place
-pub data EndsAt (steps : List (Option Step)) : ℕ → Answer → Type 0 where
-  ends : (place : ℕ) (answer : Answer) → at_place steps place ≡ Some (Ends answer) → EndsAt steps place answer
-  goes_on : (place next : ℕ) (answer : Answer) → at_place steps place ≡ Some (To next) → EndsAt steps next answer → EndsAt steps place answer
+-- ---- what a chain comes to, step by step
 
--- what the chain from a place comes to: its end, or a circle if it has none
-abbrev pub IsEnd : List (Option Step) → ℕ → Answer → Type 0
-IsEnd steps place answer = EndsAt steps place answer ⊎ ((answer ≡ Circular) × ((other : Answer) → EndsAt steps place other → ⊥))
+-- the step from a place; where there is none, a chain stays
+abbrev pub step_at : List (Option Step) → ℕ → Step
+step_at steps place = unwrap_or (at_place steps place) (To place)
+
+-- what a chain comes to that begins with a step, within a number of steps: its end, or a circle if these are too few
+abbrev pub comes_to : List (Option Step) → ℕ → Step → Answer
+comes_to steps zero step = Circular
+comes_to steps (suc more) (Ends answer) = answer
+comes_to steps (suc more) (To place) = comes_to steps more (step_at steps place)
+
+-- what each comes to; a chain of more steps than there are places comes to one of them twice
+abbrev pub answer_of : List (Option Step) → Option Step → Option Answer
+answer_of steps = option_map (comes_to steps (length steps))
+
+abbrev pub answers_of : List (Option Step) → List (Option Answer)
+answers_of steps = map (answer_of steps) steps
+
+-- ---- how that is found
 
 -- the end of a chain that ends with its first step
 abbrev pub at_once : Option Step → Option Answer
@@ -72,10 +102,12 @@ abbrev pub filled : Answer → List ℕ → List (Option Answer) → List (Optio
 filled found [] answers = answers
 filled found (place ∷ more) answers = filled found more (slice_set answers place (Some found))
 
--- the answers that are known so far are right, and those of the places below one are known
+-- the answer of a place is known
+abbrev pub IsKnown : List (Option Step) → List (Option Answer) → ℕ → Type 0
+IsKnown steps answers place = at_place answers place ≡ answer_of steps (at_place steps place)
+
+-- of each place the answer is known, or only if the chain from there ends at once; those of the places below one are known
 pub record KnownBelow (steps : List (Option Step)) (start : ℕ) (answers : List (Option Answer)) : Type 0 where
   pub all : length answers ≡ length steps
-  pub right : (place : ℕ) (answer : Answer) → at_place answers place ≡ Some answer → IsEnd steps place answer
-  pub only : (place : ℕ) → at_place steps place ≡ None → at_place answers place ≡ None
-  pub last : (place : ℕ) (answer : Answer) → at_place steps place ≡ Some (Ends answer) → is_some (at_place answers place) ≡ true
-  pub below : (place : ℕ) → place < start → is_some (at_place steps place) ≡ true → is_some (at_place answers place) ≡ true
+  pub each : (place : ℕ) → IsKnown steps answers place ⊎ (at_place answers place ≡ at_once (at_place steps place))
+  pub below : (place : ℕ) → place < start → IsKnown steps answers place

@@ -1,4 +1,3 @@
 pub mod Anonymous
 pub mod Indirect
 pub mod Chains
-pub mod Written

@@ -1,13 +1,17 @@
 //! Anonymous references.
-ghost use Rattle.std.specs.Prelude.{◌≡◌, drop, false, length, map};
+ghost use Rattle.std.specs.Prelude.{◌≡◌, drop, length, map, true};
 ghost use Rattle.rst_tree.specs.Faults.{Gives};
-ghost use Rattle.rst_tree_index.specs.Kinds.{kinds_of, HasNoNewLinkKinds};
-ghost use Rattle.rst_transform_work.specs.States.{elements_of, state};
-ghost use Rattle.rst_transform_hyperlinks.specs.Anonymous.{anonymous_references, anonymous_targets, failing, first_lead, first_line, is_anonymous_reference, is_anonymous_target, lead_to, mismatch, paired, IsAnonymous, ReportsMismatch};
+ghost use Rattle.rst_tree.specs.declared.note.Level.TheVariants.{Error};
+ghost use Rattle.rst_transform_hyperlinks.specs.Anonymous.{anonymous_outcomes, anonymous_references, anonymous_targets, failing, first_lead, first_line, is_anonymous_reference, is_anonymous_target, lead_to, mismatch, paired};
 ghost use Rattle.rst_transform_links.specs.Linkings.{held};
+ghost use Rattle.rst_transform_links.specs.LinkTransforms.{link_changes};
+ghost use Rattle.rst_transform_work.specs.Known.{Makes};
+ghost use Rattle.rst_transform_work.specs.Reports.{report_in, IsReported, KeepsRest};
 
-use rst_transform_links::{LinkTransform, Linked, Outcome, change_links, lead_of, text_attr};
-use rst_transform_work::{Context, Document, first_said, has, line_of};
+use rst_transform_links::{
+    Changes, LinkTransform, Linked, Outcome, changes_by, lead_of, text_attr,
+};
+use rst_transform_work::{Context, first_said, has, line_of};
 use rst_tree::{Entry, Key, Level, Node, Tag, Text, TreeFault};
 use std::alloc::Global;
 
@@ -32,28 +36,25 @@ use std::alloc::Global;
 /// ```
 ///
 /// One through an indirect target is left to the next transform. If there are more of the ones than of the others, there is
-/// one ERROR, and each reference becomes a problematic. `has` says whether the document may have an anonymous element.
+/// one ERROR, and each reference becomes a problematic.
 pub fn anonymous(
     alloc: Global,
-    document: Document,
     context: &mut Context,
-    has: bool,
-) -> Result<Document, TreeFault>
-    requires has { has ≡ false → (kinds_of (elements_of document)).anonymous ≡ false }
-    ensures anonymous { Gives (λ after. IsAnonymous (state document context.old) (state after context.new)) result }
-    ensures kinds { Gives (λ after. HasNoNewLinkKinds (elements_of document) (elements_of after)) result }
+    linked: &[Linked<'_>],
+) -> Result<Changes, TreeFault>
+    ensures { Gives (Makes (link_changes anonymous_outcomes (map held linked.now)) context.old context.new) result }
 {
-    let document = change_links::<Pairing>(alloc, document, context, has)?;
-    Ok(document)
+    let changes = changes_by::<Pairing>(alloc, context, linked)?;
+    Ok(changes)
 }
 
 /// The transform of links that gives anonymous references their targets.
 struct Pairing;
 
 impl LinkTransform for Pairing {
-    ghost use Rattle.rst_transform_hyperlinks.specs.Anonymous.{DecidesAnonymous};
+    ghost use Rattle.rst_transform_hyperlinks.specs.Anonymous.{anonymous_outcomes};
 
-    ghost decides = { DecidesAnonymous };
+    ghost decides = { anonymous_outcomes };
 
     fn outcomes(
         alloc: Global,
@@ -63,6 +64,9 @@ impl LinkTransform for Pairing {
         let references = anonymous_references(alloc, linked)?;
         let targets = anonymous_targets(alloc, linked)?;
         if references.len() == targets.len() {
+            if references.is_empty() {
+                return Ok(Vec::new(alloc));
+            }
             let outcomes = paired(alloc, linked, targets.as_slice())?;
             return Ok(outcomes);
         }
@@ -156,7 +160,9 @@ fn report_mismatch(
     targets: &[Linked<'_>],
 ) -> Result<usize, TreeFault>
     ensures place { Gives (λ place. place ≡ length context.old.reports.items) result }
-    ensures reports { Gives (λ _. ReportsMismatch (map held references.now) (map held targets.now) context.old context.new) result }
+    ensures reports { let line = first_line (map held references.now) (map held targets.now) in
+        Gives (λ _. IsReported (report_in context.old Error line (mismatch (length references.now) (length targets.now)) true) context.old context.new) result }
+    ensures rest { Gives (λ _. KeepsRest context.old context.new) result }
 {
     let line = first_line(references, targets);
     let text = mismatch(alloc, references.len(), targets.len())?;

@@ -1,8 +1,8 @@
 //! The chains of indirect targets: where each ends.
-ghost use Rattle.std.specs.Prelude.{◌≡◌, ◌+◌, MatchOption, None, Some, length, map, slice_set, unwrap_or};
+ghost use Rattle.std.specs.Prelude.{◌≡◌, ◌+◌, MatchOption, None, Some, map, slice_set, unwrap_or};
 ghost use Rattle.rst_tree.specs.Faults.{Gives};
 ghost use Rattle.rst_transform_hyperlinks.specs.declared.chains.Answer.TheVariants.{Circular};
-ghost use Rattle.rst_transform_hyperlinks.specs.Chains.{at_once, filled, next_on, KnownBelow};
+ghost use Rattle.rst_transform_hyperlinks.specs.Chains.{answers_of, at_once, filled, next_on, KnownBelow};
 ghost use Rattle.rst_transform_work.specs.Lists.{at_place};
 
 use rst_tree::{Entry, Text, TreeFault};
@@ -53,7 +53,7 @@ pub fn answer_at<'a>(answers: &'a [Option<Answer>], place: usize) -> Option<&'a 
 
 /// What each indirect target comes to, by its place and its first step; there is nothing for the other elements.
 pub fn answers(alloc: Global, steps: &[Option<Step>]) -> Result<Vec<Option<Answer>>, TreeFault>
-    ensures { Gives (λ answers. KnownBelow steps.now (length steps.now) answers.items) result }
+    ensures { Gives (λ answers. answers.items ≡ answers_of steps.now) result }
 {
     let mut answers = at_once(alloc, steps)?;
     for start in 0..steps.len() {
@@ -121,7 +121,7 @@ fn next_on(steps: &[Option<Step>], answers: &[Option<Answer>], place: usize) -> 
     }
 }
 
-/// The answer at a place where a chain stops; where there is none, no indirect target stands.
+/// The answer at a place where a chain stops; there is none where there is no indirect target.
 fn found_at(alloc: Global, answers: &[Option<Answer>], place: usize) -> Result<Answer, TreeFault>
     ensures { Gives (λ found. found ≡ unwrap_or (at_place answers.now place) Circular) result }
 {

@@ -1,26 +1,28 @@
 //! Indirect targets.
-ghost use Rattle.std.specs.Prelude.{◌≡◌, drop, false, is_some, length, map, unwrap_or, MatchOption, None, Some, []};
+ghost use Rattle.std.specs.Prelude.{◌≡◌, drop, is_none, map, unwrap_or, MatchOption, None, Some, []};
+ghost use Rattle.std.specs.List.{list_all};
 ghost use Rattle.rst_tree.specs.Faults.{Gives};
 ghost use Rattle.rst_tree.specs.declared.key.Key.TheVariants.{OwnName};
-ghost use Rattle.rst_tree_index.specs.Kinds.{kinds_of, HasNoNewLinkKinds};
+ghost use Rattle.rst_transform_names.specs.Names.{held_by};
 ghost use Rattle.rst_transform_links.specs.Holders.{holding, place_at};
-ghost use Rattle.rst_transform_hyperlinks.specs.Indirect.{anonymous_from, circle_text, failure_of, has_holder, indirect_name, is_reference_node, led, missing_text, named_place, next_count, outcome_at, outcome_through, outcomes_from, report_place, reports_from, targets_from, targets_of, with_report, with_reports, IsIndirect};
-ghost use Rattle.rst_transform_hyperlinks.specs.Chains.{ends_at_name, first_step, own_step, step_to, steps_of};
+ghost use Rattle.rst_transform_links.specs.LinkTransforms.{link_changes};
+ghost use Rattle.rst_transform_hyperlinks.specs.Indirect.{anonymous_from, circle_text, failure_of, indirect_outcomes, is_reference_node, led, missing_text, named_place, outcome_or, outcome_through, outcomes_by, targets_from, targets_of, with_report, with_reports};
+ghost use Rattle.rst_transform_hyperlinks.specs.Chains.{element_at, has_holder, indirect_name, is_indirect, own_step, step_by, step_to, steps_of};
 ghost use Rattle.rst_transform_hyperlinks.specs.declared.chains.Answer.TheVariants.{Missing};
 ghost use Rattle.rst_transform_hyperlinks.specs.declared.chains.Step.TheVariants.{Ends};
 ghost use Rattle.rst_transform_links.specs.Linkings.{held};
+ghost use Rattle.rst_transform_work.specs.Known.{Makes};
 ghost use Rattle.rst_transform_work.specs.Reading.{text_said};
 ghost use Rattle.rst_transform_work.specs.Reports.{KeepsRest};
 ghost use Rattle.rst_transform_work.specs.Lists.{at_place};
-ghost use Rattle.rst_transform_work.specs.States.{elements_of, state};
 
 use crate::anonymous::{is_anonymous_reference, is_anonymous_target};
 use crate::chains::{Answer, Step, answer_at, answers};
 use rst_transform_links::{
-    Holders, LinkTransform, Linked, Outcome, change_links, is_target, lead_by_name,
+    Changes, Holders, LinkTransform, Linked, Outcome, changes_by, is_target, lead_by_name,
 };
 use rst_transform_names::{Holder, NameEntry, Names};
-use rst_transform_work::{Context, Document, at_place, has, line_of, text_said};
+use rst_transform_work::{Context, at_place, has, line_of, text_said};
 use rst_tree::{Key, Level, Node, Tag, Text, TreeFault};
 use std::alloc::Global;
 
@@ -51,28 +53,25 @@ use std::alloc::Global;
 ///
 /// References by name are left to the last of these transforms. A target whose chain runs into a circle, or breaks at a name
 /// that no element holds, gives an ERROR, and the references through it become problematics of that message: message by message,
-/// under each in the order of the document. `has` says whether the document may have an indirect target.
+/// under each in the order of the document.
 pub fn indirect(
     alloc: Global,
-    document: Document,
     context: &mut Context,
-    has: bool,
-) -> Result<Document, TreeFault>
-    requires has { has ≡ false → (kinds_of (elements_of document)).indirect ≡ false }
-    ensures indirect { Gives (λ after. IsIndirect (state document context.old) (state after context.new)) result }
-    ensures kinds { Gives (λ after. HasNoNewLinkKinds (elements_of document) (elements_of after)) result }
+    linked: &[Linked<'_>],
+) -> Result<Changes, TreeFault>
+    ensures { Gives (Makes (link_changes indirect_outcomes (map held linked.now)) context.old context.new) result }
 {
-    let document = change_links::<Following>(alloc, document, context, has)?;
-    Ok(document)
+    let changes = changes_by::<Following>(alloc, context, linked)?;
+    Ok(changes)
 }
 
 /// The transform of links that follows indirect targets.
 struct Following;
 
 impl LinkTransform for Following {
-    ghost use Rattle.rst_transform_hyperlinks.specs.Indirect.{DecidesIndirect};
+    ghost use Rattle.rst_transform_hyperlinks.specs.Indirect.{indirect_outcomes};
 
-    ghost decides = { DecidesIndirect };
+    ghost decides = { indirect_outcomes };
 
     fn outcomes(
         alloc: Global,
@@ -81,6 +80,9 @@ impl LinkTransform for Following {
     ) -> Result<Vec<Outcome>, TreeFault> {
         let holders = Holders::of(alloc, linked, context.serials)?;
         let steps = first_steps(alloc, &context.names, &holders, linked)?;
+        if are_none(steps.as_slice()) {
+            return Ok(Vec::new(alloc));
+        }
         let targets = targets_of(alloc, &context.names, &holders, linked)?;
         let answers = answers(alloc, steps.as_slice())?;
         let reports = reports(alloc, context, linked, answers.as_slice())?;
@@ -95,6 +97,13 @@ impl LinkTransform for Following {
     }
 }
 
+/// Whether no element is an indirect target.
+fn are_none(steps: &[Option<Step>]) -> bool
+    ensures { result ≡ list_all is_none steps.now }
+{
+    steps.iter().all(|step| step.is_none())
+}
+
 /// The name that an indirect target refers to.
 fn indirect_name<'a>(node: &'a Node) -> Option<&'a str>
     ensures { MatchOption result (indirect_name node.now ≡ None) (λ name. indirect_name node.now ≡ Some name.now) }
@@ -105,13 +114,6 @@ fn indirect_name<'a>(node: &'a Node) -> Option<&'a str>
     text_said(node, Key::Refname)
 }
 
-/// Whether a node is an indirect target.
-fn is_indirect(node: &Node) -> bool
-    ensures { result ≡ is_some (indirect_name node.now) }
-{
-    indirect_name(node).is_some()
-}
-
 /// Whether an element holds what is known of a name.
 fn has_holder(known: &NameEntry) -> bool
     ensures { result ≡ has_holder known.now.holder }
@@ -119,12 +121,22 @@ fn has_holder(known: &NameEntry) -> bool
     !matches!(known.holder, Holder::Nobody)
 }
 
-/// A chain that ends where a name leads.
-fn ends_at_name(alloc: Global, known: &NameEntry, holder: Option<&Node>) -> Result<Step, TreeFault>
-    ensures { Gives (λ step. step ≡ ends_at_name (holding holder.entry) known.now.uri known.now.id) result }
+/// The linked element at a place, if there is one.
+fn element_at<'a>(linked: &[Linked<'a>], place: Option<usize>) -> Option<&'a Node>
+    ensures { holding result ≡ element_at (map held linked.now) place }
 {
-    let attr = lead_by_name(alloc, known, holder)?;
-    Ok(Step::Ends(Answer::Leads(attr)))
+    let one = linked.get(place?)?;
+    Some(one.element)
+}
+
+/// Whether an element is an indirect target.
+fn is_indirect(holder: Option<&Node>) -> bool
+    ensures { result ≡ is_indirect (holding holder.entry) }
+{
+    match holder {
+        Some(node) => indirect_name(node).is_some(),
+        None => false,
+    }
 }
 
 /// The first step to the holder of a name, at a place, if it is a linked element.
@@ -134,18 +146,17 @@ fn step_to(
     known: &NameEntry,
     place: Option<usize>,
 ) -> Result<Step, TreeFault>
-    ensures { Gives (λ step. step ≡ step_to (map held linked.now) place known.now.uri known.now.id) result }
+    ensures { Gives (λ step. step ≡ step_to (map held linked.now) place known.now) result }
 {
-    let Some(place) = place else {
-        return ends_at_name(alloc, known, None);
-    };
-    let Some(holder) = linked.get(place) else {
-        return ends_at_name(alloc, known, None);
-    };
-    if is_indirect(holder.element) {
-        return Ok(Step::To(place));
+    let holder = element_at(linked, place);
+    let further = is_indirect(holder);
+    match place {
+        Some(place) if further => Ok(Step::To(place)),
+        _ => {
+            let lead = lead_by_name(alloc, known, holder)?;
+            Ok(Step::Ends(Answer::Leads(lead)))
+        }
     }
-    ends_at_name(alloc, known, Some(holder.element))
 }
 
 /// The first step to what a name means.
@@ -156,7 +167,7 @@ fn first_step(
     linked: &[Linked<'_>],
     name: &str,
 ) -> Result<Step, TreeFault>
-    ensures { Gives (λ step. step ≡ first_step names.now (place_at holders.now.places.items) (map held linked.now) name.now) result }
+    ensures { Gives (λ step. step ≡ step_by (map held linked.now) (place_at holders.now.places.items) name.now (held_by names.now name.now)) result }
 {
     let Some(known) = names.get(name) else {
         return missing(alloc, name);
@@ -184,7 +195,7 @@ fn own_step(
     linked: &[Linked<'_>],
     node: &Node,
 ) -> Result<Option<Step>, TreeFault>
-    ensures { Gives (λ step. step ≡ own_step names.now (place_at holders.now.places.items) (map held linked.now) node.now) result }
+    ensures { Gives (λ step. step ≡ own_step (held_by names.now) (place_at holders.now.places.items) (map held linked.now) node.now) result }
 {
     match indirect_name(node) {
         Some(name) => Ok(Some(first_step(alloc, names, holders, linked, name)?)),
@@ -199,7 +210,7 @@ fn first_steps(
     holders: &Holders,
     linked: &[Linked<'_>],
 ) -> Result<Vec<Option<Step>>, TreeFault>
-    ensures { Gives (λ steps. steps.items ≡ steps_of names.now (place_at holders.now.places.items) (map held linked.now)) result }
+    ensures { Gives (λ steps. steps.items ≡ steps_of (held_by names.now) (place_at holders.now.places.items) (map held linked.now)) result }
 {
     let mut steps = Vec::with_capacity(alloc, linked.len())?;
     for one in linked {
@@ -262,9 +273,8 @@ fn report_failure(
     node: &Node,
     failure: Option<Text>,
 ) -> Result<Option<usize>, TreeFault>
-    ensures place { Gives (λ place. place ≡ report_place (length context.old.reports.items) failure) result }
-    ensures reports { Gives (λ _. context.new.reports.items ≡ with_report context.old.first_number context.old.reports.items node.now failure) result }
-    ensures count { Gives (λ _. length context.new.reports.items ≡ next_count (length context.old.reports.items) failure) result }
+    ensures place { Gives (λ place. place ≡ (with_report context.old.first_number context.old.reports.items node.now failure).0) result }
+    ensures reports { Gives (λ _. context.new.reports.items ≡ (with_report context.old.first_number context.old.reports.items node.now failure).1) result }
     ensures rest { Gives (λ _. KeepsRest context.old context.new) result }
 {
     let Some(text) = failure else {
@@ -281,8 +291,8 @@ fn reports(
     linked: &[Linked<'_>],
     answers: &[Option<Answer>],
 ) -> Result<Vec<Option<usize>>, TreeFault>
-    ensures places { Gives (λ reports. reports.items ≡ reports_from (at_place answers.now) (length context.old.reports.items) 0 (map held linked.now)) result }
-    ensures reports { Gives (λ _. context.new.reports.items ≡ with_reports (at_place answers.now) context.old.first_number context.old.reports.items 0 (map held linked.now)) result }
+    ensures places { Gives (λ reports. reports.items ≡ (with_reports (at_place answers.now) context.old.first_number context.old.reports.items 0 (map held linked.now)).0) result }
+    ensures reports { Gives (λ _. context.new.reports.items ≡ (with_reports (at_place answers.now) context.old.first_number context.old.reports.items 0 (map held linked.now)).1) result }
     ensures rest { Gives (λ _. KeepsRest context.old context.new) result }
 {
     let mut reports = Vec::with_capacity(alloc, linked.len())?;
@@ -319,7 +329,7 @@ fn is_reference(node: &Node) -> bool
 
 /// The place of the element that a reference means by its name, if it does.
 fn named_place(names: &Names, holders: &Holders, node: &Node) -> Option<usize>
-    ensures { result ≡ named_place names.now (place_at holders.now.places.items) node.now }
+    ensures { result ≡ named_place (held_by names.now) (place_at holders.now.places.items) node.now }
 {
     if !is_reference(node) {
         return None;
@@ -343,7 +353,7 @@ fn targets_of(
     holders: &Holders,
     linked: &[Linked<'_>],
 ) -> Result<Vec<Option<usize>>, TreeFault>
-    ensures { Gives (λ targets. targets.items ≡ targets_of names.now (place_at holders.now.places.items) (map held linked.now)) result }
+    ensures { Gives (λ targets. targets.items ≡ targets_of (held_by names.now) (place_at holders.now.places.items) (map held linked.now)) result }
 {
     let anonymous = anonymous_places(alloc, linked)?;
     let targets = targets_by(alloc, names, holders, linked, anonymous.as_slice())?;
@@ -358,7 +368,7 @@ fn targets_by(
     linked: &[Linked<'_>],
     anonymous: &[usize],
 ) -> Result<Vec<Option<usize>>, TreeFault>
-    ensures { Gives (λ targets. targets.items ≡ targets_from names.now (place_at holders.now.places.items) anonymous.entry.now (map held linked.now)) result }
+    ensures { Gives (λ targets. targets.items ≡ targets_from (held_by names.now) (place_at holders.now.places.items) anonymous.entry.now (map held linked.now)) result }
 {
     let mut left = anonymous;
     let mut targets = Vec::with_capacity(alloc, linked.len())?;
@@ -414,7 +424,7 @@ fn outcome_at(
     target: Option<usize>,
     place: usize,
 ) -> Result<Outcome, TreeFault>
-    ensures { Gives (λ outcome. outcome ≡ outcome_at (at_place answers.now) (at_place reports.now) node.now target place) result }
+    ensures { Gives (λ outcome. outcome ≡ outcome_or (at_place answers.now place) (outcome_through (at_place answers.now) (at_place reports.now) node.now target)) result }
 {
     match answer_at(answers, place) {
         Some(answer) => led(alloc, answer),
@@ -430,7 +440,7 @@ fn outcomes(
     reports: &[Option<usize>],
     targets: &[Option<usize>],
 ) -> Result<Vec<Outcome>, TreeFault>
-    ensures { Gives (λ outcomes. outcomes.items ≡ outcomes_from (at_place answers.now) (at_place reports.now) (at_place targets.now) 0 (map held linked.now)) result }
+    ensures { Gives (λ outcomes. outcomes.items ≡ outcomes_by (at_place answers.now) (at_place reports.now) (at_place targets.now) (map held linked.now)) result }
 {
     let mut outcomes = Vec::with_capacity(alloc, linked.len())?;
     for (place, one) in linked.iter().enumerate() {

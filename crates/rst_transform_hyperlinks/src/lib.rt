@@ -4,5 +4,4 @@
 pub mod anonymous;
 mod chains;
 pub mod indirect;
-pub mod laws;
 pub mod rows;

@@ -1,5 +1,5 @@
 -- Where every element stays as it is, the document does.
-use Rattle.std.proofs.Common.{◌≡◌, ℕ, List, [], ◌∷◌, drop, refl, sym, ap, Bool, true, false, Option}
+use Rattle.std.proofs.Common.{◌≡◌, ℕ, List, [], ◌∷◌, drop, refl, ap, Bool, true, false, Option}
 use Rattle.std.specs.Prelude.{◌&&◌, if◌then◌else◌, Some, None}
 use Rattle.std.specs.List.{list_all}
 use Rattle.rst_tree.specs.declared.attrs.Attr.{Attr}
@@ -9,15 +9,9 @@ use Rattle.rst_tree.specs.declared.tag.Tag.{Tag}
 use Rattle.rst_tree.specs.Forest.{Forest, bare, element, words}
 use Rattle.rst_tree.specs.Rewritten.{rewritten}
 use Rattle.rst_tree_index.specs.LinkedTags.{is_linked_tag}
-use Rattle.rst_transform_work.specs.declared.context.Context.{Context}
 use Rattle.rst_transform_work.specs.declared.document.Document.{Document}
-use Rattle.rst_transform_work.specs.States.{State}
 use Rattle.rst_transform_links.specs.declared.links.Outcome.{Outcome}
 use Rattle.rst_transform_links.specs.declared.links.Outcome.TheVariants.{Stays, Fails, Failed}
-use Rattle.rst_transform_links.specs.Linkings.{Held, linked_of}
-use Rattle.rst_transform_links.specs.LinkTransforms.{ChangesLinks}
-use Rattle.rst_transform_links.specs.Outcomes.{stays}
-use Rattle.rst_transform_links.proofs.SettlingLemmas.{idle}
 use Rattle.rst_transform_links.specs.Links.{change_next, change_of, changed_by, changed_document, is_idle, is_nothing, shown_as, with_more}
 
 -- nothing is said or shown, and the rest is idle
@@ -52,15 +46,3 @@ idle_nodes s (element t a c l r) h =
 
 pub idle_document : (s : List Outcome) (document : Document) → list_all is_idle s ≡ true → changed_document s document ≡ document
 idle_document s document h = ap (λ f. record document { children = f }) (idle_nodes s document.children h).0
-
--- where all stay as they are, a transform of links changes nothing
-pub unchanged : (Decides : List Held → Context → Context → List Outcome → Type 0) (before : State) (outcomes : List Outcome) → Decides (linked_of before.document) before.context before.context outcomes
-    → list_all stays outcomes ≡ true → list_all is_idle outcomes ≡ true → ChangesLinks Decides before before
-unchanged Decides before outcomes decides stay h = record {
-  outcomes = outcomes;
-  decided = before.context;
-  changes = outcomes;
-  decides = decides;
-  settles = idle (linked_of before.document) outcomes before.context stay;
-  changed = sym (idle_document outcomes before.document h);
-}

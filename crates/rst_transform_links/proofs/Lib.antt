@@ -1,12 +1,6 @@
 pub mod Computing
 pub mod Holding
 pub mod Idle
-pub mod LinkKinds
 pub mod Linking
-pub mod NamelessLeads
-pub mod OneAnswer
-pub mod OneAnswerTurns
 pub mod SettlingLemmas
-pub mod StandingIn
-pub mod Staying
-pub mod TurnsFound
+pub mod TurnsInOrder

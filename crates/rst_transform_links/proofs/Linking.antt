@@ -10,7 +10,7 @@ use Rattle.rst_tree.specs.Nodes.{forest_of}
 use Rattle.rst_transform_links.specs.declared.links.Linked.{Linked}
 use Rattle.rst_transform_links.specs.Linkings.{Held, held, inner_of, linked_among, own_linked}
 
--- how many there are, with more behind them
+-- how many there are, with more after them
 more : (old new : List Linked) (behind : List Held) → map held new ≡ map held old ++ behind → length old + length behind ≡ length new
 more old new behind is =
     sym (sym (length-map new held) ∙ ap length is ∙ length-append (map held old) behind ∙ ap (λ n. n + length behind) (length-map old held))
@@ -22,7 +22,7 @@ pub past_text : (ns : List Node) (i : ℕ) (n : Node) (x : List ℕ) (old : List
 past_text ns i n x old outer all within at is before =
     rw (drop_more ns i n within, ← at, is) at before
 
--- behind an element come those behind it, once its own and those in it are listed
+-- after an element come those after it, once its own and those in it are listed
 pub past_element : (ns : List Node) (i : ℕ) (n : Node) (t : Tag) (a : List Attr) (c : Forest) (l : ℕ) (old own new : List Linked) (outer inner : Option ℕ) (all : List Held) → i < length ns → n ≡ get_or ns i n → n ≡ Element t a c l
     → inner ≡ inner_of (length old) outer t → map held own ≡ map held old ++ own_linked outer t n → map held new ≡ map held own ++ linked_among (length own) inner c
     → map held old ++ linked_among (length old) outer (forest_of (drop i ns)) ≡ all

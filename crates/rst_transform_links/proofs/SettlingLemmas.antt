@@ -1,28 +1,31 @@
 -- What linked elements come to: one turn more, and that all remain as they are where none fails.
-use Rattle.std.proofs.Common.{◌≡◌, ℕ, zero, suc, ◌+◌, ◌<◌, List, [], ◌∷◌, ◌++◌, length, drop, get_or, refl, sym, ap, arith, Bool, true}
+use Rattle.std.proofs.Common.{◌≡◌, ◌∙◌, ℕ, zero, suc, ◌+◌, ◌<◌, List, [], ◌∷◌, ◌++◌, length, drop, get_or, refl, sym, subst, ap, arith, Bool, true}
 use Rattle.std.specs.Prelude.{Option, Some, None, is_none, slice_get, slice_set}
-use Rattle.std.specs.List.{list_all}
+use Rattle.std.specs.List.{enumerate_from, filter_map, list_all}
 use Rattle.std.specs.Option.{option_flatten}
 use Rattle.std.proofs.lemmas.List.{drop_more}
 use Rattle.std.proofs.lemmas.List.Folds.{list_all-append}
-use Rattle.std.proofs.lemmas.List.Sorted.{IsPermutation-refl}
 use Rattle.rst_tree.specs.declared.attrs.Attr.{Attr}
 use Rattle.rst_transform_links.specs.declared.links.Outcome.{Outcome}
 use Rattle.rst_transform_links.specs.declared.links.Outcome.TheVariants.{Stays, Fails, Failed}
 use Rattle.rst_transform_work.specs.declared.context.Context.{Context}
-use Rattle.rst_transform_links.specs.Linkings.{Held}
-use Rattle.rst_transform_links.specs.Outcomes.{stays}
-use Rattle.rst_transform_work.specs.Problematics.{MakesProblematic}
-use Rattle.rst_transform_links.specs.Settling.{at_places, Settles, TakesTurns}
-use Rattle.rst_transform_links.specs.Turns.{earlier_at, first_in, firsts, is_free, turns_from, PutsInOrder}
-use Rattle.rst_transform_links.proofs.StandingIn.{free_remains}
-use Rattle.rst_transform_links.proofs.TurnsFound.{are_turns}
+use Rattle.rst_transform_work.specs.Known.{Holds, Known, Makes}
 use Rattle.rst_transform_work.specs.Lists.{at_place}
+use Rattle.rst_transform_work.specs.Problematics.{problematic}
+use Rattle.rst_transform_links.specs.Law.{SettlesNothing}
+use Rattle.rst_transform_links.specs.Linkings.{Held}
+use Rattle.rst_transform_links.specs.LinkTransforms.{link_changes}
+use Rattle.rst_transform_links.specs.Outcomes.{stays}
+use Rattle.rst_transform_links.specs.Settling.{by_message, earlier_at, first_in, firsts, left_at, remaining, settled, take_turns, turn_of, turns_of}
+use Rattle.rst_transform_links.proofs.TurnsInOrder.{none_left}
 
 -- the turn at a place among all is the first of those that are left there
-pub next_turn : (turns : List (ℕ × ℕ)) (i : ℕ) (turn : ℕ × ℕ) (before next after : Context) (outcomes settled : List Outcome) (attrs : List Attr) → i < length turns → turn ≡ get_or turns i turn
-    → MakesProblematic (slice_get before.reports.items turn.0) turn.0 before next attrs → TakesTurns (drop (i + 1) turns) next (slice_set outcomes turn.1 (Failed attrs)) after settled → TakesTurns (drop i turns) before outcomes after settled
-next_turn turns i turn before next after outcomes settled attrs within at makes rest = rw (drop_more turns i turn within, ← at) (next, attrs, makes, rest)
+pub next_turn : (turns : List (ℕ × ℕ)) (i : ℕ) (turn : ℕ × ℕ) (before next after : Context) (outcomes done : List Outcome) (attrs : List Attr) → i < length turns → turn ≡ get_or turns i turn
+    → Makes (problematic turn.0) before next attrs → Makes (take_turns (drop (i + 1) turns) (slice_set outcomes turn.1 (Failed attrs))) next after done → Makes (take_turns (drop i turns) outcomes) before after done
+next_turn turns i turn before next after outcomes done attrs within at makes rest known h =
+    let made = makes known h in
+    let then = rest (problematic turn.0 known).1 made.1 in
+    rw (drop_more turns i turn within, ← at) (subst (λ p. let d = take_turns (drop (i + 1) turns) (slice_set outcomes turn.1 (Failed p)) (problematic turn.0 known).1 in (done ≡ d.0) × Holds after d.1) made.0 then)
 
 none_at : (around : List (Option ℕ)) (place : ℕ) → list_all is_none around ≡ true → at_place around place ≡ None
 none_at [] place h = refl
@@ -30,26 +33,13 @@ none_at (None ∷ more) zero h = refl
 none_at (None ∷ more) (suc place) h = none_at more place h
 none_at (Some first ∷ more) place h = absurd (cc)
 
-all_remain_from : (around : List (Option ℕ)) (place : ℕ) (outcomes : List Outcome) → list_all is_none around ≡ true → at_places (is_free around) place outcomes ≡ outcomes
+all_remain_from : (around : List (Option ℕ)) (place : ℕ) (outcomes : List Outcome) → list_all is_none around ≡ true → filter_map (left_at around) (enumerate_from place outcomes) ≡ outcomes
 all_remain_from around place [] h = refl
 all_remain_from around place (outcome ∷ more) h = rw (none_at around place h) (ap (λ rest. outcome ∷ rest) (all_remain_from around (place + 1) more h))
 
--- where no element stands in one that fails, all remain
-pub all_remain : (around : List (Option ℕ)) (outcomes : List Outcome) → list_all is_none around ≡ true → at_places (is_free around) 0 outcomes ≡ outcomes
+-- where no element is inside one that fails, all remain
+pub all_remain : (around : List (Option ℕ)) (outcomes : List Outcome) → list_all is_none around ≡ true → remaining around outcomes ≡ outcomes
 all_remain around outcomes h = all_remain_from around 0 outcomes h
-
--- what is found by places settles the outcomes
-pub settled_by_places : (linked : List Held) (outcomes : List Outcome) (before after : Context) (turns : List (ℕ × ℕ)) (settled changes : List Outcome) → PutsInOrder (turns_from 0 (length before.reports.items) (firsts [] outcomes linked) outcomes) turns
-    → TakesTurns turns before outcomes after settled → changes ≡ at_places (is_free (firsts [] outcomes linked)) 0 settled → Settles linked outcomes before after changes
-settled_by_places linked outcomes before after turns settled changes found takes changed = record {
-  turns = turns;
-  settled = settled;
-  remains = is_free (firsts [] outcomes linked);
-  are_turns = are_turns linked outcomes (length before.reports.items) turns found;
-  takes = takes;
-  remain = λ place within. free_remains linked outcomes place within;
-  changed = changed;
-}
 
 -- what stays is in nobody's way
 abbrev pub stays_if : Option Outcome → Bool
@@ -83,16 +73,37 @@ no_firsts before outcomes [] h k = h
 no_firsts before outcomes (one ∷ more) h k =
     no_firsts (before ++ first_in before outcomes one.1 ∷ []) outcomes more (one_more before (first_in before outcomes one.1) h (none_in before outcomes one.1 h k)) k
 
-no_turns : (place reports : ℕ) (around : List (Option ℕ)) (outcomes : List Outcome) → list_all stays outcomes ≡ true → turns_from place reports around outcomes ≡ []
-no_turns place reports around [] h = refl
-no_turns place reports around (Stays x ∷ more) h = no_turns (place + 1) reports around more h
-no_turns place reports around (Fails r ∷ more) h = absurd (cc)
-no_turns place reports around (Failed p ∷ more) h = absurd (cc)
+no_turns : (reports : ℕ) (around : List (Option ℕ)) (place : ℕ) (outcomes : List Outcome) → list_all stays outcomes ≡ true → filter_map (turn_of reports around) (enumerate_from place outcomes) ≡ []
+no_turns reports around place [] h = refl
+no_turns reports around place (Stays x ∷ more) h = no_turns reports around (place + 1) more h
+no_turns reports around place (Fails r ∷ more) h = absurd (cc)
+no_turns reports around place (Failed p ∷ more) h = absurd (cc)
 
 -- where all stay, nothing else comes of it
-pub idle : (linked : List Held) (outcomes : List Outcome) (context : Context) → list_all stays outcomes ≡ true → Settles linked outcomes context context outcomes
-idle linked outcomes context h =
+pub settled_stay : SettlesNothing
+settled_stay linked outcomes known h =
     let around : List (Option ℕ) = firsts [] outcomes linked in
-    settled_by_places linked outcomes context context [] outcomes outcomes
-    (rw (no_turns 0 (length context.reports.items) around outcomes h) (IsPermutation-refl [], λ k d low high. absurd (omega (arith, high))))
-    (refl, refl) (sym (all_remain around outcomes (no_firsts [] outcomes linked refl h)))
+    rw (no_turns (length known.reports) around 0 outcomes h, none_left (length known.reports), all_remain around outcomes (no_firsts [] outcomes linked refl h)) refl
+
+-- the turns by what the context holds are those by what is known
+pub settled_at : (linked : List Held) (outcomes : List Outcome) (before after : Context) (turns : List (ℕ × ℕ)) (done changes : List Outcome)
+    → turns ≡ by_message (length before.reports.items) (turns_of (length before.reports.items) (firsts [] outcomes linked) outcomes)
+    → Makes (take_turns turns outcomes) before after done → changes ≡ remaining (firsts [] outcomes linked) done → Makes (settled linked outcomes) before after changes
+settled_at linked outcomes before after turns done changes found takes changed known h =
+    let around : List (Option ℕ) = firsts [] outcomes linked in
+    let all : turns ≡ by_message (length known.reports) (turns_of (length known.reports) around outcomes) = found ∙ ap (λ reports. by_message (length reports) (turns_of (length reports) around outcomes)) h.reports in
+    let took = rw all at takes known h in
+    (changed ∙ ap (remaining around) took.0, took.1)
+
+-- what a transform decides is settled
+pub links_changed : (decides : List Held → Known → List Outcome × Known) (linked : List Held) (before between after : Context) (outcomes changes : List Outcome) → Makes (decides linked) before between outcomes
+    → Makes (settled linked outcomes) between after changes → Makes (link_changes decides linked) before after changes
+links_changed decides linked before between after outcomes changes decided settles known h =
+    let first = decided known h in
+    let done = settles (decides linked known).1 first.1 in
+    subst (λ o. let d = settled linked o (decides linked known).1 in (changes ≡ d.0) × Holds after d.1) first.0 done
+
+-- where all stay, there is nothing to settle
+pub all_stay : (linked : List Held) (outcomes changes : List Outcome) (context : Context) → list_all stays outcomes ≡ true → changes ≡ outcomes → Makes (settled linked outcomes) context context changes
+all_stay linked outcomes changes context stay is known h =
+    subst (λ d. (changes ≡ d.0) × Holds context d.1) (sym (settled_stay linked outcomes known stay)) (is, h)

@@ -78,7 +78,7 @@ first_left (Some Numbers) numbers symbols = slice_get numbers 0
 first_left (Some Symbols) numbers symbols = slice_get symbols 0
 first_left None numbers symbols = None
 
--- what is left of the places of an order, behind a reference
+-- what is left of the places of an order after a reference
 abbrev pub places_left : Order → Option Order → List ℕ → List ℕ
 places_left order taken places = if is_order order taken then drop 1 places else places
 

@@ -14,7 +14,7 @@ use Rattle.rst_tree_index.specs.Kinds.{is_target}
 use Rattle.rst_transform_links.specs.Linkings.{Held}
 use Rattle.rst_transform_work.specs.Reading.{number_said, text_said}
 
--- where a target leads that isn't a place of its own: to its URI, or else to the id that it tells
+-- where a target leads that isn't a place of its own: to its URI, or else to the id that it refers to
 abbrev pub lead_by : Option (List ℕ) → Option (List ℕ) → Option Attr
 lead_by (Some uri) id = Some (attr Refuri (Text uri))
 lead_by None (Some id) = Some (attr Refid (Text id))
@@ -33,7 +33,7 @@ abbrev pub is_it : ℕ → Option ℕ → Bool
 is_it serial None = false
 is_it serial (Some said) = nat_eq said serial
 
--- the place of the last element with a number, behind so many others, or else that among those
+-- the place of the last element with a number, after so many others, or else that among those
 abbrev pub last_numbered : ℕ → ℕ → Option ℕ → List Held → Option ℕ
 last_numbered serial place before [] = before
 last_numbered serial place before (one ∷ more) = last_numbered serial (place + 1) (if is_it serial (number_said Serial one.0) then Some place else before) more

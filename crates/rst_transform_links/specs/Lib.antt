@@ -6,4 +6,4 @@ pub mod LinkTransforms
 pub mod FootnoteOrders
 pub mod Outcomes
 pub mod Settling
-pub mod Turns
+pub mod Written

@@ -1,19 +1,11 @@
 -- The transforms of links, each of which decides what becomes of the elements that references join (Markup Specification, 'Hyperlink
 -- References').
-use Rattle.std.specs.Prelude.{◌≡◌, List}
-use Rattle.rst_transform_work.specs.declared.context.Context.{Context}
-use Rattle.rst_transform_work.specs.States.{State}
+use Rattle.std.specs.Prelude.{List}
+use Rattle.rst_transform_work.specs.Known.{Known}
 use Rattle.rst_transform_links.specs.declared.links.Outcome.{Outcome}
-use Rattle.rst_transform_links.specs.Linkings.{Held, linked_of}
-use Rattle.rst_transform_links.specs.Links.{changed_document}
-use Rattle.rst_transform_links.specs.Settling.{Settles}
+use Rattle.rst_transform_links.specs.Linkings.{Held}
+use Rattle.rst_transform_links.specs.Settling.{settled}
 
--- A transform decides the outcomes of a document's linked elements, by what is known beside it. Those that fail become problematics, and those
--- that remain change by their outcomes.
-pub record ChangesLinks (Decides : List Held → Context → Context → List Outcome → Type 0) (before after : State) : Type 0 where
-  pub outcomes : List Outcome
-  pub decided : Context
-  pub changes : List Outcome
-  pub decides : Decides (linked_of before.document) before.context decided outcomes
-  pub settles : Settles (linked_of before.document) outcomes decided after.context changes
-  pub changed : after.document ≡ changed_document changes before.document
+-- What becomes of linked elements as a transform decides. Those that fail become problematics.
+abbrev pub link_changes : (List Held → Known → List Outcome × Known) → List Held → Known → List Outcome × Known
+link_changes decides linked known = let decided : List Outcome × Known = decides linked known in settled linked decided.0 decided.1

@@ -1,4 +1,4 @@
--- The elements that references join, in preorder, each with the place of the innermost one of them that it stands in (Markup
+-- The elements that references join, in preorder, each with the place of the innermost one of them that it is inside (Markup
 -- Specification, 'Hyperlink References').
 use Rattle.std.specs.Prelude.{ℕ, ◌+◌, List, [], ◌∷◌, ◌++◌, length, if◌then◌else◌, Option, Some, None}
 use Rattle.rst_tree.specs.declared.node.Node.{Node}
@@ -9,7 +9,7 @@ use Rattle.rst_tree_index.specs.LinkedTags.{is_linked_tag}
 use Rattle.rst_transform_work.specs.declared.document.Document.{Document}
 use Rattle.rst_transform_links.specs.declared.links.Linked.{Linked}
 
--- an element, and the place of the one that it stands in
+-- an element, and the place of the one that it is inside
 abbrev pub Held : Type 0
 Held = Node × Option ℕ
 
@@ -17,15 +17,15 @@ Held = Node × Option ℕ
 abbrev pub held : Linked → Held
 held one = (one.element.now, one.outer)
 
--- a node that stands in the one at a place, if it is linked itself
+-- a node that is inside the one at a place, if it is linked itself
 abbrev pub own_linked : Option ℕ → Tag → Node → List Held
 own_linked outer tag node = if is_linked_tag tag then ((node, outer) ∷ []) else []
 
--- the innermost linked element that the nodes in one stand in, which comes behind so many
+-- the innermost linked element that the nodes in one are inside, which comes after so many
 abbrev pub inner_of : ℕ → Option ℕ → Tag → Option ℕ
 inner_of before outer tag = if is_linked_tag tag then (Some before) else outer
 
--- those among some nodes that stand in the one at a place, behind so many others
+-- those among some nodes that are inside the one at a place, after so many others
 abbrev pub linked_among : ℕ → Option ℕ → Forest → List Held
 linked_among before outer bare = []
 linked_among before outer (words t r) = linked_among before outer r

@@ -26,7 +26,7 @@ abbrev pub shown_as : Option (List ℕ) → Tag → List Attr → ℕ → Rewrit
 shown_as None t a l = Keep t a l
 shown_as (Some text) t a l = Replace (Element t a (words text bare) l)
 
--- what stands in an element that may show a text in its place, and whether that stays
+-- the contents of an element that may show a text in their place, and whether they stay
 abbrev pub Shows : Option (List ℕ) → Forest → Forest → Bool → Type 0
 Shows None old new stays = (new ≡ old) × (stays ≡ true)
 Shows (Some text) old new stays = (new ≡ words text bare) × (stays ≡ false)
@@ -43,7 +43,7 @@ abbrev pub change_of : List Outcome → Node → Rewrite
 change_of s (Element t a c l) = if is_linked_tag t then changed_by s t a l else Keep t a l
 change_of s (Text t) = kept (Text t)
 
--- the outcomes that are left behind an element
+-- the outcomes that are left after an element
 abbrev pub change_next : List Outcome → Node → List Outcome
 change_next s (Element t a c l) = if is_linked_tag t then drop 1 s else s
 change_next s (Text t) = s

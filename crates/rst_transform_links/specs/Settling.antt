@@ -1,68 +1,72 @@
 -- What failing elements come to, message by message (Document Tree, 'problematic'): an element inside one that became a problematic is
 -- gone from then on.
-use Rattle.std.specs.Prelude.{◌≡◌, ◌+◌, ◌<◌, ◌≤◌, ◌↔◌, ℕ, Bool, true, List, [], ◌∷◌, length, map, if◌then◌else◌, slice_get, slice_set, Some, Contains}
-use Rattle.std.specs.List.Sorted.{IsStrictlySortedBy}
-use Rattle.std.specs.declared.cmp.Ordering.{Ordering}
-use Rattle.std.specs.Ordering.{ordering_then, nat_cmp}
+use Rattle.std.specs.Prelude.{◌&&◌, ℕ, zero, suc, Bool, true, min, nat_eq, nat_lt, List, [], ◌∷◌, ◌++◌, length, if◌then◌else◌, is_none, slice_get, slice_set, Option, Some, None}
+use Rattle.std.specs.List.{enumerate_from, filter, filter_map}
 use Rattle.rst_tree.specs.declared.attrs.Attr.{Attr}
+use Rattle.rst_transform_work.specs.Known.{Known}
+use Rattle.rst_transform_work.specs.Lists.{at_place}
+use Rattle.rst_transform_work.specs.Problematics.{problematic}
 use Rattle.rst_transform_links.specs.declared.links.Outcome.{Outcome}
 use Rattle.rst_transform_links.specs.declared.links.Outcome.TheVariants.{Fails, Failed}
-use Rattle.rst_transform_work.specs.declared.context.Context.{Context}
 use Rattle.rst_transform_links.specs.Linkings.{Held}
-use Rattle.rst_transform_work.specs.Problematics.{MakesProblematic}
-use Rattle.rst_transform_work.specs.Lists.{at_place}
 
--- the innermost linked element that the one at a place stands in is the one at another place, which comes before it
-abbrev pub IsInnermost : List Held → ℕ → ℕ → Type 0
-IsInnermost linked outer place = (at_place (map (λ one. one.1) linked) place ≡ Some outer) × (outer < place)
+-- the earlier of a message and the one that an element fails for, where there are such
+abbrev pub earlier : Option ℕ → Outcome → Option ℕ
+earlier (Some first) (Fails report) = Some (min first report)
+earlier None (Fails report) = Some report
+earlier first _ = first
 
--- a linked element stands in another one: in its innermost one, or in one that this stands in
-pub data StandsIn (linked : List Held) (outer : ℕ) : ℕ → Type 0 where
-  directly : (place : ℕ) → IsInnermost linked outer place → StandsIn linked outer place
-  deeper : (between place : ℕ) → StandsIn linked outer between → IsInnermost linked between place → StandsIn linked outer place
+abbrev pub earlier_at : Option (Option ℕ) → Option Outcome → Option ℕ
+earlier_at (Some first) (Some outcome) = earlier first outcome
+earlier_at _ _ = None
 
--- an element fails for the message at a place among the reports
-abbrev pub FailsFor : List Outcome → ℕ → ℕ → Type 0
-FailsFor outcomes report place = slice_get outcomes place ≡ Some (Fails report)
+-- the first message for which an element fails that one is inside: the innermost, or one that this is inside
+abbrev pub first_in : List (Option ℕ) → List Outcome → Option ℕ → Option ℕ
+first_in around outcomes None = None
+first_in around outcomes (Some outer) = earlier_at (slice_get around outer) (slice_get outcomes outer)
 
--- an element is gone by the turn of a message: one that it stands in fails for that message or an earlier one
-abbrev pub IsGoneBy : List Held → List Outcome → ℕ → ℕ → Type 0
-IsGoneBy linked outcomes report place = (outer earlier : ℕ) × StandsIn linked outer place × FailsFor outcomes earlier outer × (earlier ≤ report)
+-- the same for each of some elements, after those for the elements before them
+abbrev pub firsts : List (Option ℕ) → List Outcome → List Held → List (Option ℕ)
+firsts before outcomes [] = before
+firsts before outcomes (one ∷ more) = firsts (before ++ first_in before outcomes one.1 ∷ []) outcomes more
 
--- an element becomes a problematic at the turn of a message, of so many: it fails for that one, and isn't gone by then
-abbrev pub IsTurn : List Held → List Outcome → ℕ → ℕ × ℕ → Type 0
-IsTurn linked outcomes reports turn = FailsFor outcomes turn.0 turn.1 × (turn.0 < reports) × (IsGoneBy linked outcomes turn.0 turn.1 → ⊥)
+-- an element is still there when a message comes
+abbrev pub is_still_there : ℕ → Option ℕ → Bool
+is_still_there report None = true
+is_still_there report (Some first) = nat_lt report first
 
--- the turns by their messages, and under each by the places of their elements
-abbrev pub in_order : ℕ × ℕ → ℕ × ℕ → Ordering
-in_order one other = ordering_then (nat_cmp one.0 other.0) (nat_cmp one.1 other.1)
+-- the turn of the element at a place, if it becomes a problematic of one of so many messages: the message, and the place
+abbrev pub turn_of : ℕ → List (Option ℕ) → ℕ × Outcome → Option (ℕ × ℕ)
+turn_of reports around (place, Fails report) = if nat_lt report reports && is_still_there report (at_place around place) then Some (report, place) else None
+turn_of reports around (place, _) = None
 
--- all turns, in order
-pub record AreTurns (linked : List Held) (outcomes : List Outcome) (reports : ℕ) (turns : List (ℕ × ℕ)) : Type 0 where
-  pub all : (turn : ℕ × ℕ) → Contains turns turn ↔ IsTurn linked outcomes reports turn
-  pub sorted : IsStrictlySortedBy in_order turns
+-- all turns, in document order
+abbrev pub turns_of : ℕ → List (Option ℕ) → List Outcome → List (ℕ × ℕ)
+turns_of reports around outcomes = filter_map (turn_of reports around) (enumerate_from 0 outcomes)
 
--- each element at its turn becomes a problematic
-abbrev pub TakesTurns : List (ℕ × ℕ) → Context → List Outcome → Context → List Outcome → Type 0
-TakesTurns [] before outcomes after settled = (after ≡ before) × (settled ≡ outcomes)
-TakesTurns (turn ∷ more) before outcomes after settled =
-    (next : Context) × (attrs : List Attr) × MakesProblematic (slice_get before.reports.items turn.0) turn.0 before next attrs × TakesTurns more next (slice_set outcomes turn.1 (Failed attrs)) after settled
+-- the same of the first so many messages, message by message
+abbrev pub by_message : ℕ → List (ℕ × ℕ) → List (ℕ × ℕ)
+by_message zero turns = []
+by_message (suc report) turns = by_message report turns ++ filter (λ turn. nat_eq turn.0 report) turns
 
--- an element remains in the end: none that it stands in fails
-abbrev pub Remains : List Held → List Outcome → ℕ → Type 0
-Remains linked outcomes place = (outer report : ℕ) → StandsIn linked outer place → FailsFor outcomes report outer → ⊥
+-- one after the other becomes a problematic of its message
+abbrev pub take_turns : List (ℕ × ℕ) → List Outcome → Known → List Outcome × Known
+take_turns [] outcomes known = (outcomes, known)
+take_turns (turn ∷ more) outcomes known =
+    let made : List Attr × Known = problematic turn.0 known in take_turns more (slice_set outcomes turn.1 (Failed made.0)) made.1
 
--- those of some outcomes, of which the first is at a place, whose places pass a test
-abbrev pub at_places : (ℕ → Bool) → ℕ → List Outcome → List Outcome
-at_places test place [] = []
-at_places test place (outcome ∷ more) = if test place then outcome ∷ at_places test (place + 1) more else at_places test (place + 1) more
+-- what becomes of the element at a place, if it is inside none that fails
+abbrev pub left_at : List (Option ℕ) → ℕ × Outcome → Option Outcome
+left_at around (place, outcome) = if is_none (at_place around place) then Some outcome else None
 
--- the outcomes of linked elements, what becomes in the end of those that remain, and what is known before and after
-pub record Settles (linked : List Held) (outcomes : List Outcome) (before after : Context) (changes : List Outcome) : Type 0 where
-  pub turns : List (ℕ × ℕ)
-  pub settled : List Outcome
-  pub remains : ℕ → Bool
-  pub are_turns : AreTurns linked outcomes (length before.reports.items) turns
-  pub takes : TakesTurns turns before outcomes after settled
-  pub remain : (place : ℕ) → place < length outcomes → (remains place ≡ true ↔ Remains linked outcomes place)
-  pub changed : changes ≡ at_places remains 0 settled
+-- what becomes of those that remain in the end
+abbrev pub remaining : List (Option ℕ) → List Outcome → List Outcome
+remaining around outcomes = filter_map (left_at around) (enumerate_from 0 outcomes)
+
+-- what becomes of the linked elements that remain, by the outcomes of all
+abbrev pub settled : List Held → List Outcome → Known → List Outcome × Known
+settled linked outcomes known =
+    let around : List (Option ℕ) = firsts [] outcomes linked in
+    let reports : ℕ = length known.reports in
+    let done : List Outcome × Known = take_turns (by_message reports (turns_of reports around outcomes)) outcomes known in
+    (remaining around done.0, done.1)

@@ -125,7 +125,7 @@ fn first_left(order: Option<Order>, numbers: &[usize], symbols: &[usize]) -> Opt
     }
 }
 
-/// What is left of the places of an order behind a reference of some order.
+/// What is left of the places of an order after a reference of some order.
 fn places_left<'p>(order: Order, taken: Option<Order>, places: &'p [usize]) -> &'p [usize]
     ensures { result.now ≡ places_left order taken places.now }
 {

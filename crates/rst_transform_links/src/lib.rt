@@ -13,5 +13,5 @@ pub use footnote_orders::{
     Order, footnote_order, found_by_order, in_order, mark_of, reference_order,
 };
 pub use holders::{Holders, is_target, lead_by_name, lead_of, text_attr};
-pub use link_transform::{LinkTransform, change_links};
-pub use links::{Addition, Linked, Outcome};
+pub use link_transform::{LinkTransform, changes_by};
+pub use links::{Addition, Changes, Linked, Outcome, linked_in, with_changes};

@@ -17,7 +17,7 @@ use std::marker::Model;
 #[derive(Clone, Copy)]
 pub struct Linked<'a> {
     pub element: &'a Node,
-    /// The place, in the list of all, of the innermost of these elements that it stands in.
+    /// The place, in the list of all, of the innermost of these elements that it is inside.
     pub outer: Option<usize>,
 }
 
@@ -38,7 +38,7 @@ pub enum Outcome {
     Stays(Addition),
     /// It becomes a problematic of the message at this place among the reports once its turn comes, and stays till then.
     Fails(usize),
-    /// It has become a problematic that tells this.
+    /// It has become a problematic with these attributes.
     Failed(ProblematicAttrs),
 }
 
@@ -88,7 +88,7 @@ pub fn linked_in<'a>(alloc: Global, document: &'a Document) -> Result<Vec<Linked
     Ok(list)
 }
 
-/// Adds the linked elements among nodes, and in them, that stand in the one at the place `outer`.
+/// Adds the linked elements among nodes that are inside the one at the place `outer`, and those in them.
 fn add_linked<'a>(
     nodes: &'a Children,
     outer: Option<usize>,
@@ -109,7 +109,8 @@ fn add_linked<'a>(
     Ok(())
 }
 
-/// Adds an element, if it is linked, that stands in the one at the place `outer`.
+/// Adds an element, if it is linked, that is inside the one at the place `outer`.
+#[inline(always)]
 fn add_own<'a>(
     node: &'a Node,
     tag: Tag,
@@ -127,8 +128,9 @@ fn add_own<'a>(
     Ok(())
 }
 
-/// The place of the innermost linked element that the nodes in one stand in: its own, behind so many, if it is linked, or else that of
+/// The place of the innermost linked element that the nodes in one are inside: its own, after so many, if it is linked, or else that of
 /// the one around it.
+#[inline(always)]
 fn inner_of(tag: Tag, outer: Option<usize>, before: usize) -> Option<usize>
     ensures { result ≡ inner_of before outer tag }
 {
@@ -161,7 +163,7 @@ impl Model for Changes {
 }
 
 impl Changes {
-    /// The changes that a list tells.
+    /// The changes in a list.
     pub fn of(list: Vec<Outcome>) -> Changes
         ensures { result ≡ list.items }
     {
@@ -171,7 +173,7 @@ impl Changes {
     }
 
     /// Whether every element stays as it is.
-    fn are_idle(&self) -> bool
+    pub fn are_idle(&self) -> bool
         ensures { result ≡ list_all is_idle self.now }
     {
         self.left.iter().all(|change| is_idle(change))
@@ -199,7 +201,7 @@ fn add(attrs: &mut Attrs, more: Option<Entry>) -> Result<(), TreeFault>
     Ok(())
 }
 
-/// Puts a text in the place of some nodes, if there is one, and tells whether the nodes stay.
+/// Puts a text in the place of some nodes, if there is one, and returns whether the nodes stay.
 fn show(nodes: &mut Children, text: Option<Text>) -> Result<bool, TreeFault>
     ensures { Gives (λ stays. Shows text nodes.old nodes.new stays) result }
 {

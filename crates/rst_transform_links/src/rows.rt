@@ -1,21 +1,30 @@
-//! Worked examples of the elements that references join, of the orders of footnotes, and of where names lead, as theorems on the definitions alone.
+//! Worked examples of the elements that references join, of what becomes of those that fail, of the orders of footnotes, and of where names lead, as
+//! theorems on the definitions alone.
 #![tactic(auto, unfolding(crate::proofs::Computing::rst_transform_links))]
 
-ghost use Rattle.std.specs.Prelude.{◌≡◌, Some, None, codes, [], ◌∷◌, map};
+ghost use Rattle.std.specs.Prelude.{◌≡◌, Some, None, codes, [], ◌∷◌, length, List, map, true};
 ghost use Rattle.rst_tree.specs.declared.key.Key.TheVariants.{Auto, Ids, Mark, Rawsource, Refid, Refname, Refuri, Serial};
+ghost use Rattle.rst_tree.specs.declared.note.Level.TheVariants.{Error};
 ghost use Rattle.rst_tree.specs.declared.tag.Tag.TheVariants.{BlockQuote, Footnote, FootnoteReference, Label, Paragraph, Reference, Target};
 ghost use Rattle.rst_transform_names.specs.declared.names.Holder.TheVariants.{Element as By, Nobody, Unregistered};
 ghost use Rattle.rst_transform_names.specs.Trees.{counts, element, lists, paragraph, says, text};
+ghost use Rattle.rst_transform_work.specs.declared.document.Document.{Document};
+ghost use Rattle.rst_transform_work.specs.Known.{Known};
+ghost use Rattle.rst_transform_work.specs.Problematics.{problematic_attrs};
+ghost use Rattle.rst_transform_work.specs.Reports.{next_report, reported};
 ghost use Rattle.rst_transform_work.specs.Written.{document_of, Shows};
+ghost use Rattle.rst_transform_links.specs.declared.links.Outcome.{Outcome};
 ghost use Rattle.rst_transform_links.specs.declared.links.Outcome.TheVariants.{Stays, Fails, Failed};
 ghost use Rattle.rst_transform_links.specs.FootnoteOrders.{found_by_order, order_name};
 ghost use Rattle.rst_transform_links.specs.declared.footnote_orders.Order.TheVariants.{Numbers, Symbols};
 ghost use Rattle.rst_transform_links.specs.Holders.{holder_place, lead_of, name_lead};
 ghost use Rattle.rst_transform_links.specs.Linkings.{linked_of};
 ghost use Rattle.rst_transform_links.specs.Links.{changed_document};
+ghost use Rattle.rst_transform_links.specs.LinkTransforms.{link_changes};
 ghost use Rattle.rst_transform_links.specs.Outcomes.{adds};
+ghost use Rattle.rst_transform_links.specs.Settling.{settled};
 
-/// The elements that references join, each with the place of the one that it stands in (Markup Specification, 'Hyperlink References').
+/// The elements that references join, each with the place of the one that it is inside (Markup Specification, 'Hyperlink References').
 pub fn linked()
     ensures in_order { map (λ one. one.1) (linked_of (document_of (element Footnote [] (element Label [] []
         ∷ element Paragraph [] (element Reference [] [] ∷ []) ∷ []) ∷ element Target [] [] ∷ [])))
@@ -69,4 +78,52 @@ pub fn outcomes()
     ensures problematic { Shows (changed_document (Failed (lists Ids ("problematic-1" ∷ []) ∷ []) ∷ adds None
         ∷ []) (document_of (element Reference (says Rawsource "`a`_" ∷ []) (text "a" ∷ []) ∷ element Reference [] [] ∷ [])))
         ("<document>" ∷ "    <problematic ids=\"problematic-1\">" ∷ "        `a`_" ∷ "    <reference>" ∷ []) }
+{}
+
+/// Elements that fail (Markup Specification, 'Error Handling').
+pub fn failing()
+    ensures message_by_message { let known : Known = record {
+      ids = [];
+      names = λ _. None;
+      reports = next_report 0 [] Error 1 (codes "a") true
+          ∷ next_report 1 [] Error 1 (codes "b") true ∷ [];
+      first_number = 0;
+      serials = 0;
+    } in
+        (settled (linked_of (document_of (element Reference [] [] ∷ element Reference [] [] ∷ []))) (Fails 1 ∷ Fails 0 ∷ []) known).0
+        ≡ Failed (problematic_attrs (codes "problematic-2") (Some (1, codes "system-message-2")))
+        ∷ Failed (problematic_attrs (codes "problematic-1") (Some (0, codes "system-message-1"))) ∷ [] }
+    ensures gone_with_the_outer { let known : Known = record {
+      ids = [];
+      names = λ _. None;
+      reports = next_report 0 [] Error 1 (codes "a") true ∷ [];
+      first_number = 0;
+      serials = 0;
+    } in
+        (settled (linked_of (document_of (element Footnote [] (element Reference [] [] ∷ []) ∷ element Reference [] [] ∷ []))) (Fails 0 ∷ Fails 0
+        ∷ Fails 0 ∷ []) known).0
+        ≡ Failed (problematic_attrs (codes "problematic-1") (Some (0, codes "system-message-1")))
+        ∷ Failed (problematic_attrs (codes "problematic-2") (Some (0, codes "system-message-1"))) ∷ [] }
+    ensures before_the_outer { let known : Known = record {
+      ids = [];
+      names = λ _. None;
+      reports = next_report 0 [] Error 1 (codes "a") true
+          ∷ next_report 1 [] Error 1 (codes "b") true ∷ [];
+      first_number = 0;
+      serials = 0;
+    } in
+        let done : List Outcome × Known = settled (linked_of (document_of (element Footnote [] (element Reference [] [] ∷ []) ∷ []))) (Fails 1 ∷ Fails 0 ∷ []) known in
+        (done.0 ≡ Failed (problematic_attrs (codes "problematic-2") (Some (1, codes "system-message-2"))) ∷ [])
+        × (map (λ r. r.backrefs) done.1.reports ≡ (codes "problematic-1" ∷ []) ∷ (codes "problematic-2" ∷ []) ∷ []) }
+{}
+
+/// A transform that lets every element fail for one message (Markup Specification, 'Error Handling').
+pub fn changes()
+    ensures document { let known : Known = record { ids = codes "problematic-1" ∷ []; names = λ _. None; reports = []; first_number = 5; serials = 0 } in
+        let document : Document = document_of (element Footnote (says Rawsource "b" ∷ []) (element Reference [] [] ∷ [])
+        ∷ element Reference (says Rawsource "a_" ∷ []) (text "a" ∷ []) ∷ []) in
+        let done : List Outcome × Known = link_changes (λ linked known. (map (λ _. Fails (length known.reports)) linked, reported Error 1 (codes "It fails.") true known)) (linked_of document) known in
+        Shows (changed_document done.0 document)
+        ("<document>" ∷ "    <problematic ids=\"problematic-2\" refid=\"system-message-1\">" ∷ "        b"
+        ∷ "    <problematic ids=\"problematic-3\" refid=\"system-message-1\">" ∷ "        a_" ∷ []) }
 {}

@@ -4,8 +4,9 @@ ghost use Rattle.std.specs.List.{list_all};
 ghost use Rattle.rst_tree.specs.Faults.{Gives};
 ghost use Rattle.rst_transform_links.specs.Linkings.{held};
 ghost use Rattle.rst_transform_links.specs.Outcomes.{stays};
-ghost use Rattle.rst_transform_links.specs.Settling.{at_places, Settles, TakesTurns};
-ghost use Rattle.rst_transform_links.specs.Turns.{earlier, first_in, firsts, is_free, still_stands, turn_of, turns_from, PutsInOrder};
+ghost use Rattle.rst_transform_links.specs.Settling as spec;
+ghost use Rattle.rst_transform_links.specs.Settling.{by_message, earlier, first_in, firsts, is_still_there, turn_of, turns_of};
+ghost use Rattle.rst_transform_work.specs.Known.{Makes};
 
 use crate::links::{Changes, Linked, Outcome};
 use rst_transform_work::{Context, at_place};
@@ -22,7 +23,7 @@ pub fn settle(
     linked: &[Linked<'_>],
     mut outcomes: Vec<Outcome>,
 ) -> Result<Changes, TreeFault>
-    ensures { Gives (Settles (map held linked.now) outcomes.items context.old context.new) result }
+    ensures { Gives (Makes (spec.settled (map held linked.now) outcomes.items) context.old context.new) result }
 {
     if all_stay(outcomes.as_slice()) {
         return Ok(Changes::of(outcomes));
@@ -46,7 +47,7 @@ fn all_stay(outcomes: &[Outcome]) -> bool
     outcomes.iter().all(|outcome| outcome.stays())
 }
 
-/// For each element the first report for which one that it stands in becomes a problematic.
+/// For each element the first report for which one that it is inside becomes a problematic.
 fn first_around(
     alloc: Global,
     linked: &[Linked<'_>],
@@ -62,8 +63,8 @@ fn first_around(
     Ok(around)
 }
 
-/// The first report for which an element becomes a problematic that one stands in: the one at the place `outer`, or one that this
-/// stands in.
+/// The first report for which an element becomes a problematic that one is inside: the one at the place `outer`, or one that this
+/// is inside.
 fn first_in(around: &[Option<usize>], outcomes: &[Outcome], outer: Option<usize>) -> Option<usize>
     ensures { result ≡ first_in around.now outcomes.now outer }
 {
@@ -83,10 +84,10 @@ fn earlier(first: Option<usize>, outcome: &Outcome) -> Option<usize>
     }
 }
 
-/// Whether an element still stands when the turn of a report comes: one inside another is gone once that one became a
+/// Whether an element is still there when the turn of a report comes: one inside another is gone once that one became a
 /// problematic.
-fn still_stands(report: usize, around: Option<usize>) -> bool
-    ensures { result ≡ still_stands report around }
+fn is_still_there(report: usize, around: Option<usize>) -> bool
+    ensures { result ≡ is_still_there report around }
 {
     match around {
         Some(first) => report < first,
@@ -94,35 +95,41 @@ fn still_stands(report: usize, around: Option<usize>) -> bool
     }
 }
 
-/// The report, of so many, at whose turn an element becomes a problematic, if it does.
-fn turn_of(reports: usize, outcome: &Outcome, around: Option<usize>) -> Option<usize>
-    ensures { result ≡ turn_of reports outcome.now around }
+/// The turn of an element at a place, if it becomes a problematic of one of so many reports: the report, and the place.
+fn turn_of(
+    reports: usize,
+    around: &[Option<usize>],
+    place: usize,
+    outcome: &Outcome,
+) -> Option<(usize, usize)>
+    ensures { result ≡ turn_of reports around.now (place, outcome.now) }
 {
     match outcome {
-        Outcome::Fails(report) if *report < reports && still_stands(*report, around) => {
-            Some(*report)
+        Outcome::Fails(report)
+            if *report < reports && is_still_there(*report, at_place(around, place)) => {
+            Some((*report, place))
         }
         _ => None,
     }
 }
 
-/// The elements that become problematics, each by its report and its place: report by report, under each in preorder.
+/// The turns of the elements that become problematics: report by report, under each in preorder.
 fn turns(
     alloc: Global,
     reports: usize,
     outcomes: &[Outcome],
     around: &[Option<usize>],
 ) -> Result<Vec<(usize, usize)>, TreeFault>
-    ensures { Gives (λ turns. PutsInOrder (turns_from 0 reports around.now outcomes.now) turns.items) result }
+    ensures { Gives (λ turns. turns.items ≡ by_message reports (turns_of reports around.now outcomes.now)) result }
 {
     let mut turns = Vec::with_capacity(alloc, outcomes.len())?;
     for (place, outcome) in outcomes.iter().enumerate() {
-        if let Some(report) = turn_of(reports, outcome, at_place(around, place)) {
-            turns.push((report, place))?;
+        if let Some(turn) = turn_of(reports, around, place, outcome) {
+            turns.push(turn)?;
         }
     }
     // Mostly they are found in this order.
-    turns.sort()?;
+    turns.sort_by_key(|turn| turn.0)?;
     Ok(turns)
 }
 
@@ -133,7 +140,7 @@ fn take_turns(
     turns: &[(usize, usize)],
     outcomes: &mut Vec<Outcome>,
 ) -> Result<(), TreeFault>
-    ensures { Gives (λ _. TakesTurns turns.now context.old outcomes.old.items context.new outcomes.new.items) result }
+    ensures { Gives (λ _. Makes (spec.take_turns turns.now outcomes.old.items) context.old context.new outcomes.new.items) result }
 {
     for turn in turns {
         let problematic = context.next_problematic(alloc, turn.0)?;
@@ -152,7 +159,7 @@ fn put_at(outcomes: &mut Vec<Outcome>, place: usize, outcome: Outcome)
     outcomes[place] = outcome;
 }
 
-/// Whether no element stands in one that becomes a problematic.
+/// Whether no element is inside one that becomes a problematic.
 fn do_all_remain(around: &[Option<usize>]) -> bool
     ensures { result ≡ list_all is_none around.now }
 {
@@ -166,7 +173,7 @@ fn remaining(
     outcomes: Vec<Outcome>,
     around: &[Option<usize>],
 ) -> Result<Changes, TreeFault>
-    ensures { Gives (λ changes. changes ≡ at_places (is_free around.now) 0 outcomes.items) result }
+    ensures { Gives (λ changes. changes ≡ spec.remaining around.now outcomes.items) result }
 {
     if do_all_remain(around) {
         return Ok(Changes::of(outcomes));

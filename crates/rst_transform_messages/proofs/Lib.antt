@@ -1,5 +1,4 @@
 pub mod Computing
 pub mod Listing
 pub mod NoMessages
-pub mod OneAnswer
 pub mod Showing

@@ -23,7 +23,7 @@ use Rattle.rst_transform_messages.specs.Listed.{Adds, KeepsLevels, Lists}
 use Rattle.rst_transform_messages.specs.Messages.{halts, has_halt, has_number, is_number_shown, is_shown_as, marked, notes_of, until_halt, Numbered}
 use Rattle.rst_transform_messages.specs.MessagesIn.{message_said, messages_among}
 
--- whether a run halts is told by the messages up to the halt
+-- whether a run halts follows from the messages up to the halt
 halts_until : (halt : Threshold) (notes : List Note) → has_halt halt (until_halt halt notes) ≡ has_halt halt notes
 halts_until halt [] = refl
 halts_until halt (note ∷ more) = by (halts halt note) (halts_until halt more)
@@ -32,7 +32,7 @@ halts_until halt (note ∷ more) = by (halts halt note) (halts_until halt more)
     by true same = refl
     by false same = same
 
--- a message behind a halt isn't in the list
+-- a message after a halt isn't in the list
 until_past : (halt : Threshold) (notes : List Note) (note : Note) → has_halt halt notes ≡ true → until_halt halt (notes ++ note ∷ []) ≡ until_halt halt notes
 until_past halt [] note halted = cc
 until_past halt (first ∷ more) note halted = by (halts halt first) (until_past halt more note) halted
@@ -78,7 +78,7 @@ marks_more all old new note number lists keeps marks n =
 notes_more : (all : List Numbered) (note : Note) (number : Option ℕ) → notes_of (all ++ (note, number) ∷ []) ≡ notes_of all ++ note ∷ []
 notes_more all note number = map-append (λ one. one.0) all ((note, number) ∷ [])
 
--- a message that comes behind a halt
+-- a message that comes after a halt
 pub adds_none : (old new : Messages) (note : Note) (number : Option ℕ) → KeepsLevels old new → Marks old new note number → new.notes.items ≡ old.notes.items → has_halt old.halt old.notes.items ≡ true
     → Adds ((note, number) ∷ []) old new
 adds_none old new note number keeps marks same halted all lists =

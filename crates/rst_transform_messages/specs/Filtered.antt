@@ -34,7 +34,7 @@ filtered report shown (element t a c l r) =
     if is_below report t a then filtered report shown r
     else (if is_unexplained shown t a then words (text_all c) (filtered report shown r) else element t a (filtered report shown c) l (filtered report shown r))
 
--- the document with what stands in it filtered
+-- the document with what is in it filtered
 abbrev pub with_filtered : Threshold → (ℕ → Bool) → Document → Document
 with_filtered report shown document = record document { children = filtered report shown document.children }
 

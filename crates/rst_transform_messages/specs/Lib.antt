@@ -1,5 +1,4 @@
 pub mod Filtered
-pub mod Law
 pub mod Listed
 pub mod Messages
 pub mod MessagesIn

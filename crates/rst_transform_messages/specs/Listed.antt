@@ -1,11 +1,5 @@
 -- What the list of messages holds (Configuration, `halt_level` and `report_level`).
 use Rattle.std.specs.Prelude.{◌≡◌, ℕ, List, ◌++◌, Some}
-use Rattle.rst_tree.specs.declared.node.Node.{Node}
-use Rattle.rst_tree.specs.Walk.{node_items}
-use Rattle.rst_tree_index.specs.declared.kinds.Kinds.{Kinds}
-use Rattle.rst_tree_index.specs.Kinds.{kinds_of}
-use Rattle.rst_transform_names.specs.declared.registration.Registered.{Registered}
-use Rattle.rst_transform_names.specs.Registering.{IsRegistered}
 use Rattle.rst_transform_messages.specs.declared.messages.Messages.{Messages}
 use Rattle.rst_transform_work.specs.declared.report.Report.{Report}
 use Rattle.rst_transform_messages.specs.Messages.{is_number_shown, marked, notes_of, until_halt, Numbered}
@@ -16,13 +10,9 @@ pub record Lists (all : List Numbered) (list : Messages) : Type 0 where
   pub notes : list.notes.items ≡ until_halt list.halt (notes_of all)
   pub shown : (n : ℕ) → marked list.shown.items n ≡ is_number_shown list.report all n
 
--- the list holds more messages, behind those that it held
+-- the list holds more messages, after those that it held
 abbrev pub Adds : List Numbered → Messages → Messages → Type 0
 Adds more old new = (all : List Numbered) → Lists all old → Lists (all ++ more) new
-
--- a registered document came of one whose elements are of these kinds
-abbrev pub CameOf : Kinds → Registered → Type 0
-CameOf kinds registered = (numbers : ℕ) × (document : Node) × IsRegistered numbers document registered × (kinds ≡ kinds_of (node_items document))
 
 -- the levels from which on messages halt and are shown stay
 abbrev pub KeepsLevels : Messages → Messages → Type 0

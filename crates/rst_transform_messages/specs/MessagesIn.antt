@@ -1,9 +1,7 @@
--- The messages that stand in a document (Document Tree, 'system_message').
+-- The messages in a document (Document Tree, 'system_message').
 use Rattle.std.specs.Prelude.{ℕ, max, List, [], ◌∷◌, ◌++◌, if◌then◌else◌, slice_get, option_map}
 use Rattle.rst_tree.specs.declared.attrs.Attr.{Attr}
 use Rattle.rst_tree.specs.declared.key.Key.TheVariants.{Message}
-use Rattle.rst_tree.specs.declared.node.Node.{Node}
-use Rattle.rst_tree.specs.declared.node.Node.TheVariants.{Element, Text}
 use Rattle.rst_tree.specs.declared.note.Note.{Note}
 use Rattle.rst_tree_index.specs.Kinds.{is_message}
 use Rattle.rst_tree.specs.Attributes.{said_number, value_of}
@@ -27,8 +25,3 @@ abbrev pub messages_among : Forest → List Numbered
 messages_among bare = []
 messages_among (words t r) = messages_among r
 messages_among (element t a c l r) = (if is_message t then message_said a c l ∷ [] else messages_among c) ++ messages_among r
-
--- those in a document
-abbrev pub messages_in : Node → List Numbered
-messages_in (Element t a c l) = messages_among c
-messages_in (Text t) = []

@@ -29,7 +29,7 @@ are_shown report bare = true
 are_shown report (element t a c l r) = not (is_below report t a) && (are_shown report c && are_shown report r)
 are_shown report (words t r) = are_shown report r
 
--- the same for what stands in a document
+-- the same for what is in a document
 abbrev pub is_shown_in : Threshold → Node → Bool
 is_shown_in report (Element t a c l) = are_shown report c
 is_shown_in report (Text t) = true

@@ -2,7 +2,6 @@
 #![tactic(auto)]
 
 pub mod filter;
-pub mod laws;
 mod messages;
 pub mod rows;
 

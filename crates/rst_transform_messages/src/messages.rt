@@ -8,10 +8,8 @@ ghost use Rattle.rst_transform_messages.specs.Messages.{has_halt, EndsAtHalt, hi
 ghost use Rattle.rst_transform_messages.specs.MessagesIn.{note_said};
 
 use rst_settings::Threshold;
-use rst_transform_names::Registered;
 use rst_transform_work::Report;
 use rst_tree::{Attrs, Children, Key, Level, Node, Note, Tag, Text, TreeFault};
-use rst_tree_index::Kinds;
 use std::alloc::Global;
 
 /// Whether a level of that number is at or above a threshold; a number above 4 counts as 4.
@@ -48,8 +46,8 @@ pub struct Messages {
 impl Messages {
     ghost use Rattle.std.specs.Prelude.{[], ◌∷◌, List, map};
     ghost use Rattle.rst_transform_messages.specs.Messages.{until_halt, notes_of, is_number_shown, Numbered};
-    ghost use Rattle.rst_transform_messages.specs.MessagesIn.{message_said, messages_among, messages_in};
-    ghost use Rattle.rst_transform_messages.specs.Listed.{report_said, Adds, CameOf, Lists, KeepsLevels};
+    ghost use Rattle.rst_transform_messages.specs.MessagesIn.{message_said, messages_among};
+    ghost use Rattle.rst_transform_messages.specs.Listed.{report_said, Adds, Lists, KeepsLevels};
 
     /// No message, in a list with room for so many, of a run that halts at a threshold and shows messages from another one on.
     pub fn with_room(
@@ -102,36 +100,8 @@ impl Messages {
         self.push(note, attrs.number(Key::Message))
     }
 
-    /// Adds the messages in a registered document, whose elements are of some kinds, but for those that registration put in. Where
-    /// there is none, nobody looks for them.
-    pub fn add_registered(
-        &mut self,
-        alloc: Global,
-        registered: &Registered,
-        kinds: Kinds,
-    ) -> Result<(), TreeFault>
-        ensures levels { KeepsLevels self.old self.new }
-        ensures adds { Gives (λ _. CameOf kinds registered.now → Adds (messages_in registered.now.root) self.old self.new) result }
-    {
-        if !kinds.messages && !registered.has_name_messages {
-            return Ok(());
-        }
-        self.add_those_in(alloc, &registered.root)
-    }
-
-    /// Adds the messages in a document, in preorder.
-    fn add_those_in(&mut self, alloc: Global, root: &Node) -> Result<(), TreeFault>
-        ensures levels { KeepsLevels self.old self.new }
-        ensures adds { Gives (λ _. Adds (messages_in root.now) self.old self.new) result }
-    {
-        if let Node::Element { children, .. } = root {
-            self.add_all(alloc, children)?;
-        }
-        Ok(())
-    }
-
-    /// Adds those among nodes and in them. A message holds no other.
-    fn add_all(&mut self, alloc: Global, nodes: &Children) -> Result<(), TreeFault>
+    /// Adds those among nodes and in them, in preorder. A message holds no other.
+    pub fn add_all(&mut self, alloc: Global, nodes: &Children) -> Result<(), TreeFault>
         ensures levels { KeepsLevels self.old self.new }
         ensures adds { Gives (λ _. Adds (messages_among nodes.now) self.old self.new) result }
     {
@@ -169,7 +139,7 @@ impl Messages {
     }
 
     /// Whether the message of each number is shown, once all messages were added. No transform takes a message out of a
-    /// document, so those that are stand in it.
+    /// document, so those that are shown are in it.
     pub fn shown(&self) -> &[bool]
         ensures { (all : List Numbered) → Lists all self.now → (n : ℕ) → marked result.now n ≡ is_number_shown self.now.report all n }
     {

@@ -6,11 +6,12 @@ ghost use Rattle.rst_settings.specs.declared.Threshold.TheVariants.{Info as From
 ghost use Rattle.rst_tree.specs.declared.key.Key.TheVariants.{Level, Message};
 ghost use Rattle.rst_tree.specs.declared.note.Level.TheVariants.{Info, Warning, Error, Severe};
 ghost use Rattle.rst_tree.specs.declared.tag.Tag.TheVariants.{BlockQuote, Emphasis, LiteralBlock, Paragraph, Problematic, SystemMessage};
-ghost use Rattle.rst_transform_names.specs.Trees.{counts, document, element, paragraph, text};
+ghost use Rattle.rst_tree.specs.Nodes.{forest_of};
+ghost use Rattle.rst_transform_names.specs.Trees.{counts, element, paragraph, text};
 ghost use Rattle.rst_transform_work.specs.Written.{document_of, Shows};
 ghost use Rattle.rst_transform_messages.specs.Filtered.{with_filtered};
 ghost use Rattle.rst_transform_messages.specs.Messages.{highest_level, is_number_shown, notes_of, until_halt};
-ghost use Rattle.rst_transform_messages.specs.MessagesIn.{messages_in};
+ghost use Rattle.rst_transform_messages.specs.MessagesIn.{messages_among};
 ghost use Rattle.rst_transform_messages.specs.Written.{note};
 
 /// The list of messages ends with the first that halts the run (Configuration, 'halt_level').
@@ -24,10 +25,10 @@ pub fn halts()
 
 /// The messages in a document, in its order (Markup Specification, 'Error Handling').
 pub fn messages()
-    ensures in_order { messages_in (document (element BlockQuote [] (element SystemMessage (counts Level 2 ∷ counts Message 1 ∷ []) (paragraph "a"
+    ensures in_order { messages_among (forest_of (element BlockQuote [] (element SystemMessage (counts Level 2 ∷ counts Message 1 ∷ []) (paragraph "a"
         ∷ []) ∷ []) ∷ element SystemMessage (counts Level 1 ∷ []) (paragraph "b" ∷ []) ∷ []))
         ≡ (note Warning "a", Some 1) ∷ (note Info "b", None) ∷ [] }
-    ensures with_a_block { notes_of (messages_in (document (element SystemMessage (counts Level 4 ∷ []) (paragraph "a"
+    ensures with_a_block { notes_of (messages_among (forest_of (element SystemMessage (counts Level 4 ∷ []) (paragraph "a"
         ∷ element LiteralBlock [] (text "x" ∷ []) ∷ []) ∷ [])))
         ≡ record { level = Severe; line = 1; text = codes "a"; block = Some (codes "x") } ∷ [] }
 {}

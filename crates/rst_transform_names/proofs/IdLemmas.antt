@@ -27,7 +27,8 @@ use Rattle.rst_tree.specs.declared.fault.TreeFault.{TreeFault}
 use Rattle.rst_tree.specs.declared.fault.TreeFault.TheVariants.{NoMemory}
 use Rattle.rst_tree.specs.declared.tag.Tag.{Tag}
 use Rattle.rst_transform_names.specs.declared.ids.Ids.{Ids}
-use Rattle.rst_transform_names.specs.Ids.{numbered, number_in, parts_from, parts_of, numbered_part, number_of, last_of, taken_by, is_taken, IsLeastFree, IsNumbered, IsFreed, IsIdBy, Takes, TakesNone, wanted_id, GivesId, GivesNumbered}
+use Rattle.rst_tree.specs.TagNames.{hyphenated, tag_name}
+use Rattle.rst_transform_names.specs.Ids.{numbered, number_in, parts_from, parts_of, numbered_part, number_of, last_of, taken_by, is_among, is_taken, id_by, kind_id, least_free, least_from, numbered_id, wanted_id, AreTaken, IsLeastFree, Takes, TakesNone, GivesId, GivesNumber, GivesNumbered}
 
 -- what the empty name gives, and what another one does
 pub nothing_wanted : (name : List ℕ) → (length name == 0) ≡ true → [] ≡ wanted_id name
@@ -422,29 +423,87 @@ module _ (old : Ids) (last : BTreeMap (String Global) ℕ) (base : List ℕ) (n 
           subst (λ l. Wanted other (Some (l, m))) (sym at) (⊎_elim (λ l. up_to other m read (leb-true m n l)) (λ f. beyond other m read (omega (arith, leb-false m n f))) (cases_Bool (nat_le m n))))
           (λ f. of_other other b m e f) (cases_Bool (bytes_eq b base))
 
+-- ---- the ids that are taken, as a list
+
+module _ (taken : List (List ℕ)) (base : List ℕ) where
+  -- which number from one on an id of the text has
+  abbrev place : List ℕ → ℕ
+  place id = unwrap_or (option_map (λ (parts : List ℕ × ℕ). parts.1) (number_of id)) 0 - 1
+
+  place_is : (q : ℕ) → q + 1 < 2 ^ 64 → (id : List ℕ) → bytes_eq (numbered base (q + 1)) id ≡ true → place id ≡ q
+  place_is q small id e =
+      let read : number_of id ≡ Some (base, q + 1) =
+      ap number_of (sym ((bytes_decides (numbered base (q + 1)) id).0 e)) ∙ number_of-numbered base (q + 1) (omega arith) small in
+      ap (λ (o : Option (List ℕ × ℕ)). unwrap_or (option_map (λ (parts : List ℕ × ℕ). parts.1) o) 0 - 1) read ∙ omega arith
+
+  -- no more numbers are used up than there are ids
+  no_more_than_all : (count : ℕ) → count < 2 ^ 64 → ((m : ℕ) → 0 < m → m < count + 1 → is_among taken (numbered base m) ≡ true) → count ≤ length taken
+  no_more_than_all count small all =
+      subst (λ l. count ≤ l) (length-map taken place)
+      (le-length_from_below (map place taken) count (λ q less.
+      any_mapped (bytes_eq (numbered base (q + 1))) place q (place_is q (omega arith)) taken (all (q + 1) (omega arith) (omega arith))))
+
+-- the least number that passes no test is found if so many are tried
+least_from_is : (test : ℕ → Bool) (n first count : ℕ) → test n ≡ false → ((m : ℕ) → first ≤ m → m < n → test m ≡ true) → first ≤ n → n ≤ first + count → n ≡ least_from test first count
+least_from_is test n first zero free below low high = omega arith
+least_from_is test n first (suc more) free below low high = ⊎_elim
+    (λ t.
+    let other : n ≢ first = λ at. absurd (true≢false (sym t ∙ ap test (sym at) ∙ free)) in
+    least_from_is test n (first + 1) more free (λ m above less. below m (omega arith) less) (omega (arith, other)) (omega arith) ∙ sym (cond-true _ _ _ t))
+    (λ f. ⊎_elim (λ less. absurd (true≢false (sym (below first (omega arith) (ltb-true first n less)) ∙ f))) (λ no. omega (arith, ltb-false first n no) ∙ sym (cond-false _ _ _ f)) (cases_Bool (nat_lt first n)))
+    (cases_Bool (test first))
+
+pub least_free_is : (ids : Ids) (taken : List (List ℕ)) (base : List ℕ) (n : ℕ) → n < 2 ^ 64 → AreTaken ids taken → IsLeastFree (is_taken ids) base n → n ≡ least_free taken base
+least_free_is ids taken base n small are free =
+    let below : (m : ℕ) → 0 < m → m < n → is_among taken (numbered base m) ≡ true = λ m some less. sym (are (numbered base m)) ∙ free.is_least m some less in
+    let few = no_more_than_all taken base (n - 1) (omega arith) (λ m some less. below m some (omega (arith, free.from_one))) in
+    least_from_is (λ m. is_among taken (numbered base m)) n 1 (length taken) (sym (are (numbered base n)) ∙ free.is_free) below free.from_one (omega (arith, few))
+
+or_is : (b x : Bool) → (if b then true else x) ≡ (b || x)
+or_is true x = refl
+or_is false x = refl
+
+pub taken_after : (old new : Ids) (id : List ℕ) (taken : List (List ℕ)) → AreTaken old taken → Takes id old new → AreTaken new (id ∷ taken)
+taken_after old new id taken are takes other =
+    takes other ∙ ap (λ t. if bytes_eq other id then true else t) (are other) ∙ or_is (bytes_eq other id) (is_among taken other)
+
+pub taken_still : (old new : Ids) (taken : List (List ℕ)) → AreTaken old taken → TakesNone old new → AreTaken new taken
+taken_still old new taken are none other = none other ∙ are other
+
 -- ---- ids given
 
--- ids of which the same are taken have the same free numbers
-same_least : (a b : Ids) (base : List ℕ) (n : ℕ) → TakesNone a b → IsLeastFree (is_taken b) base n → IsLeastFree (is_taken a) base n
-same_least a b base n same free = record { from_one = free.from_one; is_free = sym (same (numbered base n)) ∙ free.is_free; is_least = λ m some less. sym (same (numbered base m)) ∙ free.is_least m some less }
-
--- an id that was taken is taken, and no other
+-- nothing is taken with one that was
 none_by_taken : (a b : Ids) (id : List ℕ) → is_taken a id ≡ true → Takes id a b → TakesNone a b
 none_by_taken a b id taken takes other = takes other ∙ sym (took_taken a id taken other)
 
-takes_after : (a b c : Ids) (id : List ℕ) → TakesNone a b → Takes id b c → Takes id a c
-takes_after a b c id same takes other = takes other ∙ ap (λ t. if bytes_eq other id then true else t) (same other)
+-- a number that is given, and the id of a text with one
+pub gives_number : (base : List ℕ) (old new : Ids) (n : ℕ) → n < 2 ^ 64 → IsLeastFree (is_taken old) base n → Takes (numbered base n) old new → GivesNumber base old new (Ok n)
+gives_number base old new n small free takes taken are = (least_free_is old taken base n small are free, taken_after old new (numbered base n) taken are takes)
 
--- the wanted id with a number, where it is taken
-given_numbered : (taken : List ℕ → Bool) (tag : Tag) (wanted id : List ℕ) → 0 < length wanted → taken wanted ≡ true → IsNumbered taken wanted id → IsIdBy taken tag wanted id
-given_numbered taken tag [] id some is numbered = absurd (omega arith)
-given_numbered taken tag (c ∷ cs) id some is numbered = subst (λ t. IsFreed t taken (c ∷ cs) id) (sym is) numbered
+pub gives_numbered : (base id : List ℕ) (old new : Ids) (n : ℕ) → n < 2 ^ 64 → id ≡ numbered base n → IsLeastFree (is_taken old) base n → Takes (numbered base n) old new
+    → GivesNumbered base old new (Ok id)
+gives_numbered base id old new n small is free takes taken are =
+    (is ∙ ap (numbered base) (least_free_is old taken base n small are free), subst (λ i. AreTaken new (i ∷ taken)) (sym is) (taken_after old new (numbered base n) taken are takes))
 
--- the id of a name whose own one is taken
-pub given_after : (tag : Tag) (name wanted : List ℕ) (old mid new : Ids) (r : Result (List ℕ) TreeFault) → wanted ≡ wanted_id name → 0 < length wanted
+-- no id is wanted
+kind_of_nothing : (taken : List (List ℕ)) (tag : Tag) (wanted : List ℕ) → length wanted ≡ 0 → kind_id taken tag ≡ id_by taken tag wanted
+kind_of_nothing taken tag [] none = refl
+kind_of_nothing taken tag (c ∷ cs) none = absurd (omega (arith, none))
+
+pub gives_kind : (tag : Tag) (name wanted : List ℕ) (old new : Ids) (r : Result (List ℕ) TreeFault) → wanted ≡ wanted_id name → length wanted ≡ 0
+    → GivesNumbered (hyphenated (tag_name tag)) old new r → GivesId tag name old new r
+gives_kind tag name wanted old new (Ok id) is none h = λ taken are.
+    let given = h taken are in (given.0 ∙ kind_of_nothing taken tag wanted none ∙ ap (id_by taken tag) is, given.1)
+gives_kind tag name wanted old new (Err NoMemory) is none h = h
+
+-- the id that is wanted, where it is free or taken
+by_wanted : (taken : List (List ℕ)) (tag : Tag) (wanted id : List ℕ) → 0 < length wanted → id ≡ (if is_among taken wanted then numbered_id taken wanted else wanted) → id ≡ id_by taken tag wanted
+by_wanted taken tag [] id some is = absurd (omega arith)
+by_wanted taken tag (c ∷ cs) id some is = is
+
+pub gives_after : (tag : Tag) (name wanted : List ℕ) (old mid new : Ids) (r : Result (List ℕ) TreeFault) → wanted ≡ wanted_id name → 0 < length wanted
     → is_taken old wanted ≡ true → Takes wanted old mid → GivesNumbered wanted mid new r → GivesId tag name old new r
-given_after tag name wanted old mid new (Ok id) is some taken takes h =
-    let same = none_by_taken old mid wanted taken takes in
-    let given = given_numbered (is_taken old) tag wanted id some taken (h.0.0, h.0.1, same_least old mid wanted h.0.0 same h.0.2) in
-    (subst (λ w. IsIdBy (is_taken old) tag w id) is given, takes_after old mid new id same h.1)
-given_after tag name wanted old mid new (Err NoMemory) is some taken takes h = λ other. h other ∙ none_by_taken old mid wanted taken takes other
+gives_after tag name wanted old mid new (Ok id) is some was takes h = λ taken are.
+    let given = h taken (taken_still old mid taken are (none_by_taken old mid wanted was takes)) in
+    (by_wanted taken tag wanted id some (given.0 ∙ sym (cond-true _ _ _ (sym (are wanted) ∙ was))) ∙ ap (id_by taken tag) is, given.1)
+gives_after tag name wanted old mid new (Err NoMemory) is some was takes h = λ other. h other ∙ none_by_taken old mid wanted was takes other

@@ -12,13 +12,13 @@ use Rattle.rst_tree.specs.Nodes.{forest_of, nodes_of}
 use Rattle.rst_transform_names.specs.declared.inside.Inside.{Inside}
 use Rattle.rst_transform_names.specs.declared.inside.OwnMessage.{OwnMessage}
 use Rattle.rst_transform_names.specs.declared.weaving.TextMessages.{TextMessages}
-use Rattle.rst_transform_names.specs.NameMessages.{after_own, after_texts, ahead, all_at, before_nodes, filled, goes_in, goes_out, is_passed_over, left_waiting, messages_of, on_inline, outside, own_block, own_inline, own_messages, own_section, placed_in, takes_in, texts, texts_out, waiting, with_messages, woven, OfText}
-use Rattle.rst_transform_names.specs.PlacingMessages.{all_placed, of_texts, pairs, texts_of, IsBare, IsInside, Puts}
+use Rattle.rst_transform_names.specs.NameMessages.{after_own, after_texts, ahead, all_at, before_nodes, filled, goes_in, goes_out, is_passed_over, left_waiting, messages_of, on_inline, outside, own_block, own_inline, own_messages, placed_in, takes_in, texts, texts_out, waiting, with_messages, woven, OfText}
+use Rattle.rst_transform_names.specs.PlacingMessages.{all_placed, of_texts, pairs, texts_of, IsBare, IsInside, IsOwn, Puts}
 use Rattle.rst_transform_names.proofs.MessageGaps.{next_made}
 
 -- ---- choices
 
-either_none : {X : Type 0} (b : Bool) → ◌≡◌ {A = List X} (if b then [] else []) []
+pub either_none : {X : Type 0} (b : Bool) → ◌≡◌ {A = List X} (if b then [] else []) []
 either_none true = refl
 either_none false = refl
 
@@ -86,13 +86,7 @@ module _ (own : List Attr → List Node) where
         waiting = h.waiting;
       }
 
-  -- the message on an element's own name is where it has its place
-  pub record IsOwn (t : Tag) (a : List Attr) (message : OwnMessage) : Type 0 where
-    pub section : pairs message.section.items ≡ own_section own t a
-    pub inline : message.inline.items ≡ own_inline own t a
-    pub block : message.block.items ≡ own_block own t a
-
-  module _ (t : Tag) (a : List Attr) (c : Forest) (message : OwnMessage) (inside : Inside) (is_own : IsOwn t a message) (is_inside : IsInside own t c inside) where
+  module _ (t : Tag) (a : List Attr) (c : Forest) (message : OwnMessage) (inside : Inside) (is_own : IsOwn own t a message) (is_inside : IsInside own t c inside) where
     -- all messages among the nodes of an element
     placed_all : (given : List TextMessages) (wanted : List OfText) → of_texts given ≡ wanted
         → all_placed inside.nodes.items given inside.after_texts.items message.section.items inside.before_nodes.items inside.waiting.items ≡ placed_in own wanted t a c

@@ -1,6 +1,6 @@
 -- Without messages on equal names the document is the same.
 use Rattle.std.proofs.Common.{◌≡◌, ℕ, ◌+◌, List, [], ◌∷◌, ◌++◌, length, Bool, true, false, not, Option, Some, None, refl, ap, ap₂, ◌∙◌}
-use Rattle.std.specs.Prelude.{◌&&◌, ◌||◌, if◌then◌else◌, option_and_then}
+use Rattle.std.specs.Prelude.{◌&&◌, if◌then◌else◌, option_and_then}
 use Rattle.std.specs.Option.{option_to_list}
 use Rattle.std.proofs.Math.Path.{fun_ext}
 use Rattle.std.proofs.lemmas.List.{append-nil}
@@ -12,8 +12,9 @@ use Rattle.rst_tree.specs.declared.tag.Tag.{Tag}
 use Rattle.rst_tree.specs.Forest.{Forest, bare, element, words}
 use Rattle.rst_tree.specs.Nodes.{forest_of, nodes_of}
 use Rattle.rst_transform_names.specs.Gathered.{number_at}
-use Rattle.rst_transform_names.specs.NameMessages.{after_own, after_texts, ahead, all_at, before_nodes, filled, further, goes_in, goes_out, is_inline, is_passed_over, is_section, left_waiting, messages_of, on_inline, outside, own_block, own_inline, own_message, own_section, placed_in, takes_in, texts, texts_out, waiting, with_messages, with_name_messages, woven, counted, OfText}
+use Rattle.rst_transform_names.specs.NameMessages.{after_own, after_texts, ahead, before_nodes, filled, further, goes_in, goes_out, left_waiting, messages_of, on_inline, outside, placed_in, takes_in, texts, texts_out, waiting, with_messages, with_name_messages, woven, OfText}
 use Rattle.rst_transform_names.proofs.MessageGaps.{woven-none}
+use Rattle.rst_transform_names.proofs.MessagePlaces.{either_none}
 
 -- texts without messages on the names in them
 abbrev Quiet : List OfText → Type 0
@@ -28,41 +29,22 @@ quiet_if : (b : Bool) (xs ys : List OfText) → Quiet xs → Quiet ys → Quiet 
 quiet_if true xs ys x y = x
 quiet_if false xs ys x y = y
 
-if_none : {X : Type 0} (b : Bool) (xs ys : List X) → xs ≡ [] → ys ≡ [] → (if b then xs else ys) ≡ []
-if_none true xs ys x y = x
-if_none false xs ys x y = y
-
-both_none : {X : Type 0} (xs ys : List X) → xs ≡ [] → ys ≡ [] → xs ++ ys ≡ []
-both_none xs ys x y = ap₂ (λ a b. a ++ b) x y
-
 after_own-quiet : (place : ℕ) (ts : List OfText) → Quiet ts → after_own place ts ≡ []
 after_own-quiet place [] q = refl
-after_own-quiet place (one ∷ more) q = both_none (all_at (further place one.0) one.1) (after_own (further place one.0) more) (ap (all_at (further place one.0)) q.0) (after_own-quiet (further place one.0) more q.1)
+after_own-quiet place (one ∷ more) q = rw q.0 (after_own-quiet (further place one.0) more q.1)
 
 messages_of-quiet : (ts : List OfText) → Quiet ts → messages_of ts ≡ []
 messages_of-quiet [] q = refl
-messages_of-quiet (one ∷ more) q = both_none one.1 (messages_of more) q.0 (messages_of-quiet more q.1)
+messages_of-quiet (one ∷ more) q = rw q.0 (messages_of-quiet more q.1)
 
 -- no message on any name
-none : List Attr → List Node
+abbrev none : List Attr → List Node
 none a = []
-
-own_inline-none : (t : Tag) (a : List Attr) → own_inline none t a ≡ []
-unfolding none
-own_inline-none t a = if_none (not (is_section t) && is_inline a) [] [] refl refl
-
-own_block-none : (t : Tag) (a : List Attr) → own_block none t a ≡ []
-unfolding none
-own_block-none t a = if_none (is_section t || is_inline a) [] [] refl refl
-
-own_section-none : (t : Tag) (a : List Attr) → own_section none t a ≡ []
-unfolding none
-own_section-none t a = if_none (is_section t) (all_at (further (counted a) 1) []) [] refl refl
 
 on_inline-none : (c : Forest) → on_inline none c ≡ []
 on_inline-none bare = refl
 on_inline-none (words t r) = on_inline-none r
-on_inline-none (element t a c l r) = both_none (own_inline none t a) (on_inline none r) (own_inline-none t a) (on_inline-none r)
+on_inline-none (element t a c l r) = simp (either_none, on_inline-none r)
 
 texts_out-none : (p : Tag) (c : Forest) → Quiet (texts_out none p c)
 texts_out-none p bare = tt
@@ -77,8 +59,7 @@ after_texts-none : (p : Tag) (place : ℕ) (c : Forest) → after_texts none p p
 after_texts-none p place bare = refl
 after_texts-none p place (words t r) = after_texts-none p (place + 1) r
 after_texts-none p place (element t a c l r) =
-    both_none (if goes_out p t || goes_in t then [] else after_own (place + 1) (texts none t a c)) (after_texts none p (place + 1) r)
-    (if_none (goes_out p t || goes_in t) [] (after_own (place + 1) (texts none t a c)) refl (after_own-quiet (place + 1) (texts none t a c) (texts-none t a c))) (after_texts-none p (place + 1) r)
+    let no_text = after_own-quiet (place + 1) (texts none t a c) (texts-none t a c) in simp (no_text, either_none, after_texts-none p (place + 1) r)
 
 waiting-none : (p : Tag) (before : List OfText) (t : Tag) (a : List Attr) (c : Forest) → Quiet before → Quiet (waiting none p before t a c)
 waiting-none p before t a c q =
@@ -93,53 +74,37 @@ left_waiting-none p before (element t a c l r) q = left_waiting-none p (waiting 
 ahead-none : (c : Forest) → ahead none c ≡ []
 ahead-none bare = refl
 ahead-none (words t r) = ahead-none r
-ahead-none (element t a c l r) =
-    both_none (if is_passed_over t then ahead none c else []) (own_block none t a ++ ahead none r) (if_none (is_passed_over t) (ahead none c) [] (ahead-none c) refl)
-    (both_none (own_block none t a) (ahead none r) (own_block-none t a) (ahead-none r))
-
-first-none : (t : Tag) (a : List Attr) (c : Forest) → (if is_passed_over t then ahead none c else []) ++ own_block none t a ≡ []
-first-none t a c = both_none (if is_passed_over t then ahead none c else []) (own_block none t a) (if_none (is_passed_over t) (ahead none c) [] (ahead-none c) refl) (own_block-none t a)
+ahead-none (element t a c l r) = simp (ahead-none c, either_none, ahead-none r)
 
 before_nodes-none : (place : ℕ) (c : Forest) → before_nodes none place c ≡ []
 before_nodes-none place bare = refl
 before_nodes-none place (words t r) = before_nodes-none (place + 1) r
-before_nodes-none place (element t a c l r) =
-    both_none (all_at place ((if is_passed_over t then ahead none c else []) ++ own_block none t a)) (before_nodes none (place + 1) r) (ap (all_at place) (first-none t a c)) (before_nodes-none (place + 1) r)
+before_nodes-none place (element t a c l r) = simp (ahead-none c, either_none, before_nodes-none (place + 1) r)
 
 placed_in-none : (given : List OfText) (t : Tag) (a : List Attr) (c : Forest) → Quiet given → placed_in none given t a c ≡ []
 placed_in-none given t a c q =
     let last = after_own-quiet (length (nodes_of c)) (left_waiting none t [] c) (left_waiting-none t [] c tt) in
-    let before = if_none (is_passed_over t) [] (before_nodes none 0 c) refl (before_nodes-none 0 c) in
-    rw (after_own-quiet 0 given q, after_texts-none t 0 c, own_section-none t a, before, last) refl
+    simp (after_own-quiet 0 given q, after_texts-none t 0 c, before_nodes-none 0 c, last, either_none)
 
 filled-none : (p : Tag) (before : List OfText) (c : Forest) → Quiet before → forest_of (filled none p before c) ≡ c
 filled-none p before bare q = refl
 filled-none p before (words t r) q = ap (words t) (filled-none p before r q)
 filled-none p before (element t a c l r) q =
-    let given = if takes_in t then before else [] in
-    let inside : forest_of (woven 0 (placed_in none given t a c) (filled none t [] c)) ≡ c =
-    ap (λ placed. forest_of (woven 0 placed (filled none t [] c))) (placed_in-none given t a c (quiet_if (takes_in t) before [] q tt)) ∙ ap forest_of (woven-none 0 (filled none t [] c)) ∙ filled-none t [] c tt in
+    let inside : forest_of (woven 0 (placed_in none (if takes_in t then before else []) t a c) (filled none t [] c)) ≡ c = rw (placed_in-none (if takes_in t then before else []) t a c (quiet_if (takes_in t) before [] q tt), woven-none 0 (filled none t [] c)) (filled-none t [] c tt) in
     ap₂ (λ c' r'. element t a c' l r') inside (filled-none p (waiting none p before t a c) r (waiting-none p before t a c q))
 
 outside-none : (t : Tag) (a : List Attr) (c : Forest) → outside none t a c ≡ []
-outside-none t a c =
-    both_none (if is_passed_over t then ahead none c else []) (messages_of (texts none t a c)) (if_none (is_passed_over t) (ahead none c) [] (ahead-none c) refl) (messages_of-quiet (texts none t a c) (texts-none t a c))
+outside-none t a c = let no_text = messages_of-quiet (texts none t a c) (texts-none t a c) in simp (ahead-none c, no_text, either_none)
 
 with_none : (document : Node) → with_messages none document ≡ document
 with_none (Text t) = refl
 with_none (Element t a c l) =
-    let nodes = woven 0 (placed_in none [] t a c) (filled none t [] c) in
-    let inside : forest_of nodes ≡ c =
-    ap (λ placed. forest_of (woven 0 placed (filled none t [] c))) (placed_in-none [] t a c tt) ∙ ap forest_of (woven-none 0 (filled none t [] c)) ∙ filled-none t [] c tt in
-    ap (λ c'. Element t a c' l) (ap (λ more. forest_of (nodes ++ more)) (outside-none t a c) ∙ ap forest_of (append-nil nodes) ∙ inside)
+    let nodes = filled none t [] c in
+    ap (λ c'. Element t a c' l) (rw (placed_in-none [] t a c tt, outside-none t a c, woven-none 0 nodes, append-nil nodes) (filled-none t [] c tt))
 
 none_numbered : (number : Option ℕ) → ◌≡◌ {A = List Node} (option_to_list (option_and_then (λ (n : ℕ). None) number)) []
 none_numbered None = refl
 none_numbered (Some n) = refl
 
-own_message-none : (a : List Attr) → own_message [] a ≡ none a
-unfolding none
-own_message-none a = none_numbered (number_at Serial a)
-
 pub without_name_messages : (document : Node) → with_name_messages [] document ≡ document
-without_name_messages document = ap (λ own. with_messages own document) (fun_ext own_message-none) ∙ with_none document
+without_name_messages document = ap (λ own. with_messages own document) (fun_ext (λ a. none_numbered (number_at Serial a))) ∙ with_none document

@@ -1,5 +1,5 @@
 -- Standings and what becomes of them.
-use Rattle.std.proofs.Common.{◌≡◌, ℕ, zero, suc, ◌<◌, ◌≤◌, true, List, [], ◌∷◌, length, Option, refl, sym, ap, subst, arith, slice_set}
+use Rattle.std.proofs.Common.{◌≡◌, ℕ, zero, suc, ◌<◌, ◌≤◌, true, List, [], ◌∷◌, length, Option, refl, sym, ap, arith, slice_set}
 use Rattle.std.proofs.Common.{◌∙◌, Bool, false, Vec, String, BTreeMap, bytes_eq, string_bytes, string_cmp, nat_cmp}
 use Rattle.std.specs.BTreeMap.{get_by_text, UpdatesBy}
 use Rattle.std.specs.Cmp.Lexicographic.{slice_cmp, nat_list_eq_equiv}
@@ -8,14 +8,13 @@ use Rattle.std.proofs.lemmas.List.{with_items_is}
 use Rattle.std.specs.Prelude.{if◌then◌else◌, slice_index_or}
 use Rattle.std.specs.Vec.{with_items}
 use Rattle.rst_tree.specs.Paths.{map_at}
-use Rattle.rst_tree.specs.Walk.{Item}
-use Rattle.rst_transform_names.specs.declared.names.NameEntry.{NameEntry}
 use Rattle.rst_transform_names.specs.declared.names.Holder.{Holder}
 use Rattle.rst_transform_names.specs.declared.names.Holder.TheVariants.{Nobody as Lost, Element, Unregistered}
 use Rattle.rst_transform_names.specs.declared.registry.Registry.{Registry}
 use Rattle.rst_transform_names.specs.declared.registry.Standing.{Standing}
-use Rattle.rst_transform_names.specs.declared.rulings.Ruling.{Ruling}
-use Rattle.rst_transform_names.specs.Registry.{without_name, losing, rule_by, rule_named, IsNamed}
+use Rattle.rst_transform_names.specs.Registering.{Holds, Register}
+use Rattle.rst_transform_names.specs.Registry.{without_name, losing}
+use Rattle.rst_transform_names.specs.Written.{given}
 
 -- a list changed at a place in it, and at one behind it
 pub changed_there : {X : Type 0} (change : X → X) (n : ℕ) (xs : List X) (d now : X) → n < length xs → now ≡ change (slice_index_or xs n d) → slice_set xs n now ≡ map_at change n xs
@@ -27,15 +26,6 @@ pub changed_behind : {X : Type 0} (change : X → X) (n : ℕ) (xs : List X) →
 changed_behind change n [] l = refl
 changed_behind change zero (x ∷ xs) l = absurd (omega arith)
 changed_behind change (suc n) (x ∷ xs) l = ap (λ t. x ∷ t) (changed_behind change n xs (omega arith))
-
--- the rule for an element with a name
-pub rule_with : (name : List ℕ) (held : Option NameEntry) (new : Item) → 0 < length name → rule_by held new ≡ rule_named name held new
-rule_with [] held new some = absurd (omega arith)
-rule_with (c ∷ cs) held new some = refl
-
--- what became of an element by a rule, by the same rule in other words
-pub named_by : (rule other : Ruling) (new : Item) (before after : Registry) (s : Standing) → rule ≡ other → IsNamed rule new before after s → IsNamed other new before after s
-named_by rule other new before after s e h = subst (λ r. IsNamed r new before after s) e h
 
 -- no item is lost on the way
 map_at-length : {X : Type 0} (change : X → X) (n : ℕ) (xs : List X) → length (map_at change n xs) ≡ length xs
@@ -61,3 +51,7 @@ put_lost_if v now false h is = put_lost v now Unregistered is
 pub entered : {X Y : Type 0} (old new : BTreeMap (String Y) X) (name : List ℕ) (w : Option X) → UpdatesBy string_cmp (λ k. slice_cmp nat_cmp name (string_bytes k)) old new w
     → (other : List ℕ) → get_by_text new other ≡ (if bytes_eq other name then w else get_by_text old other)
 entered old new name w h other = btree_map_updates_text name old new w h other ∙ ap (λ b. if b then w else get_by_text old other) (nat_list_eq_equiv.symm name other)
+
+-- what the program writes at the elements
+pub written_as_held : (g : Registry) (r : Register) → Holds g r → given g.standings.items g.known_messages.numbers.items g.known_messages.messages.items ≡ given r.standings r.numbers r.messages
+written_as_held g r h = cc (h.standings, h.numbers, h.messages)

@@ -1,7 +1,8 @@
 -- Ids: which are taken, and which one an element gets (Document Tree, attribute `ids`).
-use Rattle.std.specs.Prelude.{◌≡◌, ℕ, ◌<◌, ◌^◌, Bool, true, false, ◌==◌, ◌&&◌, ◌||◌, if◌then◌else◌, List, [], ◌∷◌, ◌++◌, codes, decimal, Option, Some, None, option_map, option_and_then, unwrap_or, nat_le, nat_lt, Result, Ok, Err, encode_utf8_all}
+use Rattle.std.specs.Prelude.{◌≡◌, ℕ, zero, suc, ◌+◌, ◌<◌, ◌^◌, Bool, true, false, ◌==◌, ◌&&◌, ◌||◌, if◌then◌else◌, List, [], ◌∷◌, ◌++◌, length, codes, decimal, Option, Some, None, option_map, option_and_then, unwrap_or, nat_le, nat_lt, Result, Ok, Err, encode_utf8_all}
 use Rattle.std.specs.BTreeMap.{get_by_text}
 use Rattle.std.specs.BTreeSet.{contains_text}
+use Rattle.std.specs.List.{list_any}
 use Rattle.std.specs.Str.{bytes_eq, chars}
 use Rattle.std.specs.Str.Parse.{digits_value}
 use Rattle.rst_text.specs.Names.{id_of}
@@ -19,7 +20,7 @@ numbered base n = (base ++ codes "-") ++ decimal n
 abbrev pub number_in : List ℕ → Option ℕ
 number_in digits = let n = digits_value 10 digits in if bytes_eq digits (decimal n) && (nat_lt 0 n && nat_lt n (2 ^ 64)) then Some n else None
 
--- what stands before the last hyphen of an id, and what stands behind it, if it has one
+-- what comes before the last hyphen of an id, and what comes after it, if it has one
 abbrev pub parts_from : ℕ → List ℕ → Option (List ℕ × List ℕ) → Option (List ℕ × List ℕ)
 parts_from c cs None = if c == 45 then Some ([], cs) else None
 parts_from c cs (Some parts) = Some (c ∷ parts.0, parts.1)
@@ -28,7 +29,7 @@ abbrev pub parts_of : List ℕ → Option (List ℕ × List ℕ)
 parts_of [] = None
 parts_of (c ∷ cs) = parts_from c cs (parts_of cs)
 
--- the same where a number stands behind it
+-- the same where a number comes after it
 abbrev pub numbered_part : List ℕ × List ℕ → Option (List ℕ × ℕ)
 numbered_part parts = option_map (λ n. (parts.0, n)) (number_in parts.1)
 
@@ -53,27 +54,42 @@ pub record IsLeastFree (taken : List ℕ → Bool) (base : List ℕ) (n : ℕ) :
   pub is_free : taken (numbered base n) ≡ false
   pub is_least : (m : ℕ) → 0 < m → m < n → taken (numbered base m) ≡ true
 
--- the id of a text and that number
-abbrev pub IsNumbered : (List ℕ → Bool) → List ℕ → List ℕ → Type 0
-IsNumbered taken base id = (n : ℕ) × (id ≡ numbered base n) × IsLeastFree taken base n
-
--- what a text gives, unless that is taken; then it with a number
-abbrev pub IsFreed : Bool → (List ℕ → Bool) → List ℕ → List ℕ → Type 0
-IsFreed false taken wanted id = id ≡ wanted
-IsFreed true taken wanted id = IsNumbered taken wanted id
-
--- the id of an element of a kind by what its name gives; where that is nothing, the kind's name with a number
-abbrev pub IsIdBy : (List ℕ → Bool) → Tag → List ℕ → List ℕ → Type 0
-IsIdBy taken tag [] id = IsNumbered taken (hyphenated (tag_name tag)) id
-IsIdBy taken tag (c ∷ cs) id = IsFreed (taken (c ∷ cs)) taken (c ∷ cs) id
-
 -- what a name gives; the empty name is none
 abbrev pub wanted_id : List ℕ → List ℕ
 wanted_id [] = []
 wanted_id (c ∷ cs) = encode_utf8_all (id_of (chars (c ∷ cs)))
 
-abbrev pub IsIdFor : (List ℕ → Bool) → Tag → List ℕ → List ℕ → Type 0
-IsIdFor taken tag name id = IsIdBy taken tag (wanted_id name) id
+-- an id is among some
+abbrev pub is_among : List (List ℕ) → List ℕ → Bool
+is_among ids id = list_any (bytes_eq id) ids
+
+-- the least number, from one on, that doesn't pass a test; at most so many numbers pass it
+abbrev pub least_from : (ℕ → Bool) → ℕ → ℕ → ℕ
+least_from test number zero = number
+least_from test number (suc more) = if test number then least_from test (number + 1) more else number
+
+-- where these ids are taken, the id of a text and the least number from 1 that makes it free: each taken id hinders one number at most
+abbrev pub least_free : List (List ℕ) → List ℕ → ℕ
+least_free taken base = least_from (λ number. is_among taken (numbered base number)) 1 (length taken)
+
+abbrev pub numbered_id : List (List ℕ) → List ℕ → List ℕ
+numbered_id taken base = numbered base (least_free taken base)
+
+-- the id of a new element of a kind without a name: the kind's name with a number
+abbrev pub kind_id : List (List ℕ) → Tag → List ℕ
+kind_id taken tag = numbered_id taken (hyphenated (tag_name tag))
+
+-- the id of a new element of a kind by what its name gives: that, with a number if it is taken; where that is nothing, the kind's name with a number
+abbrev pub id_by : List (List ℕ) → Tag → List ℕ → List ℕ
+id_by taken tag [] = kind_id taken tag
+id_by taken tag (c ∷ cs) = if is_among taken (c ∷ cs) then numbered_id taken (c ∷ cs) else c ∷ cs
+
+abbrev pub id_for : List (List ℕ) → Tag → List ℕ → List ℕ
+id_for taken tag name = id_by taken tag (wanted_id name)
+
+-- the ids that are taken are these
+abbrev pub AreTaken : Ids → List (List ℕ) → Type 0
+AreTaken ids taken = (id : List ℕ) → is_taken ids id ≡ is_among taken id
 
 -- one more id is taken, or none
 abbrev pub Takes : List ℕ → Ids → Ids → Type 0
@@ -89,16 +105,17 @@ Tries id old new (Err NoMemory) = TakesNone old new
 
 -- the element's id is given and taken, or memory ran out and none is
 abbrev pub GivesId : Tag → List ℕ → Ids → Ids → Result (List ℕ) TreeFault → Type 0
-GivesId tag name old new (Ok id) = IsIdFor (is_taken old) tag name id × Takes id old new
+GivesId tag name old new (Ok id) = (taken : List (List ℕ)) → AreTaken old taken → (id ≡ id_for taken tag name) × AreTaken new (id ∷ taken)
 GivesId tag name old new (Err NoMemory) = TakesNone old new
 
 -- the same of the id of a text and a number, and of the number alone
 abbrev pub GivesNumbered : List ℕ → Ids → Ids → Result (List ℕ) TreeFault → Type 0
-GivesNumbered base old new (Ok id) = IsNumbered (is_taken old) base id × Takes id old new
+GivesNumbered base old new (Ok id) = (taken : List (List ℕ)) → AreTaken old taken → (id ≡ numbered_id taken base) × AreTaken new (id ∷ taken)
 GivesNumbered base old new (Err NoMemory) = TakesNone old new
 
 abbrev pub GivesNumber : List ℕ → Ids → Ids → Result ℕ TreeFault → Type 0
-GivesNumber base old new (Ok n) = IsLeastFree (is_taken old) base n × Takes (numbered base n) old new
+GivesNumber base old new (Ok number) =
+    (taken : List (List ℕ)) → AreTaken old taken → (number ≡ least_free taken base) × AreTaken new (numbered base number ∷ taken)
 GivesNumber base old new (Err NoMemory) = TakesNone old new
 
 -- an id is taken, or memory ran out and none is

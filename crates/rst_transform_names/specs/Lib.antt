@@ -1,4 +1,3 @@
-pub mod Alike
 pub mod Gathered
 pub mod Ids
 pub mod Names

@@ -16,6 +16,14 @@ held_by names name = get_by_text names.held name
 abbrev pub Knows : List ℕ → Option NameEntry → Names → Names → Type 0
 Knows name held old new = (other : List ℕ) → held_by new other ≡ (if bytes_eq other name then held else held_by old other)
 
+-- something is known of a name, and of the others what these say
+abbrev pub with_held : List ℕ → Option NameEntry → (List ℕ → Option NameEntry) → List ℕ → Option NameEntry
+with_held name held names other = if bytes_eq other name then held else names other
+
+-- what is known of names is this
+abbrev pub AreHeld : Names → (List ℕ → Option NameEntry) → Type 0
+AreHeld names known = (name : List ℕ) → held_by names name ≡ known name
+
 -- of each name the same is known as before
 abbrev pub KnowsTheSame : Names → Names → Type 0
 KnowsTheSame old new = (other : List ℕ) → held_by new other ≡ held_by old other

@@ -10,7 +10,7 @@ use Rattle.rst_transform_names.specs.declared.inside.Inside.{Inside}
 use Rattle.rst_transform_names.specs.declared.inside.OwnMessage.{OwnMessage}
 use Rattle.rst_transform_names.specs.declared.weaving.PlacedMessage.{PlacedMessage}
 use Rattle.rst_transform_names.specs.declared.weaving.TextMessages.{TextMessages}
-use Rattle.rst_transform_names.specs.NameMessages.{after_own, after_texts, ahead, all_at, at, before_nodes, filled, from, goes_in, goes_out, is_passed_over, left_waiting, on_inline, own_messages, takes_in, texts_out, woven, OfText, Placed}
+use Rattle.rst_transform_names.specs.NameMessages.{after_own, after_texts, ahead, all_at, at, before_nodes, filled, from, goes_in, goes_out, is_passed_over, left_waiting, on_inline, own_block, own_inline, own_messages, own_section, takes_in, texts_out, woven, OfText, Placed}
 
 -- the messages with their places
 abbrev pub pairs : List PlacedMessage → Placed
@@ -40,6 +40,12 @@ with_gaps (gap ∷ more) (n ∷ ns) = gap ++ n ∷ with_gaps more ns
 abbrev pub all_placed : List Node → List TextMessages → List PlacedMessage → List PlacedMessage → List PlacedMessage → List TextMessages → Placed
 all_placed nodes given after_texts section before_nodes waiting =
     after_own 0 (of_texts given) ++ (pairs after_texts ++ (pairs section ++ (pairs before_nodes ++ after_own (length nodes) (of_texts waiting))))
+
+-- the message on the name of an element is where it has its place
+pub record IsOwn (own : List Attr → List Node) (t : Tag) (a : List Attr) (message : OwnMessage) : Type 0 where
+  pub section : pairs message.section.items ≡ own_section own t a
+  pub inline : message.inline.items ≡ own_inline own t a
+  pub block : message.block.items ≡ own_block own t a
 
 -- What is made of the nodes of an element of a kind is what the definition says: the nodes with their messages, and the messages that get their
 -- places with the element. Those that come before elements among the nodes come ahead if the element is passed over.

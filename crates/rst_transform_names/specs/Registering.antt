@@ -1,27 +1,53 @@
 -- The registration of all elements, one after the other, in preorder (Document Tree, attributes `ids`, `names`, `dupnames`,
--- `refid` and `backrefs`).
-use Rattle.std.specs.Prelude.{◌≡◌, ℕ, Bool, true, false, List, [], ◌∷◌, ◌++◌, Option, Some, None, length, filter, not, ◌==◌, replicate}
+-- `refid` and `backrefs`; reStructuredText Markup Specification, 'Implicit Hyperlink Targets').
+use Rattle.std.specs.Prelude.{◌≡◌, ℕ, false, if◌then◌else◌, List, [], ◌∷◌, ◌++◌, Option, Some, None, length, filter, replicate}
 use Rattle.std.specs.BTreeMap.{get_by_text}
+use Rattle.std.specs.Str.{bytes_eq}
 use Rattle.std.specs.VecDeque.{deque_items}
 use Rattle.rst_tree.specs.declared.key.Key.TheVariants.{Message}
+use Rattle.rst_tree.specs.declared.node.Node.{Node}
 use Rattle.rst_tree.specs.declared.tag.Tag.{Tag}
 use Rattle.rst_tree.specs.declared.tag.Tag.TheVariants.{Problematic, SystemMessage, SubstitutionDefinition}
 use Rattle.rst_tree.specs.Paths.{map_at}
 use Rattle.rst_tree.specs.TagNames.{hyphenated, tag_name}
-use Rattle.rst_tree.specs.declared.node.Node.{Node}
 use Rattle.rst_tree.specs.Walk.{Item, node_items, walked_node}
 use Rattle.rst_tree_index.specs.Marks.{heeded_next, heeded_out}
 use Rattle.rst_tree_index.specs.Registered.{is_registered}
 use Rattle.rst_transform_names.specs.declared.message_ids.MessageIds.{MessageIds}
+use Rattle.rst_transform_names.specs.declared.names.NameEntry.{NameEntry}
 use Rattle.rst_transform_names.specs.declared.registration.Registered.{Registered}
 use Rattle.rst_transform_names.specs.declared.registry.Registry.{Registry}
 use Rattle.rst_transform_names.specs.declared.registry.Standing.{Standing}
 use Rattle.rst_transform_names.specs.Gathered.{number_at, own_name}
-use Rattle.rst_transform_names.specs.Ids.{is_taken, numbered, IsLeastFree, Takes}
+use Rattle.rst_transform_names.specs.Ids.{id_for, least_free, numbered, AreTaken}
 use Rattle.rst_transform_names.specs.NameMessages.{with_name_messages}
-use Rattle.rst_transform_names.specs.Names.{held_by}
-use Rattle.rst_transform_names.specs.Registry.{held_in, rule_named, IsDefined, IsNamed}
+use Rattle.rst_transform_names.specs.Names.{with_held, AreHeld}
+use Rattle.rst_transform_names.specs.Registry.{definer, definition_messages, holder_in, known_by, losing, name_messages_by, rule_named, standing}
 use Rattle.rst_transform_names.specs.Written.{given, left_behind, problematic_id, with_given}
+
+-- What is known after some elements: the ids that are taken, what is known of each name, and the number of the last substitution definition that
+-- has it; what each element got that may have a name; the numbers in the ids of messages and problematics, and what is known of each message;
+-- and the messages on names, each with the number of its element.
+pub record Register : Type 0 where
+  pub ids : List (List ℕ)
+  pub names : List ℕ → Option NameEntry
+  pub definitions : List ℕ → Option ℕ
+  pub standings : List Standing
+  pub numbers : List ℕ
+  pub messages : List MessageIds
+  pub name_messages : List (ℕ × Node)
+
+-- before the first element; so many numbers were given to messages
+abbrev pub nothing_known : ℕ → Register
+nothing_known messages = record {
+  ids = [];
+  names = λ name. None;
+  definitions = λ name. None;
+  standings = [];
+  numbers = [];
+  messages = replicate messages (record { id = None; problematics = [] });
+  name_messages = [];
+}
 
 -- what is known of a message once one of its problematics has come, or the message itself, with the number in its id
 abbrev pub with_member : Tag → ℕ → MessageIds → MessageIds
@@ -33,83 +59,98 @@ abbrev pub with_message_changed : Option ℕ → (MessageIds → MessageIds) →
 with_message_changed None change messages = messages
 with_message_changed (Some message) change messages = map_at change message messages
 
--- a message or a problematic gets a number
-pub record RegistersMessage (new : Item) (before after : Registry) : Type 0 where
-  pub number : ℕ
-  pub is_number : IsLeastFree (is_taken before.ids) (hyphenated (tag_name new.tag)) number
-  pub is_taken_now : Takes (numbered (hyphenated (tag_name new.tag)) number) before.ids after.ids
-  pub numbers : after.known_messages.numbers.items ≡ before.known_messages.numbers.items ++ number ∷ []
-  pub messages : after.known_messages.messages.items ≡ with_message_changed (number_at Message new.attrs) (with_member new.tag number) before.known_messages.messages.items
-  pub names : after.names ≡ before.names
-  pub definitions : after.definitions ≡ before.definitions
-  pub standings : after.standings.items ≡ before.standings.items
-  pub name_messages : deque_items after.name_messages.queue ≡ deque_items before.name_messages.queue
+-- a message or a problematic gets an id with a number
+abbrev pub with_message : Item → Register → Register
+with_message new r =
+    let base = hyphenated (tag_name new.tag) in
+    let number = least_free r.ids base in
+    record r {
+      ids = numbered base number ∷ r.ids;
+      numbers = r.numbers ++ number ∷ [];
+      messages = with_message_changed (number_at Message new.attrs) (with_member new.tag number) r.messages;
+    }
 
--- any other element gets a standing, by the names of those that came before
-abbrev pub Stands : Tag → Item → Registry → Registry → Standing → Type 0
-Stands SubstitutionDefinition new before after s = IsDefined new before after s
-Stands _ new before after s = IsNamed (rule_named (own_name new) (held_in before new) new) new before after s
+-- of substitution definitions with one name the last has it
+abbrev pub with_definition : Item → Register → Register
+with_definition new r =
+    let number = length r.standings in
+    let earlier = r.definitions (own_name new) in
+    record r {
+      definitions = λ name. if bytes_eq name (own_name new) then Some number else r.definitions name;
+      standings = losing (definer earlier) r.standings ++ standing number None false ∷ [];
+      name_messages = r.name_messages ++ definition_messages earlier number new;
+    }
 
--- a standing behind those of the elements before
-pub record IsPut (s : Standing) (before after : Registry) : Type 0 where
-  pub standings : after.standings.items ≡ before.standings.items ++ s ∷ []
-  pub ids : after.ids ≡ before.ids
-  pub names : after.names ≡ before.names
-  pub definitions : after.definitions ≡ before.definitions
-  pub known_messages : after.known_messages ≡ before.known_messages
-  pub name_messages : after.name_messages ≡ before.name_messages
+-- any other element gets its id, and its name by the rule for it, if it has one
+abbrev pub with_named : Item → Register → Register
+with_named new r =
+    let id = id_for r.ids new.tag (own_name new) in
+    let number = length r.standings in
+    let held = r.names (own_name new) in
+    let rule = rule_named (own_name new) held new in
+    record r {
+      ids = id ∷ r.ids;
+      names = with_held (own_name new) (known_by rule.now number new id held) r.names;
+      standings = (if rule.old_loses then losing (holder_in held) r.standings else r.standings) ++ standing number (Some id) rule.new_loses ∷ [];
+      name_messages = r.name_messages ++ name_messages_by rule.message number new id;
+    }
 
-pub record IsAdded (new : Item) (before after : Registry) : Type 0 where
-  pub s : Standing
-  pub between : Registry
-  pub stands : Stands new.tag new before between s
-  pub put : IsPut s between after
+-- an element, by its kind
+abbrev pub with_kind : Tag → Item → Register → Register
+with_kind Problematic = with_message
+with_kind SystemMessage = with_message
+with_kind SubstitutionDefinition = with_definition
+with_kind _ = with_named
 
--- messages and problematics, which have no names
-abbrev pub is_of_message : Tag → Bool
-is_of_message Problematic = true
-is_of_message SystemMessage = true
-is_of_message _ = false
-
-abbrev pub RegistersBy : Bool → Item → Registry → Registry → Type 0
-RegistersBy true new before after = RegistersMessage new before after
-RegistersBy false new before after = IsAdded new before after
-
-abbrev pub Registers : Item → Registry → Registry → Type 0
-Registers new before after = RegistersBy (is_of_message new.tag) new before after
+abbrev pub with_element : Item → Register → Register
+with_element new = with_kind new.tag new
 
 -- one element after the other
-abbrev pub AllRegistered : List Item → Registry → Registry → Type 0
-AllRegistered [] before after = after ≡ before
-AllRegistered (x ∷ xs) before after = (between : Registry) × Registers x before between × AllRegistered xs between after
-
--- what is known before the first element; so many numbers were given to messages
-pub record KnowsNothing (messages : ℕ) (first : Registry) : Type 0 where
-  pub ids : (id : List ℕ) → is_taken first.ids id ≡ false
-  pub names : (name : List ℕ) → held_by first.names name ≡ None
-  pub definitions : (name : List ℕ) → get_by_text first.definitions name ≡ None
-  pub standings : first.standings.items ≡ []
-  pub numbers : first.known_messages.numbers.items ≡ []
-  pub known_messages : first.known_messages.messages.items ≡ replicate messages (record { id = None; problematics = [] })
-  pub name_messages : deque_items first.name_messages.queue ≡ []
-
-pub record IsRegistry (messages : ℕ) (elements : List Item) (after : Registry) : Type 0 where
-  pub first : Registry
-  pub knows_nothing : KnowsNothing messages first
-  pub all : AllRegistered elements first after
+abbrev pub all_registered : List Item → Register → Register
+all_registered [] r = r
+all_registered (new ∷ more) r = all_registered more (with_element new r)
 
 -- the document with what its elements got
-abbrev pub written : Registry → Node → Node
-written registry document =
-    walked_node (heeded_next is_registered left_behind) (heeded_out is_registered with_given)
-    (given registry.standings.items registry.known_messages.numbers.items registry.known_messages.messages.items) document
+abbrev pub written : Register → Node → Node
+written r document =
+    walked_node (heeded_next is_registered left_behind) (heeded_out is_registered with_given) (given r.standings r.numbers r.messages) document
 
--- a document is registered, with the messages on equal names in it
-pub record IsRegistered (messages : ℕ) (document : Node) (done : Registered) : Type 0 where
-  pub registry : Registry
-  pub is_registry : IsRegistry messages (filter is_registered (node_items document)) registry
-  pub ids : done.ids ≡ registry.ids
-  pub names : done.names ≡ registry.names
-  pub serials : done.serials ≡ length registry.standings.items
-  pub has_name_messages : done.has_name_messages ≡ not (length (deque_items registry.name_messages.queue) == 0)
-  pub root : done.root ≡ with_name_messages (deque_items registry.name_messages.queue) (written registry document)
+-- what registration leaves: the document, the ids that are taken, what is known of each name, and how many elements have a number
+pub record Registration : Type 0 where
+  pub root : Node
+  pub ids : List (List ℕ)
+  pub names : List ℕ → Option NameEntry
+  pub serials : ℕ
+
+-- what is known of a document in which so many numbers were given to messages
+abbrev pub registered : ℕ → Node → Register
+registered messages document = all_registered (filter is_registered (node_items document)) (nothing_known messages)
+
+-- the same document, registered, with the messages on equal names in it
+abbrev pub registration : ℕ → Node → Registration
+registration messages document =
+    let r = registered messages document in
+    record { root = with_name_messages r.name_messages (written r document); ids = r.ids; names = r.names; serials = length r.standings }
+
+-- ---- the same in the program
+
+-- a registry holds what is known
+pub record Holds (registry : Registry) (r : Register) : Type 0 where
+  pub ids : AreTaken registry.ids r.ids
+  pub names : AreHeld registry.names r.names
+  pub definitions : (name : List ℕ) → get_by_text registry.definitions name ≡ r.definitions name
+  pub standings : registry.standings.items ≡ r.standings
+  pub numbers : registry.known_messages.numbers.items ≡ r.numbers
+  pub messages : registry.known_messages.messages.items ≡ r.messages
+  pub name_messages : deque_items registry.name_messages.queue ≡ r.name_messages
+
+-- what a registry holds becomes what a function makes of it
+abbrev pub Makes : (Register → Register) → Registry → Registry → Type 0
+Makes made before after = (r : Register) → Holds before r → Holds after (made r)
+
+-- a registered document is what registration leaves
+pub record IsRegistered (left : Registration) (done : Registered) : Type 0 where
+  pub root : done.root ≡ left.root
+  pub ids : AreTaken done.ids left.ids
+  pub names : AreHeld done.names left.names
+  pub serials : done.serials ≡ left.serials

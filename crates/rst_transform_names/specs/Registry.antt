@@ -1,8 +1,6 @@
--- Registration, one element after the other, in preorder (Document Tree, attributes `ids`, `names` and `dupnames`;
+-- What becomes of a new element's name and of the element that had it (Document Tree, attributes `ids`, `names` and `dupnames`;
 -- reStructuredText Markup Specification, 'Implicit Hyperlink Targets').
-use Rattle.std.specs.Prelude.{◌≡◌, ℕ, Bool, true, false, if◌then◌else◌, List, [], ◌∷◌, ◌++◌, length, Option, Some, None}
-use Rattle.std.specs.VecDeque.{deque_items}
-use Rattle.std.specs.BTreeMap.{get_by_text}
+use Rattle.std.specs.Prelude.{ℕ, Bool, true, false, if◌then◌else◌, List, [], ◌∷◌, Option, Some, None}
 use Rattle.std.specs.Str.{bytes_eq}
 use Rattle.rst_tree.specs.declared.key.Key.TheVariants.{Refuri}
 use Rattle.rst_tree.specs.declared.node.Node.{Node}
@@ -15,15 +13,13 @@ use Rattle.rst_transform_names.specs.declared.names.Holder.{Holder}
 use Rattle.rst_transform_names.specs.declared.names.Holder.TheVariants.{Nobody as Lost, Element, Unregistered}
 use Rattle.rst_transform_names.specs.declared.names.Strength.{Strength}
 use Rattle.rst_transform_names.specs.declared.names.Strength.TheVariants.{Implicit, Explicit}
-use Rattle.rst_transform_names.specs.declared.registry.Registry.{Registry}
 use Rattle.rst_transform_names.specs.declared.registry.Standing.{Standing}
 use Rattle.rst_transform_names.specs.declared.rulings.DuplicateMessage.{DuplicateMessage}
 use Rattle.rst_transform_names.specs.declared.rulings.Now.{Now}
 use Rattle.rst_transform_names.specs.declared.rulings.Now.TheVariants.{Old, New, Nobody}
 use Rattle.rst_transform_names.specs.declared.rulings.Ruling.{Ruling}
-use Rattle.rst_transform_names.specs.Gathered.{own_name, text_at}
-use Rattle.rst_transform_names.specs.Ids.{is_taken, IsIdFor, Takes}
-use Rattle.rst_transform_names.specs.Names.{held_by, moved, Knows}
+use Rattle.rst_transform_names.specs.Gathered.{text_at}
+use Rattle.rst_transform_names.specs.Names.{moved}
 use Rattle.rst_transform_names.specs.DuplicateMessages.{duplicate_definition, duplicate_name}
 use Rattle.rst_transform_names.specs.Rulings.{ruling_for}
 
@@ -88,25 +84,6 @@ rule_named (c ∷ cs) held new = rule_by held new
 abbrev pub standing : ℕ → Option (List ℕ) → Bool → Standing
 standing number id lost = record { serial = number; id = id; lost = lost }
 
--- the number of the next element that may have a name
-abbrev pub next_number : Registry → ℕ
-next_number registry = length registry.standings.items
-
-abbrev pub held_in : Registry → Item → Option NameEntry
-held_in registry new = held_by registry.names (own_name new)
-
--- an element gets its id, and its name by the rule for it, if it has one; the elements before it that may have names are known
-pub record IsNamed (rule : Ruling) (new : Item) (before after : Registry) (s : Standing) : Type 0 where
-  pub id : List ℕ
-  pub is_id : IsIdFor (is_taken before.ids) new.tag (own_name new) id
-  pub is_taken_now : Takes id before.ids after.ids
-  pub stands : s ≡ standing (next_number before) (Some id) rule.new_loses
-  pub names : Knows (own_name new) (known_by rule.now (next_number before) new id (held_in before new)) before.names after.names
-  pub others : after.standings.items ≡ (if rule.old_loses then losing (holder_in (held_in before new)) before.standings.items else before.standings.items)
-  pub name_messages : deque_items after.name_messages.queue ≡ deque_items before.name_messages.queue ++ name_messages_by rule.message (next_number before) new id
-  pub definitions : after.definitions ≡ before.definitions
-  pub known_messages : after.known_messages ≡ before.known_messages
-
 -- the substitution definition that had a name
 abbrev pub definer : Option ℕ → Holder
 definer None = Lost
@@ -115,13 +92,3 @@ definer (Some number) = Element number
 abbrev pub definition_messages : Option ℕ → ℕ → Item → List (ℕ × Node)
 definition_messages None number new = []
 definition_messages (Some earlier) number new = (number, duplicate_definition new) ∷ []
-
--- of substitution definitions with one name the last has it
-pub record IsDefined (new : Item) (before after : Registry) (s : Standing) : Type 0 where
-  pub stands : s ≡ standing (next_number before) None false
-  pub definitions : (other : List ℕ) → get_by_text after.definitions other ≡ (if bytes_eq other (own_name new) then Some (next_number before) else get_by_text before.definitions other)
-  pub others : after.standings.items ≡ losing (definer (get_by_text before.definitions (own_name new))) before.standings.items
-  pub name_messages : deque_items after.name_messages.queue ≡ deque_items before.name_messages.queue ++ definition_messages (get_by_text before.definitions (own_name new)) (next_number before) new
-  pub ids : after.ids ≡ before.ids
-  pub names : after.names ≡ before.names
-  pub known_messages : after.known_messages ≡ before.known_messages

@@ -13,6 +13,7 @@ use Rattle.rst_tree.specs.Attributes.{attr}
 use Rattle.rst_tree.specs.Nodes.{forest_of}
 use Rattle.rst_tree.specs.Print.{print_of}
 use Rattle.rst_tree.specs.PrintedAttributes.{with_printed_attrs}
+use Rattle.rst_transform_names.specs.Registering.{registration}
 
 -- attributes: of a text, a number and a list
 abbrev pub says : Key → String → Attr
@@ -40,3 +41,7 @@ document nodes = element Document [] nodes
 -- a node is printed in these lines, without a source
 abbrev pub Prints : Node → List String → Type 0
 Prints node lines = print_of (with_printed_attrs None node) ≡ written lines
+
+-- a document with these nodes, in which so many numbers were given to messages, is printed in these lines once it is registered
+abbrev pub PrintsRegistered : ℕ → List Node → List String → Type 0
+PrintsRegistered messages nodes lines = Prints (registration messages (document nodes)).root lines

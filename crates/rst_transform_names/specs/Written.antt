@@ -74,7 +74,7 @@ pub record Given : Type 0 where
 abbrev pub given : List Standing → List ℕ → List MessageIds → Given
 given standings numbers messages = record { standings = standings; numbers = numbers; messages = messages }
 
--- what the elements behind one of a kind get
+-- what the elements after one of a kind get
 abbrev pub left_of : Tag → Given → Given
 left_of Problematic g = given g.standings (drop 1 g.numbers) g.messages
 left_of SystemMessage g = given g.standings (drop 1 g.numbers) g.messages

@@ -15,12 +15,12 @@ use std::collections::{BTreeMap, BTreeSet};
 /// The ids that are taken (Document Tree, 'ids').
 #[derive(Drop)]
 pub struct Ids {
-    /// Those that names gave and that have no number behind a hyphen.
+    /// Those that names gave and that don't end in a hyphen and a number.
     named: BTreeSet<String>,
     /// For each text that ids with a number were made of, a number: with each from 1 to it the id is taken.
     last: BTreeMap<String, u32>,
     /// The other ids with a number: those that names gave, and those with a number of more than 32 bits. They alone can hinder an id
-    /// whose number is behind the last one. Each takes memory, so there are fewer of them than numbers of 64 bits: one is always free.
+    /// whose number is above the last one. Each takes memory, so there are fewer of them than numbers of 64 bits: one is always free.
     hindering: BTreeSet<String>,
 }
 
@@ -160,7 +160,7 @@ impl Ids {
     }
 }
 
-/// What stands before the last hyphen of an id, and the number behind it, if there is one: from 1, without a 0 in front.
+/// What comes before the last hyphen of an id, and the number after it, if there is one: from 1, without a leading 0.
 fn number_of(id: &str) -> Option<(&str, u64)>
     ensures { MatchOption result (spec.number_of id.now ≡ None) (λ parts. spec.number_of id.now ≡ Some (parts.0.now, parts.1)) }
 {
@@ -168,7 +168,7 @@ fn number_of(id: &str) -> Option<(&str, u64)>
     Some((base, number_in(digits)?))
 }
 
-/// The number from 1 that decimal digits write without a 0 in front.
+/// The number from 1 that decimal digits write without a leading 0.
 pub fn number_in(digits: &str) -> Option<u64>
     ensures { result ≡ spec.number_in digits.now }
 {

@@ -2,7 +2,7 @@
 ghost use Rattle.std.specs.Prelude.{◌≡◌, ◌+◌, ◌||◌, ◌&&◌, not, [], ◌∷◌, ◌++◌, length, if◌then◌else◌};
 ghost use Rattle.rst_tree.specs.Faults.{Gives};
 ghost use Rattle.rst_transform_names.specs.NameMessages as spec;
-ghost use Rattle.rst_transform_names.specs.PlacingMessages.{all_placed, of_texts, pairs, IsBare, Puts};
+ghost use Rattle.rst_transform_names.specs.PlacingMessages.{all_placed, of_texts, pairs, IsBare, IsOwn, Puts};
 
 use super::weaving::{PlacedMessage, TextMessages, put_after_own, put_at, woven};
 use rst_tree::{Attrs, Children, Key, Node, Tag, TreeFault};
@@ -83,9 +83,7 @@ impl OwnMessage {
         attrs: &Attrs,
         message: Vec<Node>,
     ) -> Result<OwnMessage, TreeFault>
-        ensures section { Gives (λ own. pairs own.section.items ≡ spec.own_section (λ _. message.items) tag attrs.now) result }
-        ensures inline { Gives (λ own. own.inline.items ≡ spec.own_inline (λ _. message.items) tag attrs.now) result }
-        ensures block { Gives (λ own. own.block.items ≡ spec.own_block (λ _. message.items) tag attrs.now) result }
+        ensures { Gives (IsOwn (λ _. message.items) tag attrs.now) result }
     {
         let mut own = OwnMessage {
             section: Vec::new(alloc),

@@ -1,10 +1,10 @@
 //! Messages and their problematics.
-ghost use Rattle.std.specs.Prelude.{◌≡◌, ◌++◌, [], ◌∷◌, None, replicate, Bool, true, false};
+ghost use Rattle.std.specs.Prelude.{◌≡◌, ◌++◌, [], ◌∷◌, None, replicate};
 ghost use Rattle.rst_tree.specs.Faults.{Gives};
 ghost use Rattle.rst_tree.specs.declared.key.Key.TheVariants.{Message};
 ghost use Rattle.rst_tree_index.specs.Registered.{item_of};
 ghost use Rattle.rst_transform_names.specs.Gathered.{number_at};
-ghost use Rattle.rst_transform_names.specs.Registering.{is_of_message, with_member, with_message_changed};
+ghost use Rattle.rst_transform_names.specs.Registering.{with_member, with_message_changed};
 
 use super::ids::problematic_id;
 use rst_tree::{Key, Tag, Texts, TreeFault};
@@ -76,11 +76,4 @@ impl MessageIds {
         self.id = Some(number);
         Ok(())
     }
-}
-
-/// Whether elements of a kind are messages or problematics.
-pub fn is_of_message(tag: Tag) -> bool
-    ensures { result ≡ is_of_message tag }
-{
-    matches!(tag, Tag::Problematic | Tag::SystemMessage)
 }

@@ -5,7 +5,7 @@ ghost use Rattle.std.specs.Ordering.{nat_cmp};
 ghost use Rattle.std.specs.VecDeque.{deque_items};
 ghost use Rattle.rst_tree.specs.Faults.{Gives};
 ghost use Rattle.rst_transform_names.specs.NameMessages as spec;
-ghost use Rattle.rst_transform_names.specs.PlacingMessages.{IsInside};
+ghost use Rattle.rst_transform_names.specs.PlacingMessages.{IsInside, IsOwn};
 
 use super::duplicate_messages::NameMessage;
 use super::inside::{Head, Inside, OwnMessage, with_all};
@@ -63,8 +63,16 @@ struct NumberedMessages {
 }
 
 impl NumberedMessages {
+    /// The message on the name of an element, if there is one, where it has its place.
+    fn own(&self, alloc: Global, tag: Tag, attrs: &Attrs) -> Result<OwnMessage, TreeFault>
+        ensures { Gives (IsOwn (spec.own_numbered (get nat_cmp self.now.messages)) tag attrs.now) result }
+    {
+        let message = self.message(alloc, attrs)?;
+        OwnMessage::of(alloc, tag, attrs, message)
+    }
+
     /// The message on the name of an element with these attributes, if there is one.
-    fn own(&self, alloc: Global, attrs: &Attrs) -> Result<Vec<Node>, TreeFault>
+    fn message(&self, alloc: Global, attrs: &Attrs) -> Result<Vec<Node>, TreeFault>
         ensures { Gives (λ own. own.items ≡ spec.own_numbered (get nat_cmp self.now.messages) attrs.now) result }
     {
         let mut own = Vec::new(alloc);
@@ -99,8 +107,7 @@ fn filled(
                 children,
                 line,
             } => {
-                let message = messages.own(alloc, &attrs)?;
-                let own = OwnMessage::of(alloc, tag, &attrs, message)?;
+                let own = messages.own(alloc, tag, &attrs)?;
                 let inside = filled(alloc, tag, children, messages)?;
                 let head = Head { tag, attrs, line };
                 made.put(alloc, parent, head, own, inside)?;
@@ -135,8 +142,7 @@ pub fn place_name_messages(
             line,
         } => {
             let messages = name_messages.numbered(alloc)?;
-            let message = messages.own(alloc, &attrs)?;
-            let own = OwnMessage::of(alloc, tag, &attrs, message)?;
+            let own = messages.own(alloc, tag, &attrs)?;
             let inside = filled(alloc, tag, children, &messages)?;
             let nodes = with_all(alloc, own.section, inside)?;
             Ok(Node::Element {

@@ -1,8 +1,6 @@
 //! The registration of a document's elements.
 ghost use Rattle.rst_tree.specs.Faults.{Gives};
-ghost use Rattle.rst_tree.specs.Walk.{node_items};
-ghost use Rattle.rst_tree_index.specs.Kinds.{HasNoNewKinds};
-ghost use Rattle.rst_transform_names.specs.Registering.{IsRegistered};
+ghost use Rattle.rst_transform_names.specs.Registering.{registration, IsRegistered};
 
 use super::ids::Ids;
 use super::names::Names;
@@ -24,8 +22,6 @@ pub struct Registered {
     pub names: Names,
     /// How many of the registered elements may have names; their numbers (`Key::Serial`) are those below it.
     pub serials: u64,
-    /// Whether there are messages on equal names, which stand in the document.
-    pub has_name_messages: bool,
 }
 
 /// Registers a document's elements in preorder: each gets a number, unless it is a message or a problematic, which have no names, those of 'ids'
@@ -40,18 +36,17 @@ pub struct Registered {
 /// <section>               <section dupnames="a" ids="a">
 ///     <title>                 <title>
 ///         A                       A
-///     <target>                <system_message backrefs="target-1" level="1" ..>
+///     <target>                <system_message backrefs="a-1" level="1" ..>
 ///                                 <paragraph>
 ///                                     Duplicate implicit target name: "a".
-///                             <target ids="target-1" names="a">
+///                             <target ids="a-1" names="a">
 /// ```
 ///
 /// `messages` numbers were given to its messages, from 0 on.
 ///
 /// The only refusal is want of memory.
 pub fn register(alloc: Global, document: Marked, messages: u64) -> Result<Registered, TreeFault>
-    ensures registered { Gives (λ done. IsRegistered messages document done) result }
-    ensures kinds { Gives (λ done. HasNoNewKinds (node_items document) (node_items done.root)) result }
+    ensures { Gives (IsRegistered (registration messages document)) result }
 {
     let elements = document.elements(alloc)?;
     let Registry {
@@ -64,7 +59,6 @@ pub fn register(alloc: Global, document: Marked, messages: u64) -> Result<Regist
     } = registry_of(alloc, &elements, messages)?;
     drop(elements);
     let serials = standings.len() as u64;
-    let has_name_messages = !name_messages.is_empty();
     let mut writing = Writing::of(alloc, standings, known_messages);
     let written = document.visit(&mut writing)?;
     Ok(Registered {
@@ -72,6 +66,5 @@ pub fn register(alloc: Global, document: Marked, messages: u64) -> Result<Regist
         ids,
         names,
         serials,
-        has_name_messages,
     })
 }

@@ -1,23 +1,21 @@
 //! Names and ids, given one element after the other.
-ghost use Rattle.std.specs.Prelude.{◌≡◌, ◌++◌, if◌then◌else◌, map};
+ghost use Rattle.std.specs.Prelude.{◌≡◌, ◌++◌, if◌then◌else◌, length, map};
 ghost use Rattle.std.specs.VecDeque.{deque_items};
 ghost use Rattle.rst_tree.specs.Faults.{Gives};
 ghost use Rattle.rst_tree.specs.PrintedAttributes.{given};
-ghost use Rattle.rst_tree.specs.declared.key.Key.TheVariants.{Refuri};
 ghost use Rattle.rst_tree_index.specs.Registered.{item_of};
-ghost use Rattle.rst_transform_names.specs.Gathered.{text_at};
 ghost use Rattle.rst_transform_names.specs.Gathered as spec;
 ghost use Rattle.rst_transform_names.specs.Names.{held_by, Knows};
-ghost use Rattle.rst_transform_names.specs.Registering.{IsAdded, RegistersMessage, IsRegistry, KnowsNothing, Registers, Stands};
-ghost use Rattle.rst_transform_names.specs.Registry.{strength_of, is_same_text, rule_by, target_uri, known_by, losing, holder_in, held_in, next_number, name_messages_by, rule_named, definer, definition_messages, IsNamed, IsDefined};
+ghost use Rattle.rst_transform_names.specs.Registering.{all_registered, nothing_known, with_definition, with_element, with_message, with_named, Holds, Makes};
+ghost use Rattle.rst_transform_names.specs.Registry.{strength_of, is_same_text, target_uri, known_by, losing, holder_in, name_messages_by, rule_named, definer, definition_messages};
 
 use super::duplicate_messages::{duplicate_definition, duplicate_name};
 use super::ids::Ids;
-use super::message_ids::{KnownMessages, is_of_message};
+use super::message_ids::KnownMessages;
 use super::names::{Holder, NameEntry, Names, Strength};
 use super::placing::NameMessages;
 use super::registrants::own_name;
-use super::rulings::{DuplicateMessage, Now, Ruling, ruling_for};
+use super::rulings::{DuplicateMessage, NO_RULING, Now, Ruling, ruling_for};
 use rst_tree::{Key, Tag, Text, TreeFault};
 use rst_tree_index::Element;
 use std::alloc::Global;
@@ -26,7 +24,7 @@ use std::collections::BTreeMap;
 /// What registration gave an element that may have a name: any but messages and problematics.
 #[derive(Drop)]
 pub struct Standing {
-    /// Its number: how many of these elements stand before it.
+    /// Its number: how many of these elements come before it.
     pub serial: u64,
     /// Its id; a substitution definition has none.
     pub id: Option<Text>,
@@ -58,7 +56,7 @@ impl Registry {
         unnamed: usize,
         messages: u64,
     ) -> Result<Registry, TreeFault>
-        ensures { Gives (λ first. KnowsNothing messages first) result }
+        ensures { Gives (λ first. Holds first (nothing_known messages)) result }
     {
         Ok(Registry {
             ids: Ids::new(alloc),
@@ -72,63 +70,39 @@ impl Registry {
 
     /// Registers one more element.
     fn register(&mut self, alloc: Global, new: Element<'_>) -> Result<(), TreeFault>
-        ensures { Gives (λ _. Registers (item_of new.entry) self.old self.new) result }
+        ensures { Gives (λ _. Makes (with_element (item_of new.entry)) self.old self.new) result }
     {
-        if is_of_message(new.tag) {
-            return self.add_unnamed(alloc, new);
+        match new.tag {
+            Tag::Problematic | Tag::SystemMessage => self.add_message(alloc, new),
+            Tag::SubstitutionDefinition => self.define(alloc, new),
+            _ => self.name(alloc, new),
         }
-        self.add(alloc, new)
     }
 
     /// Registers one more message or problematic.
-    fn add_unnamed(&mut self, alloc: Global, new: Element<'_>) -> Result<(), TreeFault>
-        ensures { Gives (λ _. RegistersMessage (item_of new.entry) self.old self.new) result }
+    fn add_message(&mut self, alloc: Global, new: Element<'_>) -> Result<(), TreeFault>
+        ensures { Gives (λ _. Makes (with_message (item_of new.entry)) self.old self.new) result }
     {
         let number = self.ids.give_number(alloc, new.tag)?;
-        self.known_messages.add(alloc, new, number)
-    }
-
-    /// Registers one more element that may have a name, which follows those that have a standing.
-    fn add(&mut self, alloc: Global, new: Element<'_>) -> Result<(), TreeFault>
-        ensures { Gives (λ _. IsAdded (item_of new.entry) self.old self.new) result }
-    {
-        let standing = self.stand(alloc, new)?;
-        self.standings.push(standing)?;
+        self.known_messages.add(alloc, new, number)?;
         Ok(())
-    }
-
-    /// What a new element gets that may have a name.
-    fn stand(&mut self, alloc: Global, new: Element<'_>) -> Result<Standing, TreeFault>
-        ensures { Gives (λ s. Stands (item_of new.entry).tag (item_of new.entry) self.old self.new s) result }
-    {
-        if matches!(new.tag, Tag::SubstitutionDefinition) {
-            return self.define(alloc, new);
-        }
-        self.name(alloc, new)
     }
 
     /// The number of the element that is registered.
     fn serial(&self) -> u64
-        ensures { result ≡ next_number self.now }
+        ensures { result ≡ length self.now.standings.items }
     {
         self.standings.len() as u64
     }
 
     /// Gives an element its id, and its name if it has one.
-    fn name(&mut self, alloc: Global, new: Element<'_>) -> Result<Standing, TreeFault>
-        ensures { Gives (λ s. IsNamed (rule_named (spec.own_name (item_of new.entry)) (held_in self.old (item_of new.entry)) (item_of new.entry)) (item_of new.entry) self.old self.new s) result }
+    fn name(&mut self, alloc: Global, new: Element<'_>) -> Result<(), TreeFault>
+        ensures { Gives (λ _. Makes (with_named (item_of new.entry)) self.old self.new) result }
     {
         let serial = self.serial();
         let name = own_name(new);
         let id = self.ids.give(alloc, new.tag, name)?;
-        if name.is_empty() {
-            return Ok(Standing {
-                serial,
-                id: Some(id),
-                lost: false,
-            });
-        }
-        let ruling = ruling_on(&self.names, new);
+        let ruling = ruling_on(&self.names, name, new);
         add_name_message(
             alloc,
             &mut self.name_messages,
@@ -137,30 +111,31 @@ impl Registry {
             new,
             &id,
         )?;
-        let holder = holder_of(&self.names, name);
-        lose_if(&mut self.standings, ruling.old_loses, holder);
+        lose_if(&mut self.standings, ruling.old_loses, &self.names, name);
         follow(alloc, &mut self.names, ruling.now, new, serial, &id)?;
-        Ok(Standing {
+        self.standings.push(Standing {
             serial,
             id: Some(id),
             lost: ruling.new_loses,
-        })
+        })?;
+        Ok(())
     }
 
     /// Registers a substitution definition: of those with equal names the last has it.
-    fn define(&mut self, alloc: Global, new: Element<'_>) -> Result<Standing, TreeFault>
-        ensures { Gives (λ s. IsDefined (item_of new.entry) self.old self.new s) result }
+    fn define(&mut self, alloc: Global, new: Element<'_>) -> Result<(), TreeFault>
+        ensures { Gives (λ _. Makes (with_definition (item_of new.entry)) self.old self.new) result }
     {
         let serial = self.serial();
         let name = String::from_str(alloc, own_name(new))?;
         let before = self.definitions.insert(name, serial)?;
         lose(&mut self.standings, definer(before));
         add_definition_message(alloc, &mut self.name_messages, before, serial, new)?;
-        Ok(Standing {
+        self.standings.push(Standing {
             serial,
             id: None,
             lost: false,
-        })
+        })?;
+        Ok(())
     }
 }
 
@@ -190,12 +165,15 @@ fn add_definition_message(
     }
 }
 
-/// The rule for the name of a new element.
-fn ruling_on(names: &Names, new: Element<'_>) -> Ruling
-    ensures { result ≡ rule_by (held_by names.now (spec.own_name (item_of new.entry))) (item_of new.entry) }
+/// The rule for a new element by the name it was written with; the empty name is none.
+fn ruling_on(names: &Names, name: &str, new: Element<'_>) -> Ruling
+    ensures { result ≡ rule_named name.now (held_by names.now name.now) (item_of new.entry) }
 {
+    if name.is_empty() {
+        return NO_RULING;
+    }
     let strength = strength_of(new.tag);
-    match names.get(own_name(new)) {
+    match names.get(name) {
         None => ruling_for(None, strength, false),
         Some(held) => {
             let same = is_same_uri(held.uri.as_ref(), target_uri(new));
@@ -261,11 +239,11 @@ fn holder_of(names: &Names, name: &str) -> Holder
 }
 
 /// Lets the holder of a name have it as a duplicate one only, if it loses it.
-fn lose_if(standings: &mut [Standing], loses: bool, holder: Holder)
-    ensures { standings.new ≡ (if loses then losing holder standings.old else standings.old) }
+fn lose_if(standings: &mut [Standing], loses: bool, names: &Names, name: &str)
+    ensures { standings.new ≡ (if loses then losing (holder_in (held_by names.now name.now)) standings.old else standings.old) }
 {
     if loses {
-        lose(standings, holder);
+        lose(standings, holder_of(names, name));
     }
 }
 
@@ -328,13 +306,18 @@ pub fn registry_of(
     elements: &[Element<'_>],
     messages: u64,
 ) -> Result<Registry, TreeFault>
-    ensures { Gives (λ registry. IsRegistry messages (map item_of elements.entry.now) registry) result }
+    ensures { Gives (λ registry. Holds registry (all_registered (map item_of elements.entry.now) (nothing_known messages))) result }
 {
-    let unnamed = elements.iter().filter(|new| is_of_message(new.tag)).count();
-    let named = elements.len().saturating_sub(unnamed);
-    let mut registry = Registry::new(alloc, named, unnamed, messages)?;
+    let of_messages = elements.iter().filter(|new| is_of_message(new.tag)).count();
+    let named = elements.len().saturating_sub(of_messages);
+    let mut registry = Registry::new(alloc, named, of_messages, messages)?;
     for new in elements {
         registry.register(alloc, *new)?;
     }
     Ok(registry)
+}
+
+/// Whether elements of a kind are messages or problematics.
+fn is_of_message(tag: Tag) -> bool {
+    matches!(tag, Tag::Problematic | Tag::SystemMessage)
 }

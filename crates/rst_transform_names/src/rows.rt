@@ -16,12 +16,13 @@ ghost use Rattle.rst_transform_names.specs.declared.rulings.Now.TheVariants.{Old
 ghost use Rattle.rst_transform_names.specs.DuplicateMessages.{duplicate_definition, duplicate_name};
 ghost use Rattle.rst_transform_names.specs.Ids.{number_in, number_of, numbered, wanted_id};
 ghost use Rattle.rst_transform_names.specs.NameMessages.{with_name_messages};
+ghost use Rattle.rst_transform_names.specs.Registering.{registration};
 ghost use Rattle.rst_transform_names.specs.Registry.{rule_by, standing};
 ghost use Rattle.rst_transform_names.specs.Rulings.{ruling_for};
-ghost use Rattle.rst_transform_names.specs.Trees.{counts, document, element, lists, paragraph, says, text, Prints};
+ghost use Rattle.rst_transform_names.specs.Trees.{counts, document, element, lists, paragraph, says, text, Prints, PrintsRegistered};
 ghost use Rattle.rst_transform_names.specs.Written.{given, left_behind, with_given};
 
-/// What a name gives as an id, and the numbers behind ids that are taken (Directives, 'Identifier Normalization').
+/// What a name gives as an id, and the numbers at the end of ids (Directives, 'Identifier Normalization').
 pub fn ids()
     ensures of_a_name { wanted_id (codes "1. To be") ≡ codes "to-be" }
     ensures of_no_name { wanted_id [] ≡ [] }
@@ -192,7 +193,7 @@ pub fn places()
 {}
 
 /// What registration writes at the elements: ids, names and lost names, and what problematics and their messages have of one another (Document
-/// Tree, 'Attribute Reference') (Document Tree, 'Attribute Reference').
+/// Tree, 'Attribute Reference').
 pub fn written()
     ensures names { Prints (walked_node (heeded_next is_registered left_behind) (heeded_out is_registered with_given) (given (standing 0 (Some
         (codes "a")) true ∷ standing 1 (Some (codes "a-1")) false ∷ standing 2 (Some (codes "target-1")) false
@@ -210,4 +211,62 @@ pub fn written()
         ("<document>" ∷ "    <problematic ids=\"problematic-1\" refid=\"system-message-1\">"
         ∷ "    <problematic ids=\"problematic-2\" refid=\"system-message-1\">"
         ∷ "    <system_message backrefs=\"problematic-1 problematic-2\" ids=\"system-message-1\" line=\"1\">" ∷ []) }
+{}
+
+/// What registration leaves of whole documents: ids, names, messages on equal names, and problematics with their messages (Document Tree,
+/// 'Attribute Reference').
+pub fn registered()
+    ensures ids_of_kinds { PrintsRegistered 0 (element Target [] [] ∷ element Target [] [] ∷ element Footnote [] [] ∷ [])
+        ("<document>" ∷ "    <target ids=\"target-1\">" ∷ "    <target ids=\"target-2\">" ∷ "    <footnote ids=\"footnote-1\">" ∷ []) }
+    ensures id_of_a_name { PrintsRegistered 0 (element Section (says OwnName "a b" ∷ []) (element Title [] [] ∷ paragraph "c" ∷ []) ∷ [])
+        ("<document>" ∷ "    <section ids=\"a-b\" names=\"a\\ b\">" ∷ "        <title>" ∷ "        <paragraph>" ∷ "            c" ∷ []) }
+    ensures id_that_is_taken { PrintsRegistered 0 (element Target (says OwnName "a b" ∷ []) [] ∷ element Target (says OwnName "a-b" ∷ []) [] ∷ [])
+        ("<document>" ∷ "    <target ids=\"a-b\" names=\"a\\ b\">" ∷ "    <target ids=\"a-b-1\" names=\"a-b\">" ∷ []) }
+    ensures number_that_is_taken { PrintsRegistered 0 (element Target (says OwnName "target-1" ∷ []) [] ∷ element Target [] [] ∷ [])
+        ("<document>" ∷ "    <target ids=\"target-1\" names=\"target-1\">" ∷ "    <target ids=\"target-2\">" ∷ []) }
+    ensures two_sections { PrintsRegistered 0 (element Section (says OwnName "a" ∷ []) [] ∷ element Section (says OwnName "a" ∷ []) (element Title [] []
+        ∷ paragraph "b" ∷ []) ∷ [])
+        ("<document>" ∷ "    <section dupnames=\"a\" ids=\"a\">" ∷ "    <section dupnames=\"a\" ids=\"a-1\">" ∷ "        <title>"
+        ∷ "        <system_message backrefs=\"a-1\" level=\"1\" line=\"1\" type=\"INFO\">" ∷ "            <paragraph>"
+        ∷ "                Duplicate implicit target name: \"a\"." ∷ "        <paragraph>" ∷ "            b" ∷ []) }
+    ensures section_then_target { PrintsRegistered 0 (element Section (says OwnName "a" ∷ []) (element Title [] []
+        ∷ element Target (says OwnName "a" ∷ []) [] ∷ []) ∷ [])
+        ("<document>" ∷ "    <section dupnames=\"a\" ids=\"a\">" ∷ "        <title>"
+        ∷ "        <system_message backrefs=\"a-1\" level=\"1\" line=\"1\" type=\"INFO\">" ∷ "            <paragraph>"
+        ∷ "                Duplicate implicit target name: \"a\"." ∷ "        <target ids=\"a-1\" names=\"a\">" ∷ []) }
+    ensures two_targets { PrintsRegistered 0 (element Target (says OwnName "a" ∷ []) [] ∷ element Target (says OwnName "a" ∷ []) [] ∷ [])
+        ("<document>" ∷ "    <target dupnames=\"a\" ids=\"a\">" ∷ "    <system_message backrefs=\"a-1\" level=\"2\" line=\"1\" type=\"WARNING\">"
+        ∷ "        <paragraph>" ∷ "            Duplicate explicit target name: \"a\"." ∷ "    <target dupnames=\"a\" ids=\"a-1\">" ∷ []) }
+    ensures two_targets_with_one_uri { PrintsRegistered 0 (element Target (says OwnName "a" ∷ says Refuri "u" ∷ []) []
+        ∷ element Target (says OwnName "a" ∷ says Refuri "u" ∷ []) [] ∷ [])
+        ("<document>" ∷ "    <target ids=\"a\" names=\"a\" refuri=\"u\">"
+        ∷ "    <system_message backrefs=\"a-1\" level=\"1\" line=\"1\" type=\"INFO\">" ∷ "        <paragraph>"
+        ∷ "            Duplicate explicit target name: \"a\"." ∷ "    <target dupnames=\"a\" ids=\"a-1\" refuri=\"u\">" ∷ []) }
+    ensures target_in_a_text { PrintsRegistered 0 (element Target (says OwnName "a" ∷ []) []
+        ∷ element Paragraph [] (element Target (counts Inline 1 ∷ says OwnName "a" ∷ []) [] ∷ []) ∷ paragraph "b" ∷ [])
+        ("<document>" ∷ "    <target dupnames=\"a\" ids=\"a\">" ∷ "    <paragraph>" ∷ "        <target dupnames=\"a\" ids=\"a-1\">"
+        ∷ "    <system_message backrefs=\"a-1\" level=\"2\" line=\"1\" type=\"WARNING\">" ∷ "        <paragraph>"
+        ∷ "            Duplicate explicit target name: \"a\"." ∷ "    <paragraph>" ∷ "        b" ∷ []) }
+    ensures two_definitions { PrintsRegistered 0 (element SubstitutionDefinition (says OwnName "a" ∷ []) []
+        ∷ element SubstitutionDefinition (says OwnName "a" ∷ []) [] ∷ [])
+        ("<document>" ∷ "    <substitution_definition dupnames=\"a\">" ∷ "    <system_message level=\"3\" line=\"1\" type=\"ERROR\">"
+        ∷ "        <paragraph>" ∷ "            Duplicate substitution definition name: \"a\"." ∷ "    <substitution_definition names=\"a\">" ∷ []) }
+    ensures definition_and_target { PrintsRegistered 0 (element SubstitutionDefinition (says OwnName "a" ∷ []) []
+        ∷ element Target (says OwnName "a" ∷ []) [] ∷ [])
+        ("<document>" ∷ "    <substitution_definition names=\"a\">" ∷ "    <target ids=\"a\" names=\"a\">" ∷ []) }
+    ensures problematics { PrintsRegistered 2 (element Problematic (counts Message 1 ∷ []) [] ∷ element SystemMessage (counts Message 0 ∷ []) []
+        ∷ element Problematic (counts Message 1 ∷ []) [] ∷ element SystemMessage (counts Message 1 ∷ []) [] ∷ [])
+        ("<document>" ∷ "    <problematic ids=\"problematic-1\" refid=\"system-message-2\">" ∷ "    <system_message ids=\"system-message-1\" line=\"1\">"
+        ∷ "    <problematic ids=\"problematic-2\" refid=\"system-message-2\">"
+        ∷ "    <system_message backrefs=\"problematic-1 problematic-2\" ids=\"system-message-2\" line=\"1\">" ∷ []) }
+    ensures problematic_without_its_message { PrintsRegistered 1 (element Problematic (counts Message 0 ∷ []) [] ∷ [])
+        ("<document>" ∷ "    <problematic ids=\"problematic-1\">" ∷ []) }
+    ensures holder { (registration 0 (document (element Target [] [] ∷ element Footnote (says OwnName "a" ∷ []) [] ∷ []))).names (codes "a")
+        ≡ Some (record { holder = By 1; strength = Explicit; id = codes "a"; uri = None }) }
+    ensures holder_that_lost { (registration 0 (document (element Section (says OwnName "a" ∷ []) [] ∷ element Section (says OwnName "a" ∷ []) []
+        ∷ []))).names (codes "a")
+        ≡ Some (record { holder = Nobody; strength = Implicit; id = codes "a"; uri = None }) }
+    ensures taken_ids { (registration 0 (document (element Target [] [] ∷ element Problematic [] [] ∷ []))).ids
+        ≡ codes "problematic-1" ∷ codes "target-1" ∷ [] }
+    ensures elements_with_numbers { (registration 0 (document (element Target [] [] ∷ element Problematic [] [] ∷ paragraph "b" ∷ []))).serials ≡ 1 }
 {}

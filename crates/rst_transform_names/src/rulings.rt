@@ -2,7 +2,6 @@
 //! Hyperlink Targets'; Docutils, 'Duplicate Explicit Target Names').
 
 ghost use Rattle.std.specs.Prelude.{◌≡◌};
-ghost use Rattle.rst_transform_names.specs.declared.names.Strength.TheVariants.{Implicit, Explicit};
 ghost use Rattle.rst_transform_names.specs.Rulings as spec;
 
 use super::names::{Holder, Strength};
@@ -35,45 +34,44 @@ pub struct Ruling {
 }
 
 /// An INFO on an implicit name.
-const IMPLICIT: Option<DuplicateMessage> = Some(DuplicateMessage {
+const INFO: Option<DuplicateMessage> = Some(DuplicateMessage {
     level: Level::Info,
     strength: Strength::Implicit,
 });
 
-/// No element had the name before.
-fn first_of_the_name() -> Ruling
-    ensures { result ≡ spec.new_has_it }
-{
-    Ruling {
-        now: Now::New,
-        old_loses: false,
-        new_loses: false,
-        message: None,
-    }
-}
+/// A WARNING on an explicit name.
+const WARNING: Option<DuplicateMessage> = Some(DuplicateMessage {
+    level: Level::Warning,
+    strength: Strength::Explicit,
+});
+
+/// Nothing becomes of a name.
+pub const NO_RULING: Ruling = Ruling {
+    now: Now::Old,
+    old_loses: false,
+    new_loses: false,
+    message: None,
+};
+
+/// No element had the name, or all that had it were sections that lost it: the new one has it.
+const NEW_HAS_IT: Ruling = Ruling {
+    now: Now::New,
+    old_loses: false,
+    new_loses: false,
+    message: None,
+};
 
 /// A section has the name, and another element takes it.
-fn explicit_takes_implicit() -> Ruling
-    ensures { result ≡ spec.new_takes_it }
-{
-    Ruling {
-        now: Now::New,
-        old_loses: true,
-        new_loses: false,
-        message: IMPLICIT,
-    }
-}
+const NEW_TAKES_IT: Ruling = Ruling {
+    now: Now::New,
+    old_loses: true,
+    new_loses: false,
+    message: INFO,
+};
 
-/// Sections lost the name, and another element takes it.
-fn explicit_takes_lost_implicit() -> Ruling
-    ensures { result ≡ spec.new_has_it }
-{
-    first_of_the_name()
-}
-
-/// A target has the name and the URI of a new target.
-fn explicit_with_same_refuri() -> Ruling
-    ensures { result ≡ spec.old_keeps_it Explicit }
+/// The element that has the name keeps it; an INFO says so.
+fn old_keeps_it(strength: Strength) -> Ruling
+    ensures { result ≡ spec.old_keeps_it strength }
 {
     Ruling {
         now: Now::Old,
@@ -81,101 +79,50 @@ fn explicit_with_same_refuri() -> Ruling
         new_loses: true,
         message: Some(DuplicateMessage {
             level: Level::Info,
-            strength: Strength::Explicit,
+            strength,
         }),
     }
 }
 
-/// An element has the name, and another one that is no section.
-fn explicit_twice() -> Ruling
-    ensures { result ≡ spec.both_lose_it spec.warning }
+/// Neither has the name.
+fn both_lose_it(message: Option<DuplicateMessage>) -> Ruling
+    ensures { result ≡ spec.both_lose_it message }
 {
     Ruling {
         now: Now::Nobody,
         old_loses: true,
         new_loses: true,
-        message: Some(DuplicateMessage {
-            level: Level::Warning,
-            strength: Strength::Explicit,
-        }),
+        message,
     }
 }
 
-/// Elements lost the name, and one more has it that is no section.
-fn explicit_after_lost_explicit() -> Ruling
-    ensures { result ≡ spec.nobody_has_it spec.warning }
-{
-    Ruling {
-        old_loses: false,
-        ..explicit_twice()
-    }
-}
-
-/// Two sections have the name.
-fn implicit_twice() -> Ruling
-    ensures { result ≡ spec.both_lose_it (spec.info Implicit) }
+/// It stays that no element has the name.
+fn nobody_has_it(message: Option<DuplicateMessage>) -> Ruling
+    ensures { result ≡ spec.nobody_has_it message }
 {
     Ruling {
         now: Now::Nobody,
-        old_loses: true,
-        new_loses: true,
-        message: IMPLICIT,
-    }
-}
-
-/// Sections lost the name, and one more has it.
-fn implicit_after_lost_implicit() -> Ruling
-    ensures { result ≡ spec.nobody_has_it (spec.info Implicit) }
-{
-    Ruling {
-        old_loses: false,
-        ..implicit_twice()
-    }
-}
-
-/// Another element has the name of a new section.
-fn implicit_under_explicit() -> Ruling
-    ensures { result ≡ spec.old_keeps_it Implicit }
-{
-    Ruling {
-        now: Now::Old,
         old_loses: false,
         new_loses: true,
-        message: IMPLICIT,
+        message,
     }
-}
-
-/// Other elements lost the name of a new section.
-fn implicit_after_lost_explicit() -> Ruling
-    ensures { result ≡ spec.nobody_has_it (spec.info Implicit) }
-{
-    implicit_after_lost_implicit()
 }
 
 /// The rule for a name, by how it was held and is given.
-pub fn ruling_for(old: Option<(Strength, Holder)>, new: Strength, same_refuri: bool) -> Ruling
-    ensures { result ≡ spec.ruling_for old new same_refuri }
+pub fn ruling_for(old: Option<(Strength, Holder)>, new: Strength, same_uri: bool) -> Ruling
+    ensures { result ≡ spec.ruling_for old new same_uri }
 {
-    match (old, new) {
-        (None, _) => first_of_the_name(),
-        (Some((Strength::Implicit, Holder::Nobody)), Strength::Explicit) => {
-            explicit_takes_lost_implicit()
-        }
-        (Some((Strength::Implicit, _)), Strength::Explicit) => explicit_takes_implicit(),
-        (Some((Strength::Explicit, Holder::Nobody)), Strength::Explicit) => {
-            explicit_after_lost_explicit()
-        }
-        (Some((Strength::Explicit, _)), Strength::Explicit) if same_refuri => {
-            explicit_with_same_refuri()
-        }
-        (Some((Strength::Explicit, _)), Strength::Explicit) => explicit_twice(),
-        (Some((Strength::Implicit, Holder::Nobody)), Strength::Implicit) => {
-            implicit_after_lost_implicit()
-        }
-        (Some((Strength::Implicit, _)), Strength::Implicit) => implicit_twice(),
-        (Some((Strength::Explicit, Holder::Nobody)), Strength::Implicit) => {
-            implicit_after_lost_explicit()
-        }
-        (Some((Strength::Explicit, _)), Strength::Implicit) => implicit_under_explicit(),
+    let Some((old, holder)) = old else {
+        return NEW_HAS_IT;
+    };
+    match (old, holder, new) {
+        (Strength::Implicit, Holder::Nobody, Strength::Explicit) => NEW_HAS_IT,
+        (Strength::Implicit, _, Strength::Explicit) => NEW_TAKES_IT,
+        (Strength::Explicit, Holder::Nobody, Strength::Explicit) => nobody_has_it(WARNING),
+        (Strength::Explicit, _, Strength::Explicit) if same_uri => old_keeps_it(Strength::Explicit),
+        (Strength::Explicit, _, Strength::Explicit) => both_lose_it(WARNING),
+        (_, Holder::Nobody, Strength::Implicit) => nobody_has_it(INFO),
+        (Strength::Implicit, _, Strength::Implicit) => both_lose_it(INFO),
+        (Strength::Explicit, _, Strength::Implicit) => old_keeps_it(Strength::Implicit),
     }
 }

@@ -5,12 +5,12 @@ use Rattle.std.proofs.lemmas.List.{append-nil, drop_all, drop_more}
 use Rattle.std.specs.Prelude.{◌||◌, if◌then◌else◌, nat_eq, slice_get, slice_set, slice_index_or, Option, Some, None}
 use Rattle.std.specs.List.{cons_option, enumerate_from, list_any, range_with_len}
 use Rattle.rst_transform_names.specs.declared.names.Holder.{Holder}
-use Rattle.rst_transform_names.specs.declared.names.Names.{Names}
+use Rattle.rst_transform_names.specs.declared.names.NameEntry.{NameEntry}
 use Rattle.rst_tree.specs.declared.key.Key.TheVariants.{Ids}
 use Rattle.rst_tree.specs.declared.node.Node.{Node}
 use Rattle.rst_transform_links.specs.declared.links.Linked.{Linked}
 use Rattle.rst_transform_links.specs.declared.links.Outcome.{Outcome}
-use Rattle.rst_transform_references.specs.Backrefs.{id_of_reference, ids_of_references, is_at, reference_ids, referent_at, referents_of, referred_at, referred_to, with_backref_lists, with_backrefs, with_reference}
+use Rattle.rst_transform_references.specs.Backrefs.{id_of_reference, ids_of_references, is_at, reference_ids, referent_at, referents_of, with_backref_lists, with_backrefs, with_reference}
 use Rattle.rst_transform_links.specs.Linkings.{Held, held}
 use Rattle.rst_transform_references.specs.Meanings.{refers_to_footnote_or_citation}
 use Rattle.rst_transform_links.specs.FootnoteOrders.{found_by_order}
@@ -125,33 +125,25 @@ no_ids (referent ∷ more) i = refl
 pub gather_short : (referents : List (Option ℕ)) (linked : List Linked) (place : ℕ) (lists all : List (List (List ℕ))) → length linked ≤ place → completed (drop place referents) (map held (drop place linked)) 0 lists ≡ all → lists ≡ all
 gather_short referents linked place lists all past before = sym (complete (ids_of_references (drop place referents) []) 0 lists (no_ids (drop place referents))) ∙ (rw (drop_all place linked past) at before)
 
-listed : (ids : ℕ → List (List ℕ)) (place : ℕ) (outcomes : List Outcome) → with_backref_lists (map ids (range_with_len place (length outcomes))) outcomes ≡ map (referred_at ids) (enumerate_from place outcomes)
-listed ids place [] = refl
-listed ids place (outcome ∷ more) = ap (λ rest. referred_to (ids place) outcome ∷ rest) (listed ids (place + 1) more)
-
--- each element with what was gathered of it tells the ids of the references to it
-pub listed_backrefs : (referents : List (Option ℕ)) (linked : List Held) (outcomes : List Outcome) → with_backref_lists (reference_ids referents linked (length outcomes)) outcomes ≡ with_backrefs referents linked outcomes
-listed_backrefs referents linked outcomes = listed (ids_of_references referents linked) 0 outcomes
-
 -- ---- where nothing refers to a footnote or a citation
 
 neither : (a b : Bool) → (a || b) ≡ false → (a ≡ false) × (b ≡ false)
 neither true b h = absurd (cc)
 neither false b h = (refl, h)
 
-none_meant : (places : Holder → Option ℕ) (all : List Held) (names : Names) (found : List (Option ℕ)) (i place : ℕ) (linked : List Held) → list_any (λ (one : Held). refers_to_footnote_or_citation one.0) linked ≡ false
+none_meant : (places : Holder → Option ℕ) (all : List Held) (names : List ℕ → Option NameEntry) (found : List (Option ℕ)) (i place : ℕ) (linked : List Held) → list_any (λ (one : Held). refers_to_footnote_or_citation one.0) linked ≡ false
     → ids_of_references (map (referent_at places all names found) (enumerate_from place linked)) linked i ≡ []
 none_meant places all names found i place [] none = refl
 none_meant places all names found i place (one ∷ more) none =
     let parts = neither (refers_to_footnote_or_citation one.0) _ none in
     rw (parts.0) (none_meant places all names found i (place + 1) more parts.1)
 
-unreferred : (ids : ℕ → List (List ℕ)) (place : ℕ) (outcomes : List Outcome) → ((i : ℕ) → ids i ≡ []) → map (referred_at ids) (enumerate_from place outcomes) ≡ outcomes
+unreferred : (ids : ℕ → List (List ℕ)) (place : ℕ) (outcomes : List Outcome) → ((i : ℕ) → ids i ≡ []) → with_backref_lists (map ids (range_with_len place (length outcomes))) outcomes ≡ outcomes
 unreferred ids place [] none = refl
 unreferred ids place (outcome ∷ more) none = rw (none place) (ap (λ rest. outcome ∷ rest) (unreferred ids (place + 1) more none))
 
--- no element tells something
-pub none_listed : (places : Holder → Option ℕ) (all : List Held) (names : Names) (outcomes : List Outcome) → list_any (λ (one : Held). refers_to_footnote_or_citation one.0) all ≡ false → outcomes ≡ with_backrefs (referents_of places all names) all outcomes
+-- no element lists something
+pub none_listed : (places : Holder → Option ℕ) (all : List Held) (names : List ℕ → Option NameEntry) (outcomes : List Outcome) → list_any (λ (one : Held). refers_to_footnote_or_citation one.0) all ≡ false → outcomes ≡ with_backrefs (referents_of places all names) all outcomes
 none_listed places all names outcomes none =
     sym (unreferred (ids_of_references (referents_of places all names) all) 0 outcomes (λ i. none_meant places all names (found_by_order all) i 0 all none))
 

@@ -1,43 +1,64 @@
--- What becomes of linked elements, said of those that are left in the midst of them.
-use Rattle.std.proofs.Common.{◌≡◌, ℕ, List, [], ◌∷◌, ◌++◌, ◌+◌, ◌<◌, length, map, drop, get_or, refl, ◌∙◌, ap}
-use Rattle.std.proofs.lemmas.List.{append_assoc, drop_more}
+-- What becomes of linked elements: of one that fails, of one more, and in the end.
+use Rattle.std.proofs.Common.{◌≡◌, ◌∙◌, ℕ, ◌+◌, ◌<◌, List, [], ◌∷◌, ◌++◌, length, map, drop, get_or, refl, sym, ap, ap₂, subst}
+use Rattle.std.proofs.Math.Path.{fun_ext}
+use Rattle.std.proofs.lemmas.List.{drop_more}
+use Rattle.std.specs.Prelude.{◌||◌, Bool, true, false, vec_len, Option, Some, None}
+use Rattle.rst_tree.specs.declared.node.Node.{Node}
+use Rattle.rst_tree.specs.declared.note.Level.TheVariants.{Error}
 use Rattle.rst_transform_names.specs.declared.names.Holder.{Holder}
+use Rattle.rst_transform_names.specs.declared.names.NameEntry.{NameEntry}
 use Rattle.rst_transform_names.specs.declared.names.Names.{Names}
+use Rattle.rst_transform_names.specs.Names.{held_by}
+use Rattle.rst_transform_work.specs.declared.context.Context.{Context}
+use Rattle.rst_transform_work.specs.Known.{Holds, Known, Makes}
+use Rattle.rst_transform_work.specs.Reading.{line_of}
+use Rattle.rst_transform_work.specs.declared.report.Report.{Report}
+use Rattle.rst_transform_work.specs.Reports.{next_report, report_in, IsReported, KeepsRest}
+use Rattle.rst_transform_work.proofs.Holding.{holds_reports}
 use Rattle.rst_transform_links.specs.declared.links.Linked.{Linked}
 use Rattle.rst_transform_links.specs.declared.links.Outcome.{Outcome}
-use Rattle.rst_transform_work.specs.declared.context.Context.{Context}
+use Rattle.rst_transform_links.specs.declared.links.Outcome.TheVariants.{Fails}
+use Rattle.rst_transform_links.specs.Holders.{holder_place, place_at}
 use Rattle.rst_transform_links.specs.Linkings.{Held, held}
-use Rattle.rst_transform_work.specs.Reports.{KeepsRest}
-use Rattle.rst_transform_references.specs.Resolving.{is_gone, reports_behind, resolved, resolved_from, what_becomes}
-use Rattle.rst_transform_references.specs.Meanings.{meaning_to}
 use Rattle.rst_transform_links.specs.Outcomes.{fails}
-use Rattle.std.specs.Prelude.{◌||◌, Option, Bool}
+use Rattle.rst_transform_references.specs.declared.meanings.Meaning.{Meaning}
+use Rattle.rst_transform_references.specs.Backrefs.{referents_of, with_backrefs}
+use Rattle.rst_transform_references.specs.Meanings.{meaning_to}
+use Rattle.rst_transform_references.specs.Resolving.{failing, is_gone, outcome_of, outcome_unless, reference_outcomes, resolved_from, what_becomes}
 
--- the outcomes so far, with those of the elements that are left, are those of all
-pub record Resolving (places : Holder → Option ℕ) (linked : List Held) (names : Names) (before now : Context) (ended : List Bool) (outcomes : List Outcome) (left : List Held) : Type 0 where
-  pub become : outcomes ++ (resolved_from places linked names before.first_number ended now.reports.items left).0 ≡ (resolved places linked names before.first_number before.reports.items).0
-  pub reports : (resolved_from places linked names before.first_number ended now.reports.items left).1 ≡ (resolved places linked names before.first_number before.reports.items).1
-  pub rest : KeepsRest before now
+-- a reference that fails
+pub fails_for : (old new : Context) (node : Node) (text : List ℕ) (place : ℕ) → place ≡ length old.reports.items → IsReported (report_in old Error (line_of node) text true) old new → KeepsRest old new
+    → Makes (failing node text) old new (Fails place)
+fails_for old new node text place at is rest known h =
+    (ap Fails (at ∙ ap length h.reports), holds_reports old new known _ h rest (is ∙ ap₂ (λ first reports. (report_of first reports)) h.first_number h.reports))
+  where
+    report_of : ℕ → List Report → List Report
+    report_of first reports = reports ++ next_report first reports Error (line_of node) text true ∷ []
+
+-- a reference whose name means something
+pub with_meaning : (places : Holder → Option ℕ) (linked : List Held) (node : Node) (old new : Context) (meaning : Meaning) (outcome : Outcome) → meaning_to places linked (held_by old.names) node ≡ Some meaning
+    → Makes (outcome_of linked node meaning) old new outcome → Makes (what_becomes places linked false node) old new outcome
+with_meaning places linked node old new meaning outcome is makes known h =
+    subst (λ meaning. let own = outcome_unless false linked node meaning known in (outcome ≡ own.0) × Holds new own.1) (sym is ∙ ap (λ names. meaning_to places linked names node) (fun_ext h.names)) (makes known h)
 
 -- one element more
-step : (places : Holder → Option ℕ) (linked : List Held) (names : Names) (before now next : Context) (ended : List Bool) (outcomes : List Outcome) (one : Held) (more : List Held) (outcome : Outcome)
-    → Resolving places linked names before now ended outcomes (one ∷ more)
-    → outcome ≡ what_becomes linked (is_gone ended one.1) (length now.reports.items) one.0 (meaning_to places linked names one.0)
-    → next.reports.items ≡ reports_behind (is_gone ended one.1) now.first_number now.reports.items one.0 (meaning_to places linked names one.0) → KeepsRest now next
-    → Resolving places linked names before next (ended ++ (is_gone ended one.1 || fails outcome) ∷ []) (outcomes ++ outcome ∷ []) more
-step places linked names before now next ended outcomes one more outcome r is reports keeps =
-    let first : now.first_number ≡ before.first_number = ap (λ (context : Context). context.first_number) r.rest in
-    let behind : next.reports.items ≡ reports_behind (is_gone ended one.1) before.first_number now.reports.items one.0 (meaning_to places linked names one.0) = reports ∙ rw first refl in
-    record {
-      become = rw (is, behind) (append_assoc outcomes _ _ ∙ r.become);
-      reports = rw (is, behind) r.reports;
-      rest = keeps ∙ rw r.rest refl;
-    }
+pub next_element : (places : Holder → Option ℕ) (all : List Held) (linked : List Linked) (i : ℕ) (one : Linked) (before next after : Context) (ended : List Bool) (outcome : Outcome) (rest : List Outcome) → i < length linked → one ≡ get_or linked i one
+    → Makes (what_becomes places all (is_gone ended one.outer) one.element.now) before next outcome
+    → Makes (resolved_from places all (ended ++ (is_gone ended one.outer || fails outcome) ∷ []) (map held (drop (i + 1) linked))) next after rest
+    → Makes (resolved_from places all ended (map held (drop i linked))) before after (outcome ∷ rest)
+next_element places all linked i one before next after ended outcome rest within at makes others known h =
+    let gone : Bool = is_gone ended one.outer in
+    let own = makes known h in
+    let then : Known = (what_becomes places all gone one.element.now known).1 in
+    let behind = subst (λ o. let d = resolved_from places all (ended ++ (gone || fails o) ∷ []) (map held (drop (i + 1) linked)) then in (rest ≡ d.0) × Holds after d.1) own.0 (others then own.1) in
+    rw (drop_more linked i one within, ← at) (ap₂ (λ o more. o ∷ more) own.0 behind.0, behind.1)
 
-pub Resolving-more : (places : Holder → Option ℕ) (linked : List Linked) (names : Names) (before now next : Context) (ended : List Bool) (outcomes : List Outcome) (i : ℕ) (one : Linked) (outcome : Outcome)
-    → Resolving places (map held linked) names before now ended outcomes (map held (drop i linked)) → i < length linked → one ≡ get_or linked i one
-    → outcome ≡ what_becomes (map held linked) (is_gone ended one.outer) (length now.reports.items) one.element.now (meaning_to places (map held linked) names one.element.now)
-    → next.reports.items ≡ reports_behind (is_gone ended one.outer) now.first_number now.reports.items one.element.now (meaning_to places (map held linked) names one.element.now) → KeepsRest now next
-    → Resolving places (map held linked) names before next (ended ++ (is_gone ended one.outer || fails outcome) ∷ []) (outcomes ++ outcome ∷ []) (map held (drop (i + 1) linked))
-Resolving-more places linked names before now next ended outcomes i one outcome r within at is reports keeps =
-    step places (map held linked) names before now next ended outcomes (held one) (map held (drop (i + 1) linked)) outcome (rw (drop_more linked i one within, ← at) at r) is reports keeps
+-- all elements, and what the footnotes and citations among them tell
+pub decided : (places : Holder → Option ℕ) (linked : List Held) (old new : Context) (outcomes changed : List Outcome) → ((holder : Holder) → places holder ≡ holder_place old.serials linked holder)
+    → Makes (resolved_from places linked [] linked) old new outcomes → changed ≡ with_backrefs (referents_of places linked (held_by new.names)) linked outcomes → Makes (reference_outcomes linked) old new changed
+decided places linked old new outcomes changed at makes is known h =
+    let same : places ≡ holder_place known.serials linked = fun_ext at ∙ ap (λ serials. holder_place serials linked) h.serials in
+    let done = makes known h in
+    let names : held_by new.names ≡ (resolved_from places linked [] linked known).1.names = fun_ext done.1.names in
+    subst (λ p. let d = resolved_from p linked [] linked known in (changed ≡ with_backrefs (referents_of p linked d.1.names) linked d.0) × Holds new d.1) same
+    (is ∙ ap₂ (λ n o. with_backrefs (referents_of places linked n) linked o) names done.0, done.1)

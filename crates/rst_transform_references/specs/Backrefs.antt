@@ -1,8 +1,8 @@
 -- What footnotes and citations tell of the references to them (Document Tree, `backrefs`).
-use Rattle.std.specs.Prelude.{ℕ, Bool, false, List, [], ◌∷◌, ◌++◌, map, nat_eq, if◌then◌else◌, slice_get, Option, Some, None}
+use Rattle.std.specs.Prelude.{ℕ, Bool, false, List, [], ◌∷◌, ◌++◌, length, map, nat_eq, if◌then◌else◌, slice_get, Option, Some, None}
 use Rattle.std.specs.List.{cons_option, enumerate_from, filter_map, range_with_len, zip}
 use Rattle.rst_transform_names.specs.declared.names.Holder.{Holder}
-use Rattle.rst_transform_names.specs.declared.names.Names.{Names}
+use Rattle.rst_transform_names.specs.declared.names.NameEntry.{NameEntry}
 use Rattle.rst_tree.specs.declared.attrs.Value.TheVariants.{List as Listed}
 use Rattle.rst_tree.specs.declared.key.Key.TheVariants.{Backrefs, Ids}
 use Rattle.rst_tree.specs.declared.node.Node.{Node}
@@ -24,8 +24,8 @@ referent_meant (Some Unknown) found = found
 referent_meant (Some Duplicate) found = found
 referent_meant None found = found
 
--- the places of holders among the linked elements of a document, these, and its names
-module _ (places : Holder → Option ℕ) (all : List Held) (names : Names) where
+-- the places of holders among the linked elements of a document, these, and what is known of names
+module _ (places : Holder → Option ℕ) (all : List Held) (names : List ℕ → Option NameEntry) where
   -- the place of the footnote or citation that an element refers to, by its name or by what it finds by the order
   abbrev pub referent_of : Node → Option ℕ → Option ℕ
   referent_of node found = if refers_to_footnote_or_citation node then referent_meant (meaning_to places all names node) found else None
@@ -60,13 +60,17 @@ abbrev pub referred_to : List (List ℕ) → Outcome → Outcome
 referred_to [] outcome = outcome
 referred_to (id ∷ more) outcome = adds (Some (attr Backrefs (Listed (id ∷ more))))
 
--- the same of the element at a place, by the ids for each place
-abbrev pub referred_at : (ℕ → List (List ℕ)) → ℕ × Outcome → Outcome
-referred_at ids (place, outcome) = referred_to (ids place) outcome
+-- for each of so many elements the ids of the references to it
+abbrev pub reference_ids : List (Option ℕ) → List Held → ℕ → List (List (List ℕ))
+reference_ids referents linked count = map (ids_of_references referents linked) (range_with_len 0 count)
+
+-- what becomes of elements, each with its ids
+abbrev pub with_backref_lists : List (List (List ℕ)) → List Outcome → List Outcome
+with_backref_lists lists outcomes = map (λ p. referred_to p.0 p.1) (zip lists outcomes)
 
 -- What becomes of linked elements. No other element than a footnote or a citation is referred to so.
 abbrev pub with_backrefs : List (Option ℕ) → List Held → List Outcome → List Outcome
-with_backrefs referents linked outcomes = map (referred_at (ids_of_references referents linked)) (enumerate_from 0 outcomes)
+with_backrefs referents linked outcomes = with_backref_lists (reference_ids referents linked (length outcomes)) outcomes
 
 -- the ids for a place, and that of one element more, if it refers there
 abbrev pub with_id : Option ℕ → Node → ℕ × List (List ℕ) → List (List ℕ)
@@ -75,11 +79,3 @@ with_id referent node (place, ids) = ids ++ cons_option (id_of_reference place r
 -- the ids for all places, and that of one element more
 abbrev pub with_reference : Option ℕ → Node → List (List (List ℕ)) → List (List (List ℕ))
 with_reference referent node lists = map (with_id referent node) (enumerate_from 0 lists)
-
--- for each of so many elements the ids of the references to it
-abbrev pub reference_ids : List (Option ℕ) → List Held → ℕ → List (List (List ℕ))
-reference_ids referents linked count = map (ids_of_references referents linked) (range_with_len 0 count)
-
--- what becomes of elements, each with its ids
-abbrev pub with_backref_lists : List (List (List ℕ)) → List Outcome → List Outcome
-with_backref_lists lists outcomes = map (λ p. referred_to p.0 p.1) (zip lists outcomes)

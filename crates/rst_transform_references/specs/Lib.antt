@@ -1,4 +1,3 @@
 pub mod Backrefs
 pub mod Meanings
-pub mod Resolved
 pub mod Resolving

@@ -4,7 +4,6 @@ use Rattle.std.specs.Option.{option_map}
 use Rattle.rst_transform_names.specs.declared.names.NameEntry.{NameEntry}
 use Rattle.rst_transform_names.specs.declared.names.Holder.{Holder}
 use Rattle.rst_transform_names.specs.declared.names.Holder.TheVariants.{Nobody}
-use Rattle.rst_transform_names.specs.declared.names.Names.{Names}
 use Rattle.rst_transform_names.specs.Names.{held_by}
 use Rattle.rst_tree.specs.declared.key.Key.TheVariants.{Refname}
 use Rattle.rst_tree.specs.declared.node.Node.{Node}
@@ -63,11 +62,11 @@ element_at linked None = None
 element_at linked (Some place) = option_map (λ one. one.0) (slice_get linked place)
 
 -- what is asked of the places of holders, of linked elements and of names, by what these are looked up in
-abbrev pub looked_up : {A : Type 0} → ((Holder → Option ℕ) → List Held → Names → A) → Lookup → A
-looked_up asked lookup = asked (place_at lookup.holders.places.items) (map held lookup.linked.now) lookup.names.now
+abbrev pub looked_up : {A : Type 0} → ((Holder → Option ℕ) → List Held → (List ℕ → Option NameEntry) → A) → Lookup → A
+looked_up asked lookup = asked (place_at lookup.holders.now.places.items) (map held lookup.linked.now) (held_by lookup.names.now)
 
--- the places of holders among the linked elements of a document, these, and its names
-module _ (places : Holder → Option ℕ) (linked : List Held) (names : Names) where
+-- the places of holders among the linked elements of a document, and these
+module _ (places : Holder → Option ℕ) (linked : List Held) where
   -- What a name means that some element was written with. A reference to footnotes and citations means nothing else.
   abbrev pub held_meaning : Bool → NameEntry → Meaning
   held_meaning needs_referent held =
@@ -82,10 +81,6 @@ module _ (places : Holder → Option ℕ) (linked : List Held) (names : Names) w
   known_meaning needs_referent None = Unknown
   known_meaning needs_referent (Some held) = held_meaning needs_referent held
 
-  abbrev pub meaning_of : Node → Option (List ℕ) → Option Meaning
-  meaning_of node None = None
-  meaning_of node (Some name) = Some (known_meaning (refers_to_footnote_or_citation node) (held_by names name))
-
-  -- what its name means to a reference by name
-  abbrev pub meaning_to : Node → Option Meaning
-  meaning_to node = meaning_of node (reference_name node)
+  -- what its name means to a reference by name, by what is known of names
+  abbrev pub meaning_to : (List ℕ → Option NameEntry) → Node → Option Meaning
+  meaning_to names node = option_map (λ name. known_meaning (refers_to_footnote_or_citation node) (names name)) (reference_name node)

@@ -1,7 +1,6 @@
 -- References by name (Markup Specification, 'Hyperlink References'): each leads where its name leads, or else fails.
 use Rattle.std.specs.Prelude.{ℕ, ◌&&◌, ◌||◌, Bool, true, false, List, [], ◌∷◌, ◌++◌, codes, length, if◌then◌else◌, is_some, slice_get, unwrap_or, Option, Some, None}
 use Rattle.rst_transform_names.specs.declared.names.Holder.{Holder}
-use Rattle.rst_transform_names.specs.declared.names.Names.{Names}
 use Rattle.rst_tree.specs.declared.key.Key.TheVariants.{Auto, Refname}
 use Rattle.rst_tree.specs.declared.node.Node.{Node}
 use Rattle.rst_tree.specs.declared.node.Node.TheVariants.{Element, Text}
@@ -13,12 +12,14 @@ use Rattle.rst_transform_links.specs.declared.links.Outcome.{Outcome}
 use Rattle.rst_transform_links.specs.declared.links.Outcome.TheVariants.{Stays, Fails}
 use Rattle.rst_transform_references.specs.declared.meanings.Meaning.{Meaning}
 use Rattle.rst_transform_references.specs.declared.meanings.Meaning.TheVariants.{Leads, Unknown, Duplicate}
-use Rattle.rst_transform_work.specs.declared.report.Report.{Report}
+use Rattle.rst_transform_work.specs.Known.{Known}
+use Rattle.rst_transform_links.specs.Holders.{holder_place}
 use Rattle.rst_transform_links.specs.Linkings.{Held}
+use Rattle.rst_transform_references.specs.Backrefs.{referents_of, with_backrefs}
 use Rattle.rst_transform_references.specs.Meanings.{element_at, meaning_to, refers_to_footnote_or_citation}
 use Rattle.rst_transform_links.specs.Outcomes.{adds, fails}
 use Rattle.rst_transform_work.specs.Reading.{line_of, text_said}
-use Rattle.rst_transform_work.specs.Reports.{next_report}
+use Rattle.rst_transform_work.specs.Reports.{reported}
 
 abbrev pub first_text : List Node → Option (List ℕ)
 first_text [] = None
@@ -52,49 +53,43 @@ duplicate name = codes "Duplicate target name, cannot be used as a unique refere
 abbrev pub name_of : Node → List ℕ
 name_of node = unwrap_or (text_said Refname node) []
 
--- what becomes of a reference whose name means something, behind so many reports
-abbrev pub outcome_of : List Held → ℕ → Node → Meaning → Outcome
-outcome_of linked reports node (Leads attr place) = Stays (record { attr = Some attr; shown = shown_for linked node place })
-outcome_of linked reports node Unknown = Fails reports
-outcome_of linked reports node Duplicate = Fails reports
+-- a reference fails for an ERROR of its own, which the last section shows
+abbrev pub failing : Node → List ℕ → Known → Outcome × Known
+failing node text known = (Fails (length known.reports), reported Error (line_of node) text true known)
 
--- one more ERROR on a reference, which stands in the last section
-abbrev pub with_error : ℕ → List Report → Node → List ℕ → List Report
-with_error first reports node text = reports ++ next_report first reports Error (line_of node) text true ∷ []
+-- what becomes of a reference whose name means something
+abbrev pub outcome_of : List Held → Node → Meaning → Known → Outcome × Known
+outcome_of linked node (Leads attr place) known = (Stays (record { attr = Some attr; shown = shown_for linked node place }), known)
+outcome_of linked node Unknown known = failing node (unknown (name_of node)) known
+outcome_of linked node Duplicate known = failing node (duplicate (name_of node)) known
 
--- the reports with the ERROR on a reference, if its name means nothing
-abbrev pub reports_with : ℕ → List Report → Node → Meaning → List Report
-reports_with first reports node (Leads attr place) = reports
-reports_with first reports node Unknown = with_error first reports node (unknown (name_of node))
-reports_with first reports node Duplicate = with_error first reports node (duplicate (name_of node))
+-- what becomes of an element that may be gone with the one that it is inside
+abbrev pub outcome_unless : Bool → List Held → Node → Option Meaning → Known → Outcome × Known
+outcome_unless false linked node (Some meaning) known = outcome_of linked node meaning known
+outcome_unless _ linked node _ known = (adds None, known)
 
--- what becomes of an element that may be gone with the one that it stands in
-abbrev pub what_becomes : List Held → Bool → ℕ → Node → Option Meaning → Outcome
-what_becomes linked false reports node (Some meaning) = outcome_of linked reports node meaning
-what_becomes linked false reports node None = adds None
-what_becomes linked true reports node meaning = adds None
-
-abbrev pub reports_behind : Bool → ℕ → List Report → Node → Option Meaning → List Report
-reports_behind false first reports node (Some meaning) = reports_with first reports node meaning
-reports_behind false first reports node None = reports
-reports_behind true first reports node meaning = reports
-
--- an element is gone if the one that it stands in is gone or fails, as is known of the elements before it
+-- an element is gone if the one that it is inside is gone or fails, as is known of the elements before it
 abbrev pub is_gone : List Bool → Option ℕ → Bool
 is_gone ended None = false
 is_gone ended (Some outer) = unwrap_or (slice_get ended outer) false
 
--- What becomes of some elements in preorder, and the reports behind them; of each element before them it is known whether it is gone
--- or fails. The messages count on from a first number.
-module _ (places : Holder → Option ℕ) (linked : List Held) (names : Names) (first : ℕ) where
-  abbrev pub resolved_from : List Bool → List Report → List Held → List Outcome × List Report
-  resolved_from ended reports [] = ([], reports)
-  resolved_from ended reports (one ∷ more) =
-      let meaning : Option Meaning = meaning_to places linked names one.0 in
-      let gone : Bool = is_gone ended one.1 in
-      let outcome : Outcome = what_becomes linked gone (length reports) one.0 meaning in
-      let rest : List Outcome × List Report = resolved_from (ended ++ (gone || fails outcome) ∷ []) (reports_behind gone first reports one.0 meaning) more in
-      (outcome ∷ rest.0, rest.1)
+-- the places of holders among the linked elements of a document, and these
+module _ (places : Holder → Option ℕ) (linked : List Held) where
+  abbrev pub what_becomes : Bool → Node → Known → Outcome × Known
+  what_becomes gone node known = outcome_unless gone linked node (meaning_to places linked known.names node) known
 
-  abbrev pub resolved : List Report → List Outcome × List Report
-  resolved reports = resolved_from [] reports linked
+  -- the same of some elements in preorder; of each element before them it is known whether it is gone or fails
+  abbrev pub resolved_from : List Bool → List Held → Known → List Outcome × Known
+  resolved_from ended [] known = ([], known)
+  resolved_from ended (one ∷ more) known =
+      let gone : Bool = is_gone ended one.1 in
+      let own : Outcome × Known = what_becomes gone one.0 known in
+      let rest : List Outcome × Known = resolved_from (ended ++ (gone || fails own.0) ∷ []) more own.1 in
+      (own.0 ∷ rest.0, rest.1)
+
+-- What becomes of linked elements. In the end each footnote and citation lists the references to it; the names are as before.
+abbrev pub reference_outcomes : List Held → Known → List Outcome × Known
+reference_outcomes linked known =
+    let places : Holder → Option ℕ = holder_place known.serials linked in
+    let done : List Outcome × Known = resolved_from places linked [] linked known in
+    (with_backrefs (referents_of places linked done.1.names) linked done.0, done.1)

@@ -3,11 +3,14 @@ ghost use Rattle.std.specs.Prelude.{◌≡◌, [], map, replicate};
 ghost use Rattle.std.specs.List.{list_any};
 ghost use Rattle.rst_tree.specs.Faults.{Gives};
 ghost use Rattle.rst_transform_references.specs.Backrefs.{reference_ids, referent_meant, referent_of, referents_of, referred_to, with_backref_lists, with_backrefs, with_reference};
+ghost use Rattle.rst_transform_links.specs.Holders.{place_at};
 ghost use Rattle.rst_transform_links.specs.Linkings.{held};
+ghost use Rattle.rst_transform_names.specs.Names.{held_by};
 ghost use Rattle.rst_transform_references.specs.Meanings.{looked_up, refers_to_footnote_or_citation};
 
 use crate::meanings::{Lookup, Meaning, refers_to_footnote_or_citation};
-use rst_transform_links::{Linked, Outcome, found_by_order};
+use rst_transform_links::{Holders, Linked, Outcome, found_by_order};
+use rst_transform_names::Names;
 use rst_transform_work::{at_place, first_said};
 use rst_tree::{Entry, Key, Node, Text, Texts, TreeFault, Value};
 use std::alloc::Global;
@@ -25,7 +28,7 @@ fn referent_meant(meaning: Option<Meaning>, found: Option<usize>) -> Option<usiz
 /// The place of the footnote or citation that an element refers to, by its name or by the order.
 fn referent_of(
     alloc: Global,
-    lookup: &Lookup<'_>,
+    lookup: &Lookup<'_, '_>,
     element: &Node,
     found: Option<usize>,
 ) -> Result<Option<usize>, TreeFault>
@@ -39,7 +42,7 @@ fn referent_of(
 }
 
 /// For each linked element the place of the footnote or citation that it refers to.
-fn referents_of(alloc: Global, lookup: &Lookup<'_>) -> Result<Vec<Option<usize>>, TreeFault>
+fn referents_of(alloc: Global, lookup: &Lookup<'_, '_>) -> Result<Vec<Option<usize>>, TreeFault>
     ensures { Gives (λ referents. referents.items ≡ looked_up referents_of lookup.now) result }
 {
     let linked = lookup.linked;
@@ -63,7 +66,7 @@ fn no_ids(alloc: Global, count: usize) -> Result<Vec<Texts>, TreeFault>
     Ok(lists)
 }
 
-/// Puts the id of a reference behind those of the footnote or citation that it refers to, if there is one.
+/// Adds the id of a reference to those of the footnote or citation that it refers to, if there is one.
 #[tactic(auto, using(crate::proofs::Referring::refers_to_none, crate::proofs::Referring::refers_without_id, crate::proofs::Referring::refers_past, crate::proofs::Referring::refers_within))]
 fn add_reference(
     alloc: Global,
@@ -143,19 +146,26 @@ fn any_refers_to_footnote_or_citation(linked: &[Linked<'_>]) -> bool
     false
 }
 
-/// What becomes of the linked elements, where each footnote and citation tells the ids of the references to it, in order.
-pub fn with_backrefs(
+/// What becomes of the linked elements, where each footnote and citation lists the ids of the references to it, in order.
+pub fn with_backrefs<'l>(
     alloc: Global,
-    lookup: &Lookup<'_>,
+    linked: &'l [Linked<'l>],
+    names: &'l Names,
+    holders: &'l Holders,
     outcomes: Vec<Outcome>,
 ) -> Result<Vec<Outcome>, TreeFault>
-    ensures { let referents = looked_up referents_of lookup.now in Gives (λ changed. changed.items ≡ with_backrefs referents (map held lookup.now.linked.now) outcomes.items) result }
+    ensures { let all = map held linked.now in Gives (λ changed. changed.items ≡ with_backrefs (referents_of (place_at holders.now.places.items) all (held_by names.now)) all outcomes.items) result }
 {
-    if !any_refers_to_footnote_or_citation(lookup.linked) {
+    if !any_refers_to_footnote_or_citation(linked) {
         return Ok(outcomes);
     }
-    let referents = referents_of(alloc, lookup)?;
-    let lists = reference_ids(alloc, lookup.linked, referents.as_slice(), outcomes.len())?;
+    let lookup = Lookup {
+        linked,
+        names,
+        holders,
+    };
+    let referents = referents_of(alloc, &lookup)?;
+    let lists = reference_ids(alloc, linked, referents.as_slice(), outcomes.len())?;
     let changed = with_backref_lists(alloc, lists, outcomes)?;
     Ok(changed)
 }

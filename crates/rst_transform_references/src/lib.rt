@@ -2,7 +2,6 @@
 #![tactic(auto)]
 
 mod backrefs;
-pub mod laws;
 mod meanings;
 pub mod resolve;
 pub mod rows;

@@ -27,10 +27,10 @@ pub enum Meaning {
 
 /// What the names of a document are looked up in.
 #[derive(Drop)]
-pub struct Lookup<'a> {
-    pub linked: &'a [Linked<'a>],
-    pub names: &'a Names,
-    pub holders: Holders,
+pub struct Lookup<'l, 'n> {
+    pub linked: &'l [Linked<'l>],
+    pub names: &'n Names,
+    pub holders: &'l Holders,
 }
 
 /// Whether a node is a footnote or a citation.
@@ -99,7 +99,7 @@ pub fn element_at<'a>(linked: &[Linked<'a>], place: Option<usize>) -> Option<&'a
     Some(one.element)
 }
 
-impl<'a> Lookup<'a> {
+impl<'l, 'n> Lookup<'l, 'n> {
     /// What its name means to a reference by name; there is nothing for another element.
     pub fn meaning_to(&self, alloc: Global, element: &Node) -> Result<Option<Meaning>, TreeFault>
         ensures { Gives (λ meaning. meaning ≡ looked_up meaning_to self.now element.now) result }
@@ -122,7 +122,7 @@ impl<'a> Lookup<'a> {
         needs_referent: bool,
         known: &NameEntry,
     ) -> Result<Meaning, TreeFault>
-        ensures { Gives (λ meaning. meaning ≡ looked_up held_meaning self.now needs_referent known.now) result }
+        ensures { Gives (λ meaning. meaning ≡ looked_up (λ places linked names. held_meaning places linked) self.now needs_referent known.now) result }
     {
         if is_nobody(known.holder) {
             return Ok(Meaning::Duplicate);

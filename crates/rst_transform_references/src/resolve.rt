@@ -1,24 +1,20 @@
 //! References by name.
-ghost use Rattle.std.specs.Prelude.{◌≡◌, ◌||◌, false, length, map};
+ghost use Rattle.std.specs.Prelude.{◌≡◌, ◌||◌, [], map};
 ghost use Rattle.rst_tree.specs.Faults.{Gives};
-ghost use Rattle.rst_tree_index.specs.Kinds.{kinds_of, HasNoNewLinkKinds};
-ghost use Rattle.rst_transform_links.specs.declared.links.Outcome.TheVariants.{Fails};
+ghost use Rattle.rst_transform_work.specs.Known.{Makes};
+ghost use Rattle.rst_transform_links.specs.Holders.{place_at};
 ghost use Rattle.rst_transform_links.specs.Linkings.{held};
-ghost use Rattle.rst_transform_references.specs.Meanings.{looked_up, meaning_to};
+ghost use Rattle.rst_transform_links.specs.LinkTransforms.{link_changes};
 ghost use Rattle.rst_transform_links.specs.Outcomes.{fails};
-ghost use Rattle.rst_transform_work.specs.Reports.{KeepsRest};
-ghost use Rattle.rst_transform_work.specs.States.{elements_of, state};
-ghost use Rattle.rst_transform_references.specs.Resolved.{outcomes_among, resolved_among, IsResolved};
-ghost use Rattle.rst_transform_references.specs.Resolving.{duplicate, is_gone, label_of, name_of, outcome_of, reports_behind, reports_with, resolved, shown_for, shows_label, unknown, what_becomes, with_error};
+ghost use Rattle.rst_transform_references.specs.Resolving as spec;
+ghost use Rattle.rst_transform_references.specs.Resolving.{duplicate, is_gone, label_of, name_of, resolved_from, shown_for, shows_label, unknown};
 
 use crate::backrefs::with_backrefs;
 use crate::meanings::{Lookup, Meaning, element_at, refers_to_footnote_or_citation};
-use rst_transform_links::{Addition, Holders, LinkTransform, Linked, Outcome, change_links};
-use rst_transform_names::Names;
-use rst_transform_work::{Context, Document, has, line_of, text_said};
+use rst_transform_links::{Addition, Changes, Holders, LinkTransform, Linked, Outcome, changes_by};
+use rst_transform_work::{Context, has, line_of, text_said};
 use rst_tree::{Key, Level, Node, Text, TreeFault};
 use std::alloc::Global;
-use std::mem;
 
 /// Lets each reference by name refer to what the name means, and each footnote and citation tell its references (Markup
 /// Specification, 'Hyperlink References').
@@ -52,62 +48,36 @@ use std::mem;
 /// ```
 ///
 /// A name that means nothing gives an ERROR, and the reference becomes a problematic; the references inside it are gone, and
-/// give no message. `has` says whether the document may have an element at an end of a link; without one it stays as it is.
+/// give no message.
 pub fn resolve(
     alloc: Global,
-    document: Document,
     context: &mut Context,
-    has: bool,
-) -> Result<Document, TreeFault>
-    requires has { has ≡ false → (kinds_of (elements_of document)).links ≡ false }
-    ensures resolved { Gives (λ after. IsResolved (state document context.old) (state after context.new)) result }
-    ensures kinds { Gives (λ after. HasNoNewLinkKinds (elements_of document) (elements_of after)) result }
+    linked: &[Linked<'_>],
+) -> Result<Changes, TreeFault>
+    ensures { Gives (Makes (link_changes spec.reference_outcomes (map held linked.now)) context.old context.new) result }
 {
-    let document = change_links::<Resolving>(alloc, document, context, has)?;
-    Ok(document)
+    let changes = changes_by::<Resolving>(alloc, context, linked)?;
+    Ok(changes)
 }
 
 /// The transform of links that resolves references by name.
 struct Resolving;
 
 impl LinkTransform for Resolving {
-    ghost use Rattle.rst_transform_references.specs.Resolved.{DecidesReferences};
+    ghost use Rattle.rst_transform_references.specs.Resolving.{reference_outcomes};
 
-    ghost decides = { DecidesReferences };
+    ghost decides = { reference_outcomes };
 
     fn outcomes(
         alloc: Global,
         context: &mut Context,
         linked: &[Linked<'_>],
     ) -> Result<Vec<Outcome>, TreeFault> {
-        let names = mem::replace(&mut context.names, Names::new(alloc));
-        let outcomes = looked_up(alloc, context, &names, linked)?;
-        context.names = names;
+        let holders = Holders::of(alloc, linked, context.serials)?;
+        let outcomes = resolved(alloc, context, &*linked, &holders)?;
+        let outcomes = with_backrefs(alloc, &*linked, &context.names, &holders, outcomes)?;
         Ok(outcomes)
     }
-}
-
-/// What becomes of linked elements, by names that were taken out of what is known: the messages of those that fail are made, and each footnote
-/// and citation tells the references to it.
-fn looked_up<'a>(
-    alloc: Global,
-    context: &mut Context,
-    names: &'a Names,
-    linked: &'a [Linked<'a>],
-) -> Result<Vec<Outcome>, TreeFault>
-    ensures outcomes { Gives (λ outcomes. outcomes.items ≡ outcomes_among (map held linked.now) (record context.old { names = names.now })) result }
-    ensures reports { Gives (λ _. context.new.reports.items ≡ (resolved_among (map held linked.now) (record context.old { names = names.now })).1) result }
-    ensures rest { Gives (λ _. KeepsRest context.old context.new) result }
-{
-    let holders = Holders::of(alloc, linked, context.serials)?;
-    let lookup = Lookup {
-        linked,
-        names,
-        holders,
-    };
-    let outcomes = resolved(alloc, context, &lookup)?;
-    let outcomes = with_backrefs(alloc, &lookup, outcomes)?;
-    Ok(outcomes)
 }
 
 /// The label that a footnote or a citation shows.
@@ -175,15 +145,14 @@ fn name_of(reference: &Node) -> &str
 }
 
 /// A reference that fails for an ERROR of its own.
+#[tactic(auto, using(crate::proofs::Resolves::fails_for))]
 fn failing(
     alloc: Global,
     context: &mut Context,
     reference: &Node,
     text: Text,
 ) -> Result<Outcome, TreeFault>
-    ensures outcome { Gives (λ outcome. outcome ≡ Fails (length context.old.reports.items)) result }
-    ensures reports { Gives (λ _. context.new.reports.items ≡ with_error context.old.first_number context.old.reports.items reference.now text) result }
-    ensures rest { Gives (λ _. KeepsRest context.old context.new) result }
+    ensures { Gives (Makes (spec.failing reference.now text) context.old context.new) result }
 {
     let line = line_of(reference);
     let report = context.report(alloc, Level::Error, line, text, true)?;
@@ -198,9 +167,7 @@ fn outcome_of(
     reference: &Node,
     meaning: Meaning,
 ) -> Result<Outcome, TreeFault>
-    ensures outcome { Gives (λ outcome. outcome ≡ outcome_of (map held linked.now) (length context.old.reports.items) reference.now meaning) result }
-    ensures reports { Gives (λ _. context.new.reports.items ≡ reports_with context.old.first_number context.old.reports.items reference.now meaning) result }
-    ensures rest { Gives (λ _. KeepsRest context.old context.new) result }
+    ensures { Gives (Makes (spec.outcome_of (map held linked.now) reference.now meaning) context.old context.new) result }
 {
     match meaning {
         Meaning::Leads { attr, referent } => {
@@ -219,7 +186,7 @@ fn outcome_of(
     }
 }
 
-/// Whether an element is gone: the one that it stands in is gone or fails.
+/// Whether an element is gone: the one that it is inside is gone or fails.
 fn is_gone(ended: &[bool], outer: Option<usize>) -> bool
     ensures { result ≡ is_gone ended.now outer }
 {
@@ -230,24 +197,29 @@ fn is_gone(ended: &[bool], outer: Option<usize>) -> bool
 }
 
 /// What becomes of an element that may be gone.
-fn what_becomes(
+fn what_becomes<'l>(
     alloc: Global,
     context: &mut Context,
-    lookup: &Lookup<'_>,
+    linked: &'l [Linked<'l>],
+    holders: &'l Holders,
     element: &Node,
     gone: bool,
 ) -> Result<Outcome, TreeFault>
-    ensures outcome { let meaning = looked_up meaning_to lookup.now element.now in Gives (λ outcome. outcome ≡ what_becomes (map held lookup.now.linked.now) gone (length context.old.reports.items) element.now meaning) result }
-    ensures reports { let meaning = looked_up meaning_to lookup.now element.now in Gives (λ _. context.new.reports.items ≡ reports_behind gone context.old.first_number context.old.reports.items element.now meaning) result }
-    ensures rest { Gives (λ _. KeepsRest context.old context.new) result }
+    ensures { Gives (Makes (spec.what_becomes (place_at holders.now.places.items) (map held linked.now) gone element.now) context.old context.new) result }
 {
     if gone {
         return Ok(Outcome::same());
     }
+    let lookup = Lookup {
+        linked,
+        names: &context.names,
+        holders,
+    };
     let Some(meaning) = lookup.meaning_to(alloc, element)? else {
         return Ok(Outcome::same());
     };
-    outcome_of(alloc, context, lookup.linked, element, meaning)
+    let outcome = outcome_of(alloc, context, linked, element, meaning)?;
+    Ok(outcome)
 }
 
 /// Whether an element that may be gone, and of which this becomes, is gone or fails.
@@ -258,21 +230,19 @@ fn ends(gone: bool, outcome: &Outcome) -> bool
 }
 
 /// What becomes of all linked elements, where the messages of those that fail are made.
-fn resolved(
+fn resolved<'l>(
     alloc: Global,
     context: &mut Context,
-    lookup: &Lookup<'_>,
+    linked: &'l [Linked<'l>],
+    holders: &'l Holders,
 ) -> Result<Vec<Outcome>, TreeFault>
-    ensures outcomes { let all = looked_up resolved lookup.now context.old.first_number context.old.reports.items in Gives (λ outcomes. outcomes.items ≡ all.0) result }
-    ensures reports { let all = looked_up resolved lookup.now context.old.first_number context.old.reports.items in Gives (λ _. context.new.reports.items ≡ all.1) result }
-    ensures rest { Gives (λ _. KeepsRest context.old context.new) result }
+    ensures { let all = map held linked.now in Gives (λ outcomes. Makes (resolved_from (place_at holders.now.places.items) all [] all) context.old context.new outcomes.items) result }
 {
-    let linked = lookup.linked;
     let mut outcomes = Vec::with_capacity(alloc, linked.len())?;
     let mut ended: Vec<bool> = Vec::with_capacity(alloc, linked.len())?;
     for one in linked {
         let gone = is_gone(ended.as_slice(), one.outer);
-        let outcome = what_becomes(alloc, context, lookup, one.element, gone)?;
+        let outcome = what_becomes(alloc, context, linked, holders, one.element, gone)?;
         ended.push(ends(gone, &outcome))?;
         outcomes.push(outcome)?;
     }

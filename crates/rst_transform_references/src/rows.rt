@@ -1,23 +1,27 @@
 //! Worked examples of references by name and of what footnotes and citations tell of them, as theorems on the definitions alone.
 #![tactic(auto, unfolding(crate::proofs::Computing::rst_transform_references))]
 
-ghost use Rattle.std.specs.Prelude.{◌≡◌, true, false, Some, None, codes, [], ◌∷◌, map};
-ghost use Rattle.rst_tree.specs.declared.key.Key.TheVariants.{Auto, Backrefs, Ids, Refid, Refname, Refuri};
+ghost use Rattle.std.specs.Prelude.{◌≡◌, true, false, Some, None, codes, [], ◌∷◌, if◌then◌else◌, length, map};
+ghost use Rattle.std.specs.Str.{bytes_eq};
+ghost use Rattle.rst_tree.specs.declared.key.Key.TheVariants.{Auto, Backrefs, Ids, Rawsource, Refid, Refname, Refuri, Serial};
 ghost use Rattle.rst_tree.specs.declared.node.Node.TheVariants.{Element};
 ghost use Rattle.rst_tree.specs.declared.tag.Tag.TheVariants.{Citation, CitationReference, Footnote, FootnoteReference, Image, Label, Paragraph, Reference, Target};
 ghost use Rattle.rst_tree.specs.Forest.{bare};
 ghost use Rattle.rst_transform_names.specs.declared.names.Holder.TheVariants.{Element as By, Nobody, Unregistered};
-ghost use Rattle.rst_transform_names.specs.declared.names.Names.{Names};
 ghost use Rattle.rst_transform_names.specs.declared.names.Strength.TheVariants.{Explicit};
-ghost use Rattle.rst_transform_names.specs.Trees.{element, lists, says, text};
-ghost use Rattle.rst_transform_work.specs.Written.{document_of};
+ghost use Rattle.rst_transform_names.specs.Trees.{counts, element, lists, says, text};
+ghost use Rattle.rst_transform_work.specs.declared.document.Document.{Document};
+ghost use Rattle.rst_transform_work.specs.Known.{Known};
+ghost use Rattle.rst_transform_work.specs.Written.{document_of, Shows};
 ghost use Rattle.rst_transform_links.specs.Linkings.{linked_of};
+ghost use Rattle.rst_transform_links.specs.Links.{changed_document};
+ghost use Rattle.rst_transform_links.specs.LinkTransforms.{link_changes};
 ghost use Rattle.rst_transform_links.specs.Outcomes.{adds};
 ghost use Rattle.rst_transform_links.specs.declared.links.Outcome.TheVariants.{Stays, Fails};
 ghost use Rattle.rst_transform_references.specs.declared.meanings.Meaning.TheVariants.{Leads, Unknown, Duplicate};
 ghost use Rattle.rst_transform_references.specs.Backrefs.{referent_meant, with_backrefs};
 ghost use Rattle.rst_transform_references.specs.Meanings.{known_meaning, reference_name};
-ghost use Rattle.rst_transform_references.specs.Resolving.{outcome_of, reports_with, what_becomes};
+ghost use Rattle.rst_transform_references.specs.Resolving.{outcome_of, outcome_unless, reference_outcomes};
 
 /// References that have a name (Markup Specification, 'Hyperlink References').
 pub fn names()
@@ -29,46 +33,93 @@ pub fn names()
 /// What a name means, by what is known of it: `true` to a reference to a footnote or a citation, `false` to any other (Markup Specification,
 /// 'Hyperlink References') (Markup Specification, 'Hyperlink References').
 pub fn meanings()
-    ensures not_known { (names : Names) → known_meaning (λ holder. None) [] names false None ≡ Unknown }
-    ensures lost { (names : Names) → known_meaning (λ holder. None) [] names true (Some
+    ensures not_known { known_meaning (λ holder. None) [] false None ≡ Unknown }
+    ensures lost { known_meaning (λ holder. None) [] true (Some
         (record { holder = Nobody; strength = Explicit; id = codes "a"; uri = None }))
         ≡ Duplicate }
-    ensures of_a_target { (names : Names) → known_meaning (λ holder. Some 0) (linked_of (document_of (element Target (says Refuri "u" ∷ []) []
-        ∷ []))) names false (Some (record { holder = By 0; strength = Explicit; id = codes "a"; uri = None }))
+    ensures of_a_target { known_meaning (λ holder. Some 0) (linked_of (document_of (element Target (says Refuri "u" ∷ []) []
+        ∷ []))) false (Some (record { holder = By 0; strength = Explicit; id = codes "a"; uri = None }))
         ≡ Leads (says Refuri "u") None }
-    ensures of_a_paragraph { (names : Names) → known_meaning (λ holder. None) [] names false (Some
+    ensures of_a_paragraph { known_meaning (λ holder. None) [] false (Some
         (record { holder = Unregistered; strength = Explicit; id = codes "a"; uri = None }))
         ≡ Leads (says Refid "a") None }
-    ensures of_a_citation { (names : Names) → known_meaning (λ holder. Some 0) (linked_of (document_of (element Citation [] []
-        ∷ []))) names true (Some (record { holder = By 0; strength = Explicit; id = codes "a"; uri = None }))
+    ensures of_a_citation { known_meaning (λ holder. Some 0) (linked_of (document_of (element Citation [] []
+        ∷ []))) true (Some (record { holder = By 0; strength = Explicit; id = codes "a"; uri = None }))
         ≡ Leads (says Refid "a") (Some 0) }
-    ensures no_footnote { (names : Names) → known_meaning (λ holder. Some 0) (linked_of (document_of (element Target (says Refuri "u" ∷ []) []
-        ∷ []))) names true (Some (record { holder = By 0; strength = Explicit; id = codes "a"; uri = None }))
+    ensures no_footnote { known_meaning (λ holder. Some 0) (linked_of (document_of (element Target (says Refuri "u" ∷ []) []
+        ∷ []))) true (Some (record { holder = By 0; strength = Explicit; id = codes "a"; uri = None }))
         ≡ Unknown }
 {}
 
 /// What becomes of a reference, by what its name means (Markup Specification, 'Hyperlink References').
 pub fn outcomes()
-    ensures leads { outcome_of [] 0 (element Reference (says Refname "a" ∷ []) []) (Leads (says Refuri "u") None) ≡ adds (Some (says Refuri "u")) }
-    ensures shows_the_label { outcome_of (linked_of (document_of (element Footnote [] (element Label [] (text "7" ∷ [])
-        ∷ element Paragraph [] (text "x" ∷ []) ∷ []) ∷ []))) 0 (element FootnoteReference (says Auto "1" ∷ says Refname "a"
-        ∷ []) []) (Leads (says Refid "a") (Some 0))
+    ensures leads { (known : Known) → (outcome_of [] (element Reference (says Refname "a" ∷ []) []) (Leads (says Refuri "u") None) known).0
+        ≡ adds (Some (says Refuri "u")) }
+    ensures shows_the_label { (known : Known) → (outcome_of (linked_of (document_of (element Footnote [] (element Label [] (text "7" ∷ [])
+        ∷ element Paragraph [] (text "x" ∷ []) ∷ []) ∷ []))) (element FootnoteReference (says Auto "1" ∷ says Refname "a"
+        ∷ []) []) (Leads (says Refid "a") (Some 0)) known).0
         ≡ Stays (record { attr = Some (says Refid "a"); shown = Some (codes "7") }) }
-    ensures keeps_what_it_shows { outcome_of (linked_of (document_of (element Footnote [] (element Label [] (text "7" ∷ []) ∷ [])
-        ∷ []))) 0 (element FootnoteReference (says Refname "7" ∷ []) []) (Leads (says Refid "a") (Some 0))
+    ensures keeps_what_it_shows { (known : Known) → (outcome_of (linked_of (document_of (element Footnote [] (element Label [] (text "7" ∷ []) ∷ [])
+        ∷ []))) (element FootnoteReference (says Refname "7" ∷ []) []) (Leads (says Refid "a") (Some 0)) known).0
         ≡ adds (Some (says Refid "a")) }
-    ensures fails { outcome_of [] 3 (element Reference (says Refname "a" ∷ []) []) Unknown ≡ Fails 3 }
-    ensures gone { what_becomes [] true 0 (element Reference (says Refname "a" ∷ []) []) (Some Unknown) ≡ adds None }
+    ensures fails { (known : Known) → (outcome_of [] (element Reference (says Refname "a" ∷ []) []) Unknown known).0 ≡ Fails (length known.reports) }
+    ensures gone { (known : Known) → outcome_unless true [] (element Reference (says Refname "a" ∷ []) []) (Some Unknown) known ≡ (adds None, known) }
 {}
 
 /// What the messages on references say, and on which lines (Markup Specification, 'Hyperlink References').
 pub fn messages()
-    ensures unknown { map (λ r. r.text) (reports_with 0 [] (element Reference (says Refname "a b" ∷ []) []) Unknown)
+    ensures unknown { let known : Known = record { ids = []; names = λ _. None; reports = []; first_number = 0; serials = 0 } in
+        map (λ r. r.text) (outcome_of [] (element Reference (says Refname "a b" ∷ []) []) Unknown known).1.reports
         ≡ codes "Unknown target name: \"a b\"." ∷ [] }
-    ensures duplicate { map (λ r. r.text) (reports_with 0 [] (element Reference (says Refname "a" ∷ []) []) Duplicate)
+    ensures duplicate { let known : Known = record { ids = []; names = λ _. None; reports = []; first_number = 0; serials = 0 } in
+        map (λ r. r.text) (outcome_of [] (element Reference (says Refname "a" ∷ []) []) Duplicate known).1.reports
         ≡ codes "Duplicate target name, cannot be used as a unique reference: \"a\"." ∷ [] }
-    ensures line { map (λ r. r.line) (reports_with 0 [] (Element Reference [] bare 9) Unknown) ≡ 9 ∷ [] }
-    ensures in_the_last_section { map (λ r. r.own) (reports_with 0 [] (element Reference [] []) Unknown) ≡ true ∷ [] }
+    ensures line { let known : Known = record { ids = []; names = λ _. None; reports = []; first_number = 0; serials = 0 } in
+        map (λ r. r.line) (outcome_of [] (Element Reference [] bare 9) Unknown known).1.reports ≡ 9 ∷ [] }
+    ensures in_the_last_section { let known : Known = record { ids = []; names = λ _. None; reports = []; first_number = 0; serials = 0 } in
+        map (λ r. r.own) (outcome_of [] (element Reference [] []) Unknown known).1.reports ≡ true ∷ [] }
+{}
+
+/// References by name in a document (Markup Specification, 'Hyperlink References').
+pub fn resolved()
+    ensures by_name { let known : Known = record {
+      ids = [];
+      names = λ name. if bytes_eq name (codes "here") then Some (record {
+        holder = By 0;
+        strength = Explicit;
+        id = codes "here";
+        uri = None;
+      }) else None;
+      reports = [];
+      first_number = 0;
+      serials = 1;
+    } in
+        let document : Document = document_of (element Reference (says Refname "here" ∷ []) (text "here" ∷ [])
+        ∷ element Target (counts Serial 0 ∷ says Refuri "u" ∷ []) [] ∷ []) in
+        Shows (changed_document (link_changes reference_outcomes (linked_of document) known).0 document)
+        ("<document>" ∷ "    <reference refuri=\"u\">" ∷ "        here" ∷ "    <target refuri=\"u\">" ∷ []) }
+    ensures to_a_footnote { let known : Known = record {
+      ids = [];
+      names = λ name. if bytes_eq name (codes "1") then Some (record {
+        holder = By 0;
+        strength = Explicit;
+        id = codes "f1";
+        uri = None;
+      }) else None;
+      reports = [];
+      first_number = 0;
+      serials = 1;
+    } in
+        let document : Document = document_of (element FootnoteReference (lists Ids ("r1" ∷ []) ∷ says Refname "1" ∷ []) (text "1" ∷ [])
+        ∷ element Footnote (lists Ids ("f1" ∷ []) ∷ counts Serial 0 ∷ []) [] ∷ []) in
+        Shows (changed_document (link_changes reference_outcomes (linked_of document) known).0 document)
+        ("<document>" ∷ "    <footnote_reference ids=\"r1\" refid=\"f1\">" ∷ "        1" ∷ "    <footnote backrefs=\"r1\" ids=\"f1\">" ∷ []) }
+    ensures without_meaning { let known : Known = record { ids = []; names = λ _. None; reports = []; first_number = 0; serials = 0 } in
+        let document : Document = document_of (element Reference (says Rawsource "`a`_" ∷ says Refname "a" ∷ []) (text "a" ∷ [])
+        ∷ element Reference (says Refuri "u" ∷ []) (text "u" ∷ []) ∷ []) in
+        Shows (changed_document (link_changes reference_outcomes (linked_of document) known).0 document)
+        ("<document>" ∷ "    <problematic ids=\"problematic-1\" refid=\"system-message-1\">" ∷ "        `a`_"
+        ∷ "    <reference refuri=\"u\">" ∷ "        u" ∷ []) }
 {}
 
 /// What footnotes and citations tell of the references to them (Document Tree, 'Attribute Reference').

@@ -1,210 +1,179 @@
 -- The transitions of a document stay in it, in document order.
-use Rattle.std.proofs.Common.{◌≡◌, ◌∙◌, ℕ, ◌+◌, List, [], ◌∷◌, ◌++◌, length, map, Bool, true, false, cond, refl, ap, sym, append_assoc}
-use Rattle.std.specs.Prelude.{◌&&◌, if◌then◌else◌}
+use Rattle.std.proofs.Common.{◌≡◌, ◌∙◌, ℕ, List, [], ◌∷◌, ◌++◌, Bool, true, false, Option, Some, None, cond, refl, ap, ap₂, sym, append_assoc}
+use Rattle.std.specs.Prelude.{◌&&◌, not, if◌then◌else◌}
 use Rattle.std.proofs.lemmas.List.{append-nil}
 use Rattle.std.proofs.lemmas.List.Elements.{filter-append}
 use Rattle.rst_tree.specs.declared.attrs.Attr.{Attr}
 use Rattle.rst_tree.specs.declared.node.Node.{Node}
 use Rattle.rst_tree.specs.declared.node.Node.TheVariants.{Element, Text}
 use Rattle.rst_tree.specs.declared.tag.Tag.{Tag}
+use Rattle.rst_tree.specs.declared.tag.Tag.TheVariants.{Section}
 use Rattle.rst_tree.specs.Forest.{Forest, bare, element, words}
-use Rattle.rst_tree.specs.Nodes.{forest_of}
-use Rattle.rst_tree.specs.Walk.{Item, item, items}
-use Rattle.rst_transform_work.specs.declared.report.Report.{Report}
-use Rattle.rst_transform_work.specs.declared.document.Document.{Document}
-use Rattle.rst_transform_work.specs.States.{elements_of}
-use Rattle.rst_transform_work.specs.Reports.{report_node}
+use Rattle.rst_tree.specs.Nodes.{forest_of, join_node}
+use Rattle.rst_tree.specs.Walk.{Item, item, items, node_items}
 use Rattle.rst_transform_structure.specs.Law.{KeepsTransitions}
-use Rattle.rst_transform_structure.specs.Transitions.{and_then, at_end, before_next, ending, faults_after, faults_at, faults_before, faults_in, is_last, is_transition, message_nodes, messages, moved, next_number, others, titles, transition, transitions_in, with_messages, with_places, Before}
-use Rattle.rst_transform_structure.proofs.Messages.{element_ending, element_moved, element_noted, ending_messages, noted_last, transition_moved, transition_noted}
+use Rattle.rst_transform_structure.specs.Transitions.{fault_before, is_last, is_section, is_transition, none_yet, placed_in, at_end, put_section, put_transition, transitions_in, with_fault, with_message, with_node, Siblings}
 
 in_both : (xs ys : List Item) → transitions_in (xs ++ ys) ≡ transitions_in xs ++ transitions_in ys
 in_both xs ys = filter-append (λ x. is_transition x.tag) xs ys
 
-items_then : (ns : List Node) (r : Forest) → items (and_then ns r) ≡ items (forest_of ns) ++ items r
-items_then [] r = refl
-items_then (Element t a c l ∷ ns) r =
-    ap (λ xs. item t a l ∷ items c ++ xs) (items_then ns r) ∙ ap (λ xs. item t a l ∷ xs) (sym (append_assoc (items c) (items (forest_of ns)) (items r)))
-items_then (Text t ∷ ns) r = items_then ns r
+-- those of some nodes
+abbrev among : List Node → List Item
+among ns = transitions_in (items (forest_of ns))
 
-in_then : (ns : List Node) (r : Forest) → transitions_in (items (and_then ns r)) ≡ transitions_in (items (forest_of ns)) ++ transitions_in (items r)
-in_then ns r = ap transitions_in (items_then ns r) ∙ in_both (items (forest_of ns)) (items r)
+joined : (n : Node) (r : Forest) → transitions_in (items (join_node n r)) ≡ transitions_in (node_items n) ++ transitions_in (items r)
+joined (Element t a c l) r = in_both (item t a l ∷ items c) (items r)
+joined (Text t) r = refl
 
--- those of an element that is none, and of one and the nodes after it
-own_none : (t : Tag) (a : List Attr) (l : ℕ) (xs : List Item) → is_transition t ≡ false → transitions_in (item t a l ∷ xs) ≡ transitions_in xs
-own_none t a l xs is = ap (λ b. cond b (item t a l ∷ transitions_in xs) (transitions_in xs)) is
+among-append : (ms ns : List Node) → among (ms ++ ns) ≡ among ms ++ among ns
+among-append [] ns = refl
+among-append (m ∷ ms) ns =
+    joined m (forest_of (ms ++ ns)) ∙ ap (λ xs. transitions_in (node_items m) ++ xs) (among-append ms ns)
+    ∙ sym (append_assoc (transitions_in (node_items m)) (among ms) (among ns)) ∙ ap (λ xs. xs ++ among ns) (sym (joined m (forest_of ms)))
 
-in_element : (t : Tag) (a : List Attr) (c : Forest) (l : ℕ) (r : Forest) → is_transition t ≡ false
-    → transitions_in (items (element t a c l r)) ≡ transitions_in (items c) ++ transitions_in (items r)
-in_element t a c l r is = own_none t a l (items c ++ items r) is ∙ in_both (items c) (items r)
+-- those of the nodes that have their places, and the one that moves out
+abbrev all_of : Siblings → List Item
+all_of s = among s.placed ++ among s.moving
 
-in_transition : (t : Tag) (a : List Attr) (c : Forest) (l : ℕ) (r : Forest)
-    → transitions_in (items (element t a c l r)) ≡ transitions_in (item t a l ∷ items c) ++ transitions_in (items r)
-in_transition t a c l r = in_both (item t a l ∷ items c) (items r)
+-- more nodes, and more that move out
+adds : (s u : Siblings) (ps ms : List Node) (more : List Item) → s.moving ≡ [] → u.placed ≡ s.placed ++ ps → u.moving ≡ s.moving ++ ms → among ps ++ among ms ≡ more → all_of u ≡ all_of s ++ more
+adds s u ps ms more none p m is =
+    ap₂ (λ xs ys. among xs ++ among ys) p (m ∙ ap (λ ys. ys ++ ms) none)
+    ∙ ap (λ xs. xs ++ among ms) (among-append s.placed ps)
+    ∙ append_assoc (among s.placed) (among ps) (among ms)
+    ∙ ap₂ (λ xs ys. xs ++ ys) (sym (append-nil (among s.placed)) ∙ ap (λ ys. among s.placed ++ among ys) (sym none)) is
 
--- no message is one
-in_messages : (ms : List Report) → transitions_in (items (forest_of (map report_node ms))) ≡ []
-in_messages [] = refl
-in_messages (m ∷ ms) = in_messages ms
+-- a step adds the transitions of a node, and none moves out unless the node is the last
+record Steps (n : Node) (last ends : Bool) (s u : Siblings) : Type 0 where
+  pub all : all_of u ≡ all_of s ++ transitions_in (node_items n)
+  pub stays : last ≡ false → u.moving ≡ []
+  pub ended : ends ≡ true → u.moving ≡ []
 
-past_messages : (ms : List Report) (r : Forest) → transitions_in (items (and_then (map report_node ms) r)) ≡ transitions_in (items r)
-past_messages ms r = in_then (map report_node ms) r ∙ ap (λ xs. xs ++ transitions_in (items r)) (in_messages ms)
+one : (n : Node) → among (n ∷ []) ≡ transitions_in (node_items n)
+one n = joined n bare ∙ append-nil (transitions_in (node_items n))
 
--- messages take none away
-with_noted : (next : ℕ) (ends : Bool) (b : Before) (c : Forest) → transitions_in (items (with_messages next ends b c)) ≡ transitions_in (items c)
-unfolding with_messages
-with_noted next ends b bare = refl
-with_noted next ends b (words t r) = with_noted next ends others r
-with_noted next ends b (element t a c l r) =
+-- one more node
+node_steps : (n : Node) (last ends : Bool) (s : Siblings) → s.moving ≡ [] → Steps n last ends s (with_node n s)
+node_steps n last ends s none =
+    record {
+      all = adds s (with_node n s) (n ∷ []) [] (transitions_in (node_items n)) none refl (sym (append-nil s.moving)) (append-nil (among (n ∷ [])) ∙ one n);
+      stays = λ h. none;
+      ended = λ h. none;
+    }
+
+-- a message is none
+record Same (s u : Siblings) : Type 0 where
+  pub all : among u.placed ≡ among s.placed
+  pub moving : u.moving ≡ s.moving
+
+message_same : (first line : ℕ) (text : List ℕ) (s : Siblings) → Same s (with_message first line text s)
+unfolding with_message
+message_same first line text s = record { all = among-append s.placed _ ∙ append-nil (among s.placed); moving = refl }
+
+fault_same : (first line : ℕ) (fault : Option (List ℕ)) (s : Siblings) → Same s (with_fault first line fault s)
+unfolding with_fault
+fault_same first line None s = record { all = refl; moving = refl }
+fault_same first line (Some text) s = message_same first line text s
+
+steps_after : (n : Node) (last ends : Bool) (s t u : Siblings) → Same s t → Steps n last ends t u → Steps n last ends s u
+steps_after n last ends s t u h k =
+    record {
+      all = k.all ∙ ap₂ (λ xs ys. (xs ++ among ys) ++ transitions_in (node_items n)) h.all h.moving;
+      stays = k.stays;
+      ended = k.ended;
+    }
+
+steps_before : (n : Node) (last ends : Bool) (s t u : Siblings) → Steps n last ends s t → Same t u → Steps n last ends s u
+steps_before n last ends s t u k h =
+    record {
+      all = ap₂ (λ xs ys. xs ++ among ys) h.all h.moving ∙ k.all;
+      stays = λ e. h.moving ∙ k.stays e;
+      ended = λ e. h.moving ∙ k.ended e;
+    }
+
+transition_steps : (first : ℕ) (last ends : Bool) (n : Node) (line : ℕ) (s : Siblings) → s.moving ≡ [] → Steps n last ends s (put_transition first last ends n line s)
+unfolding put_transition
+transition_steps first last ends n line s none =
+    let noted : Siblings = with_fault first line (fault_before s.placed) s in
+    let h = fault_same first line (fault_before s.placed) s in
+    steps_after n last ends s noted (put_transition first last ends n line s) h (by last ends noted (h.moving ∙ none))
+  where
+    by : (x y : Bool) (t : Siblings) → t.moving ≡ []
+        → Steps n x y t (if x && not y then record t { moving = t.moving ++ n ∷ [] } else (if x then with_message first line at_end (with_node n t) else with_node n t))
+    by true true t still = steps_before n true true t (with_node n t) _ (node_steps n true true t still) (message_same first line at_end (with_node n t))
+    by true false t still =
+        record {
+          all = adds t (record t { moving = t.moving ++ n ∷ [] }) [] (n ∷ []) (transitions_in (node_items n)) still (sym (append-nil t.placed)) refl (one n);
+          stays = λ h. absurd (cc);
+          ended = λ h. absurd (cc);
+        }
+    by false y t still = node_steps n false y t still
+
+section_same : (t : Tag) → is_section t ≡ true → is_transition t ≡ false
+section_same Section is = refl
+section_same _ is = absurd (cc)
+
+-- a section, whose own nodes keep theirs
+section_steps : (last ends : Bool) (t : Tag) (a : List Attr) (c : Forest) (l : ℕ) (inside s : Siblings) → s.moving ≡ [] → is_section t ≡ true → all_of inside ≡ transitions_in (items c)
+    → ((ends && last) ≡ true → inside.moving ≡ []) → Steps (Element t a c l) last ends s (put_section last t a l inside s)
+unfolding put_section
+section_steps last ends t a c l inside s none is kept out =
+    let kind = section_same t is in
+    let m : List Node = if last then [] else inside.moving in
+    let o : List Node = if last then inside.moving else [] in
+    let own : (f : Forest) → transitions_in (node_items (Element t a f l)) ≡ transitions_in (items f) = λ f. ap (λ b. cond b (item t a l ∷ transitions_in (items f)) (transitions_in (items f))) kind in
+    record {
+      all = adds s (put_section last t a l inside s) (Element t a (forest_of inside.placed) l ∷ m) o (transitions_in (node_items (Element t a c l))) none refl refl
+          (ap (λ xs. xs ++ among o) (joined (Element t a (forest_of inside.placed) l) (forest_of m) ∙ ap (λ xs. xs ++ among m) (own (forest_of inside.placed)))
+          ∙ append_assoc (among inside.placed) (among m) (among o) ∙ ap (λ xs. among inside.placed ++ xs) (either last inside.moving) ∙ kept ∙ sym (own c));
+      stays = λ h. ap (λ ys. ys ++ o) none ∙ ap (λ b. if b then inside.moving else []) h;
+      ended = λ h. ap (λ ys. ys ++ o) none ∙ ended last (λ k. out (ap₂ (λ x y. x && y) h k));
+    }
+  where
+    either : (b : Bool) (ns : List Node) → among (if b then [] else ns) ++ among (if b then ns else []) ≡ among ns
+    either true ns = refl
+    either false ns = append-nil (among ns)
+
+    ended : (b : Bool) → (b ≡ true → inside.moving ≡ []) → (if b then inside.moving else []) ≡ []
+    ended true h = h refl
+    ended false h = refl
+
+-- after nodes of which none moves out, or none at all, nodes add their transitions; and none moves out where the document ends
+record All (first : ℕ) (ends : Bool) (s : Siblings) (f : Forest) : Type 0 where
+  pub all : all_of (placed_in first ends s f) ≡ all_of s ++ transitions_in (items f)
+  pub ended : ends ≡ true → (placed_in first ends s f).moving ≡ []
+
+then_all : (first : ℕ) (ends : Bool) (s u : Siblings) (n : Node) (r : Forest) → placed_in first ends s (join_node n r) ≡ placed_in first ends u r → Steps n (is_last r) ends s u → All first ends u r
+    → All first ends s (join_node n r)
+then_all first ends s u n r step k h =
+    record {
+      all = ap all_of step ∙ h.all ∙ ap (λ xs. xs ++ transitions_in (items r)) k.all ∙ append_assoc (all_of s) (transitions_in (node_items n)) (transitions_in (items r))
+          ∙ ap (λ xs. all_of s ++ xs) (sym (joined n r));
+      ended = λ e. ap (λ x. x.moving) step ∙ h.ended e;
+    }
+
+kept : (first : ℕ) (ends : Bool) (s : Siblings) (f : Forest) → (is_last f ≡ false → s.moving ≡ []) → (ends ≡ true → s.moving ≡ []) → All first ends s f
+unfolding placed_in
+kept first ends s bare none out = record { all = sym (append-nil (all_of s)); ended = out }
+kept first ends s (words t r) none out =
+    then_all first ends s (with_node (Text t) s) (Text t) r refl (node_steps (Text t) (is_last r) ends s (none refl)) (kept first ends (with_node (Text t) s) r (λ h. none refl) out)
+kept first ends s (element t a c l r) none out =
+    let n : Node = Element t a c l in
     let z : Bool = ends && is_last r in
-    let first : List (List ℕ) = faults_before b in
-    let last : List (List ℕ) = faults_after z in
-    let n : ℕ = next + length (first ++ last) in
-    let more : Forest = and_then (message_nodes (next + length first) l last) (with_messages n ends transition r) in
-    let d : Before = before_next b t (ending c) in
-    let m : ℕ = next + length (faults_in z titles c) in
-    elim (is_transition t) as (λ x. is_transition t ≡ x → transitions_in (items (with_messages next ends b (element t a c l r))) ≡ transitions_in (items (element t a c l r))) [
-      | true ↦ λ is.
-          ap (λ f. transitions_in (items f)) (transition_noted next ends b t a c l r z is refl)
-          ∙ past_messages (messages next (faults_at l first)) (element t a c l more)
-          ∙ in_transition t a c l more
-          ∙ ap (λ xs. transitions_in (item t a l ∷ items c) ++ xs)
-          (past_messages (messages (next + length first) (faults_at l last)) (with_messages n ends transition r) ∙ with_noted n ends transition r)
-          ∙ sym (in_transition t a c l r)
-      | false ↦ λ is.
-          ap (λ f. transitions_in (items f)) (element_noted next ends b t a c l r z is refl)
-          ∙ in_element t a (with_messages next z titles c) l (with_messages m ends d r) is
-          ∙ ap (λ xs. xs ++ transitions_in (items (with_messages m ends d r))) (with_noted next z titles c)
-          ∙ ap (λ xs. transitions_in (items c) ++ xs) (with_noted m ends d r)
-          ∙ sym (in_element t a c l r is)
+    let inside : Siblings = placed_in first z (none_yet s.reports) c in
+    let within : All first z (none_yet s.reports) c = kept first z (none_yet s.reports) c (λ h. refl) (λ h. refl) in
+    let put : (u : Siblings) → placed_in first ends s (element t a c l r) ≡ placed_in first ends u r → Steps n (is_last r) ends s u → All first ends s (element t a c l r) =
+    λ u step k. then_all first ends s u n r step k (kept first ends u r k.stays k.ended) in
+    elim (is_section t) as (λ x. is_section t ≡ x → All first ends s (element t a c l r)) [
+      | true ↦ λ is. put (put_section (is_last r) t a l inside s) (rw is refl) (section_steps (is_last r) ends t a c l inside s (none refl) is within.all within.ended)
+      | false ↦ λ other. elim (is_transition t) as (λ x. is_transition t ≡ x → All first ends s (element t a c l r)) [
+        | true ↦ λ is. put (put_transition first (is_last r) ends n l s) (rw (other, is) refl) (transition_steps first (is_last r) ends n l s (none refl))
+        | false ↦ λ is. put (with_node n s) (rw (other, is) refl) (node_steps n (is_last r) ends s (none refl))
+      ] refl
     ] refl
-
--- those that moved, and the one that the nodes end with
-abbrev InAll : Forest → Type 0
-InAll f = transitions_in (items (moved f)) ++ transitions_in (items (forest_of (ending f))) ≡ transitions_in (items f)
-
-all_of : (f stays : Forest) (out : List Node) → moved f ≡ stays → ending f ≡ out
-    → transitions_in (items stays) ++ transitions_in (items (forest_of out)) ≡ transitions_in (items f) → InAll f
-all_of f stays out m e h =
-    ap (λ g. transitions_in (items g) ++ transitions_in (items (forest_of (ending f)))) m
-    ∙ ap (λ ns. transitions_in (items stays) ++ transitions_in (items (forest_of ns))) e ∙ h
-
-last_moves : (t : Tag) (a : List Attr) (c : Forest) (l : ℕ) → is_transition t ≡ true → InAll (element t a c l bare)
-last_moves t a c l is =
-    all_of (element t a c l bare) bare (Element t a c l ∷ []) (transition_moved t a c l bare true is refl) (element_ending t a c l bare true true is refl) refl
-
-other_stays : (t : Tag) (a : List Attr) (c : Forest) (l : ℕ) (r : Forest) → is_transition t ≡ true → is_last r ≡ false → InAll r → InAll (element t a c l r)
-other_stays t a c l r is follows more =
-    let own : List Item = transitions_in (item t a l ∷ items c) in
-    all_of (element t a c l r) (element t a c l (moved r)) (ending r) (transition_moved t a c l r false is follows) (element_ending t a c l r true false is follows)
-    (ap (λ xs. xs ++ transitions_in (items (forest_of (ending r)))) (in_transition t a c l (moved r))
-    ∙ append_assoc own (transitions_in (items (moved r))) (transitions_in (items (forest_of (ending r))))
-    ∙ ap (λ xs. own ++ xs) more
-    ∙ sym (in_transition t a c l r))
-
-moved_nothing : moved bare ≡ bare
-unfolding moved
-moved_nothing = refl
-
-out_of_last : (t : Tag) (a : List Attr) (c : Forest) (l : ℕ) → is_transition t ≡ false → InAll c → InAll (element t a c l bare)
-out_of_last t a c l is inside =
-    all_of (element t a c l bare) (element t a (moved c) l bare) (ending c) (element_moved t a c l bare true is refl ∙ ap (element t a (moved c) l) moved_nothing)
-    (element_ending t a c l bare false true is refl)
-    (ap (λ xs. xs ++ transitions_in (items (forest_of (ending c)))) (in_element t a (moved c) l bare is ∙ append-nil (transitions_in (items (moved c))))
-    ∙ inside
-    ∙ sym (in_element t a c l bare is ∙ append-nil (transitions_in (items c))))
-
-four_parts : (m e n o : List Item) → (m ++ (e ++ n)) ++ o ≡ (m ++ e) ++ (n ++ o)
-four_parts m e n o = simp append_assoc
-
-out_of_other : (t : Tag) (a : List Attr) (c : Forest) (l : ℕ) (r : Forest) → is_transition t ≡ false → is_last r ≡ false → InAll c → InAll r → InAll (element t a c l r)
-out_of_other t a c l r is follows inside more =
-    let m : List Item = transitions_in (items (moved c)) in
-    let e : List Item = transitions_in (items (forest_of (ending c))) in
-    let n : List Item = transitions_in (items (moved r)) in
-    let o : List Item = transitions_in (items (forest_of (ending r))) in
-    let after : Forest = and_then (ending c) (moved r) in
-    all_of (element t a c l r) (element t a (moved c) l after) (ending r) (element_moved t a c l r false is follows) (element_ending t a c l r false false is follows)
-    (ap (λ xs. xs ++ o) (in_element t a (moved c) l after is ∙ ap (λ xs. m ++ xs) (in_then (ending c) (moved r)))
-    ∙ four_parts m e n o
-    ∙ ap (λ xs. xs ++ (n ++ o)) inside
-    ∙ ap (λ xs. transitions_in (items c) ++ xs) more
-    ∙ sym (in_element t a c l r is))
-
-by_tag : (t : Tag) (a : List Attr) (c : Forest) (l : ℕ) (r : Forest) → (is_transition t ≡ true → InAll (element t a c l r)) → (is_transition t ≡ false → InAll (element t a c l r)) → InAll (element t a c l r)
-by_tag t a c l r one other = elim (is_transition t) as (λ x. is_transition t ≡ x → InAll (element t a c l r)) [ true ↦ one | false ↦ other ] refl
-
-in_all : (f : Forest) → InAll f
-unfolding moved ending
-in_all bare = refl
-in_all (words t r) = in_all r
-in_all (element t a c l bare) = by_tag t a c l bare (λ is. last_moves t a c l is) (λ is. out_of_last t a c l is (in_all c))
-in_all (element t a c l (element u b d m r)) =
-    by_tag t a c l (element u b d m r) (λ is. other_stays t a c l (element u b d m r) is refl (in_all (element u b d m r)))
-    (λ is. out_of_other t a c l (element u b d m r) is refl (in_all c) (in_all (element u b d m r)))
-in_all (element t a c l (words u r)) =
-    by_tag t a c l (words u r) (λ is. other_stays t a c l (words u r) is refl (in_all (words u r)))
-    (λ is. out_of_other t a c l (words u r) is refl (in_all c) (in_all (words u r)))
-
--- where the document ends, a message follows a transition that it ends with
-end_noted : (next : ℕ) (b : Before) (t : Tag) (a : List Attr) (c : Forest) (l : ℕ) → is_transition t ≡ true → ending (with_messages next true b (element t a c l bare)) ≡ []
-unfolding with_messages ending
-end_noted next b t a c l is =
-    let first : List (List ℕ) = faults_before b in
-    let ms : List Report = messages (next + length first) (faults_at l (at_end ∷ [])) in
-    ap ending (transition_noted next true b t a c l bare true is refl)
-    ∙ ending_messages (messages next (faults_at l first)) (element t a c l (and_then (map report_node ms) bare))
-    ∙ element_ending t a c l (and_then (map report_node ms) bare) true false is refl
-    ∙ ending_messages ms bare
-
-on_noted : (next : ℕ) (b : Before) (t : Tag) (a : List Attr) (c : Forest) (l : ℕ) (r : Forest) → is_transition t ≡ true → is_last r ≡ false
-    → ((n : ℕ) → ending (with_messages n true transition r) ≡ []) → ending (with_messages next true b (element t a c l r)) ≡ []
-on_noted next b t a c l r is follows more =
-    let first : List (List ℕ) = faults_before b in
-    let n : ℕ = next + length (first ++ []) in
-    let noted : Forest = with_messages n true transition r in
-    ap ending (transition_noted next true b t a c l r false is follows)
-    ∙ ending_messages (messages next (faults_at l first)) (element t a c l noted)
-    ∙ element_ending t a c l noted true false is (noted_last n true transition r ∙ follows)
-    ∙ more n
-
-element_end : (next : ℕ) (b : Before) (t : Tag) (a : List Attr) (c : Forest) (l : ℕ) (r : Forest) (last : Bool) → is_transition t ≡ false → is_last r ≡ last
-    → (if last then ending (with_messages next last titles c) else ending (with_messages (next + length (faults_in last titles c)) true (before_next b t (ending c)) r)) ≡ []
-    → ending (with_messages next true b (element t a c l r)) ≡ []
-element_end next b t a c l r last is ended none =
-    let m : ℕ = next + length (faults_in last titles c) in
-    let d : Before = before_next b t (ending c) in
-    ap ending (element_noted next true b t a c l r last is ended)
-    ∙ element_ending t a (with_messages next last titles c) l (with_messages m true d r) false last is (noted_last m true d r ∙ ended)
-    ∙ none
-
-none_out : (next : ℕ) (b : Before) (c : Forest) → ending (with_messages next true b c) ≡ []
-unfolding with_messages ending
-none_out next b bare = refl
-none_out next b (words t r) = none_out next others r
-none_out next b (element t a c l bare) =
-    elim (is_transition t) as (λ x. is_transition t ≡ x → ending (with_messages next true b (element t a c l bare)) ≡ []) [
-      | true ↦ λ is. end_noted next b t a c l is
-      | false ↦ λ is. element_end next b t a c l bare true is refl (none_out next titles c)
-    ] refl
-none_out next b (element t a c l (element u h d m r)) =
-    elim (is_transition t) as (λ x. is_transition t ≡ x → ending (with_messages next true b (element t a c l (element u h d m r))) ≡ []) [
-      | true ↦ λ is. on_noted next b t a c l (element u h d m r) is refl (λ n. none_out n transition (element u h d m r))
-      | false ↦ λ is. element_end next b t a c l (element u h d m r) false is refl (none_out (next + length (faults_in false titles c)) (before_next b t (ending c)) (element u h d m r))
-    ] refl
-none_out next b (element t a c l (words u r)) =
-    elim (is_transition t) as (λ x. is_transition t ≡ x → ending (with_messages next true b (element t a c l (words u r))) ≡ []) [
-      | true ↦ λ is. on_noted next b t a c l (words u r) is refl (λ n. none_out n transition (words u r))
-      | false ↦ λ is. element_end next b t a c l (words u r) false is refl (none_out (next + length (faults_in false titles c)) (before_next b t (ending c)) (words u r))
-    ] refl
-
-none_lost : (first : ℕ) (reports : List Report) (d : Document) → transitions_in (elements_of (with_places first reports d)) ≡ transitions_in (elements_of d)
-none_lost first reports d =
-    let noted : Forest = with_messages (next_number first reports) true titles d.children in
-    sym (append-nil (transitions_in (items (moved noted))))
-    ∙ ap (λ ns. transitions_in (items (moved noted)) ++ transitions_in (items (forest_of ns))) (sym (none_out (next_number first reports) titles d.children))
-    ∙ in_all noted
-    ∙ with_noted (next_number first reports) true titles d.children
 
 pub transitions_stay : KeepsTransitions
-transitions_stay before after h = ap (λ d. transitions_in (elements_of d)) h.document ∙ none_lost before.context.first_number before.context.reports.items before.document
+transitions_stay document known =
+    let h = kept known.first_number true (none_yet known.reports) document.children (λ h. refl) (λ h. refl) in
+    let all : Siblings = placed_in known.first_number true (none_yet known.reports) document.children in
+    sym (append-nil (among all.placed)) ∙ ap (λ ns. among all.placed ++ among ns) (sym (h.ended refl)) ∙ h.all

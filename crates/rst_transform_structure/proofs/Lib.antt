@@ -1,15 +1,7 @@
 pub mod Computing
-pub mod KeptKinds
 pub mod KeptTransitions
 pub mod LastNodes
-pub mod Messages
-pub mod Neighbours
-pub mod OneAnswer
+pub mod Passing
 pub mod Placing
-pub mod Rebuilding
-pub mod RetargetedKinds
 pub mod Retargeting
-pub mod Steps
-pub mod TitledKinds
 pub mod Titles
-pub mod Untouched

@@ -1,6 +1,6 @@
 -- The last section of a document, with the messages of the transforms (Document Tree, 'system_message').
-use Rattle.std.specs.Prelude.{◌≡◌, ◌&&◌, Bool, true, false, List, [], ◌∷◌, ◌++◌, codes, map, if◌then◌else◌}
-use Rattle.std.specs.List.{list_any}
+use Rattle.std.specs.Prelude.{◌&&◌, Bool, List, [], ◌∷◌, ◌++◌, codes, map, if◌then◌else◌}
+use Rattle.std.specs.List.{filter, list_any}
 use Rattle.rst_settings.specs.declared.Threshold.{Threshold}
 use Rattle.rst_settings.specs.Threshold.{is_reached}
 use Rattle.rst_tree.specs.declared.attrs.Value.TheVariants.{List as Listed}
@@ -14,10 +14,10 @@ use Rattle.rst_tree.specs.LevelNames.{level_number}
 use Rattle.rst_tree.specs.Nodes.{forest_of, nodes_of}
 use Rattle.rst_transform_work.specs.declared.report.Report.{Report}
 use Rattle.rst_transform_work.specs.declared.document.Document.{Document}
-use Rattle.rst_transform_work.specs.States.{State}
-use Rattle.rst_transform_work.specs.Reports.{report_node, without_ids, KeepsRest}
+use Rattle.rst_transform_work.specs.Known.{Known}
+use Rattle.rst_transform_work.specs.Reports.{report_node, without_ids}
 
--- a message stands in the last section and is at or above the report level
+-- a message is in the last section and is at or above the report level
 abbrev pub is_shown : Threshold → Report → Bool
 is_shown report own = own.own && is_reached report (level_number own.level)
 
@@ -25,33 +25,24 @@ is_shown report own = own.own && is_reached report (level_number own.level)
 abbrev pub heading : Node
 heading = Element Title [] (words (codes "Docutils System Messages") bare) 0
 
--- the messages that stand in it, as elements
+-- the messages in it, as elements
 abbrev pub own_nodes : List Report → List Node
-own_nodes [] = []
-own_nodes (one ∷ more) = if one.own then report_node one ∷ own_nodes more else own_nodes more
+own_nodes reports = map report_node (filter (λ one. one.own) reports)
 
 -- the section
 abbrev pub section_of : List Report → Node
 section_of reports = Element Section (attr Classes (Listed (codes "system-messages" ∷ [])) ∷ []) (forest_of (heading ∷ own_nodes reports)) 0
 
--- a message whose ids have moved to its element, if that stands in the section
+-- a message whose ids have moved to its element, if that is in the section
 abbrev pub ids_moved : Report → Report
 ids_moved one = if one.own then without_ids one else one
 
--- the document with one more node behind the others
+-- the document with one more node after the others
 abbrev pub with_last : Node → Document → Document
 with_last n d = record d { children = forest_of (nodes_of d.children ++ n ∷ []) }
 
--- the document before and after: the section is its last node
-pub record HasSection (before after : State) : Type 0 where
-  pub document : after.document ≡ with_last (section_of before.context.reports.items) before.document
-  pub reports : after.context.reports.items ≡ map ids_moved before.context.reports.items
-  pub rest : KeepsRest before.context after.context
-
--- it has the section if one of its messages is shown, and else stays as it is
-abbrev pub EndsWithMessages : Bool → State → State → Type 0
-EndsWithMessages true before after = HasSection before after
-EndsWithMessages false before after = after ≡ before
-
-abbrev pub HasLastSection : Threshold → State → State → Type 0
-HasLastSection report before after = EndsWithMessages (list_any (is_shown report) before.context.reports.items) before after
+-- the document with the section, if one of the messages is shown, and what is known then
+abbrev pub with_last_section : Threshold → Document → Known → Document × Known
+with_last_section report document known =
+    if list_any (is_shown report) known.reports then (with_last (section_of known.reports) document, record known { reports = map ids_moved known.reports })
+    else (document, known)

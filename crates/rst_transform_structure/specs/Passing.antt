@@ -1,11 +1,26 @@
--- Names that pass to another element (Document Tree, `names`).
-use Rattle.std.specs.Prelude.{ℕ, List, Option, if◌then◌else◌}
-use Rattle.std.specs.List.{list_any}
-use Rattle.std.specs.Str.{bytes_eq}
-use Rattle.rst_transform_names.specs.Names.{moved}
+-- Names that pass to other elements (Document Tree, `names`).
+use Rattle.std.specs.Prelude.{ℕ, List, [], ◌∷◌, map, Option, Some, None}
+use Rattle.rst_transform_names.specs.Names.{moved, with_held, AreHeld}
 use Rattle.rst_transform_names.specs.declared.names.NameEntry.{NameEntry}
+use Rattle.rst_transform_names.specs.declared.names.Names.{Names}
 use Rattle.rst_transform_names.specs.declared.names.Holder.{Holder}
+use Rattle.rst_transform_names.specs.declared.names.Holder.TheVariants.{Unregistered, Element}
 
--- what is known of a name once these names have passed to another holder
-abbrev pub passed : List (List ℕ) → Holder → List ℕ → Option NameEntry → Option NameEntry
-passed names holder name held = if list_any (bytes_eq name) names then moved holder held else held
+-- the element of a number, or one without number
+abbrev pub holder_of : Option ℕ → Holder
+holder_of None = Unregistered
+holder_of (Some number) = Element number
+
+-- names, each with the number of the element that they pass to, if it has one
+abbrev pub with_number : Option ℕ → List (List ℕ) → List (List ℕ × Option ℕ)
+with_number number names = map (λ name. (name, number)) names
+
+-- What is known of names once these have passed on, one after another, each to the element of its number. Of names that aren't known none becomes
+-- known.
+abbrev pub passed : List (List ℕ × Option ℕ) → (List ℕ → Option NameEntry) → List ℕ → Option NameEntry
+passed [] held = held
+passed (name ∷ more) held = passed more (with_held name.0 (moved (holder_of name.1) (held name.0)) held)
+
+-- these names have passed on
+abbrev pub Passes : List (List ℕ × Option ℕ) → Names → Names → Type 0
+Passes names old new = (held : List ℕ → Option NameEntry) → AreHeld old held → AreHeld new (passed names held)

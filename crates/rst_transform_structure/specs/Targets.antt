@@ -1,21 +1,20 @@
--- Internal targets, which hand their ids and names to the elements behind them (reStructuredText Markup Specification, 'Internal
+-- Internal targets, which hand their ids and names to the elements after them (reStructuredText Markup Specification, 'Internal
 -- Hyperlink Targets').
-use Rattle.std.specs.Prelude.{◌≡◌, ℕ, List, [], ◌∷◌, ◌++◌, Option, Some, None, Bool, true, false, ◌&&◌, if◌then◌else◌}
+use Rattle.std.specs.Prelude.{ℕ, List, [], ◌∷◌, ◌++◌, drop, map, slice_get, unwrap_or, Option, Bool, true, false, ◌&&◌, if◌then◌else◌}
 use Rattle.rst_tree.specs.declared.attrs.Attr.{Attr}
 use Rattle.rst_tree.specs.declared.attrs.Value.TheVariants.{Text as Says}
 use Rattle.rst_tree.specs.declared.key.Key.TheVariants.{Dupnames, Ids, Names as OfNames, Refid, Serial}
+use Rattle.rst_tree.specs.declared.node.Node.{Node}
+use Rattle.rst_tree.specs.declared.node.Node.TheVariants.{Element, Text}
 use Rattle.rst_tree.specs.declared.tag.Tag.{Tag}
 use Rattle.rst_tree.specs.declared.tag.Tag.TheVariants.{Comment, SubstitutionDefinition, SystemMessage, Transition}
 use Rattle.rst_tree.specs.Attributes.{said_number, value_of, with_attr, without_key}
-use Rattle.rst_tree.specs.Walk.{Item, item, shape}
+use Rattle.rst_tree.specs.Walk.{Item, after, item, items, walked}
 use Rattle.rst_tree_index.specs.Kinds.{is_internal}
-use Rattle.rst_transform_names.specs.Names.{held_by}
-use Rattle.rst_transform_names.specs.declared.names.NameEntry.{NameEntry}
-use Rattle.rst_transform_names.specs.declared.names.Holder.{Holder}
-use Rattle.rst_transform_names.specs.declared.names.Holder.TheVariants.{Unregistered, Element as Numbered}
+use Rattle.rst_transform_work.specs.Known.{Known}
 use Rattle.rst_transform_work.specs.Lists.{listed, with_listed}
-use Rattle.rst_transform_work.specs.States.{State, elements_of}
-use Rattle.rst_transform_structure.specs.Passing.{passed}
+use Rattle.rst_transform_work.specs.declared.document.Document.{Document}
+use Rattle.rst_transform_structure.specs.Passing.{passed, with_number}
 
 -- whether an element of a kind takes the ids and names of a target before it
 abbrev pub takes_ids : Tag → Bool
@@ -25,15 +24,14 @@ takes_ids SystemMessage = false
 takes_ids Transition = false
 takes_ids _ = true
 
--- A target hands its ids and names to the element directly behind it in document order, if that takes them. An internal target holds no element,
--- so it is its next sibling, or else the next sibling of the nearest ancestor that has one.
-abbrev pub hands_to : Item → Item → Bool
-hands_to target x = is_internal target && takes_ids x.tag
+-- of each element whether it does
+abbrev pub takers : List Item → List Bool
+takers xs = map (λ x. takes_ids x.tag) xs
 
--- a target hands its ids and names to the first of the elements behind it, if there is one
-abbrev pub hands_on : Item → List Item → Bool
-hands_on target [] = false
-hands_on target (x ∷ more) = hands_to target x
+-- one more element was read
+abbrev pub with_taker : List Bool → Node → List Bool
+with_taker takers (Element t a c l) = takers ++ takes_ids t ∷ []
+with_taker takers (Text t) = takers
 
 -- ids and names that an element gets
 pub record Handed : Type 0 where
@@ -43,16 +41,11 @@ pub record Handed : Type 0 where
 abbrev pub handed : List (List ℕ) → List (List ℕ) → Handed
 handed ids names = record { ids = ids; names = names }
 
--- those of a target with these attributes, and behind them what it got itself
+-- those of a target with these attributes, and after them what it got itself
 abbrev pub handed_by : List Attr → Handed → Handed
 handed_by attrs h = handed (listed Ids attrs ++ h.ids) (listed OfNames attrs ++ h.names)
 
--- What an element gets of the target directly before it. The elements before it are given backwards.
-abbrev pub handed_to : List Item → Item → Handed
-handed_to [] x = handed [] []
-handed_to (target ∷ before) x = if hands_to target x then handed_by target.attrs (handed_to before target) else handed [] []
-
--- the attributes of an element that got ids and names: they stand behind its own
+-- the attributes of an element that got ids and names: they come after its own
 abbrev pub given : Handed → List Attr → List Attr
 given h attrs = with_listed OfNames h.names (with_listed Ids h.ids attrs)
 
@@ -65,32 +58,43 @@ with_refid (id ∷ more) attrs = with_attr Refid (Says id) attrs
 abbrev pub referring : List Attr → List Attr
 referring attrs = with_refid (listed Ids attrs) (without_key Dupnames (without_key OfNames (without_key Ids attrs)))
 
--- what becomes of an element between others
-abbrev pub retargeted_at : List Item → Item → List Item → Item
-retargeted_at before x more = item x.tag (if hands_on x more then referring x.attrs else given (handed_to before x) x.attrs) x.line
+-- What is known at an element in document order: whether it and each one after it takes ids, what it gets of the target directly before it, and the
+-- names that those before it got and keep, each with the element's number.
+pub record Reached : Type 0 where
+  pub takers : List Bool
+  pub handed : Handed
+  pub got : List (List ℕ × Option ℕ)
 
--- what becomes of elements in document order, behind others
-abbrev pub retargeted : List Item → List Item → List Item
-retargeted before [] = []
-retargeted before (x ∷ more) = retargeted_at before x more ∷ retargeted (x ∷ before) more
+abbrev pub reached : List Bool → Handed → List (List ℕ × Option ℕ) → Reached
+reached takers handed got = record { takers = takers; handed = handed; got = got }
 
--- the element of a number, or one without number
-abbrev pub holder_of : Option ℕ → Holder
-holder_of None = Unregistered
-holder_of (Some number) = Numbered number
+-- at the first of some elements
+abbrev pub at_first : List Item → Reached
+at_first xs = reached (takers xs) (handed [] []) []
 
--- the number of an element, if it has one
-abbrev pub number_of : List Attr → Option ℕ
-number_of attrs = said_number (value_of Serial attrs)
+-- A target hands its ids and names to the element directly after it in document order, if that takes them. An internal target holds no element,
+-- so it is its next sibling, or else the next sibling of the nearest ancestor that has one.
+abbrev pub hands_on : Reached → Item → Bool
+hands_on r x = is_internal x && unwrap_or (slice_get r.takers 1) false
 
--- What is known of a name once the elements have got their names, one after another: each holds those that it got.
-abbrev pub known_after : List Item → List Item → List ℕ → Option NameEntry → Option NameEntry
-known_after before [] name held = held
-known_after before (x ∷ more) name held = known_after (x ∷ before) more name (passed (handed_to before x).names (holder_of (number_of x.attrs)) name held)
+-- names that an element with these attributes got, each with the element's number, if it has one
+abbrev pub got_by : List Attr → List (List ℕ) → List (List ℕ × Option ℕ)
+got_by attrs names = with_number (said_number (value_of Serial attrs)) names
 
--- the document before and after: its elements and the names that they hold change, nothing else
-pub record IsRetargeted (before after : State) : Type 0 where
-  pub elements : elements_of after.document ≡ retargeted [] (elements_of before.document)
-  pub shape : shape after.document.children ≡ shape before.document.children
-  pub names : (name : List ℕ) → held_by after.context.names name ≡ known_after [] (elements_of before.document) name (held_by before.context.names name)
-  pub rest : after.context ≡ record before.context { names = after.context.names }
+-- at the next element
+abbrev pub next_reached : Reached → Item → Reached
+next_reached r x =
+    if hands_on r x then reached (drop 1 r.takers) (handed_by x.attrs r.handed) r.got
+    else reached (drop 1 r.takers) (handed [] []) (r.got ++ got_by x.attrs r.handed.names)
+
+-- what becomes of the element
+abbrev pub changed_at : Reached → Item → Item
+changed_at r x = item x.tag (if hands_on r x then referring x.attrs else given r.handed x.attrs) x.line
+
+-- the document whose internal targets have handed on their ids and names, and what is known then: elements hold the names that they got
+abbrev pub with_targets : Document → Known → Document × Known
+with_targets document known =
+    let xs = items document.children in (
+      record document { children = walked next_reached changed_at (at_first xs) document.children },
+      record known { names = passed (after next_reached changed_at (at_first xs) xs).got known.names },
+    )

@@ -1,8 +1,6 @@
 -- The title and the subtitle of a document (reStructuredText Markup Specification, 'Document Title').
-use Rattle.std.specs.Prelude.{◌≡◌, ℕ, List, [], ◌++◌, Option, Some, None, if◌then◌else◌, option_map}
-use Rattle.rst_transform_names.specs.Names.{held_by}
-use Rattle.rst_transform_names.specs.declared.names.Holder.TheVariants.{Unregistered}
-use Rattle.rst_transform_names.specs.declared.names.Names.{Names}
+use Rattle.std.specs.Prelude.{ℕ, ◌-◌, List, [], ◌++◌, length, take, slice_get, Option, Some, None, if◌then◌else◌, option_and_then, option_map}
+use Rattle.std.specs.List.{list_all}
 use Rattle.rst_tree.specs.declared.attrs.Attr.{Attr}
 use Rattle.rst_tree.specs.declared.attrs.Value.TheVariants.{Text as Says}
 use Rattle.rst_tree.specs.declared.key.Key.TheVariants.{Names as OfNames, Title}
@@ -11,16 +9,16 @@ use Rattle.rst_tree.specs.declared.node.Node.TheVariants.{Element, Text}
 use Rattle.rst_tree.specs.declared.tag.Tag.TheVariants.{Subtitle, Section as IsSection}
 use Rattle.rst_tree.specs.Attributes.{with_attr}
 use Rattle.rst_tree.specs.Forest.{Forest, bare, element, words}
-use Rattle.rst_tree.specs.Nodes.{join_node}
+use Rattle.rst_tree.specs.Nodes.{forest_of, join_node, nodes_of}
 use Rattle.rst_tree.specs.Tree.{text_in}
 use Rattle.rst_transform_structure.specs.declared.title.Section.{Section}
-use Rattle.rst_transform_structure.specs.Passing.{passed}
+use Rattle.rst_transform_structure.specs.Passing.{passed, with_number}
+use Rattle.rst_transform_work.specs.Known.{Known}
 use Rattle.rst_transform_work.specs.Lists.{listed, with_names}
 use Rattle.rst_transform_work.specs.declared.document.Document.{Document}
-use Rattle.rst_transform_work.specs.States.{State}
 use Rattle.rst_transform_work.specs.Reading.{may_precede}
 
--- a section's attributes, its title, and its body: the nodes behind the title
+-- a section's attributes, its title, and its body: the nodes after the title
 abbrev pub section : List Attr → Node → Forest → Section
 section a title body = record { attrs = a; title = title; body = body }
 
@@ -36,23 +34,24 @@ section_in (Element IsSection a c l) = section_of a c
 section_in (Element _ a c l) = None
 section_in (Text t) = None
 
--- the section with one more node in front of its body
-abbrev pub behind : Node → Section → Section
-behind n s = section s.attrs s.title (join_node n s.body)
+-- the section with more nodes before its body
+abbrev pub with_before : List Node → Section → Section
+with_before before s = section s.attrs s.title (forest_of (before ++ nodes_of s.body))
 
--- The lone section of some nodes, if they have one: the last node, where each node before it may precede it. Those stand in front of its body.
+-- a node as a section with these nodes before its body, if it is one with a title and each of them may precede it
+abbrev pub section_after : List Node → Option Node → Option Section
+section_after before last = if list_all may_precede before then option_map (with_before before) (option_and_then section_in last) else None
+
+-- The lone section of some nodes, if they have one: the last node, where each node before it may precede it. Those come before its body.
 abbrev pub lone_section : Forest → Option Section
-lone_section bare = None
-lone_section (words t r) = None
-lone_section (element t a c l bare) = section_in (Element t a c l)
-lone_section (element t a c l r) = if may_precede (Element t a c l) then option_map (behind (Element t a c l)) (lone_section r) else None
+lone_section f = let nodes = nodes_of f in let place = length nodes - 1 in section_after (take place nodes) (slice_get nodes place)
 
 -- a title with these attributes as a subtitle
 abbrev pub subtitle : List Attr → Node → Node
 subtitle a (Element t b c l) = Element Subtitle a c l
 subtitle a (Text t) = Text t
 
--- the nodes behind a document's title: if they have a lone section, its title becomes the subtitle, with the section's ids and names
+-- the nodes after a document's title: if they have a lone section, its title becomes the subtitle, with the section's ids and names
 abbrev pub subtitled_by : Option Section → Forest → Forest
 subtitled_by None nodes = nodes
 subtitled_by (Some s) nodes = join_node (subtitle (with_names s.attrs []) s.title) s.body
@@ -62,7 +61,7 @@ abbrev pub titled_by : Option Section → Forest → Forest
 titled_by None nodes = nodes
 titled_by (Some s) nodes = join_node s.title (subtitled_by (lone_section s.body) s.body)
 
--- the attributes of a document: if it has a lone section, the text of its title, and the section's ids and names behind its own
+-- the attributes of a document: if it has a lone section, the text of its title, and the section's ids and names after its own
 abbrev pub title_attrs : Option Section → List Attr → List Attr
 title_attrs None a = a
 title_attrs (Some s) a = with_names s.attrs (with_attr Title (Says (text_in s.title)) a)
@@ -81,12 +80,6 @@ abbrev pub title_names : Option Section → List (List ℕ)
 title_names None = []
 title_names (Some s) = listed OfNames s.attrs ++ subtitle_names (lone_section s.body)
 
--- an element without number holds each of these names that is known; of the others the same is known as before
-abbrev pub Moves : List (List ℕ) → Names → Names → Type 0
-Moves names old new = (name : List ℕ) → held_by new name ≡ passed names Unregistered name (held_by old name)
-
--- the document before and after
-pub record IsTitled (before after : State) : Type 0 where
-  pub document : after.document ≡ titled before.document
-  pub names : Moves (title_names (lone_section before.document.children)) before.context.names after.context.names
-  pub rest : after.context ≡ record before.context { names = after.context.names }
+-- the document with its title and its subtitle, and what is known then: they hold the names
+abbrev pub with_title : Document → Known → Document × Known
+with_title document known = (titled document, record known { names = passed (with_number None (title_names (lone_section document.children))) known.names })

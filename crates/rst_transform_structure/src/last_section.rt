@@ -3,15 +3,15 @@ ghost use Rattle.std.specs.Prelude.{◌≡◌, ◌∷◌, ◌++◌, [], map};
 ghost use Rattle.std.specs.List.{list_any};
 ghost use Rattle.rst_tree.specs.Faults.{Gives};
 ghost use Rattle.rst_tree.specs.Nodes.{forest_of, nodes_of};
-ghost use Rattle.rst_transform_work.specs.States.{state};
-ghost use Rattle.rst_transform_structure.specs.LastSection.{ids_moved, heading, is_shown, own_nodes, section_of, HasLastSection};
+ghost use Rattle.rst_transform_work.specs.Known.{Makes};
+ghost use Rattle.rst_transform_structure.specs.LastSection.{ids_moved, heading, is_shown, own_nodes, section_of, with_last_section};
 
 use rst_settings::Threshold;
 use rst_transform_work::{Context, Document, Report};
 use rst_tree::{Attrs, Children, Key, Node, Tag, Text, Texts, TreeFault, Value};
 use std::alloc::Global;
 
-/// Puts a last section with the transforms' own messages behind the document's nodes, if one of them is at or above the report
+/// Puts a last section with the transforms' own messages after the document's nodes, if one of them is at or above the report
 /// level (Document Tree, 'system_message').
 ///
 ///     <section classes="system-messages">
@@ -24,7 +24,7 @@ pub fn last_section(
     context: &mut Context,
     report: Threshold,
 ) -> Result<Document, TreeFault>
-    ensures { Gives (λ after. HasLastSection report (state document context.old) (state after context.new)) result }
+    ensures { Gives (Makes (with_last_section report document) context.old context.new) result }
 {
     if !is_any_shown(context.reports.as_slice(), report) {
         return Ok(document);
@@ -34,7 +34,7 @@ pub fn last_section(
     Ok(document)
 }
 
-/// Whether one of some messages stands in the last section and is at or above the report level.
+/// Whether one of some messages is in the last section and is at or above the report level.
 fn is_any_shown(reports: &[Report], threshold: Threshold) -> bool
     ensures { result ≡ list_any (is_shown threshold) reports.now }
 {
@@ -46,14 +46,14 @@ fn is_any_shown(reports: &[Report], threshold: Threshold) -> bool
     false
 }
 
-/// Whether a message stands in the last section and is at or above the report level.
+/// Whether a message is in the last section and is at or above the report level.
 fn is_shown(report: &Report, threshold: Threshold) -> bool
     ensures { result ≡ is_shown threshold report.now }
 {
     report.own && threshold.is_reached(report.level.number())
 }
 
-/// The section with the messages that stand in it.
+/// The section with the messages in it.
 fn section(alloc: Global, reports: &mut Vec<Report>) -> Result<Node, TreeFault>
     ensures section { Gives (λ section. section ≡ section_of reports.old.items) result }
     ensures reports { Gives (λ _. reports.new.items ≡ map ids_moved reports.old.items) result }
@@ -69,7 +69,7 @@ fn section(alloc: Global, reports: &mut Vec<Report>) -> Result<Node, TreeFault>
     })
 }
 
-/// The title of the section, and the messages that stand in it.
+/// The title of the section, and the messages in it.
 fn section_nodes(alloc: Global, reports: &mut Vec<Report>) -> Result<Children, TreeFault>
     ensures nodes { Gives (λ nodes. nodes ≡ forest_of (heading ∷ own_nodes reports.old.items)) result }
     ensures reports { Gives (λ _. reports.new.items ≡ map ids_moved reports.old.items) result }
@@ -82,7 +82,7 @@ fn section_nodes(alloc: Global, reports: &mut Vec<Report>) -> Result<Children, T
     Ok(nodes)
 }
 
-/// Adds a message, if it stands in the section, and hands over its ids.
+/// Adds a message, if it is in the section, and hands over its ids.
 fn add_own(alloc: Global, report: &mut Report, nodes: &mut Children) -> Result<(), TreeFault>
     ensures nodes { Gives (λ _. nodes.new ≡ forest_of (nodes_of nodes.old ++ own_nodes (report.old ∷ []))) result }
     ensures report { Gives (λ _. report.new ≡ ids_moved report.old) result }

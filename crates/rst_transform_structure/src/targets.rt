@@ -1,11 +1,10 @@
 //! Internal targets.
-ghost use Rattle.std.specs.Prelude.{◌≡◌, ◌++◌, [], drop, false, map, reverse};
+ghost use Rattle.std.specs.Prelude.{◌≡◌, ◌++◌, [], drop, reverse};
 ghost use Rattle.rst_tree.specs.Faults.{Gives};
 ghost use Rattle.rst_tree.specs.Walk.{item, node_items};
-ghost use Rattle.rst_tree_index.specs.Kinds.{kinds_of, HasNoNewKinds};
-ghost use Rattle.rst_transform_work.specs.States.{elements_of, state};
-ghost use Rattle.rst_transform_structure.specs.Handing.{got_by, is_turn, reached, takers, Passes};
-ghost use Rattle.rst_transform_structure.specs.Targets.{given, handed, handed_by, holder_of, referring, takes_ids, with_refid, IsRetargeted};
+ghost use Rattle.rst_transform_work.specs.Known.{Makes};
+ghost use Rattle.rst_transform_structure.specs.Passing.{holder_of, with_number, Passes};
+ghost use Rattle.rst_transform_structure.specs.Targets.{given, got_by, handed, handed_by, hands_on, reached, referring, takers, takes_ids, with_refid, with_targets};
 
 use rst_transform_names::{Holder, Names};
 use rst_transform_work::{Context, Document, append, take_list};
@@ -33,31 +32,13 @@ use std::mem;
 ///     <target refid="b">
 ///     <paragraph ids="b a" names="b a">
 ///
-/// A target that no element follows, or one that takes no ids, stays as it is. The document may have an internal target only
-/// if it `has` one.
+/// A target that no element follows, or one that takes no ids, stays as it is.
 pub fn targets(
     alloc: Global,
     document: Document,
     context: &mut Context,
-    has: bool,
 ) -> Result<Document, TreeFault>
-    requires has { has ≡ false → (kinds_of (elements_of document)).targets ≡ false }
-    ensures retargeted { Gives (λ after. IsRetargeted (state document context.old) (state after context.new)) result }
-    ensures kinds { Gives (λ after. HasNoNewKinds (elements_of document) (elements_of after)) result }
-{
-    if !has {
-        return Ok(document);
-    }
-    retargeted(alloc, document, context)
-}
-
-/// The document once its internal targets have handed on their ids and names.
-fn retargeted(
-    alloc: Global,
-    document: Document,
-    context: &mut Context,
-) -> Result<Document, TreeFault>
-    ensures { Gives (λ after. IsRetargeted (state document context.old) (state after context.new)) result }
+    ensures { Gives (Makes (with_targets document) context.old context.new) result }
 {
     let node = document.into_node();
     let takers = takers(alloc, &node)?;
@@ -103,7 +84,7 @@ impl Model for TakerReader {
 }
 
 impl Reader for TakerReader {
-    ghost use Rattle.rst_transform_structure.specs.Handing.{with_taker};
+    ghost use Rattle.rst_transform_structure.specs.Targets.{with_taker};
 
     ghost next = { with_taker };
 
@@ -119,7 +100,7 @@ impl Reader for TakerReader {
 #[derive(Drop)]
 struct Walking {
     alloc: Global,
-    /// For this element and each one behind it whether it takes ids.
+    /// For this element and each one after it whether it takes ids.
     takers: VecDeque<bool>,
     /// The ids that it gets, the last first: so each target adds its own at the end.
     ids: Vec<Text>,
@@ -131,8 +112,7 @@ struct Walking {
 
 impl Model for Walking {
     ghost use Rattle.std.specs.Prelude.{reverse};
-    ghost use Rattle.rst_transform_structure.specs.Handing.{reached, Reached};
-    ghost use Rattle.rst_transform_structure.specs.Targets.{handed};
+    ghost use Rattle.rst_transform_structure.specs.Targets.{handed, reached, Reached};
 
     ghost Value = { Reached };
 
@@ -163,7 +143,7 @@ impl Walking {
 
     /// Whether the element is a target that hands on its ids.
     fn is_turn(&mut self, tag: Tag, attrs: &Attrs) -> bool
-        ensures turn { result ≡ is_turn self.old (item tag attrs.now 0) }
+        ensures turn { result ≡ hands_on self.old (item tag attrs.now 0) }
         ensures left { self.new ≡ record self.old { takers = drop 1 self.old.takers } }
     {
         let next_takes = match self.takers.get(1) {
@@ -194,6 +174,9 @@ impl Walking {
         ensures attrs { Gives (λ _. attrs.new ≡ given self.old.handed attrs.old) result }
         ensures handed { Gives (λ _. self.new ≡ reached self.old.takers (handed [] []) (self.old.got ++ got_by attrs.old self.old.handed.names)) result }
     {
+        if self.ids.is_empty() && self.names.is_empty() {
+            return Ok(());
+        }
         let number = attrs.number(Key::Serial);
         self.ids.reverse();
         self.names.reverse();
@@ -206,7 +189,7 @@ impl Walking {
 }
 
 impl Visitor for Walking {
-    ghost use Rattle.rst_transform_structure.specs.Handing.{changed_at, next_reached};
+    ghost use Rattle.rst_transform_structure.specs.Targets.{changed_at, next_reached};
 
     ghost next = { next_reached };
 
@@ -235,7 +218,7 @@ fn refer(attrs: &mut Attrs, ids: &[Text]) -> Result<(), TreeFault>
     }
 }
 
-/// Puts texts behind others, the last first.
+/// Puts texts after others, the last first.
 fn add_backwards(texts: &mut Vec<Text>, more: &[Text]) -> Result<(), TreeFault>
     ensures { Gives (λ _. texts.new.items ≡ texts.old.items ++ reverse more.now) result }
 {
@@ -253,7 +236,7 @@ fn add_got(
     names: Vec<Text>,
     number: Option<u64>,
 ) -> Result<(), TreeFault>
-    ensures { Gives (λ _. got.new.items ≡ got.old.items ++ map (λ name. (name, number)) names.items) result }
+    ensures { Gives (λ _. got.new.items ≡ got.old.items ++ with_number number names.items) result }
 {
     for name in names {
         got.push((name, number))?;

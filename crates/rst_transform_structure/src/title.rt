@@ -1,14 +1,14 @@
 //! The title and the subtitle of a document.
-ghost use Rattle.std.specs.Prelude.{◌≡◌, ◌++◌};
+ghost use Rattle.std.specs.Prelude.{◌≡◌, ◌++◌, None};
 ghost use Rattle.std.specs.List.{list_all};
 ghost use Rattle.rst_tree.specs.declared.key.Key.TheVariants.{Names as OfNames};
 ghost use Rattle.rst_tree.specs.Faults.{Gives};
-ghost use Rattle.rst_tree.specs.Nodes.{forest_of, join_node, nodes_of};
-ghost use Rattle.rst_tree_index.specs.Kinds.{HasNoNewKinds};
+ghost use Rattle.rst_tree.specs.Nodes.{join_node};
+ghost use Rattle.rst_transform_work.specs.Known.{Makes};
 ghost use Rattle.rst_transform_work.specs.Lists.{with_names, listed};
 ghost use Rattle.rst_transform_work.specs.Made.{IsMadeOf};
-ghost use Rattle.rst_transform_work.specs.States.{elements_of, state};
-ghost use Rattle.rst_transform_structure.specs.Title.{lone_section, section_in, subtitle, subtitle_names, subtitled_by, title_attrs, title_names, titled, titled_by, Moves, IsTitled};
+ghost use Rattle.rst_transform_structure.specs.Title.{lone_section, section_in, subtitle, subtitle_names, subtitled_by, title_attrs, title_names, titled_by, with_before, with_title};
+ghost use Rattle.rst_transform_structure.specs.Passing.{with_number, Passes};
 ghost use Rattle.rst_transform_work.specs.Reading.{may_precede};
 
 use rst_transform_names::{Holder, Names};
@@ -34,14 +34,13 @@ use std::alloc::Global;
 ///         <comment>
 ///         <paragraph>
 ///
-/// Comments, targets, substitution definitions and messages may stand before the section.
+/// Comments, targets, substitution definitions and messages may come before the section.
 pub fn title(
     alloc: Global,
     document: Document,
     context: &mut Context,
 ) -> Result<Document, TreeFault>
-    ensures titled { Gives (λ after. IsTitled (state document context.old) (state after context.new)) result }
-    ensures kinds { Gives (λ after. HasNoNewKinds (elements_of document) (elements_of after)) result }
+    ensures { Gives (Makes (with_title document) context.old context.new) result }
 {
     let Document {
         mut attrs,
@@ -65,7 +64,7 @@ fn titled(
 ) -> Result<Children, TreeFault>
     ensures attrs { Gives (λ _. attrs.new ≡ title_attrs (lone_section nodes) attrs.old) result }
     ensures nodes { Gives (λ all. all ≡ titled_by (lone_section nodes) nodes) result }
-    ensures names { Gives (λ _. Moves (title_names (lone_section nodes)) names.old names.new) result }
+    ensures names { Gives (λ _. Passes (with_number None (title_names (lone_section nodes))) names.old names.new) result }
 {
     match lone_section(nodes)? {
         Ok(section) => {
@@ -78,10 +77,10 @@ fn titled(
     }
 }
 
-/// The nodes behind a document's title, once the subtitle is the first of them, if it gets one.
+/// The nodes after a document's title, once the subtitle is the first of them, if it gets one.
 fn subtitled(alloc: Global, nodes: Children, names: &mut Names) -> Result<Children, TreeFault>
     ensures nodes { Gives (λ all. all ≡ subtitled_by (lone_section nodes) nodes) result }
-    ensures names { Gives (λ _. Moves (subtitle_names (lone_section nodes)) names.old names.new) result }
+    ensures names { Gives (λ _. Passes (with_number None (subtitle_names (lone_section nodes))) names.old names.new) result }
 {
     match lone_section(nodes)? {
         Ok(section) => {
@@ -93,7 +92,7 @@ fn subtitled(alloc: Global, nodes: Children, names: &mut Names) -> Result<Childr
     }
 }
 
-/// The nodes behind one more.
+/// The nodes after one more.
 fn with_first(first: Node, nodes: Children) -> Result<Children, TreeFault>
     ensures { Gives (λ all. all ≡ join_node first nodes) result }
 {
@@ -107,7 +106,7 @@ fn with_first(first: Node, nodes: Children) -> Result<Children, TreeFault>
 struct Section {
     attrs: Attrs,
     title: Node,
-    /// What stands behind the title. That of a lone section begins with what stands before the section.
+    /// What comes after the title. That of a lone section begins with what comes before the section.
     body: Children,
 }
 
@@ -143,9 +142,9 @@ impl Section {
         }
     }
 
-    /// The section with these nodes in front of its body.
+    /// The section with these nodes before its body.
     fn behind(self, before: Vec<Node>) -> Result<Section, TreeFault>
-        ensures { Gives (λ section. section ≡ record self { body = forest_of (before.items ++ nodes_of self.body) }) result }
+        ensures { Gives (λ section. section ≡ with_before before.items self) result }
     {
         let Section { attrs, title, body } = self;
         let mut nodes = before;
@@ -194,7 +193,7 @@ fn take_names(
     names: &mut Names,
 ) -> Result<(), TreeFault>
     ensures attrs { Gives (λ _. attrs.new ≡ with_names section.now attrs.old) result }
-    ensures names { Gives (λ _. Moves (listed OfNames section.now) names.old names.new) result }
+    ensures names { Gives (λ _. Passes (with_number None (listed OfNames section.now)) names.old names.new) result }
 {
     append_names(alloc, attrs, section)?;
     if let Some(Said::List(held)) = section.get(Key::Names) {
@@ -205,7 +204,7 @@ fn take_names(
 
 /// Lets an element without number hold names.
 fn move_names(held: &[Text], names: &mut Names)
-    ensures { Moves held.now names.old names.new }
+    ensures { Passes (with_number None held.now) names.old names.new }
 {
     for name in held {
         names.move_to(name.as_str(), Holder::Unregistered);

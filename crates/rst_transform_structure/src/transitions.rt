@@ -1,15 +1,13 @@
 //! The places of transitions.
-ghost use Rattle.std.specs.Prelude.{◌≡◌, ◌++◌, ◌∷◌, [], ◌&&◌, false, None, Some, MatchOption};
+ghost use Rattle.std.specs.Prelude.{◌≡◌, ◌++◌, ◌∷◌, [], if◌then◌else◌, false, None, Some, MatchOption};
 ghost use Rattle.std.specs.List.{list_all};
 ghost use Rattle.rst_tree.specs.Faults.{Gives};
 ghost use Rattle.rst_tree.specs.Nodes.{forest_of};
 ghost use Rattle.rst_tree.specs.declared.node.Node.TheVariants.{Element};
-ghost use Rattle.rst_tree_index.specs.Kinds.{kinds_of};
 ghost use Rattle.rst_tree.specs.declared.note.Level.TheVariants.{Error};
 ghost use Rattle.rst_transform_work.specs.Reports.{report_in, report_node, IsReported, KeepsRest};
-ghost use Rattle.rst_transform_work.specs.States.{elements_of, state};
-ghost use Rattle.rst_transform_structure.specs.Siblings.{all_placed, ends_in_transition, fault_before, further, put_after, put_last, put_transition, so_far, with_fault, with_message};
-ghost use Rattle.rst_transform_structure.specs.Transitions.{is_transition, HasTransitions};
+ghost use Rattle.rst_transform_work.specs.Known.{Makes};
+ghost use Rattle.rst_transform_structure.specs.Transitions.{ends_in_transition, fault_before, is_section, is_transition, none_yet, placed_in, put_transition, so_far, with_fault, with_message, with_transitions};
 ghost use Rattle.rst_transform_work.specs.Reading.{is_title};
 
 use rst_transform_work::{Context, Document, is_title};
@@ -35,29 +33,14 @@ use std::alloc::Global;
 ///     <transition>
 ///     <section>
 ///
-/// One that the document ends with stays, and a message follows it. The document may have a transition only if it `has` one.
+/// One that the document ends with stays, and a message follows it. No element but the document and its sections holds a
+/// transition, so nothing else is gone through.
 pub fn transitions(
     alloc: Global,
     document: Document,
     context: &mut Context,
-    has: bool,
 ) -> Result<Document, TreeFault>
-    requires has { has ≡ false → (kinds_of (elements_of document)).transitions ≡ false }
-    ensures { Gives (λ after. HasTransitions (state document context.old) (state after context.new)) result }
-{
-    if !has {
-        return Ok(document);
-    }
-    with_places(alloc, document, context)
-}
-
-/// The document once its transitions have their places.
-fn with_places(
-    alloc: Global,
-    document: Document,
-    context: &mut Context,
-) -> Result<Document, TreeFault>
-    ensures { Gives (λ after. HasTransitions (state document context.old) (state after context.new)) result }
+    ensures { Gives (Makes (with_transitions document) context.old context.new) result }
 {
     let Document {
         attrs,
@@ -72,7 +55,7 @@ fn with_places(
     })
 }
 
-/// The nodes of an element, whose transitions have their places.
+/// The nodes of the document or a section, whose transitions have their places.
 #[derive(Drop)]
 struct Placed {
     nodes: Vec<Node>,
@@ -80,15 +63,15 @@ struct Placed {
     moving: Vec<Node>,
 }
 
-/// Gives the transitions among nodes and in them their places. If the document `ends` with the nodes, a transition that they end
-/// with stays, and else it moves out.
+/// Gives the transitions among the nodes of the document or a section, and in its sections, their places. If the document `ends` with
+/// the nodes, a transition that they end with stays, and else it moves out.
 fn place_in(
     alloc: Global,
     nodes: Children,
     ends: bool,
     context: &mut Context,
 ) -> Result<Placed, TreeFault>
-    ensures placed { Gives (λ placed. so_far placed context.new ≡ all_placed context.old.first_number ends context.old.reports.items nodes) result }
+    ensures placed { Gives (λ placed. so_far placed context.new ≡ placed_in context.old.first_number ends (none_yet context.old.reports.items) nodes) result }
     ensures rest { Gives (λ _. KeepsRest context.old context.new) result }
 {
     let mut left = nodes.len();
@@ -107,18 +90,22 @@ fn place_in(
                 line,
             } => {
                 let last = left == 0;
-                if is_transition(tag) {
-                    let transition = Node::Element {
-                        tag,
-                        attrs,
-                        children,
-                        line,
-                    };
-                    placed.put_transition(alloc, transition, line, last, ends, context)?;
+                if is_section(tag) {
+                    let inner = place_in(alloc, children, ends && last, context)?;
+                    placed.put_section(tag, attrs, line, inner, last)?;
                     continue;
                 }
-                let inner = place_in(alloc, children, ends && last, context)?;
-                placed.put_element(tag, attrs, line, inner, last)?;
+                let element = Node::Element {
+                    tag,
+                    attrs,
+                    children,
+                    line,
+                };
+                if is_transition(tag) {
+                    placed.put_transition(alloc, element, line, last, ends, context)?;
+                    continue;
+                }
+                placed.nodes.push(element)?;
                 continue;
             }
         }
@@ -139,7 +126,7 @@ impl Placed {
     }
 
     /// Puts a message on a transition after the nodes.
-    #[tactic(auto, unfolding(crate::specs::Siblings::with_message))]
+    #[tactic(auto, unfolding(crate::specs::Transitions::with_message))]
     fn put_message(
         &mut self,
         alloc: Global,
@@ -156,7 +143,7 @@ impl Placed {
     }
 
     /// Puts the message on what is wrong with a transition after the nodes there, if anything is.
-    #[tactic(auto, unfolding(crate::specs::Siblings::with_fault))]
+    #[tactic(auto, unfolding(crate::specs::Transitions::with_fault))]
     fn put_fault(
         &mut self,
         alloc: Global,
@@ -172,30 +159,9 @@ impl Placed {
         }
     }
 
-    /// Puts a transition that is the last node to its place: it stays if the document ends with it, with a message after it, and
-    /// else moves out.
-    #[tactic(auto, unfolding(crate::specs::Siblings::put_last))]
-    fn put_last(
-        &mut self,
-        alloc: Global,
-        transition: Node,
-        line: usize,
-        ends: bool,
-        context: &mut Context,
-    ) -> Result<(), TreeFault>
-        ensures siblings { Gives (λ _. so_far self.new context.new ≡ put_last context.old.first_number ends transition line (so_far self.old context.old)) result }
-        ensures rest { Gives (λ _. KeepsRest context.old context.new) result }
-    {
-        if !ends {
-            self.moving.push(transition)?;
-            return Ok(());
-        }
-        self.nodes.push(transition)?;
-        self.put_message(alloc, line, AT_END, context)
-    }
-
-    /// Puts a transition, which is the last node or not, to its place, with the messages on it.
-    #[tactic(auto, unfolding(crate::specs::Siblings::put_transition))]
+    /// Puts a transition, which is the last node or not, to its place, after the message on what is wrong with it. It moves out if it is
+    /// the last, unless the document ends with it: then a message follows it.
+    #[tactic(auto, unfolding(crate::specs::Transitions::put_transition))]
     fn put_transition(
         &mut self,
         alloc: Global,
@@ -209,15 +175,19 @@ impl Placed {
         ensures rest { Gives (λ _. KeepsRest context.old context.new) result }
     {
         self.put_fault(alloc, line, context)?;
-        if last {
-            return self.put_last(alloc, transition, line, ends, context);
+        if last && !ends {
+            self.moving.push(transition)?;
+            return Ok(());
         }
         self.nodes.push(transition)?;
+        if last {
+            return self.put_message(alloc, line, AT_END, context);
+        }
         Ok(())
     }
 
-    /// Puts an element to its place. The transition that moved out of it comes after it, or moves further if no node does.
-    fn put_element(
+    /// Puts a section to its place. The transition that moved out of it comes after it, or moves further if no node does.
+    fn put_section(
         &mut self,
         tag: Tag,
         attrs: Attrs,
@@ -225,8 +195,8 @@ impl Placed {
         inner: Placed,
         last: bool,
     ) -> Result<(), TreeFault>
-        ensures nodes { Gives (λ _. self.new.nodes.items ≡ self.old.nodes.items ++ Element tag attrs (forest_of inner.nodes.items) line ∷ put_after last inner.moving.items) result }
-        ensures moving { Gives (λ _. self.new.moving.items ≡ self.old.moving.items ++ further last inner.moving.items) result }
+        ensures nodes { Gives (λ _. self.new.nodes.items ≡ self.old.nodes.items ++ Element tag attrs (forest_of inner.nodes.items) line ∷ (if last then [] else inner.moving.items)) result }
+        ensures moving { Gives (λ _. self.new.moving.items ≡ self.old.moving.items ++ (if last then inner.moving.items else [])) result }
     {
         let Placed { nodes, mut moving } = inner;
         self.nodes.push(Node::Element {
@@ -253,7 +223,7 @@ const ADJACENT: &str =
 const AT_END: &str = "Document may not end with a transition.";
 
 /// What is wrong with a transition after these siblings, if anything is.
-#[tactic(auto, unfolding(crate::specs::Siblings::fault_before))]
+#[tactic(auto, unfolding(crate::specs::Transitions::fault_before))]
 fn fault_before(before: &[Node]) -> Option<&'static str>
     ensures { MatchOption result (fault_before before.now ≡ None) (λ words. fault_before before.now ≡ Some words.now) }
 {
@@ -281,6 +251,13 @@ fn ends_in_transition(nodes: &[Node]) -> bool
         Some(Node::Element { tag, .. }) => is_transition(*tag),
         Some(Node::Text(_)) | None => false,
     }
+}
+
+/// Whether an element of a kind is a section.
+fn is_section(tag: Tag) -> bool
+    ensures { result ≡ is_section tag }
+{
+    matches!(tag, Tag::Section)
 }
 
 /// Whether an element of a kind is a transition.

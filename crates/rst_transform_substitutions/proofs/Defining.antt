@@ -9,30 +9,31 @@ use Rattle.rst_tree.specs.declared.attrs.Attr.{Attr}
 use Rattle.rst_tree.specs.declared.node.Node.{Node}
 use Rattle.rst_tree.specs.declared.node.Node.TheVariants.{Element, Text}
 use Rattle.rst_tree.specs.declared.tag.Tag.{Tag}
-use Rattle.rst_tree.specs.Forest.{Forest}
+use Rattle.rst_tree.specs.Forest.{Forest, bare, element, words}
 use Rattle.rst_tree.specs.Nodes.{forest_of}
 use Rattle.rst_transform_substitutions.specs.declared.listing.Defined.{Defined}
 use Rattle.rst_transform_substitutions.specs.declared.definitions.Definitions.{Definitions}
-use Rattle.rst_transform_substitutions.specs.Definitions.{defined, definitions_among, found_among, found_by, known_place, last_place, own_definition, place_of_name, place_of_normalized, AreKnown, Definition}
+use Rattle.rst_transform_substitutions.specs.Definitions.{defined, found_among, found_by, known_place, last_place, place_of_name, place_of_normalized, AreKnown, Definition}
 use Rattle.rst_transform_work.specs.Reading.{name_in}
 
--- a text holds none
-pub past_text : (ns : List Node) (i : ℕ) (n : Node) (x : List ℕ) (old : List Defined) (all : List Definition) → i < length ns → n ≡ get_or ns i n → n ≡ Text x
-    → map defined old ++ definitions_among (forest_of (drop i ns)) ≡ all → map defined old ++ definitions_among (forest_of (drop (i + 1) ns)) ≡ all
-past_text ns i n x old all within at is before = rw (drop_more ns i n within, ← at, is) at before
+-- given what is gathered among nodes, and of an element without those in it
+module _ {A : Type 0} (among : Forest → List A) (own : Tag → List Attr → Forest → List A) where
+  -- a text holds nothing
+  pub past_text : (ns : List Node) (i : ℕ) (n : Node) (x : List ℕ) (old all : List A) → ((r : Forest) → among (words x r) ≡ among r) → i < length ns → n ≡ get_or ns i n → n ≡ Text x
+      → old ++ among (forest_of (drop i ns)) ≡ all → old ++ among (forest_of (drop (i + 1) ns)) ≡ all
+  past_text ns i n x old all none within at is before = ap (λ found. old ++ found) (sym (none _)) ∙ (rw (drop_more ns i n within, ← at, is) at before)
 
--- behind an element come those behind it, once its own and those in it are listed
-pub past_element : (ns : List Node) (i : ℕ) (n : Node) (t : Tag) (a : List Attr) (c : Forest) (l : ℕ) (old own new : List Defined) (all : List Definition) → i < length ns → n ≡ get_or ns i n → n ≡ Element t a c l
-    → map defined own ≡ map defined old ++ own_definition t a c → map defined new ≡ map defined own ++ definitions_among c
-    → map defined old ++ definitions_among (forest_of (drop i ns)) ≡ all → map defined new ++ definitions_among (forest_of (drop (i + 1) ns)) ≡ all
-past_element ns i n t a c l old own new all within at is its inside before =
-    let rest : List Definition = definitions_among (forest_of (drop (i + 1) ns)) in
-    let split : map defined old ++ (own_definition t a c ++ (definitions_among c ++ rest)) ≡ all = rw (drop_more ns i n within, ← at, is) at before in
-    rw (inside, its, append_assoc (map defined old ++ own_definition t a c) (definitions_among c) rest, append_assoc (map defined old) (own_definition t a c) (definitions_among c ++ rest)) split
+  -- behind an element come those behind it, once its own and those in it are gathered
+  pub past_element : (ns : List Node) (i : ℕ) (n : Node) (t : Tag) (a : List Attr) (c : Forest) (l : ℕ) (old mine new all : List A) → ((r : Forest) → among (element t a c l r) ≡ own t a c ++ (among c ++ among r)) → i < length ns → n ≡ get_or ns i n
+      → n ≡ Element t a c l → mine ≡ old ++ own t a c → new ≡ mine ++ among c → old ++ among (forest_of (drop i ns)) ≡ all → new ++ among (forest_of (drop (i + 1) ns)) ≡ all
+  past_element ns i n t a c l old mine new all parts within at is its inside before =
+      let rest : List A = among (forest_of (drop (i + 1) ns)) in
+      let split : old ++ (own t a c ++ (among c ++ rest)) ≡ all = ap (λ found. old ++ found) (sym (parts (forest_of (drop (i + 1) ns)))) ∙ (rw (drop_more ns i n within, ← at, is) at before) in
+      rw (inside, its, append_assoc (old ++ own t a c) (among c) rest, append_assoc old (own t a c) (among c ++ rest)) split
 
--- at the end all are listed
-pub at_end : (ns : List Node) (i : ℕ) (old : List Defined) (all : List Definition) → length ns ≤ i → map defined old ++ definitions_among (forest_of (drop i ns)) ≡ all → map defined old ≡ all
-at_end ns i old all past before = sym (append-nil (map defined old)) ∙ rw (drop_all i ns past) at before
+  -- at the end all are gathered
+  pub at_end : (ns : List Node) (i : ℕ) (old all : List A) → among bare ≡ [] → length ns ≤ i → old ++ among (forest_of (drop i ns)) ≡ all → old ≡ all
+  at_end ns i old all none past before = sym (append-nil old) ∙ ap (λ found. old ++ found) (sym none) ∙ (rw (drop_all i ns past) at before)
 
 -- one definition more is the last
 pub last_more : (passes : List ℕ → Bool) (place : ℕ) (before : Option ℕ) (all : List Definition) (one : Definition)

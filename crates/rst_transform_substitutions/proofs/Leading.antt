@@ -1,10 +1,14 @@
 -- A reference comes to the same in each definition that the one that it finds doesn't lead to.
-use Rattle.std.proofs.Common.{◌≡◌, ℕ, zero, suc, ◌+◌, ◌-◌, ◌<◌, ◌++◌, get_or, below_more, map, subst, ◌==◌, ◌≤◌, ◌&&◌, List, [], ◌∷◌, Bool, true, false, length, eqb-true, true≢false, refl, sym, ◌∙◌, ap, arith}
+use Rattle.std.proofs.Common.{◌≡◌, ℕ, zero, suc, take, ◌+◌, ◌-◌, ◌<◌, ◌++◌, get_or, below_more, map, subst, ◌==◌, ◌≤◌, ◌&&◌, List, [], ◌∷◌, Bool, true, false, length, eqb-true, true≢false, refl, sym, ◌∙◌, ap, arith}
 use Rattle.std.specs.Prelude.{if◌then◌else◌, option_map, slice_get, unwrap_or, Option, Some, None, Result, Ok, Err}
-use Rattle.std.specs.List.{list_all, list_any}
+use Rattle.std.specs.Borrow.{Bor}
+use Rattle.std.specs.List.{flat_map, list_all, list_any}
+use Rattle.std.specs.Option.{option_to_list}
 use Rattle.std.proofs.Math.Path.{fun_ext}
 use Rattle.std.proofs.lemmas.Bool.{leb-true, le-leb}
-use Rattle.std.proofs.lemmas.List.Folds.{list_all-append}
+use Rattle.std.proofs.lemmas.Grind.{flat_map-append}
+use Rattle.std.proofs.lemmas.List.{append-nil, flat_map_more, take_more}
+use Rattle.std.proofs.lemmas.List.Folds.{flat_map-map, list_all-append}
 use Rattle.std.proofs.lemmas.Option.{slice_get-get_or, slice_get-map}
 use Rattle.rst_tree.specs.declared.fault.TreeFault.{TreeFault}
 use Rattle.rst_tree.specs.declared.fault.TreeFault.TheVariants.{NoMemory}
@@ -18,7 +22,7 @@ use Rattle.rst_transform_substitutions.specs.declared.expansion.ExpansionFault.T
 use Rattle.rst_transform_substitutions.specs.declared.outcomes.Outcome.{Outcome}
 use Rattle.rst_transform_substitutions.specs.Definitions.{found_by, known_found, placed, with_place}
 use Rattle.rst_transform_substitutions.specs.Expansion.{and_then, behind, entering, expanded, given_within, inside, is_reference, most_nested, most_visited, name_said, nodes_for, nodes_in, size_of, visiting, Expansion}
-use Rattle.rst_transform_substitutions.specs.Numbering.{is_at_least, may_lead, place_list, places_found, AreOrdered}
+use Rattle.rst_transform_substitutions.specs.Numbering.{is_at_least, may_lead, names_said, own_name, places_found, places_of, AreOrdered}
 use Rattle.rst_transform_substitutions.specs.Outcomes.{came}
 
 -- both parts of a test hold
@@ -46,7 +50,12 @@ here_of given is t a c l more = if is then given (name_said a) more else inside 
 module _ (known : Definitions) (led : ℕ → Bool) (closed : (place : ℕ) (content : Forest) → slice_get known.contents.items place ≡ Some content → led place ≡ true → list_all led (places_found known content) ≡ true) where
   -- a name finds a definition at a place that passes it, or none
   abbrev FindsLed : List ℕ → Type 0
-  FindsLed name = list_all led (place_list (known_found known name)) ≡ true
+  FindsLed name = list_all led (option_to_list (known_found known name)) ≡ true
+
+  led_parts : (xs ys : List (List ℕ)) → list_all led (places_of known (xs ++ ys)) ≡ true → (list_all led (places_of known xs) ≡ true) × (list_all led (places_of known ys) ≡ true)
+  led_parts xs ys passes =
+      both (list_all led (places_of known xs)) (list_all led (places_of known ys))
+      (sym (ap (list_all led) (flat_map-append (λ name. option_to_list (known_found known name)) xs ys) ∙ list_all-append led (places_of known xs) (places_of known ys)) ∙ passes)
 
   abbrev IsLed : Option (ℕ × Forest) → Type 0
   IsLed None = Unit {0}
@@ -56,14 +65,14 @@ module _ (known : Definitions) (led : ℕ → Bool) (closed : (place : ℕ) (con
   led_there place None is passes = tt
   led_there place (Some content) is passes = (passes, is)
 
-  led_found : (place : Option ℕ) → list_all led (place_list place) ≡ true → IsLed (placed known.contents.items place)
+  led_found : (place : Option ℕ) → list_all led (option_to_list place) ≡ true → IsLed (placed known.contents.items place)
   led_found None passes = tt
   led_found (Some place) passes = led_there place (slice_get known.contents.items place) refl (both (led place) true passes).0
 
   element_same : (one two : List ℕ → ℕ → Expansion) (is : Bool) (t : Tag) (a : List Attr) (c : Forest) (l : ℕ) → ((name : List ℕ) → FindsLed name → one name ≡ two name) → (list_all led (places_found known c) ≡ true → expanded one c ≡ expanded two c)
-      → list_all led (if is then place_list (known_found known (name_said a)) else places_found known c) ≡ true → here_of one is t a c l ≡ here_of two is t a c l
-  element_same one two true t a c l same inner passes = fun_ext (λ more. ap (λ (e : ℕ → Expansion). e more) (same (name_said a) passes))
-  element_same one two false t a c l same inner passes = fun_ext (λ more. ap (λ (e : ℕ → Expansion). inside t a l (e more)) (inner passes))
+      → list_all led (places_of known (if is then name_said a ∷ [] else [])) ≡ true → list_all led (places_found known c) ≡ true → here_of one is t a c l ≡ here_of two is t a c l
+  element_same one two true t a c l same inner own passes = fun_ext (λ more. ap (λ (e : ℕ → Expansion). e more) (same (name_said a) (rw (append-nil (option_to_list (known_found known (name_said a)))) at own)))
+  element_same one two false t a c l same inner own passes = fun_ext (λ more. ap (λ (e : ℕ → Expansion). inside t a l (e more)) (inner passes))
 
   -- nodes come to the same if what their references do is the same
   expanded_same : (one two : List ℕ → ℕ → Expansion) → ((name : List ℕ) → FindsLed name → one name ≡ two name) → (c : Forest) → list_all led (places_found known c) ≡ true → expanded one c ≡ expanded two c
@@ -71,9 +80,9 @@ module _ (known : Definitions) (led : ℕ → Bool) (closed : (place : ℕ) (con
   expanded_same one two same (words t r) passes =
       fun_ext (λ left. ap (λ (e : ℕ → Expansion). visiting (size_of (Text t)) left (λ more. behind (Text t ∷ []) (e more))) (expanded_same one two same r passes))
   expanded_same one two same (element t a c l r) passes =
-      let here : List ℕ = if is_reference t then place_list (known_found known (name_said a)) else places_found known c in
-      let parts = both (list_all led here) (list_all led (places_found known r)) (sym (list_all-append led here (places_found known r)) ∙ passes) in
-      let first = element_same one two (is_reference t) t a c l same (λ inner. expanded_same one two same c inner) parts.0 in
+      let own = led_parts (own_name t a) (names_said c ++ names_said r) passes in
+      let parts = led_parts (names_said c) (names_said r) own.1 in
+      let first = element_same one two (is_reference t) t a c l same (λ inner. expanded_same one two same c inner) own.0 parts.0 in
       let rest = expanded_same one two same r parts.1 in
       fun_ext (λ left. ap (λ (e : ℕ → Expansion). visiting (size_of (Element t a c l)) left (λ more. and_then (e more) (λ then_more. expanded one r then_more))) first
       ∙ ap (λ (e : ℕ → Expansion). visiting (size_of (Element t a c l)) left (λ more. and_then (here_of two (is_reference t) t a c l more) (λ then_more. e then_more))) rest)
@@ -116,7 +125,7 @@ nodes_same : (known : Definitions) (numbers : List ℕ) (a b place : ℕ) (name 
     → nodes_for (found_by known) (Some a) name ≡ nodes_for (found_by known) (Some b) name
 nodes_same known numbers a b place name ordered finds first second =
     let itself : may_lead numbers place place ≡ true = at_least_itself (slice_get numbers place) in
-    let found : list_all (may_lead numbers place) (place_list (known_found known name)) ≡ true = rw (finds, itself) refl in
+    let found : list_all (may_lead numbers place) (option_to_list (known_found known name)) ≡ true = rw (finds, itself) refl in
     let same =
     given_same known (may_lead numbers place)
     (λ other content there led. weaker (may_lead numbers other) (may_lead numbers place) (λ x leads. at_least_along (slice_get numbers place) (slice_get numbers other) (slice_get numbers x) led leads) (places_found known content) (ordered other content there))
@@ -134,6 +143,15 @@ pub gives_standing : (known : Definitions) (numbers : List ℕ) (place outer oth
     → Gives (λ outcome. came outcome ≡ nodes_for (found_by known) (Some outer) name) result
 gives_standing known numbers place outer other name ordered finds led apart (Ok outcome) gives = gives ∙ same_case known numbers place outer other name (may_lead numbers place outer) refl ordered finds led apart
 gives_standing known numbers place outer other name ordered finds led apart (Err NoMemory) gives = tt
+
+-- what one more item of a list gives
+pub next_given : {X A : Type 0} (f : X → List A) (xs : List X) (i : ℕ) (d : X) (old new : List A) → i < length xs → new ≡ old ++ f (get_or xs i d) → old ≡ flat_map f (take i xs) → new ≡ flat_map f (take (i + 1) xs)
+next_given f xs i d old new within adds is = adds ∙ ap (λ front. front ++ f (get_or xs i d)) is ∙ flat_map_more f [] (take i xs) (get_or xs i d) ∙ ap (flat_map f) (sym (take_more xs i d within))
+
+-- the places that names find which are said among some nodes
+pub found_of : (known : Definitions) (names : List (Bor (List ℕ))) (nodes : Forest) (places : List ℕ) → places ≡ flat_map (λ name. option_to_list (known_found known name.now)) names → map (λ name. name.now) names ≡ names_said nodes
+    → places ≡ places_found known nodes
+found_of known names nodes places is said = is ∙ sym (flat_map-map (λ name. option_to_list (known_found known name)) (λ name. name.now) names) ∙ ap (places_of known) said
 
 -- numbers that are checked against the places that each definition refers to
 pub ordered_all : {V : Type 0} (items : V → List ℕ) (known : Definitions) (referred : List V) (numbers : List ℕ) → map items referred ≡ map (places_found known) known.contents.items

@@ -1,20 +1,31 @@
 -- Numbers of definitions, which show that one doesn't lead to another. No rule of markup: it is what makes remembering right.
 use Rattle.std.specs.Prelude.{◌≡◌, ℕ, nat_le, Bool, true, false, List, [], ◌∷◌, ◌++◌, if◌then◌else◌, slice_get, Option, Some, None}
-use Rattle.std.specs.List.{list_all}
+use Rattle.std.specs.List.{flat_map, list_all}
+use Rattle.std.specs.Option.{option_to_list}
+use Rattle.rst_tree.specs.declared.attrs.Attr.{Attr}
+use Rattle.rst_tree.specs.declared.tag.Tag.{Tag}
 use Rattle.rst_tree.specs.Forest.{Forest, bare, element, words}
 use Rattle.rst_transform_substitutions.specs.declared.definitions.Definitions.{Definitions}
 use Rattle.rst_transform_substitutions.specs.Definitions.{known_found}
 use Rattle.rst_transform_substitutions.specs.Expansion.{is_reference, name_said}
 
-abbrev pub place_list : Option ℕ → List ℕ
-place_list None = []
-place_list (Some place) = place ∷ []
+-- the name that an element says, if it is a reference
+abbrev pub own_name : Tag → List Attr → List (List ℕ)
+own_name t a = if is_reference t then name_said a ∷ [] else []
 
--- the places of the definitions that the references among some nodes find, and those in them
+-- the names that the references among some nodes say, and those in them, in preorder
+abbrev pub names_said : Forest → List (List ℕ)
+names_said bare = []
+names_said (words t r) = names_said r
+names_said (element t a c l r) = own_name t a ++ (names_said c ++ names_said r)
+
+-- the places of the definitions that names find
+abbrev pub places_of : Definitions → List (List ℕ) → List ℕ
+places_of known = flat_map (λ name. option_to_list (known_found known name))
+
+-- those of the references among some nodes, and in them
 abbrev pub places_found : Definitions → Forest → List ℕ
-places_found known bare = []
-places_found known (words t r) = places_found known r
-places_found known (element t a c l r) = (if is_reference t then place_list (known_found known (name_said a)) else places_found known c) ++ places_found known r
+places_found known nodes = places_of known (names_said nodes)
 
 -- a number is at least another, if there is that other
 abbrev pub is_at_least : Option ℕ → Option ℕ → Bool

@@ -1,10 +1,11 @@
 //! Substitution references give way to the contents of their definitions.
-ghost use Rattle.std.specs.Prelude.{◌≡◌, false, OnOk};
+ghost use Rattle.std.specs.Prelude.{◌≡◌, OnOk};
+ghost use Rattle.std.specs.List.{flat_map, list_any};
 ghost use Rattle.rst_tree.specs.Faults.{Gives};
-ghost use Rattle.rst_tree_index.specs.Kinds.{kinds_of, HasNoNewKinds};
-ghost use Rattle.rst_transform_work.specs.States.{elements_of, state};
+ghost use Rattle.rst_tree.specs.Nodes.{nodes_of};
+ghost use Rattle.rst_transform_work.specs.Known.{Makes};
 ghost use Rattle.rst_transform_substitutions.specs.Definitions.{found_by, known_place};
-ghost use Rattle.rst_transform_substitutions.specs.Expanded.{within_element, ExpandsBy, IsExpanded, IsReplaced, ReportsFault};
+ghost use Rattle.rst_transform_substitutions.specs.Expanded.{at_fault, expanded_in, is_reference_node, opened, replaced, with_expansions, within_element};
 ghost use Rattle.rst_transform_substitutions.specs.Outcomes.{Remembers};
 
 use crate::definitions::Definitions;
@@ -13,6 +14,7 @@ use crate::outcomes::{Outcome, Outcomes, reference_outcome};
 use rst_transform_work::{Context, Document, said, take_source};
 use rst_tree::{Attrs, Children, Key, Level, Node, Tag, TreeFault};
 use std::alloc::Global;
+use std::mem;
 
 /// Replaces each substitution reference, in document order, by the content of its definition, expanded in turn (Markup
 /// Specification, 'Substitution References').
@@ -36,52 +38,92 @@ use std::alloc::Global;
 ///     b
 /// ```
 ///
-/// `has` says whether the document may have a reference; without one it stays as it is.
-///
 /// The only refusal is [`TreeFault::NoMemory`].
 pub fn expand(
     alloc: Global,
-    document: Document,
+    mut document: Document,
     context: &mut Context,
-    has: bool,
 ) -> Result<Document, TreeFault>
-    requires has { has ≡ false → (kinds_of (elements_of document)).substitutions ≡ false }
-    ensures expanded { Gives (λ after. IsExpanded (state document context.old) (state after context.new)) result }
-    ensures kinds { Gives (λ after. HasNoNewKinds (elements_of document) (elements_of after)) result }
+    ensures { Gives (Makes (with_expansions document) context.old context.new) result }
 {
-    if !has {
-        return Ok(document);
-    }
-    let Document {
-        attrs,
-        children,
-        line,
-    } = document;
-    let definitions = Definitions::of(alloc, &children)?;
+    let definitions = Definitions::of(alloc, &document.children)?;
     let mut outcomes = Outcomes::new(alloc, &definitions)?;
-    let children = expanded_in(alloc, &definitions, children, None, &mut outcomes, context)?;
-    Ok(Document {
-        attrs,
-        children,
-        line,
-    })
+    let nodes = &mut document.children;
+    expand_in(alloc, &definitions, nodes, None, &mut outcomes, context)?;
+    Ok(document)
 }
 
-/// Replaces the references in nodes, in document order; `within` is the definition that the nodes stand in.
-fn expanded_in(
+/// Replaces the references among nodes and in them, in document order; `within` is the definition that the nodes stand in. Each
+/// reference first holds the nodes that it gives way to.
+fn expand_in(
     alloc: Global,
     definitions: &Definitions,
-    nodes: Children,
+    nodes: &mut Children,
     within: Option<usize>,
     outcomes: &mut Outcomes,
     context: &mut Context,
-) -> Result<Children, TreeFault>
+) -> Result<(), TreeFault>
     requires { Remembers definitions.now outcomes.old }
-    ensures expanded { Gives (ExpandsBy definitions.now within nodes context.old context.new) result }
+    ensures expanded { Gives (λ _. Makes (expanded_in (found_by definitions.now) (known_place definitions.now) within nodes.old) context.old context.new (nodes_of nodes.new)) result }
     ensures remembers { OnOk result (Remembers definitions.now outcomes.new) }
 {
-    let mut done = Vec::with_capacity(alloc, nodes.len())?;
-    for node in nodes.into_list() {
+    for i in 0..nodes.len() {
+        match nodes.get_mut(i) {
+            Node::Text(_) => continue,
+            Node::Element {
+                tag,
+                attrs,
+                children,
+                line,
+            } => {
+                if is_reference(*tag) {
+                    *children = replaced(
+                        alloc,
+                        definitions,
+                        attrs,
+                        *line,
+                        within,
+                        outcomes,
+                        context,
+                    )?;
+                    continue;
+                }
+                let within = within_element(definitions, *tag, attrs, within);
+                expand_in(alloc, definitions, children, within, outcomes, context)?;
+            }
+        }
+    }
+    open_references(alloc, nodes)?;
+    Ok(())
+}
+
+/// Whether a node is a reference.
+fn is_reference_node(node: &Node) -> bool
+    ensures { result ≡ is_reference_node node.now }
+{
+    match node {
+        Node::Element { tag, .. } => is_reference(*tag),
+        Node::Text(_) => false,
+    }
+}
+
+/// Whether there is a reference among nodes.
+fn has_reference(nodes: &[Node]) -> bool
+    ensures { result ≡ list_any is_reference_node nodes.now }
+{
+    nodes.iter().any(|node| is_reference_node(node))
+}
+
+/// Puts the nodes in each reference into its place. The list is made anew only where there is a reference.
+fn open_references(alloc: Global, nodes: &mut Children) -> Result<(), TreeFault>
+    ensures { Gives (λ _. nodes_of nodes.new ≡ flat_map opened (nodes_of nodes.old)) result }
+{
+    if !has_reference(nodes.as_slice()) {
+        return Ok(());
+    }
+    let list = mem::replace(nodes, Children::new(alloc)).into_list();
+    let mut done = Vec::with_capacity(alloc, list.len())?;
+    for node in list {
         match node {
             Node::Text(text) => {
                 done.push(Node::Text(text))?;
@@ -94,31 +136,21 @@ fn expanded_in(
                 line,
             } => {
                 if is_reference(tag) {
-                    let mut here = replaced(
-                        alloc,
-                        definitions,
-                        attrs,
-                        line,
-                        within,
-                        outcomes,
-                        context,
-                    )?;
-                    done.append(&mut here)?;
+                    let mut inner = children.into_list();
+                    done.append(&mut inner)?;
                     continue;
                 }
-                let within = within_element(definitions, tag, &attrs, within);
-                let inner = expanded_in(alloc, definitions, children, within, outcomes, context)?;
                 done.push(Node::Element {
                     tag,
                     attrs,
-                    children: inner,
+                    children,
                     line,
                 })?;
-                continue;
             }
         }
     }
-    Ok(Children::of(done))
+    *nodes = Children::of(done);
+    Ok(())
 }
 
 /// The definition that the nodes in an element stand in.
@@ -140,24 +172,22 @@ fn within_element(
 fn replaced(
     alloc: Global,
     definitions: &Definitions,
-    attrs: Attrs,
+    attrs: &mut Attrs,
     line: usize,
     within: Option<usize>,
     outcomes: &mut Outcomes,
     context: &mut Context,
-) -> Result<Vec<Node>, TreeFault>
+) -> Result<Children, TreeFault>
     requires { Remembers definitions.now outcomes.old }
-    ensures replaced { Gives (λ nodes. IsReplaced (found_by definitions.now) within attrs line context.old context.new nodes.items) result }
+    ensures replaced { Gives (λ nodes. Makes (replaced (found_by definitions.now) within attrs.old line) context.old context.new (nodes_of nodes)) result }
     ensures remembers { OnOk result (Remembers definitions.now outcomes.new) }
 {
-    let name = said(&attrs, Key::Refname);
+    let name = said(attrs, Key::Refname);
     match reference_outcome(alloc, definitions, name, within, outcomes)? {
-        Outcome::Nodes(nodes) => Ok(nodes.into_list()),
+        Outcome::Nodes(nodes) => Ok(nodes),
         Outcome::Fault(fault) => {
             let problematic = problematic(alloc, attrs, line, fault, context)?;
-            let mut nodes = Vec::with_capacity(alloc, 1)?;
-            nodes.push(problematic)?;
-            Ok(nodes)
+            Children::lone(alloc, problematic)
         }
     }
 }
@@ -165,16 +195,16 @@ fn replaced(
 /// The problematic that a reference becomes which isn't replaced, with its message.
 fn problematic(
     alloc: Global,
-    mut attrs: Attrs,
+    attrs: &mut Attrs,
     line: usize,
     fault: ExpansionFault,
     context: &mut Context,
 ) -> Result<Node, TreeFault>
-    ensures { Gives (ReportsFault attrs line fault context.old context.new) result }
+    ensures { Gives (Makes (at_fault attrs.old line fault) context.old context.new) result }
 {
-    let text = fault.text(alloc, said(&attrs, Key::Refname))?;
+    let text = fault.text(alloc, said(attrs, Key::Refname))?;
     let report = context.report(alloc, Level::Error, line, text, true)?;
-    let source = take_source(alloc, &mut attrs)?;
+    let source = take_source(alloc, attrs)?;
     let node = context.problematic(alloc, report, source, line)?;
     Ok(node)
 }

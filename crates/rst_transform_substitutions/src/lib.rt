@@ -4,7 +4,6 @@
 mod definitions;
 pub mod expand;
 mod expansion;
-pub mod laws;
 mod listing;
 mod numbering;
 mod outcomes;

@@ -2,6 +2,7 @@
 ghost use Rattle.std.specs.Prelude.{◌≡◌, ◌++◌, map};
 ghost use Rattle.rst_tree.specs.Faults.{Gives};
 ghost use Rattle.rst_transform_substitutions.specs.Definitions.{defined, definitions_among, own_definition};
+ghost use Rattle.rst_transform_substitutions.specs.Numbering.{names_said, own_name};
 
 use crate::expansion::is_reference;
 use rst_transform_work::said;
@@ -22,7 +23,8 @@ pub fn add_listed<'a>(
     list: &mut Vec<Defined<'a>>,
     names: &mut Vec<&'a str>,
 ) -> Result<(), TreeFault>
-    ensures { Gives (λ _. map defined list.new.items ≡ map defined list.old.items ++ definitions_among nodes.now) result }
+    ensures definitions { Gives (λ _. map defined list.new.items ≡ map defined list.old.items ++ definitions_among nodes.now) result }
+    ensures names { Gives (λ _. map (λ name. name.now) names.new.items ≡ map (λ name. name.now) names.old.items ++ names_said nodes.now) result }
 {
     for node in nodes.as_slice() {
         match node {
@@ -49,7 +51,8 @@ fn add_own<'a>(
     list: &mut Vec<Defined<'a>>,
     names: &mut Vec<&'a str>,
 ) -> Result<(), TreeFault>
-    ensures { Gives (λ _. map defined list.new.items ≡ map defined list.old.items ++ own_definition tag attrs.now content.now) result }
+    ensures definition { Gives (λ _. map defined list.new.items ≡ map defined list.old.items ++ own_definition tag attrs.now content.now) result }
+    ensures name { Gives (λ _. map (λ name. name.now) names.new.items ≡ map (λ name. name.now) names.old.items ++ own_name tag attrs.now) result }
 {
     if is_reference(tag) {
         names.push(said(attrs, Key::Refname))?;

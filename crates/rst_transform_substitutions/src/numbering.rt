@@ -1,13 +1,14 @@
 //! Numbers of definitions, which show that one doesn't lead to another.
 ghost use Rattle.std.specs.Prelude.{◌≡◌, ◌++◌, slice_get, true, map, List, ℕ};
 ghost use Rattle.std.specs.List.{list_all};
+ghost use Rattle.std.specs.Option.{option_to_list};
 ghost use Rattle.rst_tree.specs.Faults.{Gives};
+ghost use Rattle.rst_transform_substitutions.specs.Definitions.{known_found};
 ghost use Rattle.rst_transform_substitutions.specs.Numbering.{may_lead, places_found, AreOrdered};
 
 use crate::definitions::Definitions;
-use crate::expansion::is_reference;
-use rst_transform_work::said;
-use rst_tree::{Children, Key, Node, TreeFault};
+use crate::listing::add_listed;
+use rst_tree::{Children, TreeFault};
 use std::alloc::Global;
 
 /// What a search over the definitions does next with one of them.
@@ -39,43 +40,40 @@ fn referred(alloc: Global, definitions: &Definitions) -> Result<Vec<Vec<usize>>,
 {
     let mut referred = Vec::with_capacity(alloc, definitions.contents.len())?;
     for content in &definitions.contents {
-        let mut places = Vec::new(alloc);
-        add_found(alloc, definitions, content, &mut places)?;
-        referred.push(places)?;
+        referred.push(places_found(alloc, definitions, content)?)?;
     }
     Ok(referred)
 }
 
-/// Adds the places of the definitions that the references among nodes find, and those in them.
-fn add_found(
+/// The places of the definitions that the references among nodes find, and those in them.
+fn places_found(
     alloc: Global,
     definitions: &Definitions,
     nodes: &Children,
+) -> Result<Vec<usize>, TreeFault>
+    ensures { Gives (λ places. places.items ≡ places_found definitions.now nodes.now) result }
+{
+    let mut inner = Vec::new(alloc);
+    let mut names = Vec::new(alloc);
+    add_listed(nodes, &mut inner, &mut names)?;
+    let mut places = Vec::new(alloc);
+    for name in &names {
+        add_found(alloc, definitions, name, &mut places)?;
+    }
+    Ok(places)
+}
+
+/// Adds the place of the definition that a name finds, if there is one.
+fn add_found(
+    alloc: Global,
+    definitions: &Definitions,
+    name: &str,
     places: &mut Vec<usize>,
 ) -> Result<(), TreeFault>
-    ensures { Gives (λ _. places.new.items ≡ places.old.items ++ places_found definitions.now nodes.now) result }
+    ensures { Gives (λ _. places.new.items ≡ places.old.items ++ option_to_list (known_found definitions.now name.now)) result }
 {
-    for node in nodes.as_slice() {
-        match node {
-            Node::Text(_) => continue,
-            Node::Element {
-                tag,
-                attrs,
-                children,
-                ..
-            } => {
-                if is_reference(*tag) {
-                    let found = definitions.find(alloc, said(attrs, Key::Refname))?;
-                    let Some(place) = found else {
-                        continue;
-                    };
-                    places.push(place)?;
-                    continue;
-                }
-                add_found(alloc, definitions, children, places)?;
-                continue;
-            }
-        }
+    if let Some(place) = definitions.find(alloc, name)? {
+        places.push(place)?;
     }
     Ok(())
 }

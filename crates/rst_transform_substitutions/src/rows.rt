@@ -3,7 +3,7 @@
 
 ghost use Rattle.std.specs.Prelude.{◌≡◌, ℕ, ◌+◌, nat_lt, Some, None, Ok, Err, codes, [], ◌∷◌, length, replicate, if◌then◌else◌};
 ghost use Rattle.rst_tree.specs.declared.key.Key.TheVariants.{Name, Refname, Serial};
-ghost use Rattle.rst_tree.specs.declared.tag.Tag.TheVariants.{Emphasis, Image, Reference, SubstitutionReference};
+ghost use Rattle.rst_tree.specs.declared.tag.Tag.TheVariants.{Emphasis, Image, Paragraph, Reference, SubstitutionReference};
 ghost use Rattle.rst_tree.specs.declared.node.Node.TheVariants.{Text as Words};
 ghost use Rattle.rst_tree.specs.Attributes.{attr};
 ghost use Rattle.rst_tree.specs.declared.attrs.Value.TheVariants.{Text as Says};
@@ -12,7 +12,7 @@ ghost use Rattle.rst_tree.specs.Nodes.{forest_of};
 ghost use Rattle.rst_transform_names.specs.Trees.{counts, element, says, text};
 ghost use Rattle.rst_transform_substitutions.specs.declared.expansion.ExpansionFault.TheVariants.{Undefined, Circular, TooLarge};
 ghost use Rattle.rst_transform_substitutions.specs.Expansion.{expanded, fault_text, nodes_for};
-ghost use Rattle.rst_transform_substitutions.specs.Written.{definition, reference, stands_for, stands_in};
+ghost use Rattle.rst_transform_substitutions.specs.Written.{definition, reference, leaves, problem, reports, sourced, stands_for, stands_in};
 
 /// Definitions and the names that find them (Markup Specification, 'Substitution Definitions').
 pub fn definitions()
@@ -69,4 +69,20 @@ pub fn messages()
     ensures undefined { fault_text (codes "a") (Undefined (codes "x")) ≡ codes "Undefined substitution referenced: \"x\"." }
     ensures circular { fault_text (codes "a") (Circular (codes "b")) ≡ codes "Circular substitution definition referenced: \"b\"." }
     ensures too_large { fault_text (codes "a") TooLarge ≡ codes "Substitution expansion too large: \"a\"." }
+{}
+
+/// Documents after the transform (Markup Specification, 'Substitution References').
+pub fn documents()
+    ensures replaced { leaves (element Paragraph [] (text "x " ∷ reference "a" ∷ text "." ∷ []) ∷ definition "a" (text "b" ∷ []) ∷ [])
+        ≡ element Paragraph [] (text "x " ∷ text "b" ∷ text "." ∷ []) ∷ definition "a" (text "b" ∷ []) ∷ [] }
+    ensures two { leaves (reference "a" ∷ element Emphasis [] (reference "b" ∷ []) ∷ definition "a" (text "x" ∷ text "y" ∷ []) ∷ definition "b" [] ∷ [])
+        ≡ text "x" ∷ text "y" ∷ element Emphasis [] [] ∷ definition "a" (text "x" ∷ text "y" ∷ []) ∷ definition "b" [] ∷ [] }
+    ensures in_a_definition { leaves (definition "a" (reference "b" ∷ []) ∷ definition "b" (text "y" ∷ []) ∷ [])
+        ≡ definition "a" (text "y" ∷ []) ∷ definition "b" (text "y" ∷ []) ∷ [] }
+    ensures undefined { leaves (sourced "x" "|x|" ∷ []) ≡ problem "problematic-1" 0 "system-message-1" "|x|" ∷ [] }
+    ensures circular { leaves (sourced "a" "|A|" ∷ definition "a" (sourced "a" "|a|" ∷ []) ∷ [])
+        ≡ problem "problematic-1" 0 "system-message-1" "|A|" ∷ definition "a" (problem "problematic-2" 1 "system-message-2" "|a|" ∷ []) ∷ [] }
+    ensures messages { reports (element Emphasis [] (reference "x" ∷ []) ∷ reference "a" ∷ definition "a" (reference "a" ∷ []) ∷ [])
+        ≡ codes "Undefined substitution referenced: \"x\"." ∷ codes "Circular substitution definition referenced: \"a\"."
+        ∷ codes "Circular substitution definition referenced: \"a\"." ∷ [] }
 {}

@@ -1,5 +1,4 @@
 pub mod Computing
-pub mod Additions
 pub mod Listing
-pub mod OneAnswer
+pub mod Holding
 pub mod Spelling

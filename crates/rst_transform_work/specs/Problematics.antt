@@ -1,28 +1,25 @@
 -- Problematics and the messages that they belong to (Document Tree, 'problematic', 'system_message').
-use Rattle.std.specs.Prelude.{◌≡◌, ℕ, List, [], ◌∷◌, ◌++◌, slice_get, slice_set, Option, Some, None}
+use Rattle.std.specs.Prelude.{ℕ, List, [], ◌∷◌, ◌++◌, slice_get, slice_set, Option, Some, None}
 use Rattle.rst_tree.specs.declared.attrs.Attr.{Attr}
 use Rattle.rst_tree.specs.declared.attrs.Value.TheVariants.{Text as Words, Number, List as Listed}
 use Rattle.rst_tree.specs.declared.key.Key.TheVariants.{Ids as IdsKey, Message, Refid}
 use Rattle.rst_tree.specs.declared.node.Node.{Node}
 use Rattle.rst_tree.specs.declared.node.Node.TheVariants.{Element}
-use Rattle.rst_tree.specs.declared.tag.Tag.{Tag}
 use Rattle.rst_tree.specs.declared.tag.Tag.TheVariants.{Problematic, SystemMessage}
 use Rattle.rst_tree.specs.Attributes.{attr}
 use Rattle.rst_tree.specs.Forest.{bare, words}
-use Rattle.rst_tree.specs.TagNames.{hyphenated, tag_name}
-use Rattle.rst_transform_names.specs.declared.ids.Ids.{Ids}
-use Rattle.rst_transform_names.specs.Ids.{is_taken, IsNumbered, Takes}
+use Rattle.rst_transform_names.specs.Ids.{kind_id}
 use Rattle.rst_transform_work.specs.declared.report.Report.{Report}
-use Rattle.rst_transform_work.specs.declared.context.Context.{Context}
+use Rattle.rst_transform_work.specs.Known.{Known}
 
--- a new id of a kind's name is taken
-abbrev pub NewId : Tag → List ℕ → Ids → Ids → Type 0
-NewId tag id before after = IsNumbered (is_taken before) (hyphenated (tag_name tag)) id × Takes id before after
+-- the id of a message: its own, or a new one if it has none; and the ids that are taken then
+abbrev pub own_id : Option (List ℕ) → List (List ℕ) → List ℕ
+own_id (Some own) taken = own
+own_id None taken = kind_id taken SystemMessage
 
--- the id of a message: its own, or a new one if it has none
-abbrev pub OwnId : Option (List ℕ) → List ℕ → Ids → Ids → Type 0
-OwnId (Some own) id before after = (id ≡ own) × (after ≡ before)
-OwnId None id before after = NewId SystemMessage id before after
+abbrev pub with_own_id : Option (List ℕ) → List (List ℕ) → List (List ℕ)
+with_own_id (Some own) taken = taken
+with_own_id None taken = kind_id taken SystemMessage ∷ taken
 
 -- a message with its own id and with one more problematic
 abbrev pub referring : List ℕ → List ℕ → Report → Report
@@ -37,32 +34,21 @@ message_attrs None = []
 abbrev pub problematic_attrs : List ℕ → Option (ℕ × List ℕ) → List Attr
 problematic_attrs id message = attr IdsKey (Listed (id ∷ [])) ∷ message_attrs message
 
--- the next problematic of a message, which is the one at a place
-pub record IsNext (r : Report) (place : ℕ) (before after : Context) (attrs : List Attr) : Type 0 where
-  pub id : List ℕ
-  pub own : List ℕ
-  pub between : Ids
-  pub new_id : NewId Problematic id before.ids between
-  pub own_id : OwnId r.id own between after.ids
-  pub says : attrs ≡ problematic_attrs id (Some (r.number, own))
-  pub reports : after.reports.items ≡ slice_set before.reports.items place (referring own id r)
-  pub rest : after ≡ record before { ids = after.ids; reports = after.reports }
+-- The next problematic of a message, if there is one, which is at a place among the messages. It gets its id before the message gets one.
+abbrev pub problematic_of : Option Report → ℕ → Known → List Attr × Known
+problematic_of None place known =
+    let id : List ℕ = kind_id known.ids Problematic in (problematic_attrs id None, record known { ids = id ∷ known.ids })
+problematic_of (Some r) place known =
+    let id : List ℕ = kind_id known.ids Problematic in
+    let own : List ℕ = own_id r.id (id ∷ known.ids) in (
+      problematic_attrs id (Some (r.number, own)),
+      record known { ids = with_own_id r.id (id ∷ known.ids); reports = slice_set known.reports place (referring own id r) },
+    )
 
--- a problematic without message
-pub record IsAlone (before after : Context) (attrs : List Attr) : Type 0 where
-  pub id : List ℕ
-  pub new_id : NewId Problematic id before.ids after.ids
-  pub says : attrs ≡ problematic_attrs id None
-  pub rest : after ≡ record before { ids = after.ids }
-
--- the next problematic of the message at a place, if there is that
-abbrev pub MakesProblematic : Option Report → ℕ → Context → Context → List Attr → Type 0
-MakesProblematic (Some r) place before after attrs = IsNext r place before after attrs
-MakesProblematic None place before after attrs = IsAlone before after attrs
+-- the next problematic of the message at a place, if there is one there
+abbrev pub problematic : ℕ → Known → List Attr × Known
+problematic place known = problematic_of (slice_get known.reports place) place known
 
 -- the same as a node, with a source text, on a line
-abbrev pub MakesProblematicNode : ℕ → List ℕ → ℕ → Context → Context → Node → Type 0
-MakesProblematicNode place source line before after node =
-    (attrs : List Attr)
-    × MakesProblematic (slice_get before.reports.items place) place before after attrs
-    × (node ≡ Element Problematic attrs (words source bare) line)
+abbrev pub problematic_node : ℕ → List ℕ → ℕ → Known → Node × Known
+problematic_node place source line known = let done = problematic place known in (Element Problematic done.0 (words source bare) line, done.1)

@@ -11,6 +11,7 @@ use Rattle.rst_tree.specs.LevelNames.{level_number}
 use Rattle.rst_tree.specs.Messages.{message_with}
 use Rattle.rst_transform_work.specs.declared.report.Report.{Report}
 use Rattle.rst_transform_work.specs.declared.context.Context.{Context}
+use Rattle.rst_transform_work.specs.Known.{Known}
 
 -- what the message says, for the list of messages
 abbrev pub report_note : Report → Note
@@ -41,6 +42,10 @@ next_report first reports level line text own =
 -- the same behind those that are known
 abbrev pub report_in : Context → Level → ℕ → List ℕ → Bool → Report
 report_in context level line text own = next_report context.first_number context.reports.items level line text own
+
+-- one more message is known
+abbrev pub reported : Level → ℕ → List ℕ → Bool → Known → Known
+reported level line text own known = record known { reports = known.reports ++ next_report known.first_number known.reports level line text own ∷ [] }
 
 -- one more message is known, behind the others
 abbrev pub IsReported : Report → Context → Context → Type 0

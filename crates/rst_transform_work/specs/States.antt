@@ -1,11 +1,10 @@
--- The document, and what is known beside it, between two transforms (Document Tree, 'document').
+-- The document between two transforms (Document Tree, 'document').
 use Rattle.std.specs.Prelude.{◌≡◌, List, Option, Some, None}
 use Rattle.rst_tree.specs.declared.node.Node.{Node}
 use Rattle.rst_tree.specs.declared.node.Node.TheVariants.{Element, Text}
 use Rattle.rst_tree.specs.declared.tag.Tag.{Tag}
 use Rattle.rst_tree.specs.declared.tag.Tag.TheVariants.{Document as DocumentTag}
 use Rattle.rst_tree.specs.Walk.{node_items, Item}
-use Rattle.rst_transform_work.specs.declared.context.Context.{Context}
 use Rattle.rst_transform_work.specs.declared.document.Document.{Document}
 
 -- the document as a node
@@ -24,11 +23,3 @@ node_tag (Text t) = None
 -- a node is a document
 abbrev pub IsDocument : Node → Type 0
 IsDocument node = node_tag node ≡ Some DocumentTag
-
--- a document and what is known beside it
-pub record State : Type 0 where
-  pub document : Document
-  pub context : Context
-
-abbrev pub state : Document → Context → State
-state d c = record { document = d; context = c }

@@ -1,7 +1,8 @@
 //! What is known beside the document between two transforms.
 ghost use Rattle.std.specs.Prelude.{◌≡◌, ◌+◌, false, slice_get, vec_len};
 ghost use Rattle.rst_tree.specs.Faults.{Gives};
-ghost use Rattle.rst_transform_work.specs.Problematics.{MakesProblematic, MakesProblematicNode};
+ghost use Rattle.rst_transform_work.specs.Known.{Makes};
+ghost use Rattle.rst_transform_work.specs.Problematics as spec;
 ghost use Rattle.rst_transform_work.specs.Reports.{report_in, report_node, IsReported, KeepsRest};
 
 use crate::problematics::ProblematicAttrs;
@@ -89,7 +90,7 @@ impl Context {
         source: Text,
         line: usize,
     ) -> Result<Node, TreeFault>
-        ensures { Gives (MakesProblematicNode report source line self.old self.new) result }
+        ensures { Gives (Makes (spec.problematic_node report source line) self.old self.new) result }
     {
         let mut attrs = Attrs::new(alloc);
         self.next_problematic(alloc, report)?
@@ -110,7 +111,7 @@ impl Context {
         alloc: Global,
         report: usize,
     ) -> Result<ProblematicAttrs, TreeFault>
-        ensures { Gives (λ attrs. MakesProblematic (slice_get self.old.reports.items report) report self.old self.new attrs) result }
+        ensures { Gives (Makes (spec.problematic report) self.old self.new) result }
     {
         let id = self.ids.give_kind(alloc, Tag::Problematic)?;
         if report >= self.reports.len() {

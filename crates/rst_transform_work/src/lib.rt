@@ -3,7 +3,6 @@
 
 mod context;
 mod document;
-pub mod laws;
 mod lists;
 mod problematics;
 mod reading;

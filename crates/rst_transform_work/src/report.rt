@@ -1,7 +1,8 @@
 //! The messages of the transforms.
-ghost use Rattle.std.specs.Prelude.{◌≡◌, ◌++◌};
+ghost use Rattle.std.specs.Prelude.{◌≡◌, ◌++◌, List, ℕ};
 ghost use Rattle.rst_tree.specs.Faults.{Gives};
-ghost use Rattle.rst_transform_work.specs.Problematics.{referring, OwnId};
+ghost use Rattle.rst_transform_names.specs.Ids.{AreTaken};
+ghost use Rattle.rst_transform_work.specs.Problematics.{own_id, referring, with_own_id};
 ghost use Rattle.rst_transform_work.specs.Reports.{id_attrs, report_attrs, report_node, report_note, without_ids};
 
 use rst_transform_names::Ids;
@@ -82,7 +83,7 @@ impl Report {
         id: Text,
     ) -> Result<Text, TreeFault>
         ensures report { Gives (λ own. self.new ≡ referring own id self.old) result }
-        ensures ids { Gives (λ own. OwnId self.old.id own ids.old ids.new) result }
+        ensures ids { (taken : List (List ℕ)) → AreTaken ids.old taken → Gives (λ own. (own ≡ own_id self.old.id taken) × AreTaken ids.new (with_own_id self.old.id taken)) result }
     {
         self.backrefs.push(id)?;
         if let Some(own) = &self.id {

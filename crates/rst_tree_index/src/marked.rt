@@ -2,13 +2,11 @@
 ghost use Rattle.std.specs.Prelude.{◌≡◌, ◌++◌, [], map, if◌then◌else◌};
 ghost use Rattle.std.specs.List.{filter};
 ghost use Rattle.rst_tree.specs.Faults.{Gives};
-ghost use Rattle.rst_tree.specs.Walk.{item, items, node_items, after, scanned, walked_node, node_shape};
-ghost use Rattle.rst_tree_index.specs.Kinds.{either, kinds_of};
+ghost use Rattle.rst_tree.specs.Walk.{item, node_items, after, scanned, walked_node, node_shape};
 ghost use Rattle.rst_tree_index.specs.MarkPaths.{node_paths};
 ghost use Rattle.rst_tree_index.specs.Marks.{marks_of, heeded_next, heeded_out, path_of, places, visited_all, with_all};
 ghost use Rattle.rst_tree_index.specs.Registered.{is_registered, item_of};
 
-use crate::kinds::Kinds;
 use crate::marks::Marks;
 use crate::registered::is_registered;
 use rst_tree::{Attrs, Children, Node, Tag, TreeFault, Visitor};
@@ -109,17 +107,11 @@ fn visit_in<V: Visitor>(
     Ok(())
 }
 
-/// Puts the marks of nodes that were made elsewhere behind others, seen from the element that holds them. Their kinds are added.
+/// Puts the marks of nodes that were made elsewhere behind others, seen from the element that holds them.
 ///
 /// Most of these nodes are texts or hold texts alone: those cost no list of marks.
-fn add_marks(
-    alloc: Global,
-    nodes: &Children,
-    marks: &mut Marks,
-    kinds: &mut Kinds,
-) -> Result<(), TreeFault>
-    ensures marks { Gives (λ _. marks.new ≡ marks.old ++ map path_of (places is_registered nodes.now)) result }
-    ensures kinds { Gives (λ _. kinds.new ≡ either kinds.old (kinds_of (items nodes.now))) result }
+fn add_marks(alloc: Global, nodes: &Children, marks: &mut Marks) -> Result<(), TreeFault>
+    ensures { Gives (λ _. marks.new ≡ marks.old ++ map path_of (places is_registered nodes.now)) result }
 {
     let list = nodes.as_slice();
     for place in 0..list.len() {
@@ -132,23 +124,17 @@ fn add_marks(
         else {
             continue;
         };
-        kinds.add(*tag, attrs);
         let mut inner = Marks::none(alloc);
-        add_marks(alloc, children, &mut inner, kinds)?;
+        add_marks(alloc, children, &mut inner)?;
         marks.push(place, is_registered(*tag, attrs, *line), inner)?;
     }
     Ok(())
 }
 
-/// The marks of a node that was made elsewhere, by a pass over it: whether it is marked itself, and those in it. Its kinds are added.
+/// The marks of a node that was made elsewhere, by a pass over it: whether it is marked itself, and those in it.
 #[inline(always)]
-pub(crate) fn marks_of(
-    alloc: Global,
-    node: &Node,
-    kinds: &mut Kinds,
-) -> Result<(bool, Marks), TreeFault>
-    ensures marks { Gives (λ marks. node_paths marks.0 marks.1 ≡ marks_of is_registered node.now) result }
-    ensures kinds { Gives (λ _. kinds.new ≡ either kinds.old (kinds_of (node_items node.now))) result }
+pub(crate) fn marks_of(alloc: Global, node: &Node) -> Result<(bool, Marks), TreeFault>
+    ensures { Gives (λ marks. node_paths marks.0 marks.1 ≡ marks_of is_registered node.now) result }
 {
     let mut inner = Marks::none(alloc);
     let Node::Element {
@@ -160,13 +146,11 @@ pub(crate) fn marks_of(
     else {
         return Ok((false, inner));
     };
-    kinds.add(*tag, attrs);
-    add_marks(alloc, children, &mut inner, kinds)?;
+    add_marks(alloc, children, &mut inner)?;
     Ok((is_registered(*tag, attrs, *line), inner))
 }
 
-/// A node, and where those of its elements stand that registration needs: their paths, in preorder; and which kinds of elements it
-/// holds.
+/// A node, and where those of its elements stand that registration needs: their paths, in preorder.
 #[derive(Debug, Drop)]
 pub struct Marked {
     root: Node,
@@ -174,7 +158,6 @@ pub struct Marked {
     own: bool,
     /// The marks in it.
     inner: Marks,
-    kinds: Kinds,
 }
 
 impl Model for Marked {
@@ -187,15 +170,13 @@ impl Model for Marked {
 
     ghost coded = { Prim.hlevel (codes, node.the_row.coded) };
 
-    ghost use Rattle.rst_tree.specs.Walk.{node_items};
-    ghost use Rattle.rst_tree_index.specs.Kinds.{kinds_of};
     ghost use Rattle.rst_tree_index.specs.MarkPaths.{node_paths};
     ghost use Rattle.rst_tree_index.specs.Marks.{marks_of};
     ghost use Rattle.rst_tree_index.specs.Registered.{is_registered};
 
     ghost view = { λ m. m.root };
 
-    ghost invariant = { λ m. (node_paths m.own m.inner ≡ marks_of is_registered m.root) × (m.kinds ≡ kinds_of (node_items m.root)) };
+    ghost invariant = { λ m. node_paths m.own m.inner ≡ marks_of is_registered m.root };
 }
 
 impl Marked {
@@ -206,52 +187,27 @@ impl Marked {
     pub fn of(alloc: Global, root: Node) -> Result<Marked, TreeFault>
         ensures { Gives (λ m. m ≡ root) result }
     {
-        let mut kinds = Kinds::none();
-        let (own, inner) = marks_of(alloc, &root, &mut kinds)?;
-        Ok(Marked {
-            root,
-            own,
-            inner,
-            kinds,
-        })
+        let (own, inner) = marks_of(alloc, &root)?;
+        Ok(Marked { root, own, inner })
     }
 
-    /// A node whose marks and kinds are known.
+    /// A node whose marks are known.
     #[inline(always)]
-    pub(crate) fn from_parts(root: Node, own: bool, inner: Marks, kinds: Kinds) -> Marked
-        requires marks { node_paths own inner ≡ marks_of is_registered root }
-        requires kinds { kinds ≡ kinds_of (node_items root) }
+    pub(crate) fn from_parts(root: Node, own: bool, inner: Marks) -> Marked
+        requires { node_paths own inner ≡ marks_of is_registered root }
         ensures { result ≡ root }
     {
-        Marked {
-            root,
-            own,
-            inner,
-            kinds,
-        }
+        Marked { root, own, inner }
     }
 
-    /// The node, whether it is marked itself, the marks in it and its kinds.
+    /// The node, whether it is marked itself, and the marks in it.
     #[inline(always)]
-    pub(crate) fn into_parts(self) -> (Node, bool, Marks, Kinds)
+    pub(crate) fn into_parts(self) -> (Node, bool, Marks)
         ensures root { result.0 ≡ self }
         ensures marks { node_paths result.1 result.2 ≡ marks_of is_registered self }
-        ensures kinds { result.3 ≡ kinds_of (node_items self) }
     {
-        let Marked {
-            root,
-            own,
-            inner,
-            kinds,
-        } = self;
-        (root, own, inner, kinds)
-    }
-
-    /// Which kinds of elements that transforms act on the node holds.
-    pub fn kinds(&self) -> Kinds
-        ensures { result ≡ kinds_of (node_items self.now) }
-    {
-        self.kinds
+        let Marked { root, own, inner } = self;
+        (root, own, inner)
     }
 
     /// The node alone.
@@ -289,7 +245,6 @@ impl Marked {
             mut root,
             own,
             inner,
-            ..
         } = self;
         visit_in(&mut root, own, &inner, visitor)?;
         Ok(root)

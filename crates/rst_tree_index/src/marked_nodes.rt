@@ -1,16 +1,13 @@
-//! Nodes that stand beside each other, and what is known of those that have marks or kinds.
+//! Nodes that stand beside each other, and the marks of those that have any.
 ghost use Rattle.std.specs.Prelude.{◌≡◌, ◌<◌, ◌∷◌, ◌++◌, [], map, OnErr};
 ghost use Rattle.std.specs.Vec.{vec_capacity, vec_len};
 ghost use Rattle.rst_tree.specs.Faults.{Gives};
 ghost use Rattle.rst_tree.specs.Nodes.{forest_of};
-ghost use Rattle.rst_tree.specs.Walk.{node_items};
-ghost use Rattle.rst_tree_index.specs.Kinds.{kinds_of};
-ghost use Rattle.rst_tree_index.specs.Known.{entry_of, is_plain, known_if};
+ghost use Rattle.rst_tree_index.specs.Known.{entry_of, known_at};
 ghost use Rattle.rst_tree_index.specs.MarkPaths.{node_paths};
 ghost use Rattle.rst_tree_index.specs.Marks.{marks_of};
 ghost use Rattle.rst_tree_index.specs.Registered.{is_registered};
 
-use crate::kinds::Kinds;
 use crate::marked::{Marked, marks_of};
 use crate::marks::{Marks, is_used};
 use crate::registered::is_registered;
@@ -28,40 +25,16 @@ struct Known {
     own: bool,
     /// The marks in it.
     inner: Marks,
-    kinds: Kinds,
-}
-
-/// Whether nothing has to be known of a node: neither it nor an element in it is marked, and they are of no kind.
-#[inline(always)]
-fn is_plain(own: bool, inner: &Marks, kinds: Kinds) -> bool
-    ensures { result ≡ is_plain (node_paths own inner.now) kinds }
-{
-    if is_used(own, inner) {
-        return false;
-    }
-    kinds.is_none()
 }
 
 /// Puts what is known of the node at a place behind the rest, if anything is known.
 #[inline(always)]
-fn note(
-    known: &mut Vec<Known>,
-    place: usize,
-    own: bool,
-    inner: Marks,
-    kinds: Kinds,
-) -> Result<(), TreeFault>
-    ensures noted { let paths = node_paths own inner in
-        Gives (λ _. map entry_of known.new.items ≡ map entry_of known.old.items ++ known_if (is_plain paths kinds) (place, paths, kinds)) result }
+fn note(known: &mut Vec<Known>, place: usize, own: bool, inner: Marks) -> Result<(), TreeFault>
+    ensures noted { Gives (λ _. map entry_of known.new.items ≡ map entry_of known.old.items ++ known_at place (node_paths own inner)) result }
     ensures kept { OnErr result (known.new.items ≡ known.old.items) }
 {
-    if !is_plain(own, &inner, kinds) {
-        known.push(Known {
-            place,
-            own,
-            inner,
-            kinds,
-        })?;
+    if is_used(own, &inner) {
+        known.push(Known { place, own, inner })?;
     }
     Ok(())
 }
@@ -81,8 +54,8 @@ fn make_room(nodes: &mut Vec<Node>) -> Result<(), TreeFault>
     Ok(())
 }
 
-/// Nodes that stand beside each other, as those of an element, with the marks and the kinds of each. Most nodes have none: so
-/// what is known is kept beside the nodes, for the others alone, and the nodes become those of an element as they stand.
+/// Nodes that stand beside each other, as those of an element, with the marks of each. Most nodes have none: so what is known is
+/// kept beside the nodes, for the others alone, and the nodes become those of an element as they stand.
 #[derive(Debug, Drop)]
 pub struct MarkedNodes {
     nodes: Vec<Node>,
@@ -127,9 +100,8 @@ impl MarkedNodes {
     {
         let mut known = Vec::new(alloc);
         for (place, root) in nodes.iter().enumerate() {
-            let mut kinds = Kinds::none();
-            let (own, inner) = marks_of(alloc, root, &mut kinds)?;
-            note(&mut known, place, own, inner, kinds)?;
+            let (own, inner) = marks_of(alloc, root)?;
+            note(&mut known, place, own, inner)?;
         }
         Ok(MarkedNodes { nodes, known })
     }
@@ -160,16 +132,15 @@ impl MarkedNodes {
         self.nodes.is_empty()
     }
 
-    /// Puts a node behind the others whose marks and kinds are known.
+    /// Puts a node behind the others whose marks are known.
     #[inline(always)]
-    fn put(&mut self, root: Node, own: bool, inner: Marks, kinds: Kinds) -> Result<(), TreeFault>
-        requires marks { node_paths own inner ≡ marks_of is_registered root }
-        requires kinds { kinds ≡ kinds_of (node_items root) }
+    fn put(&mut self, root: Node, own: bool, inner: Marks) -> Result<(), TreeFault>
+        requires { node_paths own inner ≡ marks_of is_registered root }
         ensures { Gives (λ _. self.new ≡ self.old ++ root ∷ []) result }
     {
         // Room first: once something is known of the node, it has to follow.
         make_room(&mut self.nodes)?;
-        note(&mut self.known, self.nodes.len(), own, inner, kinds)?;
+        note(&mut self.known, self.nodes.len(), own, inner)?;
         self.nodes.push_reserved(root);
         Ok(())
     }
@@ -179,8 +150,8 @@ impl MarkedNodes {
     pub fn push(&mut self, node: Marked) -> Result<(), TreeFault>
         ensures { Gives (λ _. self.new ≡ self.old ++ node ∷ []) result }
     {
-        let (root, own, inner, kinds) = node.into_parts();
-        self.put(root, own, inner, kinds)
+        let (root, own, inner) = node.into_parts();
+        self.put(root, own, inner)
     }
 
     /// Puts a node behind the others that was made elsewhere. It is marked by a pass over it.
@@ -188,9 +159,8 @@ impl MarkedNodes {
         ensures { Gives (λ _. self.new ≡ self.old ++ root ∷ []) result }
     {
         let alloc = *self.nodes.allocator();
-        let mut kinds = Kinds::none();
-        let (own, inner) = marks_of(alloc, &root, &mut kinds)?;
-        self.put(root, own, inner, kinds)
+        let (own, inner) = marks_of(alloc, &root)?;
+        self.put(root, own, inner)
     }
 
     /// Puts nodes behind the others that were made elsewhere.
@@ -238,14 +208,11 @@ impl MarkedNodes {
     {
         let own = is_registered(tag, &attrs, line);
         let mut inner = Marks::none(*self.nodes.allocator());
-        let mut kinds = Kinds::none();
-        kinds.add(tag, &attrs);
         let MarkedNodes { mut nodes, known } = self;
         // The list stays as it is in the element, so it keeps no room for more.
         nodes.shrink_to_fit();
         for node in known {
             inner.push(node.place, node.own, node.inner)?;
-            kinds = kinds.or(node.kinds);
         }
         let root = Node::Element {
             tag,
@@ -253,7 +220,7 @@ impl MarkedNodes {
             children: Children::of(nodes),
             line,
         };
-        Ok(Marked::from_parts(root, own, inner, kinds))
+        Ok(Marked::from_parts(root, own, inner))
     }
 
     /// The nodes one after the other, each with its marks.
@@ -303,14 +270,13 @@ impl Model for MarkedIter {
     ghost invariant = { λ m. (into_iter_len m.nodes ≤ m.count) × (m.ahead ≡ None → into_iter_items m.known ≡ []) × (map entry_of (option_to_list m.ahead ++ into_iter_items m.known) ≡ known_of (m.count - into_iter_len m.nodes) (into_iter_items m.nodes)) };
 }
 
-/// A node without marks and kinds.
+/// A node without marks.
 #[inline(always)]
 fn plain(alloc: Global, root: Node) -> Marked
-    requires marks { marks_of is_registered root ≡ [] }
-    requires kinds { kinds_of (node_items root) ≡ kinds_of [] }
+    requires { marks_of is_registered root ≡ [] }
     ensures { result ≡ root }
 {
-    Marked::from_parts(root, false, Marks::none(alloc), Kinds::none())
+    Marked::from_parts(root, false, Marks::none(alloc))
 }
 
 impl MarkedIter {
@@ -339,6 +305,6 @@ impl MarkedIter {
             return Some(plain(alloc, root));
         }
         self.ahead = self.known.next();
-        Some(Marked::from_parts(root, known.own, known.inner, known.kinds))
+        Some(Marked::from_parts(root, known.own, known.inner))
     }
 }

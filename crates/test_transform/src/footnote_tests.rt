@@ -2,6 +2,7 @@
 
 use crate::outline::{document, naming, shown};
 use rst_transform_footnotes::footnotes::footnotes;
+use rst_transform_links::{linked_in, with_changes};
 use rst_transform_references::resolve::resolve;
 use std::test::Fail;
 
@@ -271,7 +272,10 @@ fn numbers_footnotes(rt: HostRuntime) -> Result<(), Fail> {
     for &(before, after) in FOOTNOTES {
         let document = document(alloc, before)?;
         let mut context = naming(alloc, &document)?;
-        let changed = footnotes(alloc, document, &mut context, true)?;
+        let linked = linked_in(alloc, &document)?;
+        let changes = footnotes(alloc, &mut context, linked.as_slice())?;
+        drop(linked);
+        let changed = with_changes(alloc, document, changes)?;
         assert_eq!(rt; shown(alloc, changed, &context)?.as_str(), after);
     }
     Ok(())
@@ -283,7 +287,10 @@ fn resolves_names(rt: HostRuntime) -> Result<(), Fail> {
     for &(before, after) in RESOLVE {
         let document = document(alloc, before)?;
         let mut context = naming(alloc, &document)?;
-        let changed = resolve(alloc, document, &mut context, true)?;
+        let linked = linked_in(alloc, &document)?;
+        let changes = resolve(alloc, &mut context, linked.as_slice())?;
+        drop(linked);
+        let changed = with_changes(alloc, document, changes)?;
         assert_eq!(rt; shown(alloc, changed, &context)?.as_str(), after);
     }
     Ok(())

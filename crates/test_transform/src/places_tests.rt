@@ -146,7 +146,7 @@ fn places_targets(rt: HostRuntime) -> Result<(), Fail> {
     for &(before, after) in TARGETS {
         let document = document(alloc, before)?;
         let mut context = context(alloc);
-        let changed = targets(alloc, document, &mut context, true)?;
+        let changed = targets(alloc, document, &mut context)?;
         assert_eq!(rt; shown(alloc, changed, &context)?.as_str(), after);
     }
     Ok(())

@@ -3,6 +3,7 @@
 use crate::outline::{document, naming, shown};
 use rst_transform_hyperlinks::anonymous::anonymous;
 use rst_transform_hyperlinks::indirect::indirect;
+use rst_transform_links::{linked_in, with_changes};
 use std::test::Fail;
 
 const ANONYMOUS: &[(&str, &str)] = &[
@@ -179,7 +180,10 @@ fn joins_anonymous_references(rt: HostRuntime) -> Result<(), Fail> {
     for &(before, after) in ANONYMOUS {
         let document = document(alloc, before)?;
         let mut context = naming(alloc, &document)?;
-        let changed = anonymous(alloc, document, &mut context, true)?;
+        let linked = linked_in(alloc, &document)?;
+        let changes = anonymous(alloc, &mut context, linked.as_slice())?;
+        drop(linked);
+        let changed = with_changes(alloc, document, changes)?;
         assert_eq!(rt; shown(alloc, changed, &context)?.as_str(), after);
     }
     Ok(())
@@ -191,7 +195,10 @@ fn follows_indirect_targets(rt: HostRuntime) -> Result<(), Fail> {
     for &(before, after) in INDIRECT {
         let document = document(alloc, before)?;
         let mut context = naming(alloc, &document)?;
-        let changed = indirect(alloc, document, &mut context, true)?;
+        let linked = linked_in(alloc, &document)?;
+        let changes = indirect(alloc, &mut context, linked.as_slice())?;
+        drop(linked);
+        let changed = with_changes(alloc, document, changes)?;
         assert_eq!(rt; shown(alloc, changed, &context)?.as_str(), after);
     }
     Ok(())

@@ -213,7 +213,7 @@ fn places_transitions(rt: HostRuntime) -> Result<(), Fail> {
     for &(before, after) in TRANSITIONS {
         let document = document(alloc, before)?;
         let mut context = context(alloc);
-        let changed = transitions(alloc, document, &mut context, true)?;
+        let changed = transitions(alloc, document, &mut context)?;
         assert_eq!(rt; shown(alloc, changed, &context)?.as_str(), after);
     }
     Ok(())

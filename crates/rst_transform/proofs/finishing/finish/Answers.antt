@@ -1,46 +1,46 @@
-use Rattle.std.proofs.Common.{◌∙◌, List, ap, refl, subst, sym}
-use Rattle.rst_tree.specs.Walk.{node_items}
-use Rattle.rst_tree_index.specs.Kinds.{HasNoNewKinds}
-use Rattle.rst_transform.proofs.Registered.{registered_document}
-use Rattle.rst_transform.specs.Finishing.{all_messages}
-use Rattle.rst_transform_messages.specs.Listed.{Lists}
-use Rattle.rst_transform_messages.specs.Messages.{notes_of, until_halt, Numbered}
-use Rattle.rst_transform_messages.specs.MessagesIn.{messages_in}
-use Rattle.rst_transform_work.specs.States.{document_node, state}
+use Rattle.std.proofs.Common.{◌≡◌, ◌∙◌, ◌++◌, List, map, ap, ap₂, subst, sym}
+use Rattle.rst_settings.specs.Profile.{profile_of}
+use Rattle.rst_tree.specs.declared.node.Node.{Node}
+use Rattle.rst_tree.specs.declared.node.Node.TheVariants.{Element, Text}
+use Rattle.rst_transform_names.proofs.RegisteredRoot.{registered_kind}
+use Rattle.rst_transform_names.specs.Registering.{registration}
+use Rattle.rst_transform_work.specs.declared.document.Document.{Document}
+use Rattle.rst_transform_work.specs.Known.{Holds, Known}
+use Rattle.rst_transform_work.specs.States.{document_node, node_tag}
+use Rattle.rst_transform_structure.specs.LastSection.{with_last_section}
+use Rattle.rst_transform_messages.specs.Filtered.{with_filtered}
+use Rattle.rst_transform_messages.specs.Listed.{report_said, Lists}
+use Rattle.rst_transform_messages.specs.Messages.{is_number_shown, notes_of, until_halt, Numbered}
+use Rattle.rst_transform_messages.specs.MessagesIn.{messages_among}
+use Rattle.rst_transform.specs.Finishing.{all_messages, document_in, known_at_first, sectioned, transformed}
+use Rattle.rst_transform.proofs.Sequence.{makes_then, same_kind}
 use Rattle.rst_transform.proofs.finishing.finish.Goals as goal
 
 pub started-start-requires : goal.started-start-requires
 started-start-requires c = record {
-  document = registered_document c.args.messages c.args.document c.in_ok-registered.registered c.in_ok-registered.ensures.registered c.requires.document;
-}
-
-pub transformed-requires : goal.transformed-requires
-transformed-requires c = record {
-  among = record {
-    before = node_items c.args.document;
-    kinds_are = c.kinds-kinds.ensures;
-    no_new = subst (λ node. HasNoNewKinds (node_items c.args.document) (node_items node)) (sym c.started-start.ensures.document) c.in_ok-registered.ensures.kinds;
-  };
+  document = same_kind c.in_ok-registered.registered.root (registration c.args.messages c.args.document).root c.args.document c.in_ok-registered.ensures.root
+      (registered_kind c.args.messages c.args.document) c.requires.document;
 }
 
 pub returns-clause-finishes : goal.returns-clause-finishes
 returns-clause-finishes c =
-    let first : Lists (messages_in c.in_ok-registered.registered.root) c.in_ok-list.list =
-    c.in_ok-list.ensures.lists (c.args.messages, c.args.document, c.in_ok-registered.ensures.registered, c.kinds-kinds.ensures) in
-    let all : List Numbered = all_messages c.in_ok-registered.registered c.last_section.new.context.reports.items in
-    record {
-      registered = c.in_ok-registered.registered;
-      started = state c.started-start.result.0 c.started-start.result.1;
-      transformed = state c.in_ok-after.after c.transformed.new.context;
-      sectioned = state c.in_ok-sectioned.sectioned c.last_section.new.context;
-      is_registered = c.in_ok-registered.ensures.registered;
-      is_started = c.started-start.ensures;
-      is_transformed = c.in_ok-after.ensures;
-      has_section = c.in_ok-sectioned.ensures;
-      all = all;
-      are_all = refl;
-      notes_are =
-          c.end-notes.ensures.notes all (c.in_ok-shown.ensures.lists _ first)
-          ∙ ap (λ halt. until_halt halt (notes_of all)) (c.in_ok-shown.ensures.halt ∙ c.in_ok-list.ensures.halt);
-      root_is = c.into_node.ensures ∙ ap document_node (c.in_ok-shown.ensures.document _ first c.in_ok-list.ensures.report);
-    }
+    let settings = c.args.settings.now in
+    let profile = profile_of settings in
+    let r = registration c.args.messages c.args.document in
+    let known = known_at_first c.args.messages r in
+    let start : c.started-start.result.0 ≡ document_in r.root = c.started-start.ensures.document ∙ ap document_in c.in_ok-registered.ensures.root in
+    let after : Document → Document × Known = λ d. let done = transformed profile settings d known in with_last_section settings.report done.0 done.1 in
+    let made = makes_then (transformed profile settings c.started-start.result.0) (with_last_section settings.report) c.started-start.result.1 c.transformed.new.context
+    c.last_section.new.context _ c.in_ok-sectioned.sectioned c.in_ok-after.ensures c.in_ok-sectioned.ensures known (c.started-start.ensures.known r c.in_ok-registered.ensures) in
+    let done = subst (λ d. (c.in_ok-sectioned.sectioned ≡ (after d).0) × Holds c.last_section.new.context (after d).1) start made in
+    let first : List Numbered = messages_among (document_in r.root).children in
+    let listed : Lists first c.in_ok-list.list = subst (λ (d : Document). Lists (messages_among d.children) c.in_ok-list.list) start c.in_ok-list.ensures.lists in
+    let all : first ++ map report_said c.last_section.new.context.reports.items ≡ all_messages r (after (document_in r.root)).1.reports =
+    ap (λ reports. first ++ map report_said reports) done.1.reports in (
+      c.into_node.ensures
+          ∙ ap document_node (c.in_ok-shown.ensures.document first listed c.in_ok-list.ensures.report)
+          ∙ ap₂ (λ (all : List Numbered) (d : Document). document_node (with_filtered settings.report (is_number_shown settings.report all) d)) all done.0,
+      c.end-notes.ensures.notes _ (c.in_ok-shown.ensures.lists first listed)
+          ∙ ap (λ halt. until_halt halt (notes_of (first ++ map report_said c.last_section.new.context.reports.items))) (c.in_ok-shown.ensures.halt ∙ c.in_ok-list.ensures.halt)
+          ∙ ap (λ all. until_halt settings.halt (notes_of all)) all,
+    )

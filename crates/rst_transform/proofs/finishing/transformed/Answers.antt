@@ -1,35 +1,17 @@
-use Rattle.rst_transform_work.specs.States.{state}
-use Rattle.rst_transform.proofs.NoNewKinds.{among_after, no_substitutions, no_targets, no_transitions}
+use Rattle.rst_settings.specs.Profile.{profile_of}
+use Rattle.rst_transform_docinfo.specs.Docinfo.{with_docinfo}
+use Rattle.rst_transform_structure.specs.Title.{with_title}
+use Rattle.rst_transform_structure.specs.Transitions.{with_transitions}
+use Rattle.rst_transform.specs.Finishing.{asked}
+use Rattle.rst_transform.specs.Linking.{with_links}
+use Rattle.rst_transform.proofs.Sequence.{makes_then}
 use Rattle.rst_transform.proofs.finishing.transformed.Goals as goal
 
-pub expand-requires : goal.expand-requires
-expand-requires c = record { has = no_substitutions c.requires.among }
-
-pub targets-requires : goal.targets-requires
-targets-requires c = record { has = no_targets (among_after c.requires.among c.in_ok-expanded.ensures.kinds) }
-
-pub resolve_links-requires : goal.resolve_links-requires
-resolve_links-requires c = record {
-  among =
-      among_after (among_after (among_after (among_after c.requires.among c.in_ok-expanded.ensures.kinds) c.in_ok-retargeted.ensures.kinds) c.in_ok-titled.ensures.kinds) c.in_ok-informed.ensures.kinds;
-}
-
-pub transitions-requires : goal.transitions-requires
-transitions-requires c =
-    let among = among_after (among_after (among_after (among_after c.requires.among c.in_ok-expanded.ensures.kinds) c.in_ok-retargeted.ensures.kinds) c.in_ok-titled.ensures.kinds) c.in_ok-informed.ensures.kinds in
-    record { has = λ h. c.in_ok-linked.ensures.kinds.transitions (no_transitions among h) }
-
 pub returns : goal.returns
-returns c = record {
-  expanded = state c.in_ok-expanded.expanded c.expand.new.context;
-  retargeted = state c.in_ok-retargeted.retargeted c.targets.new.context;
-  titled = state c.in_ok-titled.titled c.with_title.new.context;
-  informed = state c.in_ok-informed.informed c.with_info.new.context;
-  linked = state c.in_ok-linked.linked c.resolve_links.new.context;
-  substitutions = c.in_ok-expanded.ensures.expanded;
-  targets = c.in_ok-retargeted.ensures.retargeted;
-  title = c.in_ok-titled.ensures.titled;
-  info = c.in_ok-informed.ensures.informed;
-  links = c.in_ok-linked.ensures.links;
-  transitions = c.in_ok-after.ensures;
-}
+returns c =
+    let old = c.args.context.now in
+    let settings = c.args.settings.now in
+    let titled = makes_then _ (asked settings.title with_title) old c.with_early.new.context c.with_title.new.context _ _ c.in_ok-retargeted.ensures c.in_ok-titled.ensures in
+    let informed = makes_then _ (asked settings.info with_docinfo) old c.with_title.new.context c.with_info.new.context _ _ titled c.in_ok-informed.ensures in
+    let linked = makes_then _ with_links old c.with_info.new.context c.resolve_links.new.context _ _ informed c.in_ok-linked.ensures in
+    makes_then _ with_transitions old c.resolve_links.new.context c.transitions.new.context _ _ linked c.in_ok-after.ensures

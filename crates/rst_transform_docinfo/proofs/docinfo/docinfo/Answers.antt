@@ -1,12 +1,11 @@
 use Rattle.std.proofs.Common.{rules}
-use Rattle.rst_transform_work.specs.States.{state}
-use Rattle.rst_transform_docinfo.specs.Docinfo.{HasDocinfo}
-use Rattle.rst_transform_docinfo.proofs.DocinfoKinds.{no_new_informed}
+use Rattle.rst_tree.specs.Nodes.{forest_of, nodes_of}
+use Rattle.rst_transform_work.proofs.Holding.{makes_reports}
+use Rattle.rst_transform_docinfo.specs.Docinfo.{leading_list, nodes_with}
 use Rattle.rst_transform_docinfo.proofs.docinfo.docinfo.Goals as goal
 
-pub returns-clause-kinds : goal.returns-clause-kinds
-returns-clause-kinds c =
-    let before = state c.args.document c.args.context.now in
-    let after = state (record c.args.document { children = c.in_ok-children.children }) c.with_bibliography.new.context in
-    let informed : HasDocinfo before after = search rules in
-    no_new_informed before after informed
+pub returns : goal.returns
+returns c =
+    let nodes = nodes_of c.args.document.children in
+    makes_reports (λ first reports. (record c.args.document { children = forest_of (nodes_with first reports (leading_list nodes) nodes).0 }, (nodes_with first reports (leading_list nodes) nodes).1)) c.args.context.now
+    c.with_bibliography.new.context _ (search rules) (search rules) (search rules)

@@ -1,4 +1,5 @@
 use Rattle.std.proofs.Common.{◌≡◌, ◌++◌, map, drop}
+use Rattle.rst_transform_names.specs.Names.{held_by}
 use Rattle.rst_transform_links.specs.Holders.{place_at}
 use Rattle.rst_transform_hyperlinks.specs.Indirect.{targets_from}
 use Rattle.rst_transform_links.specs.Linkings.{held}
@@ -6,4 +7,4 @@ use Rattle.rst_transform_hyperlinks.proofs.indirect.targets_by.Given as goal
 
 abbrev pub invariant-loop-one : goal.invariant-loop-one
 invariant-loop-one l =
-    l.targets.items ++ targets_from l.names (place_at l.holders.places.items) l.left (map held (drop l.one-index l.linked)) ≡ targets_from l.fn.names (place_at l.fn.holders.places.items) l.fn.anonymous (map held l.fn.linked)
+    l.targets.items ++ targets_from (held_by l.names) (place_at l.holders.places.items) l.left (map held (drop l.one-index l.linked)) ≡ targets_from (held_by l.fn.names) (place_at l.fn.holders.places.items) l.fn.anonymous (map held l.fn.linked)

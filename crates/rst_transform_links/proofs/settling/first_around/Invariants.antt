@@ -1,6 +1,6 @@
 use Rattle.std.proofs.Common.{◌≡◌, [], map, drop}
 use Rattle.rst_transform_links.specs.Linkings.{held}
-use Rattle.rst_transform_links.specs.Turns.{firsts}
+use Rattle.rst_transform_links.specs.Settling.{firsts}
 use Rattle.rst_transform_links.proofs.settling.first_around.Given as goal
 
 abbrev pub invariant-loop-one : goal.invariant-loop-one

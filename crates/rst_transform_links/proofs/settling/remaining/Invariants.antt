@@ -1,8 +1,8 @@
 use Rattle.std.proofs.Common.{◌≡◌, ◌++◌}
-use Rattle.rst_transform_links.specs.Settling.{at_places}
-use Rattle.rst_transform_links.specs.Turns.{is_free}
+use Rattle.std.specs.List.{enumerate_from, filter_map}
+use Rattle.rst_transform_links.specs.Settling.{left_at, remaining}
 use Rattle.rst_transform_links.proofs.settling.remaining.Given as goal
 
 abbrev pub invariant-loop-place : goal.invariant-loop-place
 invariant-loop-place l =
-    l.left.items ++ at_places (is_free l.around) l.place-iterator.count l.place-iterator.iter.rest.items ≡ at_places (is_free l.fn.around) 0 l.fn.outcomes.items
+    l.left.items ++ filter_map (left_at l.around) (enumerate_from l.place-iterator.count l.place-iterator.iter.rest.items) ≡ remaining l.fn.around l.fn.outcomes.items

@@ -7,9 +7,9 @@ use Rattle.rst_tree.specs.declared.node.Node.TheVariants.{Element, Text}
 use Rattle.rst_tree.specs.Forest.{height}
 use Rattle.rst_tree.specs.Nodes.{forest_of}
 use Rattle.rst_tree.proofs.PrintedParts.{inside_lower}
-use Rattle.rst_transform_names.specs.NameMessages.{own_block, own_inline, own_numbered, own_section}
+use Rattle.rst_transform_names.specs.NameMessages.{own_numbered}
 use Rattle.rst_transform_names.proofs.MessageGaps.{none_left}
-use Rattle.rst_transform_names.proofs.MessagePlaces.{Filling, Filling-all, Filling-element, Filling-init, Filling-text, IsOwn}
+use Rattle.rst_transform_names.proofs.MessagePlaces.{Filling, Filling-all, Filling-element, Filling-init, Filling-text}
 use Rattle.rst_transform_names.proofs.placing.+filled.Goals as goal
 
 pub filled-requires : goal.filled-requires
@@ -38,14 +38,8 @@ pub loop-node-preserved : goal.loop-node-preserved
 loop-node-preserved t c =
     let own = own_numbered (get nat_cmp c.args.messages.now.messages) in
     let e = c.in-Element in
-    let message = c.in_ok-message-in-Element.ensures in
     let items : c.loop-node.node-iterator.rest.items ≡ Element e.tag e.attrs e.children e.line ∷ c.next.new.self.rest.items = c.in-Some.ensures.steps.0 ∙ ap (λ (n : Node). n ∷ c.next.new.self.rest.items) e.is in
-    let is_own : IsOwn own e.tag e.attrs c.in_ok-own-in-Element.own = record {
-      section = c.in_ok-own-in-Element.ensures.section ∙ ap (λ m. own_section (λ a. m) e.tag e.attrs) message;
-      inline = c.in_ok-own-in-Element.ensures.inline ∙ ap (λ m. own_inline (λ a. m) e.tag e.attrs) message;
-      block = c.in_ok-own-in-Element.ensures.block ∙ ap (λ m. own_block (λ a. m) e.tag e.attrs) message;
-    } in
-    Filling-element own e.tag e.attrs e.children c.in_ok-own-in-Element.own c.in_ok-inside-in-Element.inside is_own c.in_ok-inside-in-Element.ensures
+    Filling-element own e.tag e.attrs e.children c.in_ok-own-in-Element.own c.in_ok-inside-in-Element.inside c.in_ok-own-in-Element.ensures c.in_ok-inside-in-Element.ensures
     c.args.parent c.args.nodes c.loop-node.made c.put.new.self e.line (forest_of c.next.new.self.rest.items)
     (subst (λ ns. Filling own c.args.parent c.args.nodes c.loop-node.made (forest_of ns)) items c.loop-node.invariant) c.in_ok-put-in-Element.ensures
 

@@ -4,8 +4,8 @@ use Rattle.std.specs.VecDeque.{deque_items}
 use Rattle.std.proofs.Math.Path.{fun_ext}
 use Rattle.std.proofs.lemmas.List.{nil_from_length}
 use Rattle.rst_tree.specs.declared.node.Node.TheVariants.{Element}
-use Rattle.rst_transform_names.specs.NameMessages.{own_block, own_inline, own_numbered, own_section, with_messages, with_name_messages}
-use Rattle.rst_transform_names.proofs.MessagePlaces.{root_filled, IsOwn}
+use Rattle.rst_transform_names.specs.NameMessages.{own_numbered, with_messages, with_name_messages}
+use Rattle.rst_transform_names.proofs.MessagePlaces.{root_filled}
 use Rattle.rst_transform_names.proofs.NoNameMessages.{without_name_messages}
 use Rattle.rst_transform_names.proofs.placing.place_name_messages.Goals as goal
 
@@ -22,13 +22,7 @@ pub returns-in_ok-nodes-in-Element : goal.returns-in_ok-nodes-in-Element
 returns-in_ok-nodes-in-Element c =
     let e = c.in-Element in
     let numbered = get nat_cmp c.in_ok-messages-in-Element.messages.messages in
-    let message = c.in_ok-message-in-Element.ensures in
-    let is_own : IsOwn (own_numbered numbered) e.tag e.attrs c.in_ok-own-in-Element.own = record {
-      section = c.in_ok-own-in-Element.ensures.section ∙ ap (λ m. own_section (λ a. m) e.tag e.attrs) message;
-      inline = c.in_ok-own-in-Element.ensures.inline ∙ ap (λ m. own_inline (λ a. m) e.tag e.attrs) message;
-      block = c.in_ok-own-in-Element.ensures.block ∙ ap (λ m. own_block (λ a. m) e.tag e.attrs) message;
-    } in
-    ap (λ nodes. Element e.tag e.attrs nodes e.line) c.of-in-Element.ensures
-    ∙ root_filled (own_numbered numbered) e.tag e.attrs e.children c.in_ok-own-in-Element.own c.in_ok-inside-in-Element.inside is_own c.in_ok-inside-in-Element.ensures e.line c.in_ok-nodes-in-Element.nodes.items c.in_ok-nodes-in-Element.ensures
+    ap (λ nodes. Element e.tag e.attrs nodes e.line) c.of.ensures
+    ∙ root_filled (own_numbered numbered) e.tag e.attrs e.children c.in_ok-own-in-Element.own c.in_ok-inside-in-Element.inside c.in_ok-own-in-Element.ensures c.in_ok-inside-in-Element.ensures e.line c.in_ok-nodes-in-Element.nodes.items c.in_ok-nodes-in-Element.ensures
     ∙ ap (λ own. with_messages (own_numbered own) (Element e.tag e.attrs e.children e.line)) (fun_ext c.in_ok-messages-in-Element.ensures)
     ∙ ap (with_name_messages (deque_items c.args.name_messages.queue)) (sym e.is)

@@ -2,10 +2,11 @@ use Rattle.std.proofs.Common.{◌≡◌, ◌++◌, map, drop}
 use Rattle.std.specs.List.{enumerate_from}
 use Rattle.rst_transform_references.specs.Backrefs.{referent_at, referents_of}
 use Rattle.rst_transform_links.specs.Holders.{place_at}
+use Rattle.rst_transform_names.specs.Names.{held_by}
 use Rattle.rst_transform_links.specs.Linkings.{held}
 use Rattle.rst_transform_references.proofs.backrefs.referents_of.Given as goal
 
 abbrev pub invariant-loop-place : goal.invariant-loop-place
 invariant-loop-place l =
-    l.referents.items ++ map (referent_at (place_at l.lookup.holders.places.items) (map held l.lookup.linked.now) l.lookup.names.now l.found.items) (enumerate_from l.place (map held (drop l.place l.linked)))
-    ≡ referents_of (place_at l.lookup.holders.places.items) (map held l.lookup.linked.now) l.lookup.names.now
+    l.referents.items ++ map (referent_at (place_at l.lookup.holders.now.places.items) (map held l.lookup.linked.now) (held_by l.lookup.names.now) l.found.items) (enumerate_from l.place (map held (drop l.place l.linked)))
+    ≡ referents_of (place_at l.lookup.holders.now.places.items) (map held l.lookup.linked.now) (held_by l.lookup.names.now)

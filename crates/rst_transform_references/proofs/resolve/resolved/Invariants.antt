@@ -1,9 +1,14 @@
+use Rattle.std.proofs.Common.{◌++◌, List, [], map, drop}
+use Rattle.rst_transform_work.specs.declared.context.Context.{Context}
+use Rattle.rst_transform_work.specs.Known.{Makes}
+use Rattle.rst_transform_links.specs.declared.links.Outcome.{Outcome}
 use Rattle.rst_transform_links.specs.Holders.{place_at}
 use Rattle.rst_transform_links.specs.Linkings.{held}
-use Rattle.rst_transform_references.proofs.Resolves.{Resolving}
+use Rattle.rst_transform_references.specs.Resolving.{resolved_from}
 use Rattle.rst_transform_references.proofs.resolve.resolved.Given as goal
-use Rattle.std.proofs.Common.{map, drop}
 
+-- the outcomes so far, and then what becomes of the elements that are left, are what becomes of all
 abbrev pub invariant-loop-one : goal.invariant-loop-one
 invariant-loop-one l =
-    Resolving (place_at l.lookup.holders.places.items) (map held l.lookup.linked.now) l.lookup.names.now l.fn.context l.context l.ended.items l.outcomes.items (map held (drop l.one-index l.linked))
+    (after : Context) (rest : List Outcome) → Makes (resolved_from (place_at l.holders.places.items) (map held l.linked) l.ended.items (map held (drop l.one-index l.linked))) l.context after rest
+    → Makes (resolved_from (place_at l.holders.places.items) (map held l.linked) [] (map held l.linked)) l.fn.context after (l.outcomes.items ++ rest)

@@ -1,4 +1,4 @@
-use Rattle.rst_transform_structure.proofs.Retargeting.{Passes-more}
+use Rattle.rst_transform_structure.proofs.Passing.{Passes-more}
 use Rattle.rst_transform_structure.proofs.targets.pass.Goals as goal
 
 pub loop-name-preserved-in-Some : goal.loop-name-preserved-in-Some

@@ -1,4 +1,4 @@
-use Rattle.rst_transform_structure.specs.Handing.{Passes}
+use Rattle.rst_transform_structure.specs.Passing.{Passes}
 use Rattle.rst_transform_structure.proofs.targets.pass.Given as goal
 
 abbrev pub invariant-loop-name : goal.invariant-loop-name

@@ -1,7 +1,7 @@
 use Rattle.std.proofs.Common.{◌≡◌, ◌∙◌, ap, rules}
 use Rattle.rst_tree.specs.Read.{elements_of, folded}
 use Rattle.rst_tree.specs.Walk.{node_items}
-use Rattle.rst_transform_structure.specs.Handing.{takers, with_taker}
+use Rattle.rst_transform_structure.specs.Targets.{takers, with_taker}
 use Rattle.rst_transform_structure.proofs.Retargeting.{takers_of}
 use Rattle.rst_transform_structure.proofs.targets.takers.Goals as goal
 

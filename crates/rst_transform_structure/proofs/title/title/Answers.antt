@@ -1,11 +1,10 @@
-use Rattle.std.proofs.Common.{◌≡◌, rules}
-use Rattle.rst_transform_work.specs.declared.document.Document.{Document}
-use Rattle.rst_transform_structure.specs.Title.{titled}
-use Rattle.rst_transform_structure.proofs.TitledKinds.{no_kind_by_title}
+use Rattle.std.proofs.Common.{rules, None}
+use Rattle.rst_transform_work.proofs.Holding.{makes_names}
+use Rattle.rst_transform_structure.specs.Passing.{passed, with_number}
+use Rattle.rst_transform_structure.specs.Title.{lone_section, title_names, titled}
 use Rattle.rst_transform_structure.proofs.title.title.Goals as goal
 
-pub returns-clause-kinds : goal.returns-clause-kinds
-returns-clause-kinds c =
-    let after : Document = record c.args.document { attrs = c.titled.new.attrs; children = c.in_ok-children.children } in
-    let is : after ≡ titled c.args.document = search rules in
-    no_kind_by_title c.args.document after is
+pub returns : goal.returns
+returns c =
+    makes_names (titled c.args.document) (passed (with_number None (title_names (lone_section c.args.document.children)))) c.args.context.now (record c.args.context.now { names = c.titled.new.names }) _ (search rules)
+    (search rules) (search rules)

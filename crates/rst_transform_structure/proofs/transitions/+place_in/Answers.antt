@@ -1,10 +1,13 @@
-use Rattle.std.proofs.Common.{◌≡◌, ◌+◌, ◌≤◌, ◌∷◌, [], rules, refl, sym, ◌∙◌, length-append}
+use Rattle.std.proofs.Common.{◌≡◌, ◌+◌, ◌≤◌, ◌∷◌, ◌++◌, [], rules, refl, ap, sym, ◌∙◌}
 use Rattle.std.specs.Prelude.{◌&&◌, nat_eq}
+use Rattle.std.proofs.lemmas.List.{map-id}
 use Rattle.std.proofs.lemmas.Iterator.Consumers.{YieldsList-turn, YieldsList-end}
 use Rattle.std.proofs.lemmas.Iterator.Adapters.{YieldsList-from_vec}
 use Rattle.rst_tree.specs.Forest.{height}
+use Rattle.rst_tree.specs.Nodes.{join_node}
 use Rattle.rst_tree.proofs.PrintedParts.{inside_lower}
-use Rattle.rst_transform_structure.proofs.Placing.{Placing-text, Placing-transition, Placing-element, Placing-all}
+use Rattle.rst_transform_structure.specs.Transitions.{placed_in, so_far, with_node}
+use Rattle.rst_transform_structure.proofs.Placing.{placing_node, placing_transition, placing_section, placing_all, step_other, step_text}
 use Rattle.rst_transform_structure.proofs.transitions.+place_in.Goals as goal
 use Rattle.rst_transform_structure.proofs.transitions.+place_in.Goals.{then-ends, else-ends}
 
@@ -19,33 +22,39 @@ place_in-requires t c =
 
 pub loop-node-preserved-in-Text : goal.loop-node-preserved-in-Text
 loop-node-preserved-in-Text t c =
-    let turn = YieldsList-turn (YieldsList-from_vec {s = c.into_iter-node-iterator.result} c.into_list-node-items.result.items (search rules) (search rules))
-    c.loop-node.yielded c.loop-node.node-iterator c.loop-node.yielded_by c.next.result c.next.new.self c.in-Some.node c.in-Some.is c.next.ensures.steps in
-    Placing-text _ _ _ c.loop-node.left _ _ _ c.loop-node.placed _ _ c.in-Some.node c.into_list-node-items.result.items c.in-Text.text c.loop-node.invariant c.into_list-node-items.ensures.nodes turn.0 turn.1
-    c.saturating_sub-left.ensures (length-append c.loop-node.yielded (c.in-Some.node ∷ [])) c.in-Text.is c.in_ok-push-in-Text.ensures.items refl
+    let s = so_far c.loop-node.placed c.loop-node.context in
+    placing_node c.args.context.now c.args.ends c.args.nodes c.loop-node.left _ c.loop-node.yielded c.loop-node.placed _ c.loop-node.context _ c.in-Some.node c.loop-node.invariant c.saturating_sub-left.ensures refl
+    (λ r. ap (λ m. placed_in c.args.context.now.first_number c.args.ends s (join_node m r)) c.in-Text.is ∙ step_text c.args.context.now.first_number c.args.ends s c.in-Text.text r
+    ∙ ap (λ m. placed_in c.args.context.now.first_number c.args.ends (with_node m s) r) (sym c.in-Text.is))
+    (c.in_ok-push-in-Text.ensures.items ∙ ap (λ m. c.loop-node.placed.nodes.items ++ m ∷ []) (sym c.in-Text.is)) refl refl
+
+pub loop-node-preserved-then-is_section : goal.loop-node-preserved-then-is_section
+loop-node-preserved-then-is_section t c =
+    let either : c.if-ends.place_in ≡ (c.args.ends && nat_eq c.saturating_sub-left.result 0) =
+    elim c.if-ends.branch [ then-ends w ↦ rw w.if-ends.true w.place_in-is | else-ends w ↦ rw w.if-ends.false (w.place_in-is ∙ w.if-ends.false) ] in
+    placing_section c.args.context.now c.args.ends c.args.nodes c.loop-node.left _ c.loop-node.yielded c.loop-node.placed _ c.loop-node.context _ c.in-Some.node c.loop-node.invariant c.saturating_sub-left.ensures
+    c.in_ok-inner-in-Element.ensures.rest c.in-Element.tag c.in-Element.attrs c.in-Element.children c.in-Element.line c.in-Element.is c.in_ok-inner-in-Element.inner (nat_eq c.saturating_sub-left.result 0)
+    (sym c.is_section.ensures ∙ c.if-is_section.true) refl (rw (← either) c.in_ok-inner-in-Element.ensures.placed) c.in_ok-put_section-in-Element.ensures.nodes c.in_ok-put_section-in-Element.ensures.moving
 
 pub loop-node-preserved-then-is_transition : goal.loop-node-preserved-then-is_transition
 loop-node-preserved-then-is_transition t c =
-    let turn = YieldsList-turn (YieldsList-from_vec {s = c.into_iter-node-iterator.result} c.into_list-node-items.result.items (search rules) (search rules))
-    c.loop-node.yielded c.loop-node.node-iterator c.loop-node.yielded_by c.next.result c.next.new.self c.in-Some.node c.in-Some.is c.next.ensures.steps in
-    Placing-transition _ _ _ c.loop-node.left _ _ _ c.loop-node.placed _ c.loop-node.context _ c.in-Some.node c.into_list-node-items.result.items c.in-Element.tag c.in-Element.attrs c.in-Element.children c.in-Element.line
-    c.loop-node.invariant c.into_list-node-items.ensures.nodes turn.0 turn.1 c.saturating_sub-left.ensures (length-append c.loop-node.yielded (c.in-Some.node ∷ [])) c.in-Element.is
-    (sym c.is_transition.ensures ∙ c.if-is_transition.true) c.in_ok-put_transition-in-Element.ensures.rest c.in_ok-put_transition-in-Element.ensures.siblings
+    placing_transition c.args.context.now c.args.ends c.args.nodes c.loop-node.left _ c.loop-node.yielded c.loop-node.placed _ c.loop-node.context _ c.in-Some.node c.loop-node.invariant c.saturating_sub-left.ensures
+    c.in_ok-put_transition-in-Element.ensures.rest c.in-Element.tag c.in-Element.attrs c.in-Element.children c.in-Element.line c.in-Element.is
+    (sym c.is_section.ensures ∙ c.if-is_section.false) (sym c.is_transition.ensures ∙ c.if-is_transition.true) c.in_ok-put_transition-in-Element.ensures.siblings
 
 pub loop-node-preserved : goal.loop-node-preserved
 loop-node-preserved t c =
-    let turn = YieldsList-turn (YieldsList-from_vec {s = c.into_iter-node-iterator.result} c.into_list-node-items.result.items (search rules) (search rules))
-    c.loop-node.yielded c.loop-node.node-iterator c.loop-node.yielded_by c.next.result c.next.new.self c.in-Some.node c.in-Some.is c.next.ensures.steps in
-    let either : c.if-ends.place_in ≡ (c.args.ends && nat_eq c.saturating_sub-left.result 0) =
-    elim c.if-ends.branch [ then-ends w ↦ rw w.if-ends.true w.place_in-is | else-ends w ↦ rw w.if-ends.false (w.place_in-is ∙ w.if-ends.false) ] in
-    Placing-element _ _ _ c.loop-node.left _ _ _ c.loop-node.placed _ c.in_ok-inner-in-Element.inner c.loop-node.context _ c.in-Some.node c.into_list-node-items.result.items c.in-Element.tag c.in-Element.attrs c.in-Element.children c.in-Element.line
-    (nat_eq c.saturating_sub-left.result 0)
-    c.loop-node.invariant c.into_list-node-items.ensures.nodes turn.0 turn.1 c.saturating_sub-left.ensures (length-append c.loop-node.yielded (c.in-Some.node ∷ [])) c.in-Element.is
-    (sym c.is_transition.ensures ∙ c.if-is_transition.false) refl (rw (← either) c.in_ok-inner-in-Element.ensures.placed) c.in_ok-inner-in-Element.ensures.rest
-    c.in_ok-put_element-in-Element.ensures.nodes c.in_ok-put_element-in-Element.ensures.moving
+    let s = so_far c.loop-node.placed c.loop-node.context in
+    placing_node c.args.context.now c.args.ends c.args.nodes c.loop-node.left _ c.loop-node.yielded c.loop-node.placed _ c.loop-node.context _ c.in-Some.node c.loop-node.invariant c.saturating_sub-left.ensures refl
+    (λ r. ap (λ m. placed_in c.args.context.now.first_number c.args.ends s (join_node m r)) c.in-Element.is
+    ∙ step_other c.args.context.now.first_number c.args.ends s c.in-Element.tag c.in-Element.attrs c.in-Element.children c.in-Element.line r (sym c.is_section.ensures ∙ c.if-is_section.false)
+    (sym c.is_transition.ensures ∙ c.if-is_transition.false)
+    ∙ ap (λ m. placed_in c.args.context.now.first_number c.args.ends (with_node m s) r) (sym c.in-Element.is))
+    (c.in_ok-push-in-Element.ensures.items ∙ ap (λ m. c.loop-node.placed.nodes.items ++ m ∷ []) (sym c.in-Element.is)) refl refl
 
 pub returns-clause-placed : goal.returns-clause-placed
 returns-clause-placed t c =
     let end = YieldsList-end (YieldsList-from_vec {s = c.into_iter-node-iterator.result} c.into_list-node-items.result.items (search rules) (search rules))
     c.loop-node.yielded c.loop-node.node-iterator c.loop-node.yielded_by c.next.result c.next.new.self c.in-None.is c.next.ensures.steps in
-    Placing-all _ _ _ c.loop-node.left _ _ _ c.into_list-node-items.result.items c.loop-node.invariant c.into_list-node-items.ensures.nodes end.1
+    placing_all c.args.context.now c.args.ends c.args.nodes c.loop-node.left c.loop-node.yielded c.loop-node.placed c.loop-node.context c.loop-node.invariant
+    (sym (map-id c.loop-node.yielded) ∙ end.0 ∙ c.into_list-node-items.ensures.nodes)

@@ -1,4 +1,3 @@
-use Rattle.std.proofs.Common.{length}
 use Rattle.rst_tree.specs.Forest.{height}
 use Rattle.rst_transform_structure.proofs.Placing.{Placing}
 use Rattle.rst_transform_structure.proofs.transitions.+place_in.Given as goal
@@ -7,4 +6,4 @@ abbrev pub decreases-place_in : goal.decreases-place_in
 decreases-place_in l = height l.nodes
 
 abbrev pub invariant-loop-node : goal.invariant-loop-node
-invariant-loop-node l = Placing l.initial.context l.ends l.fn.nodes l.left (length l.yielded) l.placed l.context
+invariant-loop-node l = Placing l.initial.context l.ends l.fn.nodes l.left l.yielded l.placed l.context

@@ -1,6 +1,6 @@
 use Rattle.std.proofs.Common.{ap, sym, ◌∙◌, Some}
 use Rattle.std.specs.Option.{option_copied}
-use Rattle.rst_transform_structure.specs.Siblings.{is_one}
+use Rattle.rst_transform_structure.specs.Transitions.{is_one}
 use Rattle.rst_transform_structure.proofs.transitions.ends_in_transition.Goals as goal
 
 pub returns-in-Some-Element : goal.returns-in-Some-Element

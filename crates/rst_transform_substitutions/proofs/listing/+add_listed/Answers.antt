@@ -1,6 +1,8 @@
 use Rattle.std.proofs.Common.{rules, arith, ◌+◌, ◌≤◌, refl}
 use Rattle.rst_tree.specs.Forest.{height}
 use Rattle.rst_tree.proofs.PrintedParts.{inside_lower}
+use Rattle.rst_transform_substitutions.specs.Definitions.{definitions_among, own_definition}
+use Rattle.rst_transform_substitutions.specs.Numbering.{names_said, own_name}
 use Rattle.rst_transform_substitutions.proofs.Defining.{past_text, past_element, at_end}
 use Rattle.rst_transform_substitutions.proofs.listing.+add_listed.Goals as goal
 
@@ -12,16 +14,24 @@ add_listed-requires t c =
     search (rules, h)
 
 pub loop-node-init : goal.loop-node-init
-loop-node-init t c = rw (c.as_slice-node-items.ensures) refl
+loop-node-init t c = record { definitions = rw (c.as_slice-node-items.ensures) refl; names = rw (c.as_slice-node-items.ensures) refl }
 
 pub loop-node-preserved : goal.loop-node-preserved
-loop-node-preserved t c =
-    past_element c.as_slice-node-items.result.now c.loop-node.node-index c.node-item.result _ _ _ _ c.loop-node.list.items c.add_own.new.list.items c.add_listed.new.list.items _
-    c.loop-node-test.true c.node-item.is c.in-Element.is c.in_ok-add_own-in-Element.ensures c.in_ok-add_listed-in-Element.ensures c.loop-node.invariant
+loop-node-preserved t c = record {
+  definitions = past_element definitions_among own_definition c.as_slice-node-items.result.now c.loop-node.node-index c.node-item.result c.in-Element.tag c.in-Element.attrs c.in-Element.children c.in-Element.line _ _ _ _ (λ r. refl)
+      c.loop-node-test.true c.node-item.is c.in-Element.is c.in_ok-add_own-in-Element.ensures.definition c.in_ok-add_listed-in-Element.ensures.definitions c.loop-node.invariant.definitions;
+  names = past_element names_said (λ t a c. own_name t a) c.as_slice-node-items.result.now c.loop-node.node-index c.node-item.result c.in-Element.tag c.in-Element.attrs c.in-Element.children c.in-Element.line _ _ _ _ (λ r. refl)
+      c.loop-node-test.true c.node-item.is c.in-Element.is c.in_ok-add_own-in-Element.ensures.name c.in_ok-add_listed-in-Element.ensures.names c.loop-node.invariant.names;
+}
 
 pub loop-node-preserved-in-Text : goal.loop-node-preserved-in-Text
-loop-node-preserved-in-Text t c =
-    past_text c.as_slice-node-items.result.now c.loop-node.node-index c.node-item.result _ c.loop-node.list.items _ c.loop-node-test.true c.node-item.is c.in-Text.is c.loop-node.invariant
+loop-node-preserved-in-Text t c = record {
+  definitions = past_text definitions_among own_definition c.as_slice-node-items.result.now c.loop-node.node-index c.node-item.result _ _ _ (λ r. refl) c.loop-node-test.true c.node-item.is c.in-Text.is c.loop-node.invariant.definitions;
+  names = past_text names_said (λ t a c. own_name t a) c.as_slice-node-items.result.now c.loop-node.node-index c.node-item.result _ _ _ (λ r. refl) c.loop-node-test.true c.node-item.is c.in-Text.is c.loop-node.invariant.names;
+}
 
-pub returns : goal.returns
-returns t c = at_end _ _ _ _ c.loop-node-test.false c.loop-node.invariant
+pub returns-clause-definitions : goal.returns-clause-definitions
+returns-clause-definitions t c = at_end definitions_among own_definition _ _ _ _ refl c.loop-node-test.false c.loop-node.invariant.definitions
+
+pub returns-clause-names : goal.returns-clause-names
+returns-clause-names t c = at_end names_said (λ t a c. own_name t a) _ _ _ _ refl c.loop-node-test.false c.loop-node.invariant.names

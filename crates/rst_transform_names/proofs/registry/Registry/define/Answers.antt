@@ -1,29 +1,28 @@
-use Rattle.std.proofs.Common.{◌≡◌, ◌++◌, Some, None, false, List, ℕ, refl, ap, ap₂, ◌∙◌, bytes_eq, string_bytes}
-use Rattle.std.specs.Prelude.{if◌then◌else◌}
+use Rattle.std.proofs.Common.{◌≡◌, ◌++◌, ◌∷◌, [], Some, None, false, length, ap, ap₂, ◌∙◌, string_bytes}
 use Rattle.std.specs.BTreeMap.{get_by_text}
-use Rattle.std.specs.VecDeque.{deque_items}
 use Rattle.rst_tree_index.specs.Registered.{item_of}
 use Rattle.rst_transform_names.specs.Gathered.{own_name}
-use Rattle.rst_transform_names.specs.Registry.{definer, definition_messages, losing, next_number, standing}
+use Rattle.rst_transform_names.specs.Registry.{definer, losing, standing}
 use Rattle.rst_transform_names.proofs.RegistryLemmas.{put_lost, entered}
 use Rattle.rst_transform_names.proofs.registry.Registry.define.Goals as goal
 
 pub returns : goal.returns
-returns c =
+returns c = λ r h.
     let old = c.args.self.now in
     let new = item_of c.args.new in
-    let number = c.serial-serial.ensures in
+    let number : c.serial-serial.result ≡ length r.standings = c.serial-serial.ensures ∙ ap length h.standings in
     let name : string_bytes c.in_ok-name.name ≡ own_name new = c.in_ok-name.ensures.ok ∙ c.own_name.ensures in
-    let before : c.in_ok-before.before ≡ get_by_text old.definitions (own_name new) = c.in_ok-before.ensures.old ∙ ap (get_by_text old.definitions) name in
-    let defined : (other : List ℕ) → get_by_text c.insert.new.self other ≡ (if bytes_eq other (own_name new) then Some (next_number old) else get_by_text old.definitions other) = λ other.
-    entered old.definitions c.insert.new.self (string_bytes c.in_ok-name.name) (Some c.serial-serial.result) c.in_ok-before.ensures.updates other
-    ∙ ap₂ (λ l n. if bytes_eq other l then Some n else get_by_text old.definitions other) name number in
+    let before : c.in_ok-before.before ≡ r.definitions (own_name new) = c.in_ok-before.ensures.old ∙ ap (get_by_text old.definitions) name ∙ h.definitions (own_name new) in
+    let lost = put_lost old.standings c.lose.new.standings _ (c.lose.ensures ∙ ap₂ (λ h l. losing h l) (c.definer.ensures ∙ ap definer before) c.deref_mut.ensures.value) ∙ ap (losing (definer (r.definitions (own_name new)))) h.standings in
     record {
-      stands = ap (λ n. standing n None false) number;
-      definitions = defined;
-      others = put_lost old.standings c.lose.new.standings _ (c.lose.ensures ∙ ap₂ (λ h l. losing h l) (c.definer.ensures ∙ ap definer before) c.deref_mut.ensures.value);
-      name_messages = c.in_ok-add_definition_message.ensures ∙ ap₂ (λ b n. deque_items old.name_messages.queue ++ definition_messages b n new) before number;
-      ids = refl;
-      names = refl;
-      known_messages = refl;
+      ids = h.ids;
+      names = h.names;
+      definitions = λ other.
+          let is = entered old.definitions c.insert.new.self (string_bytes c.in_ok-name.name) (Some c.serial-serial.result) c.in_ok-before.ensures.updates other in
+          let was = h.definitions other in
+          cc;
+      standings = c.in_ok-push.ensures.items ∙ ap₂ (λ ss n. ss ++ standing n None false ∷ []) lost number;
+      numbers = h.numbers;
+      messages = h.messages;
+      name_messages = let kept = c.in_ok-add_definition_message.ensures in cc;
     }

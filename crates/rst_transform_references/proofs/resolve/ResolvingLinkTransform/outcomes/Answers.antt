@@ -1,9 +1,10 @@
-use Rattle.std.proofs.Common.{rules}
+use Rattle.rst_transform_links.specs.Linkings.{held}
+use Rattle.std.proofs.Common.{map}
+use Rattle.rst_transform_links.specs.Holders.{place_at}
+use Rattle.rst_transform_references.proofs.Resolves.{decided}
 use Rattle.rst_transform_references.proofs.resolve.ResolvingLinkTransform.outcomes.Goals as goal
 
 pub returns : goal.returns
-returns c = record {
-  become = rw c.replace-names.ensures.value at c.in_ok-outcomes.ensures.outcomes;
-  reports = rw c.replace-names.ensures.value at c.in_ok-outcomes.ensures.reports;
-  rest = search rules;
-}
+returns c =
+    decided (place_at c.in_ok-holders.holders.places.items) (map held c.args.linked.now) c.args.context.now c.resolved.new.context c.in_ok-outcomes.outcomes.items c.in_ok-outcomes-2.outcomes.items
+    c.in_ok-holders.ensures c.in_ok-outcomes.ensures c.in_ok-outcomes-2.ensures

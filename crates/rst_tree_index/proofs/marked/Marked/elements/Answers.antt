@@ -14,5 +14,5 @@ returns c =
     let paths = node_paths c.self.inside.own c.self.inside.inner in
     c.in_ok-add_elements.ensures
     ∙ ap (λ known. with_all paths root (map item_of known)) c.new-list.ensures.items
-    ∙ all_read is_registered root paths c.self.invariant.0
+    ∙ all_read is_registered root paths c.self.invariant
     ∙ ap (λ n. filter is_registered (node_items n)) c.self.view_is

@@ -11,7 +11,7 @@ returns-clause-node g c =
     let next = g.V.Visitor.next in
     let out = g.V.Visitor.out in
     c.in_ok-visit_in.ensures.node
-    ∙ ap (λ z. (visited_all next out z (c.args.visitor.now, c.self.inside.root)).1) c.self.invariant.0
+    ∙ ap (λ z. (visited_all next out z (c.args.visitor.now, c.self.inside.root)).1) c.self.invariant
     ∙ ap (λ z. z.1) (visited_all-marks next out is_registered c.args.visitor.now c.self.inside.root)
     ∙ ap (walked_node (heeded_next is_registered next) (heeded_out is_registered out) c.args.visitor.now) c.self.view_is
 
@@ -20,7 +20,7 @@ returns-clause-state g c =
     let next = g.V.Visitor.next in
     let out = g.V.Visitor.out in
     c.in_ok-visit_in.ensures.state
-    ∙ ap (λ z. (visited_all next out z (c.args.visitor.now, c.self.inside.root)).0) c.self.invariant.0
+    ∙ ap (λ z. (visited_all next out z (c.args.visitor.now, c.self.inside.root)).0) c.self.invariant
     ∙ ap (λ z. z.0) (visited_all-marks next out is_registered c.args.visitor.now c.self.inside.root)
     ∙ ap (λ n. after (heeded_next is_registered next) (heeded_out is_registered out) c.args.visitor.now (node_items n)) c.self.view_is
 

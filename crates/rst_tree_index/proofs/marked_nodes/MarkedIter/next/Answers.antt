@@ -6,8 +6,8 @@ use Rattle.rst_tree_index.specs.Known.{entry_of, known_of}
 use Rattle.rst_tree_index.proofs.Knowing.{next_passed, next_taken, nothing_here, Taken}
 use Rattle.rst_tree_index.proofs.marked_nodes.MarkedIter.next.Goals as goal
 
-pub plain-requires-clause-marks : goal.plain-requires-clause-marks
-plain-requires-clause-marks c =
+pub plain-requires : goal.plain-requires
+plain-requires c =
     let m = c.self.inside in
     let none : m.ahead ≡ None = search rules in
     let es = map entry_of (option_to_list m.ahead ++ into_iter_items m.known) in
@@ -16,18 +16,8 @@ plain-requires-clause-marks c =
     (next_passed m.count (into_iter_len m.nodes) (into_iter_len c.next.new.self) (into_iter_items m.nodes) (into_iter_items c.next.new.self) c.in_ok-root.root es c.self.invariant.0 one
     c.in_ok-root.ensures.items c.self.invariant.2 (nothing_here (m.count - into_iter_len m.nodes) es nil)).0
 
-pub plain-requires-clause-kinds : goal.plain-requires-clause-kinds
-plain-requires-clause-kinds c =
-    let m = c.self.inside in
-    let none : m.ahead ≡ None = search rules in
-    let es = map entry_of (option_to_list m.ahead ++ into_iter_items m.known) in
-    let nil : es ≡ [] = ap (λ a. map entry_of (option_to_list a ++ into_iter_items m.known)) none ∙ ap (map entry_of) (c.self.invariant.1 none) in
-    let one : into_iter_len c.next.new.self + 1 ≡ into_iter_len m.nodes = search rules in
-    (next_passed m.count (into_iter_len m.nodes) (into_iter_len c.next.new.self) (into_iter_items m.nodes) (into_iter_items c.next.new.self) c.in_ok-root.root es c.self.invariant.0 one
-    c.in_ok-root.ensures.items c.self.invariant.2 (nothing_here (m.count - into_iter_len m.nodes) es nil)).1
-
-pub from_parts-requires-clause-marks : goal.from_parts-requires-clause-marks
-from_parts-requires-clause-marks c =
+pub from_parts-requires : goal.from_parts-requires
+from_parts-requires c =
     let m = c.self.inside in
     let some : m.ahead ≡ Some c.in-Some.known = search rules in
     let e = entry_of c.in-Some.known in
@@ -40,21 +30,6 @@ from_parts-requires-clause-marks c =
     next_taken m.count (into_iter_len m.nodes) (into_iter_len c.next.new.self) (into_iter_items m.nodes) (into_iter_items c.next.new.self) c.in_ok-root.root e es c.self.invariant.0 one
     c.in_ok-root.ensures.items known at in
     all.0
-
-pub from_parts-requires-clause-kinds : goal.from_parts-requires-clause-kinds
-from_parts-requires-clause-kinds c =
-    let m = c.self.inside in
-    let some : m.ahead ≡ Some c.in-Some.known = search rules in
-    let e = entry_of c.in-Some.known in
-    let es = map entry_of (into_iter_items m.known) in
-    let known : e ∷ es ≡ known_of (m.count - into_iter_len m.nodes) (into_iter_items m.nodes) =
-    ap (λ a. map entry_of (option_to_list a ++ into_iter_items m.known)) (sym some) ∙ c.self.invariant.2 in
-    let one : into_iter_len c.next.new.self + 1 ≡ into_iter_len m.nodes = search rules in
-    let at : c.in-Some.known.place ≡ m.count - into_iter_len m.nodes = search rules in
-    let all : Taken (m.count - into_iter_len c.next.new.self) c.in_ok-root.root (into_iter_items c.next.new.self) e es =
-    next_taken m.count (into_iter_len m.nodes) (into_iter_len c.next.new.self) (into_iter_items m.nodes) (into_iter_items c.next.new.self) c.in_ok-root.root e es c.self.invariant.0 one
-    c.in_ok-root.ensures.items known at in
-    all.1
 
 pub invariant_of-self-2 : goal.invariant_of-self-2
 invariant_of-self-2 c =
@@ -72,4 +47,4 @@ invariant_of-self-2 c =
     let end : c.next-2.result ≡ None → into_iter_items c.next-2.new.self ≡ [] =
     λ none. sym (c.next-2.ensures.items ∙ ap (λ r. option_to_list r ++ into_iter_items c.next-2.new.self) none)
     ∙ nil_from_length _ (sym m.known.rest.ok.0 ∙ (subst (λ r. into_iter_steps m.known r c.next-2.new.self) none c.next-2.ensures.cases).0) in
-    (omega (arith, one, c.self.invariant.0), end, ap (map entry_of) (sym c.next-2.ensures.items) ∙ all.2)
+    (omega (arith, one, c.self.invariant.0), end, ap (map entry_of) (sym c.next-2.ensures.items) ∙ all.1)

@@ -9,6 +9,6 @@ pub invariant_of-self-2 : goal.invariant_of-self-2
 invariant_of-self-2 c =
     let ns = c.self.inside.nodes.items in
     let items : c.push_reserved.new.self.items ≡ ns ++ c.args.root ∷ [] = search rules in
-    pushed (map entry_of c.self.inside.known.items) (map entry_of c.note.new.known.items) ns c.args.root c.len.result (node_paths c.args.own c.args.inner) c.args.kinds c.self.invariant
-    (search rules) c.requires.marks c.requires.kinds c.in_ok-note.ensures.noted
+    pushed (map entry_of c.self.inside.known.items) (map entry_of c.note.new.known.items) ns c.args.root c.len.result (node_paths c.args.own c.args.inner) c.self.invariant
+    (search rules) c.requires c.in_ok-note.ensures.noted
     ∙ ap (known_of 0) (sym items)

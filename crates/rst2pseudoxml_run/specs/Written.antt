@@ -1,0 +1,24 @@
+-- Texts that are written out, and what the program shows of them, for worked examples. No rule of markup.
+use Prim.Native.String.{String}
+use Rattle.std.proofs.Common.{arith}
+use Rattle.std.specs.Prelude.{◌≡◌, ℕ, true, List, [], Ok, codes, encode_utf8_all}
+use Rattle.rst_settings.specs.Profile.{profile_of}
+use Rattle.rst_settings.specs.declared.Settings.{Settings}
+use Rattle.rst_settings.specs.declared.Threshold.TheVariants.{Never, Severe, Warning}
+use Rattle.rst_text.specs.Written.{written}
+use Rattle.rst2pseudoxml_run.specs.Shown.{result_of}
+
+-- the settings of a call without options, but for the length of lines
+abbrev pub usual : Settings
+usual = record { report = Warning; halt = Severe; exit = Never; title = true; info = true; tab = 8; limit = 1000; tab_from = omega arith; tab_to = omega arith }
+
+-- For these lines, from the source `x`, these are printed on standard output and on standard error, with this exit status. (Blocks may be nested nine
+-- levels.)
+abbrev pub Reports : Settings → List String → List String → List String → ℕ → Type 0
+Reports settings text tree messages status =
+    result_of (record (profile_of settings) { nesting = 9 }) settings (codes "x") (encode_utf8_all (written text))
+    ≡ Ok (record { out = encode_utf8_all (written tree); err = encode_utf8_all (written messages); status = status })
+
+-- the same without messages, under the usual settings
+abbrev pub Outputs : List String → List String → Type 0
+Outputs text tree = Reports usual text tree [] 0

@@ -1,0 +1,21 @@
+use Rattle.std.proofs.Common.{◌∙◌, sym}
+use Rattle.rst_tree.specs.Walk.{items}
+use Rattle.rst_transform_substitutions.specs.Expanded.{with_expansions}
+use Rattle.rst_transform_substitutions.proofs.NoReferences.{stays_expanded}
+use Rattle.rst_transform_structure.specs.Targets.{with_targets}
+use Rattle.rst_transform_structure.proofs.Retargeting.{without_targets}
+use Rattle.rst_transform.proofs.Looking.{neither}
+use Rattle.rst_transform.proofs.Sequence.{makes_then}
+use Rattle.rst_transform.proofs.finishing.with_early.Goals as goal
+
+pub returns-then-not-has_early : goal.returns-then-not-has_early
+returns-then-not-has_early c =
+    let d = c.args.document in
+    let now = c.args.context.now in
+    let none = neither (items d.children) (sym c.has_early.ensures ∙ c.if-not-has_early.true) in
+    makes_then (with_expansions d) with_targets now now now d d (stays_expanded d now none.0) (without_targets d now none.1)
+
+pub returns : goal.returns
+returns c =
+    makes_then (with_expansions c.args.document) with_targets c.args.context.now c.expand.new.context c.targets.new.context c.in_ok-expanded.expanded c.in_ok-retargeted.retargeted
+    c.in_ok-expanded.ensures c.in_ok-retargeted.ensures

@@ -1,0 +1,11 @@
+-- Elements that the first transforms act on. No rule of markup: a document without any is left as it is.
+use Rattle.std.specs.Prelude.{Bool, true, ◌||◌}
+use Rattle.rst_tree.specs.declared.tag.Tag.{Tag}
+use Rattle.rst_tree.specs.declared.tag.Tag.TheVariants.{SubstitutionReference}
+use Rattle.rst_tree.specs.Walk.{Item}
+use Rattle.rst_tree_index.specs.Kinds.{is_internal}
+use Rattle.rst_transform_substitutions.specs.Expansion.{is_reference}
+
+-- a substitution reference or an internal target
+abbrev pub is_early : Item → Bool
+is_early x = is_reference x.tag || is_internal x

@@ -1,0 +1,107 @@
+//! The transforms of links, in order.
+ghost use Rattle.std.specs.Prelude.{◌<◌, ◌≤◌, length, map};
+ghost use Rattle.rst_tree.specs.Faults.{Gives};
+ghost use Rattle.rst_transform_links.specs.Linkings.{held};
+ghost use Rattle.rst_transform_links.specs.LinkTransforms.{link_changes};
+ghost use Rattle.rst_transform_work.specs.Known.{Makes};
+ghost use Rattle.rst_transform.specs.Linking.{decision_of, first_changes, linked_by, with_links};
+
+use rst_transform_footnotes::footnotes::footnotes;
+use rst_transform_hyperlinks::anonymous::anonymous;
+use rst_transform_hyperlinks::indirect::indirect;
+use rst_transform_links::{Changes, Linked, linked_in, with_changes};
+use rst_transform_references::resolve::resolve;
+use rst_transform_work::{Context, Document};
+use rst_tree::TreeFault;
+use std::alloc::Global;
+
+/// A transform of links.
+#[derive(Clone, Copy)]
+enum LinkTransform {
+    /// Anonymous references find their targets.
+    Anonymous,
+    /// Targets that name another one lead where that leads.
+    Indirect,
+    /// Footnotes get their labels, and references without a name find theirs.
+    Footnotes,
+    /// References by name lead where their names lead.
+    References,
+}
+
+/// The transforms of links, in their order.
+const ALL: [LinkTransform; 4] = [
+    LinkTransform::Anonymous,
+    LinkTransform::Indirect,
+    LinkTransform::Footnotes,
+    LinkTransform::References,
+];
+
+/// A document after all transforms of links.
+pub fn resolve_links(
+    alloc: Global,
+    document: Document,
+    context: &mut Context,
+) -> Result<Document, TreeFault>
+    ensures { Gives (Makes (with_links document) context.old context.new) result }
+{
+    resolve_by(alloc, document, context, &ALL)
+}
+
+/// A document after some transforms of links. Its linked elements are listed anew only after one that changed it.
+fn resolve_by(
+    alloc: Global,
+    document: Document,
+    context: &mut Context,
+    transforms: &[LinkTransform],
+) -> Result<Document, TreeFault>
+    ensures { Gives (Makes (linked_by transforms.now document) context.old context.new) result }
+{
+    if transforms.is_empty() {
+        return Ok(document);
+    }
+    let linked = linked_in(alloc, &document)?;
+    let (changes, done) = first_changes(alloc, context, linked.as_slice(), transforms)?;
+    drop(linked);
+    let changed = with_changes(alloc, document, changes)?;
+    let after = resolve_by(alloc, changed, context, &transforms[done..])?;
+    Ok(after)
+}
+
+/// What the first of some transforms makes of linked elements that doesn't leave all as they are, and how many are done then.
+fn first_changes(
+    alloc: Global,
+    context: &mut Context,
+    linked: &[Linked<'_>],
+    transforms: &[LinkTransform],
+) -> Result<(Changes, usize), TreeFault>
+    ensures changes { Gives (λ done. Makes (first_changes transforms.now (map held linked.now)) context.old context.new (done.0, done.1)) result }
+    ensures some { Gives (λ done. 0 < length transforms.now → 0 < done.1) result }
+    ensures fits { Gives (λ done. done.1 ≤ length transforms.now) result }
+{
+    let Some((first, more)) = transforms.split_first() else {
+        return Ok((Changes::of(Vec::new(alloc)), 0));
+    };
+    let changes = changes_by(alloc, context, linked, *first)?;
+    if !changes.are_idle() {
+        return Ok((changes, 1));
+    }
+    let (changes, done) = first_changes(alloc, context, linked, more)?;
+    Ok((changes, done + 1))
+}
+
+/// What a transform makes of linked elements.
+fn changes_by(
+    alloc: Global,
+    context: &mut Context,
+    linked: &[Linked<'_>],
+    transform: LinkTransform,
+) -> Result<Changes, TreeFault>
+    ensures { Gives (Makes (link_changes (decision_of transform) (map held linked.now)) context.old context.new) result }
+{
+    match transform {
+        LinkTransform::Anonymous => anonymous(alloc, context, linked),
+        LinkTransform::Indirect => indirect(alloc, context, linked),
+        LinkTransform::Footnotes => footnotes(alloc, context, linked),
+        LinkTransform::References => resolve(alloc, context, linked),
+    }
+}

@@ -1,5 +1,0 @@
-use Rattle.rst_transform_structure.proofs.OneAnswer as lemma
-use Rattle.rst_transform_structure.proofs.laws.titled_alike.Goals as goal
-
-pub returns : goal.returns
-returns c = lemma.titled_alike

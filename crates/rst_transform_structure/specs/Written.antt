@@ -1,0 +1,16 @@
+-- What is known, written out, for worked examples. No rule of markup.
+use Rattle.std.specs.Prelude.{ℕ, List, [], codes, Option, Some, None}
+use Rattle.rst_transform_names.specs.declared.names.Holder.{Holder}
+use Rattle.rst_transform_names.specs.declared.names.Holder.TheVariants.{Element}
+use Rattle.rst_transform_names.specs.declared.names.NameEntry.{NameEntry}
+use Rattle.rst_transform_names.specs.declared.names.Strength.TheVariants.{Explicit}
+use Rattle.rst_transform_work.specs.Known.{Known}
+use Rattle.rst_transform_work.specs.declared.report.Report.{Report}
+
+-- what is known of a name that was given explicitly
+abbrev pub held : Holder → Option NameEntry
+held holder = Some (record { holder = holder; strength = Explicit; id = codes "a"; uri = None })
+
+-- these messages, the first number, and that the element of number 0 holds each name
+abbrev pub known_from : ℕ → List Report → Known
+known_from first reports = record { ids = []; names = λ name. held (Element 0); reports = reports; first_number = first; serials = 0 }

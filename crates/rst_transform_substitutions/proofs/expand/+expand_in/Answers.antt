@@ -1,0 +1,50 @@
+use Rattle.std.proofs.Common.{◌≡◌, ◌+◌, ◌≤◌, rules, arith, sym, subst, ap, ◌∙◌}
+use Rattle.rst_tree.specs.Forest.{height}
+use Rattle.rst_tree.specs.Nodes.{node_height}
+use Rattle.rst_tree.proofs.Rewrites.{Same-child}
+use Rattle.rst_transform_work.specs.Known.{Makes}
+use Rattle.rst_transform_substitutions.specs.Definitions.{found_by, known_place}
+use Rattle.rst_transform_substitutions.specs.Expanded.{expanded_in}
+use Rattle.rst_transform_substitutions.proofs.Replacing.{element_holds, reference_gives, text_stays, Replacing-all, Replacing-init, Replacing-more}
+use Rattle.rst_transform_substitutions.proofs.expand.+expand_in.Goals as goal
+
+pub loop-i-init : goal.loop-i-init
+loop-i-init t c = record { replacing = Replacing-init (found_by c.args.definitions.now) (known_place c.args.definitions.now) c.args.within c.args.nodes.now c.args.context.now; remembers = c.requires }
+
+pub loop-i-preserved-in-Text : goal.loop-i-preserved-in-Text
+loop-i-preserved-in-Text t c = record {
+  replacing = Replacing-more (found_by c.args.definitions.now) (known_place c.args.definitions.now) c.args.within c.args.nodes.now c.args.context.now c.loop-i.context c.loop-i.context c.loop-i.nodes c.loop-i.i c.get_mut.result.now c.get_mut.result.now c.loop-i.invariant.replacing
+      (omega (arith, c.loop-i.invariant.replacing.same.same_len, c.len-i-end.ensures)) c.get_mut.ensures.value (text_stays (found_by c.args.definitions.now) (known_place c.args.definitions.now) c.args.within c.loop-i.context c.get_mut.result.now c.in-Text.field-0 c.in-Text.is);
+  remembers = c.loop-i.invariant.remembers;
+}
+
+pub loop-i-preserved-then-is_reference : goal.loop-i-preserved-then-is_reference
+loop-i-preserved-then-is_reference t c = record {
+  replacing = Replacing-more (found_by c.args.definitions.now) (known_place c.args.definitions.now) c.args.within c.args.nodes.now c.args.context.now c.loop-i.context c.replaced.new.context c.loop-i.nodes c.loop-i.i c.get_mut.result.now _ c.loop-i.invariant.replacing
+      (omega (arith, c.loop-i.invariant.replacing.same.same_len, c.len-i-end.ensures)) c.get_mut.ensures.value
+      (reference_gives (found_by c.args.definitions.now) (known_place c.args.definitions.now) c.args.within c.loop-i.context c.replaced.new.context c.get_mut.result.now c.in-Element.tag c.in-Element.attrs c.replaced.new.attrs c.in-Element.children c.in_ok-children-in-Element.field-0 c.in-Element.line
+      c.in-Element.is (sym c.is_reference.ensures ∙ c.if-is_reference.true) c.in_ok-children-in-Element.ensures.replaced);
+  remembers = c.in_ok-children-in-Element.ensures.remembers;
+}
+
+pub expand_in-requires : goal.expand_in-requires
+expand_in-requires t c =
+    let m : node_height c.get_mut.result.now ≡ height c.in-Element.children + 1 = ap node_height c.in-Element.is in
+    let k : node_height c.get_mut.result.now ≤ height c.args.nodes.now =
+    Same-child _ c.loop-i.nodes c.loop-i.i c.get_mut.result.now c.loop-i.invariant.replacing.same (omega (arith, c.loop-i.invariant.replacing.same.same_len, c.len-i-end.ensures)) c.get_mut.ensures.value in
+    let h : height c.in-Element.children + 1 ≤ height c.args.nodes.now = omega (arith, m, k) in
+    search (rules, h, c.loop-i.invariant.remembers)
+
+pub loop-i-preserved : goal.loop-i-preserved
+loop-i-preserved t c = record {
+  replacing = Replacing-more (found_by c.args.definitions.now) (known_place c.args.definitions.now) c.args.within c.args.nodes.now c.args.context.now c.loop-i.context c.expand_in.new.context c.loop-i.nodes c.loop-i.i c.get_mut.result.now _ c.loop-i.invariant.replacing
+      (omega (arith, c.loop-i.invariant.replacing.same.same_len, c.len-i-end.ensures)) c.get_mut.ensures.value
+      (element_holds (found_by c.args.definitions.now) (known_place c.args.definitions.now) c.args.within c.loop-i.context c.expand_in.new.context c.get_mut.result.now c.in-Element.tag c.in-Element.attrs c.in-Element.children c.expand_in.new.nodes c.in-Element.line
+      c.in-Element.is (sym c.is_reference.ensures ∙ c.if-is_reference.false) (rw (c.within_element-within.ensures) at c.in_ok-expand_in-in-Element.ensures.expanded));
+  remembers = c.in_ok-expand_in-in-Element.ensures.remembers;
+}
+
+pub returns-clause-expanded : goal.returns-clause-expanded
+returns-clause-expanded t c =
+    subst (λ xs. Makes (expanded_in (found_by c.args.definitions.now) (known_place c.args.definitions.now) c.args.within c.args.nodes.now) c.args.context.now c.loop-i.context xs) (sym c.in_ok-open_references.ensures)
+    (Replacing-all (found_by c.args.definitions.now) (known_place c.args.definitions.now) c.args.within c.args.nodes.now c.args.context.now c.loop-i.context c.loop-i.nodes c.loop-i.i c.loop-i.invariant.replacing (omega (arith, c.loop-i.invariant.replacing.same.same_len, c.len-i-end.ensures)))
