@@ -10,13 +10,13 @@ use Rattle.rst_transform_links.specs.Linkings.{linked_of, Held}
 use Rattle.rst_transform_links.specs.Links.{changed_document, is_idle}
 use Rattle.rst_transform_links.specs.LinkTransforms.{link_changes}
 use Rattle.rst_transform_links.proofs.Idle.{idle_document}
-use Rattle.rst_transform.specs.declared.linking.LinkTransform.{LinkTransform}
+use Rattle.rst_transform.specs.declared.linking.LinkStep.{LinkStep}
 use Rattle.rst_transform.specs.Linking.{decision_of, first_changes, linked_by}
 
 drop_next : {A : Type 0} (x : A) (xs : List A) (n : ℕ) → drop (n + 1) (x ∷ xs) ≡ drop n xs
 drop_next x xs n = let one : n + 1 ≡ suc n = omega arith in ap (λ k. drop k (x ∷ xs)) one
 
-module _ (first : LinkTransform) (more : List LinkTransform) (document : Document) (known : Known) where
+module _ (first : LinkStep) (more : List LinkStep) (document : Document) (known : Known) where
   abbrev own : List Outcome × Known
   own = link_changes (decision_of first) (linked_of document) known
 
@@ -33,7 +33,7 @@ module _ (first : LinkTransform) (more : List LinkTransform) (document : Documen
       ∙ ap (λ l. linked_by l (changed_document rest.0.0 document) rest.1) (sym (drop_next first more rest.0.1))
   after_one false is later = refl
 
-pub after_first : (transforms : List LinkTransform) (document : Document) (known : Known) → let done = first_changes transforms (linked_of document) known in
+pub after_first : (transforms : List LinkStep) (document : Document) (known : Known) → let done = first_changes transforms (linked_of document) known in
     linked_by transforms document known ≡ linked_by (drop done.0.1 transforms) (changed_document done.0.0 document) done.1
 after_first [] document known = ap (λ d. (d, known)) (sym (idle_document [] document refl))
 after_first (first ∷ more) document known =
@@ -41,12 +41,12 @@ after_first (first ∷ more) document known =
     after_one first more document known (list_all is_idle own.0) refl (after_first more document own.1)
 
 -- no transform
-pub first_of_none : (transforms : List LinkTransform) (linked : List Held) (context : Context) (changes : List Outcome) → length transforms ≡ 0 → changes ≡ []
+pub first_of_none : (transforms : List LinkStep) (linked : List Held) (context : Context) (changes : List Outcome) → length transforms ≡ 0 → changes ≡ []
     → Makes (first_changes transforms linked) context context (changes, 0)
 first_of_none [] linked context changes none is = λ known h. (ap (λ c. (c, 0)) is, h)
 first_of_none (first ∷ more) linked context changes none is = absurd (omega (arith, none))
 
-module _ (transforms more : List LinkTransform) (first : LinkTransform) (linked : List Held) (old mid : Context) (changes : List Outcome) (cut : transforms ≡ first ∷ more)
+module _ (transforms more : List LinkStep) (first : LinkStep) (linked : List Held) (old mid : Context) (changes : List Outcome) (cut : transforms ≡ first ∷ more)
     (makes : Makes (link_changes (decision_of first) linked) old mid changes) where
   abbrev after_first_of : Bool → Known → (List Outcome × ℕ) × Known
   after_first_of idle known =
@@ -74,7 +74,7 @@ module _ (transforms more : List LinkTransform) (first : LinkTransform) (linked 
       (ap (λ (r : List Outcome × ℕ). (r.0, r.1 + 1)) two.0 ∙ ap (λ done. done.0) is, subst (λ (done : (List Outcome × ℕ) × Known). Holds new done.1) is two.1)
 
 -- the first changes, and then what the transforms after them make of the document
-pub resolves : (transforms rest : List LinkTransform) (document next result : Document) (linked : List Held) (old mid new : Context) (changes : List Outcome) (done : ℕ)
+pub resolves : (transforms rest : List LinkStep) (document next result : Document) (linked : List Held) (old mid new : Context) (changes : List Outcome) (done : ℕ)
     → linked ≡ linked_of document → Makes (first_changes transforms linked) old mid (changes, done) → next ≡ changed_document changes document → rest ≡ drop done transforms
     → Makes (linked_by rest next) mid new result → Makes (linked_by transforms document) old new result
 resolves transforms rest document next result linked old mid new changes done is makes changed cut resolved known h =

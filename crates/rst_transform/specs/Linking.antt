@@ -11,21 +11,21 @@ use Rattle.rst_transform_hyperlinks.specs.Anonymous.{anonymous_outcomes}
 use Rattle.rst_transform_hyperlinks.specs.Indirect.{indirect_outcomes}
 use Rattle.rst_transform_footnotes.specs.Footnotes.{footnote_outcomes}
 use Rattle.rst_transform_references.specs.Resolving.{reference_outcomes}
-use Rattle.rst_transform.specs.declared.linking.LinkTransform.{LinkTransform}
-use Rattle.rst_transform.specs.declared.linking.LinkTransform.TheVariants.{Anonymous, Indirect, Footnotes, References}
+use Rattle.rst_transform.specs.declared.linking.LinkStep.{LinkStep}
+use Rattle.rst_transform.specs.declared.linking.LinkStep.TheVariants.{Anonymous, Indirect, Footnotes, References}
 
 -- what a transform of links decides of linked elements
 abbrev pub Decision : Type 0
 Decision = List Held → Known → List Outcome × Known
 
-abbrev pub decision_of : LinkTransform → Decision
+abbrev pub decision_of : LinkStep → Decision
 decision_of Anonymous = anonymous_outcomes
 decision_of Indirect = indirect_outcomes
 decision_of Footnotes = footnote_outcomes
 decision_of References = reference_outcomes
 
 -- the linked elements of a document change as some decide, one after another
-abbrev pub linked_by : List LinkTransform → Document → Known → Document × Known
+abbrev pub linked_by : List LinkStep → Document → Known → Document × Known
 linked_by [] document known = (document, known)
 linked_by (first ∷ more) document known =
     let changes = link_changes (decision_of first) (linked_of document) known in linked_by more (changed_document changes.0 document) changes.1
@@ -35,7 +35,7 @@ abbrev pub with_links : Document → Known → Document × Known
 with_links = linked_by (Anonymous ∷ Indirect ∷ Footnotes ∷ References ∷ [])
 
 -- What the first of some transforms makes of linked elements that doesn't leave all as they are, and how many are done then. No rule of markup.
-abbrev pub first_changes : List LinkTransform → List Held → Known → (List Outcome × ℕ) × Known
+abbrev pub first_changes : List LinkStep → List Held → Known → (List Outcome × ℕ) × Known
 first_changes [] linked known = (([], 0), known)
 first_changes (first ∷ more) linked known =
     let changes = link_changes (decision_of first) linked known in

@@ -17,7 +17,7 @@ use std::alloc::Global;
 
 /// A transform of links.
 #[derive(Clone, Copy)]
-enum LinkTransform {
+enum LinkStep {
     /// Anonymous references find their targets.
     Anonymous,
     /// Targets that name another one lead where that leads.
@@ -29,11 +29,11 @@ enum LinkTransform {
 }
 
 /// The transforms of links, in their order.
-const ALL: [LinkTransform; 4] = [
-    LinkTransform::Anonymous,
-    LinkTransform::Indirect,
-    LinkTransform::Footnotes,
-    LinkTransform::References,
+const ALL: [LinkStep; 4] = [
+    LinkStep::Anonymous,
+    LinkStep::Indirect,
+    LinkStep::Footnotes,
+    LinkStep::References,
 ];
 
 /// A document after all transforms of links.
@@ -52,7 +52,7 @@ fn resolve_by(
     alloc: Global,
     document: Document,
     context: &mut Context,
-    transforms: &[LinkTransform],
+    transforms: &[LinkStep],
 ) -> Result<Document, TreeFault>
     ensures { Gives (Makes (linked_by transforms.now document) context.old context.new) result }
 {
@@ -72,7 +72,7 @@ fn first_changes(
     alloc: Global,
     context: &mut Context,
     linked: &[Linked<'_>],
-    transforms: &[LinkTransform],
+    transforms: &[LinkStep],
 ) -> Result<(Changes, usize), TreeFault>
     ensures changes { Gives (λ done. Makes (first_changes transforms.now (map held linked.now)) context.old context.new (done.0, done.1)) result }
     ensures some { Gives (λ done. 0 < length transforms.now → 0 < done.1) result }
@@ -94,14 +94,14 @@ fn changes_by(
     alloc: Global,
     context: &mut Context,
     linked: &[Linked<'_>],
-    transform: LinkTransform,
+    transform: LinkStep,
 ) -> Result<Changes, TreeFault>
     ensures { Gives (Makes (link_changes (decision_of transform) (map held linked.now)) context.old context.new) result }
 {
     match transform {
-        LinkTransform::Anonymous => anonymous(alloc, context, linked),
-        LinkTransform::Indirect => indirect(alloc, context, linked),
-        LinkTransform::Footnotes => footnotes(alloc, context, linked),
-        LinkTransform::References => resolve(alloc, context, linked),
+        LinkStep::Anonymous => anonymous(alloc, context, linked),
+        LinkStep::Indirect => indirect(alloc, context, linked),
+        LinkStep::Footnotes => footnotes(alloc, context, linked),
+        LinkStep::References => resolve(alloc, context, linked),
     }
 }

@@ -11,7 +11,7 @@ use Rattle.std.proofs.lemmas.List.FromFn.{length-range_with_len}
 use Rattle.std.proofs.lemmas.Map.Made.{length-le_from_is_member}
 use Rattle.std.proofs.lemmas.Map.Views.{any-filter_same}
 use Rattle.rst_transform_names.specs.Ids.{number_in}
-use Rattle.rst_transform_names.proofs.IdLemmas.{no_first}
+use Rattle.rst_transform_names.proofs.IdNumbers.{no_first}
 use Rattle.rst_transform_links.specs.declared.links.Linked.{Linked}
 use Rattle.rst_transform_links.specs.Linkings.{Held, held}
 use Rattle.rst_transform_links.specs.FootnoteOrders.{mark_of}

@@ -15,7 +15,7 @@ ghost use Rattle.rst_transform_work.specs.Written.{document_of, Shows};
 ghost use Rattle.rst_transform_links.specs.declared.footnote_orders.Order.TheVariants.{Numbers, Symbols};
 ghost use Rattle.rst_transform_links.specs.FootnoteOrders.{found_by_order};
 ghost use Rattle.rst_transform_links.specs.Linkings.{linked_of};
-ghost use Rattle.rst_transform_links.specs.Written.{changed_by};
+ghost use Rattle.rst_transform_links.specs.Written.{transformed_by};
 ghost use Rattle.rst_transform_footnotes.specs.FootnoteLabels.{labels, symbol_label};
 ghost use Rattle.rst_transform_footnotes.specs.Footnotes.{entry_of, first_left_over, footnote_outcomes, report_of, too_many};
 ghost use Rattle.rst_transform_footnotes.specs.Written.{footnote};
@@ -45,19 +45,19 @@ pub fn numbers()
 
 /// References without names, and the footnotes that they find (Markup Specification, 'Auto-Numbered Footnotes').
 pub fn references()
-    ensures numbered { Shows (changed_by footnote_outcomes [] (document_of (element FootnoteReference (says Auto "1" ∷ lists Ids ("footnote-reference-1" ∷ []) ∷ []) []
+    ensures numbered { Shows (transformed_by footnote_outcomes [] (document_of (element FootnoteReference (says Auto "1" ∷ lists Ids ("footnote-reference-1" ∷ []) ∷ []) []
         ∷ footnote "#" (says Auto "1" ∷ lists Ids ("footnote-1" ∷ []) ∷ []) ∷ footnote "1" (lists Ids ("footnote-2" ∷ []) ∷ lists Names ("1" ∷ [])
         ∷ []) ∷ []))).0
         ("<document>" ∷ "    <footnote_reference auto=\"1\" ids=\"footnote-reference-1\" refid=\"footnote-1\">" ∷ "        2"
         ∷ "    <footnote auto=\"1\" ids=\"footnote-1\" names=\"2\">" ∷ "        <label>" ∷ "            2"
         ∷ "    <footnote ids=\"footnote-2\" names=\"1\">" ∷ "        <label>" ∷ "            1" ∷ []) }
-    ensures symbol { Shows (changed_by footnote_outcomes [] (document_of (element FootnoteReference (says Auto "*" ∷ []) [] ∷ footnote "*" (says Auto "*"
+    ensures symbol { Shows (transformed_by footnote_outcomes [] (document_of (element FootnoteReference (says Auto "*" ∷ []) [] ∷ footnote "*" (says Auto "*"
         ∷ lists Ids ("footnote-1" ∷ "x" ∷ []) ∷ []) ∷ []))).0
         ("<document>" ∷ "    <footnote_reference auto=\"*\" refid=\"footnote-1\">" ∷ "        *" ∷ "    <footnote auto=\"*\" ids=\"footnote-1 x\">"
         ∷ "        <label>" ∷ "            *" ∷ []) }
-    ensures of_a_name { Shows (changed_by footnote_outcomes [] (document_of (footnote "#a" (says Auto "1" ∷ lists Names ("a" ∷ []) ∷ []) ∷ []))).0
+    ensures of_a_name { Shows (transformed_by footnote_outcomes [] (document_of (footnote "#a" (says Auto "1" ∷ lists Names ("a" ∷ []) ∷ []) ∷ []))).0
         ("<document>" ∷ "    <footnote auto=\"1\" names=\"a\">" ∷ "        <label>" ∷ "            1" ∷ []) }
-    ensures further_name { Shows (changed_by footnote_outcomes [] (document_of (footnote "#" (lists Names ("x" ∷ []) ∷ []) ∷ []))).0
+    ensures further_name { Shows (transformed_by footnote_outcomes [] (document_of (footnote "#" (lists Names ("x" ∷ []) ∷ []) ∷ []))).0
         ("<document>" ∷ "    <footnote names=\"x 1\">" ∷ "        <label>" ∷ "            1" ∷ []) }
 {}
 
@@ -72,7 +72,7 @@ pub fn left_over()
     ensures message { report_of (Some Symbols) (Some 0) (Some 1) ≡ Some 1 }
     ensures known_number { entry_of (codes "1") (Some (codes "1")) (footnote "#" (lists Ids ("footnote-1" ∷ []) ∷ counts Serial 4 ∷ []))
         ≡ Some (record { holder = By 4; strength = Explicit; id = codes "footnote-1"; uri = None }) }
-    ensures problematics { let done : Document × Known = changed_by footnote_outcomes [] (document_of (Element FootnoteReference (says Auto "*"
+    ensures problematics { let done : Document × Known = transformed_by footnote_outcomes [] (document_of (Element FootnoteReference (says Auto "*"
         ∷ says Rawsource "[*]_" ∷ []) bare 2 ∷ element FootnoteReference (says Auto "1" ∷ []) [] ∷ footnote "#" (lists Ids ("footnote-1" ∷ []) ∷ [])
         ∷ Element FootnoteReference (says Auto "1" ∷ says Rawsource "[#]_" ∷ []) bare 4 ∷ [])) in
         Shows done.0 ("<document>" ∷ "    <problematic ids=\"problematic-2\" refid=\"system-message-2\">" ∷ "        [*]_"
@@ -85,7 +85,7 @@ pub fn left_over()
 
 /// Numbers that footnotes hold as names (Markup Specification, 'Auto-Numbered Footnotes').
 pub fn numbers_as_names()
-    ensures held { map (changed_by footnote_outcomes ("2" ∷ []) (document_of (footnote "#" (lists Ids ("footnote-1" ∷ []) ∷ counts Serial 4 ∷ [])
+    ensures held { map (transformed_by footnote_outcomes ("2" ∷ []) (document_of (footnote "#" (lists Ids ("footnote-1" ∷ []) ∷ counts Serial 4 ∷ [])
         ∷ footnote "#a" (lists Ids ("a" ∷ []) ∷ counts Serial 5 ∷ []) ∷ footnote "#" (lists Ids ("footnote-2" ∷ []) ∷ counts Serial 6 ∷ [])
         ∷ []))).1.names (codes "1" ∷ codes "2" ∷ codes "3" ∷ [])
         ≡ Some (record { holder = By 4; strength = Explicit; id = codes "footnote-1"; uri = None })

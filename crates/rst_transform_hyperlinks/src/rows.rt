@@ -20,27 +20,27 @@ ghost use Rattle.rst_transform_hyperlinks.specs.Anonymous.{agree, anonymous_outc
 ghost use Rattle.rst_transform_hyperlinks.specs.declared.chains.Step.TheVariants.{Ends};
 ghost use Rattle.rst_transform_hyperlinks.specs.Chains.{indirect_name, step_by};
 ghost use Rattle.rst_transform_hyperlinks.specs.Indirect.{failure_of, indirect_outcomes, outcome_at, with_reports};
-ghost use Rattle.rst_transform_links.specs.Written.{changed_by};
+ghost use Rattle.rst_transform_links.specs.Written.{transformed_by};
 
 /// Anonymous references take the anonymous targets in order (Markup Specification, 'Anonymous Hyperlinks').
 pub fn anonymous()
-    ensures to_a_uri { Shows (changed_by anonymous_outcomes [] (document_of (element Reference (counts Anonymous 1 ∷ []) (text "a" ∷ [])
+    ensures to_a_uri { Shows (transformed_by anonymous_outcomes [] (document_of (element Reference (counts Anonymous 1 ∷ []) (text "a" ∷ [])
         ∷ element Target (counts Anonymous 1 ∷ lists Ids ("target-1" ∷ []) ∷ says Refuri "u" ∷ []) [] ∷ []))).0
         ("<document>" ∷ "    <reference anonymous=\"1\" refuri=\"u\">" ∷ "        a" ∷ "    <target anonymous=\"1\" ids=\"target-1\" refuri=\"u\">"
         ∷ []) }
-    ensures in_order { Shows (changed_by anonymous_outcomes [] (document_of (element Reference (counts Anonymous 1 ∷ []) [] ∷ element Target (says Refuri "x" ∷ []) []
+    ensures in_order { Shows (transformed_by anonymous_outcomes [] (document_of (element Reference (counts Anonymous 1 ∷ []) [] ∷ element Target (says Refuri "x" ∷ []) []
         ∷ element Target (counts Anonymous 1 ∷ says Refuri "u" ∷ []) [] ∷ element Target (counts Anonymous 1 ∷ says Refid "v" ∷ []) []
         ∷ element Reference [] [] ∷ element Reference (counts Anonymous 1 ∷ []) [] ∷ []))).0
         ("<document>" ∷ "    <reference anonymous=\"1\" refuri=\"u\">" ∷ "    <target refuri=\"x\">" ∷ "    <target anonymous=\"1\" refuri=\"u\">"
         ∷ "    <target anonymous=\"1\" refid=\"v\">" ∷ "    <reference>" ∷ "    <reference anonymous=\"1\" refid=\"v\">" ∷ []) }
-    ensures to_itself { Shows (changed_by anonymous_outcomes [] (document_of (element Reference (counts Anonymous 1 ∷ []) [] ∷ element Target (counts Anonymous 1
+    ensures to_itself { Shows (transformed_by anonymous_outcomes [] (document_of (element Reference (counts Anonymous 1 ∷ []) [] ∷ element Target (counts Anonymous 1
         ∷ lists Ids ("target-1" ∷ []) ∷ []) [] ∷ []))).0
         ("<document>" ∷ "    <reference anonymous=\"1\" refid=\"target-1\">" ∷ "    <target anonymous=\"1\" ids=\"target-1\">" ∷ []) }
-    ensures to_an_indirect_one { Shows (changed_by anonymous_outcomes [] (document_of (element Reference (counts Anonymous 1 ∷ []) [] ∷ element Target (counts Anonymous 1
+    ensures to_an_indirect_one { Shows (transformed_by anonymous_outcomes [] (document_of (element Reference (counts Anonymous 1 ∷ []) [] ∷ element Target (counts Anonymous 1
         ∷ lists Ids ("target-1" ∷ []) ∷ says Refname "b" ∷ []) [] ∷ []))).0
         ("<document>" ∷ "    <reference anonymous=\"1\">" ∷ "    <target anonymous=\"1\" ids=\"target-1\">" ∷ []) }
     ensures too_few { agree (linked_of (document_of (element Reference (counts Anonymous 1 ∷ []) [] ∷ element Target [] [] ∷ []))) ≡ false }
-    ensures mismatched { let done : Document × Known = changed_by anonymous_outcomes [] (document_of (Element Reference (counts Anonymous 1
+    ensures mismatched { let done : Document × Known = transformed_by anonymous_outcomes [] (document_of (Element Reference (counts Anonymous 1
         ∷ says Rawsource "a__" ∷ []) bare 3 ∷ element Reference [] [] ∷ element Reference (counts Anonymous 1 ∷ says Rawsource "b__" ∷ []) []
         ∷ element Target (counts Anonymous 1 ∷ []) [] ∷ [])) in
         Shows done.0 ("<document>" ∷ "    <problematic ids=\"problematic-1\" refid=\"system-message-1\">" ∷ "        a__" ∷ "    <reference>"
@@ -81,33 +81,33 @@ pub fn indirect()
 
 /// Indirect targets lead where their chains of names end (Markup Specification, 'Hyperlink Targets').
 pub fn chains()
-    ensures to_a_uri { Shows (changed_by indirect_outcomes ("a" ∷ "b" ∷ []) (document_of (element Reference (counts Anonymous 1 ∷ []) (text "x" ∷ [])
+    ensures to_a_uri { Shows (transformed_by indirect_outcomes ("a" ∷ "b" ∷ []) (document_of (element Reference (counts Anonymous 1 ∷ []) (text "x" ∷ [])
         ∷ element Target (counts Anonymous 1 ∷ lists Ids ("target-1" ∷ []) ∷ says Refname "a" ∷ []) []
         ∷ element Target (counts Serial 0 ∷ says Refname "b" ∷ []) [] ∷ element Target (counts Serial 1 ∷ says Refuri "u" ∷ []) [] ∷ []))).0
         ("<document>" ∷ "    <reference anonymous=\"1\" refuri=\"u\">" ∷ "        x" ∷ "    <target anonymous=\"1\" ids=\"target-1\" refuri=\"u\">"
         ∷ "    <target refuri=\"u\">" ∷ "    <target refuri=\"u\">" ∷ []) }
-    ensures to_an_id { Shows (changed_by indirect_outcomes ("a" ∷ "b" ∷ []) (document_of (element Target (counts Serial 0 ∷ says Refname "b" ∷ []) []
+    ensures to_an_id { Shows (transformed_by indirect_outcomes ("a" ∷ "b" ∷ []) (document_of (element Target (counts Serial 0 ∷ says Refname "b" ∷ []) []
         ∷ element Footnote (counts Serial 1 ∷ []) [] ∷ []))).0 ("<document>" ∷ "    <target refid=\"b\">" ∷ "    <footnote>" ∷ []) }
-    ensures to_an_element_of_no_link { Shows (changed_by indirect_outcomes ("a" ∷ "b" ∷ []) (document_of (element Target (counts Serial 0
+    ensures to_an_element_of_no_link { Shows (transformed_by indirect_outcomes ("a" ∷ "b" ∷ []) (document_of (element Target (counts Serial 0
         ∷ says Refname "b" ∷ []) [] ∷ []))).0 ("<document>" ∷ "    <target refid=\"b\">" ∷ []) }
-    ensures circle { let done : Document × Known = changed_by indirect_outcomes ("a" ∷ "b" ∷ []) (document_of (element Target (counts Serial 0
+    ensures circle { let done : Document × Known = transformed_by indirect_outcomes ("a" ∷ "b" ∷ []) (document_of (element Target (counts Serial 0
         ∷ says OwnName "a" ∷ says Refname "b" ∷ []) [] ∷ element Target (counts Serial 1 ∷ says OwnName "b" ∷ says Refname "a" ∷ []) []
         ∷ element Reference (says Refname "b" ∷ says Rawsource "b_" ∷ []) [] ∷ [])) in
         Shows done.0 ("<document>" ∷ "    <target>" ∷ "    <target>" ∷ "    <problematic ids=\"problematic-1\" refid=\"system-message-1\">"
         ∷ "        b_" ∷ [])
         × (map (λ r. r.text) done.1.reports ≡ codes "Indirect hyperlink target \"a\" is circular."
         ∷ codes "Indirect hyperlink target \"b\" is circular." ∷ []) }
-    ensures into_a_circle { map (λ r. r.text) (changed_by indirect_outcomes ("a" ∷ "b" ∷ []) (document_of (element Target (says OwnName "c"
+    ensures into_a_circle { map (λ r. r.text) (transformed_by indirect_outcomes ("a" ∷ "b" ∷ []) (document_of (element Target (says OwnName "c"
         ∷ says Refname "a" ∷ []) [] ∷ element Target (counts Serial 0 ∷ says OwnName "a" ∷ says Refname "a" ∷ []) [] ∷ []))).1.reports
         ≡ codes "Indirect hyperlink target \"c\" is circular." ∷ codes "Indirect hyperlink target \"a\" is circular." ∷ [] }
-    ensures missing_name { let done : Document × Known = changed_by indirect_outcomes ("a" ∷ []) (document_of (element Target (says OwnName "c"
+    ensures missing_name { let done : Document × Known = transformed_by indirect_outcomes ("a" ∷ []) (document_of (element Target (says OwnName "c"
         ∷ says Refname "a" ∷ []) [] ∷ element Target (counts Serial 0 ∷ says OwnName "a" ∷ says Refname "b" ∷ []) []
         ∷ element Reference (says Refname "a" ∷ says Rawsource "a_" ∷ []) [] ∷ [])) in
         Shows done.0 ("<document>" ∷ "    <target>" ∷ "    <target>" ∷ "    <problematic ids=\"problematic-1\" refid=\"system-message-1\">"
         ∷ "        a_" ∷ [])
         × (map (λ r. r.text) done.1.reports ≡ codes "Indirect hyperlink target \"c\" refers to target \"b\", which does not exist."
         ∷ codes "Indirect hyperlink target \"a\" refers to target \"b\", which does not exist." ∷ []) }
-    ensures left_to_a_later_transform { Shows (changed_by indirect_outcomes ("a" ∷ "b" ∷ []) (document_of (element Reference (says Refname "a" ∷ []) []
+    ensures left_to_a_later_transform { Shows (transformed_by indirect_outcomes ("a" ∷ "b" ∷ []) (document_of (element Reference (says Refname "a" ∷ []) []
         ∷ element Target (counts Serial 0 ∷ says Refname "b" ∷ []) [] ∷ element Target (counts Serial 1 ∷ says Refuri "u" ∷ []) [] ∷ []))).0
         ("<document>" ∷ "    <reference>" ∷ "    <target refuri=\"u\">" ∷ "    <target refuri=\"u\">" ∷ []) }
 {}

@@ -12,7 +12,7 @@ ghost use Rattle.rst_transform_work.specs.declared.document.Document.{Document};
 ghost use Rattle.rst_transform_work.specs.Known.{Known};
 ghost use Rattle.rst_transform_work.specs.Problematics.{problematic_attrs};
 ghost use Rattle.rst_transform_work.specs.Reports.{next_report, reported};
-ghost use Rattle.rst_transform_work.specs.Written.{document_of, Shows};
+ghost use Rattle.rst_transform_work.specs.Written.{document_of, knowing, Shows};
 ghost use Rattle.rst_transform_links.specs.declared.links.Outcome.{Outcome};
 ghost use Rattle.rst_transform_links.specs.declared.links.Outcome.TheVariants.{Stays, Fails, Failed};
 ghost use Rattle.rst_transform_links.specs.FootnoteOrders.{found_by_order, order_name};
@@ -82,36 +82,16 @@ pub fn outcomes()
 
 /// Elements that fail (Markup Specification, 'Error Handling').
 pub fn failing()
-    ensures message_by_message { let known : Known = record {
-      ids = [];
-      names = λ _. None;
-      reports = next_report 0 [] Error 1 (codes "a") true
-          ∷ next_report 1 [] Error 1 (codes "b") true ∷ [];
-      first_number = 0;
-      serials = 0;
-    } in
+    ensures message_by_message { let known : Known = record (knowing []) { reports = next_report 0 [] Error 1 (codes "a") true ∷ next_report 1 [] Error 1 (codes "b") true ∷ [] } in
         (settled (linked_of (document_of (element Reference [] [] ∷ element Reference [] [] ∷ []))) (Fails 1 ∷ Fails 0 ∷ []) known).0
         ≡ Failed (problematic_attrs (codes "problematic-2") (Some (1, codes "system-message-2")))
         ∷ Failed (problematic_attrs (codes "problematic-1") (Some (0, codes "system-message-1"))) ∷ [] }
-    ensures gone_with_the_outer { let known : Known = record {
-      ids = [];
-      names = λ _. None;
-      reports = next_report 0 [] Error 1 (codes "a") true ∷ [];
-      first_number = 0;
-      serials = 0;
-    } in
+    ensures gone_with_the_outer { let known : Known = record (knowing []) { reports = next_report 0 [] Error 1 (codes "a") true ∷ [] } in
         (settled (linked_of (document_of (element Footnote [] (element Reference [] [] ∷ []) ∷ element Reference [] [] ∷ []))) (Fails 0 ∷ Fails 0
         ∷ Fails 0 ∷ []) known).0
         ≡ Failed (problematic_attrs (codes "problematic-1") (Some (0, codes "system-message-1")))
         ∷ Failed (problematic_attrs (codes "problematic-2") (Some (0, codes "system-message-1"))) ∷ [] }
-    ensures before_the_outer { let known : Known = record {
-      ids = [];
-      names = λ _. None;
-      reports = next_report 0 [] Error 1 (codes "a") true
-          ∷ next_report 1 [] Error 1 (codes "b") true ∷ [];
-      first_number = 0;
-      serials = 0;
-    } in
+    ensures before_the_outer { let known : Known = record (knowing []) { reports = next_report 0 [] Error 1 (codes "a") true ∷ next_report 1 [] Error 1 (codes "b") true ∷ [] } in
         let done : List Outcome × Known = settled (linked_of (document_of (element Footnote [] (element Reference [] [] ∷ []) ∷ []))) (Fails 1 ∷ Fails 0 ∷ []) known in
         (done.0 ≡ Failed (problematic_attrs (codes "problematic-2") (Some (1, codes "system-message-2"))) ∷ [])
         × (map (λ r. r.backrefs) done.1.reports ≡ (codes "problematic-1" ∷ []) ∷ (codes "problematic-2" ∷ []) ∷ []) }
@@ -119,7 +99,7 @@ pub fn failing()
 
 /// A transform that lets every element fail for one message (Markup Specification, 'Error Handling').
 pub fn changes()
-    ensures document { let known : Known = record { ids = codes "problematic-1" ∷ []; names = λ _. None; reports = []; first_number = 5; serials = 0 } in
+    ensures document { let known : Known = record (knowing []) { ids = codes "problematic-1" ∷ []; first_number = 5 } in
         let document : Document = document_of (element Footnote (says Rawsource "b" ∷ []) (element Reference [] [] ∷ [])
         ∷ element Reference (says Rawsource "a_" ∷ []) (text "a" ∷ []) ∷ []) in
         let done : List Outcome × Known = link_changes (λ linked known. (map (λ _. Fails (length known.reports)) linked, reported Error 1 (codes "It fails.") true known)) (linked_of document) known in

@@ -1,5 +1,5 @@
--- Ids with numbers, as they are read, given and taken.
-use Rattle.std.proofs.Common.{◌≡◌, ◌≢◌, ℕ, zero, suc, ◌+◌, ◌^◌, ◌<◌, Bool, true, false, not, ◌&&◌, ◌||◌, List, [], ◌∷◌, ◌++◌, length, get_or, drop, Option, Some, None, option_map, option_and_then, unwrap_or, nat_eq, nat_le, nat_lt, map, ◌-◌, decimal, codes, bytes_eq, MatchOption, Result, Ok, Err, ◌≤◌, take, refl, sym, ap, ap₂, subst, ◌∙◌, arith, append_assoc, length-append, string_bytes, string_cmp, nat_cmp, encode_utf8_all, ⊎_elim, lt-ltb, ltb-true, le-leb, leb-true, leb-false, ltb-false, true≢false, ◌==◌, eqb-true, take-append-drop, chars, Global}
+-- Ids, as they are given and taken.
+use Rattle.std.proofs.Common.{◌≡◌, ◌≢◌, ℕ, zero, suc, ◌+◌, ◌^◌, ◌<◌, Bool, true, false, not, ◌||◌, List, [], ◌∷◌, length, Option, Some, None, option_map, unwrap_or, nat_eq, nat_le, nat_lt, map, ◌-◌, bytes_eq, Result, Ok, Err, ◌≤◌, refl, sym, ap, ap₂, subst, ◌∙◌, arith, string_bytes, string_cmp, nat_cmp, encode_utf8_all, ⊎_elim, ltb-true, le-leb, leb-true, leb-false, ltb-false, true≢false, ◌==◌, eqb-true, chars, Global}
 use Rattle.std.specs.Prelude.{if◌then◌else◌}
 use Rattle.std.specs.declared.string.String.{String}
 use Rattle.std.specs.BTreeMap.{BTreeMap, get_by_text, is_at}
@@ -9,18 +9,9 @@ use Rattle.std.specs.Cmp.Lexicographic.{slice_cmp, nat_list_eq_equiv}
 use Rattle.std.proofs.lemmas.List.{length-map}
 use Rattle.std.proofs.lemmas.Map.Steps.{le-length_from_below}
 use Rattle.std.proofs.lemmas.Map.Text.{btree_set_updates_text, is_eq-slice_cmp}
-use Rattle.std.specs.Borrow.{Bor}
-use Rattle.std.specs.Result.{OkIff}
-use Rattle.std.specs.Str.Parse.{AllDigits, digits_value, ParsesUnsigned}
-use Rattle.std.specs.Str.{NoCharPasses}
-use Rattle.std.specs.Str.Pattern.{RFindsChar}
-use Rattle.std.proofs.lemmas.Str.Pattern.{NoCharPasses-char, drop_at_char}
-use Rattle.std.proofs.lemmas.Bool.{lt-leb, eq-eqb, eqb-false, cases_Bool, cond-true, cond-false, and_parts}
-use Rattle.std.proofs.lemmas.Fmt.{decimal_is_IsNumeral, first_decimal, decimal-digits_value}
-use Rattle.std.proofs.lemmas.Str.{encodes-chars, IsUtf8-string_bytes, digit_value_digit}
-use Rattle.std.proofs.lemmas.Str.Parse.{IsNumeralModel, numerals_by_value, tells_digits, parse_plain, digit_from_value, digits_value-take-le}
+use Rattle.std.proofs.lemmas.Bool.{lt-leb, eq-eqb, cases_Bool, cond-true, cond-false}
+use Rattle.std.proofs.lemmas.Str.{encodes-chars, IsUtf8-string_bytes}
 use Rattle.std.specs.Cmp.Lexicographic.{bytes_decides}
-use lib.Seq.{get_or-append_seam}
 use Rattle.rst_text.specs.Names.{id_of}
 use Rattle.rst_text.specs.Text.{chars_of}
 use Rattle.rst_tree.specs.declared.fault.TreeFault.{TreeFault}
@@ -28,7 +19,8 @@ use Rattle.rst_tree.specs.declared.fault.TreeFault.TheVariants.{NoMemory}
 use Rattle.rst_tree.specs.declared.tag.Tag.{Tag}
 use Rattle.rst_transform_names.specs.declared.ids.Ids.{Ids}
 use Rattle.rst_tree.specs.TagNames.{hyphenated, tag_name}
-use Rattle.rst_transform_names.specs.Ids.{numbered, number_in, parts_from, parts_of, numbered_part, number_of, last_of, taken_by, is_among, is_taken, id_by, kind_id, least_free, least_from, numbered_id, wanted_id, AreTaken, IsLeastFree, Takes, TakesNone, GivesId, GivesNumber, GivesNumbered}
+use Rattle.rst_transform_names.specs.Ids.{numbered, number_of, last_of, taken_by, is_among, is_taken, id_by, kind_id, least_free, least_from, numbered_id, wanted_id, AreTaken, IsLeastFree, Takes, TakesNone, GivesId, GivesNumber, GivesNumbered}
+use Rattle.rst_transform_names.proofs.IdNumbers.{number_of-numbered, some_same, number_of-is}
 
 -- what the empty name gives, and what another one does
 pub nothing_wanted : (name : List ℕ) → (length name == 0) ≡ true → [] ≡ wanted_id name
@@ -38,189 +30,6 @@ nothing_wanted (c ∷ cs) none = absurd (omega (arith, eqb-true (length (c ∷ c
 pub something_wanted : {A : Type 0} (s : String A) (name : List ℕ) → (length name == 0) ≡ false → chars_of s ≡ id_of (chars name) → string_bytes s ≡ wanted_id name
 something_wanted s [] some is = absurd (cc)
 something_wanted s (c ∷ cs) some is = sym (encodes-chars (string_bytes s) (IsUtf8-string_bytes s)) ∙ ap encode_utf8_all is
-
--- ---- an id with a number, and the number in it
-
--- no character is c
-abbrev Lacks : ℕ → List ℕ → Type 0
-Lacks c text = (i : ℕ) → i < length text → get_or text i 0 ≢ c
-
-lacks_hyphen : (ds : List ℕ) → AllDigits 10 ds → Lacks 45 ds
-lacks_hyphen [] d i l e = omega arith
-lacks_hyphen (c ∷ cs) d zero l e = omega (arith, digit_from_value c d.0)
-lacks_hyphen (c ∷ cs) d (suc i) l e = lacks_hyphen cs d.1 i (omega arith) e
-
--- a text is cut at its last c in one way
-one_split : (c : ℕ) (xs ys ps qs : List ℕ) → xs ++ (c ∷ ps) ≡ ys ++ (c ∷ qs) → Lacks c ps → Lacks c qs → (xs ≡ ys) × (ps ≡ qs)
-one_split c [] [] ps qs e p q = (refl, ap (drop 1) e)
-one_split c [] (y ∷ ys) ps qs e p q =
-    let tail = ap (drop 1) e in
-    absurd (p (length ys) (omega (arith, ap length tail, length-append ys (c ∷ qs))) (ap (λ l. get_or l (length ys) 0) tail ∙ get_or-append_seam ys c qs 0))
-one_split c (x ∷ xs) [] ps qs e p q =
-    let tail = sym (ap (drop 1) e) in
-    absurd (q (length xs) (omega (arith, ap length tail, length-append xs (c ∷ ps))) (ap (λ l. get_or l (length xs) 0) tail ∙ get_or-append_seam xs c ps 0))
-one_split c (x ∷ xs) (y ∷ ys) ps qs e p q =
-    let rest = one_split c xs ys ps qs (ap (drop 1) e) p q in
-    (ap₂ (λ a l. a ∷ l) (ap (λ l. get_or l 0 0) e) rest.0, rest.1)
-
-abbrev AreParts : List ℕ → Option (List ℕ × List ℕ) → Type 0
-AreParts text r = MatchOption r (Lacks 45 text) (λ parts. (text ≡ parts.0 ++ (45 ∷ parts.1)) × Lacks 45 parts.1)
-
-are_parts : (text : List ℕ) → AreParts text (parts_of text)
-are_parts [] = λ i l e. omega arith
-are_parts (c ∷ cs) = from (parts_of cs) (are_parts cs)
-  where
-    here : (b : Bool) → (c == 45) ≡ b → Lacks 45 cs → AreParts (c ∷ cs) (if b then Some ([], cs) else None)
-    here true e lacks = (ap (λ x. x ∷ cs) (eqb-true c 45 e), lacks)
-    here false e lacks = none
-      where
-        none : Lacks 45 (c ∷ cs)
-        none zero l is = eqb-false c 45 e is
-        none (suc i) l is = lacks i (omega arith) is
-
-    from : (r : Option (List ℕ × List ℕ)) → AreParts cs r → AreParts (c ∷ cs) (parts_from c cs r)
-    from None lacks = here (c == 45) refl lacks
-    from (Some parts) h = (ap (λ l. c ∷ l) h.0, h.1)
-
-parts_at : (text front back : List ℕ) → text ≡ front ++ (45 ∷ back) → Lacks 45 back → parts_of text ≡ Some (front, back)
-parts_at text front back is lacks = from (parts_of text) (are_parts text)
-  where
-    from : (r : Option (List ℕ × List ℕ)) → AreParts text r → r ≡ Some (front, back)
-    from None h = absurd (h (length front) (omega (arith, ap length is, length-append front (45 ∷ back))) (ap (λ l. get_or l (length front) 0) is ∙ get_or-append_seam front 45 back 0))
-    from (Some parts) h =
-        let same = one_split 45 parts.0 front parts.1 back (sym h.0 ∙ is) h.1 lacks in
-        ap₂ (λ x y. Some (x, y)) same.0 same.1
-
-no_parts : (text : List ℕ) → Lacks 45 text → parts_of text ≡ None
-no_parts text lacks = from (parts_of text) (are_parts text)
-  where
-    from : (r : Option (List ℕ × List ℕ)) → AreParts text r → r ≡ None
-    from None h = refl
-    from (Some parts) h = absurd (lacks (length parts.0) (omega (arith, ap length h.0, length-append parts.0 (45 ∷ parts.1))) (ap (λ l. get_or l (length parts.0) 0) h.0 ∙ get_or-append_seam parts.0 45 parts.1 0))
-
-numbered_is : (base : List ℕ) (n : ℕ) → numbered base n ≡ base ++ (45 ∷ decimal n)
-numbered_is base n = append_assoc base (codes "-") (decimal n)
-
-reads_back : (n : ℕ) → 0 < n → n < 2 ^ 64 → number_in (decimal n) ≡ Some n
-reads_back n some small =
-    let value : digits_value 10 (decimal n) ≡ n = (decimal_is_IsNumeral n small).1 in
-    let same : bytes_eq (decimal n) (decimal n) ≡ true = (bytes_decides (decimal n) (decimal n)).1 refl in
-    rw value (rw (same, lt-ltb 0 n some, lt-ltb n (2 ^ 64) small) refl)
-
-pub number_of-numbered : (base : List ℕ) (n : ℕ) → 0 < n → n < 2 ^ 64 → number_of (numbered base n) ≡ Some (base, n)
-number_of-numbered base n some small =
-    ap (option_and_then numbered_part)
-    (parts_at (numbered base n) base (decimal n) (numbered_is base n) (lacks_hyphen (decimal n) (decimal_is_IsNumeral n small).0.1))
-    ∙ ap (option_map (λ k. (base, k))) (reads_back n some small)
-
-told : (P : ℕ → Type 0) (t : Bool) (v n : ℕ) → (t ≡ true → P v) → (if t then Some v else None) ≡ Some n → P n
-told P true v n p h = subst P (ap (λ o. unwrap_or o 0) h) (p refl)
-told P false v n p h = absurd (cc)
-
-number_in-is : (d : List ℕ) (n : ℕ) → number_in d ≡ Some n → (d ≡ decimal n) × (0 < n) × (n < 2 ^ 64)
-number_in-is d n h =
-    let v = digits_value 10 d in
-    told (λ k. (d ≡ decimal k) × (0 < k) × (k < 2 ^ 64)) (bytes_eq d (decimal v) && (nat_lt 0 v && nat_lt v (2 ^ 64))) v n
-    (λ t.
-    let outer = and_parts (bytes_eq d (decimal v)) _ t in
-    let inner = and_parts (nat_lt 0 v) (nat_lt v (2 ^ 64)) outer.1 in
-    ((bytes_decides d (decimal v)).0 outer.0, ltb-true 0 v inner.0, ltb-true v (2 ^ 64) inner.1)) h
-
-some_same : (p q : List ℕ × ℕ) → ◌≡◌ {A = Option (List ℕ × ℕ)} (Some p) (Some q) → p ≡ q
-some_same p q e = ap (λ (o : Option (List ℕ × ℕ)). unwrap_or o p) e
-
-pub number_of-is : (id base : List ℕ) (n : ℕ) → number_of id ≡ Some (base, n) → (id ≡ numbered base n) × (0 < n) × (n < 2 ^ 64)
-number_of-is id base n h = from (parts_of id) (are_parts id) h
-  where
-    Read : List ℕ × ℕ → Type 0
-    Read p = (id ≡ numbered p.0 p.1) × (0 < p.1) × (p.1 < 2 ^ 64)
-
-    through : (front back : List ℕ) (o : Option ℕ) → id ≡ front ++ (45 ∷ back) → number_in back ≡ o → option_map {U = List ℕ × ℕ} (λ k. (front, k)) o ≡ Some (base, n) → Read (base, n)
-    through front back None is e h = absurd (cc)
-    through front back (Some k) is e h =
-        let read = number_in-is back k e in
-        subst Read (some_same (front, k) (base, n) h) (is ∙ ap (λ l. front ++ (45 ∷ l)) read.0 ∙ sym (numbered_is front k), read.1, read.2)
-
-    from : (r : Option (List ℕ × List ℕ)) → AreParts id r → option_and_then numbered_part r ≡ Some (base, n) → Read (base, n)
-    from None parts h = absurd (cc)
-    from (Some split) parts h = through split.0 split.1 (number_in split.1) parts.0 refl h
-
--- ---- a number that is read
-
-number_by : (digits : List ℕ) → (bytes_eq digits (decimal (digits_value 10 digits)) ≡ true) → 0 < digits_value 10 digits → digits_value 10 digits < 2 ^ 64 → number_in digits ≡ Some (digits_value 10 digits)
-number_by digits same some small = rw (same, lt-ltb 0 (digits_value 10 digits) some, lt-ltb (digits_value 10 digits) (2 ^ 64) small) refl
-
-none_by : (t : Bool) (v : ℕ) → (t ≡ true → ⊥) → (if t then Some v else None) ≡ None
-none_by true v never = absurd (never refl)
-none_by false v never = refl
-
--- digits that are none of a number from 1
-no_number : (digits : List ℕ) → ((n : ℕ) → digits ≡ decimal n → 0 < n → n < 2 ^ 64 → ⊥) → number_in digits ≡ None
-no_number digits never =
-    let v = digits_value 10 digits in
-    none_by (bytes_eq digits (decimal v) && (nat_lt 0 v && nat_lt v (2 ^ 64))) v
-    (λ t.
-    let outer = and_parts (bytes_eq digits (decimal v)) _ t in
-    let inner = and_parts (nat_lt 0 v) (nat_lt v (2 ^ 64)) outer.1 in
-    never v ((bytes_decides digits (decimal v)).0 outer.0) (ltb-true 0 v inner.0) (ltb-true v (2 ^ 64) inner.1))
-
-own : IsNumeralModel (AllDigits 10) (digits_value 10)
-own = numerals_by_value (AllDigits 10) tells_digits
-
-first_digit : (ds : List ℕ) → 0 < length ds → AllDigits 10 ds → get_or ds 0 0 ≤ 57
-first_digit [] some d = absurd (omega arith)
-first_digit (c ∷ cs) some d = omega (arith, digit_from_value c d.0)
-
-and_true : (a b : Bool) → a ≡ true → b ≡ true → (a && b) ≡ true
-and_true a b h k = rw (h, k) refl
-
-value_pos : (ds : List ℕ) → 49 ≤ get_or ds 0 0 → AllDigits 10 ds → 0 < digits_value 10 ds
-value_pos [] first d = absurd (omega arith)
-value_pos (c ∷ cs) first d =
-    let value = digit_value_digit c (digit_from_value c d.0) in
-    omega (arith, value, digits_value-take-le 10 (c ∷ cs) 1 (omega arith))
-
-module _ (digits : List ℕ) where
-  first_range : (nat_le 49 (get_or digits 0 0) && nat_le (get_or digits 0 0) 57) ≡ true → (49 ≤ get_or digits 0 0) × (get_or digits 0 0 ≤ 57)
-  first_range h =
-      let parts = and_parts (nat_le 49 (get_or digits 0 0)) (nat_le (get_or digits 0 0) 57) h in
-      (leb-true 49 (get_or digits 0 0) parts.0, leb-true (get_or digits 0 0) 57 parts.1)
-
-  -- what stands first in a number from 1
-  pub no_first : (nat_le 49 (get_or digits 0 0) && nat_le (get_or digits 0 0) 57) ≡ false → number_in digits ≡ None
-  no_first h = no_number digits (λ n is some small.
-      let first : 48 < get_or digits 0 0 = subst (λ l. 48 < get_or l 0 0) (sym is) (first_decimal n some small) in
-      let numeral = (decimal_is_IsNumeral n small).0 in
-      let last : get_or digits 0 0 ≤ 57 = subst (λ l. get_or l 0 0 ≤ 57) (sym is) (first_digit (decimal n) numeral.0 numeral.1) in
-      absurd (true≢false (sym (and_true _ _ (le-leb 49 (get_or digits 0 0) (omega arith)) (le-leb (get_or digits 0 0) 57 last)) ∙ h)))
-
-  module _ (range : (nat_le 49 (get_or digits 0 0) && nat_le (get_or digits 0 0) 57) ≡ true) where
-    parsed : {E : Type 0} (r : Result ℕ E) → ParsesUnsigned 64 10 digits r → OkIff r (AllDigits 10 digits × (0 < length digits) × (digits_value 10 digits < 2 ^ 64)) (digits_value 10 digits)
-    parsed r h = parse_plain own 64 digits r h (λ plus. let first = first_range range in absurd (omega arith))
-
-    pub reads : (n : ℕ) → ParsesUnsigned {E = Unit {0}} 64 10 digits (Ok n) → number_in digits ≡ Some n
-    reads n h =
-        let first = first_range range in
-        let read = parsed {E = Unit {0}} (Ok n) h in
-        let back : decimal (digits_value 10 digits) ≡ digits = decimal-digits_value own digits read.0.0 read.0.1 (λ zero. absurd (omega arith)) read.0.2 in
-        let some : 0 < digits_value 10 digits = value_pos digits (omega arith) read.0.0 in
-        number_by digits ((bytes_decides digits _).1 (sym back)) some read.0.2 ∙ ap Some (sym read.1)
-
-    pub unread : {E : Type 0} (e : E) → ParsesUnsigned 64 10 digits (Err e) → number_in digits ≡ None
-    unread e h = no_number digits (λ n is some small.
-        let numeral = decimal_is_IsNumeral n small in
-        parsed (Err e) h (subst (AllDigits 10) (sym is) numeral.0.1, subst (λ l. 0 < length l) (sym is) numeral.0.0, subst (λ l. digits_value 10 l < 2 ^ 64) (sym is) (subst (λ m. m < 2 ^ 64) (sym numeral.1) small)))
-
--- the parts of an id, as they are split
-pub number_of-split : (id : List ℕ) (r : Option (Bor (List ℕ) × Bor (List ℕ)))
-    → MatchOption r (RFindsChar 45 id None) (λ x. (i : ℕ) × (j : ℕ) × RFindsChar 45 id (Some (i, j)) × (x.0.now ≡ take i id) × (x.1.now ≡ drop j id) × (i ≤ j) × (length x.0.now ≡ i) × (length x.1.now + j ≡ length id))
-    → number_of id ≡ option_and_then numbered_part (option_map (λ x. (x.0.now, x.1.now)) r)
-number_of-split id None h = ap (option_and_then numbered_part) (no_parts id (λ i l e. NoCharPasses-char 45 id i h (omega arith) l e))
-number_of-split id (Some x) h =
-    let i = h.0 in
-    let j = h.1 in
-    let whole : id ≡ x.0.now ++ (45 ∷ x.1.now) = sym (take-append-drop i id) ∙ ap₂ (λ l m. l ++ m) (sym h.3) (drop_at_char 45 id i j h.2.1 (omega arith) ∙ ap (λ l. 45 ∷ l) (sym h.4)) in
-    ap (option_and_then numbered_part) (parts_at id x.0.now x.1.now whole (λ k l e. NoCharPasses-char 45 x.1.now k (subst (NoCharPasses (λ d. d == 45)) (sym h.4) h.2.0) (omega arith) l e))
 
 -- ---- ids taken
 

@@ -1,5 +1,6 @@
 pub mod Computing
 pub mod IdLemmas
+pub mod IdNumbers
 pub mod MessageGaps
 pub mod MessagePlaces
 pub mod NoNameMessages

@@ -1,8 +1,7 @@
 //! Worked examples of references by name and of what footnotes and citations tell of them, as theorems on the definitions alone.
 #![tactic(auto, unfolding(crate::proofs::Computing::rst_transform_references))]
 
-ghost use Rattle.std.specs.Prelude.{◌≡◌, true, false, Some, None, codes, [], ◌∷◌, if◌then◌else◌, length, map};
-ghost use Rattle.std.specs.Str.{bytes_eq};
+ghost use Rattle.std.specs.Prelude.{◌≡◌, true, false, Some, None, codes, [], ◌∷◌, length, map};
 ghost use Rattle.rst_tree.specs.declared.key.Key.TheVariants.{Auto, Backrefs, Ids, Rawsource, Refid, Refname, Refuri, Serial};
 ghost use Rattle.rst_tree.specs.declared.node.Node.TheVariants.{Element};
 ghost use Rattle.rst_tree.specs.declared.tag.Tag.TheVariants.{Citation, CitationReference, Footnote, FootnoteReference, Image, Label, Paragraph, Reference, Target};
@@ -10,13 +9,11 @@ ghost use Rattle.rst_tree.specs.Forest.{bare};
 ghost use Rattle.rst_transform_names.specs.declared.names.Holder.TheVariants.{Element as By, Nobody, Unregistered};
 ghost use Rattle.rst_transform_names.specs.declared.names.Strength.TheVariants.{Explicit};
 ghost use Rattle.rst_transform_names.specs.Trees.{counts, element, lists, says, text};
-ghost use Rattle.rst_transform_work.specs.declared.document.Document.{Document};
 ghost use Rattle.rst_transform_work.specs.Known.{Known};
-ghost use Rattle.rst_transform_work.specs.Written.{document_of, Shows};
+ghost use Rattle.rst_transform_work.specs.Written.{document_of, knowing, Shows};
 ghost use Rattle.rst_transform_links.specs.Linkings.{linked_of};
-ghost use Rattle.rst_transform_links.specs.Links.{changed_document};
-ghost use Rattle.rst_transform_links.specs.LinkTransforms.{link_changes};
 ghost use Rattle.rst_transform_links.specs.Outcomes.{adds};
+ghost use Rattle.rst_transform_links.specs.Written.{transformed_by};
 ghost use Rattle.rst_transform_links.specs.declared.links.Outcome.TheVariants.{Stays, Fails};
 ghost use Rattle.rst_transform_references.specs.declared.meanings.Meaning.TheVariants.{Leads, Unknown, Duplicate};
 ghost use Rattle.rst_transform_references.specs.Backrefs.{referent_meant, with_backrefs};
@@ -31,7 +28,7 @@ pub fn names()
 {}
 
 /// What a name means, by what is known of it: `true` to a reference to a footnote or a citation, `false` to any other (Markup Specification,
-/// 'Hyperlink References') (Markup Specification, 'Hyperlink References').
+/// 'Hyperlink References').
 pub fn meanings()
     ensures not_known { known_meaning (λ holder. None) [] false None ≡ Unknown }
     ensures lost { known_meaning (λ holder. None) [] true (Some
@@ -68,56 +65,24 @@ pub fn outcomes()
 
 /// What the messages on references say, and on which lines (Markup Specification, 'Hyperlink References').
 pub fn messages()
-    ensures unknown { let known : Known = record { ids = []; names = λ _. None; reports = []; first_number = 0; serials = 0 } in
-        map (λ r. r.text) (outcome_of [] (element Reference (says Refname "a b" ∷ []) []) Unknown known).1.reports
+    ensures unknown { map (λ r. r.text) (outcome_of [] (element Reference (says Refname "a b" ∷ []) []) Unknown (knowing [])).1.reports
         ≡ codes "Unknown target name: \"a b\"." ∷ [] }
-    ensures duplicate { let known : Known = record { ids = []; names = λ _. None; reports = []; first_number = 0; serials = 0 } in
-        map (λ r. r.text) (outcome_of [] (element Reference (says Refname "a" ∷ []) []) Duplicate known).1.reports
+    ensures duplicate { map (λ r. r.text) (outcome_of [] (element Reference (says Refname "a" ∷ []) []) Duplicate (knowing [])).1.reports
         ≡ codes "Duplicate target name, cannot be used as a unique reference: \"a\"." ∷ [] }
-    ensures line { let known : Known = record { ids = []; names = λ _. None; reports = []; first_number = 0; serials = 0 } in
-        map (λ r. r.line) (outcome_of [] (Element Reference [] bare 9) Unknown known).1.reports ≡ 9 ∷ [] }
-    ensures in_the_last_section { let known : Known = record { ids = []; names = λ _. None; reports = []; first_number = 0; serials = 0 } in
-        map (λ r. r.own) (outcome_of [] (element Reference [] []) Unknown known).1.reports ≡ true ∷ [] }
+    ensures line { map (λ r. r.line) (outcome_of [] (Element Reference [] bare 9) Unknown (knowing [])).1.reports ≡ 9 ∷ [] }
+    ensures in_the_last_section { map (λ r. r.own) (outcome_of [] (element Reference [] []) Unknown (knowing [])).1.reports ≡ true ∷ [] }
 {}
 
 /// References by name in a document (Markup Specification, 'Hyperlink References').
 pub fn resolved()
-    ensures by_name { let known : Known = record {
-      ids = [];
-      names = λ name. if bytes_eq name (codes "here") then Some (record {
-        holder = By 0;
-        strength = Explicit;
-        id = codes "here";
-        uri = None;
-      }) else None;
-      reports = [];
-      first_number = 0;
-      serials = 1;
-    } in
-        let document : Document = document_of (element Reference (says Refname "here" ∷ []) (text "here" ∷ [])
-        ∷ element Target (counts Serial 0 ∷ says Refuri "u" ∷ []) [] ∷ []) in
-        Shows (changed_document (link_changes reference_outcomes (linked_of document) known).0 document)
+    ensures by_name { Shows (transformed_by reference_outcomes ("here" ∷ []) (document_of (element Reference (says Refname "here" ∷ []) (text "here" ∷ [])
+        ∷ element Target (counts Serial 0 ∷ says Refuri "u" ∷ []) [] ∷ []))).0
         ("<document>" ∷ "    <reference refuri=\"u\">" ∷ "        here" ∷ "    <target refuri=\"u\">" ∷ []) }
-    ensures to_a_footnote { let known : Known = record {
-      ids = [];
-      names = λ name. if bytes_eq name (codes "1") then Some (record {
-        holder = By 0;
-        strength = Explicit;
-        id = codes "f1";
-        uri = None;
-      }) else None;
-      reports = [];
-      first_number = 0;
-      serials = 1;
-    } in
-        let document : Document = document_of (element FootnoteReference (lists Ids ("r1" ∷ []) ∷ says Refname "1" ∷ []) (text "1" ∷ [])
-        ∷ element Footnote (lists Ids ("f1" ∷ []) ∷ counts Serial 0 ∷ []) [] ∷ []) in
-        Shows (changed_document (link_changes reference_outcomes (linked_of document) known).0 document)
+    ensures to_a_footnote { Shows (transformed_by reference_outcomes ("f1" ∷ []) (document_of (element FootnoteReference (lists Ids ("r1" ∷ [])
+        ∷ says Refname "f1" ∷ []) (text "1" ∷ []) ∷ element Footnote (lists Ids ("f1" ∷ []) ∷ counts Serial 0 ∷ []) [] ∷ []))).0
         ("<document>" ∷ "    <footnote_reference ids=\"r1\" refid=\"f1\">" ∷ "        1" ∷ "    <footnote backrefs=\"r1\" ids=\"f1\">" ∷ []) }
-    ensures without_meaning { let known : Known = record { ids = []; names = λ _. None; reports = []; first_number = 0; serials = 0 } in
-        let document : Document = document_of (element Reference (says Rawsource "`a`_" ∷ says Refname "a" ∷ []) (text "a" ∷ [])
-        ∷ element Reference (says Refuri "u" ∷ []) (text "u" ∷ []) ∷ []) in
-        Shows (changed_document (link_changes reference_outcomes (linked_of document) known).0 document)
+    ensures without_meaning { Shows (transformed_by reference_outcomes [] (document_of (element Reference (says Rawsource "`a`_" ∷ says Refname "a"
+        ∷ []) (text "a" ∷ []) ∷ element Reference (says Refuri "u" ∷ []) (text "u" ∷ []) ∷ []))).0
         ("<document>" ∷ "    <problematic ids=\"problematic-1\" refid=\"system-message-1\">" ∷ "        `a`_"
         ∷ "    <reference refuri=\"u\">" ∷ "        u" ∷ []) }
 {}

@@ -1,5 +1,5 @@
 use Rattle.std.proofs.Common.{sym, ◌∙◌}
-use Rattle.rst_transform_names.proofs.IdLemmas.{no_first, reads, unread}
+use Rattle.rst_transform_names.proofs.IdNumbers.{no_first, reads, unread}
 use Rattle.rst_transform_names.proofs.ids.number_in.Goals as goal
 
 pub returns-then-not-begins_from_one : goal.returns-then-not-begins_from_one

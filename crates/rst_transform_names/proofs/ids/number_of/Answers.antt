@@ -1,5 +1,5 @@
 use Rattle.std.proofs.Common.{arith}
-use Rattle.rst_transform_names.proofs.IdLemmas.{number_of-split}
+use Rattle.rst_transform_names.proofs.IdNumbers.{number_of-split}
 use Rattle.rst_transform_names.proofs.ids.number_of.Goals as goal
 
 pub returns-in_err-base : goal.returns-in_err-base
