@@ -1,4 +1,4 @@
--- A walk changes the elements as a fold over their preorder list does, and nothing else.
+-- A walk changes the elements in place as the definition says.
 use Rattle.std.proofs.Common.{◌≡◌, ℕ, ◌+◌, ◌<◌, List, [], ◌∷◌, ◌++◌, ◌≤◌, length, take, drop, get_or, set, length-set, arith, append_assoc, append-nil, add-one, add-zero, zero, suc, refl, sym, ◌∙◌, ap}
 use Rattle.std.proofs.lemmas.List.{take_more_set, drop-set-lt, drop_all, take_all, get_or-drop}
 use Rattle.rst_tree.proofs.Changes.{nodes_of-forest_of, forest_of-nodes_of}
@@ -7,10 +7,10 @@ use Rattle.rst_tree.specs.declared.attrs.Attr.{Attr}
 use Rattle.rst_tree.specs.declared.tag.Tag.{Tag}
 use Rattle.rst_tree.specs.declared.node.Node.{Node}
 use Rattle.rst_tree.specs.declared.node.Node.TheVariants.{Element, Text}
-use Rattle.rst_tree.specs.Forest.{Forest, bare, element, words, height}
+use Rattle.rst_tree.specs.Forest.{Forest, element, height}
 use Rattle.rst_tree.specs.Nodes.{forest_of, nodes_of, join_node, node_height}
 use Rattle.rst_tree.proofs.PrintedParts.{node_height-le}
-use Rattle.rst_tree.specs.Walk.{Item, item, items, node_items, after, scanned, walked, walked_node, shape, node_shape, no_shape, branch, leaf}
+use Rattle.rst_tree.specs.Walk.{Item, item, items, node_items, after, walked, walked_node}
 
 -- one item less
 pub drop_next : {X : Type 0} (i : ℕ) (xs : List X) → drop (i + 1) xs ≡ drop 1 (drop i xs)
@@ -29,26 +29,6 @@ module _ {S : Type 0} (next : S → Item → S) (out : S → Item → Item) wher
   pub after-append : (s : S) (xs ys : List Item) → after next out s (xs ++ ys) ≡ after next out (after next out s xs) ys
   after-append s [] ys = refl
   after-append s (x ∷ xs) ys = after-append (next s x) xs ys
-
-  pub scanned-append : (s : S) (xs ys : List Item) → scanned next out s (xs ++ ys) ≡ scanned next out s xs ++ scanned next out (after next out s xs) ys
-  scanned-append s [] ys = refl
-  scanned-append s (x ∷ xs) ys = ap (λ zs. out s x ∷ zs) (scanned-append (next s x) xs ys)
-
-  -- the elements after a walk are the fold's
-  pub items-walked : (s : S) (f : Forest) → items (walked next out s f) ≡ scanned next out s (items f)
-  items-walked s bare = refl
-  items-walked s (element t a c l r) =
-      let x : Item = record { tag = t; attrs = a; line = l } in
-      rw (items-walked (next s x) c, items-walked (after next out (next s x) (items c)) r, scanned-append (next s x) (items c) (items r)) refl
-  items-walked s (words t r) = items-walked s r
-
-  -- and the shape stays
-  pub shape-walked : (s : S) (f : Forest) → shape (walked next out s f) ≡ shape f
-  shape-walked s bare = refl
-  shape-walked s (element t a c l r) =
-      let x : Item = record { tag = t; attrs = a; line = l } in
-      rw (shape-walked (next s x) c, shape-walked (after next out (next s x) (items c)) r) refl
-  shape-walked s (words t r) = ap (leaf t) (shape-walked s r)
 
   -- a forest's walk is its nodes' walks, one after another
   pub items-cons : (n : Node) (ns : List Node) → items (forest_of (n ∷ ns)) ≡ node_items n ++ items (forest_of ns)
@@ -119,11 +99,3 @@ module _ {S : Type 0} (next : S → Item → S) (out : S → Item → Item) wher
       → c' ≡ walked next out s' c → Element t' a' c' l' ≡ walked_node next out s node
   walked-element s s' node t t' a a' c c' l l' is state own nodes =
       rw (is, nodes, state) (ap (λ (x : Item). Element x.tag x.attrs (walked next out (next s (item t a l)) c) x.line) own)
-
-  pub node_items-walked : (s : S) (n m : Node) → m ≡ walked_node next out s n → node_items m ≡ scanned next out s (node_items n)
-  node_items-walked s (Element t a c l) m is = ap node_items is ∙ ap (λ xs. out s (item t a l) ∷ xs) (items-walked (next s (item t a l)) c)
-  node_items-walked s (Text t) m is = ap node_items is
-
-  pub node_shape-walked : (s : S) (n m : Node) → m ≡ walked_node next out s n → node_shape m ≡ node_shape n
-  node_shape-walked s (Element t a c l) m is = ap node_shape is ∙ ap (λ x. branch x no_shape) (shape-walked (next s (item t a l)) c)
-  node_shape-walked s (Text t) m is = ap node_shape is

@@ -1,7 +1,7 @@
 //! Changes of all elements in preorder.
 ghost use Rattle.std.specs.Prelude.{◌≡◌};
 ghost use Rattle.rst_tree.specs.Faults.{Gives};
-ghost use Rattle.rst_tree.specs.Walk.{Item, item, node_items, after, scanned, walked_node, node_shape};
+ghost use Rattle.rst_tree.specs.Walk.{Item, item, node_items, after, walked_node};
 
 use crate::attrs::Attrs;
 use crate::fault::TreeFault;
@@ -26,9 +26,6 @@ pub trait Visitor {
 pub fn walk<V: Visitor>(mut node: Node, visitor: &mut V) -> Result<Node, TreeFault>
     ensures node { Gives (λ n. n ≡ walked_node V.next V.out visitor.old node) result }
     ensures state { Gives (λ _. visitor.new ≡ after V.next V.out visitor.old (node_items node)) result }
-    // The same, said of the preorder list: the new elements are a fold's, and the shape is the old one.
-    ensures elements { Gives (λ n. node_items n ≡ scanned V.next V.out visitor.old (node_items node)) result }
-    ensures shape { Gives (λ n. node_shape n ≡ node_shape node) result }
 {
     walk_in(&mut node, visitor)?;
     Ok(node)
@@ -38,8 +35,6 @@ pub fn walk<V: Visitor>(mut node: Node, visitor: &mut V) -> Result<Node, TreeFau
 fn walk_in<V: Visitor>(node: &mut Node, visitor: &mut V) -> Result<(), TreeFault>
     ensures node { Gives (λ _. node.new ≡ walked_node V.next V.out visitor.old node.old) result }
     ensures state { Gives (λ _. visitor.new ≡ after V.next V.out visitor.old (node_items node.old)) result }
-    ensures elements { Gives (λ _. node_items node.new ≡ scanned V.next V.out visitor.old (node_items node.old)) result }
-    ensures shape { Gives (λ _. node_shape node.new ≡ node_shape node.old) result }
 {
     if let Node::Element {
         tag,

@@ -2,7 +2,7 @@
 ghost use Rattle.std.specs.Prelude.{◌≡◌, ◌++◌, [], map, if◌then◌else◌};
 ghost use Rattle.std.specs.List.{filter};
 ghost use Rattle.rst_tree.specs.Faults.{Gives};
-ghost use Rattle.rst_tree.specs.Walk.{item, node_items, after, scanned, walked_node, node_shape};
+ghost use Rattle.rst_tree.specs.Walk.{item, node_items, after, walked_node};
 ghost use Rattle.rst_tree_index.specs.MarkPaths.{node_paths};
 ghost use Rattle.rst_tree_index.specs.Marks.{marks_of, heeded_next, heeded_out, path_of, places, visited_all, with_all};
 ghost use Rattle.rst_tree_index.specs.Registered.{is_registered, item_of};
@@ -238,8 +238,6 @@ impl Marked {
     pub fn visit<V: Visitor>(self, visitor: &mut V) -> Result<Node, TreeFault>
         ensures node { Gives (λ n. n ≡ walked_node (heeded_next is_registered V.next) (heeded_out is_registered V.out) visitor.old self) result }
         ensures state { Gives (λ _. visitor.new ≡ after (heeded_next is_registered V.next) (heeded_out is_registered V.out) visitor.old (node_items self)) result }
-        ensures elements { Gives (λ n. node_items n ≡ scanned (heeded_next is_registered V.next) (heeded_out is_registered V.out) visitor.old (node_items self)) result }
-        ensures shape { Gives (λ n. node_shape n ≡ node_shape self) result }
     {
         let Marked {
             mut root,

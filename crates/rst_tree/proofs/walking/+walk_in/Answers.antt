@@ -1,7 +1,7 @@
 use Rattle.std.proofs.Common.{rules, arith, ◌≡◌, ◌+◌, ◌≤◌, ap}
 use Rattle.rst_tree.specs.Forest.{height}
 use Rattle.rst_tree.specs.Nodes.{node_height}
-use Rattle.rst_tree.proofs.Walks.{Left-init, Left-more, Left-nodes, Left-child, walked-element, node_items-walked, node_shape-walked}
+use Rattle.rst_tree.proofs.Walks.{Left-init, Left-more, Left-nodes, Left-child, walked-element}
 use Rattle.rst_tree.proofs.walking.+walk_in.Goals as goal
 
 pub loop-i-init : goal.loop-i-init
@@ -22,9 +22,3 @@ pub returns-after-loop-i-clause-node : goal.returns-after-loop-i-clause-node
 returns-after-loop-i-clause-node g t c =
     walked-element g.V.Visitor.next g.V.Visitor.out _ _ _ _ _ _ _ _ _ _ _ c.in-Element.is c.in_ok-visit.ensures.state c.in_ok-visit.ensures.element
     (Left-nodes g.V.Visitor.next g.V.Visitor.out _ _ _ _ _ c.loop-i.invariant (omega (arith, c.loop-i.invariant.same_len, c.len-i-end.ensures)))
-
-pub returns-after-loop-i-clause-elements : goal.returns-after-loop-i-clause-elements
-returns-after-loop-i-clause-elements g t c = node_items-walked g.V.Visitor.next g.V.Visitor.out _ _ _ (returns-after-loop-i-clause-node g t c)
-
-pub returns-after-loop-i-clause-shape : goal.returns-after-loop-i-clause-shape
-returns-after-loop-i-clause-shape g t c = node_shape-walked g.V.Visitor.next g.V.Visitor.out _ _ _ (returns-after-loop-i-clause-node g t c)

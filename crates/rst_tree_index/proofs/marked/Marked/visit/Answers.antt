@@ -1,6 +1,5 @@
 use Rattle.std.proofs.Common.{◌∙◌, ap}
 use Rattle.rst_tree.specs.Walk.{after, node_items, walked_node}
-use Rattle.rst_tree.proofs.Walks.{node_items-walked, node_shape-walked}
 use Rattle.rst_tree_index.specs.Marks.{heeded_next, heeded_out, visited_all}
 use Rattle.rst_tree_index.specs.Registered.{is_registered}
 use Rattle.rst_tree_index.proofs.Marking.{visited_all-marks}
@@ -23,9 +22,3 @@ returns-clause-state g c =
     ∙ ap (λ z. (visited_all next out z (c.args.visitor.now, c.self.inside.root)).0) c.self.invariant
     ∙ ap (λ z. z.0) (visited_all-marks next out is_registered c.args.visitor.now c.self.inside.root)
     ∙ ap (λ n. after (heeded_next is_registered next) (heeded_out is_registered out) c.args.visitor.now (node_items n)) c.self.view_is
-
-pub returns-clause-elements : goal.returns-clause-elements
-returns-clause-elements g c = node_items-walked (heeded_next is_registered g.V.Visitor.next) (heeded_out is_registered g.V.Visitor.out) _ _ _ (returns-clause-node g c)
-
-pub returns-clause-shape : goal.returns-clause-shape
-returns-clause-shape g c = node_shape-walked (heeded_next is_registered g.V.Visitor.next) (heeded_out is_registered g.V.Visitor.out) _ _ _ (returns-clause-node g c)
