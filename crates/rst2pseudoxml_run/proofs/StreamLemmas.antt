@@ -1,6 +1,6 @@
 -- Lemmas on what readers hand out and writers gain.
-use Rattle.std.proofs.Common.{◌≡◌, ℕ, ◌+◌, List, ◌++◌, ◌∷◌, [], length, take, drop, None, Some, Option, sym, ap, ◌∙◌, subst, append_assoc, arith, ◌<◌, ◌≤◌, suc, length-append, get_or, Bor, take-append-drop, map, refl, add-zero, zero-add, add_assoc, length-drop, append-nil, true≢false, Result, Ok, Err}
-use Rattle.rst_text.specs.Counted.{Stream, IsCutShort, Written, inner_of, between, Puts, taken_of}
+use Rattle.std.proofs.Common.{◌≡◌, ℕ, ◌+◌, List, ◌++◌, ◌∷◌, [], length, take, drop, None, Some, Option, sym, ap, ◌∙◌, subst, append_assoc, arith, ◌<◌, ◌≤◌, suc, length-append, get_or, Bor, take-append-drop, map, refl, add-zero, zero-add, add_assoc, length-drop, append-nil}
+use Rattle.rst_text.specs.Counted.{Stream, IsCutShort, Written, inner_of}
 use Rattle.rst_text.specs.declared.counted.Counted.{Counted}
 use Rattle.rst2pseudoxml_run.specs.Headline.{IsSent}
 use Rattle.rst_text.specs.Counted.Written.{all, empty, some, last}
@@ -104,26 +104,6 @@ module _ {W : Type 0} (Takes : W → Option ℕ → List ℕ → W → Type 0) w
   pub first_cut : {a b : W} {n : ℕ} (pieces : List (Bor (List ℕ))) (i : ℕ) (d : Bor (List ℕ)) (text : List ℕ) → i < length pieces → text ≡ (get_or pieces i d).now
       → Written Takes a (text ∷ []) b n → n < length text → Written Takes a (texts_of (drop i pieces)) b n
   first_cut {a} {b} {n} pieces i d text within same now short = rw (texts-at pieces i d text within same) (cut_short Takes now short)
-
--- a text that was written by calls, all of it or its first bytes
-pub sent_text : {W A : Type 0} (Takes : W → Option ℕ → List ℕ → W → Type 0) (contents : W → Option (List ℕ)) (old new : Counted W) (text : List ℕ) (result : Result A ℕ)
-    → Puts (between contents old new) text result → Written Takes (inner_of old) (text ∷ []) (inner_of new) (taken_of text result) → IsSent Takes contents old new text
-sent_text Takes contents old new text (Ok _) puts calls = record {
-  pieces = text ∷ [];
-  taken = length text;
-  are_pieces = append-nil text;
-  calls = calls;
-  gained = rw (take_all (length text) text (omega arith)) puts.0;
-  whole = λ _. refl;
-}
-sent_text Takes contents old new text (Err done) puts calls = record {
-  pieces = text ∷ [];
-  taken = done;
-  are_pieces = append-nil text;
-  calls = calls;
-  gained = puts.1;
-  whole = λ e. absurd (true≢false (sym puts.2 ∙ e));
-}
 
 -- no call writes nothing
 pub sent_nothing : {W : Type 0} (Takes : W → Option ℕ → List ℕ → W → Type 0) (contents : W → Option (List ℕ)) (writer : Counted W) → IsSent Takes contents writer writer []

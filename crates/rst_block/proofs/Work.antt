@@ -1,6 +1,6 @@
 -- The work that is left while blocks wait for one another: fewer blocks, or less in them, is less, whatever stands inside them.
 use Rattle.std.proofs.Common.{◌≡◌, ℕ, zero, suc, ◌+◌, ◌*◌, ◌<◌, ◌≤◌, ◌++◌, List, [], ◌∷◌, length, arith, refl, ap, ◌∙◌}
-use Rattle.std.proofs.Math.Nat.{mul-add, mul_comm, mul-le-mul_left, mul-lt-mul_of_pos_left}
+use Rattle.std.proofs.Math.Nat.{mul-add, mul_comm, mul-lt-mul_of_pos_left}
 use Rattle.std.proofs.lemmas.Nat.{mul-add-lt}
 
 -- as much, with more levels inside
@@ -17,10 +17,6 @@ work m (suc l) (v ∷ ws) w = scale m (suc l) v + work m l ws w
 scale-lt : (m l : ℕ) {a b : ℕ} → 0 < m → a < b → scale m l a < scale m l b
 scale-lt m zero p h = h
 scale-lt m (suc l) p h = scale-lt m l p (mul-lt-mul_of_pos_left h p)
-
-scale-le : (m l : ℕ) {a b : ℕ} → a ≤ b → scale m l a ≤ scale m l b
-scale-le m zero h = h
-scale-le m (suc l) h = scale-le m l (mul-le-mul_left m h)
 
 scale-add : (m l a b : ℕ) → scale m l (a + b) ≡ scale m l a + scale m l b
 scale-add m zero a b = refl
