@@ -96,7 +96,9 @@ pub fn references()
     ensures before_a_letter { Cuts "a_b a__b" ((Plain, "a_b a__b") ∷ []) }
     ensures before_a_bracket { Cuts "a_(" ((Plain, "a_(") ∷ []) }
     ensures underscore_before { Cuts "_a_" ((Plain, "_a_") ∷ []) }
-    ensures past_ascii { Cuts "ß_ ²_ €_" ((Reference Named, "ß_") ∷ (Plain, " ") ∷ (Reference Named, "²_") ∷ (Plain, " €_") ∷ []) }
+    ensures letter_past_ascii { Cuts "ß_" ((Reference Named, "ß_") ∷ []) }
+    ensures digit_past_ascii { Cuts "²_" ((Reference Named, "²_") ∷ []) }
+    ensures symbol_past_ascii { Cuts "€_" ((Plain, "€_") ∷ []) }
     ensures escaped { Cuts "a\\_ \\b_" ((Plain, "a\\_ \\b_") ∷ []) }
 {}
 
@@ -111,9 +113,11 @@ pub fn names()
 
 /// References to footnotes and citations (Markup Specification, 'Footnote References').
 pub fn labels()
-    ensures forms { Cuts "[1]_ [#]_ [#a]_ [*]_ [a.b]_"
-        ((Label, "[1]_") ∷ (Plain, " ") ∷ (Label, "[#]_") ∷ (Plain, " ") ∷ (Label, "[#a]_") ∷ (Plain, " ") ∷ (Label, "[*]_") ∷ (Plain, " ")
-        ∷ (Label, "[a.b]_") ∷ []) }
+    ensures number { Cuts "[1]_" ((Label, "[1]_") ∷ []) }
+    ensures number_sign { Cuts "[#]_" ((Label, "[#]_") ∷ []) }
+    ensures name_after_a_number_sign { Cuts "[#a]_" ((Label, "[#a]_") ∷ []) }
+    ensures star { Cuts "[*]_" ((Label, "[*]_") ∷ []) }
+    ensures citation { Cuts "[a.b]_" ((Label, "[a.b]_") ∷ []) }
     ensures anonymous { Cuts "[1]__" ((Plain, "[1]__") ∷ []) }
     ensures side_by_side { Cuts "[1]_[2]_" ((Plain, "[1]_[2]_") ∷ []) }
     ensures inside_a_word { Cuts "a[1]_" ((Plain, "a[1]_") ∷ []) }
@@ -126,11 +130,15 @@ pub fn labels()
 pub fn uris()
     ensures characters { filter is_uri_char (codes "!\"#$%&'()*+,-./:;<=>?@[\\]^_`{|}~ aZ09ä") ≡ codes "!#$%&'()*+,-./:;=?@[]_~aZ09" }
     ensures trailing_characters { filter is_uri_trail (codes "!\"#$%&'()*+,-./:;<=>?@[\\]^_`{|}~") ≡ codes "!'),.:;?]" }
-    ensures slash_schemes { Cuts "file:///a ftp://a https://a http://a irc://a"
-        ((Uri, "file:///a") ∷ (Plain, " ") ∷ (Uri, "ftp://a") ∷ (Plain, " ") ∷ (Uri, "https://a") ∷ (Plain, " ") ∷ (Uri, "http://a") ∷ (Plain, " ")
-        ∷ (Uri, "irc://a") ∷ []) }
+    ensures file { Cuts "file:///a" ((Uri, "file:///a") ∷ []) }
+    ensures ftp { Cuts "ftp://a" ((Uri, "ftp://a") ∷ []) }
+    ensures https { Cuts "https://a" ((Uri, "https://a") ∷ []) }
+    ensures http { Cuts "http://a" ((Uri, "http://a") ∷ []) }
+    ensures irc { Cuts "irc://a" ((Uri, "irc://a") ∷ []) }
     ensures colon_schemes { Cuts "mailto:a@b news:a" ((Uri, "mailto:a@b") ∷ (Plain, " ") ∷ (Uri, "news:a") ∷ []) }
-    ensures other_scheme { Cuts "gopher://a xhttp://a http:/a" ((Plain, "gopher://a xhttp://a http:/a") ∷ []) }
+    ensures other_scheme { Cuts "gopher://a" ((Plain, "gopher://a") ∷ []) }
+    ensures letter_before_a_scheme { Cuts "xhttp://a" ((Plain, "xhttp://a") ∷ []) }
+    ensures one_slash { Cuts "http:/a" ((Plain, "http:/a") ∷ []) }
     ensures any_case { Cuts "HttP://A" ((Uri, "HttP://A") ∷ []) }
     ensures punctuation { Cuts "(http://a.b/c.)" ((Plain, "(") ∷ (Uri, "http://a.b/c") ∷ (Plain, ".)") ∷ []) }
     ensures bracket_in_it { Cuts "http://a/(b)" ((Uri, "http://a/(b") ∷ (Plain, ")") ∷ []) }
