@@ -1,15 +1,16 @@
 -- The lines of a cell.
-use Rattle.std.proofs.Common.{◌≡◌, ℕ, zero, suc, ◌+◌, ◌-◌, ◌<◌, ◌≤◌, true, false, cond, ◌&&◌, eqb, List, [], ◌∷◌, ◌++◌, length, drop, take, get_or, refl, sym, ap, ◌∙◌, subst, arith, Option, Some, None, length-append}
+use Rattle.std.proofs.Common.{◌≡◌, ℕ, zero, suc, ◌+◌, ◌-◌, ◌<◌, ◌≤◌, true, false, cond, ◌&&◌, eqb, List, [], ◌∷◌, ◌++◌, length, drop, take, get_or, refl, sym, ap, ◌∙◌, subst, arith, ltb, leb, map, unwrap_or, Option, Some, None, length-append}
 use Rattle.std.specs.Char.{is_whitespace}
 use Rattle.std.specs.List.{list_any}
-use Rattle.std.specs.Str.{drop_trailing_whitespace, all_scalars}
+use Rattle.std.specs.Str.{drop_trailing_whitespace, all_scalars, IsAscii}
 use Rattle.std.proofs.lemmas.List.{take_more}
-use Rattle.std.proofs.lemmas.Bool.{ne_eqb, and_right, and_parts, and_from, cond_both}
+use Rattle.std.proofs.lemmas.Bool.{ne_eqb, and_right, and_parts, and_from, cond_both, leb-true}
 use Rattle.std.proofs.Math.Utf8.{scalar}
 use Rattle.rst_markup_tables.specs.Places.{places_of, is_double}
 use Rattle.rst_markup_tables.specs.Cells.{characters, cut_places}
 use Rattle.rst_markup_tables.specs.declared.places.Place.{Place}
 use Rattle.rst_markup_tables.specs.declared.places.Place.TheVariants.{Character, Second}
+use Rattle.unicode_width.specs.Width.{char_width}
 use Rattle.rst_text.specs.Block.{Line, Block, indentation, is_blank}
 use Rattle.rst_text.proofs.Least.{least_from, lower}
 use Rattle.rst_text.specs.Lines.{is_line_end}
@@ -60,6 +61,19 @@ scalars-trimmed (c ∷ cs) h =
 pub characters-places : (cs : List ℕ) → characters (places_of cs) ≡ cs
 characters-places [] = refl
 characters-places (c ∷ cs) = ap (λ l. c ∷ l) (cond_both (is_double c) (Second ∷ places_of cs) (places_of cs) (λ l. characters l ≡ cs) (λ e. characters-places cs) (λ e. characters-places cs))
+
+-- a character of ASCII takes one place
+is_double-ascii : (c : ℕ) → c < 128 → is_double c ≡ false
+unfolding is_double char_width
+is_double-ascii c low =
+    let one : (w : Option ℕ) → Type 0 = λ w. eqb (unwrap_or w 0) 2 ≡ false in
+    cond_both (ltb c 127) _ _ one
+    (λ e. cond_both (leb 32 c) _ _ one (λ f. refl) (λ f. refl))
+    (λ e. cond_both (leb 160 c) _ _ one (λ f. absurd (omega (arith, low, leb-true 160 c f))) (λ f. refl))
+
+pub places-ascii : (cs : List ℕ) → IsAscii cs → places_of cs ≡ map Character cs
+places-ascii [] low = refl
+places-ascii (c ∷ cs) low = rw (is_double-ascii c (low 0)) (ap (λ ps. Character c ∷ ps) (places-ascii cs (λ i. low (suc i))))
 
 scalars-take : (cs : List ℕ) (n : ℕ) → all_scalars cs ≡ true → all_scalars (take n cs) ≡ true
 scalars-take cs zero h = refl

@@ -75,7 +75,7 @@ pub(crate) fn row_marks(
 fn gaps_from(alloc: Global, first: usize, others: &[usize]) -> Result<Vec<usize>, AllocError>
     ensures { IfOk result (λ found. found.items ≡ gaps (first ∷ others.now)) }
 {
-    let mut gaps = Vec::new(alloc);
+    let mut gaps = Vec::with_capacity(alloc, others.len())?;
     let mut before = first;
     for bound in others {
         gaps.push(bound.saturating_sub(before).saturating_sub(1))?;

@@ -94,7 +94,7 @@ fn cell_texts(
     ensures texts { IfOk result (λ texts. texts_with texts.items ≡ texts_among left right lines.now among.now) }
     ensures lines { IfOk result (λ texts. IsTrue (are_lines (as_lines (texts_with texts.items)))) }
 {
-    let mut texts = Vec::new(alloc);
+    let mut texts = Vec::with_capacity(alloc, among.len())?;
     for k in among {
         let text = cell_text(alloc, lines, *k, left, right)?;
         if !is_blank(text.as_str()) {
@@ -125,7 +125,7 @@ pub(crate) fn reaching(
 ) -> Result<Vec<usize>, AllocError>
     ensures { IfOk result (λ found. found.items ≡ filter (reaches lines.now n) among.now) }
 {
-    let mut found = Vec::new(alloc);
+    let mut found = Vec::with_capacity(alloc, among.len())?;
     for k in among {
         if row_at(lines, *k).len() > n {
             found.push(*k)?;

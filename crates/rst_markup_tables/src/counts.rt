@@ -25,7 +25,7 @@ pub(crate) fn marked(alloc: Global, marks: &[bool]) -> Result<Vec<usize>, AllocE
 pub(crate) fn ranks(alloc: Global, marks: &[bool]) -> Result<Vec<usize>, AllocError>
     ensures { IfOk result (λ ranks. AreRanks (below (λ j. get_or marks.now j false)) (length marks.now) ranks.items) }
 {
-    let mut ranks = Vec::new(alloc);
+    let mut ranks = Vec::with_capacity(alloc, marks.len() + 1)?;
     let mut count = 0;
     for place in 0..marks.len() {
         ranks.push(count)?;

@@ -51,7 +51,7 @@ fn next_begin(c: char, begin: usize, column: usize) -> usize
 fn begins_of(alloc: Global, row: &[Place]) -> Result<Vec<usize>, AllocError>
     ensures { IfOk result (λ begins. AreBegins row.now begins.items) }
 {
-    let mut begins = Vec::new(alloc);
+    let mut begins = Vec::with_capacity(alloc, row.len())?;
     let mut begin = 0;
     for column in 0..row.len() {
         begin = next_begin(mark_at(row, column), begin, column);
@@ -63,7 +63,7 @@ fn begins_of(alloc: Global, row: &[Place]) -> Result<Vec<usize>, AllocError>
 fn all_begins(alloc: Global, rows: &[TableLine]) -> Result<Vec<Vec<usize>>, AllocError>
     ensures { IfOk result (λ all. HasBegins rows.now (lists_of all.items)) }
 {
-    let mut all = Vec::new(alloc);
+    let mut all = Vec::with_capacity(alloc, rows.len())?;
     for line in rows {
         let begins = begins_of(alloc, line.places())?;
         all.push(begins)?;

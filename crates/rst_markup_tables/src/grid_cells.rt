@@ -76,7 +76,7 @@ fn cell(
 fn empty_rows(alloc: Global, count: usize) -> Result<Vec<Vec<Cell>>, AllocError>
     ensures { IfOk result (λ rows. (length rows.items ≡ count) × ((n : ℕ) → n < count → get_or (cells_of rows.items) n [] ≡ [])) }
 {
-    let mut rows = Vec::new(alloc);
+    let mut rows = Vec::with_capacity(alloc, count)?;
     for _ in 0..count {
         rows.push(Vec::new(alloc))?;
     }

@@ -197,7 +197,7 @@ fn dash(place: Place) -> Place
 fn dashed(alloc: Global, line: &TableLine) -> Result<TableLine, AllocError>
     ensures { IfOk result (λ new. new ≡ spec.dashed line.now) }
 {
-    let mut places = Vec::new(alloc);
+    let mut places = Vec::with_capacity(alloc, line.places().len())?;
     for place in line.places() {
         places.push(dash(*place))?;
     }

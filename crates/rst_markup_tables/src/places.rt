@@ -1,10 +1,11 @@
 //! Lines of a table as rows of places.
-ghost use Rattle.std.specs.Prelude.{◌≡◌, ◌+◌, ◌<◌, ◌∷◌, true, false, length, drop, IfOk};
+ghost use Rattle.std.specs.Prelude.{◌≡◌, ◌+◌, ◌<◌, ◌∷◌, true, false, length, drop, map, IfOk};
 ghost use Rattle.std.specs.List.{list_any};
 ghost use Rattle.std.specs.Str.{chars, all_scalars};
 ghost use Rattle.rst_text.specs.Lines.{is_line_end};
 ghost use Rattle.rst_markup_tables.specs.Cells.{characters};
 ghost use Rattle.rst_markup_tables.specs.Places.{mark_of, is_double, places_of, mark_at, place, row_at, width, rows_of};
+ghost use Rattle.rst_markup_tables.specs.declared.places.Place.TheVariants.{Character};
 ghost use Rattle.rst_text.specs.Block.{first_number, front_text};
 ghost use Rattle.rst_text.specs.Shown.{block_of};
 
@@ -111,8 +112,22 @@ fn is_double(c: char) -> bool
 fn places_of(alloc: Global, text: &str) -> Result<Vec<Place>, AllocError>
     ensures { IfOk result (λ places. places.items ≡ places_of (chars text.now)) }
 {
+    if text.is_ascii() {
+        return ascii_places(alloc, text.as_bytes());
+    }
     let characters = characters_of(alloc, text)?;
     places_from(alloc, &characters)
+}
+
+/// The places of ASCII, whose bytes are characters that take one place each.
+fn ascii_places(alloc: Global, bytes: &[u8]) -> Result<Vec<Place>, AllocError>
+    ensures { IfOk result (λ places. places.items ≡ map Character bytes.now) }
+{
+    let mut places = Vec::with_capacity(alloc, bytes.len())?;
+    for byte in bytes {
+        places.push_reserved(Place::Character(char::from(*byte)));
+    }
+    Ok(places)
 }
 
 /// The places of characters.

@@ -73,7 +73,7 @@ pub(crate) fn widths(
     ensures { IfOk result (λ widths. widths ≡ spec.simple_widths lines.now) }
 {
     let longest = longest_of(lines, rows);
-    let mut widths = Vec::new(alloc);
+    let mut widths = Vec::with_capacity(alloc, columns.len())?;
     for k in 0..columns.len() {
         widths.push(width_of(columns, longest, k))?;
     }
@@ -150,7 +150,7 @@ pub(crate) fn all_entries(
     requires numbered { AreNumbered lines.now }
     ensures { IfOk result (λ all. all ≡ map (spec.row_entries lines.now) rows.now) }
 {
-    let mut all = Vec::new(alloc);
+    let mut all = Vec::with_capacity(alloc, rows.len())?;
     for row in rows {
         let spans = row_spans(alloc, lines, columns, *row)?;
         let cells = entries(alloc, lines_of(lines, *row), &spans)?;

@@ -100,7 +100,7 @@ pub(crate) fn spread(
 ) -> Result<Option<Vec<RuleSpan>>, AllocError>
     ensures { IfOk result (λ found. option_map vec_items found ≡ spec.spread columns.now spans.now) }
 {
-    let mut wide = Vec::new(alloc);
+    let mut wide = Vec::with_capacity(alloc, spans.len())?;
     let mut left = columns;
     for span in spans {
         let Some(last) = last_joined(left, *span) else {
