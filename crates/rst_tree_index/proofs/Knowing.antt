@@ -1,31 +1,53 @@
 -- What is known of nodes, as more come behind them, as they become those of an element, and as the first is taken.
-use Rattle.std.proofs.Common.{◌≡◌, ℕ, ◌+◌, ◌-◌, ◌≤◌, suc, length, List, [], ◌∷◌, ◌++◌, append_assoc, refl, sym, ◌∙◌, ap, ap₂, arith}
+use Rattle.std.proofs.Common.{◌≡◌, ℕ, ◌+◌, ◌-◌, ◌^◌, ◌≤◌, min, suc, length, List, [], ◌∷◌, ◌++◌, append_assoc, refl, sym, ◌∙◌, ap, ap₂, arith}
 use Rattle.std.specs.Prelude.{map}
-use Rattle.std.proofs.lemmas.List.{append-nil, length-append}
+use Rattle.std.proofs.lemmas.List.{append-nil, length-append, map-append}
 use Rattle.rst_tree.specs.declared.node.Node.{Node}
 use Rattle.rst_tree.specs.Nodes.{forest_of}
 use Rattle.rst_tree_index.specs.declared.marked_nodes.Known.{Known}
-use Rattle.rst_tree_index.specs.Known.{Entry, entry_of, known_at, known_of, entry_paths}
+use Rattle.rst_tree_index.specs.Known.{Entry, entry_behind, entry_of, known_at, known_of, entry_paths}
 use Rattle.rst_tree_index.specs.MarkPaths.{node_paths}
 use Rattle.rst_tree_index.specs.Marks.{marks_of, path_of, places}
 use Rattle.rst_tree_index.specs.Registered.{is_registered}
 use Rattle.rst_tree_index.proofs.Marking.{paths_push}
 
--- ---- one more node
+-- ---- more nodes
 
-known_push : (i : ℕ) (ns : List Node) (n : Node) → known_of i (ns ++ n ∷ []) ≡ known_of i ns ++ known_at (i + length ns) (marks_of is_registered n)
-known_push i [] n = append-nil (known_at i (marks_of is_registered n)) ∙ ap (λ k. known_at k (marks_of is_registered n)) (omega arith)
-known_push i (x ∷ ns) n =
-    let mine : List Entry = known_at i (marks_of is_registered x) in
-    ap (λ z. mine ++ z) (known_push (suc i) ns n) ∙ sym (append_assoc mine (known_of (suc i) ns) (known_at (suc i + length ns) (marks_of is_registered n)))
-    ∙ ap (λ k. (mine ++ known_of (suc i) ns) ++ known_at k (marks_of is_registered n)) (omega arith)
+known_append : (i : ℕ) (ns ms : List Node) → known_of i (ns ++ ms) ≡ known_of i ns ++ known_of (i + length ns) ms
+known_append i [] ms = ap (λ k. known_of k ms) (omega arith)
+known_append i (n ∷ ns) ms =
+    let mine : List Entry = known_at i (marks_of is_registered n) in
+    ap (λ z. mine ++ z) (known_append (suc i) ns ms) ∙ sym (append_assoc mine (known_of (suc i) ns) (known_of (suc i + length ns) ms))
+    ∙ ap (λ k. (mine ++ known_of (suc i) ns) ++ known_of k ms) (omega arith)
+
+known_behind : (b i : ℕ) (ns : List Node) → b + i + length ns ≤ 2 ^ 64 - 1 → map (entry_behind b) (known_of i ns) ≡ known_of (b + i) ns
+known_behind b i [] fits = refl
+known_behind b i (n ∷ ns) fits = by (marks_of is_registered n) (known_behind b (suc i) ns (omega (arith, fits)) ∙ ap (λ k. known_of k ns) (omega arith))
+  where
+    by : (ps : List (List ℕ)) → map (entry_behind b) (known_of (suc i) ns) ≡ known_of (suc (b + i)) ns
+        → map (entry_behind b) (known_at i ps ++ known_of (suc i) ns) ≡ known_at (b + i) ps ++ known_of (suc (b + i)) ns
+    by [] rest = rest
+    by (p ∷ ps) rest =
+        let here : min (b + i) (2 ^ 64 - 1) ≡ b + i = omega (arith, fits) in
+        ap₂ (λ k es. (k, p ∷ ps) ∷ es) here rest
+
+-- what is known of them follows what is known of the others
+pub appended : (ks ms moved : List Known) (ns more : List Node) (before : ℕ) → map entry_of ks ≡ known_of 0 ns → map entry_of ms ≡ known_of 0 more → before ≡ length ns
+    → length ns + length more ≤ 2 ^ 64 - 1 → map entry_of moved ≡ map (entry_behind before) (map entry_of ms) → map entry_of (ks ++ moved) ≡ known_of 0 (ns ++ more)
+appended ks ms moved ns more before known others at fits put =
+    map-append entry_of ks moved
+    ∙ ap₂ (λ y z. y ++ z) known
+    (put ∙ ap₂ (λ k es. map (entry_behind k) es) at others ∙ known_behind (length ns) 0 more (omega (arith, fits)) ∙ ap (λ k. known_of k more) (omega arith))
+    ∙ sym (known_append 0 ns more)
+
+-- ---- one more node
 
 -- what is known of it follows what is known of the others
 pub pushed : (old now : List Entry) (ns : List Node) (n : Node) (place : ℕ) (ps : List (List ℕ)) → old ≡ known_of 0 ns → place ≡ length ns → ps ≡ marks_of is_registered n
     → now ≡ old ++ known_at place ps → now ≡ known_of 0 (ns ++ n ∷ [])
 pushed old now ns n place ps known at marks noted =
     let here : place ≡ 0 + length ns = omega (arith, at) in
-    noted ∙ ap₂ (λ y z. y ++ z) known (ap₂ known_at here marks) ∙ sym (known_push 0 ns n)
+    noted ∙ ap₂ (λ y z. y ++ z) known (ap₂ known_at here marks ∙ sym (append-nil _)) ∙ sym (known_append 0 ns (n ∷ []))
 
 -- ---- all of them in an element
 

@@ -1,5 +1,5 @@
 -- What is known of some nodes: the marks of those that have any. No rule of markup: it spares a pass over them.
-use Rattle.std.specs.Prelude.{ℕ, suc, List, [], ◌∷◌, ◌++◌, map}
+use Rattle.std.specs.Prelude.{ℕ, suc, ◌+◌, ◌-◌, ◌^◌, min, List, [], ◌∷◌, ◌++◌, map}
 use Rattle.rst_tree.specs.declared.node.Node.{Node}
 use Rattle.rst_tree_index.specs.declared.marked_nodes.Known.{Known}
 use Rattle.rst_tree_index.specs.MarkPaths.{node_paths}
@@ -12,6 +12,10 @@ Entry = ℕ × List (List ℕ)
 
 abbrev pub entry_of : Known → Entry
 entry_of k = (k.place, node_paths k.own k.inner)
+
+-- the same of a node before which so many others were put
+abbrev pub entry_behind : ℕ → Entry → Entry
+entry_behind before e = (min (before + e.0) (2 ^ 64 - 1), e.1)
 
 -- what is known of the node at a place that has these marks
 abbrev pub known_at : ℕ → List (List ℕ) → List Entry

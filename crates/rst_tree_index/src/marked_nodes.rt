@@ -3,7 +3,7 @@ ghost use Rattle.std.specs.Prelude.{◌≡◌, ◌<◌, ◌∷◌, ◌++◌, [],
 ghost use Rattle.std.specs.Vec.{vec_capacity, vec_len};
 ghost use Rattle.rst_tree.specs.Faults.{Gives};
 ghost use Rattle.rst_tree.specs.Nodes.{forest_of};
-ghost use Rattle.rst_tree_index.specs.Known.{entry_of, known_at};
+ghost use Rattle.rst_tree_index.specs.Known.{entry_behind, entry_of, known_at};
 ghost use Rattle.rst_tree_index.specs.MarkPaths.{node_paths};
 ghost use Rattle.rst_tree_index.specs.Marks.{marks_of};
 ghost use Rattle.rst_tree_index.specs.Registered.{is_registered};
@@ -37,6 +37,21 @@ fn note(known: &mut Vec<Known>, place: usize, own: bool, inner: Marks) -> Result
         known.push(Known { place, own, inner })?;
     }
     Ok(())
+}
+
+/// What is known of some nodes, when they follow so many others.
+fn behind(known: Vec<Known>, before: usize) -> Result<Vec<Known>, TreeFault>
+    ensures { Gives (λ moved. map entry_of moved.items ≡ map (entry_behind before) (map entry_of known.items)) result }
+{
+    let mut moved = Vec::with_capacity(*known.allocator(), known.len())?;
+    for Known { place, own, inner } in known {
+        moved.push(Known {
+            place: before.saturating_add(place),
+            own,
+            inner,
+        })?;
+    }
+    Ok(moved)
 }
 
 /// Makes room for one node more. The first gets room for itself alone: most elements hold one.
@@ -116,6 +131,15 @@ impl MarkedNodes {
         Ok(made)
     }
 
+    /// Makes room for so many nodes more and no others.
+    #[inline(always)]
+    pub fn reserve(&mut self, more: usize) -> Result<(), TreeFault>
+        ensures { self.new ≡ self.old }
+    {
+        self.nodes.reserve_exact(more)?;
+        Ok(())
+    }
+
     /// How many nodes there are.
     #[inline(always)]
     pub fn len(&self) -> usize
@@ -186,7 +210,7 @@ impl MarkedNodes {
         Ok(())
     }
 
-    /// Puts nodes behind the others. Nobody goes through the first ones: they are taken as they are.
+    /// Puts nodes behind the others. Nobody goes through them: they are moved at once, and what is known of them follows.
     pub fn append(&mut self, more: MarkedNodes) -> Result<(), TreeFault>
         ensures { Gives (λ _. self.new ≡ self.old ++ more) result }
     {
@@ -194,11 +218,12 @@ impl MarkedNodes {
             *self = more;
             return Ok(());
         }
-        let alloc = *self.nodes.allocator();
-        let mut rest = more.into_marked();
-        while let Some(node) = rest.next(alloc) {
-            self.push(node)?;
-        }
+        let MarkedNodes { mut nodes, known } = more;
+        let mut known = behind(known, self.nodes.len())?;
+        // Room first: once the nodes follow, what is known of them has to.
+        self.known.reserve(known.len())?;
+        self.nodes.append(&mut nodes)?;
+        self.known.append(&mut known)?;
         Ok(())
     }
 
