@@ -3,11 +3,11 @@ use Rattle.std.proofs.Common.{◌≡◌, ℕ, zero, suc, ◌+◌, ◌-◌, ◌<�
 use Rattle.std.specs.Char.{is_whitespace}
 use Rattle.std.specs.List.{list_any}
 use Rattle.std.specs.Str.{drop_trailing_whitespace, all_scalars, IsAscii}
-use Rattle.std.proofs.lemmas.List.{take_more}
+use Rattle.std.proofs.lemmas.List.{append-nil, take_more}
 use Rattle.std.proofs.lemmas.Bool.{ne_eqb, and_right, and_parts, and_from, cond_both, leb-true}
 use Rattle.std.proofs.Math.Utf8.{scalar}
 use Rattle.rst_markup_tables.specs.Places.{places_of, is_double}
-use Rattle.rst_markup_tables.specs.Cells.{characters, cut_places}
+use Rattle.rst_markup_tables.specs.Cells.{characters, cut_places, is_white_place}
 use Rattle.rst_markup_tables.specs.declared.places.Place.{Place}
 use Rattle.rst_markup_tables.specs.declared.places.Place.TheVariants.{Character, Second}
 use Rattle.unicode_width.specs.Width.{char_width}
@@ -114,14 +114,31 @@ unended-cut left right ps h = cut-keeps (λ cs. list_any is_line_end cs ≡ fals
 
 -- ---- trimming from the end
 
-pub trimmed-white : (xs : List ℕ) (n c : ℕ) → 0 < n → n ≤ length xs → c ≡ get_or xs (n - 1) 0 → is_whitespace c ≡ true → drop_trailing_whitespace (take n xs) ≡ drop_trailing_whitespace (take (n - 1) xs)
-trimmed-white xs n c some fits is e =
-    let same : n ≡ (n - 1) + 1 = omega arith in
-    ap (λ m. drop_trailing_whitespace (take m xs)) same ∙ ap drop_trailing_whitespace (take_more xs (n - 1) 0 (omega arith))
-    ∙ dropped-white (take (n - 1) xs) (get_or xs (n - 1) 0) (ap is_whitespace (sym is) ∙ e)
+characters-append : (xs ys : List Place) → characters (xs ++ ys) ≡ characters xs ++ characters ys
+characters-append [] ys = refl
+characters-append (Character c ∷ xs) ys = ap (λ l. c ∷ l) (characters-append xs ys)
+characters-append (Second ∷ xs) ys = characters-append xs ys
 
-pub trimmed-dark : (xs : List ℕ) (n c : ℕ) → 0 < n → n ≤ length xs → c ≡ get_or xs (n - 1) 0 → is_whitespace c ≡ false → drop_trailing_whitespace (take n xs) ≡ take n xs
-trimmed-dark xs n c some fits is e =
+ends_with : (ps : List Place) (n : ℕ) (p : Place) → 0 < n → n ≤ length ps → p ≡ get_or ps (n - 1) (Character 0) → characters (take n ps) ≡ characters (take (n - 1) ps) ++ characters (p ∷ [])
+ends_with ps n p some fits is =
     let same : n ≡ (n - 1) + 1 = omega arith in
-    let split : take n xs ≡ take (n - 1) xs ++ get_or xs (n - 1) 0 ∷ [] = ap (λ m. take m xs) same ∙ take_more xs (n - 1) 0 (omega arith) in
-    ap drop_trailing_whitespace split ∙ dropped-dark (take (n - 1) xs) (get_or xs (n - 1) 0) (ap is_whitespace (sym is) ∙ e) ∙ sym split
+    ap (λ m. characters (take m ps)) same ∙ ap characters (take_more ps (n - 1) (Character 0) (omega arith)) ∙ ap (λ q. characters (take (n - 1) ps ++ q ∷ [])) (sym is)
+    ∙ characters-append (take (n - 1) ps) (p ∷ [])
+
+white_last : (xs : List ℕ) (p : Place) → is_white_place p ≡ true → drop_trailing_whitespace (xs ++ characters (p ∷ [])) ≡ drop_trailing_whitespace xs
+white_last xs (Character c) e = dropped-white xs c e
+white_last xs Second e = ap drop_trailing_whitespace (append-nil xs)
+
+dark_last : (xs : List ℕ) (p : Place) → is_white_place p ≡ false → drop_trailing_whitespace (xs ++ characters (p ∷ [])) ≡ xs ++ characters (p ∷ [])
+dark_last xs (Character c) e = dropped-dark xs c e
+dark_last xs Second e = absurd (cc)
+
+pub trimmed-white : (ps : List Place) (n : ℕ) (p : Place) → 0 < n → n ≤ length ps → p ≡ get_or ps (n - 1) (Character 0) → is_white_place p ≡ true
+    → drop_trailing_whitespace (characters (take n ps)) ≡ drop_trailing_whitespace (characters (take (n - 1) ps))
+trimmed-white ps n p some fits is e = ap drop_trailing_whitespace (ends_with ps n p some fits is) ∙ white_last (characters (take (n - 1) ps)) p e
+
+pub trimmed-dark : (ps : List Place) (n : ℕ) (p : Place) → 0 < n → n ≤ length ps → p ≡ get_or ps (n - 1) (Character 0) → is_white_place p ≡ false
+    → drop_trailing_whitespace (characters (take n ps)) ≡ characters (take n ps)
+trimmed-dark ps n p some fits is e =
+    let split = ends_with ps n p some fits is in
+    ap drop_trailing_whitespace split ∙ dark_last (characters (take (n - 1) ps)) p e ∙ sym split

@@ -1,5 +1,6 @@
 -- What stands in the cells of a table (Markup Specification, 'Grid Tables', 'Simple Tables').
-use Rattle.std.specs.Prelude.{ℕ, ◌-◌, Bool, not, nat_lt, List, [], ◌∷◌, take, drop, map, filter, get_or, length, Option, Some, None}
+use Rattle.std.specs.Prelude.{ℕ, ◌-◌, Bool, true, not, nat_lt, List, [], ◌∷◌, take, drop, map, filter, get_or, length, Option, Some, None}
+use Rattle.std.specs.Char.{is_whitespace}
 use Rattle.std.specs.List.{range_with_len}
 use Rattle.std.specs.Str.{drop_trailing_whitespace}
 use Rattle.rst_text.specs.Block.{Line, Block, is_blank, shorten}
@@ -13,6 +14,11 @@ abbrev pub characters : List Place → List ℕ
 characters [] = []
 characters (Character c ∷ ps) = c ∷ characters ps
 characters (Second ∷ ps) = characters ps
+
+-- no character begins at a place, or a white one
+abbrev pub is_white_place : Place → Bool
+is_white_place (Character c) = is_whitespace c
+is_white_place Second = true
 
 -- the places from `left` on and before `right`, or all from `left` on
 abbrev pub cut_places : ℕ → Option ℕ → List Place → List Place

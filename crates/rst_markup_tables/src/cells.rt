@@ -6,7 +6,7 @@ ghost use Rattle.rst_text.specs.Extent.{least_indent};
 ghost use Rattle.rst_text.specs.Lines.{are_lines, is_line_text};
 ghost use Rattle.rst_text.specs.Text.{chars_of};
 ghost use Rattle.rst_text.specs.Source.{texts_with};
-ghost use Rattle.rst_markup_tables.specs.Cells.{as_lines, characters, cut_places, cell_text, cell_block, reaches, reaching, texts_among};
+ghost use Rattle.rst_markup_tables.specs.Cells.{as_lines, characters, cut_places, cell_text, cell_block, is_white_place, reaches, reaching, texts_among};
 ghost use Rattle.rst_markup_tables.specs.Places.{AreNumbered};
 
 use super::places::{Place, TableLine, row_at};
@@ -15,33 +15,28 @@ use rst_markup_lines::is_blank;
 use rst_text::{indentation, skip};
 use std::alloc::{AllocError, Global};
 
-/// The characters that begin at places.
-fn characters(alloc: Global, places: &[Place]) -> Result<Vec<char>, AllocError>
-    ensures { IfOk result (λ text. text.items ≡ characters places.now) }
+/// Whether no character begins at a place, or a white one.
+fn is_white(place: Place) -> bool
+    ensures { result ≡ is_white_place place }
 {
-    let mut text = Vec::with_capacity(alloc, places.len())?;
-    for place in places {
-        if let Place::Character(c) = place {
-            text.push(*c)?;
-            continue;
-        }
+    match place {
+        Place::Character(c) => c.is_whitespace(),
+        Place::Second => true,
     }
-    Ok(text)
 }
 
-/// A text without the white characters at its end.
-fn trimmed(mut text: Vec<char>) -> Vec<char>
-    ensures { result.items ≡ drop_trailing_whitespace text.items }
+/// Places without those behind the last character that isn't white.
+fn trimmed(row: &[Place]) -> &[Place]
+    ensures { characters result.now ≡ drop_trailing_whitespace (characters row.now) }
 {
-    let mut size = text.len();
+    let mut size = row.len();
     while size > 0 {
-        if !text[size - 1].is_whitespace() {
+        if !is_white(row[size - 1]) {
             break;
         }
         size -= 1;
     }
-    text.truncate(size);
-    text
+    &row[..size]
 }
 
 /// The places from `left` on and before `right`.
@@ -53,14 +48,17 @@ fn cut_places(row: &[Place], left: usize, right: Option<usize>) -> &[Place]
     &row[begin..end]
 }
 
-/// A text of these characters.
-fn text_of(alloc: Global, characters: &[char]) -> Result<String, AllocError>
-    requires { all_scalars characters.now ≡ true }
-    ensures { IfOk result (λ text. chars_of text ≡ characters.now) }
+/// The text of the characters that begin at places.
+fn text_of(alloc: Global, places: &[Place]) -> Result<String, AllocError>
+    requires { all_scalars (characters places.now) ≡ true }
+    ensures { IfOk result (λ text. chars_of text ≡ characters places.now) }
 {
-    let mut text = String::with_capacity(alloc, characters.len())?;
-    for c in characters {
-        text.push(*c)?;
+    let mut text = String::with_capacity(alloc, places.len())?;
+    for place in places {
+        if let Place::Character(c) = place {
+            text.push(*c)?;
+            continue;
+        }
     }
     Ok(text)
 }
@@ -78,8 +76,7 @@ fn cell_text(
     ensures line { IfOk result (λ text. IsTrue (is_line_text (chars_of text))) }
 {
     let row = row_at(lines, k);
-    let text = trimmed(characters(alloc, cut_places(row, left, right))?);
-    let text = text_of(alloc, &text)?;
+    let text = text_of(alloc, trimmed(cut_places(row, left, right)))?;
     Ok(text)
 }
 

@@ -2,9 +2,10 @@ use Rattle.std.proofs.Common.{◌∙◌, sym, ap, arith, append-nil, string_byte
 use Rattle.std.proofs.lemmas.List.{at_drop_all}
 use Rattle.std.proofs.lemmas.Str.{chars-encodes}
 use Rattle.std.specs.Str.{chars}
+use Rattle.rst_markup_tables.specs.Cells.{characters}
 use Rattle.rst_markup_tables.proofs.cells.text_of.Goals as goal
 
 pub returns : goal.returns
 returns c =
-    let all = at_drop_all (λ cs. string_bytes c.loop-c.text ++ encode_utf8_all cs) c.args.characters.now c.loop-c.c-index (omega arith) in
-    ap chars (sym (append-nil (string_bytes c.loop-c.text)) ∙ sym all ∙ c.loop-c.invariant) ∙ chars-encodes c.args.characters.now c.requires
+    let all = at_drop_all (λ ps. string_bytes c.loop-place.text ++ encode_utf8_all (characters ps)) c.args.places.now c.loop-place.place-index (omega arith) in
+    ap chars (sym (append-nil (string_bytes c.loop-place.text)) ∙ sym all ∙ c.loop-place.invariant) ∙ chars-encodes (characters c.args.places.now) c.requires
