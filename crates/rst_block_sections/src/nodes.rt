@@ -67,6 +67,7 @@ pub fn completed(alloc: Global, element: Node, more: MarkedNodes) -> Result<Mark
                 return more.into_element(tag, attrs, line);
             }
             let mut nodes = MarkedNodes::of(alloc, children.into_list())?;
+            nodes.reserve(more.len())?;
             nodes.append(more)?;
             nodes.into_element(tag, attrs, line)
         }

@@ -48,6 +48,16 @@ pub fn document(
     sections.closed(alloc)
 }
 
+/// Makes room for so many nodes in a section that was just begun: mostly no others come.
+fn make_room(nodes: &mut MarkedNodes, count: usize) -> Result<(), TreeFault>
+    ensures { nodes.new ≡ nodes.old }
+{
+    if nodes.is_empty() {
+        nodes.reserve(count)?;
+    }
+    Ok(())
+}
+
 /// Puts so many nodes from the front of some behind others, or all that there are.
 fn move_front(
     alloc: Global,
@@ -58,6 +68,7 @@ fn move_front(
     ensures moved { Gives (λ _. to.new ≡ to.old ++ take count nodes.old) result }
     ensures left { Gives (λ _. nodes.new ≡ drop count nodes.old) result }
 {
+    make_room(to, count.min(nodes.len()))?;
     for _done in 0..count {
         match nodes.next(alloc) {
             Some(node) => to.push(node)?,
