@@ -6,7 +6,7 @@ use Rattle.rst_text.specs.Places.{last_from, NoneFrom, IsLast}
 use Rattle.rst_text.proofs.PlacesLemmas.{last_from-is}
 use Rattle.rst_inline_scan.specs.Characters.{Text, has}
 use Rattle.rst_inline_scan.specs.Escapes.{is_escaped}
-use Rattle.rst_inline.specs.Embedded.{opens_angle, ends_with, last_angle, dark_end, is_alias}
+use Rattle.rst_inline.specs.Embedded.{opens_angle, ends_with, last_angle, fits_angle, dark_end, is_alias}
 
 -- the last character, where it has been reached
 pub ends_with-is : (t : Text) (c place : ℕ) (escaped : Bool) → place ≡ length t - 1 → escaped ≡ is_escaped t 0 place → (has t place c && not escaped) ≡ ends_with t c
@@ -27,6 +27,11 @@ last_angle-is t r h = last_from-is (opens_angle t) 0 (length t) r h ∙ ap (last
 pub last-below : (p : ℕ → Bool) (low high : ℕ) (r : Option ℕ) → IsLast p low high r → IfSome r (λ place. place < high)
 last-below p low high (Some i) h = h.1
 last-below p low high None h = tt
+
+-- what stands between the brackets is not empty
+pub fits-inner : (t : Text) (k : ℕ) → fits_angle t k ≡ true → k + 2 < length t
+unfolding fits_angle
+fits-inner t k h = ltb-true (k + 2) (length t) (and_parts (nat_lt (k + 2) (length t)) _ h).0
 
 -- ---- the end of what is not white
 

@@ -1,5 +1,5 @@
 //! Embedded URIs and aliases.
-ghost use Rattle.std.specs.Prelude.{◌≡◌, ◌<◌, ◌≤◌, length, IfOk, IfSome, ◌&&◌, ◌==◌, not};
+ghost use Rattle.std.specs.Prelude.{◌≡◌, ◌+◌, ◌<◌, ◌≤◌, length, IfOk, IfSome, ◌&&◌, ◌==◌, not};
 ghost use Rattle.rst_inline.specs.Embedded.{ends_with, last_angle, fits_angle, embedded_at, dark_end, enclosed, is_alias, meant, shown_by};
 
 use super::fault::InlineFault;
@@ -62,7 +62,7 @@ fn fits_angle(text: &[char], place: usize) -> bool
 #[tactic(auto, unfolding(crate::specs::Embedded::embedded_at))]
 pub(crate) fn embedded_at(phrase: &[char]) -> Option<usize>
     ensures exact { result ≡ embedded_at phrase.now }
-    ensures below { IfSome result (λ place. place < length phrase.now) }
+    ensures below { IfSome result (λ place. place + 2 < length phrase.now) }
 {
     if !ends_with(phrase, '>') {
         return None;
@@ -104,9 +104,10 @@ pub(crate) fn meant(alloc: Global, held: &[char]) -> Result<Vec<char>, AllocErro
 }
 
 /// The place behind the last character before `place` that isn't white.
-fn dark_end(text: &[char], place: usize) -> usize
+pub(crate) fn dark_end(text: &[char], place: usize) -> usize
     requires { place ≤ length text.now }
-    ensures { result ≡ dark_end text.now place }
+    ensures exact { result ≡ dark_end text.now place }
+    ensures below { result ≤ place }
 {
     let mut end = place;
     while 0 < end {

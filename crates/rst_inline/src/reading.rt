@@ -119,7 +119,7 @@ fn substituted(
 }
 
 /// A phrase with an embedded URI or alias.
-fn embedded(
+pub(crate) fn embedded(
     alloc: Global,
     suffix: Suffix,
     source: &str,
@@ -145,7 +145,7 @@ fn embedded(
 }
 
 /// A phrase that is a reference.
-fn phrase(
+pub(crate) fn phrase(
     alloc: Global,
     suffix: Suffix,
     source: &[char],
@@ -221,7 +221,7 @@ fn prefixed(
 }
 
 /// Interpreted text, or a phrase that is a reference.
-fn interpreted(
+pub(crate) fn interpreted(
     alloc: Global,
     suffix: Suffix,
     text: &[char],

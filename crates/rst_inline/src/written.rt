@@ -11,6 +11,7 @@ ghost use Rattle.rst_inline.specs.Readings as spec;
 
 use super::elements::{plain_element, problematic};
 use super::fault::InlineFault;
+use super::phrases::interpreted_in;
 use super::reading::{Meaning, reading};
 use super::references::{reference, uri_reference};
 use super::texts::{part, spell};
@@ -98,7 +99,7 @@ fn enclosed(
 }
 
 /// The reference that a piece is, as it is written.
-fn referred(
+pub(crate) fn referred(
     alloc: Global,
     suffix: Suffix,
     written: &str,
@@ -202,6 +203,9 @@ fn bare_meaning(
         Kind::Marked(Markup::Strong, _) => enclosed(alloc, Tag::Strong, written, piece, line),
         Kind::Marked(Markup::Emphasis, _) => enclosed(alloc, Tag::Emphasis, written, piece, line),
         Kind::Marked(Markup::Literal, _) => enclosed(alloc, Tag::Literal, written, piece, line),
+        Kind::Marked(Markup::Interpreted, suffix) => {
+            interpreted_in(alloc, suffix, written, text, piece, line)
+        }
         Kind::Reference(suffix) => referred(alloc, suffix, written, piece, line),
         Kind::Uri => uri(alloc, written, piece, line),
         _ => reading(alloc, text, line, piece),

@@ -8,7 +8,7 @@ use Rattle.rst_inline.specs.declared.reading.Meaning.TheVariants.{One}
 use Rattle.rst_inline.specs.Faults.{Gives}
 use Rattle.rst_inline.specs.Parts.{source, content, IsBare}
 use Rattle.rst_inline.specs.Elements.{text_element, reference_node, uri_node}
-use Rattle.rst_inline.proofs.WrittenLemmas.{reading-plain, reading-strong, reading-emphasis, reading-literal, reading-reference, reading-uri}
+use Rattle.rst_inline.proofs.WrittenLemmas.{reading-plain, reading-strong, reading-emphasis, reading-literal, reading-interpreted, reading-reference, reading-uri}
 use Rattle.rst_inline.proofs.written.bare_meaning.Goals as goal
 
 pub returns-in-Plain : goal.returns-in-Plain
@@ -53,3 +53,10 @@ returns-in-Uri c =
     let is = ap (λ (w : Text). One (uri_node (source w c.args.piece) c.args.line)) c.requires.same
     ∙ reading-uri c.args.text.now c.args.line c.args.piece c.in-Uri.is in
     subst (λ m. Gives (λ read. read ≡ m) c.uri.result) is c.uri.ensures
+
+pub returns-in-Marked-Interpreted-default : goal.returns-in-Marked-Interpreted-default
+returns-in-Marked-Interpreted-default c =
+    let markup : c.in-Marked-Interpreted-default.field-0 ≡ markups.Interpreted = rw c.in-Marked-Interpreted-default.is at c.in-Marked-Interpreted-default.field-0-is in
+    let kind = c.in-Marked-Interpreted-default.is ∙ ap (λ m. Marked m c.in-Marked-Interpreted-default.suffix) markup in
+    let is = reading-interpreted c.args.text.now c.args.line c.args.piece c.in-Marked-Interpreted-default.suffix kind in
+    subst (λ m. Gives (λ read. read ≡ m) c.interpreted_in.result) is c.interpreted_in.ensures
