@@ -12,13 +12,15 @@ use std::alloc::{AllocError, Global};
 fn ends_with(text: &[char], c: char) -> bool
     ensures { result ≡ ends_with text.now c }
 {
-    let mut escaped = false;
-    let mut place = 0;
-    while place + 1 < text.len() {
-        escaped = escapes(text[place], escaped);
-        place += 1;
+    let last = text.len().saturating_sub(1);
+    if !has(text, last, c) {
+        return false;
     }
-    has(text, place, c) && !escaped
+    let mut escaped = false;
+    for place in 0..last {
+        escaped = escapes(text[place], escaped);
+    }
+    !escaped
 }
 
 fn is_opening(c: char, escaped: bool) -> bool
