@@ -154,7 +154,7 @@ impl Attrs {
             self.list[place] = attr;
             return Ok(());
         }
-        make_room(&mut self.list, key)?;
+        make_room(&mut self.list)?;
         self.list.insert(place, attr)?;
         Ok(())
     }
@@ -192,18 +192,13 @@ impl Attrs {
     }
 }
 
-/// Makes room for two attributes where there is none: most elements that have some have no more. One that is written with a name
-/// gets its number, its id and its name behind it.
-fn make_room(list: &mut Vec<Entry>, first: Key) -> Result<(), TreeFault>
+/// Makes room for two attributes where there is none: most elements that have some have no more.
+fn make_room(list: &mut Vec<Entry>) -> Result<(), TreeFault>
     ensures items { list.new.items ≡ list.old.items }
     ensures len { vec_len list.new ≡ vec_len list.old }
 {
     if list.is_empty() {
-        let room = match first {
-            Key::OwnName => 4,
-            _ => 2,
-        };
-        list.reserve_exact(room)?;
+        list.reserve_exact(2)?;
     }
     Ok(())
 }
