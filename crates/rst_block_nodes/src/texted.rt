@@ -97,6 +97,11 @@ fn numbered(alloc: Global, pieces: Pieces, numbers: &mut Numbers) -> Result<Read
     let Pieces { nodes, notes } = pieces;
     let first = numbers.take(notes.len());
     let nodes = numbered_on(nodes, first)?;
+    // Most texts have none.
+    if notes.is_empty() {
+        let notes = Vec::new(alloc);
+        return Ok(Reading { nodes, notes });
+    }
     let notes = messages_of(alloc, notes, first)?;
     Ok(Reading { nodes, notes })
 }
