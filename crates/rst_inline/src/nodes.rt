@@ -58,6 +58,8 @@ fn unended(pieces: &[Piece]) -> usize {
 }
 
 /// The nodes and the messages of the pieces of a text; `written` is the text, too, if that is ASCII without a backslash.
+// Its frame is large, and quiet texts need none of it.
+#[inline(never)]
 fn read(
     alloc: Global,
     written: Option<&str>,
