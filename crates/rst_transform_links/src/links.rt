@@ -6,7 +6,7 @@ ghost use Rattle.rst_transform_links.specs.Linkings.{held, inner_of, linked_amon
 ghost use Rattle.rst_transform_links.specs.Links.{Shows, changed_document, is_idle, with_more};
 ghost use Rattle.rst_transform_links.specs.Outcomes.{adds, fails, stays};
 
-use rst_transform_work::{Document, ProblematicAttrs, take_source};
+use rst_transform_work::{Document, ProblematicAttrs, are_plain, take_source};
 use rst_tree::{Attrs, Children, Entry, Node, Rewriter, Tag, Text, TreeFault, rewrite_in};
 use rst_tree_index::is_linked_tag;
 use std::alloc::Global;
@@ -100,8 +100,10 @@ fn add_linked<'a>(
         match node {
             Node::Text(_) => continue,
             Node::Element { tag, children, .. } => {
-                let inner = inner_of(*tag, outer, list.len());
-                add_own(node, *tag, outer, list)?;
+                let inner = add_own(node, *tag, outer, list)?;
+                if are_plain(children) {
+                    continue;
+                }
                 add_linked(children, inner, list)?;
             }
         }
@@ -109,36 +111,27 @@ fn add_linked<'a>(
     Ok(())
 }
 
-/// Adds an element, if it is linked, that is inside the one at the place `outer`.
+/// Adds an element, if it is linked, that is inside the one at the place `outer`, and returns the place of the innermost linked element
+/// that the nodes in it are inside: its own, if it is linked, or else `outer`.
 #[inline(always)]
 fn add_own<'a>(
     node: &'a Node,
     tag: Tag,
     outer: Option<usize>,
     list: &mut Vec<Linked<'a>>,
-) -> Result<(), TreeFault>
-    ensures { Gives (λ _. map held list.new.items ≡ map held list.old.items ++ own_linked outer tag node.now) result }
+) -> Result<Option<usize>, TreeFault>
+    ensures own { Gives (λ _. map held list.new.items ≡ map held list.old.items ++ own_linked outer tag node.now) result }
+    ensures inner { Gives (λ inner. inner ≡ inner_of (length list.old.items) outer tag) result }
 {
-    if is_linked_tag(tag) {
-        list.push(Linked {
-            element: node,
-            outer,
-        })?;
+    if !is_linked_tag(tag) {
+        return Ok(outer);
     }
-    Ok(())
-}
-
-/// The place of the innermost linked element that the nodes in one are inside: its own, after so many, if it is linked, or else that of
-/// the one around it.
-#[inline(always)]
-fn inner_of(tag: Tag, outer: Option<usize>, before: usize) -> Option<usize>
-    ensures { result ≡ inner_of before outer tag }
-{
-    if is_linked_tag(tag) {
-        Some(before)
-    } else {
-        outer
-    }
+    let place = list.len();
+    list.push(Linked {
+        element: node,
+        outer,
+    })?;
+    Ok(Some(place))
 }
 
 /// What becomes of the linked elements of a tree, in preorder, which contracts see as the list of
@@ -163,6 +156,11 @@ impl Model for Changes {
 }
 
 impl Changes {
+    ghost use Rattle.std.specs.Prelude.{drop};
+    ghost use Rattle.rst_tree.specs.Rewritten.{Turned};
+    ghost use Rattle.rst_tree.specs.declared.node.Node.TheVariants.{Element};
+    ghost use Rattle.rst_transform_links.specs.Links.{changed_by, left_plain};
+
     /// The changes in a list.
     pub fn of(list: Vec<Outcome>) -> Changes
         ensures { result ≡ list.items }
@@ -177,6 +175,37 @@ impl Changes {
         ensures { result ≡ list_all is_idle self.now }
     {
         self.left.iter().all(|change| is_idle(change))
+    }
+
+    /// Changes the parts of a linked element on a line, and tells whether what stands in it is to be gone through.
+    // Few elements are linked: the others are passed without this call.
+    #[inline(never)]
+    #[tactic(auto, using(crate::proofs::Turning::left_so))]
+    fn change(
+        &mut self,
+        alloc: Global,
+        tag: &mut Tag,
+        attrs: &mut Attrs,
+        children: &mut Children,
+        line: usize,
+    ) -> Result<bool, TreeFault>
+        ensures state { Gives (λ _. self.new ≡ drop 1 self.old) result }
+        ensures outcome { Gives (λ stays. Turned (left_plain children.old (changed_by self.old tag.old attrs.old line)) (Element tag.old attrs.old children.old line) (Element tag.new attrs.new children.new line) stays) result }
+    {
+        match self.left.pop_front() {
+            None | Some(Outcome::Fails(_)) => Ok(!are_plain(children)),
+            Some(Outcome::Stays(addition)) => {
+                add(attrs, addition.attr)?;
+                show(children, addition.shown)
+            }
+            Some(Outcome::Failed(problematic)) => {
+                let source = take_source(alloc, attrs)?;
+                *tag = Tag::Problematic;
+                problematic.tell(alloc, attrs)?;
+                children.set_lone(Node::Text(source))?;
+                Ok(false)
+            }
+        }
     }
 }
 
@@ -201,7 +230,7 @@ fn add(attrs: &mut Attrs, more: Option<Entry>) -> Result<(), TreeFault>
     Ok(())
 }
 
-/// Puts a text in the place of some nodes, if there is one, and returns whether the nodes stay.
+/// Puts a text in the place of some nodes, if there is one, and returns whether what is there is to be gone through.
 fn show(nodes: &mut Children, text: Option<Text>) -> Result<bool, TreeFault>
     ensures { Gives (λ stays. Shows text nodes.old nodes.new stays) result }
 {
@@ -210,48 +239,37 @@ fn show(nodes: &mut Children, text: Option<Text>) -> Result<bool, TreeFault>
             nodes.set_lone(Node::Text(text))?;
             Ok(false)
         }
-        None => Ok(true),
+        None => Ok(!are_plain(nodes)),
     }
 }
 
 impl Rewriter for Changes {
-    ghost use Rattle.rst_transform_links.specs.Links.{change_next, change_of};
+    ghost use Rattle.rst_transform_links.specs.Links.{change_next, turn_of};
 
     ghost entered = { change_next };
 
-    ghost becomes = { change_of };
+    ghost becomes = { turn_of };
 
+    #[tactic(auto, using(crate::proofs::Turning::left_so))]
     fn turn(&mut self, alloc: Global, element: &mut Node) -> Result<bool, TreeFault> {
         if let Node::Element {
             tag,
             attrs,
             children,
-            ..
+            line,
         } = element
         {
             if !is_linked_tag(*tag) {
-                return Ok(true);
+                return Ok(!are_plain(children));
             }
-            match self.left.pop_front() {
-                None | Some(Outcome::Fails(_)) => return Ok(true),
-                Some(Outcome::Stays(addition)) => {
-                    add(attrs, addition.attr)?;
-                    return show(children, addition.shown);
-                }
-                Some(Outcome::Failed(problematic)) => {
-                    let source = take_source(alloc, attrs)?;
-                    *tag = Tag::Problematic;
-                    problematic.tell(alloc, attrs)?;
-                    children.set_lone(Node::Text(source))?;
-                }
-            }
+            return self.change(alloc, tag, attrs, children, *line);
         }
         Ok(false)
     }
 }
 
 /// A document in which its linked elements changed.
-#[tactic(auto, using(crate::proofs::Idle::idle_document))]
+#[tactic(auto, using(crate::proofs::Idle::idle_document, crate::proofs::Turning::turned_document))]
 pub fn with_changes(
     alloc: Global,
     mut document: Document,

@@ -9,7 +9,7 @@ ghost use Rattle.rst_transform_work.specs.States.{document_node};
 
 use crate::messages::{level_number, reaches};
 use rst_settings::Threshold;
-use rst_transform_work::Document;
+use rst_transform_work::{Document, are_plain};
 use rst_tree::{Attrs, Children, Key, Node, Tag, TreeFault};
 use std::alloc::Global;
 use std::mem;
@@ -84,6 +84,7 @@ fn is_message_shown(number: Option<u64>, shown: &[bool]) -> bool
 }
 
 /// Takes the messages below the report level out of a list.
+#[inline(never)]
 fn take_out_low(alloc: Global, nodes: &mut Children, report: Threshold)
     ensures { nodes.new ≡ forest_of (filter (may_stay report) (nodes_of nodes.old)) }
 {
@@ -130,6 +131,9 @@ fn filter_in(
             Fate::Stays => match node {
                 Node::Text(_) => continue,
                 Node::Element { children, .. } => {
+                    if are_plain(children) {
+                        continue;
+                    }
                     filter_in(alloc, children, report, shown)?;
                 }
             },

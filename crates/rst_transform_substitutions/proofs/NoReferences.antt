@@ -1,5 +1,5 @@
 -- A document without substitution references stays as it is.
-use Rattle.std.proofs.Common.{◌≡◌, ℕ, List, ◌∷◌, refl, sym, ◌∙◌, ap, subst, Bool, false}
+use Rattle.std.proofs.Common.{◌≡◌, ℕ, List, ◌∷◌, refl, sym, ◌∙◌, ap, subst, Bool, true, false}
 use Rattle.std.specs.Prelude.{Option, None}
 use Rattle.std.specs.List.{list_any}
 use Rattle.std.proofs.lemmas.Bool.{or_parts}
@@ -11,6 +11,8 @@ use Rattle.rst_tree.specs.Walk.{items, Item}
 use Rattle.rst_tree.proofs.Changes.{forest_of-nodes_of}
 use Rattle.rst_transform_work.specs.declared.context.Context.{Context}
 use Rattle.rst_transform_work.specs.declared.document.Document.{Document}
+use Rattle.rst_transform_work.proofs.Plain.{nothing_gathered}
+use Rattle.rst_transform_work.specs.Reading.{are_plain}
 use Rattle.rst_transform_work.specs.Known.{Holds, Known, Makes}
 use Rattle.rst_transform_work.specs.States.{elements_of}
 use Rattle.rst_transform_substitutions.specs.Definitions.{definitions_among, found_among, place_of_name, Definition}
@@ -28,6 +30,10 @@ module _ (found : List ℕ → Option (ℕ × Forest)) (place : List ℕ → Opt
       let own = or_parts (is_reference t) _ none in
       let parts = or_parts (list_any refers (items c)) (list_any refers (items r)) (sym (list_any-append refers (items c) (items r)) ∙ own.1) in
       rw (own.0, nodes_stay (within_element place t a within) c known parts.0, nodes_stay within r known parts.1, forest_of-nodes_of c) refl
+
+  -- where no element is among nodes, they stay
+  pub plain_stays : (within : Option ℕ) (c : Forest) (context : Context) → are_plain c ≡ true → Makes (expanded_in found place within c) context context (nodes_of c)
+  plain_stays within c context plain = λ known h. rw (nodes_stay within c known (ap (list_any refers) (nothing_gathered items (λ t. refl) c plain))) (refl, h)
 
 pub stays_expanded : (document : Document) (context : Context) → list_any (λ x. is_reference x.tag) (elements_of document) ≡ false → Makes (with_expansions document) context context document
 stays_expanded document context none = λ known h.

@@ -11,7 +11,7 @@ ghost use Rattle.rst_transform_substitutions.specs.Outcomes.{Remembers};
 use crate::definitions::Definitions;
 use crate::expansion::{ExpansionFault, is_reference};
 use crate::outcomes::{Outcome, Outcomes, reference_outcome};
-use rst_transform_work::{Context, Document, said, take_source};
+use rst_transform_work::{Context, Document, are_plain, said, take_source};
 use rst_tree::{Attrs, Children, Key, Level, Node, Tag, TreeFault};
 use std::alloc::Global;
 use std::mem;
@@ -88,12 +88,17 @@ fn expand_in(
                     )?;
                     continue;
                 }
+                if are_plain(children) {
+                    continue;
+                }
                 let within = within_element(definitions, *tag, attrs, within);
                 expand_in(alloc, definitions, children, within, outcomes, context)?;
             }
         }
     }
-    open_references(alloc, nodes)?;
+    if has_reference(nodes.as_slice()) {
+        open_references(alloc, nodes)?;
+    }
     Ok(())
 }
 
@@ -114,13 +119,11 @@ fn has_reference(nodes: &[Node]) -> bool
     nodes.iter().any(|node| is_reference_node(node))
 }
 
-/// Puts the nodes in each reference into its place. The list is made anew only where there is a reference.
+/// Puts the nodes in each reference into its place, in a list made anew.
+#[inline(never)]
 fn open_references(alloc: Global, nodes: &mut Children) -> Result<(), TreeFault>
     ensures { Gives (λ _. nodes_of nodes.new ≡ flat_map opened (nodes_of nodes.old)) result }
 {
-    if !has_reference(nodes.as_slice()) {
-        return Ok(());
-    }
     let list = mem::replace(nodes, Children::new(alloc)).into_list();
     let mut done = Vec::with_capacity(alloc, list.len())?;
     for node in list {
@@ -169,6 +172,7 @@ fn within_element(
 }
 
 /// What becomes of a reference: the nodes for it, or a problematic.
+#[inline(never)]
 fn replaced(
     alloc: Global,
     definitions: &Definitions,

@@ -12,6 +12,7 @@ use Rattle.rst_tree.specs.declared.key.Key.TheVariants.{Rawsource}
 use Rattle.rst_tree.specs.declared.node.Node.{Node}
 use Rattle.rst_tree.specs.declared.node.Node.TheVariants.{Element, Text as Words}
 use Rattle.rst_tree.specs.Attributes.{value_of, said_text, said_number}
+use Rattle.rst_tree.specs.Forest.{Forest, bare, words}
 use Rattle.rst_tree.specs.Paths.{node_value}
 
 -- the members of the list that a value is, or none
@@ -38,6 +39,12 @@ line_of (Words t) = 0
 -- the source text that the attributes of a reference tell, or the empty text
 abbrev pub source_said : List Attr → List ℕ
 source_said attrs = unwrap_or (said_text (value_of Rawsource attrs)) []
+
+-- no node, or a text alone
+abbrev pub are_plain : Forest → Bool
+are_plain bare = true
+are_plain (words t bare) = true
+are_plain _ = false
 
 abbrev pub is_heading : Tag → Bool
 is_heading Title = true

@@ -15,7 +15,8 @@ pub use document::Document;
 pub use lists::{append, append_names, at_place, take_list};
 pub use problematics::ProblematicAttrs;
 pub use reading::{
-    first_said, has, is_title, line_of, list_said, may_precede, number_said, said, text_said,
+    are_plain, first_said, has, is_title, line_of, list_said, may_precede, number_said, said,
+    text_said,
 };
 pub use report::Report;
 pub use texts::{add_names, copies, folded, identified, take_source};

@@ -1,9 +1,11 @@
-use Rattle.std.proofs.Common.{rules, arith, ◌≡◌, ◌+◌, ◌≤◌, ap}
+use Rattle.std.proofs.Common.{rules, arith, ◌≡◌, ◌+◌, ◌≤◌, ap, refl, sym, ◌∙◌}
 use Rattle.rst_tree.proofs.Rewrites.{Same-child}
 use Rattle.rst_tree.specs.Forest.{height}
 use Rattle.rst_tree.specs.Nodes.{node_height}
 use Rattle.rst_tree.specs.declared.node.Node.TheVariants.{Text}
 use Rattle.rst_transform_messages.proofs.Showing.{Sifting-init, Sifting-more, Sifting-gone, Sifting-some, Sifting-whole, becoming_leaves, element_leaves, text_leaves}
+use Rattle.rst_transform_work.proofs.Plain.{nothing_changed}
+use Rattle.rst_transform_messages.specs.Filtered.{filtered}
 use Rattle.rst_transform_messages.specs.Messages.{marked}
 use Rattle.rst_transform_messages.proofs.filter.+filter_in.Goals as goal
 
@@ -25,6 +27,14 @@ pub loop-i-preserved-in-Text : goal.loop-i-preserved-in-Text
 loop-i-preserved-in-Text t c =
     let leaves = text_leaves c.args.report (marked c.args.shown.now) c.get_mut-node.result.now c.in-Text.field-0 c.in-Text.is in
     Sifting-more c.args.report (marked c.args.shown.now) _ c.loop-i.nodes c.loop-i.leaves c.loop-i.i c.get_mut-node.result.now c.get_mut-node.result.now c.loop-i.invariant
+    (omega (arith, c.loop-i.invariant.same.same_len, c.len-i-end.ensures)) c.get_mut-node.ensures.value leaves
+
+pub loop-i-preserved-then-are_plain : goal.loop-i-preserved-then-are_plain
+loop-i-preserved-then-are_plain t c =
+    let same = nothing_changed (filtered c.args.report (marked c.args.shown.now)) refl (λ t. refl) c.in-Element.children (sym c.are_plain.ensures ∙ c.if-are_plain.true) in
+    let leaves = element_leaves c.args.report (marked c.args.shown.now) c.get_mut-node.result.now c.in-Element.tag c.in-Element.attrs c.in-Element.children c.in-Element.children c.in-Element.line
+    c.in-Element.is c.in-Stays.ensures (sym same) in
+    Sifting-more c.args.report (marked c.args.shown.now) _ c.loop-i.nodes c.loop-i.leaves c.loop-i.i c.get_mut-node.result.now _ c.loop-i.invariant
     (omega (arith, c.loop-i.invariant.same.same_len, c.len-i-end.ensures)) c.get_mut-node.ensures.value leaves
 
 pub filter_in-requires : goal.filter_in-requires

@@ -1,11 +1,14 @@
 use Rattle.std.proofs.Common.{◌≡◌, ◌+◌, ◌≤◌, rules, arith, sym, subst, ap, ◌∙◌}
+use Rattle.std.specs.List.{list_any}
 use Rattle.rst_tree.specs.Forest.{height}
-use Rattle.rst_tree.specs.Nodes.{node_height}
+use Rattle.rst_tree.specs.Nodes.{node_height, nodes_of}
+use Rattle.rst_tree.proofs.Changes.{nodes_of-forest_of}
 use Rattle.rst_tree.proofs.Rewrites.{Same-child}
 use Rattle.rst_transform_work.specs.Known.{Makes}
 use Rattle.rst_transform_substitutions.specs.Definitions.{found_by, known_place}
-use Rattle.rst_transform_substitutions.specs.Expanded.{expanded_in}
-use Rattle.rst_transform_substitutions.proofs.Replacing.{element_holds, reference_gives, text_stays, Replacing-all, Replacing-init, Replacing-more}
+use Rattle.rst_transform_substitutions.specs.Expanded.{expanded_in, is_reference_node, within_element}
+use Rattle.rst_transform_substitutions.proofs.NoReferences.{plain_stays}
+use Rattle.rst_transform_substitutions.proofs.Replacing.{element_holds, none_opened, reference_gives, text_stays, Replacing-all, Replacing-init, Replacing-more}
 use Rattle.rst_transform_substitutions.proofs.expand.+expand_in.Goals as goal
 
 pub loop-i-init : goal.loop-i-init
@@ -27,6 +30,19 @@ loop-i-preserved-then-is_reference t c = record {
   remembers = c.in_ok-children-in-Element.ensures.remembers;
 }
 
+pub loop-i-preserved-then-are_plain : goal.loop-i-preserved-then-are_plain
+loop-i-preserved-then-are_plain t c =
+    let found = found_by c.args.definitions.now in
+    let place = known_place c.args.definitions.now in
+    let stay = plain_stays found place (within_element place c.in-Element.tag c.in-Element.attrs c.args.within) c.in-Element.children c.loop-i.context (sym c.are_plain.ensures ∙ c.if-are_plain.true) in
+    record {
+      replacing = Replacing-more found place c.args.within c.args.nodes.now c.args.context.now c.loop-i.context c.loop-i.context c.loop-i.nodes c.loop-i.i c.get_mut.result.now _ c.loop-i.invariant.replacing
+          (omega (arith, c.loop-i.invariant.replacing.same.same_len, c.len-i-end.ensures)) c.get_mut.ensures.value
+          (element_holds found place c.args.within c.loop-i.context c.loop-i.context c.get_mut.result.now c.in-Element.tag c.in-Element.attrs c.in-Element.children c.in-Element.children c.in-Element.line
+          c.in-Element.is (sym c.is_reference.ensures ∙ c.if-is_reference.false) stay);
+      remembers = c.loop-i.invariant.remembers;
+    }
+
 pub expand_in-requires : goal.expand_in-requires
 expand_in-requires t c =
     let m : node_height c.get_mut.result.now ≡ height c.in-Element.children + 1 = ap node_height c.in-Element.is in
@@ -44,7 +60,16 @@ loop-i-preserved t c = record {
   remembers = c.in_ok-expand_in-in-Element.ensures.remembers;
 }
 
-pub returns-clause-expanded : goal.returns-clause-expanded
-returns-clause-expanded t c =
+-- all references are opened
+pub returns-in_ok-open_references-clause-expanded : goal.returns-in_ok-open_references-clause-expanded
+returns-in_ok-open_references-clause-expanded t c =
     subst (λ xs. Makes (expanded_in (found_by c.args.definitions.now) (known_place c.args.definitions.now) c.args.within c.args.nodes.now) c.args.context.now c.loop-i.context xs) (sym c.in_ok-open_references.ensures)
+    (Replacing-all (found_by c.args.definitions.now) (known_place c.args.definitions.now) c.args.within c.args.nodes.now c.args.context.now c.loop-i.context c.loop-i.nodes c.loop-i.i c.loop-i.invariant.replacing (omega (arith, c.loop-i.invariant.replacing.same.same_len, c.len-i-end.ensures)))
+
+-- or there are none
+pub returns-else-has_reference-clause-expanded : goal.returns-else-has_reference-clause-expanded
+returns-else-has_reference-clause-expanded t c =
+    let are = ap nodes_of c.as_slice.ensures ∙ nodes_of-forest_of c.as_slice.result.now in
+    let none = none_opened (nodes_of c.loop-i.nodes) (ap (list_any is_reference_node) are ∙ sym c.has_reference.ensures ∙ c.if-has_reference.false) in
+    subst (λ xs. Makes (expanded_in (found_by c.args.definitions.now) (known_place c.args.definitions.now) c.args.within c.args.nodes.now) c.args.context.now c.loop-i.context xs) none
     (Replacing-all (found_by c.args.definitions.now) (known_place c.args.definitions.now) c.args.within c.args.nodes.now c.args.context.now c.loop-i.context c.loop-i.nodes c.loop-i.i c.loop-i.invariant.replacing (omega (arith, c.loop-i.invariant.replacing.same.same_len, c.len-i-end.ensures)))

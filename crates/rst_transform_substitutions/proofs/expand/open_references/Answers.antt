@@ -1,18 +1,12 @@
 use Rattle.std.proofs.Common.{◌≡◌, rules, sym, ◌∙◌, ap}
-use Rattle.std.specs.List.{flat_map, list_any}
+use Rattle.std.specs.List.{flat_map}
 use Rattle.std.proofs.lemmas.List.{map-id}
 use Rattle.std.proofs.lemmas.Iterator.Consumers.{YieldsList-end}
 use Rattle.std.proofs.lemmas.Iterator.Adapters.{YieldsList-from_vec}
 use Rattle.rst_tree.specs.Nodes.{nodes_of}
 use Rattle.rst_tree.proofs.Changes.{nodes_of-forest_of}
-use Rattle.rst_transform_substitutions.specs.Expanded.{is_reference_node, opened}
-use Rattle.rst_transform_substitutions.proofs.Replacing.{none_opened}
+use Rattle.rst_transform_substitutions.specs.Expanded.{opened}
 use Rattle.rst_transform_substitutions.proofs.expand.open_references.Goals as goal
-
-pub returns-then-not-has_reference : goal.returns-then-not-has_reference
-returns-then-not-has_reference c =
-    let are = ap nodes_of c.as_slice.ensures ∙ nodes_of-forest_of c.as_slice.result.now in
-    sym (none_opened (nodes_of c.args.nodes.now) (ap (list_any is_reference_node) are ∙ sym c.has_reference.ensures ∙ c.if-not-has_reference.true))
 
 pub returns : goal.returns
 returns c =

@@ -1,6 +1,8 @@
-use Rattle.std.proofs.Common.{rules, arith, ◌+◌, ◌≤◌, refl}
+use Rattle.std.proofs.Common.{rules, arith, ◌+◌, ◌≤◌, ◌∙◌, refl, sym}
+use Rattle.std.proofs.lemmas.List.{append-nil}
 use Rattle.rst_tree.specs.Forest.{height}
 use Rattle.rst_tree.proofs.PrintedParts.{inside_lower}
+use Rattle.rst_transform_work.proofs.Plain.{nothing_gathered}
 use Rattle.rst_transform_substitutions.specs.Definitions.{definitions_among, own_definition}
 use Rattle.rst_transform_substitutions.specs.Numbering.{names_said, own_name}
 use Rattle.rst_transform_substitutions.proofs.Defining.{past_text, past_element, at_end}
@@ -15,6 +17,18 @@ add_listed-requires t c =
 
 pub loop-node-init : goal.loop-node-init
 loop-node-init t c = record { definitions = rw (c.as_slice-node-items.ensures) refl; names = rw (c.as_slice-node-items.ensures) refl }
+
+pub loop-node-preserved-then-are_plain : goal.loop-node-preserved-then-are_plain
+loop-node-preserved-then-are_plain t c =
+    let plain = sym c.are_plain.ensures ∙ c.if-are_plain.true in
+    let no_definition = nothing_gathered definitions_among (λ t. refl) c.in-Element.children plain in
+    let no_name = nothing_gathered names_said (λ t. refl) c.in-Element.children plain in
+    record {
+      definitions = past_element definitions_among own_definition c.as_slice-node-items.result.now c.loop-node.node-index c.node-item.result c.in-Element.tag c.in-Element.attrs c.in-Element.children c.in-Element.line _ _ _ _ (λ r. refl)
+          c.loop-node-test.true c.node-item.is c.in-Element.is c.in_ok-add_own-in-Element.ensures.definition (rw no_definition (sym (append-nil _))) c.loop-node.invariant.definitions;
+      names = past_element names_said (λ t a c. own_name t a) c.as_slice-node-items.result.now c.loop-node.node-index c.node-item.result c.in-Element.tag c.in-Element.attrs c.in-Element.children c.in-Element.line _ _ _ _ (λ r. refl)
+          c.loop-node-test.true c.node-item.is c.in-Element.is c.in_ok-add_own-in-Element.ensures.name (rw no_name (sym (append-nil _))) c.loop-node.invariant.names;
+    }
 
 pub loop-node-preserved : goal.loop-node-preserved
 loop-node-preserved t c = record {

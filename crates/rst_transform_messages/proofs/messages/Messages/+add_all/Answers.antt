@@ -1,7 +1,9 @@
-use Rattle.std.proofs.Common.{rules, arith, ◌+◌, ◌≤◌, sym, ◌∙◌}
+use Rattle.std.proofs.Common.{rules, arith, ◌+◌, ◌≤◌, sym, ◌∙◌, refl}
 use Rattle.rst_tree.specs.Forest.{height}
 use Rattle.rst_tree.proofs.PrintedParts.{inside_lower}
-use Rattle.rst_transform_messages.proofs.Listing.{past_text, past_message, past_element}
+use Rattle.rst_transform_work.proofs.Plain.{nothing_gathered}
+use Rattle.rst_transform_messages.specs.MessagesIn.{messages_among}
+use Rattle.rst_transform_messages.proofs.Listing.{Adds-none, past_text, past_message, past_element}
 use Rattle.rst_transform_messages.proofs.messages.Messages.+add_all.Goals as goal
 
 pub add_all-requires : goal.add_all-requires
@@ -22,6 +24,14 @@ loop-node-preserved-then-is_message t c = record {
   levels = search rules;
   adds = past_message c.as_slice-node-items.result.now c.loop-node.node-index c.node-item.result c.in-Element.tag c.in-Element.attrs c.in-Element.children c.in-Element.line _ c.loop-node.self c.add.new.self
       c.loop-node-test.true c.node-item.is c.in-Element.is (sym c.if-is_message.true ∙ c.is_message.ensures) c.loop-node.invariant.adds c.in_ok-add-in-Element.ensures.adds;
+}
+
+pub loop-node-preserved-then-are_plain : goal.loop-node-preserved-then-are_plain
+loop-node-preserved-then-are_plain t c = record {
+  levels = c.loop-node.invariant.levels;
+  adds = past_element c.as_slice-node-items.result.now c.loop-node.node-index c.node-item.result c.in-Element.tag c.in-Element.attrs c.in-Element.children c.in-Element.line _ c.loop-node.self c.loop-node.self
+      c.loop-node-test.true c.node-item.is c.in-Element.is (sym c.if-is_message.false ∙ c.is_message.ensures) c.loop-node.invariant.adds
+      (rw (nothing_gathered messages_among (λ t. refl) c.in-Element.children (sym c.are_plain.ensures ∙ c.if-are_plain.true)) (Adds-none c.loop-node.self));
 }
 
 pub loop-node-preserved : goal.loop-node-preserved
