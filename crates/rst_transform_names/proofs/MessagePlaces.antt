@@ -1,20 +1,22 @@
 -- What is made of the nodes of an element, one node after the other, when the messages on names get their places.
-use Rattle.std.proofs.Common.{◌≡◌, ℕ, suc, ◌+◌, List, [], ◌∷◌, ◌++◌, length, Bool, true, false, not, Vec, Global, refl, sym, ap, ap₂, ◌∙◌, append_assoc}
+use Rattle.std.proofs.Common.{◌≡◌, ℕ, suc, ◌+◌, ◌<◌, ◌≤◌, List, [], ◌∷◌, ◌++◌, length, take, drop, get_or, set, Bool, true, false, not, refl, sym, subst, ap, ap₂, ◌∙◌, arith, append_assoc}
 use Rattle.std.specs.Prelude.{◌&&◌, ◌||◌, if◌then◌else◌}
-use Rattle.std.proofs.lemmas.List.{append-nil, length_push}
+use Rattle.std.proofs.lemmas.List.{append-nil, drop-set-lt, drop_all, take_all, take_more_set}
 use Rattle.rst_tree.specs.declared.attrs.Attr.{Attr}
 use Rattle.rst_tree.specs.declared.node.Node.{Node}
 use Rattle.rst_tree.specs.declared.node.Node.TheVariants.{Element, Text}
 use Rattle.rst_tree.specs.declared.tag.Tag.{Tag}
 use Rattle.rst_tree.specs.declared.tag.Tag.TheVariants.{Definition, FieldBody}
 use Rattle.rst_tree.specs.Forest.{Forest, bare, element, words}
-use Rattle.rst_tree.specs.Nodes.{forest_of, nodes_of}
+use Rattle.rst_tree.specs.Nodes.{forest_of, join_node, nodes_of}
+use Rattle.rst_tree.proofs.Changes.{forest_of-nodes_of, nodes_of-forest_of}
+use Rattle.rst_tree.proofs.EachNode.{drop_item}
+use Rattle.rst_tree.proofs.Rewrites.{Same, Same-init, Same-more}
 use Rattle.rst_transform_names.specs.declared.inside.Inside.{Inside}
-use Rattle.rst_transform_names.specs.declared.inside.OwnMessage.{OwnMessage}
-use Rattle.rst_transform_names.specs.declared.weaving.TextMessages.{TextMessages}
-use Rattle.rst_transform_names.specs.NameMessages.{after_own, after_texts, ahead, all_at, before_nodes, filled, goes_in, goes_out, is_passed_over, left_waiting, messages_of, on_inline, outside, own_block, own_inline, own_messages, placed_in, takes_in, texts, texts_out, waiting, with_messages, woven, OfText}
-use Rattle.rst_transform_names.specs.PlacingMessages.{all_placed, of_texts, pairs, texts_of, IsBare, IsInside, IsOwn, Puts}
-use Rattle.rst_transform_names.proofs.MessageGaps.{next_made}
+use Rattle.rst_transform_names.specs.declared.inside.Outside.{Outside}
+use Rattle.rst_transform_names.specs.NameMessages.{after_own, after_texts, ahead, all_at, before_nodes, filled, goes_in, goes_out, is_passed_over, left_waiting, messages_of, on_inline, outside, own_block, own_inline, own_section, placed_in, takes_in, texts, texts_out, waiting, with_messages, woven, OfText}
+use Rattle.rst_transform_names.specs.PlacingMessages.{nodes_with, of_texts, pairs, texts_of, IsBare, IsInside, IsOutside, Puts}
+use Rattle.rst_transform_names.proofs.MessageGaps.{next_made, woven-none}
 
 -- ---- choices
 
@@ -51,106 +53,140 @@ module _ (own : List Attr → List Node) where
   filled-length p before (words t r) = ap suc (filled-length p before r)
   filled-length p before (element t a c l r) = ap suc (filled-length p (waiting own p before t a c) r)
 
-  -- what is made of some nodes, with what the definition says of those that are left, is what it says of all
-  pub record Filling (p : Tag) (all : Forest) (made : Inside) (rest : Forest) : Type 0 where
-    pub nodes : made.nodes.items ++ filled own p (of_texts made.waiting.items) rest ≡ filled own p [] all
+  -- what is made of so many nodes, with what the definition says of those that are left, is what it says of all
+  pub record Made (p : Tag) (all : Forest) (done : List Node) (made : Inside) (place : ℕ) (rest : Forest) : Type 0 where
+    pub tag : made.tag ≡ p
+    pub nodes : done ++ filled own p (of_texts made.waiting.items) rest ≡ filled own p [] all
     pub on_inline : made.on_inline.items ++ on_inline own rest ≡ on_inline own all
     pub ahead : made.ahead.items ++ (if is_passed_over p then ahead own rest else []) ≡ (if is_passed_over p then ahead own all else [])
-    pub before_nodes : pairs made.before_nodes.items ++ (if is_passed_over p then [] else before_nodes own (length made.nodes.items) rest) ≡ (if is_passed_over p then [] else before_nodes own 0 all)
+    pub before_nodes : pairs made.before_nodes.items ++ (if is_passed_over p then [] else before_nodes own place rest) ≡ (if is_passed_over p then [] else before_nodes own 0 all)
     pub texts_out : of_texts made.texts_out.items ++ texts_out own p rest ≡ texts_out own p all
-    pub after_texts : pairs made.after_texts.items ++ after_texts own p (length made.nodes.items) rest ≡ after_texts own p 0 all
+    pub after_texts : pairs made.after_texts.items ++ after_texts own p place rest ≡ after_texts own p 0 all
     pub waiting : left_waiting own p (of_texts made.waiting.items) rest ≡ left_waiting own p [] all
 
-  pub Filling-init : (p : Tag) (all : Forest) (made : Inside) → IsBare made → Filling p all made all
-  Filling-init p all made none = record {
-    nodes = ap₂ (λ ns ws. ns ++ filled own p (of_texts ws) all) none.nodes none.waiting;
-    on_inline = ap (λ ns. ns ++ on_inline own all) none.on_inline;
-    ahead = ap (λ ns. ns ++ (if is_passed_over p then ahead own all else [])) none.ahead;
-    before_nodes = ap₂ (λ ps (ns : List Node). pairs ps ++ (if is_passed_over p then [] else before_nodes own (length ns) all)) none.before_nodes none.nodes;
-    texts_out = ap (λ ts. of_texts ts ++ texts_out own p all) none.texts_out;
-    after_texts = ap₂ (λ ps (ns : List Node). pairs ps ++ after_texts own p (length ns) all) none.after_texts none.nodes;
-    waiting = ap (λ ws. left_waiting own p (of_texts ws) all) none.waiting;
+  -- the nodes before a place are filled
+  pub record Filling (p : Tag) (all now : Forest) (made : Inside) (place : ℕ) : Type 0 where
+    pub same : Same all now place
+    pub so_far : Made p all (take place (nodes_of now)) made place (forest_of (drop place (nodes_of now)))
+
+  pub Filling-init : (p : Tag) (all : Forest) (made : Inside) → made.tag ≡ p → IsBare made → Filling p all all made 0
+  Filling-init p all made tag none = record {
+    same = Same-init all;
+    so_far = record {
+      tag = tag;
+      nodes = rw (none.waiting, forest_of-nodes_of all) refl;
+      on_inline = rw (none.on_inline, forest_of-nodes_of all) refl;
+      ahead = rw (none.ahead, forest_of-nodes_of all) refl;
+      before_nodes = rw (none.before_nodes, forest_of-nodes_of all) refl;
+      texts_out = rw (none.texts_out, forest_of-nodes_of all) refl;
+      after_texts = rw (none.after_texts, forest_of-nodes_of all) refl;
+      waiting = rw (none.waiting, forest_of-nodes_of all) refl;
+    };
   }
 
-  pub Filling-text : (p : Tag) (all : Forest) (made : Inside) (nodes : Vec Node Global) (t : List ℕ) (r : Forest) → Filling p all made (words t r)
-      → nodes.items ≡ made.nodes.items ++ Text t ∷ [] → Filling p all (record made { nodes = nodes }) r
-  Filling-text p all made nodes t r h push =
-      let place : length nodes.items ≡ length made.nodes.items + 1 = ap length push ∙ length_push made.nodes.items (Text t) in
-      record {
-        nodes = next_made made.nodes.items nodes.items (Text t ∷ []) (filled own p (of_texts made.waiting.items) r) (filled own p [] all) push h.nodes;
+  -- one more node is filled
+  Filling-more : (p : Tag) (all now : Forest) (made next : Inside) (place : ℕ) (old new : Node) → Filling p all now made place → place < length (nodes_of now) → old ≡ get_or (nodes_of now) place old
+      → ((done : List Node) (rest : Forest) → Made p all done made place (join_node old rest) → Made p all (done ++ new ∷ []) next (place + 1) rest) → Filling p all (forest_of (set (nodes_of now) place new)) next (place + 1)
+  Filling-more p all now made next place old new h fits is step =
+      let ns = nodes_of now in
+      let set_is : nodes_of (forest_of (set ns place new)) ≡ set ns place new = nodes_of-forest_of (set ns place new) in
+      let kept : drop (place + 1) (set ns place new) ≡ drop (place + 1) ns = drop-set-lt (place + 1) ns place new (omega arith) in
+      let here : Made p all (take place ns) made place (join_node old (forest_of (drop (place + 1) ns))) = subst (λ left. Made p all (take place ns) made place (forest_of left)) (drop_item ns place old fits is) h.so_far in
+      record { same = Same-more all now place new h.same fits; so_far = rw (set_is, take_more_set ns place new fits, kept) (step (take place ns) (forest_of (drop (place + 1) ns)) here) }
+
+  pub Filling-text : (p : Tag) (all now : Forest) (made : Inside) (place : ℕ) (old : Node) (t : List ℕ) → Filling p all now made place → place < length (nodes_of now) → old ≡ get_or (nodes_of now) place old → old ≡ Text t
+      → Filling p all (forest_of (set (nodes_of now) place old)) made (place + 1)
+  Filling-text p all now made place old t h fits at is =
+      Filling-more p all now made made place old old h fits at (λ done rest before. rw is (more done rest (rw is at before)))
+    where
+      more : (done : List Node) (rest : Forest) → Made p all done made place (words t rest) → Made p all (done ++ Text t ∷ []) made (place + 1) rest
+      more done rest h = record {
+        tag = h.tag;
+        nodes = append_assoc done (Text t ∷ []) (filled own p (of_texts made.waiting.items) rest) ∙ h.nodes;
         on_inline = h.on_inline;
         ahead = h.ahead;
-        before_nodes = ap (λ i. pairs made.before_nodes.items ++ (if is_passed_over p then [] else before_nodes own i r)) place ∙ h.before_nodes;
+        before_nodes = h.before_nodes;
         texts_out = h.texts_out;
-        after_texts = ap (λ i. pairs made.after_texts.items ++ after_texts own p i r) place ∙ h.after_texts;
+        after_texts = h.after_texts;
         waiting = h.waiting;
       }
 
-  module _ (t : Tag) (a : List Attr) (c : Forest) (message : OwnMessage) (inside : Inside) (is_own : IsOwn own t a message) (is_inside : IsInside own t c inside) where
-    -- all messages among the nodes of an element
-    placed_all : (given : List TextMessages) (wanted : List OfText) → of_texts given ≡ wanted
-        → all_placed inside.nodes.items given inside.after_texts.items message.section.items inside.before_nodes.items inside.waiting.items ≡ placed_in own wanted t a c
-    placed_all given wanted is =
-        let count : length inside.nodes.items ≡ length (nodes_of c) = ap length is_inside.nodes ∙ filled-length t [] c in
-        rw (is, is_inside.after_texts, is_own.section, is_inside.before_nodes, count, is_inside.waiting) refl
+  module _ (t : Tag) (a : List Attr) (c filled_c : Forest) (message : List Node) (inside : Inside) (is_own : message ≡ own a) (is_inside : IsInside own t c filled_c inside) where
+    -- the nodes of an element with all messages among them
+    nodes_are : (given : List OfText) → nodes_with given (own_section (λ _. message) t a) inside filled_c ≡ forest_of (woven 0 (placed_in own given t a c) (filled own t [] c))
+    nodes_are given =
+        let nodes : nodes_of filled_c ≡ filled own t [] c = ap nodes_of is_inside.nodes ∙ nodes_of-forest_of (filled own t [] c) in
+        let count : length (nodes_of filled_c) ≡ length (nodes_of c) = ap length nodes ∙ filled-length t [] c in
+        rw (is_own, is_inside.after_texts, is_inside.before_nodes, count, is_inside.waiting, nodes) refl
 
-    woven_all : (given : List TextMessages) (wanted : List OfText) → of_texts given ≡ wanted
-        → woven 0 (all_placed inside.nodes.items given inside.after_texts.items message.section.items inside.before_nodes.items inside.waiting.items) inside.nodes.items ≡ woven 0 (placed_in own wanted t a c) (filled own t [] c)
-    woven_all given wanted is = ap₂ (λ placed nodes. woven 0 placed nodes) (placed_all given wanted is) is_inside.nodes
+    texts_are : texts_of a inside ≡ texts own t a c
+    texts_are = rw (is_inside.tag, is_inside.on_inline, is_inside.texts_out) refl
 
-    texts_are : texts_of t a inside ≡ texts own t a c
-    texts_are = ap₂ (λ i o. (own_messages t a, i) ∷ o) is_inside.on_inline is_inside.texts_out
-
-    pub Filling-element : (p : Tag) (all : Forest) (made next : Inside) (l : ℕ) (r : Forest) → Filling p all made (element t a c l r) → Puts p t a l message inside made next → Filling p all next r
-    Filling-element p all made next l r h puts =
+    element_made : (p : Tag) (all : Forest) (done : List Node) (made next : Inside) (place l : ℕ) (woven_c rest : Forest) → Made p all done made place (element t a c l rest) → Puts p place t a message inside filled_c woven_c made next
+        → Made p all (done ++ Element t a woven_c l ∷ []) next (place + 1) rest
+    element_made p all done made next place l woven_c rest h puts =
         let before = of_texts made.waiting.items in
-        let n = length made.nodes.items in
         let node : Node = Element t a (forest_of (woven 0 (placed_in own (if takes_in t then before else []) t a c) (filled own t [] c))) l in
-        let push : next.nodes.items ≡ made.nodes.items ++ node ∷ [] =
-        puts.nodes ∙ ap (λ ns. made.nodes.items ++ Element t a (forest_of ns) l ∷ []) (woven_all puts.given (if takes_in t then before else []) puts.are_given) in
-        let place : length next.nodes.items ≡ n + 1 = ap length push ∙ length_push made.nodes.items node in
+        let node_is : Element t a woven_c l ≡ node = ap (λ ns. Element t a ns l) (puts.nodes ∙ nodes_are (if takes_in t then before else [])) in
         let wait : of_texts next.waiting.items ≡ waiting own p before t a c =
         puts.waiting ∙ ap (λ ts. (if takes_in t then [] else before) ++ (if goes_in t && not (goes_out p t) then ts else [])) texts_are
         ∙ waiting_by (takes_in t) (goes_in t) (goes_out p t) before (texts own t a c) (takes_or_goes t) in
         let first : List Node = (if is_passed_over t then ahead own c else []) ++ own_block own t a in
-        let here : inside.ahead.items ++ message.block.items ≡ first = ap₂ (λ x y. x ++ y) is_inside.ahead is_own.block in
+        let first_is : inside.ahead.items ++ own_block (λ _. message) t a ≡ first = rw (is_inside.ahead, is_own) refl in
         record {
-          nodes = ap (λ ws. next.nodes.items ++ filled own p ws r) wait
-              ∙ next_made made.nodes.items next.nodes.items (node ∷ []) (filled own p (waiting own p before t a c) r) (filled own p [] all) push h.nodes;
-          on_inline = next_made made.on_inline.items next.on_inline.items (own_inline own t a) (on_inline own r) (on_inline own all)
-              (puts.on_inline ∙ ap (λ ns. made.on_inline.items ++ ns) is_own.inline) h.on_inline;
-          ahead = next_made made.ahead.items next.ahead.items (if is_passed_over p then first else []) (if is_passed_over p then ahead own r else []) _
-              (puts.ahead ∙ ap (λ ns. made.ahead.items ++ (if is_passed_over p then ns else [])) here)
-              (ap (λ ns. made.ahead.items ++ ns) (sym (then_split (is_passed_over p) (if is_passed_over t then ahead own c else []) (own_block own t a) (ahead own r))) ∙ h.ahead);
-          before_nodes = ap (λ i. pairs next.before_nodes.items ++ (if is_passed_over p then [] else before_nodes own i r)) place
-              ∙ next_made (pairs made.before_nodes.items) (pairs next.before_nodes.items) (if is_passed_over p then [] else all_at n first) (if is_passed_over p then [] else before_nodes own (n + 1) r) _
-              (puts.before_nodes ∙ ap (λ ns. pairs made.before_nodes.items ++ (if is_passed_over p then [] else all_at n ns)) here)
-              (ap (λ ps. pairs made.before_nodes.items ++ ps) (sym (else_split (is_passed_over p) (all_at n first) (before_nodes own (n + 1) r))) ∙ h.before_nodes);
-          texts_out = next_made (of_texts made.texts_out.items) (of_texts next.texts_out.items) (if goes_out p t then texts own t a c else []) (texts_out own p r) (texts_out own p all)
-              (puts.texts_out ∙ ap (λ ts. of_texts made.texts_out.items ++ (if goes_out p t then ts else [])) texts_are) h.texts_out;
-          after_texts = ap (λ i. pairs next.after_texts.items ++ after_texts own p i r) place
-              ∙ next_made (pairs made.after_texts.items) (pairs next.after_texts.items) (if goes_out p t || goes_in t then [] else after_own (n + 1) (texts own t a c)) (after_texts own p (n + 1) r) (after_texts own p 0 all)
-              (puts.after_texts ∙ ap (λ ts. pairs made.after_texts.items ++ (if goes_out p t || goes_in t then [] else after_own (n + 1) ts)) texts_are) h.after_texts;
-          waiting = ap (λ ws. left_waiting own p ws r) wait ∙ h.waiting;
+          tag = puts.tag ∙ h.tag;
+          nodes = rw (node_is, wait, append_assoc done (node ∷ []) (filled own p (waiting own p before t a c) rest)) h.nodes;
+          on_inline = next_made made.on_inline.items next.on_inline.items (own_inline own t a) (on_inline own rest) (on_inline own all) (rw is_own at puts.on_inline) h.on_inline;
+          ahead = next_made made.ahead.items next.ahead.items (if is_passed_over p then first else []) (if is_passed_over p then ahead own rest else []) _ (rw first_is at puts.ahead)
+              (ap (λ ns. made.ahead.items ++ ns) (sym (then_split (is_passed_over p) (if is_passed_over t then ahead own c else []) (own_block own t a) (ahead own rest))) ∙ h.ahead);
+          before_nodes = next_made (pairs made.before_nodes.items) (pairs next.before_nodes.items) (if is_passed_over p then [] else all_at place first) (if is_passed_over p then [] else before_nodes own (place + 1) rest) _ (rw first_is at puts.before_nodes)
+              (ap (λ ps. pairs made.before_nodes.items ++ ps) (sym (else_split (is_passed_over p) (all_at place first) (before_nodes own (place + 1) rest))) ∙ h.before_nodes);
+          texts_out = next_made (of_texts made.texts_out.items) (of_texts next.texts_out.items) (if goes_out p t then texts own t a c else []) (texts_out own p rest) (texts_out own p all)
+              (rw texts_are at puts.texts_out) h.texts_out;
+          after_texts = next_made (pairs made.after_texts.items) (pairs next.after_texts.items) (if goes_out p t || goes_in t then [] else after_own (place + 1) (texts own t a c)) (after_texts own p (place + 1) rest) (after_texts own p 0 all)
+              (puts.after_texts ∙ ap (λ ts. pairs made.after_texts.items ++ (if goes_out p t || goes_in t then [] else after_own (place + 1) ts)) texts_are) h.after_texts;
+          waiting = ap (λ ws. left_waiting own p ws rest) wait ∙ h.waiting;
         }
 
-    -- the outermost element, with the messages that would have their places outside of it as its last nodes
-    pub root_filled : (l : ℕ) (all : List Node)
-        → all ≡ woven 0 (all_placed inside.nodes.items [] inside.after_texts.items message.section.items inside.before_nodes.items inside.waiting.items) inside.nodes.items
-        ++ (inside.ahead.items ++ (inside.on_inline.items ++ messages_of (of_texts inside.texts_out.items)))
-        → Element t a (forest_of all) l ≡ with_messages own (Element t a c l)
-    root_filled l all is =
-        let last : inside.ahead.items ++ (inside.on_inline.items ++ messages_of (of_texts inside.texts_out.items)) ≡ outside own t a c =
-        ap₂ (λ x y. x ++ y) is_inside.ahead (ap₂ (λ x y. x ++ messages_of y) is_inside.on_inline is_inside.texts_out) in
-        ap (λ ns. Element t a (forest_of ns) l) (is ∙ ap₂ (λ x y. x ++ y) (woven_all [] [] refl) last)
+    pub Filling-element : (p : Tag) (all now : Forest) (made next : Inside) (place l : ℕ) (old : Node) (woven_c : Forest) → Filling p all now made place → place < length (nodes_of now) → old ≡ get_or (nodes_of now) place old
+        → old ≡ Element t a c l → Puts made.tag place inside.tag a message inside filled_c woven_c made next → Filling p all (forest_of (set (nodes_of now) place (Element t a woven_c l))) next (place + 1)
+    Filling-element p all now made next place l old woven_c h fits at is puts =
+        let of_kind = subst (λ q. Puts q place inside.tag a message inside filled_c woven_c made next) h.so_far.tag puts in
+        let there = subst (λ u. Puts p place u a message inside filled_c woven_c made next) is_inside.tag of_kind in
+        Filling-more p all now made next place old (Element t a woven_c l) h fits at (λ done rest before. element_made p all done made next place l woven_c rest (rw is at before) there)
 
-  pub Filling-all : (p : Tag) (all : Forest) (made : Inside) → Filling p all made bare → IsInside own p all made
-  Filling-all p all made h = record {
-    nodes = sym (append-nil made.nodes.items) ∙ h.nodes;
-    on_inline = sym (append-nil made.on_inline.items) ∙ h.on_inline;
-    ahead = sym (ap (λ ns. made.ahead.items ++ ns) (either_none (is_passed_over p)) ∙ append-nil made.ahead.items) ∙ h.ahead;
-    before_nodes = sym (ap (λ ps. pairs made.before_nodes.items ++ ps) (either_none (is_passed_over p)) ∙ append-nil (pairs made.before_nodes.items)) ∙ h.before_nodes;
-    texts_out = sym (append-nil (of_texts made.texts_out.items)) ∙ h.texts_out;
-    after_texts = sym (append-nil (pairs made.after_texts.items)) ∙ h.after_texts;
-    waiting = h.waiting;
-  }
+    -- the outermost element, with the messages that would have their places outside of it as its last nodes
+    pub root_filled : (l : ℕ) (woven_c all : Forest) (out : Outside) → woven_c ≡ nodes_with [] (own_section (λ _. message) t a) inside filled_c → IsOutside a inside out
+        → all ≡ forest_of (nodes_of woven_c ++ (out.ahead.items ++ messages_of (of_texts out.texts.items))) → Element t a all l ≡ with_messages own (Element t a c l)
+    root_filled l woven_c all out is is_out last =
+        let nodes : nodes_of woven_c ≡ woven 0 (placed_in own [] t a c) (filled own t [] c) = ap nodes_of (is ∙ nodes_are []) ∙ nodes_of-forest_of (woven 0 (placed_in own [] t a c) (filled own t [] c)) in
+        let others : out.ahead.items ++ messages_of (of_texts out.texts.items) ≡ outside own t a c = ap₂ (λ x y. x ++ messages_of y) (is_out.ahead ∙ is_inside.ahead) (is_out.texts ∙ texts_are) in
+        ap (λ ns. Element t a ns l) (last ∙ ap forest_of (ap₂ (λ x y. x ++ y) nodes others))
+
+  pub Filling-all : (p : Tag) (all now : Forest) (made : Inside) (place : ℕ) → Filling p all now made place → length (nodes_of now) ≤ place → IsInside own p all now made
+  Filling-all p all now made place filling end =
+      let h : Made p all (nodes_of now) made place bare = rw (take_all place (nodes_of now) end, drop_all place (nodes_of now) end) at filling.so_far in
+      record {
+        tag = h.tag;
+        nodes = sym (forest_of-nodes_of now) ∙ ap forest_of (sym (append-nil (nodes_of now)) ∙ h.nodes);
+        on_inline = sym (append-nil made.on_inline.items) ∙ h.on_inline;
+        ahead = sym (ap (λ ns. made.ahead.items ++ ns) (either_none (is_passed_over p)) ∙ append-nil made.ahead.items) ∙ h.ahead;
+        before_nodes = sym (ap (λ ps. pairs made.before_nodes.items ++ ps) (either_none (is_passed_over p)) ∙ append-nil (pairs made.before_nodes.items)) ∙ h.before_nodes;
+        texts_out = sym (append-nil (of_texts made.texts_out.items)) ∙ h.texts_out;
+        after_texts = sym (append-nil (pairs made.after_texts.items)) ∙ h.after_texts;
+        waiting = h.waiting;
+      }
+
+-- an element without messages in it leaves its nodes and what is made of others as they are
+pub puts_nothing : (p : Tag) (place : ℕ) (a : List Attr) (message : List Node) (inside before : Inside) (nodes : Forest) → message ≡ [] → IsBare inside → goes_out p inside.tag ≡ false → goes_in inside.tag ≡ false → takes_in inside.tag ≡ false
+    → Puts p place inside.tag a message inside nodes nodes before before
+puts_nothing p place a message inside before nodes none nothing out into takes = record {
+  tag = refl;
+  nodes = sym (simp (none, nothing.after_texts, nothing.before_nodes, nothing.waiting, takes, either_none, woven-none, forest_of-nodes_of));
+  on_inline = sym (simp (none, either_none, append-nil));
+  ahead = sym (simp (none, nothing.ahead, either_none, append-nil));
+  before_nodes = sym (simp (none, nothing.ahead, either_none, append-nil));
+  texts_out = sym (simp (out, append-nil));
+  after_texts = sym (simp (nothing.on_inline, nothing.texts_out, either_none, append-nil));
+  waiting = sym (simp (into, takes, append-nil));
+}

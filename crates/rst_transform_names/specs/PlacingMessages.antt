@@ -2,11 +2,11 @@
 use Rattle.std.specs.Prelude.{◌≡◌, ℕ, zero, suc, ◌+◌, ◌||◌, ◌&&◌, not, if◌then◌else◌, List, [], ◌∷◌, ◌++◌, map, length, Vec}
 use Rattle.rst_tree.specs.declared.attrs.Attr.{Attr}
 use Rattle.rst_tree.specs.declared.node.Node.{Node}
-use Rattle.rst_tree.specs.declared.node.Node.TheVariants.{Element}
 use Rattle.rst_tree.specs.declared.tag.Tag.{Tag}
 use Rattle.rst_tree.specs.Forest.{Forest}
-use Rattle.rst_tree.specs.Nodes.{forest_of}
+use Rattle.rst_tree.specs.Nodes.{forest_of, nodes_of}
 use Rattle.rst_transform_names.specs.declared.inside.Inside.{Inside}
+use Rattle.rst_transform_names.specs.declared.inside.Outside.{Outside}
 use Rattle.rst_transform_names.specs.declared.inside.OwnMessage.{OwnMessage}
 use Rattle.rst_transform_names.specs.declared.weaving.PlacedMessage.{PlacedMessage}
 use Rattle.rst_transform_names.specs.declared.weaving.TextMessages.{TextMessages}
@@ -35,12 +35,6 @@ with_gaps [] nodes = []
 with_gaps (gap ∷ more) [] = gap ++ with_gaps more []
 with_gaps (gap ∷ more) (n ∷ ns) = gap ++ n ∷ with_gaps more ns
 
--- All messages among some nodes of an element, in the order that counts at one place: those of the terms or the field name before the element,
--- those after texts, that on a section's name, those before nodes, and those of the terms or field names that wait.
-abbrev pub all_placed : List Node → List TextMessages → List PlacedMessage → List PlacedMessage → List PlacedMessage → List TextMessages → Placed
-all_placed nodes given after_texts section before_nodes waiting =
-    after_own 0 (of_texts given) ++ (pairs after_texts ++ (pairs section ++ (pairs before_nodes ++ after_own (length nodes) (of_texts waiting))))
-
 -- the message on the name of an element is where it has its place
 pub record IsOwn (own : List Attr → List Node) (t : Tag) (a : List Attr) (message : OwnMessage) : Type 0 where
   pub section : pairs message.section.items ≡ own_section own t a
@@ -49,8 +43,9 @@ pub record IsOwn (own : List Attr → List Node) (t : Tag) (a : List Attr) (mess
 
 -- What is made of the nodes of an element of a kind is what the definition says: the nodes with their messages, and the messages that get their
 -- places with the element. Those that come before elements among the nodes come ahead if the element is passed over.
-pub record IsInside (own : List Attr → List Node) (p : Tag) (c : Forest) (made : Inside) : Type 0 where
-  pub nodes : made.nodes.items ≡ filled own p [] c
+pub record IsInside (own : List Attr → List Node) (p : Tag) (c filled_c : Forest) (made : Inside) : Type 0 where
+  pub tag : made.tag ≡ p
+  pub nodes : filled_c ≡ forest_of (filled own p [] c)
   pub on_inline : made.on_inline.items ≡ on_inline own c
   pub ahead : made.ahead.items ≡ (if is_passed_over p then ahead own c else [])
   pub before_nodes : pairs made.before_nodes.items ≡ (if is_passed_over p then [] else before_nodes own 0 c)
@@ -60,7 +55,6 @@ pub record IsInside (own : List Attr → List Node) (p : Tag) (c : Forest) (made
 
 -- what is made of no node
 pub record IsBare (made : Inside) : Type 0 where
-  pub nodes : made.nodes.items ≡ []
   pub on_inline : made.on_inline.items ≡ []
   pub ahead : made.ahead.items ≡ []
   pub before_nodes : made.before_nodes.items ≡ []
@@ -68,18 +62,27 @@ pub record IsBare (made : Inside) : Type 0 where
   pub after_texts : made.after_texts.items ≡ []
   pub waiting : made.waiting.items ≡ []
 
--- the messages in an element's text and in those that have their messages where it has them
-abbrev pub texts_of : Tag → List Attr → Inside → List OfText
-texts_of t a inside = (own_messages t a, inside.on_inline.items) ∷ of_texts inside.texts_out.items
+-- The nodes of an element with all messages among them, in the order that counts at one place: those of the terms or the field name before the
+-- element, those after texts, that on a section's name, those before nodes, and those of the terms or field names that wait.
+abbrev pub nodes_with : List OfText → Placed → Inside → Forest → Forest
+nodes_with given section inside nodes =
+    forest_of (woven 0 (after_own 0 given ++ (pairs inside.after_texts.items ++ (section ++ (pairs inside.before_nodes.items ++ after_own (length (nodes_of nodes)) (of_texts inside.waiting.items))))) (nodes_of nodes))
 
--- One more element among nodes of an element of a kind, with the message on its own name and what was made of its nodes.
-pub record Puts (p t : Tag) (a : List Attr) (l : ℕ) (own : OwnMessage) (inside before after : Inside) : Type 0 where
-  pub given : List TextMessages
-  pub are_given : of_texts given ≡ (if takes_in t then of_texts before.waiting.items else [])
-  pub nodes : after.nodes.items ≡ before.nodes.items ++ Element t a (forest_of (woven 0 (all_placed inside.nodes.items given inside.after_texts.items own.section.items inside.before_nodes.items inside.waiting.items) inside.nodes.items)) l ∷ []
-  pub on_inline : after.on_inline.items ≡ before.on_inline.items ++ own.inline.items
-  pub ahead : after.ahead.items ≡ before.ahead.items ++ (if is_passed_over p then inside.ahead.items ++ own.block.items else [])
-  pub before_nodes : pairs after.before_nodes.items ≡ pairs before.before_nodes.items ++ (if is_passed_over p then [] else all_at (length before.nodes.items) (inside.ahead.items ++ own.block.items))
-  pub texts_out : of_texts after.texts_out.items ≡ of_texts before.texts_out.items ++ (if goes_out p t then texts_of t a inside else [])
-  pub after_texts : pairs after.after_texts.items ≡ pairs before.after_texts.items ++ (if goes_out p t || goes_in t then [] else after_own (length before.nodes.items + 1) (texts_of t a inside))
-  pub waiting : of_texts after.waiting.items ≡ (if takes_in t then [] else of_texts before.waiting.items) ++ (if goes_in t && not (goes_out p t) then texts_of t a inside else [])
+-- the messages in an element's text and in those that have their messages where it has them
+abbrev pub texts_of : List Attr → Inside → List OfText
+texts_of a inside = (own_messages inside.tag a, inside.on_inline.items) ∷ of_texts inside.texts_out.items
+
+pub record IsOutside (a : List Attr) (inside : Inside) (outside : Outside) : Type 0 where
+  pub ahead : outside.ahead.items ≡ inside.ahead.items
+  pub texts : of_texts outside.texts.items ≡ texts_of a inside
+
+-- One more element behind so many nodes of an element of a kind, with the message on its own name and what was made of its nodes.
+pub record Puts (p : Tag) (place : ℕ) (t : Tag) (a : List Attr) (own : List Node) (inside : Inside) (filled_c woven_c : Forest) (before after : Inside) : Type 0 where
+  pub tag : after.tag ≡ before.tag
+  pub nodes : woven_c ≡ nodes_with (if takes_in t then of_texts before.waiting.items else []) (own_section (λ _. own) t a) inside filled_c
+  pub on_inline : after.on_inline.items ≡ before.on_inline.items ++ own_inline (λ _. own) t a
+  pub ahead : after.ahead.items ≡ before.ahead.items ++ (if is_passed_over p then inside.ahead.items ++ own_block (λ _. own) t a else [])
+  pub before_nodes : pairs after.before_nodes.items ≡ pairs before.before_nodes.items ++ (if is_passed_over p then [] else all_at place (inside.ahead.items ++ own_block (λ _. own) t a))
+  pub texts_out : of_texts after.texts_out.items ≡ of_texts before.texts_out.items ++ (if goes_out p t then texts_of a inside else [])
+  pub after_texts : pairs after.after_texts.items ≡ pairs before.after_texts.items ++ (if goes_out p t || goes_in t then [] else after_own (place + 1) (texts_of a inside))
+  pub waiting : of_texts after.waiting.items ≡ (if takes_in t then [] else of_texts before.waiting.items) ++ (if goes_in t && not (goes_out p t) then texts_of a inside else [])

@@ -1,10 +1,11 @@
 //! The nodes of an element with the messages on equal names in them.
-ghost use Rattle.std.specs.Prelude.{◌≡◌, ◌+◌, ◌||◌, ◌&&◌, not, [], ◌∷◌, ◌++◌, length, if◌then◌else◌};
+ghost use Rattle.std.specs.Prelude.{◌≡◌, ◌+◌, ◌<◌, ◌^◌, ◌||◌, ◌&&◌, not, [], ◌∷◌, ◌++◌, if◌then◌else◌, IsTrue};
 ghost use Rattle.rst_tree.specs.Faults.{Gives};
 ghost use Rattle.rst_transform_names.specs.NameMessages as spec;
-ghost use Rattle.rst_transform_names.specs.PlacingMessages.{all_placed, of_texts, pairs, IsBare, IsOwn, Puts};
+ghost use Rattle.rst_tree.specs.Nodes.{forest_of, nodes_of};
+ghost use Rattle.rst_transform_names.specs.PlacingMessages.{nodes_with, of_texts, pairs, IsBare, IsOutside, IsOwn, Puts};
 
-use super::weaving::{PlacedMessage, TextMessages, put_after_own, put_at, woven};
+use super::weaving::{PlacedMessage, TextMessages, put_after_own, put_at, weave};
 use rst_tree::{Attrs, Children, Key, Node, Tag, TreeFault};
 use std::alloc::Global;
 use std::mem;
@@ -103,19 +104,11 @@ impl OwnMessage {
     }
 }
 
-/// An element without the nodes in it.
-#[derive(Drop)]
-pub struct Head {
-    pub tag: Tag,
-    pub attrs: Attrs,
-    pub line: usize,
-}
-
-/// What is made of the nodes of an element.
+/// What is made of the nodes of an element, besides these nodes.
 #[derive(Drop)]
 pub struct Inside {
-    /// The nodes, with the messages in each.
-    pub nodes: Vec<Node>,
+    /// The element's kind.
+    pub tag: Tag,
     /// The messages on the names of the elements that are part of a text.
     pub on_inline: Vec<Node>,
     /// Those that come before the element, which is a reference or a substitution definition.
@@ -131,60 +124,67 @@ pub struct Inside {
 }
 
 impl Inside {
-    /// What is made of no node, with room for so many.
-    pub fn with_room(alloc: Global, room: usize) -> Result<Inside, TreeFault>
-        ensures { Gives IsBare result }
+    /// What is made of no node.
+    pub fn none(alloc: Global, tag: Tag) -> Inside
+        ensures tag { result.tag ≡ tag }
+        ensures bare { IsBare result }
     {
-        Ok(Inside {
-            nodes: Vec::with_capacity(alloc, room)?,
+        Inside {
+            tag,
             on_inline: Vec::new(alloc),
             ahead: Vec::new(alloc),
             before_nodes: Vec::new(alloc),
             texts_out: Vec::new(alloc),
             after_texts: Vec::new(alloc),
             waiting: Vec::new(alloc),
-        })
+        }
     }
 
-    /// Puts one more element, with what was made of its nodes.
+    /// Whether there is no message and no text.
+    fn is_bare(&self) -> bool
+        ensures { IsTrue result → IsBare self.now }
+    {
+        self.on_inline.is_empty()
+            && self.ahead.is_empty()
+            && self.before_nodes.is_empty()
+            && self.texts_out.is_empty()
+            && self.after_texts.is_empty()
+            && self.waiting.is_empty()
+    }
+
+    /// Puts one more element behind so many nodes, with the message on its name and what was made of its nodes.
     pub fn put(
         &mut self,
         alloc: Global,
-        parent: Tag,
-        head: Head,
-        own: OwnMessage,
+        place: usize,
+        attrs: &Attrs,
+        nodes: &mut Children,
+        message: Vec<Node>,
         inside: Inside,
     ) -> Result<(), TreeFault>
-        ensures { Gives (λ _. Puts parent head.tag head.attrs head.line own inside self.old self.new) result }
+        requires { place + 1 < 2 ^ 64 }
+        ensures { Gives (λ _. Puts self.old.tag place inside.tag attrs.now message.items inside nodes.old nodes.new self.old self.new) result }
     {
-        let Head { tag, attrs, line } = head;
+        let tag = inside.tag;
+        if message.is_empty()
+            && inside.is_bare()
+            && !goes_out(self.tag, tag)
+            && !goes_in(tag)
+            && !takes_in(tag)
+        {
+            // So it is with most elements.
+            return Ok(());
+        }
         let OwnMessage {
             section,
-            inline,
+            mut inline,
             block,
-        } = own;
-        let mut inline = inline;
+        } = OwnMessage::of(alloc, tag, attrs, message)?;
         let given = self.given(alloc, tag);
+        let Outside { ahead, texts } = placed(alloc, attrs, nodes, given, section, inside)?;
         self.on_inline.append(&mut inline)?;
-        self.put_before(parent, inside.ahead, block)?;
-        let own = own_messages(tag, &attrs);
-        let texts = texts_of(alloc, own, inside.on_inline, inside.texts_out)?;
-        let nodes = with_placed(
-            alloc,
-            inside.nodes,
-            given,
-            inside.after_texts,
-            section,
-            inside.before_nodes,
-            inside.waiting,
-        )?;
-        self.nodes.push(Node::Element {
-            tag,
-            attrs,
-            children: Children::of(nodes),
-            line,
-        })?;
-        self.put_texts(parent, tag, texts)
+        self.put_before(place as u64, ahead, block)?;
+        self.put_texts(place as u64 + 1, tag, texts)
     }
 
     /// Takes the messages out that an element has of the terms or the field name before it.
@@ -199,41 +199,37 @@ impl Inside {
         Vec::new(alloc)
     }
 
-    /// Puts messages, those that come ahead of the nodes in an element and that on its own name, before an element that comes now.
+    /// Puts messages, those that come ahead of the nodes in an element and that on its own name, before an element behind so many
+    /// nodes.
     fn put_before(
         &mut self,
-        parent: Tag,
+        place: u64,
         ahead: Vec<Node>,
         block: Vec<Node>,
     ) -> Result<(), TreeFault>
-        ensures ahead { Gives (λ _. self.new.ahead.items ≡ self.old.ahead.items ++ (if spec.is_passed_over parent then ahead.items ++ block.items else [])) result }
-        ensures before_nodes { let here = spec.all_at (length self.old.nodes.items) (ahead.items ++ block.items) in Gives (λ _. pairs self.new.before_nodes.items ≡ pairs self.old.before_nodes.items ++ (if spec.is_passed_over parent then [] else here)) result }
+        ensures ahead { Gives (λ _. self.new.ahead.items ≡ self.old.ahead.items ++ (if spec.is_passed_over self.old.tag then ahead.items ++ block.items else [])) result }
+        ensures before_nodes { let here = spec.all_at place (ahead.items ++ block.items) in Gives (λ _. pairs self.new.before_nodes.items ≡ pairs self.old.before_nodes.items ++ (if spec.is_passed_over self.old.tag then [] else here)) result }
         ensures rest { Gives (λ _. self.new ≡ record self.old { ahead = self.new.ahead; before_nodes = self.new.before_nodes }) result }
     {
         let mut messages = ahead;
         let mut block = block;
         messages.append(&mut block)?;
-        if is_passed_over(parent) {
+        if is_passed_over(self.tag) {
             self.ahead.append(&mut messages)?;
             return Ok(());
         }
-        put_at(&mut self.before_nodes, self.nodes.len() as u64, messages)
+        put_at(&mut self.before_nodes, place, messages)
     }
 
-    /// Puts the messages of texts in an element that is the last node now.
-    fn put_texts(
-        &mut self,
-        parent: Tag,
-        tag: Tag,
-        texts: Vec<TextMessages>,
-    ) -> Result<(), TreeFault>
-        ensures texts_out { Gives (λ _. of_texts self.new.texts_out.items ≡ of_texts self.old.texts_out.items ++ (if spec.goes_out parent tag then of_texts texts.items else [])) result }
-        ensures waiting { Gives (λ _. of_texts self.new.waiting.items ≡ of_texts self.old.waiting.items ++ (if spec.goes_in tag && not (spec.goes_out parent tag) then of_texts texts.items else [])) result }
-        ensures after_texts { let here = spec.after_own (length self.old.nodes.items) (of_texts texts.items) in Gives (λ _. pairs self.new.after_texts.items ≡ pairs self.old.after_texts.items ++ (if spec.goes_out parent tag || spec.goes_in tag then [] else here)) result }
+    /// Puts the messages of texts in an element that ends so many nodes.
+    fn put_texts(&mut self, place: u64, tag: Tag, texts: Vec<TextMessages>) -> Result<(), TreeFault>
+        ensures texts_out { Gives (λ _. of_texts self.new.texts_out.items ≡ of_texts self.old.texts_out.items ++ (if spec.goes_out self.old.tag tag then of_texts texts.items else [])) result }
+        ensures waiting { Gives (λ _. of_texts self.new.waiting.items ≡ of_texts self.old.waiting.items ++ (if spec.goes_in tag && not (spec.goes_out self.old.tag tag) then of_texts texts.items else [])) result }
+        ensures after_texts { let here = spec.after_own place (of_texts texts.items) in Gives (λ _. pairs self.new.after_texts.items ≡ pairs self.old.after_texts.items ++ (if spec.goes_out self.old.tag tag || spec.goes_in tag then [] else here)) result }
         ensures rest { Gives (λ _. self.new ≡ record self.old { texts_out = self.new.texts_out; waiting = self.new.waiting; after_texts = self.new.after_texts }) result }
     {
         let mut texts = texts;
-        if goes_out(parent, tag) {
+        if goes_out(self.tag, tag) {
             self.texts_out.append(&mut texts)?;
             return Ok(());
         }
@@ -241,87 +237,71 @@ impl Inside {
             self.waiting.append(&mut texts)?;
             return Ok(());
         }
-        put_after_own(&mut self.after_texts, self.nodes.len() as u64, texts)
+        put_after_own(&mut self.after_texts, place, texts)
     }
 }
 
-/// The messages on the names in an element's text, which has so many of its own, and those of the texts in it that have theirs in
-/// the same place.
-fn texts_of(
+/// The messages of an element that come outside of it.
+#[derive(Drop)]
+pub struct Outside {
+    /// Those before the element, on the names of the elements in it.
+    pub ahead: Vec<Node>,
+    /// Those on the names in its text, and in the texts that have their messages where it has them.
+    pub texts: Vec<TextMessages>,
+}
+
+impl Outside {
+    /// Puts the messages behind the nodes of the element, which is the outermost one.
+    pub fn put_last(self, alloc: Global, nodes: &mut Children) -> Result<(), TreeFault>
+        ensures { Gives (λ _. nodes.new ≡ forest_of (nodes_of nodes.old ++ (self.ahead.items ++ spec.messages_of (of_texts self.texts.items)))) result }
+    {
+        let Outside { mut ahead, texts } = self;
+        let mut all = mem::replace(nodes, Children::new(alloc)).into_list();
+        all.append(&mut ahead)?;
+        for text in texts {
+            let mut text = text;
+            all.append(&mut text.messages)?;
+        }
+        *nodes = Children::of(all);
+        Ok(())
+    }
+}
+
+/// Puts all messages that come among the nodes of an element there, and gives the others. `given` are those of the terms or the
+/// field name before the element, `section` is the one on a section's name.
+pub fn placed(
     alloc: Global,
-    own: u64,
-    on_inline: Vec<Node>,
-    texts_out: Vec<TextMessages>,
-) -> Result<Vec<TextMessages>, TreeFault>
-    ensures { Gives (λ texts. of_texts texts.items ≡ (own, on_inline.items) ∷ of_texts texts_out.items) result }
+    attrs: &Attrs,
+    nodes: &mut Children,
+    given: Vec<TextMessages>,
+    section: Vec<PlacedMessage>,
+    inside: Inside,
+) -> Result<Outside, TreeFault>
+    ensures nodes { Gives (λ _. nodes.new ≡ nodes_with (of_texts given.items) (pairs section.items) inside nodes.old) result }
+    ensures outside { Gives (IsOutside attrs.now inside) result }
 {
-    let mut texts_out = texts_out;
+    let Inside {
+        tag,
+        on_inline,
+        ahead,
+        mut before_nodes,
+        mut texts_out,
+        mut after_texts,
+        waiting,
+    } = inside;
+    let mut section = section;
+    let mut among = Vec::new(alloc);
+    put_after_own(&mut among, 0, given)?;
+    among.append(&mut after_texts)?;
+    among.append(&mut section)?;
+    among.append(&mut before_nodes)?;
+    put_after_own(&mut among, nodes.len() as u64, waiting)?;
+    weave(alloc, nodes, among)?;
     let mut texts = Vec::new(alloc);
     texts.push(TextMessages {
-        own,
+        own: own_messages(tag, attrs),
         messages: on_inline,
     })?;
     texts.append(&mut texts_out)?;
-    Ok(texts)
-}
-
-/// The nodes of an element with all messages among them: `given` are those of the terms or the field name before the element,
-/// `section` is the one on a section's name.
-fn with_placed(
-    alloc: Global,
-    nodes: Vec<Node>,
-    given: Vec<TextMessages>,
-    after_texts: Vec<PlacedMessage>,
-    section: Vec<PlacedMessage>,
-    before_nodes: Vec<PlacedMessage>,
-    waiting: Vec<TextMessages>,
-) -> Result<Vec<Node>, TreeFault>
-    ensures { Gives (λ all. all.items ≡ spec.woven 0 (all_placed nodes.items given.items after_texts.items section.items before_nodes.items waiting.items) nodes.items) result }
-{
-    let mut after_texts = after_texts;
-    let mut section = section;
-    let mut before_nodes = before_nodes;
-    let mut placed = Vec::new(alloc);
-    put_after_own(&mut placed, 0, given)?;
-    placed.append(&mut after_texts)?;
-    placed.append(&mut section)?;
-    placed.append(&mut before_nodes)?;
-    put_after_own(&mut placed, nodes.len() as u64, waiting)?;
-    woven(alloc, nodes, placed)
-}
-
-/// The nodes of the outermost element with all messages; those that would have their places outside of it are its last nodes.
-pub fn with_all(
-    alloc: Global,
-    section: Vec<PlacedMessage>,
-    inside: Inside,
-) -> Result<Vec<Node>, TreeFault>
-    ensures { Gives (λ all. all.items ≡ spec.woven 0 (all_placed inside.nodes.items [] inside.after_texts.items section.items inside.before_nodes.items inside.waiting.items) inside.nodes.items ++ (inside.ahead.items ++ (inside.on_inline.items ++ spec.messages_of (of_texts inside.texts_out.items)))) result }
-{
-    let Inside {
-        nodes,
-        mut on_inline,
-        mut ahead,
-        before_nodes,
-        texts_out,
-        after_texts,
-        waiting,
-    } = inside;
-    let given = Vec::new(alloc);
-    let mut all = with_placed(
-        alloc,
-        nodes,
-        given,
-        after_texts,
-        section,
-        before_nodes,
-        waiting,
-    )?;
-    all.append(&mut ahead)?;
-    all.append(&mut on_inline)?;
-    for text in texts_out {
-        let mut text = text;
-        all.append(&mut text.messages)?;
-    }
-    Ok(all)
+    Ok(Outside { ahead, texts })
 }

@@ -5,10 +5,10 @@ ghost use Rattle.std.specs.Ordering.{nat_cmp};
 ghost use Rattle.std.specs.VecDeque.{deque_items};
 ghost use Rattle.rst_tree.specs.Faults.{Gives};
 ghost use Rattle.rst_transform_names.specs.NameMessages as spec;
-ghost use Rattle.rst_transform_names.specs.PlacingMessages.{IsInside, IsOwn};
+ghost use Rattle.rst_transform_names.specs.PlacingMessages.{IsInside};
 
 use super::duplicate_messages::NameMessage;
-use super::inside::{Head, Inside, OwnMessage, with_all};
+use super::inside::{Inside, OwnMessage, placed};
 use rst_tree::{Attrs, Children, Key, Node, Tag, TreeFault};
 use std::alloc::Global;
 use std::collections::{BTreeMap, VecDeque};
@@ -63,14 +63,6 @@ struct NumberedMessages {
 }
 
 impl NumberedMessages {
-    /// The message on the name of an element, if there is one, where it has its place.
-    fn own(&self, alloc: Global, tag: Tag, attrs: &Attrs) -> Result<OwnMessage, TreeFault>
-        ensures { Gives (IsOwn (spec.own_numbered (get nat_cmp self.now.messages)) tag attrs.now) result }
-    {
-        let message = self.message(alloc, attrs)?;
-        OwnMessage::of(alloc, tag, attrs, message)
-    }
-
     /// The message on the name of an element with these attributes, if there is one.
     fn message(&self, alloc: Global, attrs: &Attrs) -> Result<Vec<Node>, TreeFault>
         ensures { Gives (λ own. own.items ≡ spec.own_numbered (get nat_cmp self.now.messages) attrs.now) result }
@@ -85,33 +77,29 @@ impl NumberedMessages {
     }
 }
 
-/// What is made of the nodes of an element.
-fn filled(
+/// Puts the messages on names that come into nodes there, and gives what else is made of the nodes, which are those of an element
+/// of this kind.
+fn fill(
     alloc: Global,
-    parent: Tag,
-    nodes: Children,
+    tag: Tag,
+    nodes: &mut Children,
     messages: &NumberedMessages,
 ) -> Result<Inside, TreeFault>
-    ensures { Gives (IsInside (spec.own_numbered (get nat_cmp messages.now.messages)) parent nodes) result }
+    ensures { Gives (IsInside (spec.own_numbered (get nat_cmp messages.now.messages)) tag nodes.old nodes.new) result }
 {
-    let mut made = Inside::with_room(alloc, nodes.len())?;
-    for node in nodes.into_list() {
-        match node {
-            Node::Text(text) => {
-                made.nodes.push(Node::Text(text))?;
-                continue;
-            }
+    let mut made = Inside::none(alloc, tag);
+    for place in 0..nodes.len() {
+        match nodes.get_mut(place) {
+            Node::Text(_) => continue,
             Node::Element {
                 tag,
                 attrs,
                 children,
-                line,
+                ..
             } => {
-                let own = messages.own(alloc, tag, &attrs)?;
-                let inside = filled(alloc, tag, children, messages)?;
-                let head = Head { tag, attrs, line };
-                made.put(alloc, parent, head, own, inside)?;
-                continue;
+                let message = messages.message(alloc, attrs)?;
+                let inside = fill(alloc, *tag, children, messages)?;
+                made.put(alloc, place, attrs, children, message, inside)?;
             }
         }
     }
@@ -133,24 +121,22 @@ pub fn place_name_messages(
     if name_messages.is_empty() {
         return Ok(document);
     }
-    match document {
-        Node::Text(text) => Ok(Node::Text(text)),
-        Node::Element {
-            tag,
-            attrs,
-            children,
-            line,
-        } => {
-            let messages = name_messages.numbered(alloc)?;
-            let own = messages.own(alloc, tag, &attrs)?;
-            let inside = filled(alloc, tag, children, &messages)?;
-            let nodes = with_all(alloc, own.section, inside)?;
-            Ok(Node::Element {
-                tag,
-                attrs,
-                children: Children::of(nodes),
-                line,
-            })
-        }
-    }
+    let mut document = document;
+    let Node::Element {
+        tag,
+        attrs,
+        children,
+        ..
+    } = &mut document
+    else {
+        return Ok(document);
+    };
+    let messages = name_messages.numbered(alloc)?;
+    let message = messages.message(alloc, attrs)?;
+    let inside = fill(alloc, *tag, children, &messages)?;
+    let own = OwnMessage::of(alloc, *tag, attrs, message)?;
+    let given = Vec::new(alloc);
+    let outside = placed(alloc, attrs, children, given, own.section, inside)?;
+    outside.put_last(alloc, children)?;
+    Ok(document)
 }

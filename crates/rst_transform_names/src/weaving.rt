@@ -1,11 +1,13 @@
 //! Messages with places among nodes.
 ghost use Rattle.std.specs.Prelude.{◌≡◌, ◌+◌, ◌++◌, [], min, replicate};
 ghost use Rattle.rst_tree.specs.Faults.{Gives};
+ghost use Rattle.rst_tree.specs.Nodes.{forest_of, nodes_of};
 ghost use Rattle.rst_transform_names.specs.NameMessages as spec;
 ghost use Rattle.rst_transform_names.specs.PlacingMessages.{gap_nodes, gaps, of_texts, pairs, with_gaps};
 
-use rst_tree::{Node, TreeFault};
+use rst_tree::{Children, Node, TreeFault};
 use std::alloc::Global;
+use std::mem;
 
 /// A message, and how many of some nodes come before it.
 #[derive(Drop)]
@@ -51,19 +53,21 @@ pub fn put_after_own(
     Ok(())
 }
 
-/// The nodes with the messages among them; those with a place further than after all nodes come after all nodes.
-pub fn woven(
+/// Puts messages among nodes; those with a place further than after all nodes come after all nodes.
+pub fn weave(
     alloc: Global,
-    nodes: Vec<Node>,
+    nodes: &mut Children,
     placed: Vec<PlacedMessage>,
-) -> Result<Vec<Node>, TreeFault>
-    ensures { Gives (λ all. all.items ≡ spec.woven 0 (pairs placed.items) nodes.items) result }
+) -> Result<(), TreeFault>
+    ensures { Gives (λ _. nodes.new ≡ forest_of (spec.woven 0 (pairs placed.items) (nodes_of nodes.old))) result }
 {
     if placed.is_empty() {
-        return Ok(nodes);
+        return Ok(());
     }
-    let gaps = gaps_of(alloc, nodes.len(), placed)?;
-    with_gaps(alloc, nodes, gaps)
+    let list = mem::replace(nodes, Children::new(alloc)).into_list();
+    let gaps = gaps_of(alloc, list.len(), placed)?;
+    *nodes = Children::of(with_gaps(alloc, list, gaps)?);
+    Ok(())
 }
 
 /// The messages in each gap of so many nodes: before each node, and after all.

@@ -1,4 +1,4 @@
-use Rattle.std.proofs.Common.{◌≡◌, [], nat_cmp, length, sym, ap, ◌∙◌, eqb-true}
+use Rattle.std.proofs.Common.{◌≡◌, [], nat_cmp, length, refl, sym, ap, ◌∙◌, eqb-true}
 use Rattle.std.specs.BTreeMap.{get}
 use Rattle.std.specs.VecDeque.{deque_items}
 use Rattle.std.proofs.Math.Path.{fun_ext}
@@ -15,14 +15,14 @@ returns-then-is_empty c =
     let none : queue ≡ [] = nil_from_length queue (eqb-true (length queue) 0 (sym c.is_empty.ensures ∙ c.if-is_empty.true)) in
     sym (ap (λ messages. with_name_messages messages c.args.document) none ∙ without_name_messages c.args.document)
 
-pub returns-in-Text : goal.returns-in-Text
-returns-in-Text c = ap (with_name_messages (deque_items c.args.name_messages.queue)) (sym c.in-Text.is)
+pub returns-in_default : goal.returns-in_default
+returns-in_default c = rw c.in_default.is refl
 
-pub returns-in_ok-nodes-in-Element : goal.returns-in_ok-nodes-in-Element
-returns-in_ok-nodes-in-Element c =
+pub returns : goal.returns
+returns c =
     let e = c.in-Element in
-    let numbered = get nat_cmp c.in_ok-messages-in-Element.messages.messages in
-    ap (λ nodes. Element e.tag e.attrs nodes e.line) c.of.ensures
-    ∙ root_filled (own_numbered numbered) e.tag e.attrs e.children c.in_ok-own-in-Element.own c.in_ok-inside-in-Element.inside c.in_ok-own-in-Element.ensures c.in_ok-inside-in-Element.ensures e.line c.in_ok-nodes-in-Element.nodes.items c.in_ok-nodes-in-Element.ensures
-    ∙ ap (λ own. with_messages (own_numbered own) (Element e.tag e.attrs e.children e.line)) (fun_ext c.in_ok-messages-in-Element.ensures)
+    let own = own_numbered (get nat_cmp c.in_ok-messages.messages.messages) in
+    let woven = rw (c.new-given.ensures.items, c.in_ok-own.ensures.section) at c.in_ok-outside.ensures.nodes in
+    root_filled own e.tag e.attrs e.children c.fill.new.nodes c.in_ok-message.message.items c.in_ok-inside.inside c.in_ok-message.ensures c.in_ok-inside.ensures e.line c.placed.new.nodes c.put_last.new.nodes c.in_ok-outside.outside woven c.in_ok-outside.ensures.outside c.in_ok-put_last.ensures
+    ∙ ap (λ own. with_messages (own_numbered own) (Element e.tag e.attrs e.children e.line)) (fun_ext c.in_ok-messages.ensures)
     ∙ ap (with_name_messages (deque_items c.args.name_messages.queue)) (sym e.is)
