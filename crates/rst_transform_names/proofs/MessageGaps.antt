@@ -1,12 +1,9 @@
 -- Messages with places, among nodes.
-use Rattle.std.proofs.Common.{◌≡◌, ℕ, zero, suc, ◌+◌, ◌-◌, ◌<◌, ◌≤◌, min, List, [], ◌∷◌, ◌++◌, length, map, filter, replicate, Bool, true, false, nat_eq, nat_le, Vec, Result, Ok, Err, refl, sym, ap, ap₂, ◌∙◌, arith, append_assoc, add-one, slice_set}
+use Rattle.std.proofs.Common.{◌≡◌, ℕ, zero, suc, ◌+◌, ◌-◌, ◌<◌, ◌≤◌, min, List, [], ◌∷◌, ◌++◌, length, map, filter, replicate, Bool, true, false, nat_eq, nat_le, Vec, refl, sym, ap, ap₂, ◌∙◌, arith, append_assoc, add-one, slice_set}
 use Rattle.std.specs.Prelude.{if◌then◌else◌, slice_index_or}
 use Rattle.std.proofs.lemmas.List.{append-nil, map-append, length-map, nil_from_length}
 use Rattle.std.proofs.lemmas.List.Elements.{filter-append}
 use Rattle.rst_tree.specs.declared.node.Node.{Node}
-use Rattle.rst_tree.specs.declared.fault.TreeFault.{TreeFault}
-use Rattle.rst_tree.specs.declared.fault.TreeFault.TheVariants.{NoMemory}
-use Rattle.rst_tree.specs.Faults.{Gives}
 use Rattle.rst_tree.specs.Paths.{map_at}
 use Rattle.rst_transform_names.specs.declared.weaving.PlacedMessage.{PlacedMessage}
 use Rattle.rst_transform_names.specs.declared.weaving.TextMessages.{TextMessages}
@@ -23,11 +20,6 @@ all_made done more all before none = sym (append-nil done) ∙ rw none at before
 
 pub none_left : {X : Type 0} (items : List X) (len : ℕ) → len ≡ length items → len ≡ 0 → items ≡ []
 none_left items len is none = nil_from_length items (sym is ∙ none)
-
--- what holds of the value that a call gives
-pub gives_more : {A : Type 0} (P Q : A → Type 0) (r : Result A TreeFault) → ((value : A) → P value → Q value) → Gives P r → Gives Q r
-gives_more P Q (Ok value) more h = more value h
-gives_more P Q (Err NoMemory) more h = tt
 
 pub pairs-append : (xs ys : List PlacedMessage) → pairs (xs ++ ys) ≡ pairs xs ++ pairs ys
 pairs-append xs ys = map-append (λ (one : PlacedMessage). (one.place, one.message)) xs ys

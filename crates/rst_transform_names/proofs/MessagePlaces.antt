@@ -15,7 +15,7 @@ use Rattle.rst_tree.proofs.Rewrites.{Same, Same-init, Same-more}
 use Rattle.rst_transform_names.specs.declared.inside.Inside.{Inside}
 use Rattle.rst_transform_names.specs.declared.inside.Outside.{Outside}
 use Rattle.rst_transform_names.specs.NameMessages.{after_own, after_texts, ahead, all_at, before_nodes, filled, goes_in, goes_out, is_passed_over, left_waiting, messages_of, on_inline, outside, own_block, own_inline, own_section, placed_in, takes_in, texts, texts_out, waiting, with_messages, woven, OfText}
-use Rattle.rst_transform_names.specs.PlacingMessages.{nodes_with, of_texts, pairs, texts_of, IsBare, IsInside, IsOutside, Puts}
+use Rattle.rst_transform_names.specs.PlacingMessages.{nodes_with, of_texts, pairs, texts_of, GivesNothing, IsBare, IsInside, IsOutside, Puts}
 use Rattle.rst_transform_names.proofs.MessageGaps.{next_made, woven-none}
 
 -- ---- choices
@@ -178,15 +178,14 @@ module _ (own : List Attr → List Node) where
       }
 
 -- an element without messages in it leaves its nodes and what is made of others as they are
-pub puts_nothing : (p : Tag) (place : ℕ) (a : List Attr) (message : List Node) (inside before : Inside) (nodes : Forest) → message ≡ [] → IsBare inside → goes_out p inside.tag ≡ false → goes_in inside.tag ≡ false → takes_in inside.tag ≡ false
-    → Puts p place inside.tag a message inside nodes nodes before before
-puts_nothing p place a message inside before nodes none nothing out into takes = record {
+pub puts_nothing : (p : Tag) (place : ℕ) (a : List Attr) (message : List Node) (inside before : Inside) (nodes : Forest) → message ≡ [] → GivesNothing p inside → Puts p place inside.tag a message inside nodes nodes before before
+puts_nothing p place a message inside before nodes none h = record {
   tag = refl;
-  nodes = sym (simp (none, nothing.after_texts, nothing.before_nodes, nothing.waiting, takes, either_none, woven-none, forest_of-nodes_of));
+  nodes = sym (simp (none, h.bare.after_texts, h.bare.before_nodes, h.bare.waiting, h.takes, either_none, woven-none, forest_of-nodes_of));
   on_inline = sym (simp (none, either_none, append-nil));
-  ahead = sym (simp (none, nothing.ahead, either_none, append-nil));
-  before_nodes = sym (simp (none, nothing.ahead, either_none, append-nil));
-  texts_out = sym (simp (out, append-nil));
-  after_texts = sym (simp (nothing.on_inline, nothing.texts_out, either_none, append-nil));
-  waiting = sym (simp (into, takes, append-nil));
+  ahead = sym (simp (none, h.bare.ahead, either_none, append-nil));
+  before_nodes = sym (simp (none, h.bare.ahead, either_none, append-nil));
+  texts_out = sym (simp (h.out, append-nil));
+  after_texts = sym (simp (h.bare.on_inline, h.bare.texts_out, either_none, append-nil));
+  waiting = sym (simp (h.into, h.takes, append-nil));
 }

@@ -1,5 +1,5 @@
 -- The messages on equal names in the code that places them. No rule of markup.
-use Rattle.std.specs.Prelude.{◌≡◌, ℕ, zero, suc, ◌+◌, ◌||◌, ◌&&◌, not, if◌then◌else◌, List, [], ◌∷◌, ◌++◌, map, length, Vec}
+use Rattle.std.specs.Prelude.{◌≡◌, ℕ, zero, suc, ◌+◌, ◌||◌, ◌&&◌, not, false, if◌then◌else◌, List, [], ◌∷◌, ◌++◌, map, length, Vec}
 use Rattle.rst_tree.specs.declared.attrs.Attr.{Attr}
 use Rattle.rst_tree.specs.declared.node.Node.{Node}
 use Rattle.rst_tree.specs.declared.tag.Tag.{Tag}
@@ -61,6 +61,13 @@ pub record IsBare (made : Inside) : Type 0 where
   pub texts_out : made.texts_out.items ≡ []
   pub after_texts : made.after_texts.items ≡ []
   pub waiting : made.waiting.items ≡ []
+
+-- there is no message in an element, and it neither gives texts to other nodes of an element of a kind nor takes in theirs
+pub record GivesNothing (p : Tag) (made : Inside) : Type 0 where
+  pub bare : IsBare made
+  pub out : goes_out p made.tag ≡ false
+  pub into : goes_in made.tag ≡ false
+  pub takes : takes_in made.tag ≡ false
 
 -- The nodes of an element with all messages among them, in the order that counts at one place: those of the terms or the field name before the
 -- element, those after texts, that on a section's name, those before nodes, and those of the terms or field names that wait.

@@ -1,9 +1,9 @@
 //! The nodes of an element with the messages on equal names in them.
-ghost use Rattle.std.specs.Prelude.{◌≡◌, ◌+◌, ◌<◌, ◌^◌, ◌||◌, ◌&&◌, not, [], ◌∷◌, ◌++◌, if◌then◌else◌, IsTrue};
+ghost use Rattle.std.specs.Prelude.{◌≡◌, ◌+◌, ◌<◌, ◌^◌, ◌||◌, ◌&&◌, not, [], ◌++◌, if◌then◌else◌, IsTrue};
 ghost use Rattle.rst_tree.specs.Faults.{Gives};
-ghost use Rattle.rst_transform_names.specs.NameMessages as spec;
 ghost use Rattle.rst_tree.specs.Nodes.{forest_of, nodes_of};
-ghost use Rattle.rst_transform_names.specs.PlacingMessages.{nodes_with, of_texts, pairs, IsBare, IsOutside, IsOwn, Puts};
+ghost use Rattle.rst_transform_names.specs.NameMessages as spec;
+ghost use Rattle.rst_transform_names.specs.PlacingMessages.{nodes_with, of_texts, pairs, GivesNothing, IsBare, IsOutside, IsOwn, Puts};
 
 use super::weaving::{PlacedMessage, TextMessages, put_after_own, put_at, weave};
 use rst_tree::{Attrs, Children, Key, Node, Tag, TreeFault};
@@ -152,6 +152,14 @@ impl Inside {
             && self.waiting.is_empty()
     }
 
+    /// Whether there is no message in the element and, among the nodes of one of this kind, it neither gives texts to others nor takes
+    /// in theirs.
+    pub fn gives_nothing(&self, parent: Tag) -> bool
+        ensures { IsTrue result → GivesNothing parent self.now }
+    {
+        self.is_bare() && !goes_out(parent, self.tag) && !goes_in(self.tag) && !takes_in(self.tag)
+    }
+
     /// Puts one more element behind so many nodes, with the message on its name and what was made of its nodes.
     pub fn put(
         &mut self,
@@ -166,22 +174,13 @@ impl Inside {
         ensures { Gives (λ _. Puts self.old.tag place inside.tag attrs.now message.items inside nodes.old nodes.new self.old self.new) result }
     {
         let tag = inside.tag;
-        if message.is_empty()
-            && inside.is_bare()
-            && !goes_out(self.tag, tag)
-            && !goes_in(tag)
-            && !takes_in(tag)
-        {
-            // So it is with most elements.
-            return Ok(());
-        }
         let OwnMessage {
             section,
             mut inline,
             block,
         } = OwnMessage::of(alloc, tag, attrs, message)?;
         let given = self.given(alloc, tag);
-        let Outside { ahead, texts } = placed(alloc, attrs, nodes, given, section, inside)?;
+        let Outside { ahead, texts } = place_among(alloc, attrs, nodes, given, section, inside)?;
         self.on_inline.append(&mut inline)?;
         self.put_before(place as u64, ahead, block)?;
         self.put_texts(place as u64 + 1, tag, texts)
@@ -269,7 +268,7 @@ impl Outside {
 
 /// Puts all messages that come among the nodes of an element there, and gives the others. `given` are those of the terms or the
 /// field name before the element, `section` is the one on a section's name.
-pub fn placed(
+pub fn place_among(
     alloc: Global,
     attrs: &Attrs,
     nodes: &mut Children,

@@ -8,7 +8,7 @@ ghost use Rattle.rst_transform_names.specs.NameMessages as spec;
 ghost use Rattle.rst_transform_names.specs.PlacingMessages.{IsInside};
 
 use super::duplicate_messages::NameMessage;
-use super::inside::{Inside, OwnMessage, placed};
+use super::inside::{Inside, OwnMessage, place_among};
 use rst_tree::{Attrs, Children, Key, Node, Tag, TreeFault};
 use std::alloc::Global;
 use std::collections::{BTreeMap, VecDeque};
@@ -99,6 +99,10 @@ fn fill(
             } => {
                 let message = messages.message(alloc, attrs)?;
                 let inside = fill(alloc, *tag, children, messages)?;
+                if message.is_empty() && inside.gives_nothing(made.tag) {
+                    // So it is with most elements.
+                    continue;
+                }
                 made.put(alloc, place, attrs, children, message, inside)?;
             }
         }
@@ -136,7 +140,7 @@ pub fn place_name_messages(
     let inside = fill(alloc, *tag, children, &messages)?;
     let own = OwnMessage::of(alloc, *tag, attrs, message)?;
     let given = Vec::new(alloc);
-    let outside = placed(alloc, attrs, children, given, own.section, inside)?;
+    let outside = place_among(alloc, attrs, children, given, own.section, inside)?;
     outside.put_last(alloc, children)?;
     Ok(document)
 }

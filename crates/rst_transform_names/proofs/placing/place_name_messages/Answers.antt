@@ -23,6 +23,6 @@ returns c =
     let e = c.in-Element in
     let own = own_numbered (get nat_cmp c.in_ok-messages.messages.messages) in
     let woven = rw (c.new-given.ensures.items, c.in_ok-own.ensures.section) at c.in_ok-outside.ensures.nodes in
-    root_filled own e.tag e.attrs e.children c.fill.new.nodes c.in_ok-message.message.items c.in_ok-inside.inside c.in_ok-message.ensures c.in_ok-inside.ensures e.line c.placed.new.nodes c.put_last.new.nodes c.in_ok-outside.outside woven c.in_ok-outside.ensures.outside c.in_ok-put_last.ensures
+    root_filled own e.tag e.attrs e.children c.fill.new.nodes c.in_ok-message.message.items c.in_ok-inside.inside c.in_ok-message.ensures c.in_ok-inside.ensures e.line c.place_among.new.nodes c.put_last.new.nodes c.in_ok-outside.outside woven c.in_ok-outside.ensures.outside c.in_ok-put_last.ensures
     ∙ ap (λ own. with_messages (own_numbered own) (Element e.tag e.attrs e.children e.line)) (fun_ext c.in_ok-messages.ensures)
     ∙ ap (with_name_messages (deque_items c.args.name_messages.queue)) (sym e.is)
