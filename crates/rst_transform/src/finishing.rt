@@ -62,8 +62,8 @@ pub fn finish(
     let registered = register(alloc, document, messages)?;
     let (start, mut context) = started(alloc, registered, messages);
     let list = listed(alloc, &start, messages, settings)?;
-    let after = transformed(alloc, start, &mut context, settings)?;
-    let sectioned = last_section(alloc, after, &mut context, settings.report)?;
+    let after = transformed(start, &mut context, settings)?;
+    let sectioned = last_section(after, &mut context, settings.report)?;
     let (shown, list) = filtered(alloc, sectioned, context.reports, list, settings.report)?;
     let (notes, highest) = list.end();
     Ok(Finished {
@@ -114,6 +114,7 @@ fn started(alloc: Global, registered: Registered, messages: u64) -> (Document, C
     ensures known { (r : Registration) → IsRegistered r registered → Holds result.1 (known_at_first messages r) }
 {
     let context = Context {
+        alloc,
         ids: registered.ids,
         names: registered.names,
         reports: Vec::new(alloc),
@@ -125,40 +126,34 @@ fn started(alloc: Global, registered: Registered, messages: u64) -> (Document, C
 
 /// A document after all transforms, in order.
 fn transformed(
-    alloc: Global,
     document: Document,
     context: &mut Context,
     settings: &Settings,
 ) -> Result<Document, TreeFault>
     ensures { Gives (Makes (spec.transformed (profile_of settings.now) settings.now document) context.old context.new) result }
 {
-    let retargeted = with_early(alloc, document, context)?;
-    let titled = with_title(alloc, retargeted, context, settings.title)?;
-    let informed = with_info(alloc, titled, context, settings.info)?;
-    let linked = resolve_links(alloc, informed, context)?;
-    let after = transitions(alloc, linked, context)?;
+    let retargeted = with_early(document, context)?;
+    let titled = with_title(retargeted, context, settings.title)?;
+    let informed = with_info(titled, context, settings.info)?;
+    let linked = resolve_links(informed, context)?;
+    let after = transitions(linked, context)?;
     Ok(after)
 }
 
 /// A document whose substitution references are replaced, and whose internal targets handed on their ids and names. Most have neither.
-fn with_early(
-    alloc: Global,
-    document: Document,
-    context: &mut Context,
-) -> Result<Document, TreeFault>
+fn with_early(document: Document, context: &mut Context) -> Result<Document, TreeFault>
     ensures { Gives (Makes (λ known. let expanded = with_expansions document known in with_targets expanded.0 expanded.1) context.old context.new) result }
 {
     if !has_early(&document.children) {
         return Ok(document);
     }
-    let expanded = expand(alloc, document, context)?;
-    let retargeted = targets(alloc, expanded, context)?;
+    let expanded = expand(document, context)?;
+    let retargeted = targets(expanded, context)?;
     Ok(retargeted)
 }
 
 /// A document with its title, if that is asked for.
 fn with_title(
-    alloc: Global,
     document: Document,
     context: &mut Context,
     is_asked: bool,
@@ -168,12 +163,11 @@ fn with_title(
     if !is_asked {
         return Ok(document);
     }
-    title(alloc, document, context)
+    title(document, context)
 }
 
 /// A document with its bibliography, if that is asked for.
 fn with_info(
-    alloc: Global,
     document: Document,
     context: &mut Context,
     is_asked: bool,
@@ -183,5 +177,5 @@ fn with_info(
     if !is_asked {
         return Ok(document);
     }
-    docinfo(alloc, document, context)
+    docinfo(document, context)
 }

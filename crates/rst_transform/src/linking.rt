@@ -13,7 +13,6 @@ use rst_transform_links::{Changes, Linked, linked_in, with_changes};
 use rst_transform_references::resolve::resolve;
 use rst_transform_work::{Context, Document};
 use rst_tree::TreeFault;
-use std::alloc::Global;
 
 /// A transform of links.
 #[derive(Clone, Copy)]
@@ -37,19 +36,14 @@ const ALL: [LinkStep; 4] = [
 ];
 
 /// A document after all transforms of links.
-pub fn resolve_links(
-    alloc: Global,
-    document: Document,
-    context: &mut Context,
-) -> Result<Document, TreeFault>
+pub fn resolve_links(document: Document, context: &mut Context) -> Result<Document, TreeFault>
     ensures { Gives (Makes (with_links document) context.old context.new) result }
 {
-    resolve_by(alloc, document, context, &ALL)
+    resolve_by(document, context, &ALL)
 }
 
 /// A document after some transforms of links. Its linked elements are listed anew only after one that changed it.
 fn resolve_by(
-    alloc: Global,
     document: Document,
     context: &mut Context,
     transforms: &[LinkStep],
@@ -59,17 +53,16 @@ fn resolve_by(
     if transforms.is_empty() {
         return Ok(document);
     }
-    let linked = linked_in(alloc, &document)?;
-    let (changes, done) = first_changes(alloc, context, linked.as_slice(), transforms)?;
+    let linked = linked_in(context.alloc, &document)?;
+    let (changes, done) = first_changes(context, linked.as_slice(), transforms)?;
     drop(linked);
-    let changed = with_changes(alloc, document, changes)?;
-    let after = resolve_by(alloc, changed, context, &transforms[done..])?;
+    let changed = with_changes(context.alloc, document, changes)?;
+    let after = resolve_by(changed, context, &transforms[done..])?;
     Ok(after)
 }
 
 /// What the first of some transforms makes of linked elements that doesn't leave all as they are, and how many are done then.
 fn first_changes(
-    alloc: Global,
     context: &mut Context,
     linked: &[Linked<'_>],
     transforms: &[LinkStep],
@@ -79,19 +72,18 @@ fn first_changes(
     ensures fits { Gives (λ done. done.1 ≤ length transforms.now) result }
 {
     let Some((first, more)) = transforms.split_first() else {
-        return Ok((Changes::of(Vec::new(alloc)), 0));
+        return Ok((Changes::of(Vec::new(context.alloc)), 0));
     };
-    let changes = changes_by(alloc, context, linked, *first)?;
+    let changes = changes_by(context, linked, *first)?;
     if !changes.are_idle() {
         return Ok((changes, 1));
     }
-    let (changes, done) = first_changes(alloc, context, linked, more)?;
+    let (changes, done) = first_changes(context, linked, more)?;
     Ok((changes, done + 1))
 }
 
 /// What a transform makes of linked elements.
 fn changes_by(
-    alloc: Global,
     context: &mut Context,
     linked: &[Linked<'_>],
     transform: LinkStep,
@@ -99,9 +91,9 @@ fn changes_by(
     ensures { Gives (Makes (link_changes (decision_of transform) (map held linked.now)) context.old context.new) result }
 {
     match transform {
-        LinkStep::Anonymous => anonymous(alloc, context, linked),
-        LinkStep::Indirect => indirect(alloc, context, linked),
-        LinkStep::Footnotes => footnotes(alloc, context, linked),
-        LinkStep::References => resolve(alloc, context, linked),
+        LinkStep::Anonymous => anonymous(context, linked),
+        LinkStep::Indirect => indirect(context, linked),
+        LinkStep::Footnotes => footnotes(context, linked),
+        LinkStep::References => resolve(context, linked),
     }
 }

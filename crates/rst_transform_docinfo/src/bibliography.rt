@@ -212,23 +212,18 @@ fn set_class(alloc: Global, attrs: &mut Attrs, class: &str) -> Result<(), TreeFa
 }
 
 /// A field of the table that isn't in its form: any other field, whose body ends with a WARNING.
-fn out_of_form(
-    alloc: Global,
-    name: &str,
-    field: Field,
-    context: &mut Context,
-) -> Result<Node, TreeFault>
+fn out_of_form(name: &str, field: Field, context: &mut Context) -> Result<Node, TreeFault>
     ensures node { Gives (λ node. node ≡ fault_node name.now (fault_in context.old name.now field.line) field) result }
     ensures reports { Gives (λ _. IsReported (fault_in context.old name.now field.line) context.old context.new) result }
     ensures rest { Gives (λ _. KeepsRest context.old context.new) result }
 {
-    let message = message(alloc, field.line, name, context)?;
+    let message = message(field.line, name, context)?;
     let Field {
         attrs,
         name: named,
         body,
         line,
-    } = generic(alloc, name, field)?;
+    } = generic(context.alloc, name, field)?;
     let body = with_child(body, message)?;
     let field = Field {
         attrs,
@@ -236,22 +231,22 @@ fn out_of_form(
         body,
         line,
     };
-    field.into_node(alloc)
+    field.into_node(context.alloc)
 }
 
 /// The WARNING on a field of this name that isn't in its form. It is in the list of messages, too.
-fn message(alloc: Global, line: usize, name: &str, context: &mut Context) -> Result<Node, TreeFault>
+fn message(line: usize, name: &str, context: &mut Context) -> Result<Node, TreeFault>
     ensures node { Gives (λ node. node ≡ report_node (fault_in context.old name.now line)) result }
     ensures reports { Gives (λ _. IsReported (fault_in context.old name.now line) context.old context.new) result }
     ensures rest { Gives (λ _. KeepsRest context.old context.new) result }
 {
     let text = Text::of_three(
-        alloc,
+        context.alloc,
         "Bibliographic field \"",
         name,
         "\" is not in its form.",
     )?;
-    context.report_in_place(alloc, Level::Warning, line, text)
+    context.report_in_place(Level::Warning, line, text)
 }
 
 /// A body with one more node after those in it.
@@ -305,17 +300,12 @@ impl Bibliography {
     }
 
     /// Takes in the next node of the field list. One that is no field stays as it is.
-    pub fn add_node(
-        &mut self,
-        alloc: Global,
-        node: Node,
-        context: &mut Context,
-    ) -> Result<(), TreeFault>
+    pub fn add_node(&mut self, node: Node, context: &mut Context) -> Result<(), TreeFault>
         ensures gathered { Gives (λ _. so_far self.new context.new.reports.items ≡ with_node context.old.first_number node (so_far self.old context.old.reports.items)) result }
         ensures rest { Gives (λ _. KeepsRest context.old context.new) result }
     {
         match Field::of(node) {
-            Ok(field) => self.add(alloc, field, context),
+            Ok(field) => self.add(field, context),
             Err(node) => {
                 self.info.push(node)?;
                 Ok(())
@@ -324,19 +314,19 @@ impl Bibliography {
     }
 
     /// Takes in the next field.
-    fn add(&mut self, alloc: Global, field: Field, context: &mut Context) -> Result<(), TreeFault>
+    fn add(&mut self, field: Field, context: &mut Context) -> Result<(), TreeFault>
         ensures gathered { Gives (λ _. so_far self.new context.new.reports.items ≡ with_field context.old.first_number field (so_far self.old context.old.reports.items)) result }
         ensures rest { Gives (λ _. KeepsRest context.old context.new) result }
     {
-        let name = field.name(alloc)?;
+        let name = field.name(context.alloc)?;
         let row = row_of(name.as_str());
         if self.is_further(row) {
-            return self.put_fault(alloc, name.as_str(), field, context);
+            return self.put_fault(name.as_str(), field, context);
         }
         self.mark_seen(row);
-        match made(alloc, row, name.as_str(), field)? {
+        match made(context.alloc, row, name.as_str(), field)? {
             Ok(node) => self.put(row, node),
-            Err(field) => self.put_fault(alloc, name.as_str(), field, context),
+            Err(field) => self.put_fault(name.as_str(), field, context),
         }
     }
 
@@ -377,7 +367,6 @@ impl Bibliography {
     /// Puts a field of this name that isn't in its form after the elements of the `docinfo`.
     fn put_fault(
         &mut self,
-        alloc: Global,
         name: &str,
         field: Field,
         context: &mut Context,
@@ -385,7 +374,7 @@ impl Bibliography {
         ensures gathered { Gives (λ _. so_far self.new context.new.reports.items ≡ with_fault context.old.first_number name.now field (so_far self.old context.old.reports.items)) result }
         ensures rest { Gives (λ _. KeepsRest context.old context.new) result }
     {
-        let node = out_of_form(alloc, name, field, context)?;
+        let node = out_of_form(name, field, context)?;
         self.info.push(node)?;
         Ok(())
     }

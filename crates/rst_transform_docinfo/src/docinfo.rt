@@ -64,7 +64,6 @@ fn is_field_list(tag: Tag) -> bool
 
 /// What the fields of a list become.
 fn bibliography(
-    alloc: Global,
     fields: Children,
     line: usize,
     context: &mut Context,
@@ -73,11 +72,11 @@ fn bibliography(
     ensures reports { let all = list_gathered context.old.first_number context.old.reports.items fields in Gives (λ _. context.new.reports.items ≡ all.reports) result }
     ensures rest { Gives (λ _. KeepsRest context.old context.new) result }
 {
-    let mut bibliography = Bibliography::new(alloc);
+    let mut bibliography = Bibliography::new(context.alloc);
     for node in fields.into_list() {
-        bibliography.add_node(alloc, node, context)?;
+        bibliography.add_node(node, context)?;
     }
-    bibliography.into_nodes(alloc, line)
+    bibliography.into_nodes(context.alloc, line)
 }
 
 /// The nodes, the first of them with more ids and names.
@@ -94,7 +93,7 @@ fn with_names(alloc: Global, mut nodes: Vec<Node>, attrs: &Attrs) -> Result<Vec<
 }
 
 /// What the fields of a field list become, the first of it with the list's ids and names, too.
-fn replaced(alloc: Global, list: Node, context: &mut Context) -> Result<Vec<Node>, TreeFault>
+fn replaced(list: Node, context: &mut Context) -> Result<Vec<Node>, TreeFault>
     ensures nodes { Gives (λ nodes. nodes.items ≡ (replaced context.old.first_number context.old.reports.items list).0) result }
     ensures reports { Gives (λ _. context.new.reports.items ≡ (replaced context.old.first_number context.old.reports.items list).1) result }
     ensures rest { Gives (λ _. KeepsRest context.old context.new) result }
@@ -106,10 +105,10 @@ fn replaced(alloc: Global, list: Node, context: &mut Context) -> Result<Vec<Node
             children,
             line,
         } => {
-            let nodes = bibliography(alloc, children, line, context)?;
-            with_names(alloc, nodes, &attrs)
+            let nodes = bibliography(children, line, context)?;
+            with_names(context.alloc, nodes, &attrs)
         }
-        Node::Text(_text) => Ok(Vec::new(alloc)),
+        Node::Text(_text) => Ok(Vec::new(context.alloc)),
     }
 }
 
@@ -129,11 +128,7 @@ fn with_nodes_at(
 }
 
 /// The document's nodes with the bibliography in the place of a leading field list.
-fn with_bibliography(
-    alloc: Global,
-    children: Children,
-    context: &mut Context,
-) -> Result<Children, TreeFault>
+fn with_bibliography(children: Children, context: &mut Context) -> Result<Children, TreeFault>
     ensures nodes { let list = leading_list (nodes_of children) in Gives (λ all. all ≡ forest_of (nodes_with context.old.first_number context.old.reports.items list (nodes_of children)).0) result }
     ensures reports { let list = leading_list (nodes_of children) in Gives (λ _. context.new.reports.items ≡ (nodes_with context.old.first_number context.old.reports.items list (nodes_of children)).1) result }
     ensures rest { Gives (λ _. KeepsRest context.old context.new) result }
@@ -143,7 +138,7 @@ fn with_bibliography(
     if !is_list_at(&nodes, place) {
         return Ok(Children::of(nodes));
     }
-    let made = replaced(alloc, nodes.remove(place), context)?;
+    let made = replaced(nodes.remove(place), context)?;
     let first = title_count(&nodes);
     Ok(Children::of(with_nodes_at(nodes, first, made)?))
 }
@@ -178,11 +173,7 @@ fn with_bibliography(
 /// ```
 ///
 /// The only refusal is [`TreeFault::NoMemory`].
-pub fn docinfo(
-    alloc: Global,
-    document: Document,
-    context: &mut Context,
-) -> Result<Document, TreeFault>
+pub fn docinfo(document: Document, context: &mut Context) -> Result<Document, TreeFault>
     ensures { Gives (Makes (with_docinfo document) context.old context.new) result }
 {
     let Document {
@@ -190,7 +181,7 @@ pub fn docinfo(
         children,
         line,
     } = document;
-    let children = with_bibliography(alloc, children, context)?;
+    let children = with_bibliography(children, context)?;
     Ok(Document {
         attrs,
         children,

@@ -58,14 +58,10 @@ use std::alloc::Global;
 /// ```
 ///
 /// References left over become problematics of one ERROR for each of the two numberings.
-pub fn footnotes(
-    alloc: Global,
-    context: &mut Context,
-    linked: &[Linked<'_>],
-) -> Result<Changes, TreeFault>
+pub fn footnotes(context: &mut Context, linked: &[Linked<'_>]) -> Result<Changes, TreeFault>
     ensures { Gives (Makes (link_changes footnote_outcomes (map held linked.now)) context.old context.new) result }
 {
-    let changes = changes_by::<Numbering>(alloc, context, linked)?;
+    let changes = changes_by::<Numbering>(context, linked)?;
     Ok(changes)
 }
 
@@ -77,18 +73,14 @@ impl LinkTransform for Numbering {
 
     ghost decides = { footnote_outcomes };
 
-    fn outcomes(
-        alloc: Global,
-        context: &mut Context,
-        linked: &[Linked<'_>],
-    ) -> Result<Vec<Outcome>, TreeFault> {
-        let labels = labels(alloc, linked)?;
-        let found = found_by_order(alloc, linked)?;
-        hold_numbers(alloc, &mut context.names, linked, labels.as_slice())?;
-        let numbers = leftover(alloc, context, linked, found.as_slice(), Order::Numbers)?;
-        let symbols = leftover(alloc, context, linked, found.as_slice(), Order::Symbols)?;
+    fn outcomes(context: &mut Context, linked: &[Linked<'_>]) -> Result<Vec<Outcome>, TreeFault> {
+        let labels = labels(context.alloc, linked)?;
+        let found = found_by_order(context.alloc, linked)?;
+        hold_numbers(context.alloc, &mut context.names, linked, labels.as_slice())?;
+        let numbers = leftover(context, linked, found.as_slice(), Order::Numbers)?;
+        let symbols = leftover(context, linked, found.as_slice(), Order::Symbols)?;
         let outcomes = outcomes_by(
-            alloc,
+            context.alloc,
             linked,
             labels.as_slice(),
             found.as_slice(),
@@ -202,7 +194,6 @@ fn too_many(alloc: Global, order: Order, footnotes: usize) -> Result<Text, TreeF
 
 /// The message on the references of an order for which no footnote is left, if there are such.
 fn leftover(
-    alloc: Global,
     context: &mut Context,
     linked: &[Linked<'_>],
     found: &[Option<usize>],
@@ -213,9 +204,9 @@ fn leftover(
     let Some(line) = first_left_over(linked, found, order) else {
         return Ok(None);
     };
-    let footnotes = in_order(alloc, linked, order)?;
-    let text = too_many(alloc, order, footnotes.len())?;
-    let place = context.report(alloc, Level::Error, line, text, true)?;
+    let footnotes = in_order(context.alloc, linked, order)?;
+    let text = too_many(context.alloc, order, footnotes.len())?;
+    let place = context.report(Level::Error, line, text, true)?;
     Ok(Some(place))
 }
 

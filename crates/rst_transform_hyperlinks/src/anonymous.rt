@@ -37,14 +37,10 @@ use std::alloc::Global;
 ///
 /// One through an indirect target is left to the next transform. If there are more of the ones than of the others, there is
 /// one ERROR, and each reference becomes a problematic.
-pub fn anonymous(
-    alloc: Global,
-    context: &mut Context,
-    linked: &[Linked<'_>],
-) -> Result<Changes, TreeFault>
+pub fn anonymous(context: &mut Context, linked: &[Linked<'_>]) -> Result<Changes, TreeFault>
     ensures { Gives (Makes (link_changes anonymous_outcomes (map held linked.now)) context.old context.new) result }
 {
-    let changes = changes_by::<Pairing>(alloc, context, linked)?;
+    let changes = changes_by::<Pairing>(context, linked)?;
     Ok(changes)
 }
 
@@ -56,22 +52,18 @@ impl LinkTransform for Pairing {
 
     ghost decides = { anonymous_outcomes };
 
-    fn outcomes(
-        alloc: Global,
-        context: &mut Context,
-        linked: &[Linked<'_>],
-    ) -> Result<Vec<Outcome>, TreeFault> {
-        let references = anonymous_references(alloc, linked)?;
-        let targets = anonymous_targets(alloc, linked)?;
+    fn outcomes(context: &mut Context, linked: &[Linked<'_>]) -> Result<Vec<Outcome>, TreeFault> {
+        let references = anonymous_references(context.alloc, linked)?;
+        let targets = anonymous_targets(context.alloc, linked)?;
         if references.len() == targets.len() {
             if references.is_empty() {
-                return Ok(Vec::new(alloc));
+                return Ok(Vec::new(context.alloc));
             }
-            let outcomes = paired(alloc, linked, targets.as_slice())?;
+            let outcomes = paired(context.alloc, linked, targets.as_slice())?;
             return Ok(outcomes);
         }
-        let report = report_mismatch(alloc, context, references.as_slice(), targets.as_slice())?;
-        let outcomes = mismatched(alloc, linked, report)?;
+        let report = report_mismatch(context, references.as_slice(), targets.as_slice())?;
+        let outcomes = mismatched(context.alloc, linked, report)?;
         Ok(outcomes)
     }
 }
@@ -154,7 +146,6 @@ fn mismatch(alloc: Global, references: usize, targets: usize) -> Result<Text, Tr
 
 /// Adds the ERROR that there are, and gives its place.
 fn report_mismatch(
-    alloc: Global,
     context: &mut Context,
     references: &[Linked<'_>],
     targets: &[Linked<'_>],
@@ -165,8 +156,8 @@ fn report_mismatch(
     ensures rest { Gives (λ _. KeepsRest context.old context.new) result }
 {
     let line = first_line(references, targets);
-    let text = mismatch(alloc, references.len(), targets.len())?;
-    let place = context.report(alloc, Level::Error, line, text, true)?;
+    let text = mismatch(context.alloc, references.len(), targets.len())?;
+    let place = context.report(Level::Error, line, text, true)?;
     Ok(place)
 }
 

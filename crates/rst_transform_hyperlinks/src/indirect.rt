@@ -54,14 +54,10 @@ use std::alloc::Global;
 /// References by name are left to the last of these transforms. A target whose chain runs into a circle, or breaks at a name
 /// that no element holds, gives an ERROR, and the references through it become problematics of that message: message by message,
 /// under each in the order of the document.
-pub fn indirect(
-    alloc: Global,
-    context: &mut Context,
-    linked: &[Linked<'_>],
-) -> Result<Changes, TreeFault>
+pub fn indirect(context: &mut Context, linked: &[Linked<'_>]) -> Result<Changes, TreeFault>
     ensures { Gives (Makes (link_changes indirect_outcomes (map held linked.now)) context.old context.new) result }
 {
-    let changes = changes_by::<Following>(alloc, context, linked)?;
+    let changes = changes_by::<Following>(context, linked)?;
     Ok(changes)
 }
 
@@ -73,21 +69,16 @@ impl LinkTransform for Following {
 
     ghost decides = { indirect_outcomes };
 
-    fn outcomes(
-        alloc: Global,
-        context: &mut Context,
-        linked: &[Linked<'_>],
-    ) -> Result<Vec<Outcome>, TreeFault> {
-        let holders = Holders::of(alloc, linked, context.serials)?;
-        let steps = first_steps(alloc, &context.names, &holders, linked)?;
+    fn outcomes(context: &mut Context, linked: &[Linked<'_>]) -> Result<Vec<Outcome>, TreeFault> {
+        let holders = Holders::of(context.alloc, linked, context.serials)?;
+        let steps = first_steps(context.alloc, &context.names, &holders, linked)?;
         if are_none(steps.as_slice()) {
-            return Ok(Vec::new(alloc));
+            return Ok(Vec::new(context.alloc));
         }
-        let targets = targets_of(alloc, &context.names, &holders, linked)?;
-        let answers = answers(alloc, steps.as_slice())?;
-        let reports = reports(alloc, context, linked, answers.as_slice())?;
+        let targets = targets_of(context.alloc, &context.names, &holders, linked)?;
+        let answers = answers(context.alloc, steps.as_slice())?;
+        let reports = reports(context, linked, answers.as_slice())?;
         let outcomes = outcomes(
-            alloc,
             linked,
             answers.as_slice(),
             reports.as_slice(),
@@ -268,7 +259,6 @@ fn failure_at(
 
 /// Adds the message on an element, if it fails, and gives the place of the message.
 fn report_failure(
-    alloc: Global,
     context: &mut Context,
     node: &Node,
     failure: Option<Text>,
@@ -280,13 +270,12 @@ fn report_failure(
     let Some(text) = failure else {
         return Ok(None);
     };
-    let place = context.report(alloc, Level::Error, line_of(node), text, true)?;
+    let place = context.report(Level::Error, line_of(node), text, true)?;
     Ok(Some(place))
 }
 
 /// The message of each target that fails, by its place.
 fn reports(
-    alloc: Global,
     context: &mut Context,
     linked: &[Linked<'_>],
     answers: &[Option<Answer>],
@@ -295,10 +284,10 @@ fn reports(
     ensures reports { Gives (λ _. context.new.reports.items ≡ (with_reports (at_place answers.now) context.old.first_number context.old.reports.items 0 (map held linked.now)).1) result }
     ensures rest { Gives (λ _. KeepsRest context.old context.new) result }
 {
-    let mut reports = Vec::with_capacity(alloc, linked.len())?;
+    let mut reports = Vec::with_capacity(context.alloc, linked.len())?;
     for (place, one) in linked.iter().enumerate() {
-        let failure = failure_at(alloc, one.element, answers, place)?;
-        let report = report_failure(alloc, context, one.element, failure)?;
+        let failure = failure_at(context.alloc, one.element, answers, place)?;
+        let report = report_failure(context, one.element, failure)?;
         reports.push(report)?;
     }
     Ok(reports)

@@ -9,7 +9,6 @@ use crate::links::{Changes, Linked, Outcome};
 use crate::settling::settle;
 use rst_transform_work::Context;
 use rst_tree::TreeFault;
-use std::alloc::Global;
 
 /// A transform of links, which decides what becomes of the elements that references join.
 pub trait LinkTransform {
@@ -22,23 +21,18 @@ pub trait LinkTransform {
     ghost decides: { List Held → Known → List Outcome × Known };
 
     /// Decides what becomes of linked elements, and makes the messages of those that fail.
-    fn outcomes(
-        alloc: Global,
-        context: &mut Context,
-        linked: &[Linked<'_>],
-    ) -> Result<Vec<Outcome>, TreeFault>
+    fn outcomes(context: &mut Context, linked: &[Linked<'_>]) -> Result<Vec<Outcome>, TreeFault>
         ensures { Gives (λ outcomes. Makes (decides (map held linked.now)) context.old context.new outcomes.items) result };
 }
 
 /// What becomes of linked elements as a transform decides.
 pub fn changes_by<T: LinkTransform>(
-    alloc: Global,
     context: &mut Context,
     linked: &[Linked<'_>],
 ) -> Result<Changes, TreeFault>
     ensures { Gives (Makes (link_changes T.decides (map held linked.now)) context.old context.new) result }
 {
-    let outcomes = T::outcomes(alloc, context, linked)?;
-    let changes = settle(alloc, context, linked, outcomes)?;
+    let outcomes = T::outcomes(context, linked)?;
+    let changes = settle(context, linked, outcomes)?;
     Ok(changes)
 }

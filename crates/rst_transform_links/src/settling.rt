@@ -18,7 +18,6 @@ use std::alloc::Global;
 /// Those that fail become problematics here, message by message, and take their ids in this order. An element inside one that became a
 /// problematic is gone: it becomes none afterwards, and doesn't remain in the end.
 pub fn settle(
-    alloc: Global,
     context: &mut Context,
     linked: &[Linked<'_>],
     mut outcomes: Vec<Outcome>,
@@ -28,15 +27,15 @@ pub fn settle(
     if all_stay(outcomes.as_slice()) {
         return Ok(Changes::of(outcomes));
     }
-    let around = first_around(alloc, linked, outcomes.as_slice())?;
+    let around = first_around(context.alloc, linked, outcomes.as_slice())?;
     let turns = turns(
-        alloc,
+        context.alloc,
         context.reports.len(),
         outcomes.as_slice(),
         around.as_slice(),
     )?;
-    take_turns(alloc, context, turns.as_slice(), &mut outcomes)?;
-    let changes = remaining(alloc, outcomes, around.as_slice())?;
+    take_turns(context, turns.as_slice(), &mut outcomes)?;
+    let changes = remaining(context.alloc, outcomes, around.as_slice())?;
     Ok(changes)
 }
 
@@ -135,7 +134,6 @@ fn turns(
 
 /// Lets each element at its turn become its problematic.
 fn take_turns(
-    alloc: Global,
     context: &mut Context,
     turns: &[(usize, usize)],
     outcomes: &mut Vec<Outcome>,
@@ -143,7 +141,7 @@ fn take_turns(
     ensures { Gives (λ _. Makes (spec.take_turns turns.now outcomes.old.items) context.old context.new outcomes.new.items) result }
 {
     for turn in turns {
-        let problematic = context.next_problematic(alloc, turn.0)?;
+        let problematic = context.next_problematic(turn.0)?;
         put_at(outcomes, turn.1, Outcome::Failed(problematic));
     }
     Ok(())

@@ -49,14 +49,10 @@ use std::alloc::Global;
 ///
 /// A name that means nothing gives an ERROR, and the reference becomes a problematic; the references inside it are gone, and
 /// give no message.
-pub fn resolve(
-    alloc: Global,
-    context: &mut Context,
-    linked: &[Linked<'_>],
-) -> Result<Changes, TreeFault>
+pub fn resolve(context: &mut Context, linked: &[Linked<'_>]) -> Result<Changes, TreeFault>
     ensures { Gives (Makes (link_changes spec.reference_outcomes (map held linked.now)) context.old context.new) result }
 {
-    let changes = changes_by::<Resolving>(alloc, context, linked)?;
+    let changes = changes_by::<Resolving>(context, linked)?;
     Ok(changes)
 }
 
@@ -68,14 +64,10 @@ impl LinkTransform for Resolving {
 
     ghost decides = { reference_outcomes };
 
-    fn outcomes(
-        alloc: Global,
-        context: &mut Context,
-        linked: &[Linked<'_>],
-    ) -> Result<Vec<Outcome>, TreeFault> {
-        let holders = Holders::of(alloc, linked, context.serials)?;
-        let outcomes = resolved(alloc, context, &*linked, &holders)?;
-        let outcomes = with_backrefs(alloc, &*linked, &context.names, &holders, outcomes)?;
+    fn outcomes(context: &mut Context, linked: &[Linked<'_>]) -> Result<Vec<Outcome>, TreeFault> {
+        let holders = Holders::of(context.alloc, linked, context.serials)?;
+        let outcomes = resolved(context, &*linked, &holders)?;
+        let outcomes = with_backrefs(context.alloc, &*linked, &context.names, &holders, outcomes)?;
         Ok(outcomes)
     }
 }
@@ -146,22 +138,16 @@ fn name_of(reference: &Node) -> &str
 
 /// A reference that fails for an ERROR of its own.
 #[tactic(auto, using(crate::proofs::Resolves::fails_for))]
-fn failing(
-    alloc: Global,
-    context: &mut Context,
-    reference: &Node,
-    text: Text,
-) -> Result<Outcome, TreeFault>
+fn failing(context: &mut Context, reference: &Node, text: Text) -> Result<Outcome, TreeFault>
     ensures { Gives (Makes (spec.failing reference.now text) context.old context.new) result }
 {
     let line = line_of(reference);
-    let report = context.report(alloc, Level::Error, line, text, true)?;
+    let report = context.report(Level::Error, line, text, true)?;
     Ok(Outcome::Fails(report))
 }
 
 /// What becomes of a reference whose name means this.
 fn outcome_of(
-    alloc: Global,
     context: &mut Context,
     linked: &[Linked<'_>],
     reference: &Node,
@@ -171,17 +157,17 @@ fn outcome_of(
 {
     match meaning {
         Meaning::Leads { attr, referent } => {
-            let shown = shown_for(alloc, linked, reference, referent)?;
+            let shown = shown_for(context.alloc, linked, reference, referent)?;
             let attr = Some(attr);
             Ok(Outcome::Stays(Addition { attr, shown }))
         }
         Meaning::Unknown => {
-            let text = unknown(alloc, name_of(reference))?;
-            failing(alloc, context, reference, text)
+            let text = unknown(context.alloc, name_of(reference))?;
+            failing(context, reference, text)
         }
         Meaning::Duplicate => {
-            let text = duplicate(alloc, name_of(reference))?;
-            failing(alloc, context, reference, text)
+            let text = duplicate(context.alloc, name_of(reference))?;
+            failing(context, reference, text)
         }
     }
 }
@@ -198,7 +184,6 @@ fn is_gone(ended: &[bool], outer: Option<usize>) -> bool
 
 /// What becomes of an element that may be gone.
 fn what_becomes<'l>(
-    alloc: Global,
     context: &mut Context,
     linked: &'l [Linked<'l>],
     holders: &'l Holders,
@@ -215,10 +200,10 @@ fn what_becomes<'l>(
         names: &context.names,
         holders,
     };
-    let Some(meaning) = lookup.meaning_to(alloc, element)? else {
+    let Some(meaning) = lookup.meaning_to(context.alloc, element)? else {
         return Ok(Outcome::same());
     };
-    let outcome = outcome_of(alloc, context, linked, element, meaning)?;
+    let outcome = outcome_of(context, linked, element, meaning)?;
     Ok(outcome)
 }
 
@@ -231,18 +216,17 @@ fn ends(gone: bool, outcome: &Outcome) -> bool
 
 /// What becomes of all linked elements, where the messages of those that fail are made.
 fn resolved<'l>(
-    alloc: Global,
     context: &mut Context,
     linked: &'l [Linked<'l>],
     holders: &'l Holders,
 ) -> Result<Vec<Outcome>, TreeFault>
     ensures { let all = map held linked.now in Gives (λ outcomes. Makes (resolved_from (place_at holders.now.places.items) all [] all) context.old context.new outcomes.items) result }
 {
-    let mut outcomes = Vec::with_capacity(alloc, linked.len())?;
-    let mut ended: Vec<bool> = Vec::with_capacity(alloc, linked.len())?;
+    let mut outcomes = Vec::with_capacity(context.alloc, linked.len())?;
+    let mut ended: Vec<bool> = Vec::with_capacity(context.alloc, linked.len())?;
     for one in linked {
         let gone = is_gone(ended.as_slice(), one.outer);
-        let outcome = what_becomes(alloc, context, linked, holders, one.element, gone)?;
+        let outcome = what_becomes(context, linked, holders, one.element, gone)?;
         ended.push(ends(gone, &outcome))?;
         outcomes.push(outcome)?;
     }

@@ -19,7 +19,6 @@ use std::alloc::Global;
 ///             Docutils System Messages
 ///         <system_message ..>
 pub fn last_section(
-    alloc: Global,
     mut document: Document,
     context: &mut Context,
     report: Threshold,
@@ -29,7 +28,7 @@ pub fn last_section(
     if !is_any_shown(context.reports.as_slice(), report) {
         return Ok(document);
     }
-    let section = section(alloc, &mut context.reports)?;
+    let section = section(context.alloc, &mut context.reports)?;
     document.children.push(section)?;
     Ok(document)
 }

@@ -32,14 +32,10 @@ use std::mem;
 ///     <paragraph ids="b a" names="b a">
 ///
 /// A target that no element follows, or one that takes no ids, stays as it is.
-pub fn targets(
-    alloc: Global,
-    mut document: Document,
-    context: &mut Context,
-) -> Result<Document, TreeFault>
+pub fn targets(mut document: Document, context: &mut Context) -> Result<Document, TreeFault>
     ensures { Gives (Makes (with_targets document) context.old context.new) result }
 {
-    let mut walking = Walking::of(alloc);
+    let mut walking = Walking::of(context.alloc);
     hand_in(&mut document.children, false, &mut walking)?;
     pass(walking.into_got(), &mut context.names);
     Ok(document)

@@ -35,11 +35,7 @@ use std::alloc::Global;
 ///         <paragraph>
 ///
 /// Comments, targets, substitution definitions and messages may come before the section.
-pub fn title(
-    alloc: Global,
-    document: Document,
-    context: &mut Context,
-) -> Result<Document, TreeFault>
+pub fn title(document: Document, context: &mut Context) -> Result<Document, TreeFault>
     ensures { Gives (Makes (with_title document) context.old context.new) result }
 {
     let Document {
@@ -47,7 +43,7 @@ pub fn title(
         children,
         line,
     } = document;
-    let children = titled(alloc, &mut attrs, children, &mut context.names)?;
+    let children = titled(context.alloc, &mut attrs, children, &mut context.names)?;
     Ok(Document {
         attrs,
         children,

@@ -35,11 +35,7 @@ use std::alloc::Global;
 ///
 /// One that the document ends with stays, and a message follows it. No element but the document and its sections holds a
 /// transition, so nothing else is gone through.
-pub fn transitions(
-    alloc: Global,
-    document: Document,
-    context: &mut Context,
-) -> Result<Document, TreeFault>
+pub fn transitions(document: Document, context: &mut Context) -> Result<Document, TreeFault>
     ensures { Gives (Makes (with_transitions document) context.old context.new) result }
 {
     let Document {
@@ -47,7 +43,7 @@ pub fn transitions(
         children,
         line,
     } = document;
-    let Placed { nodes, moving: _ } = place_in(alloc, children, true, context)?;
+    let Placed { nodes, moving: _ } = place_in(children, true, context)?;
     Ok(Document {
         attrs,
         children: Children::of(nodes),
@@ -65,17 +61,12 @@ struct Placed {
 
 /// Gives the transitions among the nodes of the document or a section, and in its sections, their places. If the document `ends` with
 /// the nodes, a transition that they end with stays, and else it moves out.
-fn place_in(
-    alloc: Global,
-    nodes: Children,
-    ends: bool,
-    context: &mut Context,
-) -> Result<Placed, TreeFault>
+fn place_in(nodes: Children, ends: bool, context: &mut Context) -> Result<Placed, TreeFault>
     ensures placed { Gives (λ placed. so_far placed context.new ≡ placed_in context.old.first_number ends (none_yet context.old.reports.items) nodes) result }
     ensures rest { Gives (λ _. KeepsRest context.old context.new) result }
 {
     let mut left = nodes.len();
-    let mut placed = Placed::with_room(alloc, left)?;
+    let mut placed = Placed::with_room(context.alloc, left)?;
     for node in nodes.into_list() {
         left = left.saturating_sub(1);
         match node {
@@ -91,7 +82,7 @@ fn place_in(
             } => {
                 let last = left == 0;
                 if is_section(tag) {
-                    let inner = place_in(alloc, children, ends && last, context)?;
+                    let inner = place_in(children, ends && last, context)?;
                     placed.put_section(tag, attrs, line, inner, last)?;
                     continue;
                 }
@@ -102,7 +93,7 @@ fn place_in(
                     line,
                 };
                 if is_transition(tag) {
-                    placed.put_transition(alloc, element, line, last, ends, context)?;
+                    placed.put_transition(element, line, last, ends, context)?;
                     continue;
                 }
                 placed.nodes.push(element)?;
@@ -129,7 +120,6 @@ impl Placed {
     #[tactic(auto, unfolding(crate::specs::Transitions::with_message))]
     fn put_message(
         &mut self,
-        alloc: Global,
         line: usize,
         words: &str,
         context: &mut Context,
@@ -137,24 +127,19 @@ impl Placed {
         ensures siblings { Gives (λ _. so_far self.new context.new ≡ with_message context.old.first_number line words.now (so_far self.old context.old)) result }
         ensures rest { Gives (λ _. KeepsRest context.old context.new) result }
     {
-        let message = message(alloc, line, words, context)?;
+        let message = message(line, words, context)?;
         self.nodes.push(message)?;
         Ok(())
     }
 
     /// Puts the message on what is wrong with a transition after the nodes there, if anything is.
     #[tactic(auto, unfolding(crate::specs::Transitions::with_fault))]
-    fn put_fault(
-        &mut self,
-        alloc: Global,
-        line: usize,
-        context: &mut Context,
-    ) -> Result<(), TreeFault>
+    fn put_fault(&mut self, line: usize, context: &mut Context) -> Result<(), TreeFault>
         ensures siblings { Gives (λ _. so_far self.new context.new ≡ with_fault context.old.first_number line (fault_before self.old.nodes.items) (so_far self.old context.old)) result }
         ensures rest { Gives (λ _. KeepsRest context.old context.new) result }
     {
         match fault_before(self.nodes.as_slice()) {
-            Some(words) => self.put_message(alloc, line, words, context),
+            Some(words) => self.put_message(line, words, context),
             None => Ok(()),
         }
     }
@@ -164,7 +149,6 @@ impl Placed {
     #[tactic(auto, unfolding(crate::specs::Transitions::put_transition))]
     fn put_transition(
         &mut self,
-        alloc: Global,
         transition: Node,
         line: usize,
         last: bool,
@@ -174,14 +158,14 @@ impl Placed {
         ensures siblings { Gives (λ _. so_far self.new context.new ≡ put_transition context.old.first_number last ends transition line (so_far self.old context.old)) result }
         ensures rest { Gives (λ _. KeepsRest context.old context.new) result }
     {
-        self.put_fault(alloc, line, context)?;
+        self.put_fault(line, context)?;
         if last && !ends {
             self.moving.push(transition)?;
             return Ok(());
         }
         self.nodes.push(transition)?;
         if last {
-            return self.put_message(alloc, line, AT_END, context);
+            return self.put_message(line, AT_END, context);
         }
         Ok(())
     }
@@ -268,16 +252,11 @@ fn is_transition(tag: Tag) -> bool
 }
 
 /// An ERROR on a transition. It is in the list of messages, too.
-fn message(
-    alloc: Global,
-    line: usize,
-    words: &str,
-    context: &mut Context,
-) -> Result<Node, TreeFault>
+fn message(line: usize, words: &str, context: &mut Context) -> Result<Node, TreeFault>
     ensures node { Gives (λ node. node ≡ report_node (report_in context.old Error line words.now false)) result }
     ensures reports { Gives (λ _. IsReported (report_in context.old Error line words.now false) context.old context.new) result }
     ensures rest { Gives (λ _. KeepsRest context.old context.new) result }
 {
-    let text = Text::from_str(alloc, words)?;
-    context.report_in_place(alloc, Level::Error, line, text)
+    let text = Text::from_str(context.alloc, words)?;
+    context.report_in_place(Level::Error, line, text)
 }

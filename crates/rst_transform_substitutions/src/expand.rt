@@ -39,24 +39,19 @@ use std::mem;
 /// ```
 ///
 /// The only refusal is [`TreeFault::NoMemory`].
-pub fn expand(
-    alloc: Global,
-    mut document: Document,
-    context: &mut Context,
-) -> Result<Document, TreeFault>
+pub fn expand(mut document: Document, context: &mut Context) -> Result<Document, TreeFault>
     ensures { Gives (Makes (with_expansions document) context.old context.new) result }
 {
-    let definitions = Definitions::of(alloc, &document.children)?;
-    let mut outcomes = Outcomes::new(alloc, &definitions)?;
+    let definitions = Definitions::of(context.alloc, &document.children)?;
+    let mut outcomes = Outcomes::new(context.alloc, &definitions)?;
     let nodes = &mut document.children;
-    expand_in(alloc, &definitions, nodes, None, &mut outcomes, context)?;
+    expand_in(&definitions, nodes, None, &mut outcomes, context)?;
     Ok(document)
 }
 
 /// Replaces the references among nodes and in them, in document order; `within` is the definition that the nodes stand in. Each
 /// reference first holds the nodes that it gives way to.
 fn expand_in(
-    alloc: Global,
     definitions: &Definitions,
     nodes: &mut Children,
     within: Option<usize>,
@@ -77,27 +72,19 @@ fn expand_in(
                 line,
             } => {
                 if is_reference(*tag) {
-                    *children = replaced(
-                        alloc,
-                        definitions,
-                        attrs,
-                        *line,
-                        within,
-                        outcomes,
-                        context,
-                    )?;
+                    *children = replaced(definitions, attrs, *line, within, outcomes, context)?;
                     continue;
                 }
                 if are_plain(children) {
                     continue;
                 }
                 let within = within_element(definitions, *tag, attrs, within);
-                expand_in(alloc, definitions, children, within, outcomes, context)?;
+                expand_in(definitions, children, within, outcomes, context)?;
             }
         }
     }
     if has_reference(nodes.as_slice()) {
-        open_references(alloc, nodes)?;
+        open_references(context.alloc, nodes)?;
     }
     Ok(())
 }
@@ -174,7 +161,6 @@ fn within_element(
 /// What becomes of a reference: the nodes for it, or a problematic.
 #[inline(never)]
 fn replaced(
-    alloc: Global,
     definitions: &Definitions,
     attrs: &mut Attrs,
     line: usize,
@@ -187,18 +173,17 @@ fn replaced(
     ensures remembers { OnOk result (Remembers definitions.now outcomes.new) }
 {
     let name = said(attrs, Key::Refname);
-    match reference_outcome(alloc, definitions, name, within, outcomes)? {
+    match reference_outcome(context.alloc, definitions, name, within, outcomes)? {
         Outcome::Nodes(nodes) => Ok(nodes),
         Outcome::Fault(fault) => {
-            let problematic = problematic(alloc, attrs, line, fault, context)?;
-            Children::lone(alloc, problematic)
+            let problematic = problematic(attrs, line, fault, context)?;
+            Children::lone(context.alloc, problematic)
         }
     }
 }
 
 /// The problematic that a reference becomes which isn't replaced, with its message.
 fn problematic(
-    alloc: Global,
     attrs: &mut Attrs,
     line: usize,
     fault: ExpansionFault,
@@ -206,9 +191,9 @@ fn problematic(
 ) -> Result<Node, TreeFault>
     ensures { Gives (Makes (at_fault attrs.old line fault) context.old context.new) result }
 {
-    let text = fault.text(alloc, said(attrs, Key::Refname))?;
-    let report = context.report(alloc, Level::Error, line, text, true)?;
-    let source = take_source(alloc, attrs)?;
-    let node = context.problematic(alloc, report, source, line)?;
+    let text = fault.text(context.alloc, said(attrs, Key::Refname))?;
+    let report = context.report(Level::Error, line, text, true)?;
+    let source = take_source(context.alloc, attrs)?;
+    let node = context.problematic(report, source, line)?;
     Ok(node)
 }

@@ -14,6 +14,8 @@ use std::alloc::Global;
 /// What is known beside the document between two transforms: what registration left, and the messages of the transforms so far.
 #[derive(Drop)]
 pub struct Context {
+    /// Where what the transforms make is kept.
+    pub alloc: Global,
     /// The ids that are taken.
     pub ids: Ids,
     /// The names and their holders.
@@ -28,7 +30,7 @@ pub struct Context {
 
 impl Context {
     /// The next message, which has no problematics yet.
-    fn next_report(&self, alloc: Global, level: Level, line: usize, text: Text, own: bool) -> Report
+    fn next_report(&self, level: Level, line: usize, text: Text, own: bool) -> Report
         ensures { result ≡ report_in self.now level line text own }
     {
         Report {
@@ -38,7 +40,7 @@ impl Context {
             // The sum can't saturate: memory doesn't hold so many messages.
             number: self.first_number.saturating_add(self.reports.len() as u64),
             id: None,
-            backrefs: Texts::new(alloc),
+            backrefs: Texts::new(self.alloc),
             own,
         }
     }
@@ -47,7 +49,6 @@ impl Context {
     /// the caller puts its `node`.
     pub fn report(
         &mut self,
-        alloc: Global,
         level: Level,
         line: usize,
         text: Text,
@@ -58,7 +59,7 @@ impl Context {
         ensures rest { Gives (λ _. KeepsRest self.old self.new) result }
     {
         let place = self.reports.len();
-        let report = self.next_report(alloc, level, line, text, own);
+        let report = self.next_report(level, line, text, own);
         self.reports.push(report)?;
         Ok(place)
     }
@@ -66,7 +67,6 @@ impl Context {
     /// Adds a message that stands in the tree itself, and gives its node, for the caller to put into its place.
     pub fn report_in_place(
         &mut self,
-        alloc: Global,
         level: Level,
         line: usize,
         text: Text,
@@ -75,8 +75,8 @@ impl Context {
         ensures reports { Gives (λ _. IsReported (report_in self.old level line text false) self.old self.new) result }
         ensures rest { Gives (λ _. KeepsRest self.old self.new) result }
     {
-        let mut report = self.next_report(alloc, level, line, text, false);
-        let node = report.node(alloc)?;
+        let mut report = self.next_report(level, line, text, false);
+        let node = report.node(self.alloc)?;
         self.reports.push(report)?;
         Ok(node)
     }
@@ -85,17 +85,15 @@ impl Context {
     /// tells.
     pub fn problematic(
         &mut self,
-        alloc: Global,
         report: usize,
         source: Text,
         line: usize,
     ) -> Result<Node, TreeFault>
         ensures { Gives (Makes (spec.problematic_node report source line) self.old self.new) result }
     {
-        let mut attrs = Attrs::new(alloc);
-        self.next_problematic(alloc, report)?
-            .tell(alloc, &mut attrs)?;
-        let children = Children::lone(alloc, Node::Text(source))?;
+        let mut attrs = Attrs::new(self.alloc);
+        self.next_problematic(report)?.tell(self.alloc, &mut attrs)?;
+        let children = Children::lone(self.alloc, Node::Text(source))?;
         Ok(Node::Element {
             tag: Tag::Problematic,
             attrs,
@@ -106,20 +104,16 @@ impl Context {
 
     /// What the next problematic tells, as the message at a place among the reports has it. It gets its id before the message
     /// gets one. A place behind the last report gives a problematic without message.
-    pub fn next_problematic(
-        &mut self,
-        alloc: Global,
-        report: usize,
-    ) -> Result<ProblematicAttrs, TreeFault>
+    pub fn next_problematic(&mut self, report: usize) -> Result<ProblematicAttrs, TreeFault>
         ensures { Gives (Makes (spec.problematic report) self.old self.new) result }
     {
-        let id = self.ids.give_kind(alloc, Tag::Problematic)?;
+        let id = self.ids.give_kind(self.alloc, Tag::Problematic)?;
         if report >= self.reports.len() {
             return Ok(ProblematicAttrs::alone(id));
         }
         let back = id.copy()?;
         let report = &mut self.reports[report];
-        let own = report.refer_back(alloc, &mut self.ids, back)?;
+        let own = report.refer_back(self.alloc, &mut self.ids, back)?;
         Ok(ProblematicAttrs::of(id, report.number, own))
     }
 }

@@ -242,8 +242,8 @@ fn field_lists_become_bibliographies(rt: HostRuntime) -> Result<(), Fail> {
     for &(before, after) in ROWS {
         let document = document(alloc, before)?;
         let mut context = context(alloc);
-        let changed = docinfo(alloc, document, &mut context)?;
-        assert_eq!(rt; shown(alloc, changed, &context)?.as_str(), after);
+        let changed = docinfo(document, &mut context)?;
+        assert_eq!(rt; shown(changed, &context)?.as_str(), after);
     }
     Ok(())
 }
@@ -269,12 +269,12 @@ fn uris_of_targets_that_leave_are_kept(rt: HostRuntime) -> Result<(), Fail> {
 ";
     let document = document(alloc, before)?;
     let mut context = naming(alloc, &document)?;
-    let changed = docinfo(alloc, document, &mut context)?;
+    let changed = docinfo(document, &mut context)?;
     let uri = match context.names.get("author") {
         Some(NameEntry { uri: Some(uri), .. }) => uri.as_str(),
         _ => "none",
     };
     assert_eq!(rt; uri, "u");
-    assert_eq!(rt; shown(alloc, changed, &context)?.as_str(), after);
+    assert_eq!(rt; shown(changed, &context)?.as_str(), after);
     Ok(())
 }

@@ -145,8 +145,8 @@ fn references_are_replaced(rt: HostRuntime) -> Result<(), Fail> {
     for &(before, after) in ROWS {
         let document = document(alloc, before)?;
         let mut context = context(alloc);
-        let expanded = expand(alloc, document, &mut context)?;
-        assert_eq!(rt; shown(alloc, expanded, &context)?.as_str(), after);
+        let expanded = expand(document, &mut context)?;
+        assert_eq!(rt; shown(expanded, &context)?.as_str(), after);
     }
     Ok(())
 }
@@ -199,7 +199,7 @@ fn expansions_are_bounded(rt: HostRuntime) -> Result<(), Fail> {
         let outline = chain(alloc, definitions, copies, length)?;
         let document = document(alloc, outline.as_str())?;
         let mut context = context(alloc);
-        expand(alloc, document, &mut context)?;
+        expand(document, &mut context)?;
         match context.reports.first() {
             None => assert!(rt; fits),
             Some(report) => {

@@ -273,10 +273,10 @@ fn numbers_footnotes(rt: HostRuntime) -> Result<(), Fail> {
         let document = document(alloc, before)?;
         let mut context = naming(alloc, &document)?;
         let linked = linked_in(alloc, &document)?;
-        let changes = footnotes(alloc, &mut context, linked.as_slice())?;
+        let changes = footnotes(&mut context, linked.as_slice())?;
         drop(linked);
         let changed = with_changes(alloc, document, changes)?;
-        assert_eq!(rt; shown(alloc, changed, &context)?.as_str(), after);
+        assert_eq!(rt; shown(changed, &context)?.as_str(), after);
     }
     Ok(())
 }
@@ -288,10 +288,10 @@ fn resolves_names(rt: HostRuntime) -> Result<(), Fail> {
         let document = document(alloc, before)?;
         let mut context = naming(alloc, &document)?;
         let linked = linked_in(alloc, &document)?;
-        let changes = resolve(alloc, &mut context, linked.as_slice())?;
+        let changes = resolve(&mut context, linked.as_slice())?;
         drop(linked);
         let changed = with_changes(alloc, document, changes)?;
-        assert_eq!(rt; shown(alloc, changed, &context)?.as_str(), after);
+        assert_eq!(rt; shown(changed, &context)?.as_str(), after);
     }
     Ok(())
 }

@@ -167,6 +167,7 @@ pub fn document(alloc: Global, outline: &str) -> Result<Document, TreeFault> {
 /// What is known before a transform: no name and no earlier message.
 pub fn context(alloc: Global) -> Context {
     Context {
+        alloc,
         ids: Ids::new(alloc),
         names: Names::new(alloc),
         reports: Vec::new(alloc),
@@ -253,12 +254,12 @@ pub fn printed(alloc: Global, document: Node) -> Result<String, Fail> {
 }
 
 /// The document with all its attributes, and behind it each message: its line, and what it says.
-pub fn shown(alloc: Global, document: Document, context: &Context) -> Result<String, Fail> {
-    let mut text = outline(alloc, &document.into_node())?;
+pub fn shown(document: Document, context: &Context) -> Result<String, Fail> {
+    let mut text = outline(context.alloc, &document.into_node())?;
     for report in &context.reports {
         let said = report.text.as_str();
         let line = report.line;
-        let note = format!(in alloc; "{line}: {said}\n")?;
+        let note = format!(in context.alloc; "{line}: {said}\n")?;
         text.push_str(note.as_str())?;
     }
     Ok(text)

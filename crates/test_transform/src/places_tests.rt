@@ -146,8 +146,8 @@ fn places_targets(rt: HostRuntime) -> Result<(), Fail> {
     for &(before, after) in TARGETS {
         let document = document(alloc, before)?;
         let mut context = context(alloc);
-        let changed = targets(alloc, document, &mut context)?;
-        assert_eq!(rt; shown(alloc, changed, &context)?.as_str(), after);
+        let changed = targets(document, &mut context)?;
+        assert_eq!(rt; shown(changed, &context)?.as_str(), after);
     }
     Ok(())
 }
@@ -298,8 +298,8 @@ fn places_titles(rt: HostRuntime) -> Result<(), Fail> {
     for &(before, after) in TITLES {
         let document = document(alloc, before)?;
         let mut context = context(alloc);
-        let changed = title(alloc, document, &mut context)?;
-        assert_eq!(rt; shown(alloc, changed, &context)?.as_str(), after);
+        let changed = title(document, &mut context)?;
+        assert_eq!(rt; shown(changed, &context)?.as_str(), after);
     }
     Ok(())
 }

@@ -181,10 +181,10 @@ fn joins_anonymous_references(rt: HostRuntime) -> Result<(), Fail> {
         let document = document(alloc, before)?;
         let mut context = naming(alloc, &document)?;
         let linked = linked_in(alloc, &document)?;
-        let changes = anonymous(alloc, &mut context, linked.as_slice())?;
+        let changes = anonymous(&mut context, linked.as_slice())?;
         drop(linked);
         let changed = with_changes(alloc, document, changes)?;
-        assert_eq!(rt; shown(alloc, changed, &context)?.as_str(), after);
+        assert_eq!(rt; shown(changed, &context)?.as_str(), after);
     }
     Ok(())
 }
@@ -196,10 +196,10 @@ fn follows_indirect_targets(rt: HostRuntime) -> Result<(), Fail> {
         let document = document(alloc, before)?;
         let mut context = naming(alloc, &document)?;
         let linked = linked_in(alloc, &document)?;
-        let changes = indirect(alloc, &mut context, linked.as_slice())?;
+        let changes = indirect(&mut context, linked.as_slice())?;
         drop(linked);
         let changed = with_changes(alloc, document, changes)?;
-        assert_eq!(rt; shown(alloc, changed, &context)?.as_str(), after);
+        assert_eq!(rt; shown(changed, &context)?.as_str(), after);
     }
     Ok(())
 }

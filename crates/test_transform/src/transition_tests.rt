@@ -213,8 +213,8 @@ fn places_transitions(rt: HostRuntime) -> Result<(), Fail> {
     for &(before, after) in TRANSITIONS {
         let document = document(alloc, before)?;
         let mut context = context(alloc);
-        let changed = transitions(alloc, document, &mut context)?;
-        assert_eq!(rt; shown(alloc, changed, &context)?.as_str(), after);
+        let changed = transitions(document, &mut context)?;
+        assert_eq!(rt; shown(changed, &context)?.as_str(), after);
     }
     Ok(())
 }
