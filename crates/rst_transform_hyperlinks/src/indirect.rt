@@ -79,6 +79,7 @@ impl LinkTransform for Following {
         let answers = answers(context.alloc, steps.as_slice())?;
         let reports = reports(context, linked, answers.as_slice())?;
         let outcomes = outcomes(
+            context.alloc,
             linked,
             answers.as_slice(),
             reports.as_slice(),
