@@ -1,5 +1,5 @@
 -- Internal targets that hand on their ids and names, one element after another.
-use Rattle.std.proofs.Common.{◌≡◌, ◌∙◌, ℕ, ◌+◌, ◌-◌, ◌<◌, ◌≤◌, List, [], ◌∷◌, ◌++◌, take, drop, length, length-drop, get_or, set, Bool, true, false, Option, Some, refl, ap, sym, subst, append_assoc, arith}
+use Rattle.std.proofs.Common.{◌≡◌, ◌∙◌, ℕ, ◌+◌, ◌-◌, ◌<◌, ◌≤◌, List, [], ◌∷◌, ◌++◌, take, drop, length, length-drop, length-set, get_or, set, Bool, true, false, Option, Some, refl, ap, sym, subst, append_assoc, arith}
 use Rattle.std.specs.Prelude.{◌&&◌, if◌then◌else◌, reverse, slice_get, unwrap_or}
 use Rattle.std.specs.List.{list_any}
 use Rattle.std.proofs.lemmas.Bool.{or_parts as or_none}
@@ -59,8 +59,16 @@ module _ (ns : List Node) (i : ℕ) (n : Node) (within : i < length ns) (is : n 
 pub takes_end : (ns : List Node) (i : ℕ) (behind whole : Bool) → length ns ≤ i → takes_from ns i behind ≡ whole → behind ≡ whole
 takes_end ns i behind whole past so_far = rw (drop_all i ns past) at so_far
 
-pub takes_rest : (ns : List Node) (i : ℕ) (behind : Bool) → first_takes (items (forest_of (take (length ns - i) (drop i ns)))) behind ≡ takes_from ns i behind
-takes_rest ns i behind = ap (λ xs. first_takes (items (forest_of xs)) behind) (take_all (length ns - i) (drop i ns) (omega (arith, length-drop i ns)))
+pub takes_rest : (f : Forest) (ns : List Node) (i : ℕ) (behind next : Bool) → f ≡ forest_of ns → next ≡ first_takes (items (forest_of (take (length ns - i) (drop i ns)))) behind → next ≡ takes_from (nodes_of f) i behind
+takes_rest f ns i behind next is takes =
+    takes ∙ ap (λ xs. first_takes (items (forest_of xs)) behind) (take_all (length ns - i) (drop i ns) (omega (arith, length-drop i ns)) ∙ ap (drop i) (sym (ap nodes_of is ∙ nodes_of-forest_of ns)))
+
+-- so many nodes there are
+pub slice_many : (f : Forest) (ns : List Node) → f ≡ forest_of ns → length ns ≡ length (nodes_of f)
+slice_many f ns is = ap length (sym (ap nodes_of is ∙ nodes_of-forest_of ns))
+
+pub same_many : (all now : Forest) (i : ℕ) (new : Node) → length (nodes_of now) ≡ length (nodes_of all) → length (nodes_of (forest_of (set (nodes_of now) i new))) ≡ length (nodes_of all)
+same_many all now i new same = ap length (nodes_of-forest_of (set (nodes_of now) i new)) ∙ length-set (nodes_of now) i new ∙ same
 
 -- ---- one element
 
@@ -111,10 +119,7 @@ Handing-init behind all first = λ rest h.
     let s : Reached = taking (takers (items all) ++ rest) first in
     subst (λ f. Left next_reached changed_at all s all (taking (takers (items f) ++ rest) first) 0) (sym (forest_of-nodes_of all)) (Left-init next_reached changed_at all s)
 
--- the nodes are as many as before, and each that is met next is no higher than all
-pub as_many : (behind : Bool) (all : Forest) (first : Reached) (now : Forest) (state : Reached) (i : ℕ) → Handing behind all first now state i → length (nodes_of now) ≡ length (nodes_of all)
-as_many behind all first now state i handing = (handing (behind ∷ []) refl).same_len
-
+-- each node that is met next is no higher than all
 pub no_higher : (behind : Bool) (all : Forest) (first : Reached) (now : Forest) (state : Reached) (i : ℕ) (child : Node) → Handing behind all first now state i → i < length (nodes_of now)
     → child ≡ get_or (nodes_of now) i child → node_height child ≤ height all
 no_higher behind all first now state i child handing fits at = Left-child next_reached changed_at all _ now _ i child (handing (behind ∷ []) refl) fits at

@@ -72,6 +72,7 @@ fn hands_on(tag: Tag, attrs: &Attrs, children: &Children, next: bool) -> bool
 }
 
 /// Lets the targets among nodes and in them hand on their ids and names, where it is known whether the element behind the nodes takes ids.
+#[tactic(auto, using(crate::proofs::Retargeting::slice_many))]
 fn hand_in(nodes: &mut Children, behind: bool, walking: &mut Walking) -> Result<(), TreeFault>
     ensures { Gives (λ _. HandsOn behind nodes.old nodes.new walking.old walking.new) result }
 {
