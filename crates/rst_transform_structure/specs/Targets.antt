@@ -1,13 +1,14 @@
 -- Internal targets, which hand their ids and names to the elements after them (reStructuredText Markup Specification, 'Internal
 -- Hyperlink Targets').
-use Rattle.std.specs.Prelude.{◌≡◌, ℕ, List, [], ◌∷◌, ◌++◌, drop, map, slice_get, unwrap_or, Option, Bool, true, false, ◌&&◌, if◌then◌else◌}
+use Rattle.std.specs.Prelude.{ℕ, List, [], ◌∷◌, ◌++◌, drop, map, slice_get, unwrap_or, Option, Bool, true, false, ◌&&◌, if◌then◌else◌}
 use Rattle.rst_tree.specs.declared.attrs.Attr.{Attr}
 use Rattle.rst_tree.specs.declared.attrs.Value.TheVariants.{Text as Says}
 use Rattle.rst_tree.specs.declared.key.Key.TheVariants.{Dupnames, Ids, Names as OfNames, Refid, Serial}
+use Rattle.rst_tree.specs.declared.node.Node.{Node}
+use Rattle.rst_tree.specs.declared.node.Node.TheVariants.{Element, Text}
 use Rattle.rst_tree.specs.declared.tag.Tag.{Tag}
 use Rattle.rst_tree.specs.declared.tag.Tag.TheVariants.{Comment, SubstitutionDefinition, SystemMessage, Transition}
 use Rattle.rst_tree.specs.Attributes.{said_number, value_of, with_attr, without_key}
-use Rattle.rst_tree.specs.Forest.{Forest}
 use Rattle.rst_tree.specs.Walk.{Item, after, item, items, walked}
 use Rattle.rst_tree_index.specs.Kinds.{is_internal}
 use Rattle.rst_transform_work.specs.Known.{Known}
@@ -27,10 +28,10 @@ takes_ids _ = true
 abbrev pub takers : List Item → List Bool
 takers xs = map (λ x. takes_ids x.tag) xs
 
--- whether the first of some elements does, or else the one behind them
-abbrev pub first_takes : List Item → Bool → Bool
-first_takes [] behind = behind
-first_takes (x ∷ xs) behind = takes_ids x.tag
+-- one more element was read
+abbrev pub with_taker : List Bool → Node → List Bool
+with_taker takers (Element t a c l) = takers ++ takes_ids t ∷ []
+with_taker takers (Text t) = takers
 
 -- ids and names that an element gets
 pub record Handed : Type 0 where
@@ -89,27 +90,6 @@ next_reached r x =
 -- what becomes of the element
 abbrev pub changed_at : Reached → Item → Item
 changed_at r x = item x.tag (if hands_on r x then referring x.attrs else given r.handed x.attrs) x.line
-
--- the attributes of an element that hands on its ids or not, and what is known then, but for which elements take ids
-abbrev pub met_attrs : Bool → Reached → List Attr → List Attr
-met_attrs hands r attrs = if hands then referring attrs else given r.handed attrs
-
-abbrev pub met : Bool → Reached → List Attr → Reached
-met hands r attrs =
-    if hands then reached r.takers (handed_by attrs r.handed) r.got
-    else reached r.takers (handed [] []) (r.got ++ got_by attrs r.handed.names)
-
--- what is known, with which elements take ids
-abbrev pub taking : List Bool → Reached → Reached
-taking takers r = record r { takers = takers }
-
--- the targets among nodes and in them have handed on, whatever elements are behind the nodes: only whether the first of them takes ids matters
-abbrev pub HandsOn : Bool → Forest → Forest → Reached → Reached → Type 0
-HandsOn behind old new before done =
-    (rest : List Bool) → unwrap_or (slice_get rest 0) false ≡ behind → (
-    (new ≡ walked next_reached changed_at (taking (takers (items old) ++ rest) before) old)
-    × (taking rest done ≡ after next_reached changed_at (taking (takers (items old) ++ rest) before) (items old))
-    )
 
 -- the document whose internal targets have handed on their ids and names, and what is known then: elements hold the names that they got
 abbrev pub with_targets : Document → Known → Document × Known

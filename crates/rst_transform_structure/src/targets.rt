@@ -1,18 +1,19 @@
 //! Internal targets.
-ghost use Rattle.std.specs.Prelude.{◌≡◌, ◌++◌, ◌&&◌, [], reverse};
+ghost use Rattle.std.specs.Prelude.{◌≡◌, ◌++◌, [], drop, reverse};
 ghost use Rattle.rst_tree.specs.Faults.{Gives};
-ghost use Rattle.rst_tree.specs.Nodes.{forest_of};
-ghost use Rattle.rst_tree.specs.Walk.{item, items};
-ghost use Rattle.rst_tree_index.specs.Kinds.{is_internal};
+ghost use Rattle.rst_tree.specs.Walk.{item, node_items};
 ghost use Rattle.rst_transform_work.specs.Known.{Makes};
 ghost use Rattle.rst_transform_structure.specs.Passing.{holder_of, with_number, Passes};
-ghost use Rattle.rst_transform_structure.specs.Targets.{first_takes, given, got_by, handed, handed_by, met, met_attrs, reached, referring, takes_ids, with_refid, with_targets, HandsOn};
+ghost use Rattle.rst_transform_structure.specs.Targets.{given, got_by, handed, handed_by, hands_on, reached, referring, takers, takes_ids, with_refid, with_targets};
 
 use rst_transform_names::{Holder, Names};
-use rst_transform_work::{Context, Document, append, are_plain, take_list};
-use rst_tree::{Attrs, Children, Key, Node, Tag, Text, TreeFault, Value};
+use rst_transform_work::{Context, Document, append, take_list};
+use rst_tree::{
+    Attrs, Key, Node, Reader, Tag, Text, TreeFault, Value, Visitor, read_elements, walk,
+};
 use rst_tree_index::is_internal;
 use std::alloc::Global;
+use std::collections::VecDeque;
 use std::marker::Model;
 use std::mem;
 
@@ -32,13 +33,15 @@ use std::mem;
 ///     <paragraph ids="b a" names="b a">
 ///
 /// A target that no element follows, or one that takes no ids, stays as it is.
-pub fn targets(mut document: Document, context: &mut Context) -> Result<Document, TreeFault>
+pub fn targets(document: Document, context: &mut Context) -> Result<Document, TreeFault>
     ensures { Gives (Makes (with_targets document) context.old context.new) result }
 {
-    let mut walking = Walking::of(context.alloc);
-    hand_in(&mut document.children, false, &mut walking)?;
+    let node = document.into_node();
+    let takers = takers(context.alloc, &node)?;
+    let mut walking = Walking::of(context.alloc, takers);
+    let node = walk(node, &mut walking)?;
     pass(walking.into_got(), &mut context.names);
-    Ok(document)
+    Ok(Document::of(node))
 }
 
 /// Whether an element of a kind takes the ids and names of a target before it.
@@ -51,57 +54,50 @@ fn takes_ids(tag: Tag) -> bool
     )
 }
 
-/// Whether the first element among nodes takes ids, or else the one behind them.
-fn first_takes(nodes: &[Node], behind: bool) -> bool
-    ensures { result ≡ first_takes (items (forest_of nodes.now)) behind }
+/// For each element in a node, in document order, whether it takes the ids and names of a target before it.
+fn takers(alloc: Global, node: &Node) -> Result<Vec<bool>, TreeFault>
+    ensures { Gives (λ list. list.items ≡ takers (node_items node.now)) result }
 {
-    for node in nodes {
-        match node {
-            Node::Text(_) => continue,
-            Node::Element { tag, .. } => return takes_ids(*tag),
-        }
-    }
-    behind
+    let mut takers = TakerReader {
+        list: Vec::new(alloc),
+    };
+    read_elements(alloc, node, &mut takers)?;
+    Ok(takers.list)
 }
 
-/// Whether an element is a target that hands on its ids, where it is known whether the element behind it takes ids.
-fn hands_on(tag: Tag, attrs: &Attrs, children: &Children, next: bool) -> bool
-    ensures { result ≡ (is_internal (item tag attrs.now 0) && first_takes (items children.now) next) }
-{
-    is_internal(tag, attrs) && first_takes(children.as_slice(), next)
+/// For each element that was read whether it takes ids.
+#[derive(Drop)]
+struct TakerReader {
+    list: Vec<bool>,
 }
 
-/// Lets the targets among nodes and in them hand on their ids and names, where it is known whether the element behind the nodes takes ids.
-#[tactic(auto, using(crate::proofs::Retargeting::slice_many))]
-fn hand_in(nodes: &mut Children, behind: bool, walking: &mut Walking) -> Result<(), TreeFault>
-    ensures { Gives (λ _. HandsOn behind nodes.old nodes.new walking.old walking.new) result }
-{
-    for i in 0..nodes.len() {
-        let next = first_takes(&nodes.as_slice()[i + 1..], behind);
-        match nodes.get_mut(i) {
-            Node::Text(_) => continue,
-            Node::Element {
-                tag,
-                attrs,
-                children,
-                ..
-            } => {
-                let turn = hands_on(*tag, attrs, children, next);
-                walking.meet(attrs, turn)?;
-                if are_plain(children) {
-                    continue;
-                }
-                hand_in(children, next, walking)?;
-            }
+impl Model for TakerReader {
+    ghost use Rattle.std.specs.Prelude.{Bool, List};
+
+    ghost Value = { List Bool };
+
+    ghost view = { λ t. t.list.items };
+}
+
+impl Reader for TakerReader {
+    ghost use Rattle.rst_transform_structure.specs.Targets.{with_taker};
+
+    ghost next = { with_taker };
+
+    fn read(&mut self, _alloc: Global, element: &Node) -> Result<(), TreeFault> {
+        if let Node::Element { tag, .. } = element {
+            self.list.push(takes_ids(*tag))?;
         }
+        Ok(())
     }
-    Ok(())
 }
 
 /// What a walk over the elements of a document knows when it comes to one of them.
 #[derive(Drop)]
 struct Walking {
     alloc: Global,
+    /// For this element and each one after it whether it takes ids.
+    takers: VecDeque<bool>,
     /// The ids that it gets, the last first: so each target adds its own at the end.
     ids: Vec<Text>,
     /// The names that it gets, likewise.
@@ -111,21 +107,22 @@ struct Walking {
 }
 
 impl Model for Walking {
-    ghost use Rattle.std.specs.Prelude.{[], reverse};
+    ghost use Rattle.std.specs.Prelude.{reverse};
     ghost use Rattle.rst_transform_structure.specs.Targets.{handed, reached, Reached};
 
     ghost Value = { Reached };
 
-    ghost view = { λ w. reached [] (handed (reverse w.ids.items) (reverse w.names.items)) w.got.items };
+    ghost view = { λ w. reached w.takers.items (handed (reverse w.ids.items) (reverse w.names.items)) w.got.items };
 }
 
 impl Walking {
     /// Before the first element.
-    fn of(alloc: Global) -> Walking
-        ensures { result ≡ reached [] (handed [] []) [] }
+    fn of(alloc: Global, takers: Vec<bool>) -> Walking
+        ensures { result ≡ reached takers.items (handed [] []) [] }
     {
         Walking {
             alloc,
+            takers: VecDeque::from_vec(takers),
             ids: Vec::new(alloc),
             names: Vec::new(alloc),
             got: Vec::new(alloc),
@@ -140,19 +137,20 @@ impl Walking {
         got
     }
 
-    /// Goes past an element that hands on its ids or not.
-    fn meet(&mut self, attrs: &mut Attrs, hands_on: bool) -> Result<(), TreeFault>
-        ensures attrs { Gives (λ _. attrs.new ≡ met_attrs hands_on self.old attrs.old) result }
-        ensures reached { Gives (λ _. self.new ≡ met hands_on self.old attrs.old) result }
+    /// Whether the element is a target that hands on its ids.
+    fn is_turn(&mut self, tag: Tag, attrs: &Attrs) -> bool
+        ensures turn { result ≡ hands_on self.old (item tag attrs.now 0) }
+        ensures left { self.new ≡ record self.old { takers = drop 1 self.old.takers } }
     {
-        if hands_on {
-            return self.hand_on(attrs);
-        }
-        self.hand_over(attrs)
+        let next_takes = match self.takers.get(1) {
+            Some(takes) => *takes,
+            None => false,
+        };
+        self.takers.pop_front();
+        is_internal(tag, attrs) && next_takes
     }
 
     /// Takes the ids and names from a target, which refers to its first id from now on.
-    #[inline(never)]
     #[tactic(auto, using(crate::proofs::Retargeting::reversed_behind, crate::proofs::Retargeting::listed_still))]
     fn hand_on(&mut self, attrs: &mut Attrs) -> Result<(), TreeFault>
         ensures attrs { Gives (λ _. attrs.new ≡ referring attrs.old) result }
@@ -167,7 +165,7 @@ impl Walking {
         Ok(())
     }
 
-    /// Gives the ids and names that were handed on to an element; mostly there are none.
+    /// Gives the ids and names that were handed on to an element.
     fn hand_over(&mut self, attrs: &mut Attrs) -> Result<(), TreeFault>
         ensures attrs { Gives (λ _. attrs.new ≡ given self.old.handed attrs.old) result }
         ensures handed { Gives (λ _. self.new ≡ reached self.old.takers (handed [] []) (self.old.got ++ got_by attrs.old self.old.handed.names)) result }
@@ -175,15 +173,6 @@ impl Walking {
         if self.ids.is_empty() && self.names.is_empty() {
             return Ok(());
         }
-        self.give(attrs)
-    }
-
-    /// The same where there are some.
-    #[inline(never)]
-    fn give(&mut self, attrs: &mut Attrs) -> Result<(), TreeFault>
-        ensures attrs { Gives (λ _. attrs.new ≡ given self.old.handed attrs.old) result }
-        ensures handed { Gives (λ _. self.new ≡ reached self.old.takers (handed [] []) (self.old.got ++ got_by attrs.old self.old.handed.names)) result }
-    {
         let number = attrs.number(Key::Serial);
         self.ids.reverse();
         self.names.reverse();
@@ -192,6 +181,26 @@ impl Walking {
         self.ids.clear();
         let names = mem::replace(&mut self.names, Vec::new(self.alloc));
         add_got(&mut self.got, names, number)
+    }
+}
+
+impl Visitor for Walking {
+    ghost use Rattle.rst_transform_structure.specs.Targets.{changed_at, next_reached};
+
+    ghost next = { next_reached };
+
+    ghost out = { changed_at };
+
+    fn visit(
+        &mut self,
+        tag: &mut Tag,
+        attrs: &mut Attrs,
+        _line: &mut usize,
+    ) -> Result<(), TreeFault> {
+        if self.is_turn(*tag, attrs) {
+            return self.hand_on(attrs);
+        }
+        self.hand_over(attrs)
     }
 }
 
