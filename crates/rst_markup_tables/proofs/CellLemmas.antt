@@ -12,6 +12,7 @@ use Rattle.rst_markup_tables.specs.declared.places.Place.{Place}
 use Rattle.rst_markup_tables.specs.declared.places.Place.TheVariants.{Character, Second}
 use Rattle.unicode_width.specs.Width.{char_width}
 use Rattle.rst_text.specs.Block.{Line, Block, indentation, is_blank}
+use Rattle.rst_text.proofs.Cuts.{scalars-drop, scalars-take}
 use Rattle.rst_text.proofs.Least.{least_from, lower}
 use Rattle.rst_text.specs.Lines.{is_line_end}
 use Rattle.rst_text.proofs.LineTexts.{unended-take, unended-drop}
@@ -45,11 +46,6 @@ dropped-dark (x ∷ xs) c e = stays x c xs (drop_trailing_whitespace (xs ++ c �
 
 -- ---- characters that a text can hold
 
-scalars-drop : (cs : List ℕ) (n : ℕ) → all_scalars cs ≡ true → all_scalars (drop n cs) ≡ true
-scalars-drop cs zero h = h
-scalars-drop [] (suc n) h = refl
-scalars-drop (c ∷ cs) (suc n) h = scalars-drop cs n (and_parts (scalar c) (all_scalars cs) h).1
-
 pub scalars-trimmed : (cs : List ℕ) → all_scalars cs ≡ true → all_scalars (drop_trailing_whitespace cs) ≡ true
 scalars-trimmed [] h = refl
 scalars-trimmed (c ∷ cs) h =
@@ -75,13 +71,6 @@ pub places-ascii : (cs : List ℕ) → IsAscii cs → places_of cs ≡ map Chara
 places-ascii [] low = refl
 places-ascii (c ∷ cs) low = rw (is_double-ascii c (low 0)) (ap (λ ps. Character c ∷ ps) (places-ascii cs (λ i. low (suc i))))
 
-scalars-take : (cs : List ℕ) (n : ℕ) → all_scalars cs ≡ true → all_scalars (take n cs) ≡ true
-scalars-take cs zero h = refl
-scalars-take [] (suc n) h = refl
-scalars-take (c ∷ cs) (suc n) h =
-    let parts = and_parts (scalar c) (all_scalars cs) h in
-    and_from (scalar c) (all_scalars (take n cs)) parts.0 (scalars-take cs n parts.1)
-
 -- the characters at the first places are the first characters, and those behind them the others
 characters-take : (n : ℕ) (ps : List Place) → (m : ℕ) × (characters (take n ps) ≡ take m (characters ps))
 characters-take zero ps = (0, refl)
@@ -105,7 +94,7 @@ cut-keeps P fronts rests left (Some right) ps h =
 cut-keeps P fronts rests left None ps h = let rest = characters-drop left ps in subst P (sym rest.1) (rests rest.0 (characters ps) h)
 
 pub scalars-cut : (left : ℕ) (right : Option ℕ) (ps : List Place) → all_scalars (characters ps) ≡ true → all_scalars (characters (cut_places left right ps)) ≡ true
-scalars-cut left right ps h = cut-keeps (λ cs. all_scalars cs ≡ true) (λ n cs. scalars-take cs n) (λ n cs. scalars-drop cs n) left right ps h
+scalars-cut left right ps h = cut-keeps (λ cs. all_scalars cs ≡ true) scalars-take scalars-drop left right ps h
 
 -- ---- characters of a line
 

@@ -3,7 +3,7 @@ use Rattle.std.proofs.Common.{◌≡◌, ℕ, zero, suc, ◌+◌, ◌-◌, ◌<�
 use Rattle.std.proofs.lemmas.List.{drop-map, drop-drop, length-map, length-take, drop_all, drop-take, take-map, take-take, take_all, drop_min, take-append-drop}
 use Rattle.std.proofs.Math.Dec.{eqb-suc-zero}
 use Rattle.std.proofs.Math.Nat.{min-eq_left, min-eq_right}
-use Rattle.std.proofs.lemmas.Bool.{cases_lt, eqb-true, leb-true, ltb-true}
+use Rattle.std.proofs.lemmas.Bool.{and_from, cases_lt, eqb-true, leb-true, ltb-true}
 use Rattle.std.specs.Str.{chars, IsUtf8, is_utf8, IsCharBoundary}
 use Rattle.std.proofs.Math.Utf8.{scalar, scalars, encode, encodes}
 use Rattle.std.proofs.lemmas.Str.{chars-encodes, encodes-chars, scalars-chars, encode_ascii, chars_from_encodes, IsCharBoundary-from_drop, IsCharBoundary-end, IsUtf8-nil, IsUtf8-from_is_utf8, is_utf8-from_IsUtf8, IsUtf8-take, chars-append, chars-nil}
@@ -222,7 +222,13 @@ drop_spaces (suc r) (c ∷ cs) h =
     let more : indentation (c ∷ cs) ≡ suc (indentation cs) = rw same refl in
     ap (λ (x : List ℕ). drop (suc r) (x ++ encodes cs)) one ∙ drop_spaces r cs (omega arith)
 
-scalars-drop : (r : ℕ) (cs : List ℕ) → scalars cs ≡ true → scalars (drop r cs) ≡ true
+-- characters that a text can hold, in a front and in a rest of it
+pub scalars-take : (n : ℕ) (cs : List ℕ) → scalars cs ≡ true → scalars (take n cs) ≡ true
+scalars-take zero cs s = refl
+scalars-take (suc n) [] s = refl
+scalars-take (suc n) (c ∷ cs) s = let parts = and_true (scalar c) (scalars cs) s in and_from (scalar c) (scalars (take n cs)) parts.0 (scalars-take n cs parts.1)
+
+pub scalars-drop : (r : ℕ) (cs : List ℕ) → scalars cs ≡ true → scalars (drop r cs) ≡ true
 scalars-drop zero cs s = s
 scalars-drop (suc r) [] s = refl
 scalars-drop (suc r) (c ∷ cs) s = scalars-drop r cs (and_true (scalar c) (scalars cs) s).1

@@ -4,6 +4,7 @@ ghost use Rattle.std.specs.Str.{chars};
 ghost use Rattle.rst_text.specs.Text.{text_of, IsWrong, Decodes};
 
 use super::fault::TextFault;
+use simdutf8::compat::from_utf8;
 use std::alloc::Global;
 
 /// The text whose UTF-8 the bytes are, without one byte order mark at its front, as it stands in them.
@@ -13,7 +14,7 @@ use std::alloc::Global;
 pub fn text_in(bytes: &[u8]) -> Result<&str, TextFault>
     ensures { MatchResult result (λ text. text_of bytes.now ≡ Some (chars text.now)) (λ fault. IsWrong bytes.now fault) }
 {
-    match str::from_utf8(bytes) {
+    match from_utf8(bytes) {
         Ok(text) => Ok(text.strip_prefix('\u{FEFF}').unwrap_or(text)),
         Err(error) => Err(TextFault::NotUtf8 {
             at: error.valid_up_to(),

@@ -79,7 +79,11 @@ impl Case for Folded {
     ghost cased = { simple_fold };
 
     fn cased(c: char) -> char {
-        simple_fold(c)
+        if c.is_ascii() {
+            c.to_ascii_lowercase()
+        } else {
+            simple_fold(c)
+        }
     }
 }
 
