@@ -17,12 +17,15 @@ use Rattle.rst_inline.specs.Parts.{part, spelled}
 use Rattle.rst_inline.specs.Readings.{plain_reading}
 
 -- a part that ends within the text and begins before its end is the same
+pub part-within : (t : Text) (low high h l : ℕ) → h ≡ min high (length t) → l ≡ min low h → drop l (take h t) ≡ part t low high
+part-within t low high h l top bottom =
+    ap (λ n. drop l (take n t)) top ∙ ap (drop l) (take_min high t) ∙ ap (λ n. drop n (take high t)) (bottom ∙ ap (min low) (top ∙ sym (length-take high t)))
+    ∙ drop_min low (take high t)
+
 pub part-is : (t : Text) (low high h l : ℕ) → h ≡ min high (length t) → l ≡ min low h → take (h - l) (drop l t) ≡ part t low high
 part-is t low high h l top bottom =
-    let least : min low h ≤ h = min-le_right low h in
-    let e : l + (h - l) ≡ h = omega arith in
-    sym (drop-take l (h - l) t) ∙ ap (λ n. drop l (take n t)) (e ∙ top) ∙ ap (drop l) (take_min high t)
-    ∙ ap (λ n. drop n (take high t)) (bottom ∙ ap (min low) (top ∙ sym (length-take high t))) ∙ drop_min low (take high t)
+    let e : l + (h - l) ≡ h = omega (arith, min-le_right low h) in
+    sym (drop-take l (h - l) t) ∙ ap (λ n. drop l (take n t)) e ∙ part-within t low high h l top bottom
 
 -- the characters of a text that some characters spell
 pub chars-spelled : {A : Type 0} (s : String A) (cs : Text) → string_bytes s ≡ spelled cs → chars (string_bytes s) ≡ cs

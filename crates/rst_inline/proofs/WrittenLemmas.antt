@@ -1,129 +1,156 @@
--- Pieces of a text that is ASCII.
-use Rattle.std.proofs.Common.{◌≡◌, ⊎_elim, ℕ, zero, suc, ◌+◌, ◌-◌, ◌<◌, ◌≤◌, ◌==◌, ◌||◌, not, cond, Some, None, false, [], ◌∷◌, length, take, drop, get_or, refl, sym, ap, ap₂, ◌∙◌, subst, arith}
-use Rattle.std.specs.List.{list_any}
-use Rattle.std.specs.Str.{IsAscii, chars}
-use Rattle.std.proofs.lemmas.Bool.{cases_lt}
-use Rattle.std.proofs.lemmas.Bool.Decides.{nat_tests}
-use Rattle.std.proofs.lemmas.List.{drop-take, get_or-drop, get_or-take, get_or_past, length-take, length-take-le, length-drop}
-use Rattle.std.proofs.lemmas.Str.{encodes-IsAscii, chars-IsAscii}
+-- Parts of a text, which are cut out of its bytes.
+use Rattle.std.proofs.Common.{◌≡◌, ⊎_elim, ℕ, zero, suc, ◌+◌, ◌-◌, ◌<◌, ◌≤◌, ◌==◌, ◌||◌, true, false, List, [], ◌∷◌, ◌++◌, length, take, drop, get_or, refl, sym, ap, ◌∙◌, subst, arith}
+use Rattle.std.specs.Str.{IsAscii, IsUtf8, IsCharBoundary, chars}
+use Rattle.std.proofs.Math.Utf8.{scalars, encode, encodes}
 use Rattle.std.proofs.Math.Nat.{min-le_left}
-use Rattle.rst_text.specs.Characters.{is_white}
-use Rattle.rst_tree.specs.declared.node.Node.TheVariants.{Text as Words}
-use Rattle.rst_tree.specs.declared.tag.Tag.TheVariants as tag
-use Rattle.rst_inline_scan.specs.Characters.{Text, without_white}
-use Rattle.rst_inline_scan.specs.Escapes.{has_backslash, unescaped}
-use Rattle.rst_inline_scan.specs.Pieces.{IsWithin}
-use Rattle.rst_inline_scan.specs.declared.piece.Kind.TheVariants.{Plain, Marked, Reference, Uri}
-use Rattle.rst_inline_scan.specs.declared.piece.Markup.TheVariants.{Strong, Emphasis, Literal, Interpreted}
-use Rattle.rst_inline_scan.specs.declared.piece.Suffix.{Suffix}
-use Rattle.rst_inline_scan.specs.declared.piece.Piece.{Piece}
-use Rattle.rst_inline_scan.proofs.EscapeLemmas.{either-false, unescaped-plain}
-use Rattle.rst_inline.specs.declared.reading.Meaning.TheVariants.{One}
-use Rattle.rst_inline.specs.Embedded.{embedded_at, dark_end, enclosed, is_alias, meant, shown_by}
-use Rattle.rst_inline.specs.Elements.{text_element, reference_node, uri_node}
-use Rattle.rst_inline.specs.Parts.{part, source, content, IsBare}
-use Rattle.rst_inline.specs.Readings.{plain_reading, embedded_reading, phrase_reading_at, phrase_reading, has_prefix_role, interpreted_reading, reading_by, reading}
+use Rattle.std.proofs.lemmas.Bool.{cases_lt, ne_eqb}
+use Rattle.std.proofs.lemmas.List.{append_assoc, append-nil, length-append, length-take, length-take-le, take-append-drop, take-append-le, take-take, take_all, drop-append-le, drop-take, drop_all, get_or-take, get_or_past}
+use Rattle.std.proofs.lemmas.Str.{length-encode, len_utf8_bounds, chars-nil, chars_past_char, encode_ascii, encodes-append, encodes-IsAscii, encodes-chars, chars-encodes, IsCharBoundary-from_drop}
+use Rattle.rst_text.proofs.Cuts.{scalars-drop, scalars-take}
+use Rattle.rst_text.proofs.Scanning.{past_char}
+use Rattle.rst_inline_scan.specs.Characters.{Text}
+use Rattle.rst_inline_scan.specs.Escapes.{has_backslash}
+use Rattle.rst_inline_scan.proofs.EscapeLemmas.{either-false}
+use Rattle.rst_inline.specs.Parts.{part, starts_of}
 
-pub slice-is : (t : Text) (low high : ℕ) → low ≤ high → take (high - low) (drop low t) ≡ part t low high
-slice-is t low high order =
-    let e : low + (high - low) ≡ high = omega arith in sym (drop-take low (high - low) t) ∙ ap (λ n. drop low (take n t)) e
+-- ---- the byte at which a character begins
 
-pub ascii-part : (t : Text) (low high : ℕ) → IsAscii t → IsAscii (part t low high)
-ascii-part t low high ascii i =
-    let short : length (take high t) ≤ high = omega (arith, length-take high t, min-le_left high (length t)) in
-    subst (λ c. c < 128) (sym (get_or-drop low (take high t) i 0))
-    (⊎_elim
-    (λ inside. subst (λ c. c < 128) (sym (get_or-take high t (low + i) 0 inside)) (ascii (low + i)))
-    (λ past. let none : get_or (take high t) (low + i) 0 ≡ 0 = get_or_past (take high t) (low + i) 0 (omega arith) in omega arith)
-    (cases_lt (low + i) high))
+-- how many bytes the first characters take
+abbrev pub Byte : Text → ℕ → ℕ
+Byte t i = length (encodes (take i t))
 
--- the characters of a slice
-pub chars-slice : (t : Text) (low high : ℕ) → IsAscii t → low ≤ high → chars (take (high - low) (drop low t)) ≡ part t low high
-chars-slice t low high ascii order = ap chars (slice-is t low high order) ∙ chars-IsAscii (part t low high) (ascii-part t low high ascii)
+starts-at : (at : ℕ) (cs : Text) (i d : ℕ) → i ≤ length cs → get_or (starts_of at cs) i d ≡ at + Byte cs i
+starts-at at [] zero d within = omega arith
+starts-at at [] (suc i) d within = absurd (omega arith)
+starts-at at (c ∷ cs) zero d within = omega arith
+starts-at at (c ∷ cs) (suc i) d within = omega (arith, starts-at (at + length (encode c)) cs i d (omega arith), length-append (encode c) (encodes (take i cs)))
 
-some-part : (t : Text) (low high : ℕ) → low < high → high ≤ length t → 0 < length (part t low high)
-some-part t low high some within = omega (arith, length-drop low (take high t), length-take-le high t within)
+pub length-starts : (at : ℕ) (cs : Text) → length (starts_of at cs) ≡ length cs + 1
+length-starts at [] = refl
+length-starts at (c ∷ cs) = omega (arith, length-starts (at + length (encode c)) cs)
 
-plain-some : (cs : Text) → IsAscii cs → 0 < length cs → plain_reading cs ≡ One (Words cs)
-plain-some [] ascii some = absurd (omega arith)
-plain-some (c ∷ cs) ascii some = ap (λ s. One (Words s)) (encodes-IsAscii (c ∷ cs) ascii)
+ascii-take : (t : Text) (i : ℕ) → IsAscii t → IsAscii (take i t)
+ascii-take t i ascii k = ⊎_elim
+    (λ inside. subst (λ c. c < 128) (sym (get_or-take i t k 0 inside)) (ascii k))
+    (λ past. let none : get_or (take i t) k 0 ≡ 0 = get_or_past (take i t) k 0 (omega (arith, length-take i t, min-le_left i (length t))) in omega arith)
+    (cases_lt k i)
 
--- ---- parts of a text without a backslash have none
+-- where each character is a byte
+pub byte-ascii : (t : Text) (i : ℕ) → IsAscii t → i ≤ length t → i ≡ Byte t i
+byte-ascii t i ascii within = sym (ap length (encodes-IsAscii (take i t) (ascii-take t i ascii)) ∙ length-take-le i t within)
 
-plain-take : (n : ℕ) (t : Text) → has_backslash t ≡ false → has_backslash (take n t) ≡ false
-plain-take zero t h = refl
-plain-take (suc n) [] h = refl
-plain-take (suc n) (c ∷ cs) h = let parts = either-false (c == 92) (has_backslash cs) h in ap (λ b. b || has_backslash (take n cs)) parts.0 ∙ plain-take n cs parts.1
+pub byte-start : (t : Text) (starts : List ℕ) (i d : ℕ) → starts ≡ starts_of 0 t → i ≤ length t → get_or starts i d ≡ Byte t i
+byte-start t starts i d is within = omega (arith, ap (λ (ss : List ℕ). get_or ss i d) is, starts-at 0 t i d within)
 
-plain-drop : (n : ℕ) (t : Text) → has_backslash t ≡ false → has_backslash (drop n t) ≡ false
-plain-drop zero t h = h
-plain-drop (suc n) [] h = refl
-plain-drop (suc n) (c ∷ cs) h = plain-drop n cs (either-false (c == 92) (has_backslash cs) h).1
+pub start-within : (t : Text) (starts : List ℕ) (i : ℕ) → starts ≡ starts_of 0 t → i ≤ length t → i < length starts
+start-within t starts i is within = omega (arith, ap length is, length-starts 0 t)
 
-unescaped-part : (t : Text) (low high : ℕ) → IsBare t → unescaped (part t low high) ≡ part t low high
-unescaped-part t low high known = unescaped-plain (part t low high) (plain-drop low (take high t) (plain-take high t known.plain))
+-- ---- a text read a character at a time
 
--- ---- what pieces of such a text mean
+-- the characters that were read and where they begin, with what is left of the text and where that begins
+pub record Split (text characters starts rest : List ℕ) (at : ℕ) : Type 0 where
+  pub chars-read : characters ++ chars rest ≡ chars text
+  pub begun : starts ++ starts_of at (chars rest) ≡ starts_of 0 (chars text)
+  pub bytes : at + length rest ≡ length text
+  pub utf8 : IsUtf8 rest
 
-pub reading-plain : (t : Text) (line : ℕ) (p : Piece) → IsBare t → IsWithin t p → p.kind ≡ Plain → One (Words (source t p)) ≡ reading t line p
-unfolding reading
-reading-plain t line p known within is =
-    sym (ap (λ kind. reading_by kind t p line) is ∙ ap plain_reading (unescaped-part t p.from p.to known)
-    ∙ plain-some (source t p) (ascii-part t p.from p.to known.ascii) (some-part t p.from p.to within.some within.within))
+pub Split-start : (text characters starts rest : List ℕ) (at : ℕ) → IsUtf8 text → characters ≡ [] → starts ≡ [] → rest ≡ text → at ≡ 0 → Split text characters starts rest at
+Split-start text characters starts rest at good none unbegun same first =
+    rw (none, unbegun, same, first) (record { chars-read = refl; begun = refl; bytes = omega arith; utf8 = good })
 
-pub reading-strong : (t : Text) (line : ℕ) (p : Piece) (suffix : Suffix) → IsBare t → p.kind ≡ Marked Strong suffix → One (text_element tag.Strong [] (content t p) line) ≡ reading t line p
-unfolding reading
-reading-strong t line p suffix known is =
-    sym (ap (λ kind. reading_by kind t p line) is ∙ ap (λ shown. One (text_element tag.Strong [] shown line)) (unescaped-part t p.content_from p.content_to known))
+pub Split-next : (text characters starts rest after : List ℕ) (at c : ℕ) → Split text characters starts rest at → rest ≡ encode c ++ after
+    → Split text (characters ++ c ∷ []) (starts ++ at ∷ []) after (at + length (encode c))
+Split-next text characters starts rest after at c h e =
+    let one = chars_past_char rest after c h.utf8 e in
+    record {
+      chars-read = append_assoc characters (c ∷ []) (chars after) ∙ sym (ap (λ cs. characters ++ cs) one) ∙ h.chars-read;
+      begun = append_assoc starts (at ∷ []) (starts_of (at + length (encode c)) (chars after)) ∙ sym (ap (λ cs. starts ++ starts_of at cs) one) ∙ h.begun;
+      bytes = omega (arith, h.bytes, ap length e, length-append (encode c) after);
+      utf8 = (past_char rest after c h.utf8 e).1;
+    }
 
-pub reading-emphasis : (t : Text) (line : ℕ) (p : Piece) (suffix : Suffix) → IsBare t → p.kind ≡ Marked Emphasis suffix → One (text_element tag.Emphasis [] (content t p) line) ≡ reading t line p
-unfolding reading
-reading-emphasis t line p suffix known is =
-    sym (ap (λ kind. reading_by kind t p line) is ∙ ap (λ shown. One (text_element tag.Emphasis [] shown line)) (unescaped-part t p.content_from p.content_to known))
+-- a character takes a byte at least
+pub shorter : (rest after : List ℕ) (c : ℕ) → rest ≡ encode c ++ after → length after < length rest
+shorter rest after c e = omega (arith, ap length e, length-append (encode c) after, length-encode c, (len_utf8_bounds c).0)
 
-pub reading-literal : (t : Text) (line : ℕ) (p : Piece) (suffix : Suffix) → p.kind ≡ Marked Literal suffix → One (text_element tag.Literal [] (content t p) line) ≡ reading t line p
-unfolding reading
-reading-literal t line p suffix is = sym (ap (λ kind. reading_by kind t p line) is)
+pub Split-characters : (text characters starts rest : List ℕ) (at : ℕ) → Split text characters starts rest at → length rest ≡ 0 → characters ≡ chars text
+Split-characters text characters starts [] at h none = sym (append-nil characters) ∙ ap (λ cs. characters ++ cs) (sym chars-nil) ∙ h.chars-read
+Split-characters text characters starts (b ∷ rest) at h none = absurd (omega arith)
 
-pub reading-reference : (t : Text) (line : ℕ) (p : Piece) (suffix : Suffix) → p.kind ≡ Reference suffix → One (reference_node suffix (source t p) (content t p) line) ≡ reading t line p
-unfolding reading
-reading-reference t line p suffix is = sym (ap (λ kind. reading_by kind t p line) is)
+pub Split-starts : (text characters starts rest : List ℕ) (at : ℕ) → Split text characters starts rest at → length rest ≡ 0 → starts ++ length text ∷ [] ≡ starts_of 0 (chars text)
+Split-starts text characters starts [] at h none =
+    let end : length text ≡ at = omega (arith, h.bytes) in
+    ap (λ n. starts ++ n ∷ []) end ∙ ap (λ cs. starts ++ starts_of at cs) (sym chars-nil) ∙ h.begun
+Split-starts text characters starts (b ∷ rest) at h none = absurd (omega arith)
 
-pub reading-uri : (t : Text) (line : ℕ) (p : Piece) → p.kind ≡ Uri → One (uri_node (source t p) line) ≡ reading t line p
-unfolding reading
-reading-uri t line p is = sym (ap (λ kind. reading_by kind t p line) is)
+-- ---- the bytes of a part
 
-pub reading-interpreted : (t : Text) (line : ℕ) (p : Piece) (suffix : Suffix) → p.kind ≡ Marked Interpreted suffix → interpreted_reading (has_prefix_role p) suffix t p line ≡ reading t line p
-unfolding reading
-reading-interpreted t line p suffix is = sym (ap (λ kind. reading_by kind t p line) is)
+split : (t : Text) (i : ℕ) → encodes t ≡ encodes (take i t) ++ encodes (drop i t)
+split t i = ap encodes (sym (take-append-drop i t)) ∙ encodes-append (take i t) (drop i t)
 
--- ---- phrases of such a text
+drop-bytes : (t : Text) (i : ℕ) → drop (Byte t i) (encodes t) ≡ encodes (drop i t)
+drop-bytes t i =
+    let front = encodes (take i t) in
+    ap (drop (Byte t i)) (split t i) ∙ drop-append-le (Byte t i) front (encodes (drop i t)) (omega arith) ∙ ap (λ bs. bs ++ encodes (drop i t)) (drop_all (Byte t i) front (omega arith))
 
-pub bare-part : (t : Text) (low high : ℕ) → IsBare t → IsBare (part t low high)
-bare-part t low high known = record { ascii = ascii-part t low high known.ascii; plain = plain-drop low (take high t) (plain-take high t known.plain) }
+take-bytes : (t : Text) (i : ℕ) → take (Byte t i) (encodes t) ≡ encodes (take i t)
+take-bytes t i =
+    let front = encodes (take i t) in
+    ap (take (Byte t i)) (split t i) ∙ take-append-le (Byte t i) front (encodes (drop i t)) (omega arith) ∙ take_all (Byte t i) front (omega arith)
 
-dark-whole : (t : Text) → list_any is_white t ≡ false → without_white t ≡ t
-dark-whole [] h = refl
-dark-whole (c ∷ cs) h =
-    let parts = either-false (is_white c) (list_any is_white cs) h in
-    ap (λ b. cond (not b) (c ∷ without_white cs) (without_white cs)) parts.0 ∙ ap (λ rest. c ∷ rest) (dark-whole cs parts.1)
+-- the first characters of the first characters
+byte-take : (t : Text) (low high : ℕ) → low ≤ high → Byte (take high t) low ≡ Byte t low
+byte-take t low high order = ap (λ cs. length (encodes cs)) (take-take low high t order)
 
-meant-uri : (u : Text) → IsBare u → is_alias u ≡ false → list_any is_white u ≡ false → u ≡ meant u
-meant-uri u known alias dark =
-    sym (ap (λ b. cond b (unescaped (part u 0 (length u - 1))) (without_white (unescaped u))) alias ∙ ap without_white (unescaped-plain u known.plain) ∙ dark-whole u dark)
+pub byte-order : (t : Text) (low high : ℕ) → low ≤ high → Byte t low ≤ Byte t high
+byte-order t low high order =
+    omega (arith, byte-take t low high order, ap length (split (take high t) low), length-append (encodes (take low (take high t))) (encodes (drop low (take high t))))
 
--- a phrase with a URI without white that stands behind something
-pub phrase-uri : (suffix : Suffix) (from t : Text) (k line : ℕ) → IsBare t → Some k ≡ embedded_at t → 0 < k → is_alias (enclosed t k) ≡ false
-    → list_any is_white (enclosed t k) ≡ false → embedded_reading suffix from (part t 0 (dark_end t k)) (enclosed t k) false line ≡ phrase_reading suffix from t line
-phrase-uri suffix from t k line known at behind alias dark =
-    let some : (k == 0) ≡ false = grind (arith, nat_tests) in
-    let shown = ap (λ b. cond b (meant (enclosed t k)) (unescaped (part t 0 (dark_end t k)))) some ∙ unescaped-part t 0 (dark_end t k) known in
-    let uri = meant-uri (enclosed t k) (bare-part t (k + 1) (length t - 1) known) alias dark in
-    ap₂ (λ shown meaning. embedded_reading suffix from shown meaning false line) (sym shown) uri
-    ∙ ap (λ b. embedded_reading suffix from (shown_by t k) (meant (enclosed t k)) b line) (sym alias)
-    ∙ ap (λ place. phrase_reading_at suffix from t place line) at
+pub byte-within : (t : Text) (i : ℕ) → Byte t i ≤ length (encodes t)
+byte-within t i = omega (arith, ap length (split t i), length-append (encodes (take i t)) (encodes (drop i t)))
 
--- a phrase in which nothing is embedded
-pub phrase-plain : (suffix : Suffix) (from t : Text) (line : ℕ) → IsBare t → None ≡ embedded_at t → One (reference_node suffix from t line) ≡ phrase_reading suffix from t line
-phrase-plain suffix from t line known at =
-    ap (λ shown. One (reference_node suffix from shown line)) (sym (unescaped-plain t known.plain)) ∙ ap (λ place. phrase_reading_at suffix from t place line) at
+part-bytes : (t : Text) (low high : ℕ) → low ≤ high → take (Byte t high - Byte t low) (drop (Byte t low) (encodes t)) ≡ encodes (drop low (take high t))
+part-bytes t low high order =
+    let e : Byte t low + (Byte t high - Byte t low) ≡ Byte t high = omega (arith, byte-order t low high order) in
+    sym (drop-take (Byte t low) (Byte t high - Byte t low) (encodes t)) ∙ ap (λ n. drop (Byte t low) (take n (encodes t))) e
+    ∙ ap (drop (Byte t low)) (take-bytes t high) ∙ ap (λ n. drop n (encodes (take high t))) (sym (byte-take t low high order)) ∙ drop-bytes (take high t) low
+
+-- what the bytes between two characters spell
+pub chars-part : (t : Text) (low high : ℕ) → scalars t ≡ true → low ≤ high → chars (take (Byte t high - Byte t low) (drop (Byte t low) (encodes t))) ≡ drop low (take high t)
+chars-part t low high known order =
+    ap chars (part-bytes t low high order) ∙ chars-encodes (drop low (take high t)) (scalars-drop low (take high t) (scalars-take high t known))
+
+-- a character begins there
+pub byte-boundary : (t : Text) (i : ℕ) → scalars t ≡ true → IsCharBoundary (encodes t) (Byte t i)
+byte-boundary t i known = IsCharBoundary-from_drop (encodes t) (Byte t i) (byte-within t i) (drop i t, (scalars-drop i t known, sym (drop-bytes t i)))
+
+-- ---- a text is without a backslash whose bytes are
+
+plain-append : (xs ys : Text) → has_backslash (xs ++ ys) ≡ false → has_backslash ys ≡ false
+plain-append [] ys h = h
+plain-append (x ∷ xs) ys h = plain-append xs ys (either-false (x == 92) (has_backslash (xs ++ ys)) h).1
+
+plain-encoded : (cs : Text) → has_backslash (encodes cs) ≡ false → has_backslash cs ≡ false
+plain-encoded [] h = refl
+plain-encoded (c ∷ cs) h =
+    let first : (c == 92) ≡ false = ⊎_elim
+    (λ low. (either-false (c == 92) (has_backslash (encodes cs)) (subst (λ bs. has_backslash (bs ++ encodes cs) ≡ false) (encode_ascii c low) h)).0)
+    (λ high. ne_eqb c 92 (λ is. omega arith))
+    (cases_lt c 128) in
+    rw first (plain-encoded cs (plain-append (encode c) (encodes cs) h))
+
+pub plain-chars : (bs : List ℕ) → IsUtf8 bs → has_backslash bs ≡ false → has_backslash (chars bs) ≡ false
+plain-chars bs utf8 h = plain-encoded (chars bs) (subst (λ t. has_backslash t ≡ false) (sym (encodes-chars bs utf8)) h)
+
+pub plain-part : (t : Text) (low high : ℕ) → has_backslash t ≡ false → has_backslash (part t low high) ≡ false
+plain-part t low high h = plain-drop low (take high t) (plain-take high t h)
+  where
+    plain-take : (n : ℕ) (t : Text) → has_backslash t ≡ false → has_backslash (take n t) ≡ false
+    plain-take zero t h = refl
+    plain-take (suc n) [] h = refl
+    plain-take (suc n) (c ∷ cs) h = let parts = either-false (c == 92) (has_backslash cs) h in ap (λ b. b || has_backslash (take n cs)) parts.0 ∙ plain-take n cs parts.1
+
+    plain-drop : (n : ℕ) (t : Text) → has_backslash t ≡ false → has_backslash (drop n t) ≡ false
+    plain-drop zero t h = h
+    plain-drop (suc n) [] h = refl
+    plain-drop (suc n) (c ∷ cs) h = plain-drop n cs (either-false (c == 92) (has_backslash cs) h).1

@@ -1,8 +1,6 @@
 -- The characters of pieces of inline markup (Markup Specification, 'Inline Markup').
-use Rattle.std.specs.Prelude.{◌≡◌, ℕ, false, List, take, drop, encode_utf8_all}
-use Rattle.std.specs.Str.{IsAscii}
+use Rattle.std.specs.Prelude.{ℕ, ◌+◌, List, [], ◌∷◌, length, take, drop, encode_utf8, encode_utf8_all}
 use Rattle.rst_inline_scan.specs.Characters.{Text}
-use Rattle.rst_inline_scan.specs.Escapes.{has_backslash}
 use Rattle.rst_inline_scan.specs.declared.piece.Piece.{Piece}
 
 -- the characters from a place on, up to another place
@@ -21,8 +19,7 @@ content t p = part t p.content_from p.content_to
 abbrev pub spelled : Text → List ℕ
 spelled cs = encode_utf8_all cs
 
--- A text of ASCII without a backslash, so that nothing in it is escaped. No rule of markup: its pieces are copied as they
--- are written.
-pub record IsBare (t : Text) : Type 0 where
-  pub ascii : IsAscii t
-  pub plain : has_backslash t ≡ false
+-- the byte at which each character begins, counted from a byte on, and behind them the end; no rule of markup: a text is cut by its bytes
+abbrev pub starts_of : ℕ → Text → List ℕ
+starts_of at [] = at ∷ []
+starts_of at (c ∷ cs) = at ∷ starts_of (at + length (encode_utf8 c)) cs

@@ -1,12 +1,12 @@
 //! Embedded URIs and aliases.
-ghost use Rattle.std.specs.Prelude.{◌≡◌, ◌+◌, ◌<◌, ◌≤◌, length, IfOk, IfSome, ◌&&◌, ◌==◌, not};
-ghost use Rattle.rst_inline.specs.Embedded.{ends_with, last_angle, fits_angle, embedded_at, dark_end, enclosed, is_alias, meant, shown_by};
+ghost use Rattle.std.specs.Prelude.{◌≡◌, ◌+◌, ◌<◌, ◌≤◌, length, IfSome, ◌&&◌, ◌==◌, not};
+ghost use Rattle.std.specs.List.{list_any};
+ghost use Rattle.rst_text.specs.Characters.{is_white};
+ghost use Rattle.rst_inline.specs.Embedded.{ends_with, last_angle, fits_angle, embedded_at, dark_end, enclosed, is_alias};
 
-use super::fault::InlineFault;
 use super::texts::part;
-use rst_inline_scan::{escapes, has, is_dark, unescaped, without_white};
+use rst_inline_scan::{escapes, has, is_dark};
 use rst_text::is_white;
-use std::alloc::{AllocError, Global};
 
 /// Whether the last character is this one, and not escaped.
 fn ends_with(text: &[char], c: char) -> bool
@@ -93,16 +93,11 @@ pub(crate) fn is_alias(held: &[char]) -> bool
     1 < held.len() && ends_with(held, '_')
 }
 
-/// What an embedded URI or alias refers to.
-pub(crate) fn meant(alloc: Global, held: &[char]) -> Result<Vec<char>, AllocError>
-    ensures { IfOk result (λ meaning. meaning.items ≡ meant held.now) }
+/// Whether there is a white character among these.
+pub(crate) fn has_white(text: &[char]) -> bool
+    ensures { result ≡ list_any is_white text.now }
 {
-    if is_alias(held) {
-        unescaped(alloc, part(held, 0, held.len() - 1))
-    } else {
-        let plain = unescaped(alloc, held)?;
-        without_white(alloc, &plain)
-    }
+    text.iter().any(|c| is_white(*c))
 }
 
 /// The place behind the last character before `place` that isn't white.
@@ -119,20 +114,4 @@ pub(crate) fn dark_end(text: &[char], place: usize) -> usize
         end -= 1;
     }
     end
-}
-
-/// What is shown of a phrase whose angle brackets begin at a place.
-pub(crate) fn shown_by(
-    alloc: Global,
-    phrase: &[char],
-    place: usize,
-) -> Result<Vec<char>, AllocError>
-    requires { place < length phrase.now }
-    ensures { IfOk result (λ shown. shown.items ≡ shown_by phrase.now place) }
-{
-    if place == 0 {
-        meant(alloc, enclosed(phrase, place))
-    } else {
-        unescaped(alloc, part(phrase, 0, dark_end(phrase, place)))
-    }
 }

@@ -7,7 +7,6 @@ mod embedded;
 mod fault;
 mod labels;
 mod nodes;
-mod phrases;
 mod reading;
 mod references;
 mod roles;

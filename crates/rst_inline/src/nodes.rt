@@ -1,16 +1,15 @@
 //! The nodes and the messages of a text.
-ghost use Rattle.std.specs.Prelude.{◌≡◌, ℕ, true, All, IfSome};
+ghost use Rattle.std.specs.Prelude.{◌≡◌, ℕ, true, All};
 ghost use Rattle.std.specs.Str.{chars};
 ghost use Rattle.rst_inline_scan.specs.Pieces.{IsWithin};
 ghost use Rattle.rst_inline_scan.specs.Quiet.{quiet};
 ghost use Rattle.rst_inline.specs.Faults.{Gives};
-ghost use Rattle.rst_inline.specs.Parts.{IsBare};
 ghost use Rattle.rst_inline.specs.Results.{Reads, IsRead};
 
-use super::elements::text_nodes;
+use super::elements::{problematic, text_nodes};
 use super::fault::InlineFault;
 use super::reading::Meaning;
-use super::written::{characters, if_ascii, if_bare, meaning, pieces, problem};
+use super::written::Written;
 use rst_inline_scan::{Kind, Piece, is_quiet};
 use rst_tree::{Node, Note};
 use std::alloc::Global;
@@ -33,10 +32,9 @@ pub fn inline(alloc: Global, text: &str, line: usize) -> Result<Pieces, InlineFa
     if is_quiet(text.as_bytes()) {
         return quiet(alloc, text);
     }
-    let written = if_ascii(text);
-    let characters = characters(alloc, written, text)?;
-    let pieces = pieces(alloc, written, &characters)?;
-    read(alloc, if_bare(written), &characters, &pieces, line)
+    let written = Written::of(alloc, text, line)?;
+    let pieces = written.pieces()?;
+    written.read(&pieces)
 }
 
 /// The same of a quiet text, whatever its line: it is one plain piece, so it is neither made characters nor scanned.
@@ -57,46 +55,41 @@ fn unended(pieces: &[Piece]) -> usize {
     pieces.iter().filter(wrong).count()
 }
 
-/// The nodes and the messages of the pieces of a text; `written` is the text, too, if that is ASCII without a backslash.
-// Its frame is large, and quiet texts need none of it.
-#[inline(never)]
-fn read(
-    alloc: Global,
-    written: Option<&str>,
-    text: &[char],
-    pieces: &[Piece],
-    line: usize,
-) -> Result<Pieces, InlineFault>
-    requires bare { IfSome written (λ written. IsBare written.now) }
-    requires same { IfSome written (λ written. written.now ≡ text.now) }
-    requires within { All (IsWithin text.now) pieces.now }
-    ensures { Gives (Reads text.now line pieces.now) result }
-{
-    let mut nodes = Vec::with_capacity(alloc, pieces.len())?;
-    let mut notes = Vec::with_capacity(alloc, unended(pieces))?;
-    for piece in pieces {
-        match meaning(alloc, written, text, line, *piece)? {
-            Meaning::Nothing => continue,
-            Meaning::One(node) => {
-                nodes.push(node)?;
-                continue;
-            }
-            Meaning::Two(node, next) => {
-                nodes.push(node)?;
-                nodes.push(next)?;
-                continue;
-            }
-            Meaning::Wrong(level, said) => {
-                nodes.push(problem(alloc, written, text, *piece, notes.len(), line)?)?;
-                notes.push(Note {
-                    level,
-                    line,
-                    text: said,
-                    block: None,
-                })?;
-                continue;
+impl Written<'_> {
+    /// The nodes and the messages of the pieces of the text.
+    // Its frame is large, and quiet texts need none of it.
+    #[inline(never)]
+    fn read(&self, pieces: &[Piece]) -> Result<Pieces, InlineFault>
+        requires { All (IsWithin self.now.characters.items) pieces.now }
+        ensures { Gives (Reads self.now.characters.items self.now.line pieces.now) result }
+    {
+        let mut nodes = Vec::with_capacity(self.alloc, pieces.len())?;
+        let mut notes = Vec::with_capacity(self.alloc, unended(pieces))?;
+        for piece in pieces {
+            match self.reading(*piece)? {
+                Meaning::Nothing => continue,
+                Meaning::One(node) => {
+                    nodes.push(node)?;
+                    continue;
+                }
+                Meaning::Two(node, next) => {
+                    nodes.push(node)?;
+                    nodes.push(next)?;
+                    continue;
+                }
+                Meaning::Wrong(level, said) => {
+                    let source = self.part(piece.from, piece.to);
+                    nodes.push(problematic(self.alloc, notes.len(), source, self.line)?)?;
+                    notes.push(Note {
+                        level,
+                        line: self.line,
+                        text: said,
+                        block: None,
+                    })?;
+                    continue;
+                }
             }
         }
+        Ok(Pieces { nodes, notes })
     }
-    Ok(Pieces { nodes, notes })
 }

@@ -1,26 +1,31 @@
 //! What pieces mean.
-ghost use Rattle.std.specs.Prelude.{◌<◌, ◌+◌, true, ◌≡◌, []};
+ghost use Rattle.std.specs.Prelude.{◌<◌, ◌≤◌, ◌+◌, true, ◌≡◌, [], length, IfOk};
 ghost use Rattle.std.specs.Str.{chars};
+ghost use Rattle.std.specs.Cow.{cow_str_bytes};
+ghost use Rattle.rst_tree.specs.declared.tag.Tag.TheVariants.{Literal};
 ghost use Rattle.rst_inline_scan.specs.Escapes.{unescaped};
 ghost use Rattle.rst_inline_scan.specs.Pieces.{IsWithin};
 ghost use Rattle.rst_inline.specs.declared.reading.Meaning.TheVariants.{One};
-ghost use Rattle.rst_inline.specs.Elements.{text_element};
-ghost use Rattle.rst_inline.specs.Parts.{source, content};
+ghost use Rattle.rst_inline.specs.Elements.{text_element, inline_target_node, label_reference_node, reference_node, uri_node};
+ghost use Rattle.rst_inline.specs.Embedded.{meant, shown_by};
+ghost use Rattle.rst_inline.specs.Parts.{part, source, content};
 ghost use Rattle.rst_inline.specs.Readings.{unended_phrase, unended, unknown_role, two_roles, mismatch, plain_reading, substitution_reading, embedded_reading, phrase_reading, role_reading, has_prefix_role, interpreted_reading, marked_reading, reading};
 ghost use Rattle.rst_inline.specs.Faults.{Gives};
 
 use super::elements::{plain_element, target, uri_target};
-use super::embedded::{embedded_at, enclosed, is_alias, meant, shown_by};
+use super::embedded::{dark_end, embedded_at, enclosed, has_white, is_alias};
 use super::fault::InlineFault;
 use super::labels::label_reference;
 use super::references::{
     alias_reference, embedded_reference, outer_reference, reference, substitution, uri_reference,
 };
 use super::roles::role_tag;
-use super::texts::{bare, part, spell};
-use rst_inline_scan::{Kind, Markup, Piece, Suffix};
+use super::texts::{part, spell};
+use super::written::Written;
+use rst_inline_scan::{Kind, Markup, Piece, Suffix, unescaped, without_white};
 use rst_tree::{Level, Node, Phrase, Tag, Text};
-use std::alloc::Global;
+use std::alloc::{AllocError, Global};
+use std::borrow::CowStr;
 
 /// What a piece means: no node, one or two, or that it is wrong, with the message that says so.
 #[derive(Drop)]
@@ -78,251 +83,237 @@ fn mismatch(alloc: Global) -> Result<Meaning, InlineFault>
     Ok(Meaning::Wrong(Level::Warning, Text::from_str(alloc, text)?))
 }
 
-/// Plain text without its escapes.
-fn plain(alloc: Global, source: &[char]) -> Result<Meaning, InlineFault>
-    ensures { Gives (λ reading. reading ≡ plain_reading (unescaped source.now)) result }
-{
-    let shown = bare(alloc, source)?;
-    if shown.as_str().is_empty() {
-        return Ok(Meaning::Nothing);
+impl Written<'_> {
+    /// Plain text without its escapes.
+    fn plain(&self, piece: Piece) -> Result<Meaning, InlineFault>
+        ensures { Gives (λ reading. reading ≡ plain_reading (unescaped (source self.now.characters.items piece))) result }
+    {
+        let shown = self.unescaped(piece.from, piece.to)?;
+        let shown = shown.as_str();
+        if shown.is_empty() {
+            return Ok(Meaning::Nothing);
+        }
+        let text = Text::from_str(self.alloc, shown)?;
+        Ok(Meaning::One(Node::Text(text)))
     }
-    Ok(Meaning::One(Node::Text(Text::new(shown))))
-}
 
-/// An element that holds what markup encloses, without its escapes.
-fn shown_in(alloc: Global, tag: Tag, content: &[char], line: usize) -> Result<Meaning, InlineFault>
-    ensures { Gives (λ reading. reading ≡ One (text_element tag [] (unescaped content.now) line)) result }
-{
-    let shown = bare(alloc, content)?;
-    let node = plain_element(alloc, tag, shown.as_str(), line)?;
-    Ok(Meaning::One(node))
-}
+    /// An element that holds what the markup of a piece encloses, without its escapes.
+    fn shown_in(&self, tag: Tag, piece: Piece) -> Result<Meaning, InlineFault>
+        ensures { Gives (λ reading. reading ≡ One (text_element tag [] (unescaped (content self.now.characters.items piece)) self.now.line)) result }
+    {
+        let shown = self.unescaped(piece.content_from, piece.content_to)?;
+        let node = plain_element(self.alloc, tag, shown.as_str(), self.line)?;
+        Ok(Meaning::One(node))
+    }
 
-fn substituted(
-    alloc: Global,
-    suffix: Suffix,
-    inner: &str,
-    outer: &str,
-    shown: &str,
-    line: usize,
-) -> Result<Meaning, InlineFault>
-    ensures { Gives (λ reading. reading ≡ substitution_reading suffix (chars inner.now) (chars outer.now) (chars shown.now) line) result }
-{
-    let node = substitution(alloc, inner, shown, line)?;
-    match suffix {
-        Suffix::Bare => Ok(Meaning::One(node)),
-        _ => {
-            let node = outer_reference(alloc, suffix, outer, shown, node, line)?;
-            Ok(Meaning::One(node))
-        }
+    fn literal(&self, piece: Piece) -> Result<Meaning, InlineFault>
+        ensures { Gives (λ reading. reading ≡ One (text_element Literal [] (content self.now.characters.items piece) self.now.line)) result }
+    {
+        let shown = self.part(piece.content_from, piece.content_to);
+        let node = plain_element(self.alloc, Tag::Literal, shown, self.line)?;
+        Ok(Meaning::One(node))
     }
-}
 
-/// A phrase with an embedded URI or alias.
-pub(crate) fn embedded(
-    alloc: Global,
-    suffix: Suffix,
-    source: &str,
-    shown: &str,
-    meaning: &str,
-    is_alias: bool,
-    line: usize,
-) -> Result<Meaning, InlineFault>
-    ensures { Gives (λ reading. reading ≡ embedded_reading suffix (chars source.now) (chars shown.now) (chars meaning.now) is_alias line) result }
-{
-    if is_alias {
-        let node = alias_reference(alloc, source, shown, meaning, line)?;
-        return Ok(Meaning::One(node));
+    fn inline_target(&self, piece: Piece) -> Result<Meaning, InlineFault>
+        ensures { Gives (λ reading. reading ≡ One (inline_target_node (unescaped (content self.now.characters.items piece)) self.now.line)) result }
+    {
+        let shown = self.unescaped(piece.content_from, piece.content_to)?;
+        let node = target(self.alloc, shown.as_str(), self.line)?;
+        Ok(Meaning::One(node))
     }
-    let node = embedded_reference(alloc, source, shown, meaning, line)?;
-    match suffix {
-        Suffix::Named => {
-            let target = uri_target(alloc, shown, meaning, line)?;
-            Ok(Meaning::Two(node, target))
-        }
-        _ => Ok(Meaning::One(node)),
-    }
-}
 
-/// A phrase that is a reference.
-pub(crate) fn phrase(
-    alloc: Global,
-    suffix: Suffix,
-    source: &[char],
-    phrase: &[char],
-    line: usize,
-) -> Result<Meaning, InlineFault>
-    ensures { Gives (λ reading. reading ≡ phrase_reading suffix source.now phrase.now line) result }
-{
-    let source = spell(alloc, source)?;
-    let source = source.as_str();
-    match embedded_at(phrase) {
-        Some(place) => {
-            let held = enclosed(phrase, place);
-            let shown = shown_by(alloc, phrase, place)?;
-            let shown = spell(alloc, &shown)?;
-            let meaning = meant(alloc, held)?;
-            let meaning = spell(alloc, &meaning)?;
-            embedded(
-                alloc,
-                suffix,
-                source,
-                shown.as_str(),
-                meaning.as_str(),
-                is_alias(held),
-                line,
-            )
-        }
-        None => {
-            let shown = bare(alloc, phrase)?;
-            let node = reference(alloc, suffix, source, shown.as_str(), line)?;
-            Ok(Meaning::One(node))
+    fn substituted(&self, suffix: Suffix, piece: Piece) -> Result<Meaning, InlineFault>
+        requires { IsWithin self.now.characters.items piece }
+        ensures { Gives (λ reading. reading ≡ substitution_reading suffix (part self.now.characters.items piece.from (piece.content_to + 1)) (source self.now.characters.items piece) (unescaped (content self.now.characters.items piece)) self.now.line) result }
+    {
+        let shown = self.unescaped(piece.content_from, piece.content_to)?;
+        let shown = shown.as_str();
+        let inner = self.part(piece.from, piece.content_to + 1);
+        let node = substitution(self.alloc, inner, shown, self.line)?;
+        match suffix {
+            Suffix::Bare => Ok(Meaning::One(node)),
+            _ => {
+                let outer = self.part(piece.from, piece.to);
+                let node = outer_reference(self.alloc, suffix, outer, shown, node, self.line)?;
+                Ok(Meaning::One(node))
+            }
         }
     }
-}
 
-/// Interpreted text with a role.
-fn with_role(
-    alloc: Global,
-    role: &[char],
-    content: &[char],
-    line: usize,
-) -> Result<Meaning, InlineFault>
-    ensures { Gives (λ reading. reading ≡ role_reading role.now (unescaped content.now) line) result }
-{
-    let name = spell(alloc, role)?;
-    match role_tag(name.as_str()) {
-        Some(tag) => shown_in(alloc, tag, content, line),
-        None => unknown_role(alloc, name.as_str()),
+    /// What an embedded URI or alias between two places refers to.
+    fn meant(&self, low: usize, high: usize) -> Result<CowStr<'_, Global>, AllocError>
+        requires { high ≤ length self.now.characters.items }
+        ensures { IfOk result (λ meaning. chars (cow_str_bytes meaning) ≡ meant (part self.now.characters.items low high)) }
+    {
+        let held = part(&self.characters, low, high);
+        if is_alias(held) {
+            return self.unescaped(low, high - 1);
+        }
+        if !has_white(held) {
+            return self.unescaped(low, high);
+        }
+        let plain = unescaped(self.alloc, held)?;
+        let dark = without_white(self.alloc, &plain)?;
+        Ok(CowStr::Owned(spell(self.alloc, &dark)?))
     }
-}
 
-/// Interpreted text with a role in front of it.
-fn prefixed(
-    alloc: Global,
-    suffix: Suffix,
-    text: &[char],
-    piece: Piece,
-    line: usize,
-) -> Result<Meaning, InlineFault>
-    requires within { IsWithin text.now piece }
-    requires prefix { piece.from + 1 < piece.content_from }
-    ensures { Gives (λ reading. reading ≡ interpreted_reading true suffix text.now piece line) result }
-{
-    match suffix {
-        Suffix::Bare => {
-            let role = part(text, piece.from + 1, piece.content_from - 2);
-            let content = part(text, piece.content_from, piece.content_to);
-            with_role(alloc, role, content, line)
+    /// What is shown of a phrase whose angle brackets begin at a place.
+    fn shown_by(
+        &self,
+        piece: Piece,
+        phrase: &[char],
+        place: usize,
+    ) -> Result<CowStr<'_, Global>, AllocError>
+        requires within { IsWithin self.now.characters.items piece }
+        requires phrase { phrase.now ≡ content self.now.characters.items piece }
+        requires place { place + 2 < length phrase.now }
+        ensures { IfOk result (λ shown. chars (cow_str_bytes shown) ≡ shown_by phrase.now place) }
+    {
+        if place == 0 {
+            return self.meant(piece.content_from + 1, piece.content_to - 1);
         }
-        Suffix::Role => two_roles(alloc),
-        Suffix::Named | Suffix::Anonymous => mismatch(alloc),
+        let end = dark_end(phrase, place);
+        self.unescaped(piece.content_from, piece.content_from + end)
     }
-}
 
-/// Interpreted text, or a phrase that is a reference.
-pub(crate) fn interpreted(
-    alloc: Global,
-    suffix: Suffix,
-    text: &[char],
-    piece: Piece,
-    line: usize,
-) -> Result<Meaning, InlineFault>
-    requires { IsWithin text.now piece }
-    ensures { Gives (λ reading. reading ≡ interpreted_reading (has_prefix_role piece) suffix text.now piece line) result }
-{
-    if piece.from + 1 < piece.content_from {
-        return prefixed(alloc, suffix, text, piece, line);
-    }
-    let content = part(text, piece.content_from, piece.content_to);
-    match suffix {
-        Suffix::Bare => shown_in(alloc, Tag::TitleReference, content, line),
-        Suffix::Role => {
-            let role = part(text, piece.content_to + 2, piece.to - 1);
-            with_role(alloc, role, content, line)
+    /// A phrase with an embedded URI or alias.
+    fn embedded(
+        &self,
+        suffix: Suffix,
+        source: &str,
+        shown: &str,
+        meaning: &str,
+        is_alias: bool,
+    ) -> Result<Meaning, InlineFault>
+        ensures { Gives (λ reading. reading ≡ embedded_reading suffix (chars source.now) (chars shown.now) (chars meaning.now) is_alias self.now.line) result }
+    {
+        if is_alias {
+            let node = alias_reference(self.alloc, source, shown, meaning, self.line)?;
+            return Ok(Meaning::One(node));
         }
-        Suffix::Named | Suffix::Anonymous => {
-            let source = part(text, piece.from, piece.to);
-            phrase(alloc, suffix, source, content, line)
+        let node = embedded_reference(self.alloc, source, shown, meaning, self.line)?;
+        match suffix {
+            Suffix::Named => {
+                let target = uri_target(self.alloc, shown, meaning, self.line)?;
+                Ok(Meaning::Two(node, target))
+            }
+            _ => Ok(Meaning::One(node)),
         }
     }
-}
 
-/// Markup with its end-string.
-fn marked(
-    alloc: Global,
-    markup: Markup,
-    suffix: Suffix,
-    text: &[char],
-    piece: Piece,
-    line: usize,
-) -> Result<Meaning, InlineFault>
-    requires { IsWithin text.now piece }
-    ensures { Gives (λ reading. reading ≡ marked_reading markup suffix text.now piece line) result }
-{
-    let content = part(text, piece.content_from, piece.content_to);
-    match markup {
-        Markup::Strong => shown_in(alloc, Tag::Strong, content, line),
-        Markup::Emphasis => shown_in(alloc, Tag::Emphasis, content, line),
-        Markup::Literal => {
-            let shown = spell(alloc, content)?;
-            let node = plain_element(alloc, Tag::Literal, shown.as_str(), line)?;
-            Ok(Meaning::One(node))
+    /// A phrase that is a reference.
+    fn phrase(&self, suffix: Suffix, piece: Piece) -> Result<Meaning, InlineFault>
+        requires { IsWithin self.now.characters.items piece }
+        ensures { Gives (λ reading. reading ≡ phrase_reading suffix (source self.now.characters.items piece) (content self.now.characters.items piece) self.now.line) result }
+    {
+        let source = self.part(piece.from, piece.to);
+        let phrase = part(&self.characters, piece.content_from, piece.content_to);
+        if let Some(place) = embedded_at(phrase) {
+            let shown = self.shown_by(piece, phrase, place)?;
+            let meaning = self.meant(piece.content_from + place + 1, piece.content_to - 1)?;
+            let alias = is_alias(enclosed(phrase, place));
+            return self.embedded(suffix, source, shown.as_str(), meaning.as_str(), alias);
         }
-        Markup::Target => {
-            let shown = bare(alloc, content)?;
-            let node = target(alloc, shown.as_str(), line)?;
-            Ok(Meaning::One(node))
-        }
-        Markup::Substitution => {
-            let inner = spell(alloc, part(text, piece.from, piece.content_to + 1))?;
-            let outer = spell(alloc, part(text, piece.from, piece.to))?;
-            let shown = bare(alloc, content)?;
-            substituted(
-                alloc,
-                suffix,
-                inner.as_str(),
-                outer.as_str(),
-                shown.as_str(),
-                line,
-            )
-        }
-        Markup::Interpreted => interpreted(alloc, suffix, text, piece, line),
+        let shown = self.unescaped(piece.content_from, piece.content_to)?;
+        let node = reference(self.alloc, suffix, source, shown.as_str(), self.line)?;
+        Ok(Meaning::One(node))
     }
-}
 
-/// What a piece of a text means.
-#[tactic(auto, unfolding(crate::specs::Readings::reading))]
-pub(crate) fn reading(
-    alloc: Global,
-    text: &[char],
-    line: usize,
-    piece: Piece,
-) -> Result<Meaning, InlineFault>
-    requires { IsWithin text.now piece }
-    ensures { Gives (λ read. read ≡ reading text.now line piece) result }
-{
-    let source = part(text, piece.from, piece.to);
-    match piece.kind {
-        Kind::Plain => plain(alloc, source),
-        Kind::Marked(markup, suffix) => marked(alloc, markup, suffix, text, piece, line),
-        Kind::Unended(markup) => Ok(unended(alloc, markup)),
-        Kind::Label => {
-            let label = part(text, piece.content_from, piece.content_to);
-            let source = spell(alloc, source)?;
-            let node = label_reference(alloc, source.as_str(), label, line)?;
-            Ok(Meaning::One(node))
+    /// Interpreted text with a role.
+    fn with_role(&self, role: &str, piece: Piece) -> Result<Meaning, InlineFault>
+        ensures { Gives (λ reading. reading ≡ role_reading (chars role.now) (unescaped (content self.now.characters.items piece)) self.now.line) result }
+    {
+        match role_tag(role) {
+            Some(tag) => self.shown_in(tag, piece),
+            None => unknown_role(self.alloc, role),
         }
-        Kind::Reference(suffix) => {
-            let shown = spell(alloc, part(text, piece.content_from, piece.content_to))?;
-            let source = spell(alloc, source)?;
-            let node = reference(alloc, suffix, source.as_str(), shown.as_str(), line)?;
-            Ok(Meaning::One(node))
+    }
+
+    /// Interpreted text with a role in front of it.
+    fn prefixed(&self, suffix: Suffix, piece: Piece) -> Result<Meaning, InlineFault>
+        requires { piece.from + 1 < piece.content_from }
+        ensures { Gives (λ reading. reading ≡ interpreted_reading true suffix self.now.characters.items piece self.now.line) result }
+    {
+        match suffix {
+            Suffix::Bare => {
+                self.with_role(self.part(piece.from + 1, piece.content_from - 2), piece)
+            }
+            Suffix::Role => two_roles(self.alloc),
+            Suffix::Named | Suffix::Anonymous => mismatch(self.alloc),
         }
-        Kind::Uri => {
-            let source = spell(alloc, source)?;
-            let node = uri_reference(alloc, source.as_str(), line)?;
-            Ok(Meaning::One(node))
+    }
+
+    /// Interpreted text, or a phrase that is a reference.
+    fn interpreted(&self, suffix: Suffix, piece: Piece) -> Result<Meaning, InlineFault>
+        requires { IsWithin self.now.characters.items piece }
+        ensures { Gives (λ reading. reading ≡ interpreted_reading (has_prefix_role piece) suffix self.now.characters.items piece self.now.line) result }
+    {
+        if piece.from + 1 < piece.content_from {
+            return self.prefixed(suffix, piece);
+        }
+        match suffix {
+            Suffix::Bare => self.shown_in(Tag::TitleReference, piece),
+            Suffix::Role => { self.with_role(self.part(piece.content_to + 2, piece.to - 1), piece) }
+            Suffix::Named | Suffix::Anonymous => self.phrase(suffix, piece),
+        }
+    }
+
+    /// Markup with its end-string.
+    fn marked(&self, markup: Markup, suffix: Suffix, piece: Piece) -> Result<Meaning, InlineFault>
+        requires { IsWithin self.now.characters.items piece }
+        ensures { Gives (λ reading. reading ≡ marked_reading markup suffix self.now.characters.items piece self.now.line) result }
+    {
+        match markup {
+            Markup::Strong => self.shown_in(Tag::Strong, piece),
+            Markup::Emphasis => self.shown_in(Tag::Emphasis, piece),
+            Markup::Literal => self.literal(piece),
+            Markup::Target => self.inline_target(piece),
+            Markup::Substitution => self.substituted(suffix, piece),
+            Markup::Interpreted => self.interpreted(suffix, piece),
+        }
+    }
+
+    /// A reference to a footnote or a citation.
+    fn label(&self, piece: Piece) -> Result<Meaning, InlineFault>
+        ensures { Gives (λ reading. reading ≡ One (label_reference_node (source self.now.characters.items piece) (content self.now.characters.items piece) self.now.line)) result }
+    {
+        let source = self.part(piece.from, piece.to);
+        let label = part(&self.characters, piece.content_from, piece.content_to);
+        let node = label_reference(self.alloc, source, label, self.line)?;
+        Ok(Meaning::One(node))
+    }
+
+    /// A reference by a simple name.
+    fn named(&self, suffix: Suffix, piece: Piece) -> Result<Meaning, InlineFault>
+        ensures { Gives (λ reading. reading ≡ One (reference_node suffix (source self.now.characters.items piece) (content self.now.characters.items piece) self.now.line)) result }
+    {
+        let source = self.part(piece.from, piece.to);
+        let shown = self.part(piece.content_from, piece.content_to);
+        let node = reference(self.alloc, suffix, source, shown, self.line)?;
+        Ok(Meaning::One(node))
+    }
+
+    /// A standalone URI.
+    fn uri(&self, piece: Piece) -> Result<Meaning, InlineFault>
+        ensures { Gives (λ reading. reading ≡ One (uri_node (source self.now.characters.items piece) self.now.line)) result }
+    {
+        let node = uri_reference(self.alloc, self.part(piece.from, piece.to), self.line)?;
+        Ok(Meaning::One(node))
+    }
+
+    /// What a piece of the text means.
+    #[tactic(auto, unfolding(crate::specs::Readings::reading))]
+    pub(crate) fn reading(&self, piece: Piece) -> Result<Meaning, InlineFault>
+        requires { IsWithin self.now.characters.items piece }
+        ensures { Gives (λ read. read ≡ reading self.now.characters.items self.now.line piece) result }
+    {
+        match piece.kind {
+            Kind::Plain => self.plain(piece),
+            Kind::Marked(markup, suffix) => self.marked(markup, suffix, piece),
+            Kind::Unended(markup) => Ok(unended(self.alloc, markup)),
+            Kind::Label => self.label(piece),
+            Kind::Reference(suffix) => self.named(suffix, piece),
+            Kind::Uri => self.uri(piece),
         }
     }
 }

@@ -9,7 +9,7 @@ ghost use Rattle.rst_inline.specs.Elements.{said};
 ghost use Rattle.rst_inline.specs.Faults.{Gives};
 
 use super::fault::InlineFault;
-use rst_inline_scan::{has_backslash, unescaped};
+use rst_inline_scan::unescaped;
 use rst_text::{characters_of, name_of, normalized_white};
 use rst_tree::{Text, Value};
 use std::alloc::{AllocError, Global};
@@ -22,19 +22,9 @@ pub fn unescape(alloc: Global, text: &str) -> Result<String, InlineFault>
     ensures { Gives (λ out. chars_of out ≡ unescaped (chars text.now)) result }
 {
     let characters = characters_of(alloc, text)?;
-    let out = bare(alloc, &characters)?;
+    let plain = unescaped(alloc, &characters)?;
+    let out = spell(alloc, &plain)?;
     Ok(out)
-}
-
-/// The text that characters spell, without their escapes. Most have none, and are not copied for them.
-pub(crate) fn bare(alloc: Global, characters: &[char]) -> Result<String, AllocError>
-    ensures { IfOk result (λ out. chars_of out ≡ unescaped characters.now) }
-{
-    if !has_backslash(characters) {
-        return spell(alloc, characters);
-    }
-    let plain = unescaped(alloc, characters)?;
-    spell(alloc, &plain)
 }
 
 /// The text that characters spell.

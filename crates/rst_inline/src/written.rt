@@ -1,213 +1,118 @@
-//! Pieces of a text that is ASCII: without a backslash in it most are cut out of it as it was written, for there each character is a byte.
-ghost use Rattle.std.specs.Prelude.{◌≡◌, ℕ, List, [], IfOk, IfSome};
-ghost use Rattle.std.specs.Str.{chars, IsAscii};
-ghost use Rattle.rst_tree.specs.declared.node.Node.TheVariants.{Text as Words};
-ghost use Rattle.rst_inline_scan.specs.Pieces.{IsPieces, IsWithin};
-ghost use Rattle.rst_inline.specs.declared.reading.Meaning.TheVariants.{One};
-ghost use Rattle.rst_inline.specs.Faults.{Gives};
-ghost use Rattle.rst_inline.specs.Elements.{text_element, reference_node, uri_node, problematic_node};
-ghost use Rattle.rst_inline.specs.Parts.{source, content, IsBare};
-ghost use Rattle.rst_inline.specs.Readings as spec;
+//! A text with inline markup, and its parts as they are written.
+ghost use Rattle.std.specs.Prelude.{◌≡◌, ◌<◌, ◌≤◌, length, vec_len, take, true, false, IfOk};
+ghost use Rattle.std.specs.Str.{all_scalars, chars, IsAscii};
+ghost use Rattle.std.specs.Cow.{cow_str_bytes};
+ghost use Rattle.rst_inline_scan.specs.Escapes.{has_backslash, unescaped};
+ghost use Rattle.rst_inline_scan.specs.Pieces.{IsPieces};
+ghost use Rattle.rst_inline.specs.Parts.{part, spelled, starts_of};
 
-use super::elements::{plain_element, problematic};
-use super::fault::InlineFault;
-use super::phrases::interpreted_in;
-use super::reading::{Meaning, reading};
-use super::references::{reference, uri_reference};
 use super::texts::{part, spell};
-use rst_inline_scan::{Kind, Markup, Piece, Suffix, pieces_of, pieces_of_ascii};
+use rst_inline_scan::{Piece, pieces_of, pieces_of_ascii, unescaped};
 use rst_text::ascii_characters;
-use rst_tree::{Node, Tag, Text};
 use std::alloc::{AllocError, Global};
+use std::borrow::CowStr;
 
-/// The text, if it is ASCII.
-pub(crate) fn if_ascii(text: &str) -> Option<&str>
-    ensures ascii { IfSome result (λ written. IsAscii written.now) }
-    ensures same { IfSome result (λ written. written.now ≡ chars text.now) }
-{
-    if text.is_ascii() { Some(text) } else { None }
+/// A text with inline markup and the number of its first line, with the allocator for what is made of it.
+#[derive(Drop)]
+pub(crate) struct Written<'a> {
+    pub(crate) alloc: Global,
+    pub(crate) line: usize,
+    text: &'a str,
+    pub(crate) characters: Vec<char>,
+    /// Where they begin ([`with_starts`]).
+    starts: Vec<usize>,
+    /// Whether there is a backslash in it.
+    escapes: bool,
+    ghost spelled: { text.now ≡ spelled characters.items },
+    ghost scalars: { all_scalars characters.items ≡ true },
+    ghost ascii: { vec_len starts ≡ 0 → IsAscii characters.items },
+    ghost begun: { 0 < vec_len starts → starts.items ≡ starts_of 0 characters.items },
+    ghost plain: { escapes ≡ false → has_backslash characters.items ≡ false },
 }
 
-/// The characters of a text; `written` is the text, too, if that is ASCII.
-pub(crate) fn characters(
-    alloc: Global,
-    written: Option<&str>,
-    text: &str,
-) -> Result<Vec<char>, AllocError>
-    requires { IfSome written (λ written. written.now ≡ chars text.now) }
-    ensures { IfOk result (λ characters. characters.items ≡ chars text.now) }
+/// The characters of a text, and the byte at which each of them begins, with the length of the text behind them; none where each
+/// character is a byte.
+fn with_starts(alloc: Global, text: &str) -> Result<(Vec<char>, Vec<usize>), AllocError>
+    ensures characters { IfOk result (λ made. made.0.items ≡ chars text.now) }
+    ensures ascii { IfOk result (λ made. vec_len made.1 ≡ 0 → IsAscii made.0.items) }
+    ensures begun { IfOk result (λ made. 0 < vec_len made.1 → made.1.items ≡ starts_of 0 made.0.items) }
 {
-    match written {
-        Some(written) => ascii_characters(alloc, written.as_bytes()),
-        None => text.chars().collect(alloc),
+    if text.is_ascii() {
+        let characters = ascii_characters(alloc, text.as_bytes())?;
+        return Ok((characters, Vec::new(alloc)));
     }
-}
-
-/// The pieces of a text; `written` is the text, too, if that is ASCII.
-pub(crate) fn pieces(
-    alloc: Global,
-    written: Option<&str>,
-    text: &[char],
-) -> Result<Vec<Piece>, AllocError>
-    requires { IfSome written (λ written. written.now ≡ text.now) }
-    ensures { IfOk result (λ pieces. IsPieces text.now 0 pieces.items) }
-{
-    match written {
-        Some(written) => pieces_of_ascii(alloc, text, written.as_bytes()),
-        None => pieces_of(alloc, text),
+    let mut characters = Vec::with_capacity(alloc, text.len())?;
+    let mut starts = Vec::with_capacity(alloc, text.len() + 1)?;
+    for (at, c) in text.char_indices() {
+        starts.push_reserved(at);
+        characters.push_reserved(c);
     }
+    starts.push_reserved(text.len());
+    Ok((characters, starts))
 }
 
-/// What is written, if there is no backslash in it.
-pub(crate) fn if_bare(written: Option<&str>) -> Option<&str>
-    requires { IfSome written (λ written. IsAscii written.now) }
-    ensures bare { IfSome result (λ bare. IsBare bare.now) }
-    ensures same { (text : List ℕ) → IfSome written.entry (λ written. written.now ≡ text) → IfSome result (λ bare. bare.now ≡ text) }
-{
-    let written = written?;
-    if written.as_bytes().contains(&b'\\') {
-        return None;
+impl<'a> Written<'a> {
+    /// A text whose first line has the number `line`.
+    pub(crate) fn of(alloc: Global, text: &'a str, line: usize) -> Result<Written<'a>, AllocError>
+        ensures text { IfOk result (λ written. written.characters.items ≡ chars text.now) }
+        ensures line { IfOk result (λ written. written.line ≡ line) }
+    {
+        let (characters, starts) = with_starts(alloc, text)?;
+        let escapes = text.as_bytes().contains(&b'\\');
+        Ok(Written {
+            alloc,
+            line,
+            text,
+            characters,
+            starts,
+            escapes,
+        })
     }
-    Some(written)
-}
 
-/// The text of a piece as it is written.
-fn copied(alloc: Global, written: &str, piece: Piece) -> Result<Meaning, InlineFault>
-    requires ascii { IsAscii written.now }
-    requires within { IsWithin written.now piece }
-    ensures { Gives (λ read. read ≡ One (Words (source written.now piece))) result }
-{
-    let text = Text::from_str(alloc, &written[piece.from..piece.to])?;
-    Ok(Meaning::One(Node::Text(text)))
-}
-
-/// The element of what the markup of a piece encloses, as it is written.
-fn enclosed(
-    alloc: Global,
-    tag: Tag,
-    written: &str,
-    piece: Piece,
-    line: usize,
-) -> Result<Meaning, InlineFault>
-    requires ascii { IsAscii written.now }
-    requires within { IsWithin written.now piece }
-    ensures { Gives (λ read. read ≡ One (text_element tag [] (content written.now piece) line)) result }
-{
-    let shown = &written[piece.content_from..piece.content_to];
-    let node = plain_element(alloc, tag, shown, line)?;
-    Ok(Meaning::One(node))
-}
-
-/// The reference that a piece is, as it is written.
-pub(crate) fn referred(
-    alloc: Global,
-    suffix: Suffix,
-    written: &str,
-    piece: Piece,
-    line: usize,
-) -> Result<Meaning, InlineFault>
-    requires ascii { IsAscii written.now }
-    requires within { IsWithin written.now piece }
-    ensures { Gives (λ read. read ≡ One (reference_node suffix (source written.now piece) (content written.now piece) line)) result }
-{
-    let source = &written[piece.from..piece.to];
-    let shown = &written[piece.content_from..piece.content_to];
-    let node = reference(alloc, suffix, source, shown, line)?;
-    Ok(Meaning::One(node))
-}
-
-/// The URI that a piece is, as it is written.
-fn uri(alloc: Global, written: &str, piece: Piece, line: usize) -> Result<Meaning, InlineFault>
-    requires ascii { IsAscii written.now }
-    requires within { IsWithin written.now piece }
-    ensures { Gives (λ read. read ≡ One (uri_node (source written.now piece) line)) result }
-{
-    let node = uri_reference(alloc, &written[piece.from..piece.to], line)?;
-    Ok(Meaning::One(node))
-}
-
-/// The problematic that a piece is, as it is written, with the place of its message.
-fn problem_in(
-    alloc: Global,
-    written: &str,
-    piece: Piece,
-    place: usize,
-    line: usize,
-) -> Result<Node, InlineFault>
-    requires ascii { IsAscii written.now }
-    requires within { IsWithin written.now piece }
-    ensures { Gives (λ node. node ≡ problematic_node place (source written.now piece) line) result }
-{
-    let node = problematic(alloc, place, &written[piece.from..piece.to], line)?;
-    Ok(node)
-}
-
-/// The problematic that a piece of a text is, with the place of its message; `written` is the text, too, if that is ASCII without a
-/// backslash.
-pub(crate) fn problem(
-    alloc: Global,
-    written: Option<&str>,
-    text: &[char],
-    piece: Piece,
-    place: usize,
-    line: usize,
-) -> Result<Node, InlineFault>
-    requires bare { IfSome written (λ written. IsBare written.now) }
-    requires same { IfSome written (λ written. written.now ≡ text.now) }
-    requires within { IsWithin text.now piece }
-    ensures { Gives (λ node. node ≡ problematic_node place (source text.now piece) line) result }
-{
-    match written {
-        Some(written) => problem_in(alloc, written, piece, place, line),
-        None => {
-            let source = spell(alloc, part(text, piece.from, piece.to))?;
-            problematic(alloc, place, source.as_str(), line)
+    /// The pieces of the text.
+    pub(crate) fn pieces(&self) -> Result<Vec<Piece>, AllocError>
+        ensures { IfOk result (λ pieces. IsPieces self.now.characters.items 0 pieces.items) }
+    {
+        if self.starts.is_empty() {
+            pieces_of_ascii(self.alloc, &self.characters, self.text.as_bytes())
+        } else {
+            pieces_of(self.alloc, &self.characters)
         }
     }
-}
 
-/// What a piece of a text means; `written` is the text, too, if that is ASCII without a backslash.
-pub(crate) fn meaning(
-    alloc: Global,
-    written: Option<&str>,
-    text: &[char],
-    line: usize,
-    piece: Piece,
-) -> Result<Meaning, InlineFault>
-    requires bare { IfSome written (λ written. IsBare written.now) }
-    requires same { IfSome written (λ written. written.now ≡ text.now) }
-    requires within { IsWithin text.now piece }
-    ensures { Gives (λ read. read ≡ spec.reading text.now line piece) result }
-{
-    match written {
-        Some(written) => bare_meaning(alloc, written, text, line, piece),
-        None => reading(alloc, text, line, piece),
-    }
-}
-
-/// The same of a text that is ASCII without a backslash: most kinds of pieces are cut out of it.
-fn bare_meaning(
-    alloc: Global,
-    written: &str,
-    text: &[char],
-    line: usize,
-    piece: Piece,
-) -> Result<Meaning, InlineFault>
-    requires bare { IsBare written.now }
-    requires same { written.now ≡ text.now }
-    requires within { IsWithin text.now piece }
-    ensures { Gives (λ read. read ≡ spec.reading text.now line piece) result }
-{
-    match piece.kind {
-        Kind::Plain => copied(alloc, written, piece),
-        Kind::Marked(Markup::Strong, _) => enclosed(alloc, Tag::Strong, written, piece, line),
-        Kind::Marked(Markup::Emphasis, _) => enclosed(alloc, Tag::Emphasis, written, piece, line),
-        Kind::Marked(Markup::Literal, _) => enclosed(alloc, Tag::Literal, written, piece, line),
-        Kind::Marked(Markup::Interpreted, suffix) => {
-            interpreted_in(alloc, suffix, written, text, piece, line)
+    /// The byte at which the character at a place begins.
+    fn byte_at(&self, place: usize) -> usize
+        requires { place ≤ length self.now.characters.items }
+        ensures { result ≡ length (spelled (take place self.now.characters.items)) }
+    {
+        if self.starts.is_empty() {
+            place
+        } else {
+            self.starts[place]
         }
-        Kind::Reference(suffix) => referred(alloc, suffix, written, piece, line),
-        Kind::Uri => uri(alloc, written, piece, line),
-        _ => reading(alloc, text, line, piece),
+    }
+
+    /// What is written from a place on, up to another place.
+    pub(crate) fn part(&self, low: usize, high: usize) -> &str
+        ensures { chars result.now ≡ part self.now.characters.items low high }
+    {
+        let high = high.min(self.characters.len());
+        let low = low.min(high);
+        &self.text[self.byte_at(low)..self.byte_at(high)]
+    }
+
+    /// The same without its escapes. Most texts have none, and aren't copied for them.
+    pub(crate) fn unescaped(
+        &self,
+        low: usize,
+        high: usize,
+    ) -> Result<CowStr<'_, Global>, AllocError>
+        ensures { IfOk result (λ shown. chars (cow_str_bytes shown) ≡ unescaped (part self.now.characters.items low high)) }
+    {
+        if !self.escapes {
+            return Ok(CowStr::Borrowed(self.part(low, high)));
+        }
+        let plain = unescaped(self.alloc, part(&self.characters, low, high))?;
+        Ok(CowStr::Owned(spell(self.alloc, &plain)?))
     }
 }

@@ -13,7 +13,7 @@ pub fn escapes(c: char, escaped: bool) -> bool
 }
 
 /// Whether there is a backslash in the text. Without one nothing in it is escaped.
-pub fn has_backslash(text: &[char]) -> bool
+fn has_backslash(text: &[char]) -> bool
     ensures { result ≡ has_backslash text.now }
 {
     text.contains(&'\\')

@@ -18,7 +18,7 @@ mod uri;
 mod words;
 
 pub use characters::{has, is_dark, without_white};
-pub use escaping::{escapes, has_backslash, unescaped};
+pub use escaping::{escapes, unescaped};
 pub use laws::{one_list_of_pieces, pieces_are_found, quiet_is_one_piece};
 pub use names::{is_joint, is_simple_name};
 pub use piece::{Kind, Markup, Piece, Suffix};
