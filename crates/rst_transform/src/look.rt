@@ -4,7 +4,6 @@ ghost use Rattle.std.specs.List.{list_any};
 ghost use Rattle.rst_tree.specs.Walk.{item, items};
 ghost use Rattle.rst_transform.specs.Looked.{is_early};
 
-use rst_transform_work::are_plain;
 use rst_tree::{Attrs, Children, Node, Tag};
 use rst_tree_index::is_internal;
 
@@ -32,7 +31,7 @@ pub fn has_early(nodes: &Children) -> bool
         if is_early(*tag, attrs) {
             return true;
         }
-        if are_plain(children) {
+        if children.are_plain() {
             continue;
         }
         if has_early(children) {

@@ -4,4 +4,3 @@ pub mod Idle
 pub mod Linking
 pub mod SettlingLemmas
 pub mod TurnsInOrder
-pub mod Turning

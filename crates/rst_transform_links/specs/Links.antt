@@ -1,5 +1,5 @@
 -- What the outcomes of linked elements, taken in turn, make of the elements of a tree.
-use Rattle.std.specs.Prelude.{◌≡◌, Bool, true, false, not, ℕ, List, [], ◌∷◌, drop, if◌then◌else◌, Option, Some, None}
+use Rattle.std.specs.Prelude.{◌≡◌, Bool, true, false, ℕ, List, [], ◌∷◌, drop, if◌then◌else◌, Option, Some, None}
 use Rattle.rst_tree.specs.declared.attrs.Attr.{Attr}
 use Rattle.rst_tree.specs.declared.node.Node.{Node}
 use Rattle.rst_tree.specs.declared.node.Node.TheVariants.{Element, Text}
@@ -14,7 +14,7 @@ use Rattle.rst_tree_index.specs.LinkedTags.{is_linked_tag}
 use Rattle.rst_transform_work.specs.declared.document.Document.{Document}
 use Rattle.rst_transform_links.specs.declared.links.Outcome.{Outcome}
 use Rattle.rst_transform_links.specs.declared.links.Outcome.TheVariants.{Stays, Fails, Failed}
-use Rattle.rst_transform_work.specs.Reading.{are_plain, source_said}
+use Rattle.rst_transform_work.specs.Reading.{source_said}
 
 -- the attributes, and one more if there is one
 abbrev pub with_more : Option Attr → List Attr → List Attr
@@ -28,7 +28,7 @@ shown_as (Some text) t a l = Replace (Element t a (words text bare) l)
 
 -- the contents of an element that may show a text in their place, and whether they are to be gone through
 abbrev pub Shows : Option (List ℕ) → Forest → Forest → Bool → Type 0
-Shows None old new stays = (new ≡ old) × (stays ≡ not (are_plain old))
+Shows None old new stays = (new ≡ old) × (stays ≡ true)
 Shows (Some text) old new stays = (new ≡ words text bare) × (stays ≡ false)
 
 -- what the first outcome makes of an element; what failed becomes a problematic of its source text
@@ -42,16 +42,6 @@ changed_by (Failed p ∷ more) t a l = Replace (Element Problematic p (words (so
 abbrev pub change_of : List Outcome → Node → Rewrite
 change_of s (Element t a c l) = if is_linked_tag t then changed_by s t a l else Keep t a l
 change_of s (Text t) = kept (Text t)
-
--- what stays of an element in which no element is isn't gone through: it stands in its own place
-abbrev pub left_plain : Forest → Rewrite → Rewrite
-left_plain c (Keep t a l) = if are_plain c then Replace (Element t a c l) else Keep t a l
-left_plain c (Replace n) = Replace n
-
--- what becomes of an element, where nothing more than has to be is gone through
-abbrev pub turn_of : List Outcome → Node → Rewrite
-turn_of s (Element t a c l) = left_plain c (change_of s (Element t a c l))
-turn_of s (Text t) = kept (Text t)
 
 -- the outcomes that are left after an element
 abbrev pub change_next : List Outcome → Node → List Outcome

@@ -6,7 +6,7 @@ ghost use Rattle.rst_transform_links.specs.Linkings.{held, inner_of, linked_amon
 ghost use Rattle.rst_transform_links.specs.Links.{Shows, changed_document, is_idle, with_more};
 ghost use Rattle.rst_transform_links.specs.Outcomes.{adds, fails, stays};
 
-use rst_transform_work::{Document, ProblematicAttrs, are_plain, take_source};
+use rst_transform_work::{Document, ProblematicAttrs, take_source};
 use rst_tree::{Attrs, Children, Entry, Node, Rewriter, Tag, Text, TreeFault, rewrite_in};
 use rst_tree_index::is_linked_tag;
 use std::alloc::Global;
@@ -101,7 +101,7 @@ fn add_linked<'a>(
             Node::Text(_) => continue,
             Node::Element { tag, children, .. } => {
                 let inner = add_own(node, *tag, outer, list)?;
-                if are_plain(children) {
+                if children.are_plain() {
                     continue;
                 }
                 add_linked(children, inner, list)?;
@@ -159,7 +159,7 @@ impl Changes {
     ghost use Rattle.std.specs.Prelude.{drop};
     ghost use Rattle.rst_tree.specs.Rewritten.{Turned};
     ghost use Rattle.rst_tree.specs.declared.node.Node.TheVariants.{Element};
-    ghost use Rattle.rst_transform_links.specs.Links.{changed_by, left_plain};
+    ghost use Rattle.rst_transform_links.specs.Links.{changed_by};
 
     /// The changes in a list.
     pub fn of(list: Vec<Outcome>) -> Changes
@@ -180,7 +180,6 @@ impl Changes {
     /// Changes the parts of a linked element on a line, and tells whether what stands in it is to be gone through.
     // Few elements are linked: the others are passed without this call.
     #[inline(never)]
-    #[tactic(auto, using(crate::proofs::Turning::left_so))]
     fn change(
         &mut self,
         alloc: Global,
@@ -190,10 +189,10 @@ impl Changes {
         line: usize,
     ) -> Result<bool, TreeFault>
         ensures state { Gives (λ _. self.new ≡ drop 1 self.old) result }
-        ensures outcome { Gives (λ stays. Turned (left_plain children.old (changed_by self.old tag.old attrs.old line)) (Element tag.old attrs.old children.old line) (Element tag.new attrs.new children.new line) stays) result }
+        ensures outcome { Gives (λ stays. Turned (changed_by self.old tag.old attrs.old line) (Element tag.old attrs.old children.old line) (Element tag.new attrs.new children.new line) stays) result }
     {
         match self.left.pop_front() {
-            None | Some(Outcome::Fails(_)) => Ok(!are_plain(children)),
+            None | Some(Outcome::Fails(_)) => Ok(true),
             Some(Outcome::Stays(addition)) => {
                 add(attrs, addition.attr)?;
                 show(children, addition.shown)
@@ -239,18 +238,17 @@ fn show(nodes: &mut Children, text: Option<Text>) -> Result<bool, TreeFault>
             nodes.set_lone(Node::Text(text))?;
             Ok(false)
         }
-        None => Ok(!are_plain(nodes)),
+        None => Ok(true),
     }
 }
 
 impl Rewriter for Changes {
-    ghost use Rattle.rst_transform_links.specs.Links.{change_next, turn_of};
+    ghost use Rattle.rst_transform_links.specs.Links.{change_next, change_of};
 
     ghost entered = { change_next };
 
-    ghost becomes = { turn_of };
+    ghost becomes = { change_of };
 
-    #[tactic(auto, using(crate::proofs::Turning::left_so))]
     fn turn(&mut self, alloc: Global, element: &mut Node) -> Result<bool, TreeFault> {
         if let Node::Element {
             tag,
@@ -260,7 +258,7 @@ impl Rewriter for Changes {
         } = element
         {
             if !is_linked_tag(*tag) {
-                return Ok(!are_plain(children));
+                return Ok(true);
             }
             return self.change(alloc, tag, attrs, children, *line);
         }
@@ -269,7 +267,7 @@ impl Rewriter for Changes {
 }
 
 /// A document in which its linked elements changed.
-#[tactic(auto, using(crate::proofs::Idle::idle_document, crate::proofs::Turning::turned_document))]
+#[tactic(auto, using(crate::proofs::Idle::idle_document))]
 pub fn with_changes(
     alloc: Global,
     mut document: Document,

@@ -9,7 +9,7 @@ ghost use Rattle.rst_transform_work.specs.States.{document_node};
 
 use crate::messages::{level_number, reaches};
 use rst_settings::Threshold;
-use rst_transform_work::{Document, are_plain};
+use rst_transform_work::Document;
 use rst_tree::{Attrs, Children, Key, Node, Tag, TreeFault};
 use std::alloc::Global;
 use std::mem;
@@ -131,7 +131,7 @@ fn filter_in(
             Fate::Stays => match node {
                 Node::Text(_) => continue,
                 Node::Element { children, .. } => {
-                    if are_plain(children) {
+                    if children.are_plain() {
                         continue;
                     }
                     filter_in(alloc, children, report, shown)?;

@@ -8,7 +8,7 @@ ghost use Rattle.rst_transform_messages.specs.Messages.{has_halt, EndsAtHalt, hi
 ghost use Rattle.rst_transform_messages.specs.MessagesIn.{note_said};
 
 use rst_settings::Threshold;
-use rst_transform_work::{Report, are_plain};
+use rst_transform_work::Report;
 use rst_tree::{Attrs, Children, Key, Level, Node, Note, Tag, Text, TreeFault};
 use std::alloc::Global;
 
@@ -118,7 +118,7 @@ impl Messages {
                         self.add(alloc, attrs, children, *line)?;
                         continue;
                     }
-                    if are_plain(children) {
+                    if children.are_plain() {
                         continue;
                     }
                     self.add_all(alloc, children)?;

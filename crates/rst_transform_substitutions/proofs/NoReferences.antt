@@ -11,8 +11,8 @@ use Rattle.rst_tree.specs.Walk.{items, Item}
 use Rattle.rst_tree.proofs.Changes.{forest_of-nodes_of}
 use Rattle.rst_transform_work.specs.declared.context.Context.{Context}
 use Rattle.rst_transform_work.specs.declared.document.Document.{Document}
-use Rattle.rst_transform_work.proofs.Plain.{nothing_gathered}
-use Rattle.rst_transform_work.specs.Reading.{are_plain}
+use Rattle.rst_tree.proofs.PlainNodes.{nothing_gathered}
+use Rattle.rst_tree.specs.Nodes.{are_plain}
 use Rattle.rst_transform_work.specs.Known.{Holds, Known, Makes}
 use Rattle.rst_transform_work.specs.States.{elements_of}
 use Rattle.rst_transform_substitutions.specs.Definitions.{definitions_among, found_among, place_of_name, Definition}

@@ -11,7 +11,7 @@ ghost use Rattle.rst_transform_substitutions.specs.Outcomes.{Remembers};
 use crate::definitions::Definitions;
 use crate::expansion::{ExpansionFault, is_reference};
 use crate::outcomes::{Outcome, Outcomes, reference_outcome};
-use rst_transform_work::{Context, Document, are_plain, said, take_source};
+use rst_transform_work::{Context, Document, said, take_source};
 use rst_tree::{Attrs, Children, Key, Level, Node, Tag, TreeFault};
 use std::alloc::Global;
 use std::mem;
@@ -75,7 +75,7 @@ fn expand_in(
                     *children = replaced(definitions, attrs, *line, within, outcomes, context)?;
                     continue;
                 }
-                if are_plain(children) {
+                if children.are_plain() {
                     continue;
                 }
                 let within = within_element(definitions, *tag, attrs, within);

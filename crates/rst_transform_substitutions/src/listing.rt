@@ -5,7 +5,7 @@ ghost use Rattle.rst_transform_substitutions.specs.Definitions.{defined, definit
 ghost use Rattle.rst_transform_substitutions.specs.Numbering.{names_said, own_name};
 
 use crate::expansion::is_reference;
-use rst_transform_work::{are_plain, said};
+use rst_transform_work::said;
 use rst_tree::{Attrs, Children, Key, Node, Tag, TreeFault};
 
 /// A substitution definition as it stands in a document.
@@ -36,7 +36,7 @@ pub fn add_listed<'a>(
                 ..
             } => {
                 add_own(*tag, attrs, children, list, names)?;
-                if are_plain(children) {
+                if children.are_plain() {
                     continue;
                 }
                 add_listed(children, list, names)?;

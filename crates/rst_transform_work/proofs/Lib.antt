@@ -1,4 +1,3 @@
-pub mod Plain
 pub mod Computing
 pub mod Listing
 pub mod Holding

@@ -40,12 +40,6 @@ line_of (Words t) = 0
 abbrev pub source_said : List Attr → List ℕ
 source_said attrs = unwrap_or (said_text (value_of Rawsource attrs)) []
 
--- no node, or a text alone
-abbrev pub are_plain : Forest → Bool
-are_plain bare = true
-are_plain (words t bare) = true
-are_plain _ = false
-
 abbrev pub is_heading : Tag → Bool
 is_heading Title = true
 is_heading Subtitle = true

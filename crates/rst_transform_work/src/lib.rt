@@ -15,8 +15,7 @@ pub use document::Document;
 pub use lists::{append, append_names, at_place, take_list};
 pub use problematics::ProblematicAttrs;
 pub use reading::{
-    are_plain, first_said, has, is_title, line_of, list_said, may_precede, number_said, said,
-    text_said,
+    first_said, has, is_title, line_of, list_said, may_precede, number_said, said, text_said,
 };
 pub use report::Report;
 pub use texts::{add_names, copies, folded, identified, take_source};

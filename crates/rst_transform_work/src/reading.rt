@@ -3,7 +3,7 @@ ghost use Rattle.std.specs.Prelude.{◌≡◌, [], MatchOption, Some, None, is_s
 ghost use Rattle.rst_tree.specs.Attributes.{value_of, said_text};
 ghost use Rattle.rst_tree.specs.Faults.{Gives};
 ghost use Rattle.rst_tree.specs.Paths.{node_value};
-ghost use Rattle.rst_transform_work.specs.Reading.{text_said, number_said, list_said, line_of, are_plain, may_precede, is_title};
+ghost use Rattle.rst_transform_work.specs.Reading.{text_said, number_said, list_said, line_of, may_precede, is_title};
 
 use rst_tree::{Attrs, Children, Key, Node, Said, Tag, Texts, TreeFault};
 use std::alloc::Global;
@@ -95,19 +95,6 @@ pub fn may_precede(node: &Node) -> bool
             Tag::Comment | Tag::Target | Tag::SubstitutionDefinition | Tag::SystemMessage
         ),
         Node::Text(_) => false,
-    }
-}
-
-/// Whether nodes are none, or a text alone: then no element is among them. So it is in most elements.
-#[tactic(auto, using(crate::proofs::Plain::first_text, crate::proofs::Plain::first_element, crate::proofs::Plain::no_first))]
-#[inline(always)]
-pub fn are_plain(nodes: &Children) -> bool
-    ensures { result ≡ are_plain nodes.now }
-{
-    match nodes.get(0) {
-        Some(Node::Text(_)) => nodes.len() == 1,
-        Some(Node::Element { .. }) => false,
-        None => true,
     }
 }
 

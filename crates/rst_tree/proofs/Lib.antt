@@ -1,6 +1,7 @@
 pub mod Computing
 pub mod Changes
 mod Plain
+pub mod PlainNodes
 pub mod PrintedParts
 mod PrintedAttributeParts
 pub mod Attributes

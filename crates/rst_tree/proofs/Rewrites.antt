@@ -7,8 +7,8 @@ use Rattle.rst_tree.specs.declared.node.Node.{Node}
 use Rattle.rst_tree.specs.declared.node.Node.TheVariants.{Element, Text}
 use Rattle.rst_tree.specs.declared.rewriting.Rewrite.{Rewrite}
 use Rattle.rst_tree.specs.declared.rewriting.Rewrite.TheVariants.{Keep, Replace}
-use Rattle.rst_tree.specs.Forest.{Forest, height}
-use Rattle.rst_tree.specs.Nodes.{forest_of, join_node, nodes_of, node_height}
+use Rattle.rst_tree.specs.Forest.{Forest, bare, element, height, words}
+use Rattle.rst_tree.specs.Nodes.{are_plain, forest_of, join_node, nodes_of, node_height}
 use Rattle.rst_tree.specs.Rewritten.{go_on, rewritten, Turned}
 use Rattle.rst_tree.proofs.Changes.{forest_of-nodes_of, nodes_of-forest_of}
 use Rattle.rst_tree.proofs.EachNode.{drop_item}
@@ -164,6 +164,14 @@ module _ {S : Type 0} (entered : S → Node → S) (becomes : S → Node → Rew
           → decided entered becomes r (entered u (Element t a c l)) c ≡ ((remade (entered u (Element t a c l)) m).0 ∷ [], (remade (entered u (Element t a c l)) m).1)
       stay (Replace x) did = let z : false ≡ true = rw did.1 at there in cc
       stay (Keep t2 a2 l2) did = rw did.0 refl
+
+  -- where no element is, nothing is rewritten
+  pub turned-plain : (s : S) (c : Forest) → are_plain c ≡ true → (c, s) ≡ turned s c
+  turned-plain s bare plain = refl
+  turned-plain s (words t bare) plain = refl
+  turned-plain s (words t (words u r)) plain = cc
+  turned-plain s (words t (element u a c l r)) plain = cc
+  turned-plain s (element t a c l r) plain = cc
 
   -- it is as high as it was
   pub turn-height : (u : S) (n m : Node) (t : Tag) (a : List Attr) (c : Forest) (l : ℕ) (stays : Bool) → n ≡ Element t a c l → Turned (becomes u n) n m stays → stays ≡ true → node_height m ≡ node_height n

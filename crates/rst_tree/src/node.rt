@@ -58,7 +58,7 @@ impl Model for Children {
 
 impl Children {
     ghost use Rattle.rst_tree.specs.Forest.{bare};
-    ghost use Rattle.rst_tree.specs.Nodes.{forest_of, nodes_of};
+    ghost use Rattle.rst_tree.specs.Nodes.{are_plain, forest_of, nodes_of};
     ghost use Rattle.rst_tree.specs.Lending.{LendsNode};
 
     /// No node.
@@ -115,6 +115,19 @@ impl Children {
         ensures { result ≡ length (nodes_of self.now) }
     {
         self.list.len()
+    }
+
+    /// Whether there is no node, or a text alone: then no element is among them. So it is in most elements.
+    #[tactic(auto, using(crate::proofs::PlainNodes::first_text, crate::proofs::PlainNodes::first_element, crate::proofs::PlainNodes::no_first))]
+    #[inline(always)]
+    pub fn are_plain(&self) -> bool
+        ensures { result ≡ are_plain self.now }
+    {
+        match self.get(0) {
+            Some(Node::Text(_)) => self.len() == 1,
+            Some(Node::Element { .. }) => false,
+            None => true,
+        }
     }
 
     /// The node at a place, from 0.

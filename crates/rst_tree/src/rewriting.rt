@@ -53,7 +53,12 @@ pub fn rewrite_in<R: Rewriter>(
             continue;
         }
         match node {
-            Node::Element { children, .. } => rewrite_in(alloc, children, rewriter)?,
+            Node::Element { children, .. } => {
+                if children.are_plain() {
+                    continue;
+                }
+                rewrite_in(alloc, children, rewriter)?;
+            }
             Node::Text(_) => unreachable!(),
         }
     }

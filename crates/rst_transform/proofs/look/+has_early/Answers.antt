@@ -3,7 +3,7 @@ use Rattle.std.specs.List.{list_any}
 use Rattle.rst_tree.specs.Forest.{height}
 use Rattle.rst_tree.specs.Walk.{items, node_items}
 use Rattle.rst_tree.proofs.PrintedParts.{inside_lower}
-use Rattle.rst_transform_work.proofs.Plain.{nothing_gathered}
+use Rattle.rst_tree.proofs.PlainNodes.{nothing_gathered}
 use Rattle.rst_transform.specs.Looked.{is_early}
 use Rattle.rst_transform.proofs.Looking.{found, nothing_left, past}
 use Rattle.rst_transform.proofs.look.+has_early.Goals as goal

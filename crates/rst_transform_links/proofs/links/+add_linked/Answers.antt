@@ -2,7 +2,7 @@ use Rattle.std.proofs.Common.{rules, arith, ◌+◌, ◌≤◌, ◌∙◌, lengt
 use Rattle.std.proofs.lemmas.List.{append-nil}
 use Rattle.rst_tree.specs.Forest.{height}
 use Rattle.rst_tree.proofs.PrintedParts.{inside_lower}
-use Rattle.rst_transform_work.proofs.Plain.{nothing_gathered}
+use Rattle.rst_tree.proofs.PlainNodes.{nothing_gathered}
 use Rattle.rst_transform_links.specs.Linkings.{held, linked_among}
 use Rattle.rst_transform_links.proofs.Linking.{past_text, past_element, at_end}
 use Rattle.rst_transform_links.proofs.links.+add_linked.Goals as goal

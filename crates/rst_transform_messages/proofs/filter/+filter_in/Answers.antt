@@ -4,7 +4,7 @@ use Rattle.rst_tree.specs.Forest.{height}
 use Rattle.rst_tree.specs.Nodes.{node_height}
 use Rattle.rst_tree.specs.declared.node.Node.TheVariants.{Text}
 use Rattle.rst_transform_messages.proofs.Showing.{Sifting-init, Sifting-more, Sifting-gone, Sifting-some, Sifting-whole, becoming_leaves, element_leaves, text_leaves}
-use Rattle.rst_transform_work.proofs.Plain.{nothing_changed}
+use Rattle.rst_tree.proofs.PlainNodes.{nothing_changed}
 use Rattle.rst_transform_messages.specs.Filtered.{filtered}
 use Rattle.rst_transform_messages.specs.Messages.{marked}
 use Rattle.rst_transform_messages.proofs.filter.+filter_in.Goals as goal

@@ -2,7 +2,7 @@ use Rattle.std.proofs.Common.{rules, arith, ◌+◌, ◌≤◌, ◌∙◌, refl,
 use Rattle.std.proofs.lemmas.List.{append-nil}
 use Rattle.rst_tree.specs.Forest.{height}
 use Rattle.rst_tree.proofs.PrintedParts.{inside_lower}
-use Rattle.rst_transform_work.proofs.Plain.{nothing_gathered}
+use Rattle.rst_tree.proofs.PlainNodes.{nothing_gathered}
 use Rattle.rst_transform_substitutions.specs.Definitions.{definitions_among, own_definition}
 use Rattle.rst_transform_substitutions.specs.Numbering.{names_said, own_name}
 use Rattle.rst_transform_substitutions.proofs.Defining.{past_text, past_element, at_end}

@@ -1,7 +1,7 @@
 use Rattle.std.proofs.Common.{rules, arith, ◌+◌, ◌≤◌, sym, ◌∙◌, refl}
 use Rattle.rst_tree.specs.Forest.{height}
 use Rattle.rst_tree.proofs.PrintedParts.{inside_lower}
-use Rattle.rst_transform_work.proofs.Plain.{nothing_gathered}
+use Rattle.rst_tree.proofs.PlainNodes.{nothing_gathered}
 use Rattle.rst_transform_messages.specs.MessagesIn.{messages_among}
 use Rattle.rst_transform_messages.proofs.Listing.{Adds-none, past_text, past_message, past_element}
 use Rattle.rst_transform_messages.proofs.messages.Messages.+add_all.Goals as goal

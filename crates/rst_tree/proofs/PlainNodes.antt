@@ -6,8 +6,7 @@ use Rattle.rst_tree.specs.declared.attrs.Attr.{Attr}
 use Rattle.rst_tree.specs.declared.node.Node.TheVariants.{Element, Text}
 use Rattle.rst_tree.specs.declared.tag.Tag.{Tag}
 use Rattle.rst_tree.specs.Forest.{Forest, bare, element, words}
-use Rattle.rst_tree.specs.Nodes.{nodes_of}
-use Rattle.rst_transform_work.specs.Reading.{are_plain}
+use Rattle.rst_tree.specs.Nodes.{are_plain, nodes_of}
 
 -- the first node tells it, and how many there are
 pub first_text : (c : Forest) (t : List ℕ) (n : ℕ) → n ≡ length (nodes_of c) → slice_get (nodes_of c) 0 ≡ Some (Text t) → nat_eq n 1 ≡ are_plain c
