@@ -6,13 +6,15 @@ ghost use Rattle.rst_block_state.specs.Reads.{Means, Reads};
 
 /// Admonitions (Directives, 'Specific Admonitions').
 pub fn admonitions()
-    ensures kinds { Reads (".. attention:: a" ∷ ".. caution:: b" ∷ ".. danger:: c" ∷ ".. error:: d" ∷ ".. hint:: e" ∷ ".. important:: f"
-        ∷ ".. note:: g" ∷ ".. tip:: h" ∷ ".. warning:: i" ∷ [])
+    ensures kinds { Reads (".. attention:: a" ∷ ".. caution:: b" ∷ ".. danger:: c" ∷ [])
         ("<document>" ∷ "    <attention>" ∷ "        <paragraph>" ∷ "            a" ∷ "    <caution>" ∷ "        <paragraph>"
-        ∷ "            b" ∷ "    <danger>" ∷ "        <paragraph>" ∷ "            c" ∷ "    <error>" ∷ "        <paragraph>" ∷ "            d"
-        ∷ "    <hint>" ∷ "        <paragraph>" ∷ "            e" ∷ "    <important>" ∷ "        <paragraph>" ∷ "            f" ∷ "    <note>"
-        ∷ "        <paragraph>" ∷ "            g" ∷ "    <tip>" ∷ "        <paragraph>" ∷ "            h" ∷ "    <warning>"
-        ∷ "        <paragraph>" ∷ "            i" ∷ []) }
+        ∷ "            b" ∷ "    <danger>" ∷ "        <paragraph>" ∷ "            c" ∷ []) }
+    ensures further_kinds { Reads (".. error:: d" ∷ ".. hint:: e" ∷ ".. important:: f" ∷ [])
+        ("<document>" ∷ "    <error>" ∷ "        <paragraph>" ∷ "            d" ∷ "    <hint>" ∷ "        <paragraph>" ∷ "            e"
+        ∷ "    <important>" ∷ "        <paragraph>" ∷ "            f" ∷ []) }
+    ensures last_kinds { Reads (".. note:: g" ∷ ".. tip:: h" ∷ ".. warning:: i" ∷ [])
+        ("<document>" ∷ "    <note>" ∷ "        <paragraph>" ∷ "            g" ∷ "    <tip>" ∷ "        <paragraph>" ∷ "            h"
+        ∷ "    <warning>" ∷ "        <paragraph>" ∷ "            i" ∷ []) }
     ensures options { Means (".. Note::" ∷ "   :class: A b C" ∷ "   :name: N  m" ∷ "" ∷ "   x" ∷ "" ∷ "   - y" ∷ []) 0
         ("<document> 0" ∷ "    <note classes=\"a b c\" own_name=\"n m\"> 1" ∷ "        <paragraph> 5" ∷ "            x"
         ∷ "        <bullet_list bullet=\"-\"> 7" ∷ "            <list_item> 7" ∷ "                <paragraph> 7" ∷ "                    y" ∷ []) }
@@ -80,10 +82,12 @@ pub fn images()
     ensures uri_after_a_blank_line { Reads (".. image::" ∷ "" ∷ "   a.png" ∷ []) ("<document>" ∷ "    <image uri=\"a.png\">" ∷ []) }
     ensures empty_values { Means (".. image:: a" ∷ "   :alt:" ∷ "   :name:" ∷ []) 0
         ("<document> 0" ∷ "    <image alt=\"\" own_name=\"\" uri=\"a\"> 1" ∷ []) }
-    ensures alignments { Reads (".. image:: a" ∷ "   :align: top" ∷ ".. image:: b" ∷ "   :align: bottom" ∷ ".. image:: c" ∷ "   :align: left"
-        ∷ ".. image:: d" ∷ "   :align: center" ∷ ".. image:: e" ∷ "   :align: right" ∷ [])
-        ("<document>" ∷ "    <image align=\"top\" uri=\"a\">" ∷ "    <image align=\"bottom\" uri=\"b\">"
-        ∷ "    <image align=\"left\" uri=\"c\">" ∷ "    <image align=\"center\" uri=\"d\">" ∷ "    <image align=\"right\" uri=\"e\">" ∷ []) }
+    ensures alignments { Reads (".. image:: a" ∷ "   :align: top" ∷ ".. image:: b" ∷ "   :align: bottom" ∷ [])
+        ("<document>" ∷ "    <image align=\"top\" uri=\"a\">" ∷ "    <image align=\"bottom\" uri=\"b\">" ∷ []) }
+    ensures horizontal_alignments { Reads (".. image:: c" ∷ "   :align: left" ∷ ".. image:: d" ∷ "   :align: center" ∷ ".. image:: e"
+        ∷ "   :align: right" ∷ [])
+        ("<document>" ∷ "    <image align=\"left\" uri=\"c\">" ∷ "    <image align=\"center\" uri=\"d\">"
+        ∷ "    <image align=\"right\" uri=\"e\">" ∷ []) }
 {}
 
 /// Images that are wrong (Directives, 'Image').
@@ -105,21 +109,26 @@ pub fn wrong_images()
         ("<document>" ∷ "    <system_message level=\"3\">" ∷ "        <paragraph>" ∷ "            Error in \"image\" directive:"
         ∷ "            duplicate option \"ALT\"." ∷ "        <literal_block xml:space=\"preserve\">" ∷ "            .. image:: a"
         ∷ "               :scale: b" ∷ "               :alt: c" ∷ "               :ALT: d" ∷ []) }
-    ensures invalid_values { Reads (".. image:: a" ∷ "   :height: 50%" ∷ "" ∷ ".. image:: a" ∷ "   :scale: 5.0" ∷ "" ∷ ".. image:: a"
-        ∷ "   :align: Left" ∷ "" ∷ ".. image:: a" ∷ "   :class: 1" ∷ "" ∷ ".. image:: a" ∷ "   :target:" ∷ [])
+    ensures invalid_height { Reads (".. image:: a" ∷ "   :height: 50%" ∷ [])
         ("<document>" ∷ "    <system_message level=\"3\">" ∷ "        <paragraph>" ∷ "            Error in \"image\" directive:"
-        ∷ "            invalid value of option \"height\"." ∷ "        <literal_block xml:space=\"preserve\">" ∷ "            .. image:: a"
-        ∷ "               :height: 50%" ∷ "    <system_message level=\"3\">" ∷ "        <paragraph>"
-        ∷ "            Error in \"image\" directive:" ∷ "            invalid value of option \"scale\"."
-        ∷ "        <literal_block xml:space=\"preserve\">" ∷ "            .. image:: a" ∷ "               :scale: 5.0"
-        ∷ "    <system_message level=\"3\">" ∷ "        <paragraph>" ∷ "            Error in \"image\" directive:"
-        ∷ "            invalid value of option \"align\"." ∷ "        <literal_block xml:space=\"preserve\">" ∷ "            .. image:: a"
-        ∷ "               :align: Left" ∷ "    <system_message level=\"3\">" ∷ "        <paragraph>"
-        ∷ "            Error in \"image\" directive:" ∷ "            invalid value of option \"class\"."
-        ∷ "        <literal_block xml:space=\"preserve\">" ∷ "            .. image:: a" ∷ "               :class: 1"
-        ∷ "    <system_message level=\"3\">" ∷ "        <paragraph>" ∷ "            Error in \"image\" directive:"
-        ∷ "            invalid value of option \"target\"." ∷ "        <literal_block xml:space=\"preserve\">" ∷ "            .. image:: a"
-        ∷ "               :target:" ∷ []) }
+        ∷ "            invalid value of option \"height\"." ∷ "        <literal_block xml:space=\"preserve\">"
+        ∷ "            .. image:: a" ∷ "               :height: 50%" ∷ []) }
+    ensures invalid_scale { Reads (".. image:: a" ∷ "   :scale: 5.0" ∷ [])
+        ("<document>" ∷ "    <system_message level=\"3\">" ∷ "        <paragraph>" ∷ "            Error in \"image\" directive:"
+        ∷ "            invalid value of option \"scale\"." ∷ "        <literal_block xml:space=\"preserve\">"
+        ∷ "            .. image:: a" ∷ "               :scale: 5.0" ∷ []) }
+    ensures invalid_alignment { Reads (".. image:: a" ∷ "   :align: Left" ∷ [])
+        ("<document>" ∷ "    <system_message level=\"3\">" ∷ "        <paragraph>" ∷ "            Error in \"image\" directive:"
+        ∷ "            invalid value of option \"align\"." ∷ "        <literal_block xml:space=\"preserve\">"
+        ∷ "            .. image:: a" ∷ "               :align: Left" ∷ []) }
+    ensures invalid_class { Reads (".. image:: a" ∷ "   :class: 1" ∷ [])
+        ("<document>" ∷ "    <system_message level=\"3\">" ∷ "        <paragraph>" ∷ "            Error in \"image\" directive:"
+        ∷ "            invalid value of option \"class\"." ∷ "        <literal_block xml:space=\"preserve\">"
+        ∷ "            .. image:: a" ∷ "               :class: 1" ∷ []) }
+    ensures empty_target { Reads (".. image:: a" ∷ "   :target:" ∷ [])
+        ("<document>" ∷ "    <system_message level=\"3\">" ∷ "        <paragraph>" ∷ "            Error in \"image\" directive:"
+        ∷ "            invalid value of option \"target\"." ∷ "        <literal_block xml:space=\"preserve\">"
+        ∷ "            .. image:: a" ∷ "               :target:" ∷ []) }
     ensures invalid_option_block { Reads (".. image:: a" ∷ "   :alt: b" ∷ "   c" ∷ [])
         ("<document>" ∷ "    <system_message level=\"3\">" ∷ "        <paragraph>" ∷ "            Error in \"image\" directive:"
         ∷ "            invalid option block." ∷ "        <literal_block xml:space=\"preserve\">" ∷ "            .. image:: a"
@@ -181,11 +190,13 @@ pub fn figures()
 
 /// Program code (Directives, 'Code').
 pub fn code()
-    ensures languages { Reads (".. code:: C++" ∷ "" ∷ "   a" ∷ "     *b*" ∷ "" ∷ "   c" ∷ "" ∷ ".. code-block::" ∷ "" ∷ "   d" ∷ ""
-        ∷ ".. sourcecode:: x" ∷ "   :class: E" ∷ "" ∷ "   f" ∷ [])
+    ensures language { Reads (".. code:: C++" ∷ "" ∷ "   a" ∷ "     *b*" ∷ "" ∷ "   c" ∷ [])
         ("<document>" ∷ "    <literal_block classes=\"code C++\" xml:space=\"preserve\">" ∷ "        a" ∷ "          *b*" ∷ "        "
-        ∷ "        c" ∷ "    <literal_block classes=\"code\" xml:space=\"preserve\">" ∷ "        d"
-        ∷ "    <literal_block classes=\"code x e\" xml:space=\"preserve\">" ∷ "        f" ∷ []) }
+        ∷ "        c" ∷ []) }
+    ensures without_a_language { Reads (".. code-block::" ∷ "" ∷ "   d" ∷ [])
+        ("<document>" ∷ "    <literal_block classes=\"code\" xml:space=\"preserve\">" ∷ "        d" ∷ []) }
+    ensures classes_of_source_code { Reads (".. sourcecode:: x" ∷ "   :class: E" ∷ "" ∷ "   f" ∷ [])
+        ("<document>" ∷ "    <literal_block classes=\"code x e\" xml:space=\"preserve\">" ∷ "        f" ∷ []) }
     ensures two_words { Reads (".. code:: a" ∷ "   b" ∷ "" ∷ "   c" ∷ [])
         ("<document>" ∷ "    <system_message level=\"3\">" ∷ "        <paragraph>" ∷ "            Error in \"code\" directive:"
         ∷ "            at most 1 argument permitted." ∷ "        <literal_block xml:space=\"preserve\">" ∷ "            .. code:: a"
@@ -206,15 +217,21 @@ pub fn directives()
         ("<document> 0" ∷ "    <paragraph> 1" ∷ "        x" ∷ "    <system_message level=\"3\"> 3" ∷ "        <paragraph> 3"
         ∷ "            Unknown directive type \"no.Such\"." ∷ "        <literal_block xml:space=\"preserve\"> 3"
         ∷ "            .. no.Such:: a" ∷ "               :b: c" ∷ "            " ∷ "               d" ∷ "    <paragraph> 8" ∷ "        e" ∷ []) }
-    ensures left_out { Reads (".. rubric:: a" ∷ ".. math:: b" ∷ ".. raw:: c" ∷ [])
+    ensures rubric { Reads (".. rubric:: a" ∷ [])
         ("<document>" ∷ "    <system_message level=\"3\">" ∷ "        <paragraph>" ∷ "            Unknown directive type \"rubric\"."
-        ∷ "        <literal_block xml:space=\"preserve\">" ∷ "            .. rubric:: a" ∷ "    <system_message level=\"3\">"
-        ∷ "        <paragraph>" ∷ "            Unknown directive type \"math\"." ∷ "        <literal_block xml:space=\"preserve\">"
-        ∷ "            .. math:: b" ∷ "    <system_message level=\"3\">" ∷ "        <paragraph>"
-        ∷ "            Unknown directive type \"raw\"." ∷ "        <literal_block xml:space=\"preserve\">" ∷ "            .. raw:: c" ∷ []) }
-    ensures spaces_before_the_colons { Reads (".. note :: a" ∷ "" ∷ ".. note  :: b" ∷ "" ∷ ".. note::c" ∷ [])
-        ("<document>" ∷ "    <note>" ∷ "        <paragraph>" ∷ "            a" ∷ "    <comment xml:space=\"preserve\">" ∷ "        note  :: b"
-        ∷ "    <comment xml:space=\"preserve\">" ∷ "        note::c" ∷ []) }
+        ∷ "        <literal_block xml:space=\"preserve\">" ∷ "            .. rubric:: a" ∷ []) }
+    ensures math { Reads (".. math:: b" ∷ [])
+        ("<document>" ∷ "    <system_message level=\"3\">" ∷ "        <paragraph>" ∷ "            Unknown directive type \"math\"."
+        ∷ "        <literal_block xml:space=\"preserve\">" ∷ "            .. math:: b" ∷ []) }
+    ensures raw { Reads (".. raw:: c" ∷ [])
+        ("<document>" ∷ "    <system_message level=\"3\">" ∷ "        <paragraph>" ∷ "            Unknown directive type \"raw\"."
+        ∷ "        <literal_block xml:space=\"preserve\">" ∷ "            .. raw:: c" ∷ []) }
+    ensures space_before_the_colons { Reads (".. note :: a" ∷ [])
+        ("<document>" ∷ "    <note>" ∷ "        <paragraph>" ∷ "            a" ∷ []) }
+    ensures two_spaces_before_the_colons { Reads (".. note  :: b" ∷ [])
+        ("<document>" ∷ "    <comment xml:space=\"preserve\">" ∷ "        note  :: b" ∷ []) }
+    ensures no_space_behind_the_colons { Reads (".. note::c" ∷ [])
+        ("<document>" ∷ "    <comment xml:space=\"preserve\">" ∷ "        note::c" ∷ []) }
     ensures replace_outside { Reads (".. replace:: a" ∷ [])
         ("<document>" ∷ "    <system_message level=\"3\">" ∷ "        <paragraph>"
         ∷ "            Invalid context: the \"replace\" directive can only be used within a substitution definition."

@@ -58,12 +58,14 @@ pub fn substitutions()
     ensures image { Means (".. |a| image:: b" ∷ ".. |c| image:: d" ∷ "   :alt: e" ∷ []) 0
         ("<document> 0" ∷ "    <substitution_definition own_name=\"a\"> 1" ∷ "        <image alt=\"a\" uri=\"b\"> 1"
         ∷ "    <substitution_definition own_name=\"c\"> 2" ∷ "        <image alt=\"e\" uri=\"d\"> 2" ∷ []) }
-    ensures may_stand { Reads (".. |a| replace:: **b** ``c`` :sub:`d` :sup:`e` `f` g_ http://h |i|" ∷ [])
+    ensures text_elements { Reads (".. |a| replace:: **b** ``c`` :sub:`d` :sup:`e`" ∷ [])
         ("<document>" ∷ "    <substitution_definition>" ∷ "        <strong>" ∷ "            b" ∷ "         " ∷ "        <literal>"
-        ∷ "            c" ∷ "         " ∷ "        <subscript>" ∷ "            d" ∷ "         " ∷ "        <superscript>" ∷ "            e"
-        ∷ "         " ∷ "        <title_reference>" ∷ "            f" ∷ "         " ∷ "        <reference name=\"g\">" ∷ "            g"
-        ∷ "         " ∷ "        <reference refuri=\"http://h\">" ∷ "            http://h" ∷ "         " ∷ "        <substitution_reference>"
-        ∷ "            i" ∷ []) }
+        ∷ "            c" ∷ "         " ∷ "        <subscript>" ∷ "            d" ∷ "         " ∷ "        <superscript>"
+        ∷ "            e" ∷ []) }
+    ensures references { Reads (".. |a| replace:: `f` g_ http://h |i|" ∷ [])
+        ("<document>" ∷ "    <substitution_definition>" ∷ "        <title_reference>" ∷ "            f" ∷ "         "
+        ∷ "        <reference name=\"g\">" ∷ "            g" ∷ "         " ∷ "        <reference refuri=\"http://h\">"
+        ∷ "            http://h" ∷ "         " ∷ "        <substitution_reference>" ∷ "            i" ∷ []) }
     ensures messages_dropped { Reads (".. |a| replace:: b::" ∷ ".. |c| replace:: --" ∷ [])
         ("<document>" ∷ "    <substitution_definition>" ∷ "        b:" ∷ "    <substitution_definition>" ∷ "        --" ∷ []) }
 {}
@@ -80,17 +82,24 @@ pub fn wrong_substitutions()
         ∷ "            .. |a| note:: b" ∷ "    <system_message level=\"3\">" ∷ "        <paragraph>"
         ∷ "            Substitution definition \"c\" may hold only image or replace." ∷ "        <literal_block xml:space=\"preserve\">"
         ∷ "            .. |c| nope:: d" ∷ []) }
-    ensures illegal_elements { Reads (".. |a| replace:: b__" ∷ "" ∷ ".. |c| replace:: [1]_" ∷ "" ∷ ".. |d| replace:: |e|_" ∷ ""
-        ∷ ".. |f| replace:: `g <h>`_" ∷ "" ∷ ".. |i| replace:: *j" ∷ [])
+    ensures anonymous_reference { Reads (".. |a| replace:: b__" ∷ [])
         ("<document>" ∷ "    <system_message level=\"3\">" ∷ "        <paragraph>"
         ∷ "            Substitution definition \"a\" contains an illegal element." ∷ "        <literal_block xml:space=\"preserve\">"
-        ∷ "            .. |a| replace:: b__" ∷ "    <system_message level=\"3\">" ∷ "        <paragraph>"
+        ∷ "            .. |a| replace:: b__" ∷ []) }
+    ensures footnote_reference { Reads (".. |c| replace:: [1]_" ∷ [])
+        ("<document>" ∷ "    <system_message level=\"3\">" ∷ "        <paragraph>"
         ∷ "            Substitution definition \"c\" contains an illegal element." ∷ "        <literal_block xml:space=\"preserve\">"
-        ∷ "            .. |c| replace:: [1]_" ∷ "    <system_message level=\"3\">" ∷ "        <paragraph>"
+        ∷ "            .. |c| replace:: [1]_" ∷ []) }
+    ensures substitution_reference { Reads (".. |d| replace:: |e|_" ∷ [])
+        ("<document>" ∷ "    <system_message level=\"3\">" ∷ "        <paragraph>"
         ∷ "            Substitution definition \"d\" contains an illegal element." ∷ "        <literal_block xml:space=\"preserve\">"
-        ∷ "            .. |d| replace:: |e|_" ∷ "    <system_message level=\"3\">" ∷ "        <paragraph>"
+        ∷ "            .. |d| replace:: |e|_" ∷ []) }
+    ensures embedded_uri { Reads (".. |f| replace:: `g <h>`_" ∷ [])
+        ("<document>" ∷ "    <system_message level=\"3\">" ∷ "        <paragraph>"
         ∷ "            Substitution definition \"f\" contains an illegal element." ∷ "        <literal_block xml:space=\"preserve\">"
-        ∷ "            .. |f| replace:: `g <h>`_" ∷ "    <system_message level=\"3\">" ∷ "        <paragraph>"
+        ∷ "            .. |f| replace:: `g <h>`_" ∷ []) }
+    ensures unended_emphasis { Reads (".. |i| replace:: *j" ∷ [])
+        ("<document>" ∷ "    <system_message level=\"3\">" ∷ "        <paragraph>"
         ∷ "            Substitution definition \"i\" contains an illegal element." ∷ "        <literal_block xml:space=\"preserve\">"
         ∷ "            .. |i| replace:: *j" ∷ []) }
     ensures two_paragraphs { Reads (".. |a| replace:: b" ∷ "" ∷ "   c" ∷ [])
@@ -107,16 +116,20 @@ pub fn wrong_substitutions()
     ensures no_space_behind_the_bar { Reads (".. |a|b| image:: c" ∷ ".. |d|" ∷ [])
         ("<document>" ∷ "    <substitution_definition>" ∷ "        <image alt=\"a|b\" uri=\"c\">" ∷ "    <comment xml:space=\"preserve\">"
         ∷ "        |d|" ∷ []) }
-    ensures no_single_paragraph { Reads (".. |a| replace:: - b" ∷ "" ∷ ".. |c| replace:: ::" ∷ "" ∷ ".. |d| replace:: e::" ∷ "" ∷ "     f"
-        ∷ "" ∷ ".. |g| replace::" ∷ "   h" ∷ "     i" ∷ [])
+    ensures list_in_a_replacement { Reads (".. |a| replace:: - b" ∷ [])
         ("<document>" ∷ "    <system_message level=\"3\">" ∷ "        <paragraph>" ∷ "            Error in \"replace\" directive:"
         ∷ "            may contain a single paragraph only." ∷ "        <literal_block xml:space=\"preserve\">"
-        ∷ "            .. |a| replace:: - b" ∷ "    <system_message level=\"3\">" ∷ "        <paragraph>"
-        ∷ "            Error in \"replace\" directive:" ∷ "            may contain a single paragraph only."
-        ∷ "        <literal_block xml:space=\"preserve\">" ∷ "            .. |c| replace:: ::" ∷ "    <system_message level=\"3\">"
-        ∷ "        <paragraph>" ∷ "            Error in \"replace\" directive:" ∷ "            may contain a single paragraph only."
-        ∷ "        <literal_block xml:space=\"preserve\">" ∷ "            .. |d| replace:: e::" ∷ "            " ∷ "                 f"
-        ∷ "    <system_message level=\"3\">" ∷ "        <paragraph>" ∷ "            Error in \"replace\" directive:"
+        ∷ "            .. |a| replace:: - b" ∷ []) }
+    ensures colons_in_a_replacement { Reads (".. |c| replace:: ::" ∷ [])
+        ("<document>" ∷ "    <system_message level=\"3\">" ∷ "        <paragraph>" ∷ "            Error in \"replace\" directive:"
+        ∷ "            may contain a single paragraph only." ∷ "        <literal_block xml:space=\"preserve\">"
+        ∷ "            .. |c| replace:: ::" ∷ []) }
+    ensures literal_block_in_a_replacement { Reads (".. |d| replace:: e::" ∷ "" ∷ "     f" ∷ [])
+        ("<document>" ∷ "    <system_message level=\"3\">" ∷ "        <paragraph>" ∷ "            Error in \"replace\" directive:"
+        ∷ "            may contain a single paragraph only." ∷ "        <literal_block xml:space=\"preserve\">"
+        ∷ "            .. |d| replace:: e::" ∷ "            " ∷ "                 f" ∷ []) }
+    ensures definition_list_in_a_replacement { Reads (".. |g| replace::" ∷ "   h" ∷ "     i" ∷ [])
+        ("<document>" ∷ "    <system_message level=\"3\">" ∷ "        <paragraph>" ∷ "            Error in \"replace\" directive:"
         ∷ "            may contain a single paragraph only." ∷ "        <literal_block xml:space=\"preserve\">"
         ∷ "            .. |g| replace::" ∷ "               h" ∷ "                 i" ∷ []) }
     ensures white_after_the_bar { Reads (".. | a| image:: b" ∷ [])

@@ -100,10 +100,13 @@ pub fn enumerators()
         ("<document>" ∷ "    <enumerated_list enumtype=\"arabic\" prefix=\"\" start=\"0\" suffix=\".\">" ∷ "        <list_item>"
         ∷ "            <paragraph>" ∷ "                a" ∷ "    <system_message level=\"1\">" ∷ "        <paragraph>"
         ∷ "            Enumerated list start value not ordinal-1: \"0\" (ordinal 0)" ∷ []) }
-    ensures no_enumerator { Reads ("A. Einstein" ∷ "" ∷ "iiii. b" ∷ "" ∷ "1234567890. c" ∷ [])
+    ensures initial { Reads ("A. Einstein" ∷ [])
         ("<document>" ∷ "    <enumerated_list enumtype=\"upperalpha\" prefix=\"\" suffix=\".\">" ∷ "        <list_item>"
-        ∷ "            <paragraph>" ∷ "                Einstein" ∷ "    <paragraph>" ∷ "        iiii. b" ∷ "    <paragraph>"
-        ∷ "        1234567890. c" ∷ []) }
+        ∷ "            <paragraph>" ∷ "                Einstein" ∷ []) }
+    ensures numeral_not_canonical { Reads ("iiii. b" ∷ [])
+        ("<document>" ∷ "    <paragraph>" ∷ "        iiii. b" ∷ []) }
+    ensures ten_digits { Reads ("1234567890. c" ∷ [])
+        ("<document>" ∷ "    <paragraph>" ∷ "        1234567890. c" ∷ []) }
 {}
 
 /// Enumerated lists (Markup Specification, 'Enumerated Lists').
@@ -183,8 +186,11 @@ pub fn definitions()
         ∷ "                    a" ∷ "                 b" ∷ "            <classifier>" ∷ "                <title_reference>"
         ∷ "                    c" ∷ "                 d" ∷ "            <definition>" ∷ "                <paragraph>"
         ∷ "                    e" ∷ []) }
-    ensures colons_of_no_classifier { Reads ("a: b :c ``d : e``" ∷ "  f" ∷ [])
-        ("<document>" ∷ "    <definition_list>" ∷ "        <definition_list_item>" ∷ "            <term>" ∷ "                a: b :c "
+    ensures colons_without_spaces { Reads ("a: b :c" ∷ "  f" ∷ [])
+        ("<document>" ∷ "    <definition_list>" ∷ "        <definition_list_item>" ∷ "            <term>" ∷ "                a: b :c"
+        ∷ "            <definition>" ∷ "                <paragraph>" ∷ "                    f" ∷ []) }
+    ensures colon_in_a_literal { Reads ("a ``d : e``" ∷ "  f" ∷ [])
+        ("<document>" ∷ "    <definition_list>" ∷ "        <definition_list_item>" ∷ "            <term>" ∷ "                a "
         ∷ "                <literal>" ∷ "                    d : e" ∷ "            <definition>" ∷ "                <paragraph>"
         ∷ "                    f" ∷ []) }
     ensures escaped_colon { Reads ("a \\: b" ∷ "  c" ∷ [])

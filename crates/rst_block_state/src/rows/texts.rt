@@ -6,17 +6,32 @@ ghost use Rattle.rst_block_state.specs.Reads.{IsTooDeep, Means, Reads};
 
 /// Inline markup (Markup Specification, 'Inline Markup').
 pub fn inline_markup()
-    ensures kinds { Reads ("a **b** ``\\x`` :sub:`2` *c*" ∷ [])
+    ensures strong_and_literal { Reads ("a **b** ``\\x``" ∷ [])
         ("<document>" ∷ "    <paragraph>" ∷ "        a " ∷ "        <strong>" ∷ "            b" ∷ "         " ∷ "        <literal>"
-        ∷ "            \\x" ∷ "         " ∷ "        <subscript>" ∷ "            2" ∷ "         " ∷ "        <emphasis>" ∷ "            c" ∷ []) }
-    ensures roles { Reads ("x :emphasis:`a` :strong:`b` :literal:`c` :subscript:`d` :sub:`e`" ∷ [])
-        ("<document>" ∷ "    <paragraph>" ∷ "        x " ∷ "        <emphasis>" ∷ "            a" ∷ "         " ∷ "        <strong>"
-        ∷ "            b" ∷ "         " ∷ "        <literal>" ∷ "            c" ∷ "         " ∷ "        <subscript>" ∷ "            d"
-        ∷ "         " ∷ "        <subscript>" ∷ "            e" ∷ []) }
-    ensures more_roles { Reads ("x :superscript:`a` :sup:`b` :title-reference:`c` :title:`d` :t:`e`" ∷ [])
-        ("<document>" ∷ "    <paragraph>" ∷ "        x " ∷ "        <superscript>" ∷ "            a" ∷ "         " ∷ "        <superscript>"
-        ∷ "            b" ∷ "         " ∷ "        <title_reference>" ∷ "            c" ∷ "         " ∷ "        <title_reference>"
-        ∷ "            d" ∷ "         " ∷ "        <title_reference>" ∷ "            e" ∷ []) }
+        ∷ "            \\x" ∷ []) }
+    ensures role_and_emphasis { Reads (":sub:`2` *c*" ∷ [])
+        ("<document>" ∷ "    <paragraph>" ∷ "        <subscript>" ∷ "            2" ∷ "         " ∷ "        <emphasis>"
+        ∷ "            c" ∷ []) }
+    ensures role_emphasis { Reads (":emphasis:`a`" ∷ [])
+        ("<document>" ∷ "    <paragraph>" ∷ "        <emphasis>" ∷ "            a" ∷ []) }
+    ensures role_strong { Reads (":strong:`b`" ∷ [])
+        ("<document>" ∷ "    <paragraph>" ∷ "        <strong>" ∷ "            b" ∷ []) }
+    ensures role_literal { Reads (":literal:`c`" ∷ [])
+        ("<document>" ∷ "    <paragraph>" ∷ "        <literal>" ∷ "            c" ∷ []) }
+    ensures role_subscript { Reads (":subscript:`d`" ∷ [])
+        ("<document>" ∷ "    <paragraph>" ∷ "        <subscript>" ∷ "            d" ∷ []) }
+    ensures role_sub { Reads (":sub:`e`" ∷ [])
+        ("<document>" ∷ "    <paragraph>" ∷ "        <subscript>" ∷ "            e" ∷ []) }
+    ensures role_superscript { Reads (":superscript:`a`" ∷ [])
+        ("<document>" ∷ "    <paragraph>" ∷ "        <superscript>" ∷ "            a" ∷ []) }
+    ensures role_sup { Reads (":sup:`b`" ∷ [])
+        ("<document>" ∷ "    <paragraph>" ∷ "        <superscript>" ∷ "            b" ∷ []) }
+    ensures role_title_reference { Reads (":title-reference:`c`" ∷ [])
+        ("<document>" ∷ "    <paragraph>" ∷ "        <title_reference>" ∷ "            c" ∷ []) }
+    ensures role_title { Reads (":title:`d`" ∷ [])
+        ("<document>" ∷ "    <paragraph>" ∷ "        <title_reference>" ∷ "            d" ∷ []) }
+    ensures role_t { Reads (":t:`e`" ∷ [])
+        ("<document>" ∷ "    <paragraph>" ∷ "        <title_reference>" ∷ "            e" ∷ []) }
     ensures role_after_the_text { Reads ("`a` `b`:sub: `c`:strong:" ∷ [])
         ("<document>" ∷ "    <paragraph>" ∷ "        <title_reference>" ∷ "            a" ∷ "         " ∷ "        <subscript>"
         ∷ "            b" ∷ "         " ∷ "        <strong>" ∷ "            c" ∷ []) }
@@ -57,9 +72,11 @@ pub fn inline_markup()
 
 /// References (Markup Specification, 'Hyperlink References').
 pub fn references()
-    ensures by_name { Means ("Python_ and `Here  There`_." ∷ []) 0
+    ensures by_a_word { Means ("Python_ and" ∷ []) 0
         ("<document> 0" ∷ "    <paragraph> 1" ∷ "        <reference name=\"Python\" rawsource=\"Python_\" refname=\"python\"> 1"
-        ∷ "            Python" ∷ "         and "
+        ∷ "            Python" ∷ "         and" ∷ []) }
+    ensures by_a_phrase { Means ("`Here  There`_." ∷ []) 0
+        ("<document> 0" ∷ "    <paragraph> 1"
         ∷ "        <reference name=\"Here There\" rawsource=\"`Here  There`_\" refname=\"here there\"> 1" ∷ "            Here  There"
         ∷ "        ." ∷ []) }
     ensures anonymous { Means ("a__ `b c`__" ∷ []) 0
@@ -70,9 +87,14 @@ pub fn references()
         ∷ "        <target refuri=\"http://bc\">" ∷ "         " ∷ "        <reference name=\"d\" refuri=\"e\">" ∷ "            d"
         ∷ "         " ∷ "        <reference name=\"f\" refuri=\"f\">" ∷ "            f" ∷ "        <target refuri=\"f\">" ∷ []) }
     ensures embedded_alias { Reads ("`a <B_>`_" ∷ []) ("<document>" ∷ "    <paragraph>" ∷ "        <reference name=\"a\">" ∷ "            a" ∷ []) }
-    ensures uris { Reads ("http://a.b/c?d=e#f, mailto:a@b.c; x://y a@b.c" ∷ [])
+    ensures uri { Reads ("http://a.b/c?d=e#f, x" ∷ [])
         ("<document>" ∷ "    <paragraph>" ∷ "        <reference refuri=\"http://a.b/c?d=e#f\">" ∷ "            http://a.b/c?d=e#f"
-        ∷ "        , " ∷ "        <reference refuri=\"mailto:a@b.c\">" ∷ "            mailto:a@b.c" ∷ "        ; x://y a@b.c" ∷ []) }
+        ∷ "        , x" ∷ []) }
+    ensures mail { Reads ("mailto:a@b.c; x" ∷ [])
+        ("<document>" ∷ "    <paragraph>" ∷ "        <reference refuri=\"mailto:a@b.c\">" ∷ "            mailto:a@b.c" ∷ "        ; x"
+        ∷ []) }
+    ensures no_uris { Reads ("x://y a@b.c" ∷ [])
+        ("<document>" ∷ "    <paragraph>" ∷ "        x://y a@b.c" ∷ []) }
     ensures footnotes_and_citations { Means ("[1]_ [#]_ [#A]_ [*]_ [Ab]_" ∷ []) 0
         ("<document> 0" ∷ "    <paragraph> 1" ∷ "        <footnote_reference rawsource=\"[1]_\" refname=\"1\"> 1" ∷ "            1"
         ∷ "         " ∷ "        <footnote_reference auto=\"1\" rawsource=\"[#]_\"> 1" ∷ "         "
