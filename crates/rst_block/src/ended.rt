@@ -15,7 +15,6 @@ use std::mem;
 /// What follows the end of a block inside the one that waits, where `level` is what was read of it, and `whole` shows all lines
 /// of the text. A part that comes next stands in as many blocks as `depth` says. The level becomes that of what follows.
 pub(crate) fn closed<'a>(
-    alloc: Global,
     whole: &View<'a>,
     frame: Frame,
     level: &mut OpenBlock,
@@ -51,7 +50,7 @@ pub(crate) fn closed<'a>(
             let part = inside(&view, second);
             let frame = Frame {
                 placement,
-                level: mem::replace(level, OpenBlock::new(alloc, depth)),
+                level: mem::replace(level, OpenBlock::new(pass.alloc, depth)),
                 waits,
                 second: None,
                 nodes,
@@ -59,7 +58,7 @@ pub(crate) fn closed<'a>(
             Ok(Ended::Waiting(frame, part))
         }
         None => {
-            let next = resume(alloc, &view, level, waits, nodes, pass)?;
+            let next = resume(&view, level, waits, nodes, pass)?;
             Ok(Ended::GoesOn(view, next))
         }
     }

@@ -37,7 +37,6 @@ pub(crate) type Frames = ArrayVec<Frame, 250, Global>;
 /// wait, those of the text behind those round it, stand in `frames`.
 #[cycle(machine)]
 pub(crate) fn read(
-    alloc: Global,
     lines: &Lines,
     depth: usize,
     frames: &mut Frames,
@@ -53,16 +52,15 @@ pub(crate) fn read(
 {
     let whole = View::whole(lines);
     if 0 < whole.len() && depth <= DEEPEST {
-        return read_blocks(alloc, whole, depth, frames, pass);
+        return read_blocks(whole, depth, frames, pass);
     }
     not_blank(&whole, pass)?;
-    Ok(OpenBlock::new(alloc, depth))
+    Ok(OpenBlock::new(pass.alloc, depth))
 }
 
 /// The same where there are lines, and not too deep.
 #[cycle(machine)]
 fn read_blocks(
-    alloc: Global,
     whole: View<'_>,
     depth: usize,
     frames: &mut Frames,
@@ -78,29 +76,29 @@ fn read_blocks(
 {
     let base = frames.len();
     let mut view = whole;
-    let mut level = OpenBlock::new(alloc, depth);
+    let mut level = OpenBlock::new(pass.alloc, depth);
     let mut now = Step::Next;
     loop {
         let inner = depth + (frames.len() - base) + 1;
         now = match now {
-            Step::Next => next(alloc, &view, &mut level, pass)?,
-            Step::Cells(table) => cells(alloc, &view, &mut level, table, inner, frames, pass)?,
+            Step::Next => next(&view, &mut level, pass)?,
+            Step::Cells(table) => cells(&view, &mut level, table, inner, frames, pass)?,
             Step::Open {
                 waits,
                 first,
                 second,
             } => {
                 if inner > DEEPEST {
-                    flat(alloc, &view, &mut level, waits, first, second, pass)?
+                    flat(&view, &mut level, waits, first, second, pass)?
                 } else {
-                    frames.push(opened(alloc, &view, &mut level, waits, second, inner));
+                    frames.push(opened(pass.alloc, &view, &mut level, waits, second, inner));
                     view = inside(&view, first);
                     Step::Next
                 }
             }
             Step::Done => match last_of(frames, base) {
                 None => return Ok(level),
-                Some(frame) => match closed(alloc, &whole, frame, &mut level, inner - 1, pass)? {
+                Some(frame) => match closed(&whole, frame, &mut level, inner - 1, pass)? {
                     Ended::Waiting(frame, part) => {
                         frames.push(frame);
                         view = part;
@@ -118,12 +116,7 @@ fn read_blocks(
 
 /// What comes in a block behind the constructs that are read at once: one that waits for a block inside, or the block's end.
 #[tactic(auto, using(rst_block_state::proofs::Views::few_lines, crate::proofs::Stack::next_of_step))]
-fn next(
-    alloc: Global,
-    view: &View<'_>,
-    level: &mut OpenBlock,
-    pass: &mut Pass,
-) -> Result<Step, BlockFault>
+fn next(view: &View<'_>, level: &mut OpenBlock, pass: &mut Pass) -> Result<Step, BlockFault>
     requires placed { IsPlaced level.old }
     ensures next { IfOk result (λ s. spec.IsNext (block_of view.now) level.old.at level.new.at s) }
     ensures kept { IfOk result (λ _. IsKept level.old level.new) }
@@ -135,12 +128,12 @@ fn next(
         IfOk result (λ s. Takes most least pass.old.looks (most_left level.new B s) (least_left level.new B s) pass.new.looks) }
 {
     while level.at < view.len() {
-        match step_at(alloc, view, level, pass)? {
+        match step_at(view, level, pass)? {
             Step::Next => {}
             step => return Ok(step),
         }
     }
-    level.close(alloc, view, pass)?;
+    level.close(view, pass)?;
     Ok(Step::Done)
 }
 
@@ -175,7 +168,6 @@ fn not_blank(view: &View<'_>, pass: &mut Pass) -> Result<(), BlockFault>
 
 /// Goes on with a block so deep that those inside it must be blank.
 fn flat(
-    alloc: Global,
     view: &View<'_>,
     level: &mut OpenBlock,
     waits: Waits,
@@ -201,13 +193,12 @@ fn flat(
     if let Some(second) = second {
         not_blank(&inside(view, second), pass)?;
     }
-    resume(alloc, view, level, waits, MarkedNodes::none(alloc), pass)
+    resume(view, level, waits, MarkedNodes::none(pass.alloc), pass)
 }
 
 /// Puts a table behind the last node, whose cells stand in as many blocks as `depth` says, and goes on.
 #[cycle(machine)]
 fn cells(
-    alloc: Global,
     view: &View<'_>,
     level: &mut OpenBlock,
     found: TableResult,
@@ -242,18 +233,17 @@ fn cells(
         unreachable!()
     };
     let line = view.number(level.at);
-    let made = rows_of(alloc, rows, depth, frames, pass)?;
-    let table = table_of(alloc, line, cols.as_slice(), head, made)?;
+    let made = rows_of(rows, depth, frames, pass)?;
+    let table = table_of(pass.alloc, line, cols.as_slice(), head, made)?;
     level.go_to(end);
     level.push_marked(table)?;
-    after_table(alloc, view, level, pass)?;
+    after_table(view, level, pass)?;
     Ok(Step::Next)
 }
 
 /// The rows of a table, whose cells stand in as many blocks as `depth` says.
 #[cycle(machine)]
 fn rows_of(
-    alloc: Global,
     rows: Rows,
     depth: usize,
     frames: &mut Frames,
@@ -267,9 +257,9 @@ fn rows_of(
         (each (tables.row_of (within_at (depth - 1))) rows pass.old.numbers) }
     ensures paid { IfOk result (λ _. TakesFor (totals (depth - 1) (cell_blocks (Table [] 0 rows 0))) pass.old.looks pass.new.looks) }
 {
-    let mut made = MarkedNodes::none(alloc);
+    let mut made = MarkedNodes::none(pass.alloc);
     for cells in rows.into_rows() {
-        made.push(row_of(alloc, cells, depth, frames, pass)?)?;
+        made.push(row_of(cells, depth, frames, pass)?)?;
     }
     Ok(made)
 }
@@ -278,7 +268,6 @@ fn rows_of(
 /// line inside several tables is kept once for each of them.
 #[cycle(machine)]
 fn row_of(
-    alloc: Global,
     cells: Vec<Cell>,
     depth: usize,
     frames: &mut Frames,
@@ -292,17 +281,17 @@ fn row_of(
     ensures paid { let inner = cell_blocks (Table [] 0 (cells.items ∷ []) 0) in
         IfOk result (λ _. TakesFor (totals (depth - 1) inner) pass.old.looks pass.new.looks) }
 {
-    let mut entries = MarkedNodes::none(alloc);
+    let mut entries = MarkedNodes::none(pass.alloc);
     for cell in cells {
         let Cell {
             morerows,
             morecols,
             lines,
         } = cell;
-        let lines = lines.into_lines(alloc)?;
-        let nodes = read(alloc, &lines, depth, frames, pass)?.nodes;
-        entries.push(entry_of(alloc, morerows, morecols, nodes)?)?;
+        let lines = lines.into_lines(pass.alloc)?;
+        let nodes = read(&lines, depth, frames, pass)?.nodes;
+        entries.push(entry_of(pass.alloc, morerows, morecols, nodes)?)?;
     }
-    let row = entries.into_element(Tag::Row, Attrs::new(alloc), 0)?;
+    let row = entries.into_element(Tag::Row, Attrs::new(pass.alloc), 0)?;
     Ok(row)
 }

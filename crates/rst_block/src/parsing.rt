@@ -51,11 +51,12 @@ pub fn parse(alloc: Global, lines: &Lines) -> Result<Parsed, BlockFault>
     ensures looks { (settings : Settings) → IfOk result (λ parsed. IsWithinBounds (profile_of settings) lines.now parsed.looks) }
 {
     let mut pass = Pass {
+        alloc,
         looks: Looks::none(),
         numbers: Numbers::none(),
     };
     let mut frames: Frames = ArrayVec::new_in(alloc);
-    let level = read(alloc, lines, 0, &mut frames, &mut pass)?;
+    let level = read(lines, 0, &mut frames, &mut pass)?;
     Ok(Parsed {
         document: document(alloc, level.nodes, level.headings)?,
         messages: pass.numbers.given(),

@@ -24,7 +24,6 @@ use std::alloc::Global;
 
 /// Goes on with a block, the block inside having these nodes.
 pub(crate) fn resume(
-    alloc: Global,
     view: &View<'_>,
     level: &mut OpenBlock,
     waits: Waits,
@@ -44,7 +43,7 @@ pub(crate) fn resume(
 {
     match waits {
         Waits::ListItem { line } => {
-            let item = nodes.into_element(Tag::ListItem, Attrs::new(alloc), line)?;
+            let item = nodes.into_element(Tag::ListItem, Attrs::new(pass.alloc), line)?;
             level.push_item(item)?;
         }
         Waits::ListedBody {
@@ -53,25 +52,25 @@ pub(crate) fn resume(
             body,
             heads,
             notes,
-        } => level.push_item(listed_item(alloc, line, item, body, heads, notes, nodes)?)?,
+        } => level.push_item(listed_item(pass.alloc, line, item, body, heads, notes, nodes)?)?,
         Waits::Quote {
             line,
             attribution,
             rest,
             end,
         } => {
-            put_quote(alloc, level, line, nodes, attribution)?;
-            return after_quote(alloc, view, level, rest, end, pass);
+            put_quote(pass.alloc, level, line, nodes, attribution)?;
+            return after_quote(view, level, rest, end, pass);
         }
-        Waits::Element(element) => level.push_marked(completed(alloc, element, nodes)?)?,
+        Waits::Element(element) => level.push_marked(completed(pass.alloc, element, nodes)?)?,
         Waits::Figure { figure, start, end } => {
             let looks = &mut pass.looks;
-            let made = finished_figure(alloc, view, figure, start, end, nodes, looks)?;
+            let made = finished_figure(pass.alloc, view, figure, start, end, nodes, looks)?;
             level.append_marked(made)?;
             return Ok(Step::Next);
         }
         Waits::Replacement(definition) => level.push(finished_replacement(
-            alloc,
+            pass.alloc,
             Box::into_inner(definition),
             nodes,
         )?)?,
@@ -124,7 +123,6 @@ fn put_quote(
 
 /// Goes on behind a block quote that ended: with the rest of its lines, which are another, or behind them all.
 fn after_quote(
-    alloc: Global,
     view: &View<'_>,
     level: &mut OpenBlock,
     rest: Option<Part>,
@@ -144,10 +142,10 @@ fn after_quote(
         IfOk result (λ s. Takes most least pass.old.looks (most_left level.new B s) (least_left level.new B s) pass.new.looks) }
 {
     match rest {
-        Some(rest) => quote_part(alloc, view, level, rest, pass),
+        Some(rest) => quote_part(view, level, rest, pass),
         None => {
             let text = "Block quote ends without a blank line; unexpected unindent.";
-            level.warn(alloc, view, end, text, pass)?;
+            level.warn(view, end, text, pass)?;
             Ok(Step::Next)
         }
     }

@@ -25,7 +25,6 @@ use std::alloc::Global;
 
 /// Reads the construct at the next line.
 pub(crate) fn step_at(
-    alloc: Global,
     view: &View<'_>,
     level: &mut OpenBlock,
     pass: &mut Pass,
@@ -47,29 +46,29 @@ pub(crate) fn step_at(
             level.go_to(lines_end(view, at, LineTest::Blank, &mut pass.looks));
             Ok(Step::Next)
         }
-        Begun::Quote => block_quote(alloc, view, level, pass),
-        Begun::Bullet { mark, marker } => bullet_item(alloc, view, level, mark, marker, pass),
-        Begun::Enumerator(enumerator) => enumerated_item(alloc, view, level, enumerator, pass),
-        Begun::Field(mark) => field(alloc, view, level, mark, pass),
-        Begun::OptionItem(marker) => option_item(alloc, view, level, marker, pass),
+        Begun::Quote => block_quote(view, level, pass),
+        Begun::Bullet { mark, marker } => bullet_item(view, level, mark, marker, pass),
+        Begun::Enumerator(enumerator) => enumerated_item(view, level, enumerator, pass),
+        Begun::Field(mark) => field(view, level, mark, pass),
+        Begun::OptionItem(marker) => option_item(view, level, marker, pass),
         Begun::Doctest => {
-            doctest_block(alloc, view, level, pass)?;
+            doctest_block(view, level, pass)?;
             Ok(Step::Next)
         }
         Begun::Line(marker) => {
-            bar_line(alloc, view, level, marker, pass)?;
+            bar_line(view, level, marker, pass)?;
             Ok(Step::Next)
         }
         Begun::Grid => {
-            let found = grid(alloc, view, at, &mut pass.looks)?;
-            table(alloc, view, level, found, pass)
+            let found = grid(pass.alloc, view, at, &mut pass.looks)?;
+            table(view, level, found, pass)
         }
         Begun::Simple => {
-            let found = simple(alloc, view, at, &mut pass.looks)?;
-            table(alloc, view, level, found, pass)
+            let found = simple(pass.alloc, view, at, &mut pass.looks)?;
+            table(view, level, found, pass)
         }
-        Begun::Explicit | Begun::Anonymous => explicit_markup(alloc, view, level, pass),
-        Begun::Adornment(mark) => adornment(alloc, view, level, mark, pass),
-        Begun::Text => text_line(alloc, view, level, Vec::new(alloc), pass),
+        Begun::Explicit | Begun::Anonymous => explicit_markup(view, level, pass),
+        Begun::Adornment(mark) => adornment(view, level, mark, pass),
+        Begun::Text => text_line(view, level, Vec::new(pass.alloc), pass),
     }
 }

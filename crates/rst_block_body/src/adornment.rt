@@ -30,7 +30,6 @@ use std::alloc::Global;
 
 /// A line of one punctuation character.
 pub fn adornment(
-    alloc: Global,
     view: &View<'_>,
     level: &mut OpenBlock,
     mark: Adornment,
@@ -48,19 +47,19 @@ pub fn adornment(
     let at = level.at;
     let next = below_text(view, at, 1, &mut pass.looks);
     match adorned_at(view, at, level.titles(), mark, next, &mut pass.looks) {
-        Adorned::Text => text_line(alloc, view, level, Vec::new(alloc), pass),
-        Adorned::ShortOverline => short(alloc, view, level, SHORT_OVERLINE, pass),
-        Adorned::ShortAdornment => short(alloc, view, level, SHORT_ADORNMENT, pass),
+        Adorned::Text => text_line(view, level, Vec::new(pass.alloc), pass),
+        Adorned::ShortOverline => short(view, level, SHORT_OVERLINE, pass),
+        Adorned::ShortAdornment => short(view, level, SHORT_ADORNMENT, pass),
         Adorned::Transition => {
-            transition(alloc, view, level, pass)?;
+            transition(view, level, pass)?;
             Ok(Step::Next)
         }
         Adorned::Title { short } => {
-            overlined(alloc, view, level, mark, short, pass)?;
+            overlined(view, level, mark, short, pass)?;
             Ok(Step::Next)
         }
         form => {
-            wrong(alloc, view, level, wrong_form(form), pass)?;
+            wrong(view, level, wrong_form(form), pass)?;
             Ok(Step::Next)
         }
     }
@@ -109,12 +108,7 @@ fn wrong_form(form: Adorned) -> WrongForm
 }
 
 /// A transition.
-fn transition(
-    alloc: Global,
-    view: &View<'_>,
-    level: &mut OpenBlock,
-    pass: &mut Pass,
-) -> Result<(), BlockFault>
+fn transition(view: &View<'_>, level: &mut OpenBlock, pass: &mut Pass) -> Result<(), BlockFault>
     requires inside { level.old.at < length (block_of view.now) }
     requires placed { IsPlaced level.old }
     requires found { IsNextConstruct level.old (block_of view.now) transition 1 }
@@ -124,16 +118,15 @@ fn transition(
         (reads level.old (block_of view.now) pass.old.numbers) }
     ensures paid { IfOk result (λ _. IsPaid 27 level.old level.new (block_of view.now) Next pass.old.looks pass.new.looks) }
 {
-    level.close(alloc, view, pass)?;
+    level.close(view, pass)?;
     let at = level.at;
-    let node = Node::element(alloc, Tag::Transition, number_at(view, at));
+    let node = Node::element(pass.alloc, Tag::Transition, number_at(view, at));
     level.go_to(at.saturating_add(1));
     level.push(node)
 }
 
 /// A short line that is taken as text, behind a message that says so.
 fn short(
-    alloc: Global,
     view: &View<'_>,
     level: &mut OpenBlock,
     text: &str,
@@ -148,13 +141,13 @@ fn short(
         (reads level.old (block_of view.now) pass.old.numbers) }
     ensures paid { IfOk result (λ s. IsPaid 27 level.old level.new (block_of view.now) s pass.old.looks pass.new.looks) }
 {
+    let alloc = pass.alloc;
     let info = message(alloc, Level::Info, number_at(view, level.at), text, None)?;
-    text_line(alloc, view, level, alone(alloc, info)?, pass)
+    text_line(view, level, alone(alloc, info)?, pass)
 }
 
 /// The message on some lines that are neither a title nor a transition.
 fn wrong(
-    alloc: Global,
     view: &View<'_>,
     level: &mut OpenBlock,
     form: WrongForm,
@@ -169,7 +162,8 @@ fn wrong(
         (reads level.old (block_of view.now) pass.old.numbers) }
     ensures paid { IfOk result (λ _. IsPaid 27 level.old level.new (block_of view.now) Next pass.old.looks pass.new.looks) }
 {
-    level.close(alloc, view, pass)?;
+    let alloc = pass.alloc;
+    level.close(view, pass)?;
     let at = level.at;
     let end = at.saturating_add(form.lines);
     let block = source(alloc, view, at, end, &mut pass.looks)?;
@@ -181,7 +175,6 @@ fn wrong(
 
 /// A title between its overline and its underline.
 fn overlined(
-    alloc: Global,
     view: &View<'_>,
     level: &mut OpenBlock,
     mark: Adornment,
@@ -197,12 +190,12 @@ fn overlined(
         (reads level.old (block_of view.now) pass.old.numbers) }
     ensures paid { IfOk result (λ _. IsPaid 27 level.old level.new (block_of view.now) Next pass.old.looks pass.new.looks) }
 {
-    level.close(alloc, view, pass)?;
+    level.close(view, pass)?;
     let at = level.at;
     let end = at.saturating_add(3);
-    let lines = source(alloc, view, at, end, &mut pass.looks)?;
+    let lines = source(pass.alloc, view, at, end, &mut pass.looks)?;
     let warning = short_warning(
-        alloc,
+        pass.alloc,
         short,
         number_at(view, at),
         "Title overline too short.",
@@ -215,7 +208,7 @@ fn overlined(
         overlined: true,
     };
     let text = skip(text, indentation(text));
-    let heading = heading_of(alloc, style, text, line, warning, lines, pass)?;
+    let heading = heading_of(style, text, line, warning, lines, pass)?;
     level.go_to(end);
     level.push_heading(heading)
 }

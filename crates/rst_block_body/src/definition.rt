@@ -23,7 +23,6 @@ use std::alloc::Global;
 
 /// An item of a definition list. The messages that say why its term is a text stand before the whole list.
 pub(crate) fn definition(
-    alloc: Global,
     view: &View<'_>,
     level: &mut OpenBlock,
     infos: Vec<Node>,
@@ -43,10 +42,10 @@ pub(crate) fn definition(
     let line = number_at(view, at);
     let body = indented(view, at + 1, &mut pass.looks);
     let kind = ListKind::Definition;
-    join_list(alloc, view, level, kind, Tag::DefinitionList, body.to, pass)?;
+    join_list(view, level, kind, Tag::DefinitionList, body.to, pass)?;
     put_before(level, infos)?;
     let term = view.line(at, &mut pass.looks);
-    let heads = term_and_classifiers(alloc, term, line, &mut pass.numbers)?;
+    let heads = term_and_classifiers(pass.alloc, term, line, &mut pass.numbers)?;
     level.go_to(body.to);
     Ok(Step::Open {
         waits: Waits::ListedBody {

@@ -24,7 +24,6 @@ use std::alloc::Global;
 
 /// A field.
 pub fn field(
-    alloc: Global,
     view: &View<'_>,
     level: &mut OpenBlock,
     mark: FieldMark,
@@ -42,25 +41,17 @@ pub fn field(
     let at = level.at;
     let line = number_at(view, at);
     let body = hanging(view, at, mark.marker, &mut pass.looks);
-    join_list(
-        alloc,
-        view,
-        level,
-        ListKind::Field,
-        Tag::FieldList,
-        body.to,
-        pass,
-    )?;
-    let name = excerpt(alloc, view.line(at, &mut pass.looks), mark.name)?;
+    join_list(view, level, ListKind::Field, Tag::FieldList, body.to, pass)?;
+    let name = excerpt(pass.alloc, view.line(at, &mut pass.looks), mark.name)?;
     let name = with_text(
-        alloc,
+        pass.alloc,
         Tag::FieldName,
         line,
         name.as_str(),
         line,
         &mut pass.numbers,
     )?;
-    let mut heads = Vec::with_capacity(alloc, 2)?;
+    let mut heads = Vec::with_capacity(pass.alloc, 2)?;
     heads.push(name.element)?;
     level.go_to(body.to);
     Ok(Step::Open {
@@ -79,7 +70,6 @@ pub fn field(
 /// Has a list of this kind open: that before the next line, or a new one, whose element has this tag. The item that joins it
 /// ends at `end`.
 pub(crate) fn join_list(
-    alloc: Global,
     view: &View<'_>,
     level: &mut OpenBlock,
     kind: ListKind,
@@ -103,6 +93,6 @@ pub(crate) fn join_list(
         return Ok(());
     }
     let line = number_at(view, level.at);
-    level.close(alloc, view, pass)?;
-    level.begin(alloc, kind, Node::element(alloc, tag, line), end)
+    level.close(view, pass)?;
+    level.begin(pass.alloc, kind, Node::element(pass.alloc, tag, line), end)
 }

@@ -27,7 +27,6 @@ use std::alloc::{AllocError, Global};
 
 /// A line of a line block. It joins the lines before it where no blank one stands between.
 pub fn bar_line(
-    alloc: Global,
     view: &View<'_>,
     level: &mut OpenBlock,
     marker: Marker,
@@ -44,13 +43,13 @@ pub fn bar_line(
 {
     let at = level.at;
     let end = indented_end(view, at, &mut pass.looks);
-    let text = bar_text(alloc, view, at, end, marker, pass)?;
+    let text = bar_text(view, at, end, marker, pass)?;
     if lines_end_at(&level.run, at) {
         return add_line(level, text, end);
     }
-    level.close(alloc, view, pass)?;
+    level.close(view, pass)?;
     level.run = Run::Lines {
-        lines: Vec::new(alloc),
+        lines: Vec::new(pass.alloc),
         end: at,
     };
     add_line(level, text, end)
@@ -81,7 +80,6 @@ fn add_line(level: &mut OpenBlock, text: BarText, end: usize) -> Result<(), Bloc
 /// The text behind a bar and in the indented lines below it. A bar that stands alone has no indentation of its own, and
 /// its text begins in the next line.
 fn bar_text(
-    alloc: Global,
     view: &View<'_>,
     at: usize,
     end: usize,
@@ -98,7 +96,7 @@ fn bar_text(
     let line = number_at(view, at);
     let below = lines_between(view, at + 1, end);
     let below = inside(&below, indented(&below, 0, &mut pass.looks));
-    let further = joined(alloc, &below, &mut pass.looks)?;
+    let further = joined(pass.alloc, &below, &mut pass.looks)?;
     if marker.bare {
         let text_line = first_line_or(&below, line);
         return Ok(BarText {
@@ -109,7 +107,7 @@ fn bar_text(
         });
     }
     let first = skip(view.line(at, &mut pass.looks), marker.cut);
-    let text = below_first(alloc, first, &below, further)?;
+    let text = below_first(pass.alloc, first, &below, further)?;
     Ok(BarText {
         indent: Some(marker.cut.saturating_sub(2)),
         line,

@@ -52,7 +52,6 @@ fn opened(level: &mut OpenBlock, line: usize, body: Part) -> Step
 
 /// An item of a bullet list.
 pub fn bullet_item(
-    alloc: Global,
     view: &View<'_>,
     level: &mut OpenBlock,
     mark: char,
@@ -68,6 +67,7 @@ pub fn bullet_item(
         (reads level.old (block_of view.now) pass.old.numbers) }
     ensures paid { IfOk result (λ s. IsPaid 29 level.old level.new (block_of view.now) s pass.old.looks pass.new.looks) }
 {
+    let alloc = pass.alloc;
     let at = level.at;
     let line = number_at(view, at);
     let body = item_part(view, at, marker, &mut pass.looks);
@@ -76,14 +76,13 @@ pub fn bullet_item(
         level.join(kind, body.to);
         return Ok(opened(level, line, body));
     }
-    level.close(alloc, view, pass)?;
+    level.close(view, pass)?;
     level.begin(alloc, kind, bullet_list(alloc, mark, line)?, body.to)?;
     Ok(opened(level, line, body))
 }
 
 /// An item of an enumerated list.
 pub fn enumerated_item(
-    alloc: Global,
     view: &View<'_>,
     level: &mut OpenBlock,
     enumerator: Enumerator,
@@ -105,8 +104,8 @@ pub fn enumerated_item(
         level.join(kind, body.to);
         return Ok(opened(level, line, body));
     }
-    level.close(alloc, view, pass)?;
-    begin_enumerated_list(alloc, view, level, enumerator, body.to, pass)?;
+    level.close(view, pass)?;
+    begin_enumerated_list(view, level, enumerator, body.to, pass)?;
     Ok(opened(level, line, body))
 }
 
@@ -123,7 +122,6 @@ fn going_on(run: &Run, enumerator: Enumerator) -> Option<ListKind>
 
 /// Begins an enumerated list, with the message on one that doesn't begin with the first ordinal.
 fn begin_enumerated_list(
-    alloc: Global,
     view: &View<'_>,
     level: &mut OpenBlock,
     enumerator: Enumerator,
@@ -142,9 +140,9 @@ fn begin_enumerated_list(
 {
     let at = level.at;
     let kind = ListKind::Enumerated(Sequel::of(enumerator));
-    let list = enumerated_list(alloc, enumerator, number_at(view, at))?;
-    level.begin(alloc, kind, list, end)?;
-    match start_note(alloc, view, at, enumerator, &mut pass.looks)? {
+    let list = enumerated_list(pass.alloc, enumerator, number_at(view, at))?;
+    level.begin(pass.alloc, kind, list, end)?;
+    match start_note(pass.alloc, view, at, enumerator, &mut pass.looks)? {
         Some(note) => put_behind(level, note),
         None => Ok(()),
     }

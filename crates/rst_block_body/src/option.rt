@@ -23,7 +23,6 @@ use std::alloc::Global;
 
 /// An item of an option list.
 pub fn option_item(
-    alloc: Global,
     view: &View<'_>,
     level: &mut OpenBlock,
     marker: Marker,
@@ -40,10 +39,9 @@ pub fn option_item(
 {
     let at = level.at;
     let line = number_at(view, at);
-    let group = option_group(alloc, view.line(at, &mut pass.looks), line)?;
+    let group = option_group(pass.alloc, view.line(at, &mut pass.looks), line)?;
     let body = hanging(view, at, marker, &mut pass.looks);
     join_list(
-        alloc,
         view,
         level,
         ListKind::OptionItem,
@@ -51,7 +49,7 @@ pub fn option_item(
         body.to,
         pass,
     )?;
-    let mut heads = Vec::with_capacity(alloc, 2)?;
+    let mut heads = Vec::with_capacity(pass.alloc, 2)?;
     heads.push(group)?;
     level.go_to(body.to);
     Ok(Step::Open {
@@ -60,7 +58,7 @@ pub fn option_item(
             item: Tag::OptionListItem,
             body: Tag::Description,
             heads,
-            notes: Vec::new(alloc),
+            notes: Vec::new(pass.alloc),
         },
         first: body,
         second: None,

@@ -32,7 +32,6 @@ use std::alloc::Global;
 
 /// A doctest block: the lines up to a blank one.
 pub fn doctest_block(
-    alloc: Global,
     view: &View<'_>,
     level: &mut OpenBlock,
     pass: &mut Pass,
@@ -46,7 +45,8 @@ pub fn doctest_block(
         (reads level.old (block_of view.now) pass.old.numbers) }
     ensures paid { IfOk result (λ _. IsPaid 29 level.old level.new (block_of view.now) Next pass.old.looks pass.new.looks) }
 {
-    level.close(alloc, view, pass)?;
+    let alloc = pass.alloc;
+    level.close(view, pass)?;
     let at = level.at;
     let end = lines_end(view, at, LineTest::Filled, &mut pass.looks);
     let text = source(alloc, view, at, end, &mut pass.looks)?;
@@ -57,7 +57,6 @@ pub fn doctest_block(
 
 /// A paragraph, with the literal block that it announces. Of the level the open run has ended.
 pub(crate) fn paragraph(
-    alloc: Global,
     view: &View<'_>,
     level: &mut OpenBlock,
     pass: &mut Pass,
@@ -76,15 +75,14 @@ pub(crate) fn paragraph(
     let end = lines_end(view, at, LineTest::Plain, &mut pass.looks);
     if end == at + 1 {
         let text = view.line(at, &mut pass.looks);
-        return paragraph_of(alloc, view, level, text, end, pass);
+        return paragraph_of(view, level, text, end, pass);
     }
-    let text = source(alloc, view, at, end, &mut pass.looks)?;
-    paragraph_of(alloc, view, level, text.as_str(), end, pass)
+    let text = source(pass.alloc, view, at, end, &mut pass.looks)?;
+    paragraph_of(view, level, text.as_str(), end, pass)
 }
 
 /// A paragraph of a text that ends at `end`, with the literal block that it announces.
 fn paragraph_of(
-    alloc: Global,
     view: &View<'_>,
     level: &mut OpenBlock,
     text: &str,
@@ -105,17 +103,16 @@ fn paragraph_of(
         IfOk result (λ _. capped (pass.old.looks + size) ≤ pass.new.looks) }
 {
     if !ends_in_colons(text) {
-        put_paragraph(alloc, view, level, text, end, pass)?;
+        put_paragraph(view, level, text, end, pass)?;
         level.go_to(end);
         return Ok(());
     }
-    put_paragraph(alloc, view, level, announced(text), end, pass)?;
-    literal(alloc, view, level, end, pass)
+    put_paragraph(view, level, announced(text), end, pass)?;
+    literal(view, level, end, pass)
 }
 
 /// Puts a paragraph that ends at `end` behind the last node, unless it is empty, and the message on an indented line behind it.
 fn put_paragraph(
-    alloc: Global,
     view: &View<'_>,
     level: &mut OpenBlock,
     text: &str,
@@ -128,12 +125,12 @@ fn put_paragraph(
     ensures looks { IfOk result (λ _. pass.new.looks ≤ pass.old.looks + 1) }
     ensures low { IfOk result (λ _. capped pass.old.looks ≤ pass.new.looks) }
 {
-    put_shown(alloc, view, level, text, pass)?;
+    put_shown(view, level, text, pass)?;
     if is_blank(text_at(view, end, &mut pass.looks)) {
         return Ok(());
     }
     let error = message(
-        alloc,
+        pass.alloc,
         Level::Error,
         number_at(view, end),
         "Unexpected indentation.",
@@ -144,7 +141,6 @@ fn put_paragraph(
 
 /// Puts a paragraph behind the last node, unless it is empty.
 fn put_shown(
-    alloc: Global,
     view: &View<'_>,
     level: &mut OpenBlock,
     text: &str,
@@ -156,6 +152,7 @@ fn put_shown(
         Gives (λ _. ReadsNodes nodes level.old level.new level.old.at pass.new.numbers) result }
     ensures looks { pass.new.looks ≡ pass.old.looks }
 {
+    let alloc = pass.alloc;
     if is_blank(text) {
         return Ok(());
     }
@@ -167,7 +164,6 @@ fn put_shown(
 
 /// The literal block that a paragraph announces that ends at `end`.
 fn literal(
-    alloc: Global,
     view: &View<'_>,
     level: &mut OpenBlock,
     end: usize,
@@ -186,15 +182,14 @@ fn literal(
         IfOk result (λ _. pass.new.looks ≤ pass.old.looks + 8 * reach (literal_size Z) Z) }
     ensures low { IfOk result (λ _. capped (pass.old.looks + literal_size (drop end (block_of view.now))) ≤ pass.new.looks) }
 {
+    let alloc = pass.alloc;
     let start = lines_end(view, end, LineTest::Blank, &mut pass.looks);
     let text = text_at(view, start, &mut pass.looks);
     if begins_with(' ', text) {
-        return indented_literal(alloc, view, level, start, pass);
+        return indented_literal(view, level, start, pass);
     }
     match front(text) {
-        Some(quote) if is_punctuation(quote) => quoted_literal(
-            alloc, view, level, start, quote, pass,
-        ),
+        Some(quote) if is_punctuation(quote) => quoted_literal(view, level, start, quote, pass),
         _ => {
             let place = if start < view.len() {
                 start
@@ -211,7 +206,6 @@ fn literal(
 
 /// An indented literal block.
 fn indented_literal(
-    alloc: Global,
     view: &View<'_>,
     level: &mut OpenBlock,
     start: usize,
@@ -229,9 +223,9 @@ fn indented_literal(
     ensures low { IfOk result (λ _. capped (pass.old.looks + extent 1 (drop start (block_of view.now))) ≤ pass.new.looks) }
 {
     let lines = indented(view, start, &mut pass.looks);
-    let text = joined(alloc, &inside(view, lines), &mut pass.looks)?;
+    let text = joined(pass.alloc, &inside(view, lines), &mut pass.looks)?;
     let node = preserved(
-        alloc,
+        pass.alloc,
         Tag::LiteralBlock,
         number_at(view, start),
         text.as_str(),
@@ -239,12 +233,11 @@ fn indented_literal(
     let warning = "Literal block ends without a blank line; unexpected unindent.";
     level.go_to(lines.to);
     level.push(node)?;
-    level.warn(alloc, view, lines.to, warning, pass)
+    level.warn(view, lines.to, warning, pass)
 }
 
 /// A quoted literal block: lines that begin with one punctuation character.
 fn quoted_literal(
-    alloc: Global,
     view: &View<'_>,
     level: &mut OpenBlock,
     start: usize,
@@ -266,9 +259,9 @@ fn quoted_literal(
         capped (pass.old.looks + lines_while (Begins quote) (drop start (block_of view.now))) ≤ pass.new.looks) }
 {
     let end = lines_end(view, start, LineTest::Begins(quote), &mut pass.looks);
-    let text = source(alloc, view, start, end, &mut pass.looks)?;
+    let text = source(pass.alloc, view, start, end, &mut pass.looks)?;
     let node = preserved(
-        alloc,
+        pass.alloc,
         Tag::LiteralBlock,
         number_at(view, start),
         text.as_str(),
@@ -284,6 +277,6 @@ fn quoted_literal(
     } else {
         "Inconsistent literal block quoting."
     };
-    let error = message(alloc, Level::Error, number_at(view, end), text, None)?;
+    let error = message(pass.alloc, Level::Error, number_at(view, end), text, None)?;
     level.push(error)
 }

@@ -27,7 +27,6 @@ use std::alloc::Global;
 
 /// A block quote.
 pub fn block_quote(
-    alloc: Global,
     view: &View<'_>,
     level: &mut OpenBlock,
     pass: &mut Pass,
@@ -41,15 +40,14 @@ pub fn block_quote(
         (reads level.old (block_of view.now) pass.old.numbers) }
     ensures paid { IfOk result (λ s. IsPaid 29 level.old level.new (block_of view.now) s pass.old.looks pass.new.looks) }
 {
-    level.close(alloc, view, pass)?;
+    level.close(view, pass)?;
     let quote = indented(view, level.at, &mut pass.looks);
-    quote_part(alloc, view, level, quote, pass)
+    quote_part(view, level, quote, pass)
 }
 
 /// The lines of a block quote up to and with its first attribution, which ends it; what follows is another. The first
 /// line isn't blank.
 pub fn quote_part(
-    alloc: Global,
     view: &View<'_>,
     level: &mut OpenBlock,
     quote: Part,
@@ -84,8 +82,8 @@ pub fn quote_part(
             })
         }
         Some((place, found)) => {
-            let made = attribution_text(alloc, &lines, place, found, pass)?;
-            let attribution = Box::new(alloc, made)?;
+            let made = attribution_text(&lines, place, found, pass)?;
+            let attribution = Box::new(pass.alloc, made)?;
             let next = lines_end(&lines, found.end, LineTest::Blank, &mut pass.looks);
             level.go_to(quote.from + next);
             Ok(Step::Open {
@@ -147,7 +145,6 @@ fn first_attribution(lines: &View<'_>, looks: &mut Looks) -> Option<(usize, Attr
 
 /// The element of an attribution, with its messages.
 fn attribution_text(
-    alloc: Global,
     lines: &View<'_>,
     place: usize,
     found: Attribution,
@@ -171,9 +168,9 @@ fn attribution_text(
             rest_cut: found.indent,
         },
     );
-    let text = joined(alloc, &text, &mut pass.looks)?;
+    let text = joined(pass.alloc, &text, &mut pass.looks)?;
     let made = with_text(
-        alloc,
+        pass.alloc,
         Tag::Attribution,
         line,
         text.as_str(),

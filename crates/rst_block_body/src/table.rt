@@ -31,7 +31,6 @@ use std::alloc::Global;
 
 /// A table, or the message on one that is malformed.
 pub fn table(
-    alloc: Global,
     view: &View<'_>,
     level: &mut OpenBlock,
     found: TableResult,
@@ -50,13 +49,13 @@ pub fn table(
         pass.old.looks ≤ before + 4 * reach_at titles X → capped (before + (construct_size titles X - 1)) ≤ pass.old.looks
         → IfOk result (λ s. IsPaid 29 level.old level.new B s before pass.new.looks) }
 {
-    level.close(alloc, view, pass)?;
+    level.close(view, pass)?;
     match found {
         TableResult::Malformed { end, note } => {
-            let error = malformed(alloc, view, level.at, end, note, &mut pass.looks)?;
+            let error = malformed(pass.alloc, view, level.at, end, note, &mut pass.looks)?;
             level.go_to(end);
             level.push(error)?;
-            after_table(alloc, view, level, pass)?;
+            after_table(view, level, pass)?;
             Ok(Step::Next)
         }
         found => Ok(Step::Cells(found)),
@@ -91,7 +90,6 @@ fn malformed(
 
 /// Puts the message on a table that isn't followed by a blank line behind it.
 pub fn after_table(
-    alloc: Global,
     view: &View<'_>,
     level: &mut OpenBlock,
     pass: &mut Pass,
@@ -104,7 +102,7 @@ pub fn after_table(
     ensures low { capped pass.old.looks ≤ pass.new.looks }
 {
     let end = level.at;
-    level.warn(alloc, view, end, "Blank line required after table.", pass)
+    level.warn(view, end, "Blank line required after table.", pass)
 }
 
 /// A table of its rows' entries, of which the first rows, as many as `head`, are its head.

@@ -29,7 +29,6 @@ use std::alloc::Global;
 
 /// A line of text, behind messages that say why it is one.
 pub fn text_line(
-    alloc: Global,
     view: &View<'_>,
     level: &mut OpenBlock,
     infos: Vec<Node>,
@@ -48,24 +47,24 @@ pub fn text_line(
     let text = view.line(at, &mut pass.looks);
     let next = below_text(view, at, 1, &mut pass.looks);
     match text_form(text, next) {
-        TextForm::Definition => definition(alloc, view, level, infos, pass),
+        TextForm::Definition => definition(view, level, infos, pass),
         TextForm::Paragraph => {
-            level.close(alloc, view, pass)?;
+            level.close(view, pass)?;
             level.append(infos)?;
-            paragraph(alloc, view, level, pass)?;
+            paragraph(view, level, pass)?;
             Ok(Step::Next)
         }
         TextForm::ShortUnderline => {
-            level.close(alloc, view, pass)?;
+            level.close(view, pass)?;
             level.append(infos)?;
-            put_short_underline(alloc, view, level)?;
-            paragraph(alloc, view, level, pass)?;
+            put_short_underline(pass.alloc, view, level)?;
+            paragraph(view, level, pass)?;
             Ok(Step::Next)
         }
         TextForm::Title { short } => {
-            level.close(alloc, view, pass)?;
+            level.close(view, pass)?;
             level.append(infos)?;
-            underlined(alloc, view, level, short, pass)?;
+            underlined(view, level, short, pass)?;
             Ok(Step::Next)
         }
     }
@@ -99,7 +98,6 @@ fn put_short_underline(
 
 /// A title over its underline, or the messages on one where none may stand.
 fn underlined(
-    alloc: Global,
     view: &View<'_>,
     level: &mut OpenBlock,
     short: bool,
@@ -117,24 +115,23 @@ fn underlined(
 {
     let at = level.at;
     let end = at.saturating_add(2);
-    let lines = source(alloc, view, at, end, &mut pass.looks)?;
+    let lines = source(pass.alloc, view, at, end, &mut pass.looks)?;
     let under = number_at(view, at.saturating_add(1));
     let warning = short_warning(
-        alloc,
+        pass.alloc,
         short,
         under,
         "Title underline too short.",
         lines.as_str(),
     )?;
     if level.titles() {
-        return put_title(alloc, view, level, warning, lines, pass);
+        return put_title(view, level, warning, lines, pass);
     }
-    put_unexpected(alloc, view, level, warning, lines.as_str())
+    put_unexpected(pass.alloc, view, level, warning, lines.as_str())
 }
 
 /// Puts a title over its underline behind the last node.
 fn put_title(
-    alloc: Global,
     view: &View<'_>,
     level: &mut OpenBlock,
     warning: Option<Node>,
@@ -158,7 +155,7 @@ fn put_title(
     };
     let text = view.line(at, &mut pass.looks);
     let line = number_at(view, at);
-    let heading = heading_of(alloc, style, text, line, warning, lines, pass)?;
+    let heading = heading_of(style, text, line, warning, lines, pass)?;
     level.go_to(at.saturating_add(2));
     level.push_heading(heading)
 }

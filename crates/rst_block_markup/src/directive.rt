@@ -52,7 +52,6 @@ use std::alloc::Global;
 
 /// What a directive is, where `place` is where it stands.
 pub(crate) fn directive_at(
-    alloc: Global,
     view: &View<'_>,
     at: usize,
     invocation: &Invocation,
@@ -67,11 +66,11 @@ pub(crate) fn directive_at(
     ensures most { IfOk result (λ _. pass.new.looks ≤ pass.old.looks + 8 + 2 * (invocation.now.block.to - invocation.now.block.from)) }
     ensures low { IfOk result (λ _. capped (pass.old.looks + 1) ≤ pass.new.looks) }
 {
-    let name = called(alloc, view, at, invocation, &mut pass.looks)?;
+    let name = called(pass.alloc, view, at, invocation, &mut pass.looks)?;
     let block = invocation.block;
     let paragraph = is_paragraph(name, view, block, &mut pass.looks);
     Ok(directive(
-        alloc,
+        pass.alloc,
         name,
         view,
         at,
@@ -105,7 +104,6 @@ fn is_paragraph(name: Option<Name>, view: &View<'_>, block: Part, looks: &mut Lo
 
 /// A directive.
 pub(crate) fn directive_block(
-    alloc: Global,
     view: &View<'_>,
     level: &mut OpenBlock,
     invocation: &Invocation,
@@ -130,11 +128,11 @@ pub(crate) fn directive_block(
 {
     let at = level.at;
     let end = invocation.block.to;
-    match directive_at(alloc, view, at, invocation, place_in(level.titles()), pass)? {
+    match directive_at(view, at, invocation, place_in(level.titles()), pass)? {
         Directive::Wrong { fault, .. } => {
-            let name = excerpt(alloc, view.line(at, &mut pass.looks), invocation.name)?;
+            let name = excerpt(pass.alloc, view.line(at, &mut pass.looks), invocation.name)?;
             let name = name.as_str();
-            let error = wrong_directive(alloc, view, at, end, &fault, name, &mut pass.looks)?;
+            let error = wrong_directive(pass.alloc, view, at, end, &fault, name, &mut pass.looks)?;
             put(level, error, end)
         }
         Directive::Found {
@@ -150,7 +148,7 @@ pub(crate) fn directive_block(
                 content,
                 end,
             };
-            directive_nodes(alloc, view, level, &found, pass)
+            directive_nodes(view, level, &found, pass)
         }
     }
 }
@@ -215,7 +213,6 @@ fn is_figure(name: Name) -> bool
 
 /// What a right directive leaves, or the block that is read for it.
 fn directive_nodes(
-    alloc: Global,
     view: &View<'_>,
     level: &mut OpenBlock,
     found: &Found,
@@ -241,19 +238,18 @@ fn directive_nodes(
         IfOk result (λ s. Opens few level.old level.new B inner found.now.end s pass.old.looks pass.new.looks) }
 {
     match &found.argument {
-        Argument::Title(title) => titled_block(alloc, view, level, found, *title, pass),
-        Argument::Uri(uri) => image_block(alloc, view, level, found, uri.as_str()),
+        Argument::Title(title) => titled_block(view, level, found, *title, pass),
+        Argument::Uri(uri) => image_block(pass.alloc, view, level, found, uri.as_str()),
         Argument::Language(language) => {
             let language = Some(language.as_str());
-            code_nodes(alloc, view, level, found, language, pass)
+            code_nodes(view, level, found, language, pass)
         }
-        Argument::Absent => plain_block(alloc, view, level, found, pass),
+        Argument::Absent => plain_block(view, level, found, pass),
     }
 }
 
 /// An admonition or a topic.
 fn titled_block(
-    alloc: Global,
     view: &View<'_>,
     level: &mut OpenBlock,
     found: &Found,
@@ -276,13 +272,12 @@ fn titled_block(
         IfOk result (λ s. Opens (title.to - title.from) level.old level.new B inner found.now.end s pass.old.looks pass.new.looks) }
 {
     let line = number_at(view, level.at);
-    let node = titled(alloc, view, found, title, line, pass)?;
+    let node = titled(view, found, title, line, pass)?;
     Ok(opened(level, Waits::Element(node), found))
 }
 
 /// A directive without an argument.
 fn plain_block(
-    alloc: Global,
     view: &View<'_>,
     level: &mut OpenBlock,
     found: &Found,
@@ -306,10 +301,10 @@ fn plain_block(
         IfOk result (λ s. Opens few level.old level.new B inner found.now.end s pass.old.looks pass.new.looks) }
 {
     if is_code(found.name) {
-        return code_nodes(alloc, view, level, found, None, pass);
+        return code_nodes(view, level, found, None, pass);
     }
     let line = number_at(view, level.at);
-    let node = directive_element(alloc, found.name, found.options.as_slice(), line)?;
+    let node = directive_element(pass.alloc, found.name, found.options.as_slice(), line)?;
     Ok(opened(level, Waits::Element(node), found))
 }
 
@@ -401,7 +396,6 @@ fn figure_block(
 
 /// Program code in a language or in none.
 fn code_nodes(
-    alloc: Global,
     view: &View<'_>,
     level: &mut OpenBlock,
     found: &Found,
@@ -422,6 +416,7 @@ fn code_nodes(
         let few = content.second.to - content.second.from in
         IfOk result (λ s. Opens few level.old level.new (block_of view.now) [] found.now.end s pass.old.looks pass.new.looks) }
 {
+    let alloc = pass.alloc;
     let line = number_at(view, level.at);
     let text = joined(alloc, &inside(view, found.content.second), &mut pass.looks)?;
     let options = found.options.as_slice();
@@ -431,7 +426,6 @@ fn code_nodes(
 
 /// An admonition or a topic with its title and the messages of that.
 fn titled(
-    alloc: Global,
     view: &View<'_>,
     found: &Found,
     title: Part,
@@ -449,18 +443,18 @@ fn titled(
 {
     let lines = inside(view, title);
     let title_line = first_line_or(&lines, line);
-    let text = joined(alloc, &lines, &mut pass.looks)?;
+    let text = joined(pass.alloc, &lines, &mut pass.looks)?;
     let title = with_text(
-        alloc,
+        pass.alloc,
         Tag::Title,
         title_line,
         text.as_str(),
         title_line,
         &mut pass.numbers,
     )?;
-    let node = directive_element(alloc, found.name, found.options.as_slice(), line)?;
-    let node = titled_element(alloc, found.name, node, &title.element)?;
-    let mut nodes = alone(alloc, title.element)?;
+    let node = directive_element(pass.alloc, found.name, found.options.as_slice(), line)?;
+    let node = titled_element(pass.alloc, found.name, node, &title.element)?;
+    let mut nodes = alone(pass.alloc, title.element)?;
     append(&mut nodes, title.notes)?;
     let node = filled(node, nodes)?;
     Ok(node)

@@ -39,7 +39,6 @@ use std::alloc::{AllocError, Global};
 /// Explicit markup, which joins other explicit markup before it.
 #[tactic(auto, using(rst_block_state::proofs::Views::few_lines))]
 pub fn explicit_markup(
-    alloc: Global,
     view: &View<'_>,
     level: &mut OpenBlock,
     pass: &mut Pass,
@@ -56,8 +55,8 @@ pub fn explicit_markup(
     let at = level.at;
     let found = explicit(view, at, &mut pass.looks);
     let end = found.end(at);
-    begin_markup(alloc, view, level, end, pass)?;
-    markup_of(alloc, view, level, found, end, pass)
+    begin_markup(view, level, end, pass)?;
+    markup_of(view, level, found, end, pass)
 }
 
 /// Whether explicit markup is open.
@@ -69,7 +68,6 @@ fn is_markup(run: &Run) -> bool
 
 /// Opens explicit markup up to `end`, before which any other open run ends.
 fn begin_markup(
-    alloc: Global,
     view: &View<'_>,
     level: &mut OpenBlock,
     end: usize,
@@ -88,14 +86,13 @@ fn begin_markup(
         level.run = Run::Explicit { end };
         return Ok(());
     }
-    level.close(alloc, view, pass)?;
+    level.close(view, pass)?;
     level.run = Run::Explicit { end };
     Ok(())
 }
 
 /// What explicit markup that ends at `end` is.
 fn markup_of(
-    alloc: Global,
     view: &View<'_>,
     level: &mut OpenBlock,
     found: Explicit,
@@ -121,27 +118,26 @@ fn markup_of(
     match found {
         Explicit::Footnote { label, body } => {
             let kind = LabelKind::Footnote;
-            labelled_block(alloc, view, level, kind, label, body, pass)
+            labelled_block(view, level, kind, label, body, pass)
         }
         Explicit::Citation { label, body } => {
             let kind = LabelKind::Citation;
-            labelled_block(alloc, view, level, kind, label, body, pass)
+            labelled_block(view, level, kind, label, body, pass)
         }
-        Explicit::Target { name, text } => target_block(alloc, view, level, Some(name), text, pass),
-        Explicit::Anonymous { text } => target_block(alloc, view, level, None, text, pass),
-        Explicit::Comment { text, cause } => comment(alloc, view, level, text, cause, pass),
-        Explicit::EmptyComment => empty_comment(alloc, view, level, end, pass),
-        Explicit::Directive(invocation) => directive_block(alloc, view, level, &invocation, pass),
+        Explicit::Target { name, text } => target_block(view, level, Some(name), text, pass),
+        Explicit::Anonymous { text } => target_block(view, level, None, text, pass),
+        Explicit::Comment { text, cause } => comment(view, level, text, cause, pass),
+        Explicit::EmptyComment => empty_comment(view, level, end, pass),
+        Explicit::Directive(invocation) => directive_block(view, level, &invocation, pass),
         Explicit::Substitution { name, held, .. } => {
-            let name = label_text(alloc, view, level.at, name, &mut pass.looks)?;
-            substitution_definition(alloc, view, level, name.as_str(), held, end, pass)
+            let name = label_text(pass.alloc, view, level.at, name, &mut pass.looks)?;
+            substitution_definition(view, level, name.as_str(), held, end, pass)
         }
     }
 }
 
 /// A footnote or a citation, whose block is opened.
 fn labelled_block(
-    alloc: Global,
     view: &View<'_>,
     level: &mut OpenBlock,
     kind: LabelKind,
@@ -164,8 +160,8 @@ fn labelled_block(
         IfOk result (λ s. Opens 1 level.old level.new B (lines_in B body ∷ []) body.to s pass.old.looks pass.new.looks) }
 {
     let line = number_at(view, level.at);
-    let label = label_text(alloc, view, level.at, label, &mut pass.looks)?;
-    let element = labelled(alloc, kind, label.as_str(), line)?;
+    let label = label_text(pass.alloc, view, level.at, label, &mut pass.looks)?;
+    let element = labelled(pass.alloc, kind, label.as_str(), line)?;
     Ok(noted(level, element, body))
 }
 
@@ -181,7 +177,6 @@ fn labelled(alloc: Global, kind: LabelKind, label: &str, line: usize) -> Result<
 
 /// A target, with a name or anonymous.
 fn target_block(
-    alloc: Global,
     view: &View<'_>,
     level: &mut OpenBlock,
     name: Option<Characters>,
@@ -201,6 +196,7 @@ fn target_block(
     ensures paid { IfOk result (λ s.
         Opens (1 + (text.to - text.from)) level.old level.new (block_of view.now) [] text.to s pass.old.looks pass.new.looks) }
 {
+    let alloc = pass.alloc;
     let lines = joined(alloc, &inside(view, text), &mut pass.looks)?;
     let element = target_of(alloc, view, level.at, name, lines.as_str(), &mut pass.looks)?;
     put(level, element, text.to)
@@ -233,7 +229,6 @@ fn target_of(
 
 /// A comment, with the message on one that isn't meant as such.
 fn comment(
-    alloc: Global,
     view: &View<'_>,
     level: &mut OpenBlock,
     text: Part,
@@ -255,17 +250,16 @@ fn comment(
         Opens (text.to - text.from) level.old level.new (block_of view.now) [] text.to s pass.old.looks pass.new.looks) }
 {
     let line = number_at(view, level.at);
-    let lines = joined(alloc, &inside(view, text), &mut pass.looks)?;
-    let node = preserved(alloc, Tag::Comment, line, lines.as_str())?;
+    let lines = joined(pass.alloc, &inside(view, text), &mut pass.looks)?;
+    let node = preserved(pass.alloc, Tag::Comment, line, lines.as_str())?;
     level.go_to(text.to);
     level.push(node)?;
-    put_cause(alloc, level, cause, line)?;
+    put_cause(pass.alloc, level, cause, line)?;
     Ok(Step::Next)
 }
 
 /// An empty comment.
 fn empty_comment(
-    alloc: Global,
     view: &View<'_>,
     level: &mut OpenBlock,
     end: usize,
@@ -281,7 +275,7 @@ fn empty_comment(
     ensures paid { IfOk result (λ s. Opens (0) level.old level.new (block_of view.now) ([]) end s pass.old.looks pass.new.looks) }
     ensures looks { pass.new.looks ≡ pass.old.looks }
 {
-    let node = preserved(alloc, Tag::Comment, number_at(view, level.at), "")?;
+    let node = preserved(pass.alloc, Tag::Comment, number_at(view, level.at), "")?;
     put(level, node, end)
 }
 

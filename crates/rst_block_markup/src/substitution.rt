@@ -45,7 +45,6 @@ use std::alloc::{AllocError, Global};
 /// A substitution definition that ends at `end`. `written` is its name as it stands between the bars, `held` the directive
 /// that it holds.
 pub(crate) fn substitution_definition(
-    alloc: Global,
     view: &View<'_>,
     level: &mut OpenBlock,
     written: &str,
@@ -68,13 +67,13 @@ pub(crate) fn substitution_definition(
         let inner = substitution_blocks held (unread_at level.old.depth) B level.old.at in
         IfOk result (λ s. Opens (18 * (end - level.old.at)) level.old level.new B inner end s pass.old.looks pass.new.looks) }
 {
-    let name = substitution_name(alloc, written)?;
+    let name = substitution_name(pass.alloc, written)?;
     let Some(invocation) = held else {
-        let text = about(alloc, name.as_str(), " empty or invalid.")?;
-        let lines = source(alloc, view, level.at, end, &mut pass.looks)?;
+        let text = about(pass.alloc, name.as_str(), " empty or invalid.")?;
+        let lines = source(pass.alloc, view, level.at, end, &mut pass.looks)?;
         let line = number_at(view, level.at);
         let warning = message(
-            alloc,
+            pass.alloc,
             Level::Warning,
             line,
             text.as_str(),
@@ -82,7 +81,7 @@ pub(crate) fn substitution_definition(
         )?;
         return put(level, warning, end);
     };
-    holding(alloc, view, level, name, &invocation, end, pass)
+    holding(view, level, name, &invocation, end, pass)
 }
 
 /// A text on a substitution definition.
@@ -98,7 +97,6 @@ fn about(alloc: Global, name: &str, what: &str) -> Result<String, AllocError>
 
 /// A substitution definition that holds a directive.
 fn holding(
-    alloc: Global,
     view: &View<'_>,
     level: &mut OpenBlock,
     name: String,
@@ -125,10 +123,10 @@ fn holding(
 {
     let at = level.at;
     let line = number_at(view, at);
-    match directive_at(alloc, view, at, invocation, Place::Substitution, pass)? {
+    match directive_at(view, at, invocation, Place::Substitution, pass)? {
         Directive::Wrong { fault, .. } => {
             let error = wrong_definition(
-                alloc,
+                pass.alloc,
                 view,
                 at,
                 end,
@@ -146,10 +144,10 @@ fn holding(
             ..
         } => match argument {
             Argument::Uri(uri) => {
-                let shown = image_named(alloc, uri.as_str(), &options, name.as_str(), line)?;
+                let shown = image_named(pass.alloc, uri.as_str(), &options, name.as_str(), line)?;
                 put(level, shown, end)
             }
-            _ => replacement(alloc, view, level, name, content, end, pass),
+            _ => replacement(view, level, name, content, end, pass),
         },
     }
 }
@@ -172,7 +170,6 @@ fn image_named(
 
 /// Opens a replacement text.
 fn replacement(
-    alloc: Global,
     view: &View<'_>,
     level: &mut OpenBlock,
     name: String,
@@ -200,9 +197,9 @@ fn replacement(
     let replacement = OpenReplacement {
         name,
         line: number_at(view, at),
-        source: source(alloc, view, at, end, &mut pass.looks)?,
+        source: source(pass.alloc, view, at, end, &mut pass.looks)?,
     };
-    let waits = Waits::Replacement(Box::new(alloc, replacement)?);
+    let waits = Waits::Replacement(Box::new(pass.alloc, replacement)?);
     level.go_to(end);
     Ok(Step::Open {
         waits,

@@ -13,7 +13,6 @@ use std::alloc::Global;
 
 /// A title with this text.
 pub fn heading_of(
-    alloc: Global,
     style: Style,
     text: &str,
     line: usize,
@@ -25,7 +24,7 @@ pub fn heading_of(
         ≡ Ok (titled (title_of heading) ∷ [], pass.new.numbers)) result }
     ensures looks { pass.new.looks ≡ pass.old.looks }
 {
-    let title = with_text(alloc, Tag::Title, line, text, line, &mut pass.numbers)?;
+    let title = with_text(pass.alloc, Tag::Title, line, text, line, &mut pass.numbers)?;
     Ok(Heading {
         before: 0,
         style,

@@ -113,12 +113,7 @@ impl OpenBlock {
     }
 
     /// Ends the open run before the next line, with the message on an end without a blank line.
-    pub fn close(
-        &mut self,
-        alloc: Global,
-        view: &View<'_>,
-        pass: &mut Pass,
-    ) -> Result<(), BlockFault>
+    pub fn close(&mut self, view: &View<'_>, pass: &mut Pass) -> Result<(), BlockFault>
         ensures at { self.new.at ≡ self.old.at }
         ensures low { capped pass.old.looks ≤ pass.new.looks }
         ensures run { pass.new.looks ≤ pass.old.looks + run_looks self.old.run }
@@ -129,9 +124,9 @@ impl OpenBlock {
     {
         let run = mem::replace(&mut self.run, Run::None);
         let ending = run.ending();
-        run.put(alloc, &mut self.nodes, self.depth, pass)?;
+        run.put(&mut self.nodes, self.depth, pass)?;
         match ending {
-            Some((end, text)) => self.warn(alloc, view, end, text, pass),
+            Some((end, text)) => self.warn(view, end, text, pass),
             None => Ok(()),
         }
     }
@@ -184,7 +179,6 @@ impl OpenBlock {
     /// Puts a warning behind the last node where the line at place `end`, after a construct, isn't blank.
     pub fn warn(
         &mut self,
-        alloc: Global,
         view: &View<'_>,
         end: usize,
         text: &str,
@@ -199,6 +193,6 @@ impl OpenBlock {
         if is_blank(text_at(view, end, &mut pass.looks)) {
             return Ok(());
         }
-        self.push(unindent(alloc, number_at(view, end), text)?)
+        self.push(unindent(pass.alloc, number_at(view, end), text)?)
     }
 }

@@ -181,7 +181,6 @@ impl Run {
     /// Puts the nodes of the run behind others, in a block of this depth.
     pub fn put(
         self,
-        alloc: Global,
         nodes: &mut MarkedNodes,
         depth: usize,
         pass: &mut Pass,
@@ -192,8 +191,8 @@ impl Run {
     {
         match self {
             Run::None | Run::Explicit { .. } => Ok(()),
-            Run::List(open) => Ok(put_list(alloc, nodes, Box::into_inner(open))?),
-            Run::Lines { lines, .. } => put_lines(alloc, nodes, lines, depth, pass),
+            Run::List(open) => Ok(put_list(pass.alloc, nodes, Box::into_inner(open))?),
+            Run::Lines { lines, .. } => put_lines(nodes, lines, depth, pass),
         }
     }
 }
@@ -217,7 +216,6 @@ fn put_list(alloc: Global, nodes: &mut MarkedNodes, open: OpenList) -> Result<()
 
 /// Puts a line block and the messages of its texts behind other nodes.
 fn put_lines(
-    alloc: Global,
     nodes: &mut MarkedNodes,
     lines: Vec<BarText>,
     depth: usize,
@@ -227,7 +225,7 @@ fn put_lines(
         nodes.old nodes.new pass.new.numbers result }
     ensures looks { pass.new.looks ≡ pass.old.looks }
 {
-    match line_block(alloc, lines, depth, DEEPEST, &mut pass.numbers) {
+    match line_block(pass.alloc, lines, depth, DEEPEST, &mut pass.numbers) {
         Ok(block) => {
             nodes.push_new(block.element)?;
             Ok(nodes.append_new(block.notes)?)

@@ -1,4 +1,4 @@
-//! Texts of lines, and what a pass over a document counts.
+//! Texts of lines, and what a document is read with.
 ghost use Rattle.std.specs.Prelude.{◌≡◌, ◌+◌, ◌-◌, ◌<◌, ◌≤◌, [], ◌∷◌, ◌++◌, length, take, drop, slice_range, string_bytes, encode_utf8_all, IfOk};
 ghost use Rattle.std.specs.Str.{chars};
 ghost use Rattle.rst_text.specs.Block.{first_number};
@@ -17,9 +17,10 @@ use rst_tree::{Level, Node, TreeFault};
 use rst_tree_index::{MarkedIter, MarkedNodes};
 use std::alloc::{AllocError, Global};
 
-/// What is counted while a document is read: looks at lines, and messages that have problematics.
+/// What a document is read with: the allocator, and what is counted, looks at lines and messages that have problematics.
 #[derive(Drop)]
 pub struct Pass {
+    pub alloc: Global,
     pub looks: Looks,
     pub numbers: Numbers,
 }
