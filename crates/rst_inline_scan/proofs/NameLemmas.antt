@@ -62,9 +62,13 @@ role_end-fits t i e h =
 
 -- ---- references
 
+and-true : (b : Bool) → (b && true) ≡ b
+and-true true = refl
+and-true false = refl
+
 pub is_reference-here : (t : Text) (i j : ℕ) → is_alnum_at t i ≡ true → all_from (is_name_at t) i (j - i) ≡ true → is_reference t i j ≡ ends_name t j
 unfolding is_reference
-is_reference-here t i j a b = rw (a, b)
+is_reference-here t i j a b = rw (a, b) (and-true (ends_name t j))
 
 pub is_reference-past : (t : Text) (i j : ℕ) → all_from (is_name_at t) i (j - i) ≡ false → is_reference t i j ≡ false
 unfolding is_reference
@@ -72,11 +76,11 @@ is_reference-past t i j b = rw b (grind (arith, nat_tests))
 
 pub is_reference-none : (t : Text) (i j : ℕ) → is_alnum_at t i ≡ false → is_reference t i j ≡ false
 unfolding is_reference
-is_reference-none t i j a = rw a
+is_reference-none t i j a = rw a (grind (arith, nat_tests))
 
 is_reference-ends : (t : Text) (i j : ℕ) → is_reference t i j ≡ true → ends_name t j ≡ true
 unfolding is_reference
-is_reference-ends t i j h = (and_parts (all_from (is_name_at t) i (j - i)) (ends_name t j) (and_parts (is_alnum_at t i) (all_from (is_name_at t) i (j - i) && ends_name t j) h).1).1
+is_reference-ends t i j h = (and_parts (ends_name t j) (is_alnum_at t i && all_from (is_name_at t) i (j - i)) h).0
 
 some-below : (t : Text) (j : ℕ) (r : Option Tail) → r ≡ name_tail t j → is_some r ≡ true → j < length t
 some-below t j (Some tail) e h = name_tail-below t j tail (sym e)
@@ -84,7 +88,7 @@ some-below t j None e h = absurd (cc)
 
 ends_name-below : (t : Text) (j : ℕ) → ends_name t j ≡ true → j < length t
 unfolding ends_name
-ends_name-below t j h = some-below t j (name_tail t j) refl (and_parts (is_alnum_at t (j - 1)) (is_some (name_tail t j)) h).1
+ends_name-below t j h = some-below t j (name_tail t j) refl (and_parts (is_some (name_tail t j)) (is_alnum_at t (j - 1)) h).0
 
 pub is_reference-below : (t : Text) (i j : ℕ) → is_reference t i j ≡ true → j < length t
 is_reference-below t i j h = ends_name-below t j (is_reference-ends t i j h)

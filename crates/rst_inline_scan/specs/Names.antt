@@ -41,13 +41,13 @@ role_end t i = if has t i 58 then option_and_then (behind_colon t) (name_stop t 
 
 -- ---- references: the longest simple name that fits, and one underscore or two
 
--- a name may end before the place: a letter or a number stands before it, and underscores that fit at it
+-- a name may end before the place: underscores that fit stand at it, and a letter or a number before it
 unfoldable pub ends_name : Text → ℕ → Bool
-ends_name t j = is_alnum_at t (j - 1) && is_some (name_tail t j)
+ends_name t j = is_some (name_tail t j) && is_alnum_at t (j - 1)
 
 -- a reference begins at the place: its simple name ends at j, and underscores that fit stand behind it
 unfoldable pub is_reference : Text → ℕ → ℕ → Bool
-is_reference t i j = is_alnum_at t i && (all_from (is_name_at t) i (j - i) && ends_name t j)
+is_reference t i j = ends_name t j && (is_alnum_at t i && all_from (is_name_at t) i (j - i))
 
 -- the end of the longest simple name that begins at the place and has underscores behind it that fit
 unfoldable pub name_end : Text → ℕ → Option ℕ

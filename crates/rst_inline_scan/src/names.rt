@@ -85,7 +85,7 @@ fn ends_name(text: &[char], place: usize) -> bool
     requires below { place ≤ length text.now }
     ensures { result ≡ ends_name text.now place }
 {
-    is_alnum_at(text, place - 1) && name_tail(text, place).is_some()
+    name_tail(text, place).is_some() && is_alnum_at(text, place - 1)
 }
 
 /// The greatest end of the name of a reference that begins at the place, and the place below which none begins where
