@@ -128,7 +128,7 @@ changes=(
   'a file less' 'rm "$source"' 'cp -p before "$source"'
   'a file renamed' 'mv "$source" "$source.old"' 'mv "$source.old" "$source"'
   'a link in its place' 'ln -sf "$folder/after" "$source"' 'rm "$source" && cp -p before "$source"'
-  'another crate in use' 'sed -i "s/^rst_text:/& test_outline/" "$copy/crates.txt"' 'sed -i "s/ test_outline//" "$copy/crates.txt"'
+  'another crate in use' 'sed -i "s/^rst_text:/& test_libraries/" "$copy/crates.txt"' 'sed -i "s/ test_libraries//" "$copy/crates.txt"'
 )
 for ((i = 0; i < ${#changes[@]}; i += 3)); do
   tr 'a-y' 'b-z' <before >after

@@ -3,7 +3,7 @@
 
     scripts/refusing.py [TESTS]..
 
-These tests are in the files `refused_tests.rt` of crates/rst2pseudoxml and of the crates of tests. TESTS are programs of a crate's tests, by
+These tests are in the files `refused_tests.rt` of crates/rst2pseudoxml and crates/test_libraries. TESTS are programs of a crate's tests, by
 default those that `rt ci` left. A test has to pass each time. Each of the first 500 allocations is refused, and after them every seventh. The
 status is 77 if there is no such program, or no C compiler, `cc` or the kit's.
 """

@@ -79,22 +79,3 @@ fn marks_and_visits(rt: HostRuntime) -> Result<(), Fail> {
     }
     Ok(())
 }
-
-#[test]
-fn nodes_one_after_the_other(rt: HostRuntime) -> Result<(), Fail> {
-    let alloc = rt.alloc();
-    let mut nodes = MarkedNodes::alone(alloc, document(alloc)?)?;
-    let text = Node::Text(Text::from_str(alloc, "T")?);
-    let target = Node::element(alloc, Tag::Target, 3);
-    nodes.append_new(vec![in alloc; text, target]?)?;
-    assert_eq!(rt; nodes.len(), 3);
-    let mut rest = nodes.into_marked();
-    for marked in [2, 0, 1] {
-        match rest.next(alloc) {
-            Some(node) => assert_eq!(rt; node.elements(alloc)?.len(), marked),
-            None => assert!(rt; false),
-        }
-    }
-    assert_eq!(rt; rest.len(), 0);
-    Ok(())
-}

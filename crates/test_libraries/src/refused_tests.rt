@@ -1,14 +1,21 @@
 //! Calls of the libraries of which one growth may be refused. `rt ci` refuses none; `scripts/refusing.py` runs each test again and
 //! again, and refuses the first growth, the second, and so on. Each test takes two answers, one after the other, so at most one of them
 //! may be that memory ran out; then what was lent is as before. A growth that is refused to the test itself ends it.
+use super::markup_tests::first_directive;
+use super::tables_tests::show;
+use super::transforms_tests::unresolved;
 use super::tree_tests::{text, titled};
+use rst_block::{BlockFault, parse};
 use rst_inline::{InlineFault, inline, unescape};
-use rst_text::{Lines, TextFault, decode, id_of, name_of, normalized_white};
-use rst_tree::{Key, Node, Tree, TreeFault, Value};
+use rst_markup::{Explicit, TableResult, explicit, grid, kind_of, simple};
+use rst_markup_directives::{Argument, Directive, MarkupFault, Name, Place};
+use rst_settings::Settings;
+use rst_text::{Counted, Lines, Looks, TextFault, View, decode, id_of, name_of, normalized_white};
+use rst_transform::finish;
+use rst_tree::{Key, Node, Tree, TreeFault, Value, print};
 use rst_tree_index::Marked;
-use std::alloc::Global;
+use std::alloc::{AllocError, Global};
 use std::process::Abort;
-use test_outline::outline;
 
 /// How many calls ran out of memory.
 #[derive(Drop)]
@@ -93,11 +100,22 @@ fn names(rt: HostRuntime) {
     judge_texts(&rt, [id_of(alloc, text), id_of(alloc, text)], "groe-fi-1");
 }
 
-/// Whether a tree says what it said, and what it says; nothing where memory ran out for this.
-fn is_same(alloc: Global, tree: &Tree, before: &str) -> Option<bool> {
-    match outline(alloc, tree.root()) {
-        Ok(now) => Some(now.as_str() == before),
+/// A tree as it is printed; nothing where memory ran out for this.
+fn shown(alloc: Global, tree: &Tree) -> Option<String> {
+    let mut out = Counted::of(Vec::new(alloc));
+    if print(tree, &mut out).is_err() {
+        return None;
+    }
+    match str::from_utf8(out.inner().as_slice()) {
+        Ok(text) => String::from_str(alloc, text).ok(),
         Err(_) => None,
+    }
+}
+
+/// Ends the test where a tree isn't printed as before.
+fn judge_tree(rt: &impl Abort, alloc: Global, tree: &Tree, before: &str) {
+    if let Some(now) = shown(alloc, tree) {
+        assert_eq!(rt; now.as_str(), before);
     }
 }
 
@@ -113,16 +131,14 @@ fn pushes_nodes(rt: HostRuntime) {
     };
     let mut refusals = Refusals::none();
     for _ in 0..2 {
-        let (Ok(before), Ok(more)) = (outline(alloc, tree.root()), text(alloc, "more")) else {
+        let (Some(before), Ok(more)) = (shown(alloc, &tree), text(alloc, "more")) else {
             return;
         };
         assert!(rt; tree.fits(&[1], &more));
         if let Err((fault, given)) = tree.push(alloc, &[1], more) {
             refusals.add(&rt, fault == TreeFault::NoMemory);
             assert!(rt; matches!(&given, Node::Text(said) if said.as_str() == "more"));
-            if let Some(same) = is_same(alloc, &tree, before.as_str()) {
-                assert!(rt; same);
-            }
+            judge_tree(&rt, alloc, &tree, before.as_str());
         }
     }
     refusals.judge(&rt);
@@ -148,16 +164,14 @@ fn sets_attributes(rt: HostRuntime) {
     };
     let mut refusals = Refusals::none();
     for key in [Key::Names, Key::Alt] {
-        let Ok(before) = outline(alloc, tree.root()) else {
+        let Some(before) = shown(alloc, &tree) else {
             return;
         };
         assert!(rt; tree.has_element(&[1]));
         if let Err(fault) = tree.set(alloc, &[1], key, Value::Number(7)) {
             refusals.add(&rt, fault == TreeFault::NoMemory);
             assert!(rt; tree.attr(&[1], key).is_none());
-            if let Some(same) = is_same(alloc, &tree, before.as_str()) {
-                assert!(rt; same);
-            }
+            judge_tree(&rt, alloc, &tree, before.as_str());
         } else {
             assert!(rt; tree.attr(&[1], key).is_some());
         }
@@ -228,6 +242,220 @@ fn marks_elements(rt: HostRuntime) {
                 Ok(elements) => assert!(rt; elements.is_empty()),
                 Err(fault) => refusals.add(&rt, fault == TreeFault::NoMemory),
             },
+            Err(fault) => refusals.add(&rt, fault == TreeFault::NoMemory),
+        }
+    }
+    refusals.judge(&rt);
+}
+
+/// The text of the line at place `i`.
+fn line<'a>(view: &View<'a>, i: usize) -> &'a str {
+    let mut looks = Looks::none();
+    if i < view.len() {
+        view.line(i, &mut looks)
+    } else {
+        ""
+    }
+}
+
+/// Ends the test where the view doesn't show the lines of a text.
+fn judge_view(rt: &impl Abort, view: &View<'_>, text: &str) {
+    let mut wanted = text.split('\n');
+    for i in 0..view.len() {
+        match wanted.next() {
+            Some(want) => assert_eq!(rt; line(view, i), want),
+            None => assert!(rt; false),
+        }
+    }
+    assert!(rt; wanted.next().is_none());
+}
+
+/// Compares two answers on a table of this text with what is wanted.
+fn judge_tables(
+    rt: &impl Abort,
+    alloc: Global,
+    tables: [Result<TableResult, AllocError>; 2],
+    want: &str,
+) {
+    let mut refusals = Refusals::none();
+    for table in tables {
+        match table {
+            Ok(table) => {
+                if let Ok(text) = show(alloc, table) {
+                    assert_eq!(rt; text.as_str(), want);
+                }
+            }
+            Err(_) => refusals.add(rt, true),
+        }
+    }
+    refusals.judge(rt);
+}
+
+#[test]
+fn grids(rt: HostRuntime) {
+    let alloc = rt.alloc();
+    let text =
+        "+---+---+\n| a | b |\n+===+===+\n| c | d |\n|   +---+\n|   | e |\n+---+---+\n| f     |\n+-------+";
+    let Ok(lines) = Lines::of(alloc, text, 8) else {
+        return;
+    };
+    let view = View::whole(&lines);
+    assert!(rt; 0 < view.len());
+    let mut looks = Looks::none();
+    let first = grid(alloc, &view, 0, &mut looks);
+    judge_view(&rt, &view, text);
+    let second = grid(alloc, &view, 0, &mut looks);
+    judge_tables(
+        &rt,
+        alloc,
+        [first, second],
+        "T9 w3,3 h1 / [0 0 2:a;] [0 0 2:b;] / [1 0 4:c; 5:; 6:;] [0 0 4:d;] / [0 0 6:e;] / [0 1 8:f;]",
+    );
+}
+
+#[test]
+fn simples(rt: HostRuntime) {
+    let alloc = rt.alloc();
+    let text = "== ==\na  b\n== ==\nc  d\n-----\ne  f\n   g\n== ==";
+    let Ok(lines) = Lines::of(alloc, text, 8) else {
+        return;
+    };
+    let view = View::whole(&lines);
+    assert!(rt; 0 < view.len());
+    let mut looks = Looks::none();
+    let first = simple(alloc, &view, 0, &mut looks);
+    judge_view(&rt, &view, text);
+    let second = simple(alloc, &view, 0, &mut looks);
+    judge_tables(
+        &rt,
+        alloc,
+        [first, second],
+        "T8 w2,2 h1 / [0 0 2:a;] [0 0 2:b;] / [0 1 4:c__d;] / [0 0 6:e; 7:;] [0 0 6:f; 7:g;]",
+    );
+}
+
+/// Ends the test where this isn't a note with an option, a line before the option and three lines behind it.
+fn judge_note(rt: &impl Abort, found: &Directive) {
+    match found {
+        Directive::Found {
+            name: Name::Note,
+            argument: Argument::Absent,
+            options,
+            content,
+        } => {
+            assert_eq!(rt; options.len(), 1);
+            assert_eq!(rt; (content.first.from, content.first.to), (0, 1));
+            assert_eq!(rt; (content.second.from, content.second.to), (3, 6));
+        }
+        _ => assert!(rt; false),
+    }
+}
+
+#[test]
+fn directives(rt: HostRuntime) {
+    let alloc = rt.alloc();
+    let text = ".. note:: a\n   :class: x\n\n   t\n\n   u";
+    let Ok(lines) = Lines::of(alloc, text, 8) else {
+        return;
+    };
+    let view = View::whole(&lines);
+    let mut looks = Looks::none();
+    assert!(rt; 0 < view.len());
+    assert!(rt; kind_of(&view, 0, &mut looks).is_explicit());
+    let Explicit::Directive(call) = explicit(&view, 0, &mut looks) else {
+        assert!(rt; false);
+        return;
+    };
+    let mut refusals = Refusals::none();
+    for _ in 0..2 {
+        match first_directive(alloc, &view, &call, Place::Top, false) {
+            Ok(found) => judge_note(&rt, &found),
+            Err(fault) => refusals.add(&rt, fault == MarkupFault::NoMemory),
+        }
+        judge_view(&rt, &view, text);
+    }
+    refusals.judge(&rt);
+}
+
+/// Constructs of each kind, the last with a message.
+const DOCUMENT: &str = "Title
+=====
+
+text *a* |b| c_ [1]_ d::
+
+  literal
+
+- item
+
+1. item
+
+term : e
+  definition
+
+:field: body
+
+-o  option
+
+| line
+
++---+
+| f |
++---+
+
+.. [1] footnote
+.. |b| image:: g
+.. _c: http://h
+.. note:: *open";
+
+/// Ends the test where these aren't the lines of the document.
+fn judge_lines(rt: &impl Abort, lines: &Lines) {
+    let mut wanted = DOCUMENT.split('\n');
+    for i in 0..lines.count() {
+        match wanted.next() {
+            Some(want) => assert_eq!(rt; lines.line(i), want),
+            None => assert!(rt; false),
+        }
+    }
+    assert!(rt; wanted.next().is_none());
+}
+
+#[test]
+fn reads_documents(rt: HostRuntime) {
+    let Ok(lines) = Lines::of(rt.alloc(), DOCUMENT, 8) else {
+        return;
+    };
+    let mut refusals = Refusals::none();
+    let mut before = None;
+    for _ in 0..2 {
+        match parse(rt.alloc(), &lines) {
+            Ok(parsed) => {
+                let told = (parsed.messages, parsed.looks);
+                assert!(rt; before.is_none_or(|before| before == told));
+                before = Some(told);
+            }
+            Err(fault) => refusals.add(&rt, fault == BlockFault::NoMemory),
+        }
+        judge_lines(&rt, &lines);
+    }
+    refusals.judge(&rt);
+}
+
+#[test]
+fn finishes_documents(rt: HostRuntime) {
+    let alloc = rt.alloc();
+    let settings = Settings::usual();
+    let mut refusals = Refusals::none();
+    for _ in 0..2 {
+        let Ok(parsed) = unresolved(alloc) else {
+            return;
+        };
+        let Ok(parsed) = Marked::of(alloc, parsed.into_node()) else {
+            return;
+        };
+        match finish(alloc, parsed, 0, &settings) {
+            Ok(finished) => {
+                assert_eq!(rt; (finished.notes.len(), finished.highest), (2, 3));
+            }
             Err(fault) => refusals.add(&rt, fault == TreeFault::NoMemory),
         }
     }
