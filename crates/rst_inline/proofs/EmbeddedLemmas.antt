@@ -1,14 +1,14 @@
 -- Angle brackets at the end of a phrase.
 use Rattle.std.proofs.Common.{◌≡◌, ℕ, ◌+◌, ◌-◌, ◌<◌, ◌≤◌, Bool, true, false, not, ◌&&◌, ◌==◌, nat_lt, [], ◌∷◌, Option, Some, None, IfSome, length, take, drop, get_or, unwrap_or, refl, sym, ap, ap₂, subst, cond, ◌∙◌, arith}
 use Rattle.std.specs.List.{list_any}
-use Rattle.std.proofs.lemmas.Bool.{lt-ltb, ltb-true, and_parts, cond_both}
+use Rattle.std.proofs.lemmas.Bool.{lt-ltb, ltb-true, and_parts, or_parts, cond_both}
 use Rattle.std.proofs.lemmas.List.{drop-take, drop-drop, take-take, length-take-le, length-drop}
 use Rattle.rst_text.specs.Characters.{is_white}
 use Rattle.rst_text.specs.Places.{last_from, NoneFrom, IsLast}
 use Rattle.rst_text.proofs.PlacesLemmas.{last_from-is}
 use Rattle.rst_inline_scan.specs.Characters.{Text, has, without_white}
 use Rattle.rst_inline_scan.specs.Escapes.{is_escaped, unescaped}
-use Rattle.rst_inline_scan.proofs.EscapeLemmas.{either-false, unescaped_from, unescaped-read}
+use Rattle.rst_inline_scan.proofs.EscapeLemmas.{unescaped_from, unescaped-read}
 use Rattle.rst_inline.specs.Embedded.{opens_angle, ends_with, last_angle, fits_angle, embedded_at, dark_end, enclosed, is_alias, meant, shown_by}
 use Rattle.rst_inline.specs.Readings.{embedded_reading, phrase_reading_at, phrase_reading}
 use Rattle.rst_inline_scan.specs.declared.piece.Suffix.{Suffix}
@@ -77,11 +77,11 @@ dark-more c t dark rest = ap (λ b. cond (not b) (c ∷ without_white t) (withou
 dark-from : (escaped : Bool) (t : Text) → list_any is_white t ≡ false → without_white (unescaped_from escaped t) ≡ unescaped_from escaped t
 dark-from escaped [] h = refl
 dark-from true (c ∷ cs) h =
-    let parts = either-false (is_white c) (list_any is_white cs) h in
+    let parts = or_parts (is_white c) (list_any is_white cs) h in
     let rest = unescaped_from false cs in
     subst (λ b. without_white (cond b rest (c ∷ rest)) ≡ cond b rest (c ∷ rest)) (sym parts.0) (dark-more c rest parts.0 (dark-from false cs parts.1))
 dark-from false (c ∷ cs) h =
-    let parts = either-false (is_white c) (list_any is_white cs) h in
+    let parts = or_parts (is_white c) (list_any is_white cs) h in
     cond_both (c == 92) (unescaped_from true cs) (c ∷ unescaped_from false cs) (λ t. without_white t ≡ t)
     (λ e. dark-from true cs parts.1)
     (λ e. dark-more c (unescaped_from false cs) parts.0 (dark-from false cs parts.1))

@@ -3,14 +3,13 @@ use Rattle.std.proofs.Common.{◌≡◌, ⊎_elim, ℕ, zero, suc, ◌+◌, ◌-
 use Rattle.std.specs.Str.{IsAscii, IsUtf8, IsCharBoundary, chars}
 use Rattle.std.proofs.Math.Utf8.{scalars, encode, encodes}
 use Rattle.std.proofs.Math.Nat.{min-le_left}
-use Rattle.std.proofs.lemmas.Bool.{cases_lt, ne_eqb}
+use Rattle.std.proofs.lemmas.Bool.{cases_lt, ne_eqb, or_parts}
 use Rattle.std.proofs.lemmas.List.{append_assoc, append-nil, length-append, length-take, length-take-le, take-append-drop, take-append-le, take-take, take_all, drop-append-le, drop-take, drop_all, get_or-take, get_or_past}
 use Rattle.std.proofs.lemmas.Str.{length-encode, len_utf8_bounds, chars-nil, chars_past_char, encode_ascii, encodes-append, encodes-IsAscii, encodes-chars, chars-encodes, IsCharBoundary-from_drop}
 use Rattle.rst_text.proofs.Cuts.{scalars-drop, scalars-take}
 use Rattle.rst_text.proofs.Scanning.{past_char}
 use Rattle.rst_inline_scan.specs.Characters.{Text}
 use Rattle.rst_inline_scan.specs.Escapes.{has_backslash}
-use Rattle.rst_inline_scan.proofs.EscapeLemmas.{either-false}
 use Rattle.rst_inline.specs.Parts.{part, starts_of}
 
 -- ---- the byte at which a character begins
@@ -128,13 +127,13 @@ byte-boundary t i known = IsCharBoundary-from_drop (encodes t) (Byte t i) (byte-
 
 plain-append : (xs ys : Text) → has_backslash (xs ++ ys) ≡ false → has_backslash ys ≡ false
 plain-append [] ys h = h
-plain-append (x ∷ xs) ys h = plain-append xs ys (either-false (x == 92) (has_backslash (xs ++ ys)) h).1
+plain-append (x ∷ xs) ys h = plain-append xs ys (or_parts (x == 92) (has_backslash (xs ++ ys)) h).1
 
 plain-encoded : (cs : Text) → has_backslash (encodes cs) ≡ false → has_backslash cs ≡ false
 plain-encoded [] h = refl
 plain-encoded (c ∷ cs) h =
     let first : (c == 92) ≡ false = ⊎_elim
-    (λ low. (either-false (c == 92) (has_backslash (encodes cs)) (subst (λ bs. has_backslash (bs ++ encodes cs) ≡ false) (encode_ascii c low) h)).0)
+    (λ low. (or_parts (c == 92) (has_backslash (encodes cs)) (subst (λ bs. has_backslash (bs ++ encodes cs) ≡ false) (encode_ascii c low) h)).0)
     (λ high. ne_eqb c 92 (λ is. omega arith))
     (cases_lt c 128) in
     rw first (plain-encoded cs (plain-append (encode c) (encodes cs) h))
@@ -148,9 +147,9 @@ plain-part t low high h = plain-drop low (take high t) (plain-take high t h)
     plain-take : (n : ℕ) (t : Text) → has_backslash t ≡ false → has_backslash (take n t) ≡ false
     plain-take zero t h = refl
     plain-take (suc n) [] h = refl
-    plain-take (suc n) (c ∷ cs) h = let parts = either-false (c == 92) (has_backslash cs) h in ap (λ b. b || has_backslash (take n cs)) parts.0 ∙ plain-take n cs parts.1
+    plain-take (suc n) (c ∷ cs) h = let parts = or_parts (c == 92) (has_backslash cs) h in ap (λ b. b || has_backslash (take n cs)) parts.0 ∙ plain-take n cs parts.1
 
     plain-drop : (n : ℕ) (t : Text) → has_backslash t ≡ false → has_backslash (drop n t) ≡ false
     plain-drop zero t h = h
     plain-drop (suc n) [] h = refl
-    plain-drop (suc n) (c ∷ cs) h = plain-drop n cs (either-false (c == 92) (has_backslash cs) h).1
+    plain-drop (suc n) (c ∷ cs) h = plain-drop n cs (or_parts (c == 92) (has_backslash cs) h).1

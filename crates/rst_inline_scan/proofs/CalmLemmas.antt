@@ -1,13 +1,14 @@
 -- Between calm characters nothing begins.
-use Rattle.std.proofs.Common.{◌≡◌, ◌≢◌, ⊎_elim, ◌⊎◌, inl, inr, ℕ, zero, suc, ◌+◌, ◌-◌, ◌<◌, ◌≤◌, List, [], ◌∷◌, map, Bool, true, false, not, ◌&&◌, ◌||◌, ◌==◌, None, length, get_or, true≢false, refl, sym, ap, ◌∙◌, subst, arith}
+use Rattle.std.proofs.Common.{◌≡◌, ⊎_elim, ◌⊎◌, inl, inr, ℕ, zero, suc, ◌+◌, ◌-◌, ◌<◌, ◌≤◌, [], ◌∷◌, map, Bool, true, false, not, ◌&&◌, ◌||◌, ◌==◌, None, length, get_or, true≢false, refl, sym, ap, ◌∙◌, subst, arith}
 use Rattle.std.specs.Prelude.{nat_lt}
 use Rattle.std.specs.Char.{is_ascii_alphanumeric}
 use Rattle.std.proofs.lemmas.List.{length-map}
-use Rattle.std.proofs.lemmas.Bool.{lt-ltb, eqb-true, and_parts, cases_lt}
+use Rattle.std.proofs.lemmas.Bool.{lt-ltb, eqb-true, ne_eqb, and_parts, or_parts, cases_lt}
 use Rattle.std.proofs.lemmas.Bool.Decides.{nat_tests}
+use Rattle.std.proofs.Math.Bool.{and-true, and-false}
 use Rattle.rst_text.specs.Runs.{PassBetween}
 use Rattle.rst_text.proofs.PlacesLemmas.{cases_bool, lt_eq_gt}
-use Rattle.rst_inline_scan.specs.Characters.{Text, has, may_follow, is_free_behind}
+use Rattle.rst_inline_scan.specs.Characters.{Text, has, is_free_behind}
 use Rattle.rst_inline_scan.specs.Escapes.{is_escaped}
 use Rattle.rst_inline_scan.specs.Names.{is_joint, is_name_at, ends_name}
 use Rattle.rst_inline_scan.specs.Tails.{name_tail}
@@ -16,7 +17,7 @@ use Rattle.rst_inline_scan.specs.Calm.{AreBytesOf, byte_of, is_calm, is_calm_at,
 use Rattle.rst_inline_scan.specs.Pieces.{piece_at, HasNoStart}
 use Rattle.rst_inline_scan.specs.declared.piece.Markup.TheVariants.{Target}
 use Rattle.rst_inline_scan.proofs.EscapeLemmas.{other-bare, is_escaped-bare}
-use Rattle.rst_inline_scan.proofs.WordLemmas.{IsBarred, or_false, Lacks, differs, absent, letter-behind, no-target, no-label, no-letter-at, no-underscore, no-piece-barred}
+use Rattle.rst_inline_scan.proofs.WordLemmas.{letter-low, differs, absent, letter-behind, no-target, no-label, no-letter-at, no-underscore, no-piece-barred}
 
 -- from one place up to another all are calm, the last is none of a name, and the other isn't the text's end
 pub record IsCalm (t : Text) (from to : ℕ) : Type 0 where
@@ -88,8 +89,8 @@ record IsOther (c : ℕ) : Type 0 where
 
 other : (c : ℕ) → is_of_name c ≡ false → IsOther c
 other c h =
-    let first = or_false (not (nat_lt c 128)) (is_ascii_alphanumeric c || is_joint c) h in
-    let rest = or_false (is_ascii_alphanumeric c) (is_joint c) first.1 in
+    let first = or_parts (not (nat_lt c 128)) (is_ascii_alphanumeric c || is_joint c) h in
+    let rest = or_parts (is_ascii_alphanumeric c) (is_joint c) first.1 in
     record { low = below first.0; letter = rest.0; joint = rest.1 }
   where
     below : not (nat_lt c 128) ≡ false → c < 128
@@ -157,9 +158,6 @@ bytes-of_ascii t bytes e = subst (λ bs. AreBytesOf t bs) (sym e) (record { long
 past-calm : (c : ℕ) → 128 ≤ c → is_calm c ≡ true
 past-calm c h = grind (arith, nat_tests)
 
-letter-low : (c : ℕ) → is_ascii_alphanumeric c ≡ true → c < 128
-letter-low c h = grind (arith, nat_tests)
-
 calm-at_same : (t bytes : Text) (k : ℕ) → AreBytesOf t bytes → is_calm_at bytes k ≡ true → is_calm_at t k ≡ true
 calm-at_same t bytes k of h = ⊎_elim
     (λ low.
@@ -188,17 +186,6 @@ calm-same t bytes from to of run = record {
 HasNoStart-step : (t : Text) (from place start : ℕ) → HasNoStart t from from place → IsStep t place start → HasNoStart t from from start
 HasNoStart-step t from place start none over i low less = ⊎_elim (none i low) (λ past. over.none from i past less) (cases_lt i place)
 
-and-true : (b : Bool) → (b && true) ≡ b
-and-true true = refl
-and-true false = refl
-
-and-false : (b : Bool) → (b && false) ≡ false
-and-false true = refl
-and-false false = refl
-
-not-eqb : (c d : ℕ) → c ≢ d → (c == d) ≡ false
-not-eqb c d differ = ⊎_elim (λ same. absurd (differ (eqb-true c d same))) (λ other. other) (cases_bool (c == d))
-
 -- what stands before a step's end escapes nothing
 escaped-step : (t : Text) (from place start : ℕ) (escaped : Bool) → from ≤ place → IsStep t place start → escaped ≡ is_escaped t from place → (escaped && start == place) ≡ is_escaped t from start
 escaped-step t from place start escaped order over known = ⊎_elim
@@ -207,7 +194,7 @@ escaped-step t from place start escaped order over known = ⊎_elim
     let above = over.above in
     let less : place < start = behind above other in
     let back : start - 1 + 1 ≡ start = omega arith in
-    let bare = other-bare t (start - 1) (not-eqb _ 92 (over.bare less)) in
+    let bare = other-bare t (start - 1) (ne_eqb _ 92 (over.bare less)) in
     rw other (and-false escaped ∙ sym (ap (is_escaped t from) (sym back) ∙ is_escaped-bare t from (start - 1) (omega arith) bare)))
     (cases_bool (start == place))
   where

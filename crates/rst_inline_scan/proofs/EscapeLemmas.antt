@@ -1,6 +1,6 @@
 -- How far escapes reach.
-use Rattle.std.proofs.Common.{◌≡◌, ℕ, zero, suc, ◌+◌, ◌-◌, ◌<◌, ◌≤◌, Bool, true, false, ◌&&◌, ◌||◌, ◌==◌, cond, if◌then◌else◌, [], ◌∷◌, leb, get_or, refl, sym, ap, ap₂, ◌∙◌, subst, arith, add-one}
-use Rattle.std.proofs.lemmas.Bool.{le-leb, eqb-true, and_parts}
+use Rattle.std.proofs.Common.{◌≡◌, ℕ, zero, suc, ◌+◌, ◌-◌, ◌<◌, ◌≤◌, Bool, true, false, ◌&&◌, ◌==◌, cond, if◌then◌else◌, [], ◌∷◌, leb, get_or, refl, sym, ap, ap₂, ◌∙◌, subst, arith, add-one}
+use Rattle.std.proofs.lemmas.Bool.{le-leb, eqb-true, and_parts, or_parts}
 use Rattle.std.proofs.lemmas.Bool.Decides.{nat_tests}
 use Rattle.rst_text.specs.Characters.{is_white}
 use Rattle.rst_inline_scan.specs.Characters.{Text, has}
@@ -50,16 +50,12 @@ pub is_escaped-agree : (t : Text) (s i k : ℕ) → s ≤ i → i < k → IsBare
 is_escaped-agree t s i k h less bare =
     let e : i + 1 + (k - (i + 1)) ≡ k = omega arith in subst (λ k. is_escaped t s k ≡ is_escaped t i k) e (agree t s i (k - (i + 1)) h bare)
 
-pub either-false : (a b : Bool) → (a || b) ≡ false → (a ≡ false) × (b ≡ false)
-either-false true b h = absurd (cc)
-either-false false b h = (refl, h)
-
 -- without a backslash a text has no escapes
 pub unescaped-plain : (t : Text) → has_backslash t ≡ false → unescaped t ≡ t
 unescaped-plain [] h = refl
-unescaped-plain (c ∷ []) h = ap (λ b. cond b [] (c ∷ [])) (either-false (c == 92) false h).0
+unescaped-plain (c ∷ []) h = ap (λ b. cond b [] (c ∷ [])) (or_parts (c == 92) false h).0
 unescaped-plain (c ∷ d ∷ cs) h =
-    let parts = either-false (c == 92) (has_backslash (d ∷ cs)) h in
+    let parts = or_parts (c == 92) (has_backslash (d ∷ cs)) h in
     ap (λ b. cond b (cond (is_white d) (unescaped cs) (d ∷ unescaped cs)) (c ∷ unescaped (d ∷ cs))) parts.0 ∙ ap (λ rest. c ∷ rest) (unescaped-plain (d ∷ cs) parts.1)
 
 -- what is left of characters behind a backslash that isn't itself escaped, or behind none

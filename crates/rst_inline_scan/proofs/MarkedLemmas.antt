@@ -1,13 +1,14 @@
 -- Markup between a start-string and an end-string.
-use Rattle.std.proofs.Common.{◌≡◌, ℕ, ◌+◌, ◌-◌, ◌<◌, ◌≤◌, [], ◌∷◌, true, not, ◌&&◌, Option, Some, None, length, unwrap_or, option_map, refl, sym, ap, ◌∙◌, subst, arith}
+use Rattle.std.proofs.Common.{◌≡◌, ◌≢◌, ℕ, ◌+◌, ◌-◌, ◌<◌, ◌≤◌, [], ◌∷◌, true, false, not, ◌&&◌, get_or, Option, Some, None, length, unwrap_or, option_map, refl, sym, ap, ◌∙◌, subst, arith}
 use Rattle.std.proofs.lemmas.Bool.{and_parts}
+use Rattle.std.proofs.lemmas.Bool.Decides.{nat_tests}
 use Rattle.rst_text.specs.Places.{IsFirst}
 use Rattle.rst_text.proofs.PlacesLemmas.{first_from-is, first_from-IsFirst}
 use Rattle.std.specs.Option.{is_some, option_or}
 use Rattle.rst_inline_scan.specs.Characters.{Text, has, has_string, is_dark}
 use Rattle.rst_inline_scan.specs.Tails.{name_tail, role_tail, bare_tail}
 use Rattle.rst_inline_scan.specs.Names.{role_end}
-use Rattle.rst_inline_scan.specs.Marked.{start_string, end_string, start_len, end_len, has_start, has_end, has_escapes, start_of, starts, tail_of, ends, markup_end, unended_piece, ended_piece, marked_piece, marked_from, marked}
+use Rattle.rst_inline_scan.specs.Marked.{start_string, end_string, mark, start_len, end_len, has_start, has_end, has_escapes, start_of, starts, tail_of, ends, markup_end, unended_piece, ended_piece, marked_piece, marked_from, marked}
 use Rattle.rst_inline_scan.specs.Missing.{IsUnended}
 use Rattle.rst_inline_scan.specs.declared.piece.Markup.{Markup}
 use Rattle.rst_inline_scan.specs.declared.piece.Markup.TheVariants.{Strong, Emphasis, Literal, Target, Substitution, Interpreted}
@@ -55,6 +56,15 @@ start-bare Literal t q h = has-bare t q 96 refl (and_parts (has t q 96) _ (start
 start-bare Target t q h = has-bare t q 95 refl (and_parts (has t q 95) _ (start-stands Target t q h)).0
 start-bare Substitution t q h = has-bare t q 124 refl (and_parts (has t q 124) _ (start-stands Substitution t q h)).0
 start-bare Interpreted t q h = has-bare t q 96 refl (and_parts (has t q 96) _ (start-stands Interpreted t q h)).0
+
+-- it ends only where the character stands of which its end-string consists
+no-string : (t s : Text) (i : ℕ) → 0 < length s → get_or t i 0 ≢ get_or s 0 0 → has_string t i s ≡ false
+no-string t [] i some h = absurd (omega arith)
+no-string t (c ∷ cs) i some h = grind (arith, nat_tests)
+
+pub no-end : (markup : Markup) (t : Text) (i k : ℕ) → get_or t k 0 ≢ mark markup → ends markup t i k ≡ false
+unfolding ends
+no-end markup t i k h = rw (no-string t (end_string markup) k (end-some markup) h) refl
 
 ends-end : (markup : Markup) (t : Text) (i k : ℕ) → ends markup t i k ≡ true → has_end markup t k ≡ true
 unfolding ends

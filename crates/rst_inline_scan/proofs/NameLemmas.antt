@@ -2,6 +2,7 @@
 use Rattle.std.proofs.Common.{◌≡◌, ⊎_elim, ℕ, ltb, ◌+◌, ◌-◌, ◌<◌, ◌≤◌, Bool, true, false, not, ◌&&◌, Option, Some, None, IfSome, length, option_and_then, option_map, refl, sym, ap, ◌∙◌, arith}
 use Rattle.std.proofs.lemmas.Bool.{and_parts, cases_lt}
 use Rattle.std.proofs.lemmas.Bool.Decides.{nat_tests}
+use Rattle.std.proofs.Math.Bool.{and-true}
 use Rattle.std.specs.Option.{is_some}
 use Rattle.rst_text.specs.Places.{first_from, last_from, all_from, IsFirst, IsLast}
 use Rattle.rst_text.proofs.PlacesLemmas.{first_from-is, first_from-IsFirst, last_from-is, last_from-IsLast, all_from-at, all_from-all, all_from-stop}
@@ -61,10 +62,6 @@ role_end-fits t i e h =
     (omega (arith, found.0), found.1)
 
 -- ---- references
-
-and-true : (b : Bool) → (b && true) ≡ b
-and-true true = refl
-and-true false = refl
 
 pub is_reference-here : (t : Text) (i j : ℕ) → is_alnum_at t i ≡ true → all_from (is_name_at t) i (j - i) ≡ true → is_reference t i j ≡ ends_name t j
 unfolding is_reference

@@ -1,5 +1,5 @@
 -- The pieces that are found one behind the other are those of the text.
-use Rattle.std.proofs.Common.{◌≡◌, inl, inr, ℕ, zero, suc, ◌+◌, ◌-◌, ◌<◌, ◌≤◌, Bool, true, false, List, [], ◌∷◌, ◌++◌, Option, Some, None, length, refl, sym, subst, arith, lt-ltb, le-ltb, true≢false}
+use Rattle.std.proofs.Common.{◌≡◌, inl, inr, ℕ, zero, suc, ◌+◌, ◌<◌, ◌≤◌, true, false, ◌∷◌, ◌++◌, Option, Some, None, length, refl, sym, subst, arith, lt-ltb, le-ltb, true≢false}
 use Rattle.std.specs.Prelude.{is_some}
 use Rattle.std.proofs.lemmas.Bool.{cases_lt}
 use Rattle.rst_text.specs.Places.{IsFirst}

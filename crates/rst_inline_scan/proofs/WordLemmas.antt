@@ -3,8 +3,9 @@ use Rattle.std.proofs.Common.{◌≡◌, ⊎_elim, ℕ, ◌+◌, ◌-◌, ◌<�
 use Rattle.std.specs.Prelude.{nat_lt, find}
 use Rattle.std.specs.List.{list_all}
 use Rattle.std.specs.Char.{is_ascii_alphanumeric, to_ascii_lowercase}
-use Rattle.std.proofs.lemmas.Bool.{lt-ltb, eqb-true, and_parts, cases_lt}
+use Rattle.std.proofs.lemmas.Bool.{lt-ltb, eqb-true, not-true, and_parts, or_parts, cases_lt}
 use Rattle.std.proofs.lemmas.Bool.Decides.{nat_tests}
+use Rattle.std.proofs.Math.Bool.{and-true, and-false}
 use Rattle.rst_text.specs.Characters.{is_white}
 use Rattle.rst_text.specs.Places.{all_from}
 use Rattle.rst_text.proofs.CharacterLemmas.{is_alphanumeric-ascii}
@@ -29,7 +30,7 @@ use Rattle.rst_inline_scan.proofs.UriLemmas.{letter_at, letter_before, uri_end-n
 abbrev IsLetter : ℕ → Type 0
 IsLetter c = is_ascii_alphanumeric c ≡ true
 
-letter-low : (c : ℕ) → IsLetter c → c < 128
+pub letter-low : (c : ℕ) → IsLetter c → c < 128
 letter-low c h = grind (arith, nat_tests)
 
 -- what holds of each character of ASCII
@@ -43,23 +44,19 @@ unless-so : (a b : Bool) → unless a b ≡ true → a ≡ true → b ≡ true
 unless-so true b h k = h
 unless-so false b h k = absurd (cc)
 
-not-so : (b : Bool) → not b ≡ true → b ≡ false
-not-so true h = absurd (cc)
-not-so false h = refl
-
 -- none stands before a start
 pub letter-before : (c : ℕ) → IsLetter c → may_precede c ≡ false
 unfolding may_precede is_white
-letter-before c h = not-so _ (unless-so _ _ (below (λ c. unless (is_ascii_alphanumeric c) (not (may_precede c))) refl c (letter-low c h)) h)
+letter-before c h = not-true _ (unless-so _ _ (below (λ c. unless (is_ascii_alphanumeric c) (not (may_precede c))) refl c (letter-low c h)) h)
 
 -- nor behind an end
 pub letter-behind : (c : ℕ) → IsLetter c → may_follow c ≡ false
 unfolding may_follow is_white
-letter-behind c h = not-so _ (unless-so _ _ (below (λ c. unless (is_ascii_alphanumeric c) (not (may_follow c))) refl c (letter-low c h)) h)
+letter-behind c h = not-true _ (unless-so _ _ (below (λ c. unless (is_ascii_alphanumeric c) (not (may_follow c))) refl c (letter-low c h)) h)
 
 -- a character that passes a test is none that fails it
 pub differs : (p : ℕ → Bool) (c d : ℕ) → p c ≡ true → p d ≡ false → (c == d) ≡ false
-differs p c d h k = not-so _ (by_case (c == d) refl)
+differs p c d h k = not-true _ (by_case (c == d) refl)
   where
     by_case : (same : Bool) → (c == d) ≡ same → not same ≡ true
     by_case true s = absurd (true≢false (sym h ∙ ap p (eqb-true c d s) ∙ k))
@@ -89,18 +86,14 @@ record Ends (t : Text) (i : ℕ) : Type 0 where
   pub colon : has t i 58 ≡ false
   pub name : i < length t → is_name_at t i ≡ false
 
-pub or_false : (a b : Bool) → (a || b) ≡ false → (a ≡ false) × (b ≡ false)
-or_false true b h = absurd (true≢false h)
-or_false false b h = (refl, h)
-
 within-false : (i n : ℕ) (b : Bool) → (nat_lt i n && b) ≡ false → i < n → b ≡ false
 within-false i n b h less = sym (ap (λ a. a && b) (lt-ltb i n less)) ∙ h
 
 ends-by : (t : Text) (i : ℕ) → goes_on t i ≡ false → Ends t i
 unfolding goes_on
 ends-by t i h =
-    let first = or_false (has t i 95) (has t i 58 || (nat_lt i (length t) && is_name_at t i)) h in
-    let second = or_false (has t i 58) (nat_lt i (length t) && is_name_at t i) first.1 in
+    let first = or_parts (has t i 95) (has t i 58 || (nat_lt i (length t) && is_name_at t i)) h in
+    let second = or_parts (has t i 58) (nat_lt i (length t) && is_name_at t i) first.1 in
     record { underscore = first.0; colon = second.0; name = within-false i (length t) (is_name_at t i) second.1 }
 
 -- No name or scheme that begins at i goes past e: up to there none ends, and no place of a name is there.
@@ -297,14 +290,6 @@ unescaped-behind t from i to escaped order run known = ⊎_elim
     (λ other. rw other (and-false escaped ∙ unescaped-word t from i to order (some_of (run.above) other) run))
     (cases_bool (i == to))
   where
-    and-true : (b : Bool) → (b && true) ≡ b
-    and-true true = refl
-    and-true false = refl
-
-    and-false : (b : Bool) → (b && false) ≡ false
-    and-false true = refl
-    and-false false = refl
-
     some_of : i ≤ to → (i == to) ≡ false → i < to
     some_of above differ = grind (arith, nat_tests)
 

@@ -27,6 +27,10 @@ abbrev pub end_string : Markup → Text
 end_string Target = codes "`"
 end_string markup = start_string markup
 
+-- the character of which the end-string consists
+abbrev pub mark : Markup → ℕ
+mark markup = slice_index (end_string markup) 0
+
 -- how many characters the start-string has
 abbrev pub start_len : Markup → ℕ
 start_len markup = length (start_string markup)

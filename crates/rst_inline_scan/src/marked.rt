@@ -1,7 +1,7 @@
 //! Inline markup between a start-string and an end-string.
 ghost use Rattle.std.specs.Prelude.{◌≡◌, ℕ, ◌+◌, ◌<◌, ◌≤◌, true, length, unwrap_or, option_map, IfSome};
 ghost use Rattle.std.specs.Option.{option_or};
-ghost use Rattle.rst_inline_scan.specs.Marked.{start_len, end_len, has_start, has_end, has_escapes, start_of, starts, tail_of, ends, markup_end, unended_piece, ended_piece, marked};
+ghost use Rattle.rst_inline_scan.specs.Marked.{start_len, end_len, mark, has_start, has_end, has_escapes, start_of, starts, tail_of, ends, markup_end, unended_piece, ended_piece, marked};
 ghost use Rattle.rst_inline_scan.specs.Escapes.{is_escaped};
 ghost use Rattle.rst_inline_scan.specs.Tails.{name_tail, role_tail, bare_tail};
 ghost use Rattle.rst_inline_scan.specs.Names.{role_end};
@@ -50,18 +50,23 @@ impl Markup {
         }
     }
 
+    /// The character of which the end-string consists.
+    fn mark(self) -> char
+        ensures { result ≡ mark self }
+    {
+        match self {
+            Markup::Strong | Markup::Emphasis => '*',
+            Markup::Literal | Markup::Target | Markup::Interpreted => '`',
+            Markup::Substitution => '|',
+        }
+    }
+
     /// Whether the end-string stands at the place.
     fn has_end(self, text: &[char], place: usize) -> bool
         requires { place ≤ length text.now }
         ensures { result ≡ has_end self text.now place }
     {
-        match self {
-            Markup::Strong => has(text, place, '*') && has(text, place + 1, '*'),
-            Markup::Emphasis => has(text, place, '*'),
-            Markup::Literal => has(text, place, '`') && has(text, place + 1, '`'),
-            Markup::Target | Markup::Interpreted => has(text, place, '`'),
-            Markup::Substitution => has(text, place, '|'),
-        }
+        has(text, place, self.mark()) && (self.end_len() == 1 || has(text, place + 1, self.mark()))
     }
 
     fn has_escapes(self) -> bool
@@ -137,9 +142,11 @@ impl Markup {
         ensures exact { result ≡ markup_end self text.now place start }
         ensures within { IfSome result (λ end. end < length text.now) }
     {
+        let mark = self.mark();
+        let open = start + self.start_len();
         let mut escaped = false;
         for at in start + 1..text.len() {
-            if start + self.start_len() < at && self.ends(text, at, escaped) {
+            if text[at] == mark && open < at && self.ends(text, at, escaped) {
                 return Some(at);
             }
             escaped = escapes(text[at], escaped);

@@ -4,9 +4,9 @@ use Rattle.rst_text.proofs.PlacesLemmas.{first_from-is}
 use Rattle.rst_inline_scan.specs.Escapes.{escapes}
 use Rattle.rst_inline_scan.specs.Marked.{start_len, ends, markup_end}
 use Rattle.rst_inline_scan.proofs.EscapeLemmas.{is_escaped-bare, is_escaped-more}
-use Rattle.rst_inline_scan.proofs.MarkedLemmas.{start-bare}
+use Rattle.rst_inline_scan.proofs.MarkedLemmas.{start-bare, no-end}
 use Rattle.rst_inline_scan.proofs.piece.Markup.end.Goals as goal
-use Rattle.rst_inline_scan.proofs.piece.Markup.end.Goals.{else-start-start_len-via-then-start-start_len+else-ends, else-start-start_len-via-else-start-start_len}
+use Rattle.rst_inline_scan.proofs.piece.Markup.end.Goals.{else-text-at-via-then-text-at+then-open-at+else-ends, else-text-at-via-then-text-at+else-open-at, else-text-at-via-else-text-at}
 
 pub loop-at-init : goal.loop-at-init
 loop-at-init c = record {
@@ -33,11 +33,12 @@ loop-at-preserved c =
     let known = c.loop-at.invariant.escaped in
     let next = is_escaped-more c.args.text.now c.args.place c.loop-at.at (omega arith) in
     let not_here : c.args.start + start_len c.args.self + 1 ≤ c.loop-at.at → ends c.args.self c.args.text.now c.args.place c.loop-at.at ≡ false = λ low.
-    elim c.else-start-start_len.branch [
-      | else-start-start_len-via-then-start-start_len+else-ends w ↦ sym (w.ends.ensures c.args.place known) ∙ cc
-      | else-start-start_len-via-else-start-start_len w ↦ absurd (omega arith)
+    elim c.else-text-at.branch [
+      | else-text-at-via-then-text-at+then-open-at+else-ends w ↦ sym (w.ends.ensures c.args.place known) ∙ cc
+      | else-text-at-via-then-text-at+else-open-at w ↦ absurd (omega arith)
+      | else-text-at-via-else-text-at w ↦ no-end c.args.self c.args.text.now c.args.place c.loop-at.at (λ same. w.if-text-at.false (get_or_read c.args.text.now _ _ (omega arith) c.index-text-at.is 0 ∙ same ∙ sym c.mark-mark.ensures))
     ] in
     record {
-      escaped = c.escapes-escaped.ensures ∙ ap (λ x. escapes x c.loop-at.escaped) (get_or_read c.args.text.now _ _ (omega arith) c.index-text-at.is 0) ∙ ap (escapes _) c.loop-at.invariant.escaped ∙ sym next;
+      escaped = c.escapes-escaped.ensures ∙ ap (λ x. escapes x c.loop-at.escaped) (get_or_read c.args.text.now _ _ (omega arith) c.index-text-at-in-loop-at.is 0) ∙ ap (escapes _) c.loop-at.invariant.escaped ∙ sym next;
       none = λ k low high. below_more (λ k. c.args.start + start_len c.args.self + 1 ≤ k → ends c.args.self c.args.text.now c.args.place k ≡ false) c.loop-at.at (λ k high low. c.loop-at.invariant.none k low high) not_here k high low;
     }
