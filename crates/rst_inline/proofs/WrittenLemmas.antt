@@ -1,12 +1,14 @@
 -- Parts of a text, which are cut out of its bytes.
-use Rattle.std.proofs.Common.{◌≡◌, ⊎_elim, ℕ, zero, suc, ◌+◌, ◌-◌, ◌<◌, ◌≤◌, ◌==◌, ◌||◌, true, false, List, [], ◌∷◌, ◌++◌, length, take, drop, get_or, refl, sym, ap, ◌∙◌, subst, arith}
+use Rattle.std.proofs.Common.{◌≡◌, ⊎_elim, ℕ, zero, suc, ◌+◌, ◌-◌, ◌<◌, ◌≤◌, ◌==◌, true, false, List, [], ◌∷◌, ◌++◌, length, take, drop, get_or, refl, sym, ap, ◌∙◌, subst, arith}
 use Rattle.std.specs.Str.{IsAscii, IsUtf8, IsCharBoundary, chars}
 use Rattle.std.proofs.Math.Utf8.{scalars, encode, encodes}
 use Rattle.std.proofs.Math.Nat.{min-le_left}
 use Rattle.std.proofs.lemmas.Bool.{cases_lt, ne_eqb, or_parts}
 use Rattle.std.proofs.lemmas.List.{append_assoc, append-nil, length-append, length-take, length-take-le, take-append-drop, take-append-le, take-take, take_all, drop-append-le, drop-take, drop_all, get_or-take, get_or_past}
 use Rattle.std.proofs.lemmas.Str.{length-encode, len_utf8_bounds, chars-nil, chars_past_char, encode_ascii, encodes-append, encodes-IsAscii, encodes-chars, chars-encodes, IsCharBoundary-from_drop}
+use Rattle.std.proofs.lemmas.List.Folds.{list_any-append}
 use Rattle.rst_text.proofs.Cuts.{scalars-drop, scalars-take}
+use Rattle.rst_text.proofs.LineTexts.{none-parts}
 use Rattle.rst_text.proofs.Scanning.{past_char}
 use Rattle.rst_inline_scan.specs.Characters.{Text}
 use Rattle.rst_inline_scan.specs.Escapes.{has_backslash}
@@ -126,8 +128,7 @@ byte-boundary t i known = IsCharBoundary-from_drop (encodes t) (Byte t i) (byte-
 -- ---- a text is without a backslash whose bytes are
 
 plain-append : (xs ys : Text) → has_backslash (xs ++ ys) ≡ false → has_backslash ys ≡ false
-plain-append [] ys h = h
-plain-append (x ∷ xs) ys h = plain-append xs ys (or_parts (x == 92) (has_backslash (xs ++ ys)) h).1
+plain-append xs ys h = (or_parts (has_backslash xs) (has_backslash ys) (sym (list_any-append (λ c. c == 92) xs ys) ∙ h)).1
 
 plain-encoded : (cs : Text) → has_backslash (encodes cs) ≡ false → has_backslash cs ≡ false
 plain-encoded [] h = refl
@@ -142,14 +143,4 @@ pub plain-chars : (bs : List ℕ) → IsUtf8 bs → has_backslash bs ≡ false �
 plain-chars bs utf8 h = plain-encoded (chars bs) (subst (λ t. has_backslash t ≡ false) (sym (encodes-chars bs utf8)) h)
 
 pub plain-part : (t : Text) (low high : ℕ) → has_backslash t ≡ false → has_backslash (part t low high) ≡ false
-plain-part t low high h = plain-drop low (take high t) (plain-take high t h)
-  where
-    plain-take : (n : ℕ) (t : Text) → has_backslash t ≡ false → has_backslash (take n t) ≡ false
-    plain-take zero t h = refl
-    plain-take (suc n) [] h = refl
-    plain-take (suc n) (c ∷ cs) h = let parts = or_parts (c == 92) (has_backslash cs) h in ap (λ b. b || has_backslash (take n cs)) parts.0 ∙ plain-take n cs parts.1
-
-    plain-drop : (n : ℕ) (t : Text) → has_backslash t ≡ false → has_backslash (drop n t) ≡ false
-    plain-drop zero t h = h
-    plain-drop (suc n) [] h = refl
-    plain-drop (suc n) (c ∷ cs) h = plain-drop n cs (or_parts (c == 92) (has_backslash cs) h).1
+plain-part t low high h = (none-parts (λ c. c == 92) low (take high t) (none-parts (λ c. c == 92) high t h).0).1

@@ -15,7 +15,7 @@ use Rattle.rst_text.specs.Block.{Line, Block, indentation, is_blank}
 use Rattle.rst_text.proofs.Cuts.{scalars-drop, scalars-take}
 use Rattle.rst_text.proofs.Least.{least_from, lower}
 use Rattle.rst_text.specs.Lines.{is_line_end}
-use Rattle.rst_text.proofs.LineTexts.{unended-take, unended-drop}
+use Rattle.rst_text.proofs.LineTexts.{none-parts}
 
 pub least_from-blank : (m : Option ℕ) (l : Line) (ls : Block) → is_blank l.text ≡ true → least_from m (l ∷ ls) ≡ least_from m ls
 unfolding least_from
@@ -99,7 +99,7 @@ scalars-cut left right ps h = cut-keeps (λ cs. all_scalars cs ≡ true) scalars
 -- ---- characters of a line
 
 pub unended-cut : (left : ℕ) (right : Option ℕ) (ps : List Place) → list_any is_line_end (characters ps) ≡ false → list_any is_line_end (characters (cut_places left right ps)) ≡ false
-unended-cut left right ps h = cut-keeps (λ cs. list_any is_line_end cs ≡ false) unended-take unended-drop left right ps h
+unended-cut left right ps h = cut-keeps (λ cs. list_any is_line_end cs ≡ false) (λ n cs h. (none-parts is_line_end n cs h).0) (λ n cs h. (none-parts is_line_end n cs h).1) left right ps h
 
 -- ---- trimming from the end
 

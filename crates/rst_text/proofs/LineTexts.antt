@@ -9,22 +9,14 @@ use Rattle.rst_text.specs.Block.{Block, front_text, is_blank, shorten}
 use Rattle.std.specs.List.{onto_first}
 use Rattle.rst_text.proofs.Tabs.{expanded_from, expanded_from-start}
 use Rattle.rst_text.specs.Lines.{is_line_end, pieces, begins_with, shown, expanded, tidied, numbered_from, lines_of, ends_white, is_line_text, are_lines}
-use Rattle.std.proofs.lemmas.Bool.{eqb-true}
-use Rattle.rst_text.proofs.TextLemmas.{and_true, not_true}
-
-or_false : (a b : Bool) → (a || b) ≡ false → (a ≡ false) × (b ≡ false)
-or_false true b h = cc
-or_false false b h = (refl, h)
-
-pub not_false : (a : Bool) → not a ≡ true → a ≡ false
-not_false true h = cc
-not_false false h = refl
+use Rattle.std.proofs.lemmas.Bool.{eqb-true, not-true, and_parts, and_from, or_parts, false_from_ne_true}
+use Rattle.std.proofs.lemmas.List.{take-append-drop}
 
 pub is_line_text-parts : (cs : List ℕ) → is_line_text cs ≡ true → (list_any is_line_end cs ≡ false) × (ends_white cs ≡ false)
 unfolding is_line_text
 is_line_text-parts cs h =
-    let both = and_true (not (list_any is_line_end cs)) (not (ends_white cs)) h in
-    (not_false (list_any is_line_end cs) both.0, not_false (ends_white cs) both.1)
+    let both = and_parts (not (list_any is_line_end cs)) (not (ends_white cs)) h in
+    (not-true (list_any is_line_end cs) both.0, not-true (ends_white cs) both.1)
 
 pub is_line_text-from_parts : (cs : List ℕ) → list_any is_line_end cs ≡ false → ends_white cs ≡ false → is_line_text cs ≡ true
 unfolding is_line_text
@@ -38,56 +30,45 @@ is_line_text-nil = refl
 
 ends_white-suffix : (xs ys : List ℕ) → ends_white (xs ++ ys) ≡ false → ends_white ys ≡ false
 ends_white-suffix [] ys h = h
-ends_white-suffix (x ∷ xs) ys h = ends_white-suffix xs ys (or_false (is_whitespace x && is_blank (xs ++ ys)) (ends_white (xs ++ ys)) h).1
+ends_white-suffix (x ∷ xs) ys h = ends_white-suffix xs ys (or_parts (is_whitespace x && is_blank (xs ++ ys)) (ends_white (xs ++ ys)) h).1
 
 -- what follows a front of a line's text can stand in a line
 pub is_line_text-suffix : (xs ys : List ℕ) → is_line_text (xs ++ ys) ≡ true → is_line_text ys ≡ true
 is_line_text-suffix xs ys h =
     let parts = is_line_text-parts (xs ++ ys) h in
-    is_line_text-from_parts ys (or_false (list_any is_line_end xs) (list_any is_line_end ys) (sym (list_any-append is_line_end xs ys) ∙ parts.0)).1 (ends_white-suffix xs ys parts.1)
+    is_line_text-from_parts ys (or_parts (list_any is_line_end xs) (list_any is_line_end ys) (sym (list_any-append is_line_end xs ys) ∙ parts.0)).1 (ends_white-suffix xs ys parts.1)
 
 pub is_line_text-drop : (n : ℕ) (cs : List ℕ) → is_line_text cs ≡ true → is_line_text (drop n cs) ≡ true
 is_line_text-drop zero cs h = h
 is_line_text-drop (suc n) [] h = h
 is_line_text-drop (suc n) (c ∷ cs) h = is_line_text-drop n cs (is_line_text-suffix (c ∷ []) cs h)
 
-both : (a b : Bool) → a ≡ true → b ≡ true → (a && b) ≡ true
-both a b p q = rw (p, q) refl
-
 are_lines-shortened : (r : ℕ) (B : Block) → are_lines B ≡ true → are_lines (map (shorten r) B) ≡ true
 are_lines-shortened r [] h = refl
 are_lines-shortened r (l ∷ ls) h =
-    let t = and_true (is_line_text l.text) (are_lines ls) h in
-    both (is_line_text (drop r l.text)) (are_lines (map (shorten r) ls)) (is_line_text-drop r l.text t.0) (are_lines-shortened r ls t.1)
+    let t = and_parts (is_line_text l.text) (are_lines ls) h in
+    and_from (is_line_text (drop r l.text)) (are_lines (map (shorten r) ls)) (is_line_text-drop r l.text t.0) (are_lines-shortened r ls t.1)
 
 pub are_lines-drop : (n : ℕ) (B : Block) → are_lines B ≡ true → are_lines (drop n B) ≡ true
 are_lines-drop zero B h = h
 are_lines-drop (suc n) [] h = refl
-are_lines-drop (suc n) (l ∷ ls) h = are_lines-drop n ls (and_true (is_line_text l.text) (are_lines ls) h).1
+are_lines-drop (suc n) (l ∷ ls) h = are_lines-drop n ls (and_parts (is_line_text l.text) (are_lines ls) h).1
 
 pub are_lines-take : (n : ℕ) (B : Block) → are_lines B ≡ true → are_lines (take n B) ≡ true
 are_lines-take zero B h = refl
 are_lines-take (suc n) [] h = refl
 are_lines-take (suc n) (l ∷ ls) h =
-    let t = and_true (is_line_text l.text) (are_lines ls) h in both (is_line_text l.text) (are_lines (take n ls)) t.0 (are_lines-take n ls t.1)
+    let t = and_parts (is_line_text l.text) (are_lines ls) h in and_from (is_line_text l.text) (are_lines (take n ls)) t.0 (are_lines-take n ls t.1)
 
--- ---- a part of a text without line ends
-
-pub unended-drop : (n : ℕ) (cs : List ℕ) → list_any is_line_end cs ≡ false → list_any is_line_end (drop n cs) ≡ false
-unended-drop zero cs h = h
-unended-drop (suc n) [] h = h
-unended-drop (suc n) (c ∷ cs) h = unended-drop n cs (or_false (is_line_end c) (list_any is_line_end cs) h).1
-
-pub unended-take : (n : ℕ) (cs : List ℕ) → list_any is_line_end cs ≡ false → list_any is_line_end (take n cs) ≡ false
-unended-take zero cs h = refl
-unended-take (suc n) [] h = refl
-unended-take (suc n) (c ∷ cs) h = let t = or_false (is_line_end c) (list_any is_line_end cs) h in rw (t.0, unended-take n cs t.1) refl
+-- where no character passes a test, none does of a front, and none of the rest
+pub none-parts : (p : ℕ → Bool) (n : ℕ) (cs : List ℕ) → list_any p cs ≡ false → (list_any p (take n cs) ≡ false) × (list_any p (drop n cs) ≡ false)
+none-parts p n cs h = or_parts (list_any p (take n cs)) (list_any p (drop n cs)) (sym (list_any-append p (take n cs) (drop n cs)) ∙ ap (list_any p) (take-append-drop n cs) ∙ h)
 
 -- ---- a text without white characters at its end
 
 is_blank-length : (cs : List ℕ) → is_blank cs ≡ (length cs == 0)
 is_blank-length [] = refl
-is_blank-length (c ∷ cs) = sym (not_true (length (c ∷ cs) == 0) (λ t. absurd (omega (arith, eqb-true (length (c ∷ cs)) 0 t))))
+is_blank-length (c ∷ cs) = sym (false_from_ne_true (length (c ∷ cs) == 0) (λ t. absurd (omega (arith, eqb-true (length (c ∷ cs)) 0 t))))
 
 pub ends_white-trimmed : (cs : List ℕ) → ends_white (drop_trailing_whitespace cs) ≡ false
 ends_white-trimmed [] = refl
@@ -103,7 +84,7 @@ ends_white-trimmed (c ∷ cs) = kept (is_whitespace c && length (drop_trailing_w
 pub unended-trimmed : (cs : List ℕ) → list_any is_line_end cs ≡ false → list_any is_line_end (drop_trailing_whitespace cs) ≡ false
 unended-trimmed [] h = refl
 unended-trimmed (c ∷ cs) h =
-    let t = or_false (is_line_end c) (list_any is_line_end cs) h in
+    let t = or_parts (is_line_end c) (list_any is_line_end cs) h in
     kept (is_whitespace c && length (drop_trailing_whitespace cs) == 0) t.0 (unended-trimmed cs t.1)
   where
     kept : (b : Bool) → is_line_end c ≡ false → list_any is_line_end (drop_trailing_whitespace cs) ≡ false → list_any is_line_end (cond b [] (c ∷ drop_trailing_whitespace cs)) ≡ false
@@ -130,7 +111,7 @@ unended-spaces (suc n) cs h = unended-spaces n cs h
 unended-expanded : (tab column : ℕ) (cs : List ℕ) → list_any is_line_end cs ≡ false → list_any is_line_end (expanded_from tab column cs) ≡ false
 unended-expanded tab column [] h = refl
 unended-expanded tab column (c ∷ cs) h =
-    let t = or_false (is_line_end c) (list_any is_line_end cs) h in
+    let t = or_parts (is_line_end c) (list_any is_line_end cs) h in
     let wide = tab - column % tab in
     by (c == 9) (replicate wide 32 ++ expanded_from tab (column + wide) cs) (expanded_from tab (column + 1) cs)
     (unended-spaces wide (expanded_from tab (column + wide) cs) (unended-expanded tab (column + wide) cs t.1)) (unended-shown c t.0) (unended-expanded tab (column + 1) cs t.1)
@@ -163,7 +144,7 @@ is_line_text-tidied tab piece wide h = is_line_text-trimmed (expanded tab piece)
 
 are_lines-numbered : (tab n : ℕ) (ps : List (List ℕ)) → 0 < tab → AreUnended ps → are_lines (numbered_from n (map (tidied tab) ps)) ≡ true
 are_lines-numbered tab n [] wide h = refl
-are_lines-numbered tab n (p ∷ ps) wide h = both (is_line_text (tidied tab p)) (are_lines (numbered_from (n + 1) (map (tidied tab) ps))) (is_line_text-tidied tab p wide h.0) (are_lines-numbered tab (n + 1) ps wide h.1)
+are_lines-numbered tab n (p ∷ ps) wide h = and_from (is_line_text (tidied tab p)) (are_lines (numbered_from (n + 1) (map (tidied tab) ps))) (is_line_text-tidied tab p wide h.0) (are_lines-numbered tab (n + 1) ps wide h.1)
 
 pub are_lines-lines_of : (tab : ℕ) (text : List ℕ) → 0 < tab → are_lines (lines_of tab text) ≡ true
 are_lines-lines_of tab text wide = are_lines-numbered tab 1 (pieces text) wide (AreUnended-pieces text)
@@ -174,4 +155,4 @@ is_line_text-front i B h = front (drop i B) (are_lines-drop i B h)
   where
     front : (X : Block) → are_lines X ≡ true → is_line_text (front_text X) ≡ true
     front [] h = is_line_text-nil
-    front (l ∷ ls) h = (and_true (is_line_text l.text) (are_lines ls) h).0
+    front (l ∷ ls) h = (and_parts (is_line_text l.text) (are_lines ls) h).0

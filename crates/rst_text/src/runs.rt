@@ -35,6 +35,15 @@ pub fn run_end<T: ByteTest>(bytes: &[u8], place: usize) -> usize
         }
         at += LANES;
     }
+    if LANES <= bytes.len() {
+        // The last bytes once more, without those before.
+        let start = bytes.len() - LANES;
+        let failing = T::failing(u8x16::from_slice(&bytes[start..])) >> (at - start);
+        if failing != 0 {
+            return at + failing.trailing_zeros() as usize;
+        }
+        return bytes.len();
+    }
     while at < bytes.len() && T::passes(bytes[at]) {
         at += 1;
     }
