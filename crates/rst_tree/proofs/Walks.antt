@@ -7,7 +7,7 @@ use Rattle.rst_tree.specs.declared.attrs.Attr.{Attr}
 use Rattle.rst_tree.specs.declared.tag.Tag.{Tag}
 use Rattle.rst_tree.specs.declared.node.Node.{Node}
 use Rattle.rst_tree.specs.declared.node.Node.TheVariants.{Element, Text}
-use Rattle.rst_tree.specs.Forest.{Forest, element, height}
+use Rattle.rst_tree.specs.Forest.{Forest, height}
 use Rattle.rst_tree.specs.Nodes.{forest_of, nodes_of, join_node, node_height}
 use Rattle.rst_tree.proofs.PrintedParts.{node_height-le}
 use Rattle.rst_tree.specs.Walk.{Item, item, items, node_items, after, walked, walked_node}

@@ -9,14 +9,18 @@ use Rattle.rst_tree.specs.declared.page.Page.{Page}
 abbrev pub counted_on : ℕ → ℕ → ℕ
 counted_on done n = min (done + n) (2 ^ 64 - 1)
 
+-- what a page holds: the first of its bytes
+abbrev pub held : {N : ℕ} → Page N → List ℕ
+held page = take page.len page.bytes
+
 -- n bytes came to the page: it holds the last of them, and counts those before
 abbrev pub IsCounted : {N : ℕ} → Page N → ℕ → Type 0
-IsCounted page n = (length page.held.items ≤ n) × (page.taken ≡ counted_on 0 (n - length page.held.items))
+IsCounted page n = (length (held page) ≤ n) × (page.taken ≡ counted_on 0 (n - length (held page)))
 
 -- what a writer holds, if that is known, and behind it what a page holds for it
 abbrev pub with_page : {N : ℕ} → Option (List ℕ) → Page N → Option (List ℕ)
 with_page None page = None
-with_page (Some bytes) page = Some (bytes ++ page.held.items)
+with_page (Some bytes) page = Some (bytes ++ held page)
 
 -- The writer held some bytes and had failed or not, behind it was a page. Then came the text to both: all of it, or the part
 -- before a failure, and nothing at a writer that had failed.
@@ -34,7 +38,7 @@ Sends contents text old page new page' = Gets text (contents (inner_of old)) (ha
 
 -- nothing came: what the page held was written, or the front of it up to a failed write
 abbrev pub Turns : {W : Type 0} {N : ℕ} → (W → Option (List ℕ)) → Counted W → Page N → Counted W → Page N → Type 0
-Turns contents old page new page' = Sends contents [] old page new page' × (has_failed new ≡ false → page'.held.items ≡ [])
+Turns contents old page new page' = Sends contents [] old page new page' × (has_failed new ≡ false → held page' ≡ [])
 
 -- the writer took so many bytes: all of them, unless a write failed
 abbrev pub Takes : Stream → List ℕ → ℕ → Type 0

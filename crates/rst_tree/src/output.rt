@@ -17,7 +17,7 @@ use crate::entry::{Entry, Said};
 use crate::key::Key;
 use crate::node::Node;
 use crate::note::{Level, Note};
-use crate::page::{Page, put, put_byte};
+use crate::page::Page;
 use crate::tag::Tag;
 use crate::text::Text;
 use itoa::Buffer;
@@ -31,7 +31,7 @@ fn put_number<W: Write, const N: usize>(out: &mut Counted<W>, page: &mut Page<N>
 {
     let mut buffer = Buffer::new();
     let digits = buffer.format(number);
-    put(out, page, digits.as_bytes());
+    page.put(out, digits.as_bytes());
 }
 
 /// Writes a byte of a list's member: a space or a backslash stands behind a backslash.
@@ -39,9 +39,9 @@ fn put_escaped_byte<W: Write, const N: usize>(out: &mut Counted<W>, page: &mut P
     ensures { Sends W.contents (escaped_byte byte) out.old page.old out.new page.new }
 {
     match byte {
-        b'\\' => put(out, page, b"\\\\"),
-        b' ' => put(out, page, b"\\ "),
-        _ => put_byte(out, page, byte),
+        b'\\' => page.put(out, b"\\\\"),
+        b' ' => page.put(out, b"\\ "),
+        _ => page.put_byte(out, byte),
     }
 }
 
@@ -70,7 +70,7 @@ fn put_escaped<W: Write, const N: usize>(out: &mut Counted<W>, page: &mut Page<N
     ensures { Sends W.contents (escaped text.now) out.old page.old out.new page.new }
 {
     if !has_escaped(text) {
-        put(out, page, text);
+        page.put(out, text);
         return;
     }
     for byte in text {
@@ -82,7 +82,7 @@ fn put_escaped<W: Write, const N: usize>(out: &mut Counted<W>, page: &mut Page<N
 fn put_next_text<W: Write, const N: usize>(out: &mut Counted<W>, page: &mut Page<N>, text: &Text)
     ensures { Sends W.contents (32 ∷ escaped text.now) out.old page.old out.new page.new }
 {
-    put_byte(out, page, b' ');
+    page.put_byte(out, b' ');
     put_escaped(out, page, text.as_bytes());
 }
 
@@ -103,7 +103,7 @@ fn put_value<W: Write, const N: usize>(out: &mut Counted<W>, page: &mut Page<N>,
     ensures { Sends W.contents (value_text (said value.entry)) out.old page.old out.new page.new }
 {
     match value {
-        Said::Text(text) => put(out, page, text.as_bytes()),
+        Said::Text(text) => page.put(out, text.as_bytes()),
         Said::Number(number) => put_number(out, page, number),
         Said::List(texts) => put_texts(out, page, texts),
     }
@@ -116,9 +116,9 @@ fn put_attr<W: Write, const N: usize>(out: &mut Counted<W>, page: &mut Page<N>, 
     if attr.is_left_out() {
         return;
     }
-    put(out, page, attr.key().opening().as_bytes());
+    page.put(out, attr.key().opening().as_bytes());
     put_value(out, page, attr.said());
-    put_byte(out, page, b'"');
+    page.put_byte(out, b'"');
 }
 
 /// Writes an element's tag with the attributes that it is printed with, and the line's end.
@@ -132,10 +132,10 @@ fn put_tag_line<W: Write, const N: usize>(
 )
     ensures { Sends W.contents (start_tag tag (printed_attrs (given source.entry) tag attrs.now line) ++ 10 ∷ []) out.old page.old out.new page.new }
 {
-    put_byte(out, page, b'<');
-    put(out, page, tag.name().as_bytes());
+    page.put_byte(out, b'<');
+    page.put(out, tag.name().as_bytes());
     put_printed_attrs(out, page, tag, attrs, line, source);
-    put(out, page, b">\n");
+    page.put(out, b">\n");
 }
 
 /// Writes the attributes that an element is printed with: a document has its source too, a message its line, its source and its type
@@ -241,9 +241,9 @@ fn put_text_attr<W: Write, const N: usize>(
     requires { is_hidden key ≡ false }
     ensures { Sends W.contents (shown_attr (attr key (Words text.now))) out.old page.old out.new page.new }
 {
-    put(out, page, key.opening().as_bytes());
-    put(out, page, text.as_bytes());
-    put_byte(out, page, b'"');
+    page.put(out, key.opening().as_bytes());
+    page.put(out, text.as_bytes());
+    page.put_byte(out, b'"');
 }
 
 /// Writes an attribute that says a number and doesn't serve the transforms alone.
@@ -256,9 +256,9 @@ fn put_number_attr<W: Write, const N: usize>(
     requires { is_hidden key ≡ false }
     ensures { Sends W.contents (shown_attr (attr key (Number number))) out.old page.old out.new page.new }
 {
-    put(out, page, key.opening().as_bytes());
+    page.put(out, key.opening().as_bytes());
     put_number(out, page, number);
-    put_byte(out, page, b'"');
+    page.put_byte(out, b'"');
 }
 
 /// Writes the attributes.
@@ -282,10 +282,10 @@ fn put_indent<W: Write, const N: usize>(out: &mut Counted<W>, page: &mut Page<N>
 {
     let mut left = level;
     while left > LEVELS {
-        put(out, page, &SPACES);
+        page.put(out, &SPACES);
         left -= LEVELS;
     }
-    put(out, page, &SPACES[..4 * left]);
+    page.put(out, &SPACES[..4 * left]);
 }
 
 /// Writes a line behind its indentation, and its end.
@@ -298,8 +298,8 @@ fn put_line<W: Write, const N: usize>(
     ensures { Sends W.contents (printed_line (level, line.now)) out.old page.old out.new page.new }
 {
     put_indent(out, page, level);
-    put(out, page, line);
-    put_byte(out, page, b'\n');
+    page.put(out, line);
+    page.put_byte(out, b'\n');
 }
 
 /// How many bytes come before the first LF.
@@ -376,14 +376,14 @@ fn put_head<W: Write, const N: usize>(
 )
     ensures { Sends W.contents (message_head source.now note.now) out.old page.old out.new page.new }
 {
-    put(out, page, source.as_bytes());
-    put_byte(out, page, b':');
+    page.put(out, source.as_bytes());
+    page.put_byte(out, b':');
     put_number(out, page, note.line as u64);
-    put(out, page, b": (");
-    put(out, page, note.level.name().as_bytes());
-    put_byte(out, page, b'/');
+    page.put(out, b": (");
+    page.put(out, note.level.name().as_bytes());
+    page.put_byte(out, b'/');
     put_number(out, page, u64::from(note.level.number()));
-    put(out, page, b") ");
+    page.put(out, b") ");
 }
 
 /// Writes the source text that a message shows, behind a blank line.
@@ -395,9 +395,9 @@ fn put_block<W: Write, const N: usize>(
     ensures { Sends W.contents (block_text block.now) out.old page.old out.new page.new }
 {
     if let Some(text) = block {
-        put_byte(out, page, b'\n');
-        put(out, page, text.as_bytes());
-        put_byte(out, page, b'\n');
+        page.put_byte(out, b'\n');
+        page.put(out, text.as_bytes());
+        page.put_byte(out, b'\n');
     }
 }
 
@@ -411,7 +411,7 @@ pub fn put_message<W: Write, const N: usize>(
     ensures { Sends W.contents (message_of source.now note.now) out.old page.old out.new page.new }
 {
     put_head(out, page, source, note);
-    put(out, page, note.text.as_bytes());
-    put_byte(out, page, b'\n');
+    page.put(out, note.text.as_bytes());
+    page.put_byte(out, b'\n');
     put_block(out, page, &note.block);
 }

@@ -10,7 +10,7 @@ use crate::fault::PrintFault;
 use crate::node::Node;
 use crate::note::Note;
 use crate::output::{put_message, put_node};
-use crate::page::{Page, turn};
+use crate::page::Page;
 use crate::tree::Tree;
 use rst_text::Counted;
 use std::io::Write;
@@ -58,7 +58,7 @@ fn print_given<W: Write>(
 {
     let mut page: Page<TREE_PAGE> = Page::new();
     put_node(out, &mut page, 0, node, source);
-    turn(out, &mut page);
+    page.turn(out);
     page.end(out.failed())
 }
 
@@ -74,6 +74,6 @@ pub fn message_line<W: Write>(
 {
     let mut page: Page<MESSAGE_PAGE> = Page::new();
     put_message(out, &mut page, source, note);
-    turn(out, &mut page);
+    page.turn(out);
     page.end(out.failed())
 }
