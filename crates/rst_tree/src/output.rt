@@ -41,7 +41,7 @@ fn put_escaped_byte<W: Write, const N: usize>(out: &mut Counted<W>, page: &mut P
     match byte {
         b'\\' => page.put(out, b"\\\\"),
         b' ' => page.put(out, b"\\ "),
-        _ => page.put_byte(out, byte),
+        _ => page.put(out, &[byte]),
     }
 }
 
@@ -82,7 +82,7 @@ fn put_escaped<W: Write, const N: usize>(out: &mut Counted<W>, page: &mut Page<N
 fn put_next_text<W: Write, const N: usize>(out: &mut Counted<W>, page: &mut Page<N>, text: &Text)
     ensures { Sends W.contents (32 ∷ escaped text.now) out.old page.old out.new page.new }
 {
-    page.put_byte(out, b' ');
+    page.put(out, b" ");
     put_escaped(out, page, text.as_bytes());
 }
 
@@ -118,7 +118,7 @@ fn put_attr<W: Write, const N: usize>(out: &mut Counted<W>, page: &mut Page<N>, 
     }
     page.put(out, attr.key().opening().as_bytes());
     put_value(out, page, attr.said());
-    page.put_byte(out, b'"');
+    page.put(out, b"\"");
 }
 
 /// Writes an element's tag with the attributes that it is printed with, and the line's end.
@@ -132,7 +132,7 @@ fn put_tag_line<W: Write, const N: usize>(
 )
     ensures { Sends W.contents (start_tag tag (printed_attrs (given source.entry) tag attrs.now line) ++ 10 ∷ []) out.old page.old out.new page.new }
 {
-    page.put_byte(out, b'<');
+    page.put(out, b"<");
     page.put(out, tag.name().as_bytes());
     put_printed_attrs(out, page, tag, attrs, line, source);
     page.put(out, b">\n");
@@ -243,7 +243,7 @@ fn put_text_attr<W: Write, const N: usize>(
 {
     page.put(out, key.opening().as_bytes());
     page.put(out, text.as_bytes());
-    page.put_byte(out, b'"');
+    page.put(out, b"\"");
 }
 
 /// Writes an attribute that says a number and doesn't serve the transforms alone.
@@ -258,7 +258,7 @@ fn put_number_attr<W: Write, const N: usize>(
 {
     page.put(out, key.opening().as_bytes());
     put_number(out, page, number);
-    page.put_byte(out, b'"');
+    page.put(out, b"\"");
 }
 
 /// Writes the attributes.
@@ -299,7 +299,7 @@ fn put_line<W: Write, const N: usize>(
 {
     put_indent(out, page, level);
     page.put(out, line);
-    page.put_byte(out, b'\n');
+    page.put(out, b"\n");
 }
 
 /// How many bytes come before the first LF.
@@ -377,11 +377,11 @@ fn put_head<W: Write, const N: usize>(
     ensures { Sends W.contents (message_head source.now note.now) out.old page.old out.new page.new }
 {
     page.put(out, source.as_bytes());
-    page.put_byte(out, b':');
+    page.put(out, b":");
     put_number(out, page, note.line as u64);
     page.put(out, b": (");
     page.put(out, note.level.name().as_bytes());
-    page.put_byte(out, b'/');
+    page.put(out, b"/");
     put_number(out, page, u64::from(note.level.number()));
     page.put(out, b") ");
 }
@@ -395,9 +395,9 @@ fn put_block<W: Write, const N: usize>(
     ensures { Sends W.contents (block_text block.now) out.old page.old out.new page.new }
 {
     if let Some(text) = block {
-        page.put_byte(out, b'\n');
+        page.put(out, b"\n");
         page.put(out, text.as_bytes());
-        page.put_byte(out, b'\n');
+        page.put(out, b"\n");
     }
 }
 
@@ -412,6 +412,6 @@ pub fn put_message<W: Write, const N: usize>(
 {
     put_head(out, page, source, note);
     page.put(out, note.text.as_bytes());
-    page.put_byte(out, b'\n');
+    page.put(out, b"\n");
     put_block(out, page, &note.block);
 }

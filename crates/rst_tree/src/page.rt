@@ -1,5 +1,5 @@
 //! What is written piece by piece to a writer that may fail, gathered in a page: after a failure nothing more is written.
-ghost use Rattle.std.specs.Prelude.{◌≡◌, ◌∷◌, ◌++◌, ◌-◌, ◌≤◌, [], length};
+ghost use Rattle.std.specs.Prelude.{◌≡◌, ◌++◌, ◌+◌, ◌≤◌, [], length};
 ghost use Rattle.rst_text.specs.Counted.{between};
 
 use crate::fault::PrintFault;
@@ -41,25 +41,17 @@ impl<const N: usize> Page<N> {
         if out.failed() {
             return;
         }
-        if bytes.len() > N - self.len {
+        if self.len + bytes.len() > N {
             self.put_over(out, bytes);
         } else {
             self.gather(bytes);
         }
     }
 
-    /// Gathers one byte, unless a write has failed.
-    #[inline(always)]
-    pub fn put_byte<W: Write>(&mut self, out: &mut Counted<W>, byte: u8)
-        ensures { Sends W.contents (byte ∷ []) out.old self.old out.new self.new }
-    {
-        self.put(out, &[byte]);
-    }
-
     /// Gathers the bytes, for which there is room behind what the page holds.
     #[inline(always)]
     fn gather(&mut self, bytes: &[u8])
-        requires { length bytes.now ≤ N - self.old.len }
+        requires { self.old.len + length bytes.now ≤ N }
         ensures held { held self.new ≡ held self.old ++ bytes.now }
         ensures taken { self.new.taken ≡ self.old.taken }
     {
@@ -79,7 +71,7 @@ impl<const N: usize> Page<N> {
         if out.failed() {
             return;
         }
-        if bytes.len() > N - self.len {
+        if self.len + bytes.len() > N {
             let count = Self::write(out, bytes);
             self.taken = self.taken.saturating_add(count);
         } else {

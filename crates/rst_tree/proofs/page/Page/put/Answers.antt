@@ -6,6 +6,6 @@ use Rattle.rst_tree.proofs.page.Page.put.Goals as goal
 pub returns-then-failed : goal.returns-then-failed
 returns-then-failed g c = Gets-failed _ _ _ _ (sym c.failed.ensures ∙ c.if-failed.true)
 
-pub returns-else-bytes-self : goal.returns-else-bytes-self
-returns-else-bytes-self g c =
+pub returns-else-self-bytes : goal.returns-else-self-bytes
+returns-else-self-bytes g c =
     Gets-gathered c.args.bytes.now _ _ _ _ (sym c.failed.ensures ∙ c.if-failed.false) c.gather.ensures.held c.gather.ensures.taken
