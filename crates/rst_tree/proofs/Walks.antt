@@ -81,9 +81,6 @@ module _ {S : Type 0} (next : S → Item → S) (out : S → Item → Item) wher
       ∙ ap forest_of (sym (append-nil (nodes_of now)) ∙ (rw (take_all i (nodes_of now) all, drop_all i (nodes_of now) all) at left.nodes))
       ∙ forest_of-nodes_of (walked next out start children)
 
-  pub Left-state : (children : Forest) (start : S) (now : Forest) (state : S) (i : ℕ) → Left children start now state i → length (nodes_of now) ≤ i → state ≡ after next out start (items children)
-  Left-state children start now state i left all = rw (drop_all i (nodes_of now) all) at left.done
-
   -- the node that is met next is one of the element's
   pub Left-child : (children : Forest) (start : S) (now : Forest) (state : S) (i : ℕ) (child : Node) → Left children start now state i → i < length (nodes_of now) → child ≡ get_or (nodes_of now) i child
       → node_height child ≤ height children

@@ -52,14 +52,6 @@ impl Attrs {
         }
     }
 
-    /// No attribute, in a list with room for so many.
-    pub fn with_room(alloc: Global, room: usize) -> Result<Attrs, TreeFault>
-        ensures { Gives (λ attrs. attrs ≡ []) result }
-    {
-        let list = Vec::with_capacity(alloc, room)?;
-        Ok(Attrs { list })
-    }
-
     /// One attribute, in a list with room for it alone.
     pub fn lone(alloc: Global, key: Key, value: Value) -> Result<Attrs, TreeFault>
         ensures { Gives (λ attrs. attrs ≡ attr key value ∷ []) result }
