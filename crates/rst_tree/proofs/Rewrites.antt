@@ -1,5 +1,5 @@
 -- A rewriting, node by node.
-use Rattle.std.proofs.Common.{◌≡◌, ℕ, ◌+◌, ◌<◌, ◌≤◌, List, [], ◌∷◌, ◌++◌, Bool, true, false, length, take, drop, get_or, set, length-set, append_assoc, append-nil, arith, refl, sym, ◌∙◌, ap}
+use Rattle.std.proofs.Common.{◌≡◌, ℕ, ◌+◌, ◌<◌, ◌≤◌, List, [], ◌∷◌, ◌++◌, Bool, true, false, length, take, drop, get_or, set, append_assoc, append-nil, arith, refl, sym, ◌∙◌, ap}
 use Rattle.std.proofs.lemmas.List.{take_more_set, drop-set-lt, drop_all, take_all}
 use Rattle.rst_tree.specs.declared.attrs.Attr.{Attr}
 use Rattle.rst_tree.specs.declared.tag.Tag.{Tag}
@@ -8,16 +8,12 @@ use Rattle.rst_tree.specs.declared.node.Node.TheVariants.{Element, Text}
 use Rattle.rst_tree.specs.declared.rewriting.Rewrite.{Rewrite}
 use Rattle.rst_tree.specs.declared.rewriting.Rewrite.TheVariants.{Keep, Replace}
 use Rattle.rst_tree.specs.Forest.{Forest, bare, element, height, words}
-use Rattle.rst_tree.specs.Nodes.{are_plain, forest_of, join_node, nodes_of, node_height}
+use Rattle.rst_tree.specs.Nodes.{are_plain, forest_of, nodes_of, node_height}
 use Rattle.rst_tree.specs.Rewritten.{go_on, rewritten, Turned}
 use Rattle.rst_tree.proofs.Changes.{forest_of-nodes_of, nodes_of-forest_of}
 use Rattle.rst_tree.proofs.EachNode.{drop_item}
-use Rattle.rst_tree.proofs.Walks.{drop_next, same_item}
-use Rattle.rst_tree.proofs.PrintedParts.{node_height-le}
-
-nodes_of-join : (n : Node) (f : Forest) → nodes_of (join_node n f) ≡ n ∷ nodes_of f
-nodes_of-join (Element t a c l) f = refl
-nodes_of-join (Text t) f = refl
+use Rattle.rst_tree.proofs.Walks.{nodes_of-join}
+pub use Rattle.rst_tree.proofs.Walks.{Same, Same-init, Same-more, Same-child}
 
 module _ {S : Type 0} (entered : S → Node → S) (becomes : S → Node → Rewrite) where
   -- nodes rewritten
@@ -65,31 +61,6 @@ module _ {S : Type 0} (entered : S → Node → S) (becomes : S → Node → Rew
 
   pub all_state : (s u : S) (f : Forest) (ns : List Node) → f ≡ forest_of ns → u ≡ (steps s ns).1 → u ≡ (redone s f).1
   all_state s u f ns is all = rw is (all ∙ sym (rewritten-state s ns))
-
--- nodes that are changed one after the other: those from a place on are as they were
-pub record Same (old now : Forest) (i : ℕ) : Type 0 where
-  pub same_len : length (nodes_of now) ≡ length (nodes_of old)
-  pub rest : drop i (nodes_of now) ≡ drop i (nodes_of old)
-
-pub Same-init : (f : Forest) → Same f f 0
-Same-init f = record { same_len = refl; rest = refl }
-
-pub Same-more : (old now : Forest) (i : ℕ) (new : Node) → Same old now i → i < length (nodes_of now) → Same old (forest_of (set (nodes_of now) i new)) (i + 1)
-Same-more old now i new same fits =
-    let ns = nodes_of now in
-    let set_is : nodes_of (forest_of (set ns i new)) ≡ set ns i new = nodes_of-forest_of (set ns i new) in
-    let kept : drop (i + 1) (set ns i new) ≡ drop (i + 1) ns = drop-set-lt (i + 1) ns i new (omega arith) in
-    let others : drop (i + 1) ns ≡ drop (i + 1) (nodes_of old) = drop_next i ns ∙ ap (drop 1) same.rest ∙ sym (drop_next i (nodes_of old)) in
-    record { same_len = rw (set_is, length-set ns i new) same.same_len; rest = rw (set_is, kept) others }
-
--- the node that is met next is one of the old ones
-pub Same-child : (old now : Forest) (i : ℕ) (child : Node) → Same old now i → i < length (nodes_of now) → child ≡ get_or (nodes_of now) i child → node_height child ≤ height old
-Same-child old now i child same fits is =
-    let k : i < length (nodes_of old) = let e = same.same_len in omega arith in
-    let at : child ≡ get_or (nodes_of old) i child = is ∙ same_item i (nodes_of now) (nodes_of old) child same.rest in
-    let e : node_height child ≡ node_height (get_or (nodes_of old) i child) = ap node_height at in
-    let f : height (forest_of (nodes_of old)) ≡ height old = ap height (forest_of-nodes_of old) in
-    omega (arith, e, f, node_height-le (nodes_of old) i child k)
 
 module _ {S : Type 0} (entered : S → Node → S) (becomes : S → Node → Rewrite) where
   -- what becomes of nodes, each of which stays or gives way to one
