@@ -3,7 +3,7 @@ use Rattle.std.proofs.Common.{◌≡◌, ⊎_elim, ◌⊎◌, inl, inr, ℕ, zer
 use Rattle.std.specs.Prelude.{nat_lt}
 use Rattle.std.specs.Char.{is_ascii_alphanumeric}
 use Rattle.std.proofs.lemmas.List.{length-map}
-use Rattle.std.proofs.lemmas.Bool.{lt-ltb, eqb-true, ne_eqb, and_parts, or_parts, cases_lt}
+use Rattle.std.proofs.lemmas.Bool.{lt-ltb, eqb-true, ne_eqb, and_parts, and_left, and_right, or_parts, cases_lt}
 use Rattle.std.proofs.lemmas.Bool.Decides.{nat_tests}
 use Rattle.std.proofs.Math.Bool.{and-true, and-false}
 use Rattle.rst_text.specs.Runs.{PassBetween}
@@ -12,12 +12,10 @@ use Rattle.rst_inline_scan.specs.Characters.{Text, has, is_free_behind}
 use Rattle.rst_inline_scan.specs.Escapes.{is_escaped}
 use Rattle.rst_inline_scan.specs.Names.{is_joint, is_name_at, ends_name}
 use Rattle.rst_inline_scan.specs.Tails.{name_tail}
-use Rattle.rst_inline_scan.specs.Marked.{has_start}
 use Rattle.rst_inline_scan.specs.Calm.{AreBytesOf, byte_of, is_calm, is_calm_at, AreCalm, is_of_name, IsStep}
 use Rattle.rst_inline_scan.specs.Pieces.{piece_at, HasNoStart}
-use Rattle.rst_inline_scan.specs.declared.piece.Markup.TheVariants.{Target}
 use Rattle.rst_inline_scan.proofs.EscapeLemmas.{other-bare, is_escaped-bare}
-use Rattle.rst_inline_scan.proofs.WordLemmas.{letter-low, differs, absent, letter-behind, no-target, no-label, no-letter-at, no-underscore, no-piece-barred}
+use Rattle.rst_inline_scan.proofs.WordLemmas.{letter-low, differs, absent, letter-behind, unmarked, no-label, no-letter-at, no-underscore, no-piece-barred}
 
 -- from one place up to another all are calm, the last is none of a name, and the other isn't the text's end
 pub record IsCalm (t : Text) (from to : ℕ) : Type 0 where
@@ -47,14 +45,11 @@ loose t i h = ⊎_elim
     (λ inner. ap is_loose (eqb-true (get_or t i 0) 95 inner.0))
     (either t i h)
 
-calm-target : (t : Text) (i : ℕ) → is_calm_at t i ≡ true → has_start Target t i ≡ false
+calm-target : (t : Text) (i : ℕ) → is_calm_at t i ≡ true → (has t i 95 && has t (i + 1) 96) ≡ false
 calm-target t i h = ⊎_elim
-    (λ calm. no-target t i (absent is_calm t i 95 calm refl))
-    (λ inner. behind (absent is_ascii_alphanumeric t (i + 1) 96 inner.1 refl))
+    (λ calm. and_left _ _ (absent is_calm t i 95 calm refl))
+    (λ inner. and_right _ _ (absent is_ascii_alphanumeric t (i + 1) 96 inner.1 refl))
     (either t i h)
-  where
-    behind : has t (i + 1) 96 ≡ false → has_start Target t i ≡ false
-    behind none = rw none (grind (arith, nat_tests))
 
 -- behind an underscore no name ends where a letter or a digit stands
 letter-unended : (t : Text) (k : ℕ) → k + 1 < length t → is_ascii_alphanumeric (get_or t (k + 1) 0) ≡ true → ends_name t k ≡ false
@@ -114,13 +109,7 @@ none-calm t begin from to i run above less =
       name = λ inside. no-name-at t (to - 1) edge;
       letter = λ inside. edge.letter;
     })
-    (record {
-      star = absent is_loose t i 42 here refl;
-      grave = absent is_loose t i 96 here refl;
-      target = calm-target t i (calm i (omega arith) less);
-      bar = absent is_loose t i 124 here refl;
-      colon = absent is_loose t i 58 here refl;
-    })
+    (unmarked t i (absent is_loose t i 42 here refl) (absent is_loose t i 96 here refl) (calm-target t i (calm i (omega arith) less)) (absent is_loose t i 124 here refl) (absent is_loose t i 58 here refl))
     (no-label t i (absent is_loose t i 91 here refl))
 
 -- so they are stepped over

@@ -4,7 +4,8 @@ use Rattle.std.specs.Prelude.{nat_lt}
 use Rattle.std.specs.Str.{chars, IsUtf8}
 use Rattle.std.proofs.Math.Utf8.{encode, encodes}
 use Rattle.std.proofs.lemmas.Str.{encode_ascii, encodes-chars}
-use Rattle.std.proofs.lemmas.Bool.{ltb-true, eqb-true, and_parts, cases_lt}
+use Rattle.std.proofs.lemmas.Bool.{ltb-true, eqb-true, and_parts, and_left, cases_lt}
+use Rattle.rst_inline_scan.specs.Marked.{markup_of}
 use Rattle.std.proofs.lemmas.Bool.Decides.{nat_tests}
 use Rattle.std.proofs.lemmas.List.Elements.{All-from_get_or}
 use Rattle.std.proofs.lemmas.List.Folds.{list_all_at, list_all-append}
@@ -17,7 +18,7 @@ use Rattle.rst_inline_scan.specs.Pieces.{piece_at, plain_from, IsPieces, nothing
 use Rattle.rst_text.specs.Runs.{IsRun}
 use Rattle.rst_inline_scan.specs.Quiet.{is_quiet, quiet}
 use Rattle.rst_inline_scan.specs.declared.piece.Piece.{Piece}
-use Rattle.rst_inline_scan.proofs.WordLemmas.{IsBarred, Lacks, differs, no-target, no-underscore, no-piece-barred}
+use Rattle.rst_inline_scan.proofs.WordLemmas.{IsBarred, unmarked, differs, no-underscore, no-piece-barred}
 
 abbrev IsQuiet : Text → Type 0
 IsQuiet t = quiet t ≡ true
@@ -34,8 +35,8 @@ absent t c h loud i = ⊎_elim
     (λ none. none)
     (cases_bool (has t i c))
 
-lacks : (t : Text) (i : ℕ) → IsQuiet t → Lacks t i
-lacks t i h = record { star = absent t 42 h refl i; grave = absent t 96 h refl i; target = no-target t i (absent t 95 h refl i); bar = absent t 124 h refl i; colon = absent t 58 h refl i }
+none-marked : (t : Text) (i : ℕ) → IsQuiet t → markup_of t i ≡ None
+none-marked t i h = unmarked t i (absent t 42 h refl i) (absent t 96 h refl i) (and_left _ _ (absent t 95 h refl i)) (absent t 124 h refl i) (absent t 58 h refl i)
 
 -- ---- references need an underscore, and URIs a colon
 
@@ -66,7 +67,7 @@ no-label t i h = ap (λ r. cond (has t i 91) r None) (no-label_piece t i (label_
 -- ---- one plain piece
 
 no-piece : (t : Text) (from i : ℕ) → IsQuiet t → i < length t → piece_at t from i ≡ None
-no-piece t from i h less = no-piece-barred t from i (length t) (bars t i h less) (lacks t i h) (no-label t i h)
+no-piece t from i h less = no-piece-barred t from i (length t) (bars t i h less) (none-marked t i h) (no-label t i h)
 
 -- the whole text as one plain piece, or none where it is empty
 abbrev pub whole : Text → List Piece

@@ -1,9 +1,11 @@
 -- Inside words nothing begins.
-use Rattle.std.proofs.Common.{◌≡◌, ⊎_elim, ℕ, ◌+◌, ◌-◌, ◌<◌, ◌≤◌, Bool, true, false, not, ◌&&◌, ◌||◌, ◌==◌, cond, List, [], ◌∷◌, Some, None, length, option_and_then, option_map, get_or, true≢false, refl, sym, ap, ◌∙◌, subst, arith}
+use Rattle.std.proofs.Common.{◌≡◌, ⊎_elim, ℕ, ◌+◌, ◌-◌, ◌<◌, ◌≤◌, Bool, true, false, not, ◌&&◌, ◌||◌, ◌==◌, cond, List, [], ◌∷◌, Option, Some, None, length, option_and_then, option_map, get_or, true≢false, refl, sym, ap, ◌∙◌, subst, arith}
 use Rattle.std.specs.Prelude.{nat_lt, find}
 use Rattle.std.specs.List.{list_all}
+use Rattle.std.specs.Option.{option_or}
+use Rattle.rst_inline_scan.specs.declared.piece.Piece.{Piece}
 use Rattle.std.specs.Char.{is_ascii_alphanumeric, to_ascii_lowercase}
-use Rattle.std.proofs.lemmas.Bool.{lt-ltb, eqb-true, not-true, and_parts, or_parts, cases_lt}
+use Rattle.std.proofs.lemmas.Bool.{lt-ltb, eqb-true, not-true, false_from_ne_true, and_parts, and_left, or_parts, cases_lt}
 use Rattle.std.proofs.lemmas.Bool.Decides.{nat_tests}
 use Rattle.std.proofs.Math.Bool.{and-true, and-false}
 use Rattle.rst_text.specs.Characters.{is_white}
@@ -14,7 +16,7 @@ use Rattle.rst_inline_scan.specs.Characters.{Text, has, may_precede, may_follow,
 use Rattle.rst_inline_scan.specs.Escapes.{is_escaped}
 use Rattle.rst_inline_scan.specs.Tails.{name_tail}
 use Rattle.rst_inline_scan.specs.Names.{is_joint, is_name_at, role_end, ends_name, is_reference, name_end, reference_to, reference}
-use Rattle.rst_inline_scan.specs.Marked.{has_start, start_of, starts, marked_from, marked}
+use Rattle.rst_inline_scan.specs.Marked.{has_start, markup_of, start_of, starts, marked_from, marked}
 use Rattle.rst_inline_scan.specs.Footnotes.{label}
 use Rattle.rst_inline_scan.specs.Uri.{has_any_case, schemes, scheme_end, uri_piece, uri}
 use Rattle.rst_inline_scan.specs.Words.{IsWord, goes_on}
@@ -183,79 +185,77 @@ no-uri t i e bar = ap (option_map (uri_piece i)) (uri_end-none t i (ap (option_m
 
 -- ---- other markup
 
--- no start-string stands at the place, and no role begins there
-pub record Lacks (t : Text) (i : ℕ) : Type 0 where
-  pub star : has t i 42 ≡ false
-  pub grave : has t i 96 ≡ false
-  pub target : has_start Target t i ≡ false
-  pub bar : has t i 124 ≡ false
-  pub colon : has t i 58 ≡ false
-
 pub absent : (p : ℕ → Bool) (t : Text) (i c : ℕ) → p (get_or t i 0) ≡ true → p c ≡ false → has t i c ≡ false
 absent p t i c h k = rw (differs p (get_or t i 0) c h k) (grind (arith, nat_tests))
 
-pub no-target : (t : Text) (i : ℕ) → has t i 95 ≡ false → has_start Target t i ≡ false
-no-target t i h = rw h refl
+pub unmarked : (t : Text) (i : ℕ) → has t i 42 ≡ false → has t i 96 ≡ false → (has t i 95 && has t (i + 1) 96) ≡ false → has t i 124 ≡ false → has t i 58 ≡ false → markup_of t i ≡ None
+unfolding markup_of
+unmarked t i star grave target bar colon = rw (star, grave, target, bar, colon) refl
 
-pub lacks-by : (p : ℕ → Bool) (t : Text) (i : ℕ) → p (get_or t i 0) ≡ true → p 42 ≡ false → p 96 ≡ false → p 95 ≡ false → p 124 ≡ false → p 58 ≡ false → Lacks t i
-lacks-by p t i h star grave underscore bar colon = record {
-  star = absent p t i 42 h star;
-  grave = absent p t i 96 h grave;
-  target = no-target t i (absent p t i 95 h underscore);
-  bar = absent p t i 124 h bar;
-  colon = absent p t i 58 h colon;
-}
+-- where a start-string stands, only its markup begins
+starts-by : (markup : Markup) (t : Text) (i : ℕ) → has_start markup t i ≡ true → markup_of t i ≡ Some markup
+unfolding markup_of
+starts-by Strong t i h = grind (arith, nat_tests)
+starts-by Emphasis t i h = grind (arith, nat_tests)
+starts-by Literal t i h = grind (arith, nat_tests)
+starts-by Target t i h = grind (arith, nat_tests)
+starts-by Substitution t i h = grind (arith, nat_tests)
+starts-by Interpreted t i h = grind (arith, nat_tests)
 
-no-mark : (markup : Markup) (t : Text) (i q : ℕ) → has_start markup t q ≡ false → marked_from markup t i q ≡ None
+no-mark : (markup : Markup) (t : Text) (i : ℕ) → (markup_of t i ≡ Some markup → ⊥) → marked_from markup t i i ≡ None
 unfolding starts
-no-mark markup t i q h = rw h refl
+no-mark markup t i h = rw (false_from_ne_true (has_start markup t i) (λ stands. h (starts-by markup t i stands))) refl
 
-no-role : (t : Text) (i : ℕ) → has t i 58 ≡ false → role_end t i ≡ None
-unfolding role_end
-no-role t i h = rw h refl
+no-role : (t : Text) (i : ℕ) → (markup_of t i ≡ Some Interpreted → ⊥) → role_end t i ≡ None
+unfolding markup_of role_end
+no-role t i h = rw (false_from_ne_true (has t i 58) (λ colon. h (grind (arith, nat_tests)))) refl
 
-pub no-marked : (t : Text) (i : ℕ) → Lacks t i → (markup : Markup) → marked markup t i ≡ None
+no-other : (t : Text) (i : ℕ) (markup : Markup) → (markup_of t i ≡ Some markup → ⊥) → marked markup t i ≡ None
 unfolding marked start_of
-no-marked t i lacks Strong = no-mark Strong t i i (rw lacks.star refl)
-no-marked t i lacks Emphasis = no-mark Emphasis t i i (rw lacks.star refl)
-no-marked t i lacks Literal = no-mark Literal t i i (rw lacks.grave refl)
-no-marked t i lacks Target = no-mark Target t i i lacks.target
-no-marked t i lacks Substitution = no-mark Substitution t i i (rw lacks.bar refl)
-no-marked t i lacks Interpreted = rw (no-role t i lacks.colon) (no-mark Interpreted t i i (rw lacks.grave refl))
+no-other t i Strong h = no-mark Strong t i h
+no-other t i Emphasis h = no-mark Emphasis t i h
+no-other t i Literal h = no-mark Literal t i h
+no-other t i Target h = no-mark Target t i h
+no-other t i Substitution h = no-mark Substitution t i h
+no-other t i Interpreted h = rw (no-role t i h) (no-mark Interpreted t i h)
+
+-- the first of all markup that gives a piece, if only this may
+one-of : (f : Markup → Option Piece) (m : Option Markup) (rest : Option Piece) → ((markup : Markup) → (m ≡ Some markup → ⊥) → f markup ≡ None)
+    → option_or (f Strong) (option_or (f Emphasis) (option_or (f Literal) (option_or (f Target) (option_or (f Substitution) (option_or (f Interpreted) rest))))) ≡ option_or (option_and_then f m) rest
+one-of f None rest none = rw (none Strong (λ e. cc), none Emphasis (λ e. cc), none Literal (λ e. cc), none Target (λ e. cc), none Substitution (λ e. cc), none Interpreted (λ e. cc)) refl
+one-of f (Some Strong) rest none = rw (none Emphasis (λ e. cc), none Literal (λ e. cc), none Target (λ e. cc), none Substitution (λ e. cc), none Interpreted (λ e. cc)) refl
+one-of f (Some Emphasis) rest none = rw (none Strong (λ e. cc), none Literal (λ e. cc), none Target (λ e. cc), none Substitution (λ e. cc), none Interpreted (λ e. cc)) refl
+one-of f (Some Literal) rest none = rw (none Strong (λ e. cc), none Emphasis (λ e. cc), none Target (λ e. cc), none Substitution (λ e. cc), none Interpreted (λ e. cc)) refl
+one-of f (Some Target) rest none = rw (none Strong (λ e. cc), none Emphasis (λ e. cc), none Literal (λ e. cc), none Substitution (λ e. cc), none Interpreted (λ e. cc)) refl
+one-of f (Some Substitution) rest none = rw (none Strong (λ e. cc), none Emphasis (λ e. cc), none Literal (λ e. cc), none Target (λ e. cc), none Interpreted (λ e. cc)) refl
+one-of f (Some Interpreted) rest none = rw (none Strong (λ e. cc), none Emphasis (λ e. cc), none Literal (λ e. cc), none Target (λ e. cc), none Substitution (λ e. cc)) refl
+
+pub markup_at_by : (t : Text) (i : ℕ) → markup_at t i ≡ option_or (option_and_then (λ markup. marked markup t i) (markup_of t i)) (option_or (label t i) (option_or (reference t i) (uri t i)))
+unfolding markup_at
+markup_at_by t i = one-of (λ markup. marked markup t i) (markup_of t i) (option_or (label t i) (option_or (reference t i) (uri t i))) (no-other t i)
 
 pub no-label : (t : Text) (i : ℕ) → has t i 91 ≡ false → label t i ≡ None
 unfolding label
 no-label t i h = rw h refl
 
-no-markup : (t : Text) (i e : ℕ) → IsBarred t i e → Lacks t i → label t i ≡ None → markup_at t i ≡ None
-unfolding markup_at
-no-markup t i e bar lacks no_label =
-    rw (
-      no-marked t i lacks Strong,
-      no-marked t i lacks Emphasis,
-      no-marked t i lacks Literal,
-      no-marked t i lacks Target,
-      no-marked t i lacks Substitution,
-      no-marked t i lacks Interpreted,
-      no_label,
-      no-reference t i e bar,
-      no-uri t i e bar,
-    ) refl
+no-markup : (t : Text) (i e : ℕ) → IsBarred t i e → markup_of t i ≡ None → label t i ≡ None → markup_at t i ≡ None
+no-markup t i e bar none no_label = rw (markup_at_by t i, none, no_label, no-reference t i e bar, no-uri t i e bar) refl
 
 -- nothing begins at a place where none of these does
-pub no-piece-barred : (t : Text) (from i e : ℕ) → IsBarred t i e → Lacks t i → label t i ≡ None → piece_at t from i ≡ None
+pub no-piece-barred : (t : Text) (from i e : ℕ) → IsBarred t i e → markup_of t i ≡ None → label t i ≡ None → piece_at t from i ≡ None
 unfolding piece_at
-no-piece-barred t from i e bar lacks no_label = by_case (is_free t from i)
+no-piece-barred t from i e bar none no_label = by_case (is_free t from i)
   where
     by_case : (free : Bool) → cond free (markup_at t i) None ≡ None
-    by_case true = no-markup t i e bar lacks no_label
+    by_case true = no-markup t i e bar none no_label
     by_case false = refl
 
 -- nothing begins where a word does, if nothing goes on with it,
 pub no-piece : (t : Text) (from i to : ℕ) → IsWord t i to → i < to → goes_on t to ≡ false → piece_at t from i ≡ None
 no-piece t from i to run some h =
     let letter = run.letters i (omega arith) some in
-    no-piece-barred t from i to (word-bars t i to run h) (lacks-by is_ascii_alphanumeric t i letter refl refl refl refl refl) (no-label t i (absent is_ascii_alphanumeric t i 91 letter refl))
+    let none : (c : ℕ) → is_ascii_alphanumeric c ≡ false → has t i c ≡ false = λ c other. absent is_ascii_alphanumeric t i c letter other in
+    no-piece-barred t from i to (word-bars t i to run h) (unmarked t i (none 42 refl) (none 96 refl) (and_left _ _ (none 95 refl)) (none 124 refl) (none 58 refl)) (no-label t i (none 91 refl))
 
 -- and further on in it nothing does.
 inside-word : (t : Text) (from i to k : ℕ) → IsWord t i to → i < k → k ≤ to → piece_at t from k ≡ None

@@ -52,6 +52,16 @@ has_start markup t i = has_string t i (start_string markup) && not (is_doubled t
 abbrev pub has_end : Markup → Text → ℕ → Bool
 has_end markup t i = has_string t i (end_string markup)
 
+-- the only markup that may begin at the place: its start-string stands there, or a role does
+unfoldable pub markup_of : Text → ℕ → Option Markup
+markup_of t i =
+    if has t i 42 then Some (if has t (i + 1) 42 then Strong else Emphasis)
+    else if has t i 96 then Some (if has t (i + 1) 96 then Literal else Interpreted)
+    else if has t i 95 && has t (i + 1) 96 then Some Target
+    else if has t i 124 then Some Substitution
+    else if has t i 58 then Some Interpreted
+    else None
+
 -- nothing is escaped inside a literal
 abbrev pub has_escapes : Markup → Bool
 has_escapes Literal = false

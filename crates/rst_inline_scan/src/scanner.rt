@@ -2,12 +2,13 @@
 ghost use Rattle.std.specs.Prelude.{◌≡◌, ℕ, ◌<◌, length, IfOk};
 ghost use Rattle.rst_inline_scan.specs.Calm.{AreBytesOf};
 ghost use Rattle.rst_inline_scan.specs.Escapes.{is_escaped};
+ghost use Rattle.rst_inline_scan.specs.Marked.{markup_of};
 ghost use Rattle.rst_inline_scan.specs.Pieces.{markup_at, is_free, piece_at, plain_from, IsPieces};
 ghost use Rattle.rst_inline_scan.specs.Missing.{IsMissing};
 ghost use Rattle.rst_inline_scan.specs.Words.{IsWord};
 
 use super::calm::{bytes_of, step};
-use super::characters::may_precede;
+use super::characters::{has, may_precede};
 use super::escaping::escapes;
 use super::footnotes::label;
 use super::missing::Missing;
@@ -17,31 +18,35 @@ use super::uri::uri;
 use super::words::{goes_on, word_end};
 use std::alloc::{AllocError, Global};
 
+/// The only markup that may begin at the place.
+#[tactic(auto, unfolding(crate::specs::Marked::markup_of))]
+fn markup_of(text: &[char], place: usize) -> Option<Markup>
+    requires { place < length text.now }
+    ensures { result ≡ markup_of text.now place }
+{
+    match text[place] {
+        '*' if has(text, place + 1, '*') => Some(Markup::Strong),
+        '*' => Some(Markup::Emphasis),
+        '`' if has(text, place + 1, '`') => Some(Markup::Literal),
+        '`' | ':' => Some(Markup::Interpreted),
+        '_' if has(text, place + 1, '`') => Some(Markup::Target),
+        '|' => Some(Markup::Substitution),
+        _ => None,
+    }
+}
+
 /// The piece that the first kind of markup gives that holds at the place.
-#[tactic(auto, unfolding(crate::specs::Pieces::markup_at))]
+#[tactic(auto, using(crate::proofs::WordLemmas::markup_at_by))]
 fn markup_at(text: &[char], place: usize, missing: &mut Missing) -> Option<Piece>
     requires place { place < length text.now }
     requires known { IsMissing text.now missing.old place }
     ensures exact { result ≡ markup_at text.now place }
     ensures known { IsMissing text.now missing.new place }
 {
-    if let Some(piece) = Markup::Strong.piece(text, place, missing) {
-        return Some(piece);
-    }
-    if let Some(piece) = Markup::Emphasis.piece(text, place, missing) {
-        return Some(piece);
-    }
-    if let Some(piece) = Markup::Literal.piece(text, place, missing) {
-        return Some(piece);
-    }
-    if let Some(piece) = Markup::Target.piece(text, place, missing) {
-        return Some(piece);
-    }
-    if let Some(piece) = Markup::Substitution.piece(text, place, missing) {
-        return Some(piece);
-    }
-    if let Some(piece) = Markup::Interpreted.piece(text, place, missing) {
-        return Some(piece);
+    if let Some(markup) = markup_of(text, place) {
+        if let Some(piece) = markup.piece(text, place, missing) {
+            return Some(piece);
+        }
     }
     if let Some(piece) = label(text, place) {
         return Some(piece);
