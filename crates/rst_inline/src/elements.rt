@@ -6,7 +6,6 @@ ghost use Rattle.rst_tree.specs.declared.node.Node.TheVariants.{Element};
 ghost use Rattle.rst_inline.specs.Elements.{text_children, text_element, inline_target_node, uri_target_node, problematic_node};
 ghost use Rattle.rst_inline.specs.Faults.{Gives};
 
-use super::attributes::{attr, three, two};
 use super::fault::InlineFault;
 use super::texts::{name_said, said};
 use rst_tree::{Attrs, Children, Entry, Key, Node, Tag, Text, Value};
@@ -72,11 +71,10 @@ pub(crate) fn target(alloc: Global, shown: &str, line: usize) -> Result<Node, In
     ensures { Gives (λ node. node ≡ inline_target_node (chars shown.now) line) result }
 {
     let name = name_said(alloc, shown)?;
-    let attrs = two(
-        alloc,
-        attr(Key::Inline, Value::Number(1)),
-        attr(Key::OwnName, name),
-    )?;
+    let attrs = vec![in alloc;
+        Entry::new(Key::Inline, Value::Number(1)),
+        Entry::new(Key::OwnName, name),
+    ]?;
     element(alloc, Tag::Target, attrs, shown, line)
 }
 
@@ -91,12 +89,11 @@ pub(crate) fn uri_target(
 {
     let name = name_said(alloc, shown)?;
     let uri = said(alloc, uri)?;
-    let attrs = three(
-        alloc,
-        attr(Key::Inline, Value::Number(1)),
-        attr(Key::OwnName, name),
-        attr(Key::Refuri, uri),
-    )?;
+    let attrs = vec![in alloc;
+        Entry::new(Key::Inline, Value::Number(1)),
+        Entry::new(Key::OwnName, name),
+        Entry::new(Key::Refuri, uri),
+    ]?;
     Ok(bare_element(alloc, Tag::Target, attrs, line))
 }
 
@@ -111,6 +108,6 @@ pub(crate) fn problematic(
 {
     // Registration adds two: its id and the id of its message.
     let mut attrs = Vec::with_capacity(alloc, 3)?;
-    attrs.push(attr(Key::Message, Value::Number(place as u64)))?;
+    attrs.push(Entry::new(Key::Message, Value::Number(place as u64)))?;
     element(alloc, Tag::Problematic, attrs, source, line)
 }

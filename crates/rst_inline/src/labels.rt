@@ -5,11 +5,10 @@ ghost use Rattle.std.specs.List.{list_all};
 ghost use Rattle.rst_inline.specs.Elements.{is_digit, label_tag, manual_reference_node, autonumbered_reference_node, autosymbol_reference_node, label_reference_node};
 ghost use Rattle.rst_inline.specs.Faults.{Gives};
 
-use super::attributes::{attr, three, two};
 use super::elements::{bare_element, element};
 use super::fault::InlineFault;
 use super::texts::{name_said, said, spell};
-use rst_tree::{Key, Node, Tag, Value};
+use rst_tree::{Entry, Key, Node, Tag, Value};
 use std::alloc::Global;
 
 fn are_digits(label: &[char]) -> bool
@@ -46,11 +45,10 @@ fn labelled(alloc: Global, source: &str, label: &[char], line: usize) -> Result<
     let written = said(alloc, source)?;
     let shown = spell(alloc, label)?;
     let name = name_said(alloc, shown.as_str())?;
-    let attrs = two(
-        alloc,
-        attr(Key::Rawsource, written),
-        attr(Key::Refname, name),
-    )?;
+    let attrs = vec![in alloc;
+        Entry::new(Key::Rawsource, written),
+        Entry::new(Key::Refname, name),
+    ]?;
     element(alloc, label_tag(label), attrs, shown.as_str(), line)
 }
 
@@ -61,22 +59,20 @@ fn numbered(alloc: Global, source: &str, name: &[char], line: usize) -> Result<N
     let written = said(alloc, source)?;
     match name {
         [] => {
-            let attrs = two(
-                alloc,
-                attr(Key::Auto, Value::Number(1)),
-                attr(Key::Rawsource, written),
-            )?;
+            let attrs = vec![in alloc;
+                Entry::new(Key::Auto, Value::Number(1)),
+                Entry::new(Key::Rawsource, written),
+            ]?;
             Ok(bare_element(alloc, Tag::FootnoteReference, attrs, line))
         }
         _ => {
             let name = spell(alloc, name)?;
             let refname = name_said(alloc, name.as_str())?;
-            let attrs = three(
-                alloc,
-                attr(Key::Auto, Value::Number(1)),
-                attr(Key::Rawsource, written),
-                attr(Key::Refname, refname),
-            )?;
+            let attrs = vec![in alloc;
+                Entry::new(Key::Auto, Value::Number(1)),
+                Entry::new(Key::Rawsource, written),
+                Entry::new(Key::Refname, refname),
+            ]?;
             Ok(bare_element(alloc, Tag::FootnoteReference, attrs, line))
         }
     }
@@ -89,7 +85,10 @@ fn symbol(alloc: Global, source: &str, line: usize) -> Result<Node, InlineFault>
 {
     let written = said(alloc, source)?;
     let auto = said(alloc, "*")?;
-    let attrs = two(alloc, attr(Key::Auto, auto), attr(Key::Rawsource, written))?;
+    let attrs = vec![in alloc;
+        Entry::new(Key::Auto, auto),
+        Entry::new(Key::Rawsource, written),
+    ]?;
     Ok(bare_element(alloc, Tag::FootnoteReference, attrs, line))
 }
 
@@ -103,15 +102,8 @@ pub(crate) fn label_reference(
     ensures { Gives (λ node. node ≡ label_reference_node (chars source.now) label.now line) result }
 {
     match label {
-        [] => labelled(alloc, source, label, line),
-        [first, rest @ ..] => {
-            if *first == '#' {
-                return numbered(alloc, source, rest, line);
-            }
-            if *first == '*' {
-                return symbol(alloc, source, line);
-            }
-            labelled(alloc, source, label, line)
-        }
+        ['#', name @ ..] => numbered(alloc, source, name, line),
+        ['*', ..] => symbol(alloc, source, line),
+        _ => labelled(alloc, source, label, line),
     }
 }

@@ -1,7 +1,6 @@
 //! Inline markup: the nodes and the messages of a text.
 #![tactic(auto)]
 
-mod attributes;
 mod elements;
 mod embedded;
 mod fault;

@@ -4,7 +4,6 @@ ghost use Rattle.std.specs.Str.{chars};
 ghost use Rattle.rst_inline.specs.Elements.{reference_attrs, reference_node, uri_node, alias_node, embedded_node, substitution_node, outer_attrs, outer_node};
 ghost use Rattle.rst_inline.specs.Faults.{Gives};
 
-use super::attributes::{attr, three, two};
 use super::elements::element;
 use super::fault::InlineFault;
 use super::texts::{name_said, normalized_said, said};
@@ -22,23 +21,22 @@ fn reference_attrs(
 {
     let name = normalized_said(alloc, shown)?;
     let written = said(alloc, source)?;
-    match suffix {
-        Suffix::Anonymous => three(
-            alloc,
-            attr(Key::Anonymous, Value::Number(1)),
-            attr(Key::Name, name),
-            attr(Key::Rawsource, written),
-        ),
+    let attrs = match suffix {
+        Suffix::Anonymous => vec![in alloc;
+            Entry::new(Key::Anonymous, Value::Number(1)),
+            Entry::new(Key::Name, name),
+            Entry::new(Key::Rawsource, written),
+        ]?,
         _ => {
             let refname = name_said(alloc, shown)?;
-            three(
-                alloc,
-                attr(Key::Name, name),
-                attr(Key::Rawsource, written),
-                attr(Key::Refname, refname),
-            )
+            vec![in alloc;
+                Entry::new(Key::Name, name),
+                Entry::new(Key::Rawsource, written),
+                Entry::new(Key::Refname, refname),
+            ]?
         }
-    }
+    };
+    Ok(attrs)
 }
 
 /// A reference by the name that it shows, or an anonymous one.
@@ -61,7 +59,10 @@ pub(crate) fn uri_reference(alloc: Global, source: &str, line: usize) -> Result<
 {
     let written = said(alloc, source)?;
     let uri = said(alloc, source)?;
-    let attrs = two(alloc, attr(Key::Rawsource, written), attr(Key::Refuri, uri))?;
+    let attrs = vec![in alloc;
+        Entry::new(Key::Rawsource, written),
+        Entry::new(Key::Refuri, uri),
+    ]?;
     element(alloc, Tag::Reference, attrs, source, line)
 }
 
@@ -78,12 +79,11 @@ pub(crate) fn alias_reference(
     let name = normalized_said(alloc, shown)?;
     let written = said(alloc, source)?;
     let refname = name_said(alloc, alias)?;
-    let attrs = three(
-        alloc,
-        attr(Key::Name, name),
-        attr(Key::Rawsource, written),
-        attr(Key::Refname, refname),
-    )?;
+    let attrs = vec![in alloc;
+        Entry::new(Key::Name, name),
+        Entry::new(Key::Rawsource, written),
+        Entry::new(Key::Refname, refname),
+    ]?;
     element(alloc, Tag::Reference, attrs, shown, line)
 }
 
@@ -100,12 +100,11 @@ pub(crate) fn embedded_reference(
     let name = normalized_said(alloc, shown)?;
     let written = said(alloc, source)?;
     let refuri = said(alloc, uri)?;
-    let attrs = three(
-        alloc,
-        attr(Key::Name, name),
-        attr(Key::Rawsource, written),
-        attr(Key::Refuri, refuri),
-    )?;
+    let attrs = vec![in alloc;
+        Entry::new(Key::Name, name),
+        Entry::new(Key::Rawsource, written),
+        Entry::new(Key::Refuri, refuri),
+    ]?;
     element(alloc, Tag::Reference, attrs, shown, line)
 }
 
@@ -120,11 +119,10 @@ pub(crate) fn substitution(
 {
     let written = said(alloc, source)?;
     let name = normalized_said(alloc, shown)?;
-    let attrs = two(
-        alloc,
-        attr(Key::Rawsource, written),
-        attr(Key::Refname, name),
-    )?;
+    let attrs = vec![in alloc;
+        Entry::new(Key::Rawsource, written),
+        Entry::new(Key::Refname, name),
+    ]?;
     element(alloc, Tag::SubstitutionReference, attrs, shown, line)
 }
 
@@ -137,21 +135,20 @@ fn outer_attrs(
     ensures { Gives (λ attrs. attrs.items ≡ outer_attrs suffix (chars source.now) (chars shown.now)) result }
 {
     let written = said(alloc, source)?;
-    match suffix {
-        Suffix::Anonymous => two(
-            alloc,
-            attr(Key::Anonymous, Value::Number(1)),
-            attr(Key::Rawsource, written),
-        ),
+    let attrs = match suffix {
+        Suffix::Anonymous => vec![in alloc;
+            Entry::new(Key::Anonymous, Value::Number(1)),
+            Entry::new(Key::Rawsource, written),
+        ]?,
         _ => {
             let refname = name_said(alloc, shown)?;
-            two(
-                alloc,
-                attr(Key::Rawsource, written),
-                attr(Key::Refname, refname),
-            )
+            vec![in alloc;
+                Entry::new(Key::Rawsource, written),
+                Entry::new(Key::Refname, refname),
+            ]?
         }
-    }
+    };
+    Ok(attrs)
 }
 
 /// The reference that stands round a substitution.
