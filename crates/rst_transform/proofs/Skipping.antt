@@ -8,7 +8,7 @@ use Rattle.rst_transform_work.specs.Known.{Holds, Known, Makes}
 use Rattle.rst_transform_links.specs.declared.links.Outcome.{Outcome}
 use Rattle.rst_transform_links.specs.Linkings.{linked_of, Held}
 use Rattle.rst_transform_links.specs.Links.{changed_document, is_idle}
-use Rattle.rst_transform_links.specs.LinkTransforms.{link_changes}
+use Rattle.rst_transform_links.specs.Settling.{link_changes}
 use Rattle.rst_transform_links.proofs.Idle.{idle_document}
 use Rattle.rst_transform.specs.declared.linking.LinkStep.{LinkStep}
 use Rattle.rst_transform.specs.Linking.{decision_of, first_changes, linked_by}
@@ -39,12 +39,6 @@ after_first [] document known = ap (λ d. (d, known)) (sym (idle_document [] doc
 after_first (first ∷ more) document known =
     let own = link_changes (decision_of first) (linked_of document) known in
     after_one first more document known (list_all is_idle own.0) refl (after_first more document own.1)
-
--- no transform
-pub first_of_none : (transforms : List LinkStep) (linked : List Held) (context : Context) (changes : List Outcome) → length transforms ≡ 0 → changes ≡ []
-    → Makes (first_changes transforms linked) context context (changes, 0)
-first_of_none [] linked context changes none is = λ known h. (ap (λ c. (c, 0)) is, h)
-first_of_none (first ∷ more) linked context changes none is = absurd (omega (arith, none))
 
 module _ (transforms more : List LinkStep) (first : LinkStep) (linked : List Held) (old mid : Context) (changes : List Outcome) (cut : transforms ≡ first ∷ more)
     (makes : Makes (link_changes (decision_of first) linked) old mid changes) where

@@ -6,7 +6,7 @@ use Rattle.rst_transform_work.specs.Known.{Known}
 use Rattle.rst_transform_links.specs.declared.links.Outcome.{Outcome}
 use Rattle.rst_transform_links.specs.Linkings.{linked_of, Held}
 use Rattle.rst_transform_links.specs.Links.{changed_document, is_idle}
-use Rattle.rst_transform_links.specs.LinkTransforms.{link_changes}
+use Rattle.rst_transform_links.specs.Settling.{link_changes}
 use Rattle.rst_transform_hyperlinks.specs.Anonymous.{anonymous_outcomes}
 use Rattle.rst_transform_hyperlinks.specs.Indirect.{indirect_outcomes}
 use Rattle.rst_transform_footnotes.specs.Footnotes.{footnote_outcomes}

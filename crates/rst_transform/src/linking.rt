@@ -2,15 +2,15 @@
 ghost use Rattle.std.specs.Prelude.{◌<◌, ◌≤◌, length, map};
 ghost use Rattle.rst_tree.specs.Faults.{Gives};
 ghost use Rattle.rst_transform_links.specs.Linkings.{held};
-ghost use Rattle.rst_transform_links.specs.LinkTransforms.{link_changes};
+ghost use Rattle.rst_transform_links.specs.Settling.{link_changes};
 ghost use Rattle.rst_transform_work.specs.Known.{Makes};
 ghost use Rattle.rst_transform.specs.Linking.{decision_of, first_changes, linked_by, with_links};
 
-use rst_transform_footnotes::footnotes::footnotes;
-use rst_transform_hyperlinks::anonymous::anonymous;
-use rst_transform_hyperlinks::indirect::indirect;
-use rst_transform_links::{Changes, Linked, linked_in, with_changes};
-use rst_transform_references::resolve::resolve;
+use rst_transform_footnotes::footnotes::footnote_outcomes;
+use rst_transform_hyperlinks::anonymous::anonymous_outcomes;
+use rst_transform_hyperlinks::indirect::indirect_outcomes;
+use rst_transform_links::{Changes, Linked, Outcome, linked_in, settle, with_changes};
+use rst_transform_references::resolve::reference_outcomes;
 use rst_transform_work::{Context, Document};
 use rst_tree::TreeFault;
 
@@ -82,7 +82,7 @@ fn first_changes(
     Ok((changes, done + 1))
 }
 
-/// What a transform makes of linked elements.
+/// What a transform makes of linked elements. Those that fail become problematics.
 fn changes_by(
     context: &mut Context,
     linked: &[Linked<'_>],
@@ -90,10 +90,23 @@ fn changes_by(
 ) -> Result<Changes, TreeFault>
     ensures { Gives (Makes (link_changes (decision_of transform) (map held linked.now)) context.old context.new) result }
 {
+    let outcomes = outcomes_by(context, linked, transform)?;
+    let changes = settle(context, linked, outcomes)?;
+    Ok(changes)
+}
+
+/// What becomes of linked elements, as a transform decides.
+fn outcomes_by(
+    context: &mut Context,
+    linked: &[Linked<'_>],
+    transform: LinkStep,
+) -> Result<Vec<Outcome>, TreeFault>
+    ensures { Gives (λ outcomes. Makes (decision_of transform (map held linked.now)) context.old context.new outcomes.items) result }
+{
     match transform {
-        LinkStep::Anonymous => anonymous(context, linked),
-        LinkStep::Indirect => indirect(context, linked),
-        LinkStep::Footnotes => footnotes(context, linked),
-        LinkStep::References => resolve(context, linked),
+        LinkStep::Anonymous => anonymous_outcomes(context, linked),
+        LinkStep::Indirect => indirect_outcomes(context, linked),
+        LinkStep::Footnotes => footnote_outcomes(context, linked),
+        LinkStep::References => reference_outcomes(context, linked),
     }
 }

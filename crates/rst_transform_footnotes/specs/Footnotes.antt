@@ -98,7 +98,7 @@ lead_to_footnote (Some one) = lead_to_id (slice_get (list_said Ids one.0) 0)
 
 -- and shows the label of the footnote at a place
 abbrev pub referring : List Held → List (Option (List ℕ)) → ℕ → Outcome
-referring linked labels footnote = Stays (record { attr = lead_to_footnote (slice_get linked footnote); shown = at_place labels footnote })
+referring linked labels footnote = Stays (lead_to_footnote (slice_get linked footnote)) (at_place labels footnote)
 
 abbrev pub is_label : Node → Bool
 is_label (Element Label a c l) = true
@@ -116,7 +116,7 @@ with_number node (Some number) = Some (attr Names (Listed (list_said Names node 
 -- what becomes of a label, a footnote and any other element, at a place, that is no reference by the order
 abbrev pub labelled : List (Option (List ℕ)) → ℕ → Held → Outcome
 labelled labels place one =
-    if is_label one.0 then Stays (record { attr = None; shown = label_in labels one.1 })
+    if is_label one.0 then Stays None (label_in labels one.1)
     else adds (with_number one.0 (own_number one.0 (at_place labels place)))
 
 -- what becomes of an element, by the footnote that it finds and the message on it

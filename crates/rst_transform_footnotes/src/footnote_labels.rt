@@ -18,10 +18,7 @@ const SYMBOLS: [char; 10] = ['*', '†', '‡', '§', '¶', '#', '♠', '♥', '
 fn written_number(node: &Node) -> Option<u64>
     ensures { result ≡ number_of (mark_of node.now) }
 {
-    match mark_of(node) {
-        Some(label) => number_in(label),
-        None => None,
-    }
+    number_in(mark_of(node)?)
 }
 
 /// Says that a footnote was written with a number, if it was and the number is among those that the list is about.
@@ -38,23 +35,11 @@ fn set_written(written: &mut Vec<bool>, number: Option<u64>)
     written[number] = true;
 }
 
-/// No number was written, for those from 0 to the number of linked elements.
-fn none_written(alloc: Global, linked: usize) -> Result<Vec<bool>, TreeFault>
-    ensures { Gives (λ written. written.items ≡ replicate (linked + 1) false) result }
-{
-    let mut written = Vec::new(alloc);
-    written.push(false)?;
-    for _ in 0..linked {
-        written.push(false)?;
-    }
-    Ok(written)
-}
-
 /// For each number up to that of all linked elements whether a footnote was written with it.
 fn written_numbers(alloc: Global, linked: &[Linked<'_>]) -> Result<Vec<bool>, TreeFault>
     ensures { Gives (λ written. TellsWritten (map held linked.now) written.items) result }
 {
-    let mut written = none_written(alloc, linked.len())?;
+    let mut written = vec![in alloc; false; linked.len() + 1]?;
     for one in linked {
         set_written(&mut written, written_number(one.element));
     }
@@ -85,19 +70,12 @@ fn free_numbers(alloc: Global, linked: &[Linked<'_>]) -> Result<Vec<usize>, Tree
     Ok(free)
 }
 
-/// The symbol of the n-th symbol footnote, from 0.
-fn symbol(n: usize) -> char
-    ensures { result ≡ slice_index symbols (n % 10) }
-{
-    SYMBOLS[n % SYMBOLS.len()]
-}
-
 /// The label of the n-th symbol footnote, from 0.
 #[tactic(auto, using(crate::proofs::Numbering::repeat_more))]
 fn symbol_label(alloc: Global, n: usize) -> Result<Text, TreeFault>
     ensures { Gives (λ label. label ≡ symbol_label n) result }
 {
-    let symbol = symbol(n);
+    let symbol = SYMBOLS[n % SYMBOLS.len()];
     let mut label = String::new(alloc);
     for _ in 0..n / SYMBOLS.len() + 1 {
         label.push(symbol)?;
@@ -109,30 +87,14 @@ fn symbol_label(alloc: Global, n: usize) -> Result<Text, TreeFault>
 fn is_symbol(node: &Node) -> bool
     ensures { result ≡ is_symbol (mark_of node.now) }
 {
-    match mark_of(node) {
-        Some(mark) => mark == "*",
-        None => false,
-    }
+    mark_of(node).is_some_and(|mark| mark == "*")
 }
 
 /// Whether a footnote is to be numbered.
 fn is_to_number(node: &Node) -> bool
     ensures { result ≡ is_to_number (mark_of node.now) }
 {
-    match mark_of(node) {
-        Some(mark) => mark.as_bytes().starts_with(b"#"),
-        None => false,
-    }
-}
-
-/// The first of some numbers in digits, if there is one.
-fn first_number(alloc: Global, numbers: &[usize]) -> Result<Option<Text>, TreeFault>
-    ensures { Gives (λ label. label ≡ option_map decimal (slice_get numbers.now 0)) result }
-{
-    match numbers.first() {
-        Some(number) => Ok(Some(Text::new(number.to_string(alloc)?))),
-        None => Ok(None),
-    }
+    mark_of(node).is_some_and(|mark| mark.as_bytes().starts_with(b"#"))
 }
 
 /// The label of a footnote, by the free numbers that are left and how many symbol footnotes come before it.
@@ -150,10 +112,13 @@ fn label_of(
     if is_symbol(node) {
         return Ok(Some(symbol_label(alloc, before)?));
     }
-    if is_to_number(node) {
-        return first_number(alloc, free);
+    if !is_to_number(node) {
+        return Ok(Some(Text::from_str(alloc, mark)?));
     }
-    Ok(Some(Text::from_str(alloc, mark)?))
+    match free.first() {
+        Some(number) => Ok(Some(Text::new(number.to_string(alloc)?))),
+        None => Ok(None),
+    }
 }
 
 /// The free numbers that are left after an element.
@@ -174,15 +139,12 @@ fn with_symbol(node: &Node, before: usize) -> usize
     if is_symbol(node) { before + 1 } else { before }
 }
 
-/// The labels, by the numbers that are free.
-fn labels_by(
-    alloc: Global,
-    linked: &[Linked<'_>],
-    free: &[usize],
-) -> Result<Vec<Option<Text>>, TreeFault>
-    ensures { Gives (λ list. list.items ≡ labels_from free.entry.now 0 (map held linked.entry.now)) result }
+/// The label that each footnote shows, by its place; there is nothing for the other elements.
+pub fn labels(alloc: Global, linked: &[Linked<'_>]) -> Result<Vec<Option<Text>>, TreeFault>
+    ensures { Gives (λ list. list.items ≡ labels (map held linked.now)) result }
 {
-    let mut free = free;
+    let numbers = free_numbers(alloc, linked)?;
+    let mut free = numbers.as_slice();
     let mut symbols = 0;
     let mut list = Vec::with_capacity(alloc, linked.len())?;
     for one in linked {
@@ -191,14 +153,5 @@ fn labels_by(
         free = left_free(one.element, free);
         symbols = with_symbol(one.element, symbols);
     }
-    Ok(list)
-}
-
-/// The label that each footnote shows, by its place; there is nothing for the other elements.
-pub fn labels(alloc: Global, linked: &[Linked<'_>]) -> Result<Vec<Option<Text>>, TreeFault>
-    ensures { Gives (λ list. list.items ≡ labels (map held linked.now)) result }
-{
-    let free = free_numbers(alloc, linked)?;
-    let list = labels_by(alloc, linked, free.as_slice())?;
     Ok(list)
 }

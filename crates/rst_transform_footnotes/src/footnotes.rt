@@ -5,15 +5,14 @@ ghost use Rattle.rst_tree.specs.Faults.{Gives};
 ghost use Rattle.rst_transform_names.specs.Names.{held_by};
 ghost use Rattle.rst_transform_footnotes.specs.Footnotes.{entry_of, first_left_over, footnote_outcomes, is_label, label_in, labelled, lead_to_footnote, outcome_by, outcomes_by, own_number, referring, report_of, leftover, too_many, with_number, with_numbers};
 ghost use Rattle.rst_transform_links.specs.Linkings.{held};
-ghost use Rattle.rst_transform_links.specs.LinkTransforms.{link_changes};
 ghost use Rattle.rst_transform_links.specs.FootnoteOrders.{in_order, reference_order};
 ghost use Rattle.rst_transform_work.specs.Known.{Makes};
 ghost use Rattle.rst_transform_work.specs.Lists.{at_place};
 
 use crate::footnote_labels::labels;
 use rst_transform_links::{
-    Addition, Changes, LinkTransform, Linked, Order, Outcome, changes_by, footnote_order,
-    found_by_order, in_order, reference_order, text_attr,
+    Linked, Order, Outcome, footnote_order, found_by_order, in_order, reference_order,
+    text_attr,
 };
 use rst_transform_names::{Holder, NameEntry, Names, Strength};
 use rst_transform_work::{Context, at_place, first_said, line_of, list_said, number_said};
@@ -58,37 +57,26 @@ use std::alloc::Global;
 /// ```
 ///
 /// References left over become problematics of one ERROR for each of the two numberings.
-pub fn footnotes(context: &mut Context, linked: &[Linked<'_>]) -> Result<Changes, TreeFault>
-    ensures { Gives (Makes (link_changes footnote_outcomes (map held linked.now)) context.old context.new) result }
+pub fn footnote_outcomes(
+    context: &mut Context,
+    linked: &[Linked<'_>],
+) -> Result<Vec<Outcome>, TreeFault>
+    ensures { Gives (λ outcomes. Makes (footnote_outcomes (map held linked.now)) context.old context.new outcomes.items) result }
 {
-    let changes = changes_by::<Numbering>(context, linked)?;
-    Ok(changes)
-}
-
-/// The transform of links that numbers footnotes.
-struct Numbering;
-
-impl LinkTransform for Numbering {
-    ghost use Rattle.rst_transform_footnotes.specs.Footnotes.{footnote_outcomes};
-
-    ghost decides = { footnote_outcomes };
-
-    fn outcomes(context: &mut Context, linked: &[Linked<'_>]) -> Result<Vec<Outcome>, TreeFault> {
-        let labels = labels(context.alloc, linked)?;
-        let found = found_by_order(context.alloc, linked)?;
-        hold_numbers(context.alloc, &mut context.names, linked, labels.as_slice())?;
-        let numbers = leftover(context, linked, found.as_slice(), Order::Numbers)?;
-        let symbols = leftover(context, linked, found.as_slice(), Order::Symbols)?;
-        let outcomes = outcomes_by(
-            context.alloc,
-            linked,
-            labels.as_slice(),
-            found.as_slice(),
-            numbers,
-            symbols,
-        )?;
-        Ok(outcomes)
-    }
+    let labels = labels(context.alloc, linked)?;
+    let found = found_by_order(context.alloc, linked)?;
+    hold_numbers(context.alloc, &mut context.names, linked, labels.as_slice())?;
+    let numbers = leftover(context, linked, found.as_slice(), Order::Numbers)?;
+    let symbols = leftover(context, linked, found.as_slice(), Order::Symbols)?;
+    let outcomes = outcomes_by(
+        context.alloc,
+        linked,
+        labels.as_slice(),
+        found.as_slice(),
+        numbers,
+        symbols,
+    )?;
+    Ok(outcomes)
 }
 
 /// The label of the footnote at a place, if there is one.
@@ -121,13 +109,13 @@ fn hold_numbers(
     ensures { Gives (λ _. (name : List ℕ) → held_by names.new name ≡ with_numbers labels.now (map held linked.now) (held_by names.old) name) result }
 {
     for (place, one) in linked.iter().enumerate() {
-        hold_own(alloc, names, one.element, labels, place)?;
+        hold_number(alloc, names, one.element, labels, place)?;
     }
     Ok(())
 }
 
-/// Lets the element at a place hold its number as a name, if it gets one.
-fn hold_own(
+/// Lets the element at a place hold its number as a name, if it gets one, unless an element was written with that name.
+fn hold_number(
     alloc: Global,
     names: &mut Names,
     element: &Node,
@@ -139,25 +127,13 @@ fn hold_own(
     let Some(number) = own_number(element, labels, place) else {
         return Ok(());
     };
-    hold_number(alloc, names, number, element)
-}
-
-/// Lets a footnote hold its number as a name, unless an element was written with that name.
-fn hold_number(
-    alloc: Global,
-    names: &mut Names,
-    number: &str,
-    footnote: &Node,
-) -> Result<(), TreeFault>
-    ensures { Gives (λ _. (name : List ℕ) → held_by names.new name ≡ option_or (held_by names.old name) (entry_of name (Some number.now) footnote.now)) result }
-{
-    if let Some(_) = names.get(number) {
+    if names.get(number).is_some() {
         return Ok(());
     }
-    let Some(serial) = number_said(footnote, Key::Serial) else {
+    let Some(serial) = number_said(element, Key::Serial) else {
         return Ok(());
     };
-    let Some(id) = first_said(footnote, Key::Ids) else {
+    let Some(id) = first_said(element, Key::Ids) else {
         return Ok(());
     };
     let held = NameEntry {
@@ -270,26 +246,19 @@ fn outcome(
     labelled(alloc, one, labels, place)
 }
 
-/// A copy of the label of the footnote at a place, if there is one.
-fn shown_at(alloc: Global, labels: &[Option<Text>], place: usize) -> Result<Option<Text>, TreeFault>
-    ensures { Gives (λ shown. shown ≡ at_place labels.now place) result }
-{
-    match label_at(labels, place) {
-        Some(label) => Ok(Some(Text::from_str(alloc, label)?)),
-        None => Ok(None),
-    }
-}
-
-/// A copy of the label of the footnote that a label is in, if there is one.
+/// A copy of the label of a footnote, if there is one.
 fn label_in(
     alloc: Global,
     labels: &[Option<Text>],
-    outer: Option<usize>,
+    footnote: Option<usize>,
 ) -> Result<Option<Text>, TreeFault>
-    ensures { Gives (λ shown. shown ≡ label_in labels.now outer) result }
+    ensures { Gives (λ shown. shown ≡ label_in labels.now footnote) result }
 {
-    match outer {
-        Some(footnote) => shown_at(alloc, labels, footnote),
+    match footnote {
+        Some(footnote) => match label_at(labels, footnote) {
+            Some(label) => Ok(Some(Text::from_str(alloc, label)?)),
+            None => Ok(None),
+        },
         None => Ok(None),
     }
 }
@@ -321,8 +290,8 @@ fn referring(
     ensures { Gives (λ outcome. outcome ≡ referring (map held linked.now) labels.now footnote) result }
 {
     let attr = lead_to_footnote(alloc, linked, footnote)?;
-    let shown = shown_at(alloc, labels, footnote)?;
-    Ok(Outcome::Stays(Addition { attr, shown }))
+    let shown = label_in(alloc, labels, Some(footnote))?;
+    Ok(Outcome::Stays { attr, shown })
 }
 
 /// Whether a node is a label.
@@ -364,7 +333,7 @@ fn labelled(
 {
     if is_label(one.element) {
         let shown = label_in(alloc, labels, one.outer)?;
-        return Ok(Outcome::Stays(Addition { attr: None, shown }));
+        return Ok(Outcome::Stays { attr: None, shown });
     }
     let names = with_number(alloc, one.element, labels, place)?;
     Ok(Outcome::adds(names))

@@ -5,9 +5,8 @@ use Rattle.rst_tree.specs.declared.attrs.Attr.{Attr}
 use Rattle.rst_tree.specs.declared.key.Key.TheVariants.{Refname}
 use Rattle.rst_tree.specs.declared.node.Node.{Node}
 use Rattle.rst_transform_names.specs.declared.names.Holder.{Holder}
-use Rattle.rst_transform_names.specs.declared.names.Holder.TheVariants.{Nobody, Element as Numbered, Unregistered}
 use Rattle.rst_transform_names.specs.declared.names.NameEntry.{NameEntry}
-use Rattle.rst_transform_links.specs.Holders.{is_target_node, name_lead}
+use Rattle.rst_transform_links.specs.Holders.{element_at, is_nobody, is_target_node, name_lead}
 use Rattle.rst_transform_links.specs.Linkings.{Held}
 use Rattle.rst_transform_hyperlinks.specs.declared.chains.Answer.{Answer}
 use Rattle.rst_transform_hyperlinks.specs.declared.chains.Answer.TheVariants.{Leads, Missing, Circular}
@@ -21,17 +20,6 @@ use Rattle.rst_transform_work.specs.Reading.{text_said}
 -- the name that an indirect target refers to
 abbrev pub indirect_name : Node → Option (List ℕ)
 indirect_name node = if is_target_node node then text_said Refname node else None
-
--- an element holds a name unless those with equal names lost it
-abbrev pub has_holder : Holder → Bool
-has_holder Nobody = false
-has_holder (Numbered serial) = true
-has_holder Unregistered = true
-
--- the linked element at a place
-abbrev pub element_at : List Held → Option ℕ → Option Node
-element_at linked None = None
-element_at linked (Some place) = option_map (λ one. one.0) (slice_get linked place)
 
 -- an element is an indirect target
 abbrev pub is_indirect : Option Node → Bool
@@ -52,7 +40,7 @@ step_to linked place entry =
 -- the same by the places of the holders of names; nowhere, if no element holds the name
 abbrev pub step_by : List Held → (Holder → Option ℕ) → List ℕ → Option NameEntry → Step
 step_by linked places name None = Ends (Missing name)
-step_by linked places name (Some entry) = if has_holder entry.holder then step_to linked (places entry.holder) entry else Ends (Missing name)
+step_by linked places name (Some entry) = if is_nobody entry.holder then Ends (Missing name) else step_to linked (places entry.holder) entry
 
 -- the first step from an element, if it is an indirect target
 abbrev pub own_step : (List ℕ → Option NameEntry) → (Holder → Option ℕ) → List Held → Node → Option Step

@@ -82,8 +82,7 @@ targets_of known places linked = targets_from known places (anonymous_from 0 lin
 -- what becomes of an element that leads where an answer says
 abbrev pub led : Answer → Outcome
 led (Leads attr) = adds (Some attr)
-led (Missing name) = adds None
-led Circular = adds None
+led _ = adds None
 
 -- a reference through a target fails for the message on that, or else leads where that one leads, if it is anonymous; those by name
 -- are left to a later transform

@@ -1,16 +1,13 @@
 //! Anonymous references.
-ghost use Rattle.std.specs.Prelude.{◌≡◌, drop, length, map, true};
+ghost use Rattle.std.specs.Prelude.{◌≡◌, length, map, true};
 ghost use Rattle.rst_tree.specs.Faults.{Gives};
 ghost use Rattle.rst_tree.specs.declared.note.Level.TheVariants.{Error};
 ghost use Rattle.rst_transform_hyperlinks.specs.Anonymous.{anonymous_outcomes, anonymous_references, anonymous_targets, failing, first_lead, first_line, is_anonymous_reference, is_anonymous_target, lead_to, mismatch, paired};
 ghost use Rattle.rst_transform_links.specs.Linkings.{held};
-ghost use Rattle.rst_transform_links.specs.LinkTransforms.{link_changes};
 ghost use Rattle.rst_transform_work.specs.Known.{Makes};
 ghost use Rattle.rst_transform_work.specs.Reports.{report_in, IsReported, KeepsRest};
 
-use rst_transform_links::{
-    Changes, LinkTransform, Linked, Outcome, changes_by, lead_of, text_attr,
-};
+use rst_transform_links::{Linked, Outcome, lead_of, text_attr};
 use rst_transform_work::{Context, first_said, has, line_of};
 use rst_tree::{Entry, Key, Level, Node, Tag, Text, TreeFault};
 use std::alloc::Global;
@@ -37,35 +34,24 @@ use std::alloc::Global;
 ///
 /// One through an indirect target is left to the next transform. If there are more of the ones than of the others, there is
 /// one ERROR, and each reference becomes a problematic.
-pub fn anonymous(context: &mut Context, linked: &[Linked<'_>]) -> Result<Changes, TreeFault>
-    ensures { Gives (Makes (link_changes anonymous_outcomes (map held linked.now)) context.old context.new) result }
+pub fn anonymous_outcomes(
+    context: &mut Context,
+    linked: &[Linked<'_>],
+) -> Result<Vec<Outcome>, TreeFault>
+    ensures { Gives (λ outcomes. Makes (anonymous_outcomes (map held linked.now)) context.old context.new outcomes.items) result }
 {
-    let changes = changes_by::<Pairing>(context, linked)?;
-    Ok(changes)
-}
-
-/// The transform of links that gives anonymous references their targets.
-struct Pairing;
-
-impl LinkTransform for Pairing {
-    ghost use Rattle.rst_transform_hyperlinks.specs.Anonymous.{anonymous_outcomes};
-
-    ghost decides = { anonymous_outcomes };
-
-    fn outcomes(context: &mut Context, linked: &[Linked<'_>]) -> Result<Vec<Outcome>, TreeFault> {
-        let references = anonymous_references(context.alloc, linked)?;
-        let targets = anonymous_targets(context.alloc, linked)?;
-        if references.len() == targets.len() {
-            if references.is_empty() {
-                return Ok(Vec::new(context.alloc));
-            }
-            let outcomes = paired(context.alloc, linked, targets.as_slice())?;
-            return Ok(outcomes);
+    let references = anonymous_references(context.alloc, linked)?;
+    let targets = anonymous_targets(context.alloc, linked)?;
+    if references.len() == targets.len() {
+        if references.is_empty() {
+            return Ok(Vec::new(context.alloc));
         }
-        let report = report_mismatch(context, references.as_slice(), targets.as_slice())?;
-        let outcomes = mismatched(context.alloc, linked, report)?;
-        Ok(outcomes)
+        let outcomes = paired(context.alloc, linked, targets.as_slice())?;
+        return Ok(outcomes);
     }
+    let report = report_mismatch(context, references.as_slice(), targets.as_slice())?;
+    let outcomes = mismatched(context.alloc, linked, report)?;
+    Ok(outcomes)
 }
 
 /// Whether a node is an anonymous reference.
@@ -174,19 +160,12 @@ fn paired(
     for one in linked {
         if is_anonymous_reference(one.element) {
             outcomes.push(Outcome::adds(first_lead(alloc, left)?))?;
-            left = behind_first(left);
+            left = &left[left.len().min(1)..];
             continue;
         }
-        outcomes.push(Outcome::same())?;
+        outcomes.push(Outcome::adds(None))?;
     }
     Ok(outcomes)
-}
-
-/// All but the first.
-fn behind_first<'t, 'a>(targets: &'t [Linked<'a>]) -> &'t [Linked<'a>]
-    ensures { result.now ≡ drop 1 targets.now }
-{
-    &targets[targets.len().min(1)..]
 }
 
 /// What a reference says of the first of some targets, if there is one.
@@ -215,7 +194,7 @@ fn lead_to(alloc: Global, target: &Node) -> Result<Option<Entry>, TreeFault>
     }
 }
 
-/// All anonymous references fail.
+/// Where all anonymous references fail for a report, what becomes of the elements.
 fn mismatched(
     alloc: Global,
     linked: &[Linked<'_>],
@@ -237,5 +216,5 @@ fn failing(report: usize, element: &Node) -> Outcome
     if is_anonymous_reference(element) {
         return Outcome::Fails(report);
     }
-    Outcome::same()
+    Outcome::adds(None)
 }

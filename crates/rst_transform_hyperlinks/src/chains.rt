@@ -68,19 +68,12 @@ fn at_once(alloc: Global, steps: &[Option<Step>]) -> Result<Vec<Option<Answer>>,
 {
     let mut answers = Vec::with_capacity(alloc, steps.len())?;
     for step in steps {
-        answers.push(end_of(alloc, step)?)?;
+        match step {
+            Some(Step::Ends(answer)) => answers.push(Some(answer.copy(alloc)?))?,
+            _ => answers.push(None)?,
+        }
     }
     Ok(answers)
-}
-
-/// The end of a chain that ends with its first step.
-fn end_of(alloc: Global, step: &Option<Step>) -> Result<Option<Answer>, TreeFault>
-    ensures { Gives (λ answer. answer ≡ at_once step.now) result }
-{
-    match step {
-        Some(Step::Ends(answer)) => Ok(Some(answer.copy(alloc)?)),
-        _ => Ok(None),
-    }
 }
 
 /// Follows the chain from an indirect target to the first whose answer is known, and sets that answer for all in the chain.

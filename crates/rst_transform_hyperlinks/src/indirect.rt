@@ -1,27 +1,22 @@
 //! Indirect targets.
-ghost use Rattle.std.specs.Prelude.{◌≡◌, drop, is_none, map, unwrap_or, MatchOption, None, Some, []};
+ghost use Rattle.std.specs.Prelude.{◌≡◌, is_none, map, MatchOption, None, Some};
 ghost use Rattle.std.specs.List.{list_all};
 ghost use Rattle.rst_tree.specs.Faults.{Gives};
-ghost use Rattle.rst_tree.specs.declared.key.Key.TheVariants.{OwnName};
 ghost use Rattle.rst_transform_names.specs.Names.{held_by};
-ghost use Rattle.rst_transform_links.specs.Holders.{holding, place_at};
-ghost use Rattle.rst_transform_links.specs.LinkTransforms.{link_changes};
-ghost use Rattle.rst_transform_hyperlinks.specs.Indirect.{anonymous_from, circle_text, failure_of, indirect_outcomes, is_reference_node, led, missing_text, named_place, outcome_or, outcome_through, outcomes_by, targets_from, targets_of, with_report, with_reports};
-ghost use Rattle.rst_transform_hyperlinks.specs.Chains.{element_at, has_holder, indirect_name, is_indirect, own_step, step_by, step_to, steps_of};
-ghost use Rattle.rst_transform_hyperlinks.specs.declared.chains.Answer.TheVariants.{Missing};
-ghost use Rattle.rst_transform_hyperlinks.specs.declared.chains.Step.TheVariants.{Ends};
+ghost use Rattle.rst_transform_links.specs.Holders.{place_at};
+ghost use Rattle.rst_transform_hyperlinks.specs.Indirect.{anonymous_from, failure_of, indirect_outcomes, is_reference_node, led, named_place, outcome_or, outcome_through, outcomes_by, targets_of, with_report, with_reports};
+ghost use Rattle.rst_transform_hyperlinks.specs.Chains.{indirect_name, own_step, step_to, steps_of};
 ghost use Rattle.rst_transform_links.specs.Linkings.{held};
 ghost use Rattle.rst_transform_work.specs.Known.{Makes};
-ghost use Rattle.rst_transform_work.specs.Reading.{text_said};
 ghost use Rattle.rst_transform_work.specs.Reports.{KeepsRest};
 ghost use Rattle.rst_transform_work.specs.Lists.{at_place};
 
 use crate::anonymous::{is_anonymous_reference, is_anonymous_target};
 use crate::chains::{Answer, Step, answer_at, answers};
 use rst_transform_links::{
-    Changes, Holders, LinkTransform, Linked, Outcome, changes_by, is_target, lead_by_name,
+    Holders, Linked, Outcome, element_at, is_lost, is_target, lead_by_name,
 };
-use rst_transform_names::{Holder, NameEntry, Names};
+use rst_transform_names::{NameEntry, Names};
 use rst_transform_work::{Context, at_place, has, line_of, text_said};
 use rst_tree::{Key, Level, Node, Tag, Text, TreeFault};
 use std::alloc::Global;
@@ -54,39 +49,28 @@ use std::alloc::Global;
 /// References by name are left to the last of these transforms. A target whose chain runs into a circle, or breaks at a name
 /// that no element holds, gives an ERROR, and the references through it become problematics of that message: message by message,
 /// under each in the order of the document.
-pub fn indirect(context: &mut Context, linked: &[Linked<'_>]) -> Result<Changes, TreeFault>
-    ensures { Gives (Makes (link_changes indirect_outcomes (map held linked.now)) context.old context.new) result }
+pub fn indirect_outcomes(
+    context: &mut Context,
+    linked: &[Linked<'_>],
+) -> Result<Vec<Outcome>, TreeFault>
+    ensures { Gives (λ outcomes. Makes (indirect_outcomes (map held linked.now)) context.old context.new outcomes.items) result }
 {
-    let changes = changes_by::<Following>(context, linked)?;
-    Ok(changes)
-}
-
-/// The transform of links that follows indirect targets.
-struct Following;
-
-impl LinkTransform for Following {
-    ghost use Rattle.rst_transform_hyperlinks.specs.Indirect.{indirect_outcomes};
-
-    ghost decides = { indirect_outcomes };
-
-    fn outcomes(context: &mut Context, linked: &[Linked<'_>]) -> Result<Vec<Outcome>, TreeFault> {
-        let holders = Holders::of(context.alloc, linked, context.serials)?;
-        let steps = first_steps(context.alloc, &context.names, &holders, linked)?;
-        if are_none(steps.as_slice()) {
-            return Ok(Vec::new(context.alloc));
-        }
-        let targets = targets_of(context.alloc, &context.names, &holders, linked)?;
-        let answers = answers(context.alloc, steps.as_slice())?;
-        let reports = reports(context, linked, answers.as_slice())?;
-        let outcomes = outcomes(
-            context.alloc,
-            linked,
-            answers.as_slice(),
-            reports.as_slice(),
-            targets.as_slice(),
-        )?;
-        Ok(outcomes)
+    let holders = Holders::of(context.alloc, linked, context.serials)?;
+    let steps = first_steps(context.alloc, &context.names, &holders, linked)?;
+    if are_none(steps.as_slice()) {
+        return Ok(Vec::new(context.alloc));
     }
+    let targets = targets_of(context.alloc, &context.names, &holders, linked)?;
+    let answers = answers(context.alloc, steps.as_slice())?;
+    let reports = reports(context, linked, answers.as_slice())?;
+    let outcomes = outcomes(
+        context.alloc,
+        linked,
+        answers.as_slice(),
+        reports.as_slice(),
+        targets.as_slice(),
+    )?;
+    Ok(outcomes)
 }
 
 /// Whether no element is an indirect target.
@@ -106,31 +90,6 @@ fn indirect_name<'a>(node: &'a Node) -> Option<&'a str>
     text_said(node, Key::Refname)
 }
 
-/// Whether an element holds what is known of a name.
-fn has_holder(known: &NameEntry) -> bool
-    ensures { result ≡ has_holder known.now.holder }
-{
-    !matches!(known.holder, Holder::Nobody)
-}
-
-/// The linked element at a place, if there is one.
-fn element_at<'a>(linked: &[Linked<'a>], place: Option<usize>) -> Option<&'a Node>
-    ensures { holding result ≡ element_at (map held linked.now) place }
-{
-    let one = linked.get(place?)?;
-    Some(one.element)
-}
-
-/// Whether an element is an indirect target.
-fn is_indirect(holder: Option<&Node>) -> bool
-    ensures { result ≡ is_indirect (holding holder.entry) }
-{
-    match holder {
-        Some(node) => indirect_name(node).is_some(),
-        None => false,
-    }
-}
-
 /// The first step to the holder of a name, at a place, if it is a linked element.
 fn step_to(
     alloc: Global,
@@ -141,42 +100,10 @@ fn step_to(
     ensures { Gives (λ step. step ≡ step_to (map held linked.now) place known.now) result }
 {
     let holder = element_at(linked, place);
-    let further = is_indirect(holder);
-    match place {
-        Some(place) if further => Ok(Step::To(place)),
-        _ => {
-            let lead = lead_by_name(alloc, known, holder)?;
-            Ok(Step::Ends(Answer::Leads(lead)))
-        }
+    match (place, holder) {
+        (Some(place), Some(node)) if indirect_name(node).is_some() => Ok(Step::To(place)),
+        _ => Ok(Step::Ends(Answer::Leads(lead_by_name(alloc, known, holder)?))),
     }
-}
-
-/// The first step to what a name means.
-fn first_step(
-    alloc: Global,
-    names: &Names,
-    holders: &Holders,
-    linked: &[Linked<'_>],
-    name: &str,
-) -> Result<Step, TreeFault>
-    ensures { Gives (λ step. step ≡ step_by (map held linked.now) (place_at holders.now.places.items) name.now (held_by names.now name.now)) result }
-{
-    let Some(known) = names.get(name) else {
-        return missing(alloc, name);
-    };
-    if !has_holder(known) {
-        return missing(alloc, name);
-    }
-    let step = step_to(alloc, linked, known, holders.place(known.holder))?;
-    Ok(step)
-}
-
-/// A chain that ends at a name which no element holds.
-fn missing(alloc: Global, name: &str) -> Result<Step, TreeFault>
-    ensures { Gives (λ step. step ≡ Ends (Missing name.now)) result }
-{
-    let name = Text::from_str(alloc, name)?;
-    Ok(Step::Ends(Answer::Missing(name)))
 }
 
 /// The first step from an element, if it is an indirect target.
@@ -189,9 +116,18 @@ fn own_step(
 ) -> Result<Option<Step>, TreeFault>
     ensures { Gives (λ step. step ≡ own_step (held_by names.now) (place_at holders.now.places.items) (map held linked.now) node.now) result }
 {
-    match indirect_name(node) {
-        Some(name) => Ok(Some(first_step(alloc, names, holders, linked, name)?)),
-        None => Ok(None),
+    let Some(name) = indirect_name(node) else {
+        return Ok(None);
+    };
+    match names.get(name) {
+        Some(known) if !is_lost(known) => {
+            let place = holders.place(known.holder);
+            Ok(Some(step_to(alloc, linked, known, place)?))
+        }
+        _ => {
+            let name = Text::from_str(alloc, name)?;
+            Ok(Some(Step::Ends(Answer::Missing(name))))
+        }
     }
 }
 
@@ -212,34 +148,6 @@ fn first_steps(
     Ok(steps)
 }
 
-/// The name that the message on a target calls it.
-fn own_name(node: &Node) -> &str
-    ensures { result.now ≡ unwrap_or (text_said OwnName node.now) [] }
-{
-    match text_said(node, Key::OwnName) {
-        Some(name) => name,
-        None => "",
-    }
-}
-
-/// What the message says of a target whose chain breaks at a name that no element holds.
-fn missing_text(alloc: Global, name: &str, missing: &str) -> Result<Text, TreeFault>
-    ensures { Gives (λ text. text ≡ missing_text name.now missing.now) result }
-{
-    let text = format!(in alloc;
-        "Indirect hyperlink target \"{name}\" refers to target \"{missing}\", which does not exist."
-    )?;
-    Ok(Text::new(text))
-}
-
-/// What the message says of a target whose chain runs into a circle.
-fn circle_text(alloc: Global, name: &str) -> Result<Text, TreeFault>
-    ensures { Gives (λ text. text ≡ circle_text name.now) result }
-{
-    let text = format!(in alloc; "Indirect hyperlink target \"{name}\" is circular.")?;
-    Ok(Text::new(text))
-}
-
 /// What the message on the element at a place says, if it fails.
 fn failure_at(
     alloc: Global,
@@ -249,11 +157,19 @@ fn failure_at(
 ) -> Result<Option<Text>, TreeFault>
     ensures { Gives (λ text. text ≡ failure_of node.now (at_place answers.now place)) result }
 {
+    let name = text_said(node, Key::OwnName).unwrap_or("");
     match answer_at(answers, place) {
         Some(Answer::Missing(missing)) => {
-            Ok(Some(missing_text(alloc, own_name(node), missing.as_str())?))
+            let text = format!(in alloc;
+                "Indirect hyperlink target \"{name}\" refers to target \"{}\", which does not exist.",
+                missing.as_str()
+            )?;
+            Ok(Some(Text::new(text)))
         }
-        Some(Answer::Circular) => Ok(Some(circle_text(alloc, own_name(node))?)),
+        Some(Answer::Circular) => {
+            let text = format!(in alloc; "Indirect hyperlink target \"{name}\" is circular.")?;
+            Ok(Some(Text::new(text)))
+        }
         Some(Answer::Leads(_)) | None => Ok(None),
     }
 }
@@ -329,13 +245,6 @@ fn named_place(names: &Names, holders: &Holders, node: &Node) -> Option<usize>
     holders.place(known.holder)
 }
 
-/// All but the first.
-fn behind_first(places: &[usize]) -> &[usize]
-    ensures { result.now ≡ drop 1 places.now }
-{
-    &places[places.len().min(1)..]
-}
-
 /// For each reference the place of the target that it means, by its name or by the order.
 fn targets_of(
     alloc: Global,
@@ -346,26 +255,12 @@ fn targets_of(
     ensures { Gives (λ targets. targets.items ≡ targets_of (held_by names.now) (place_at holders.now.places.items) (map held linked.now)) result }
 {
     let anonymous = anonymous_places(alloc, linked)?;
-    let targets = targets_by(alloc, names, holders, linked, anonymous.as_slice())?;
-    Ok(targets)
-}
-
-/// The same, by the places of the anonymous targets.
-fn targets_by(
-    alloc: Global,
-    names: &Names,
-    holders: &Holders,
-    linked: &[Linked<'_>],
-    anonymous: &[usize],
-) -> Result<Vec<Option<usize>>, TreeFault>
-    ensures { Gives (λ targets. targets.items ≡ targets_from (held_by names.now) (place_at holders.now.places.items) anonymous.entry.now (map held linked.now)) result }
-{
-    let mut left = anonymous;
+    let mut left = anonymous.as_slice();
     let mut targets = Vec::with_capacity(alloc, linked.len())?;
     for one in linked {
         if is_anonymous_reference(one.element) {
             targets.push(left.first().copied())?;
-            left = behind_first(left);
+            left = &left[left.len().min(1)..];
             continue;
         }
         targets.push(named_place(names, holders, one.element))?;
@@ -378,30 +273,8 @@ fn led(alloc: Global, answer: &Answer) -> Result<Outcome, TreeFault>
     ensures { Gives (λ outcome. outcome ≡ led answer.now) result }
 {
     match answer {
-        Answer::Leads(attr) => Ok(Outcome::says(attr.copy(alloc)?)),
-        Answer::Missing(_) | Answer::Circular => Ok(Outcome::same()),
-    }
-}
-
-/// What becomes of a reference through the target at a place.
-fn outcome_through(
-    alloc: Global,
-    node: &Node,
-    answers: &[Option<Answer>],
-    reports: &[Option<usize>],
-    target: Option<usize>,
-) -> Result<Outcome, TreeFault>
-    ensures { Gives (λ outcome. outcome ≡ outcome_through (at_place answers.now) (at_place reports.now) node.now target) result }
-{
-    let Some(target) = target else {
-        return Ok(Outcome::same());
-    };
-    if let Some(report) = at_place(reports, target) {
-        return Ok(Outcome::Fails(report));
-    }
-    match answer_at(answers, target) {
-        Some(answer) if has(node, Key::Anonymous) => led(alloc, answer),
-        _ => Ok(Outcome::same()),
+        Answer::Leads(attr) => Ok(Outcome::adds(Some(attr.copy(alloc)?))),
+        Answer::Missing(_) | Answer::Circular => Ok(Outcome::adds(None)),
     }
 }
 
@@ -416,9 +289,18 @@ fn outcome_at(
 ) -> Result<Outcome, TreeFault>
     ensures { Gives (λ outcome. outcome ≡ outcome_or (at_place answers.now place) (outcome_through (at_place answers.now) (at_place reports.now) node.now target)) result }
 {
-    match answer_at(answers, place) {
-        Some(answer) => led(alloc, answer),
-        None => outcome_through(alloc, node, answers, reports, target),
+    if let Some(answer) = answer_at(answers, place) {
+        return led(alloc, answer);
+    }
+    let Some(target) = target else {
+        return Ok(Outcome::adds(None));
+    };
+    if let Some(report) = at_place(reports, target) {
+        return Ok(Outcome::Fails(report));
+    }
+    match answer_at(answers, target) {
+        Some(answer) if has(node, Key::Anonymous) => led(alloc, answer),
+        _ => Ok(Outcome::adds(None)),
     }
 }
 

@@ -2,7 +2,7 @@
 use Rattle.std.proofs.Common.{◌≡◌, ℕ, zero, suc, ◌+◌, ◌<◌, ◌≤◌, List, [], ◌∷◌, length, map, drop, get_or, replicate, refl, ◌∙◌, ap, arith, Bool, true, false}
 use Rattle.std.specs.Prelude.{if◌then◌else◌, nat_eq, nat_lt, slice_get, slice_set, Option, Some, None}
 use Rattle.std.specs.Option.{option_flatten}
-use Rattle.std.proofs.lemmas.List.{drop_more, drop_all}
+use Rattle.std.proofs.lemmas.List.{drop_all, drop_more, length-replicate, length-set}
 use Rattle.rst_transform_names.specs.declared.names.Holder.{Holder}
 use Rattle.rst_transform_names.specs.declared.names.Holder.TheVariants.{Nobody, Element, Unregistered}
 use Rattle.rst_tree.specs.declared.key.Key.TheVariants.{Serial}
@@ -22,14 +22,9 @@ with_place_at : (places : List (Option ℕ)) (place serial : ℕ) (said : Option
 with_place_at places place serial None within = refl
 with_place_at places place serial (Some n) within = set_at places n serial (Some place) within
 
-set_length : (xs : List (Option ℕ)) (n : ℕ) (v : Option ℕ) → length (slice_set xs n v) ≡ length xs
-set_length [] n v = refl
-set_length (x ∷ xs) zero v = refl
-set_length (x ∷ xs) (suc n) v = ap suc (set_length xs n v)
-
 with_place_length : (places : List (Option ℕ)) (place : ℕ) (said : Option ℕ) → length (with_place place said places) ≡ length places
 with_place_length places place None = refl
-with_place_length places place (Some n) = set_length places n (Some place)
+with_place_length places place (Some n) = length-set places n (Some place)
 
 -- the places put there before an element, with those that the elements from it on will have
 pub record Placing (serials : ℕ) (linked : List Linked) (places : List (Option ℕ)) (place : ℕ) : Type 0 where
@@ -45,12 +40,8 @@ no_place zero serial = refl
 no_place (suc n) zero = refl
 no_place (suc n) (suc serial) = no_place n serial
 
-nowhere_length : (serials : ℕ) → length (blank serials) ≡ serials
-nowhere_length zero = refl
-nowhere_length (suc n) = ap suc (nowhere_length n)
-
 pub Placing-init : (serials : ℕ) (linked : List Linked) → Placing serials linked (replicate serials None) 0
-Placing-init serials linked = record { all = nowhere_length serials; become = λ serial within. ap (λ before. last_numbered serial 0 before (map held linked)) (no_place serials serial) }
+Placing-init serials linked = record { all = length-replicate serials None; become = λ serial within. ap (λ before. last_numbered serial 0 before (map held linked)) (no_place serials serial) }
 
 pub Placing-more : (serials : ℕ) (linked : List Linked) (places : List (Option ℕ)) (place : ℕ) (one : Linked) → Placing serials linked places place → place < length linked → one ≡ get_or linked place one
     → Placing serials linked (with_place place (number_said Serial one.element.now) places) (place + 1)

@@ -1,6 +1,6 @@
 -- Where every element stays as it is, the document does.
 use Rattle.std.proofs.Common.{◌≡◌, ℕ, List, [], ◌∷◌, drop, refl, ap, Bool, true, false, Option}
-use Rattle.std.specs.Prelude.{◌&&◌, if◌then◌else◌, Some, None}
+use Rattle.std.specs.Prelude.{if◌then◌else◌, Some, None}
 use Rattle.std.specs.List.{list_all}
 use Rattle.rst_tree.specs.declared.attrs.Attr.{Attr}
 use Rattle.rst_tree.specs.declared.node.Node.TheVariants.{Element}
@@ -12,19 +12,15 @@ use Rattle.rst_tree_index.specs.LinkedTags.{is_linked_tag}
 use Rattle.rst_transform_work.specs.declared.document.Document.{Document}
 use Rattle.rst_transform_links.specs.declared.links.Outcome.{Outcome}
 use Rattle.rst_transform_links.specs.declared.links.Outcome.TheVariants.{Stays, Fails, Failed}
-use Rattle.rst_transform_links.specs.Links.{change_next, change_of, changed_by, changed_document, is_idle, is_nothing, shown_as, with_more}
-
--- nothing is said or shown, and the rest is idle
-nothing : (more : Option Attr) (text : Option (List ℕ)) (rest : Bool) (t : Tag) (a : List Attr) (l : ℕ) → (is_nothing more text && rest) ≡ true → (shown_as text t (with_more more a) l ≡ Keep t a l) × (rest ≡ true)
-nothing None None rest t a l h = (refl, h)
-nothing None (Some text) rest t a l h = absurd (cc)
-nothing (Some more) None rest t a l h = absurd (cc)
-nothing (Some more) (Some text) rest t a l h = absurd (cc)
+use Rattle.rst_transform_links.specs.Links.{change_next, change_of, changed_by, changed_document, is_idle}
 
 -- a linked element stays
 idle_first : (s : List Outcome) (t : Tag) (a : List Attr) (l : ℕ) → list_all is_idle s ≡ true → (changed_by s t a l ≡ Keep t a l) × (list_all is_idle (drop 1 s) ≡ true)
 idle_first [] t a l h = (refl, refl)
-idle_first (Stays more ∷ rest) t a l h = nothing more.attr more.shown (list_all is_idle rest) t a l h
+idle_first (Stays None None ∷ rest) t a l h = (refl, h)
+idle_first (Stays None (Some text) ∷ rest) t a l h = absurd (cc)
+idle_first (Stays (Some more) None ∷ rest) t a l h = absurd (cc)
+idle_first (Stays (Some more) (Some text) ∷ rest) t a l h = absurd (cc)
 idle_first (Fails report ∷ rest) t a l h = (refl, h)
 idle_first (Failed p ∷ rest) t a l h = absurd (cc)
 

@@ -14,7 +14,6 @@ use Rattle.rst_transform_work.specs.Lists.{at_place}
 use Rattle.rst_transform_work.specs.Problematics.{problematic}
 use Rattle.rst_transform_links.specs.Law.{SettlesNothing}
 use Rattle.rst_transform_links.specs.Linkings.{Held}
-use Rattle.rst_transform_links.specs.LinkTransforms.{link_changes}
 use Rattle.rst_transform_links.specs.Outcomes.{stays}
 use Rattle.rst_transform_links.specs.Settling.{by_message, earlier_at, first_in, firsts, left_at, remaining, settled, take_turns, turn_of, turns_of}
 use Rattle.rst_transform_links.proofs.TurnsInOrder.{none_left}
@@ -48,15 +47,15 @@ stays_if (Some outcome) = stays outcome
 
 pub stays_at : (outcomes : List Outcome) (i : ℕ) → list_all stays outcomes ≡ true → stays_if (slice_get outcomes i) ≡ true
 stays_at [] i h = refl
-stays_at (Stays x ∷ more) zero h = refl
-stays_at (Stays x ∷ more) (suc i) h = stays_at more i h
+stays_at (Stays attr shown ∷ more) zero h = refl
+stays_at (Stays attr shown ∷ more) (suc i) h = stays_at more i h
 stays_at (Fails r ∷ more) i h = absurd (cc)
 stays_at (Failed p ∷ more) i h = absurd (cc)
 
 none_earlier : (first : Option (Option ℕ)) (outcome : Option Outcome) → option_flatten first ≡ None → stays_if outcome ≡ true → earlier_at first outcome ≡ None
 none_earlier None outcome h k = refl
 none_earlier (Some None) None h k = refl
-none_earlier (Some None) (Some (Stays x)) h k = refl
+none_earlier (Some None) (Some (Stays attr shown)) h k = refl
 none_earlier (Some None) (Some (Fails r)) h k = absurd (cc)
 none_earlier (Some None) (Some (Failed p)) h k = absurd (cc)
 none_earlier (Some (Some n)) outcome h k = absurd (cc)
@@ -75,7 +74,7 @@ no_firsts before outcomes (one ∷ more) h k =
 
 no_turns : (reports : ℕ) (around : List (Option ℕ)) (place : ℕ) (outcomes : List Outcome) → list_all stays outcomes ≡ true → filter_map (turn_of reports around) (enumerate_from place outcomes) ≡ []
 no_turns reports around place [] h = refl
-no_turns reports around place (Stays x ∷ more) h = no_turns reports around (place + 1) more h
+no_turns reports around place (Stays attr shown ∷ more) h = no_turns reports around (place + 1) more h
 no_turns reports around place (Fails r ∷ more) h = absurd (cc)
 no_turns reports around place (Failed p ∷ more) h = absurd (cc)
 
@@ -94,14 +93,6 @@ settled_at linked outcomes before after turns done changes found takes changed k
     let all : turns ≡ by_message (length known.reports) (turns_of (length known.reports) around outcomes) = found ∙ ap (λ reports. by_message (length reports) (turns_of (length reports) around outcomes)) h.reports in
     let took = rw all at takes known h in
     (changed ∙ ap (remaining around) took.0, took.1)
-
--- what a transform decides is settled
-pub links_changed : (decides : List Held → Known → List Outcome × Known) (linked : List Held) (before between after : Context) (outcomes changes : List Outcome) → Makes (decides linked) before between outcomes
-    → Makes (settled linked outcomes) between after changes → Makes (link_changes decides linked) before after changes
-links_changed decides linked before between after outcomes changes decided settles known h =
-    let first = decided known h in
-    let done = settles (decides linked known).1 first.1 in
-    subst (λ o. let d = settled linked o (decides linked known).1 in (changes ≡ d.0) × Holds after d.1) first.0 done
 
 -- where all stay, there is nothing to settle
 pub all_stay : (linked : List Held) (outcomes changes : List Outcome) (context : Context) → list_all stays outcomes ≡ true → changes ≡ outcomes → Makes (settled linked outcomes) context context changes

@@ -32,12 +32,9 @@ mark_of (Element t a c l) = if is_footnote t then said_text (value_of Mark a) el
 mark_of (Words t) = None
 
 -- a footnote that is to be numbered was written with `#` alone, a symbol footnote with `*`
-abbrev pub order_of_mark : List ℕ → Option Order
-order_of_mark mark = if bytes_eq mark (codes "#") then Some Numbers else (if bytes_eq mark (codes "*") then Some Symbols else None)
-
 abbrev pub order_of : Option (List ℕ) → Option Order
 order_of None = None
-order_of (Some mark) = order_of_mark mark
+order_of (Some mark) = if bytes_eq mark (codes "#") then Some Numbers else (if bytes_eq mark (codes "*") then Some Symbols else None)
 
 -- the order by which references find a footnote
 abbrev pub footnote_order : Node → Option Order
@@ -47,8 +44,7 @@ footnote_order node = order_of (mark_of node)
 abbrev pub order_said : Option Value → Option Order
 order_said None = None
 order_said (Some (Text mark)) = if bytes_eq mark (codes "*") then Some Symbols else Some Numbers
-order_said (Some (Number number)) = Some Numbers
-order_said (Some (Listed texts)) = Some Numbers
+order_said (Some _) = Some Numbers
 
 -- the order by which a reference without a name finds its footnote
 abbrev pub reference_order : Node → Option Order

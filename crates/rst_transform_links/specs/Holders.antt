@@ -1,5 +1,5 @@
 -- The elements that hold names, among those that references join (Markup Specification, 'Hyperlink References').
-use Rattle.std.specs.Prelude.{ℕ, ◌+◌, Bool, false, nat_eq, nat_lt, List, [], ◌∷◌, if◌then◌else◌, slice_get, slice_set, unwrap_or, Option, Some, None}
+use Rattle.std.specs.Prelude.{ℕ, ◌+◌, Bool, true, false, nat_eq, nat_lt, List, [], ◌∷◌, if◌then◌else◌, option_map, slice_get, slice_set, unwrap_or, Option, Some, None}
 use Rattle.std.specs.Borrow.{Bor}
 use Rattle.std.specs.Option.{option_flatten}
 use Rattle.rst_transform_names.specs.declared.names.Holder.{Holder}
@@ -54,6 +54,16 @@ place_at places Unregistered = None
 abbrev pub with_place : ℕ → Option ℕ → List (Option ℕ) → List (Option ℕ)
 with_place place None places = places
 with_place place (Some serial) places = slice_set places serial (Some place)
+
+-- the linked element at a place, if there is one
+abbrev pub element_at : List Held → Option ℕ → Option Node
+element_at linked None = None
+element_at linked (Some place) = option_map (λ one. one.0) (slice_get linked place)
+
+-- elements with equal names lost a name
+abbrev pub is_nobody : Holder → Bool
+is_nobody Nobody = true
+is_nobody _ = false
 
 -- the element that holds a name, if there is one
 abbrev pub holding : Option (Bor Node) → Option Node

@@ -26,15 +26,10 @@ abbrev pub shown_as : Option (List ℕ) → Tag → List Attr → ℕ → Rewrit
 shown_as None t a l = Keep t a l
 shown_as (Some text) t a l = Replace (Element t a (words text bare) l)
 
--- the contents of an element that may show a text in their place, and whether they are to be gone through
-abbrev pub Shows : Option (List ℕ) → Forest → Forest → Bool → Type 0
-Shows None old new stays = (new ≡ old) × (stays ≡ true)
-Shows (Some text) old new stays = (new ≡ words text bare) × (stays ≡ false)
-
 -- what the first outcome makes of an element; what failed becomes a problematic of its source text
 abbrev pub changed_by : List Outcome → Tag → List Attr → ℕ → Rewrite
 changed_by [] t a l = Keep t a l
-changed_by (Stays x ∷ more) t a l = shown_as x.shown t (with_more x.attr a) l
+changed_by (Stays attr shown ∷ more) t a l = shown_as shown t (with_more attr a) l
 changed_by (Fails report ∷ more) t a l = Keep t a l
 changed_by (Failed p ∷ more) t a l = Replace (Element Problematic p (words (source_said a) bare) l)
 
@@ -48,16 +43,11 @@ abbrev pub change_next : List Outcome → Node → List Outcome
 change_next s (Element t a c l) = if is_linked_tag t then drop 1 s else s
 change_next s (Text t) = s
 
--- nothing is said, and no text is shown
-abbrev pub is_nothing : Option Attr → Option (List ℕ) → Bool
-is_nothing None None = true
-is_nothing _ _ = false
-
 -- an element of which this becomes stays as it is
 abbrev pub is_idle : Outcome → Bool
-is_idle (Stays x) = is_nothing x.attr x.shown
+is_idle (Stays None None) = true
 is_idle (Fails report) = true
-is_idle (Failed p) = false
+is_idle _ = false
 
 -- a document whose elements changed
 abbrev pub changed_document : List Outcome → Document → Document

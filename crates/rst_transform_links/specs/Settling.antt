@@ -70,3 +70,7 @@ settled linked outcomes known =
     let reports : ℕ = length known.reports in
     let done : List Outcome × Known = take_turns (by_message reports (turns_of reports around outcomes)) outcomes known in
     (remaining around done.0, done.1)
+
+-- what becomes of linked elements as a transform decides
+abbrev pub link_changes : (List Held → Known → List Outcome × Known) → List Held → Known → List Outcome × Known
+link_changes decides linked known = let decided : List Outcome × Known = decides linked known in settled linked decided.0 decided.1

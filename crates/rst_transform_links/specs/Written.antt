@@ -7,7 +7,7 @@ use Rattle.rst_transform_work.specs.Written.{knowing}
 use Rattle.rst_transform_links.specs.declared.links.Outcome.{Outcome}
 use Rattle.rst_transform_links.specs.Linkings.{Held, linked_of}
 use Rattle.rst_transform_links.specs.Links.{changed_document}
-use Rattle.rst_transform_links.specs.LinkTransforms.{link_changes}
+use Rattle.rst_transform_links.specs.Settling.{link_changes}
 
 -- what a transform of links makes of a document and of what is known
 abbrev pub transformed_by : (List Held → Known → List Outcome × Known) → List String → Document → Document × Known

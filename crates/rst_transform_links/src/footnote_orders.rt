@@ -4,7 +4,7 @@ ghost use Rattle.rst_tree.specs.Attributes.{value_of};
 ghost use Rattle.rst_tree.specs.Faults.{Gives};
 ghost use Rattle.rst_tree.specs.declared.key.Key.TheVariants.{Auto};
 ghost use Rattle.rst_transform_links.specs.Linkings.{held};
-ghost use Rattle.rst_transform_links.specs.FootnoteOrders.{first_left, footnote_order, found_by_order, in_order, is_order, mark_of, order_name, order_of_mark, order_said, places_left, reference_order, take_in_order};
+ghost use Rattle.rst_transform_links.specs.FootnoteOrders.{first_left, footnote_order, found_by_order, in_order, is_order, mark_of, order_name, order_said, places_left, reference_order, take_in_order};
 
 use crate::links::Linked;
 use rst_tree::{Attrs, Key, Node, Said, Tag, TreeFault};
@@ -47,33 +47,20 @@ pub fn mark_of<'a>(node: &'a Node) -> Option<&'a str>
 {
     match node {
         Node::Element { tag, attrs, .. } if matches!(tag, Tag::Footnote) => {
-            match attrs.text(Key::Mark) {
-                Some(mark) => Some(mark.as_str()),
-                None => None,
-            }
+            Some(attrs.text(Key::Mark)?.as_str())
         }
         _ => None,
     }
 }
 
-/// The order of the footnotes that are written with a label: `#` alone, or `*`.
-fn order_of_mark(mark: &str) -> Option<Order>
-    ensures { result ≡ order_of_mark mark.now }
-{
-    match mark {
-        "#" => Some(Order::Numbers),
-        "*" => Some(Order::Symbols),
-        _ => None,
-    }
-}
-
-/// The order by which references find a footnote, if they do.
+/// The order by which references find a footnote, if they do: it was written with `#` alone, or `*`.
 pub fn footnote_order(node: &Node) -> Option<Order>
     ensures { result ≡ footnote_order node.now }
 {
-    match mark_of(node) {
-        Some(mark) => order_of_mark(mark),
-        None => None,
+    match mark_of(node)? {
+        "#" => Some(Order::Numbers),
+        "*" => Some(Order::Symbols),
+        _ => None,
     }
 }
 
@@ -162,6 +149,5 @@ pub fn found_by_order(alloc: Global, linked: &[Linked<'_>]) -> Result<Vec<Option
 {
     let numbers = in_order(alloc, linked, Order::Numbers)?;
     let symbols = in_order(alloc, linked, Order::Symbols)?;
-    let found = take_in_order(alloc, linked, numbers.as_slice(), symbols.as_slice())?;
-    Ok(found)
+    take_in_order(alloc, linked, numbers.as_slice(), symbols.as_slice())
 }

@@ -6,7 +6,7 @@ ghost use Rattle.rst_tree.specs.Attributes.{attr};
 ghost use Rattle.rst_tree.specs.Faults.{Gives};
 ghost use Rattle.rst_transform_names.specs.declared.names.Holder.{Holder};
 ghost use Rattle.rst_transform_links.specs.Holders.{lead_of};
-ghost use Rattle.rst_transform_links.specs.Holders.{holder_place, holding, is_target_node, kept_lead, name_lead, place_at, target_lead, with_place};
+ghost use Rattle.rst_transform_links.specs.Holders.{element_at, holder_place, holding, is_nobody, is_target_node, kept_lead, name_lead, place_at, target_lead, with_place};
 ghost use Rattle.rst_transform_links.specs.Linkings.{held};
 ghost use Rattle.rst_transform_work.specs.Reading.{number_said};
 
@@ -70,6 +70,21 @@ fn put_place(places: &mut Vec<Option<usize>>, place: usize, element: &Node)
     places[serial] = Some(place);
 }
 
+/// The linked element at a place, if there is one.
+pub fn element_at<'a>(linked: &[Linked<'a>], place: Option<usize>) -> Option<&'a Node>
+    ensures { holding result ≡ element_at (map held linked.now) place }
+{
+    let one = linked.get(place?)?;
+    Some(one.element)
+}
+
+/// Whether elements with equal names lost a name, so that none holds it.
+pub fn is_lost(known: &NameEntry) -> bool
+    ensures { result ≡ is_nobody known.now.holder }
+{
+    matches!(known.holder, Holder::Nobody)
+}
+
 /// An attribute that is a text.
 pub fn text_attr(alloc: Global, key: Key, text: &str) -> Result<Entry, TreeFault>
     ensures { Gives (λ entry. entry ≡ attr key (Words text.now)) result }
@@ -90,20 +105,6 @@ pub fn lead_of(alloc: Global, target: &Node) -> Result<Option<Entry>, TreeFault>
         Some(id) => Ok(Some(text_attr(alloc, Key::Refid, id)?)),
         None => Ok(None),
     }
-}
-
-/// Where the target that holds a name leads, if a target holds it and leads somewhere.
-fn target_lead(alloc: Global, holder: Option<&Node>) -> Result<Option<Entry>, TreeFault>
-    ensures { Gives (λ lead. lead ≡ target_lead (holding holder.entry)) result }
-{
-    let Some(element) = holder else {
-        return Ok(None);
-    };
-    if !is_target(element) {
-        return Ok(None);
-    }
-    let lead = lead_of(alloc, element)?;
-    Ok(lead)
 }
 
 /// Whether a node is a target.
@@ -136,9 +137,10 @@ pub fn lead_by_name(
 ) -> Result<Entry, TreeFault>
     ensures { Gives (λ lead. lead ≡ name_lead (holding holder.entry) held.now.uri held.now.id) result }
 {
-    if let Some(lead) = target_lead(alloc, holder)? {
-        return Ok(lead);
+    if let Some(target) = holder.filter(|holder| is_target(holder)) {
+        if let Some(lead) = lead_of(alloc, target)? {
+            return Ok(lead);
+        }
     }
-    let lead = kept_lead(alloc, held)?;
-    Ok(lead)
+    kept_lead(alloc, held)
 }

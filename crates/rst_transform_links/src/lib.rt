@@ -4,7 +4,6 @@
 mod footnote_orders;
 mod holders;
 pub mod laws;
-mod link_transform;
 mod links;
 pub mod rows;
 mod settling;
@@ -12,6 +11,6 @@ mod settling;
 pub use footnote_orders::{
     Order, footnote_order, found_by_order, in_order, mark_of, reference_order,
 };
-pub use holders::{Holders, is_target, lead_by_name, lead_of, text_attr};
-pub use link_transform::{LinkTransform, changes_by};
-pub use links::{Addition, Changes, Linked, Outcome, linked_in, with_changes};
+pub use holders::{Holders, element_at, is_lost, is_target, lead_by_name, lead_of, text_attr};
+pub use links::{Changes, Linked, Outcome, linked_in, with_changes};
+pub use settling::settle;

@@ -3,7 +3,7 @@ ghost use Rattle.std.specs.Prelude.{◌≡◌, ◌++◌, map, length, true, None
 ghost use Rattle.std.specs.List.{list_all};
 ghost use Rattle.rst_tree.specs.Faults.{Gives};
 ghost use Rattle.rst_transform_links.specs.Linkings.{held, inner_of, linked_among, linked_of, own_linked};
-ghost use Rattle.rst_transform_links.specs.Links.{Shows, changed_document, is_idle, with_more};
+ghost use Rattle.rst_transform_links.specs.Links.{changed_document, is_idle};
 ghost use Rattle.rst_transform_links.specs.Outcomes.{adds, fails, stays};
 
 use rst_transform_work::{Document, ProblematicAttrs, take_source};
@@ -21,21 +21,15 @@ pub struct Linked<'a> {
     pub outer: Option<usize>,
 }
 
-/// What an element that stays has more in the end.
-#[derive(Drop)]
-pub struct Addition {
-    /// This attribute, if there is one.
-    pub attr: Option<Entry>,
-    /// This text in place of what stood in it, if there is one. What gets one, a label or a reference to a footnote, holds
-    /// no linked element.
-    pub shown: Option<Text>,
-}
-
 /// What becomes of a linked element.
 #[derive(Drop)]
 pub enum Outcome {
-    /// It stays.
-    Stays(Addition),
+    /// It stays. In the end it has this attribute, and shows this text in place of what stood in it, if there are such. What gets a text,
+    /// a label or a reference to a footnote, holds no linked element.
+    Stays {
+        attr: Option<Entry>,
+        shown: Option<Text>,
+    },
     /// It becomes a problematic of the message at this place among the reports once its turn comes, and stays till then.
     Fails(usize),
     /// It has become a problematic with these attributes.
@@ -43,25 +37,11 @@ pub enum Outcome {
 }
 
 impl Outcome {
-    /// It stays as it is.
-    pub fn same() -> Outcome
-        ensures { result ≡ adds None }
-    {
-        Outcome::adds(None)
-    }
-
-    /// It stays, and says this.
-    pub fn says(attr: Entry) -> Outcome
-        ensures { result ≡ adds (Some attr) }
-    {
-        Outcome::adds(Some(attr))
-    }
-
     /// It stays, and says this, if there is something.
     pub fn adds(attr: Option<Entry>) -> Outcome
         ensures { result ≡ adds attr }
     {
-        Outcome::Stays(Addition { attr, shown: None })
+        Outcome::Stays { attr, shown: None }
     }
 
     /// Whether it becomes a problematic once its turn comes.
@@ -75,7 +55,7 @@ impl Outcome {
     pub fn stays(&self) -> bool
         ensures { result ≡ stays self.now }
     {
-        matches!(self, Outcome::Stays(_))
+        matches!(self, Outcome::Stays { .. })
     }
 }
 
@@ -193,9 +173,15 @@ impl Changes {
     {
         match self.left.pop_front() {
             None | Some(Outcome::Fails(_)) => Ok(true),
-            Some(Outcome::Stays(addition)) => {
-                add(attrs, addition.attr)?;
-                show(children, addition.shown)
+            Some(Outcome::Stays { attr, shown }) => {
+                if let Some(attr) = attr {
+                    attrs.set(attr.key(), attr.into_value())?;
+                }
+                let Some(text) = shown else {
+                    return Ok(true);
+                };
+                children.set_lone(Node::Text(text))?;
+                Ok(false)
             }
             Some(Outcome::Failed(problematic)) => {
                 let source = take_source(alloc, attrs)?;
@@ -213,32 +199,9 @@ fn is_idle(outcome: &Outcome) -> bool
     ensures { result ≡ is_idle outcome.now }
 {
     match outcome {
-        Outcome::Stays(addition) => addition.attr.is_none() && addition.shown.is_none(),
+        Outcome::Stays { attr, shown } => attr.is_none() && shown.is_none(),
         Outcome::Fails(_) => true,
         Outcome::Failed(_) => false,
-    }
-}
-
-/// Adds an attribute, if there is one.
-fn add(attrs: &mut Attrs, more: Option<Entry>) -> Result<(), TreeFault>
-    ensures { Gives (λ _. attrs.new ≡ with_more more attrs.old) result }
-{
-    if let Some(attr) = more {
-        attrs.set(attr.key(), attr.into_value())?;
-    }
-    Ok(())
-}
-
-/// Puts a text in the place of some nodes, if there is one, and returns whether what is there is to be gone through.
-fn show(nodes: &mut Children, text: Option<Text>) -> Result<bool, TreeFault>
-    ensures { Gives (λ stays. Shows text nodes.old nodes.new stays) result }
-{
-    match text {
-        Some(text) => {
-            nodes.set_lone(Node::Text(text))?;
-            Ok(false)
-        }
-        None => Ok(true),
     }
 }
 

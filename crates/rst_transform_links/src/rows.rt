@@ -20,7 +20,7 @@ ghost use Rattle.rst_transform_links.specs.declared.footnote_orders.Order.TheVar
 ghost use Rattle.rst_transform_links.specs.Holders.{holder_place, lead_of, name_lead};
 ghost use Rattle.rst_transform_links.specs.Linkings.{linked_of};
 ghost use Rattle.rst_transform_links.specs.Links.{changed_document};
-ghost use Rattle.rst_transform_links.specs.LinkTransforms.{link_changes};
+ghost use Rattle.rst_transform_links.specs.Settling.{link_changes};
 ghost use Rattle.rst_transform_links.specs.Outcomes.{adds};
 ghost use Rattle.rst_transform_links.specs.Settling.{settled};
 
@@ -72,7 +72,7 @@ pub fn holders()
 
 /// What becomes of the elements (Markup Specification, 'Hyperlink Targets').
 pub fn outcomes()
-    ensures addition { Shows (changed_document (adds (Some (says Refuri "u")) ∷ Stays (record { attr = None; shown = Some (codes "1") })
+    ensures addition { Shows (changed_document (adds (Some (says Refuri "u")) ∷ Stays None (Some (codes "1"))
         ∷ []) (document_of (element Reference [] (text "a" ∷ []) ∷ element Label [] (text "x" ∷ []) ∷ [])))
         ("<document>" ∷ "    <reference refuri=\"u\">" ∷ "        a" ∷ "    <label>" ∷ "        1" ∷ []) }
     ensures problematic { Shows (changed_document (Failed (lists Ids ("problematic-1" ∷ []) ∷ []) ∷ adds None

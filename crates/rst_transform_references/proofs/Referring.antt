@@ -146,22 +146,3 @@ unreferred ids place (outcome ∷ more) none = rw (none place) (ap (λ rest. out
 pub none_listed : (places : Holder → Option ℕ) (all : List Held) (names : List ℕ → Option NameEntry) (outcomes : List Outcome) → list_any (λ (one : Held). refers_to_footnote_or_citation one.0) all ≡ false → outcomes ≡ with_backrefs (referents_of places all names) all outcomes
 none_listed places all names outcomes none =
     sym (unreferred (ids_of_references (referents_of places all names) all) 0 outcomes (λ i. none_meant places all names (found_by_order all) i 0 all none))
-
--- ---- elements and their ids, one after the other
-
-without_lists : (lists : List (List (List ℕ))) (outcomes : List Outcome) → length lists ≡ 0 → with_backref_lists lists outcomes ≡ []
-without_lists [] outcomes none = refl
-without_lists (ids ∷ lists) outcomes none = absurd (omega (arith, none))
-
-without_outcomes : (lists : List (List (List ℕ))) (outcomes : List Outcome) → length outcomes ≡ 0 → with_backref_lists lists outcomes ≡ []
-without_outcomes [] outcomes none = refl
-without_outcomes (ids ∷ lists) [] none = refl
-without_outcomes (ids ∷ lists) (outcome ∷ outcomes) none = absurd (omega (arith, none))
-
--- there are no further lists
-pub ends_with_lists : (changed all : List Outcome) (lists : List (List (List ℕ))) (outcomes : List Outcome) → length lists ≡ 0 → changed ++ with_backref_lists lists outcomes ≡ all → changed ≡ all
-ends_with_lists changed all lists outcomes none before = sym (append-nil changed) ∙ (rw (without_lists lists outcomes none) at before)
-
--- there are no further elements
-pub ends_with_outcomes : (changed all : List Outcome) (lists : List (List (List ℕ))) (outcomes : List Outcome) → length outcomes ≡ 0 → changed ++ with_backref_lists lists outcomes ≡ all → changed ≡ all
-ends_with_outcomes changed all lists outcomes none before = sym (append-nil changed) ∙ (rw (without_outcomes lists outcomes none) at before)

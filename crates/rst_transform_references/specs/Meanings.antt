@@ -1,21 +1,18 @@
 -- What names mean to the references by name (Markup Specification, 'Hyperlink References', 'Footnotes', 'Citations').
-use Rattle.std.specs.Prelude.{ℕ, ◌&&◌, Bool, true, false, not, List, map, if◌then◌else◌, is_some, slice_get, Option, Some, None}
+use Rattle.std.specs.Prelude.{ℕ, ◌&&◌, Bool, true, false, not, List, if◌then◌else◌, is_some, Option, Some, None}
 use Rattle.std.specs.Option.{option_map}
 use Rattle.rst_transform_names.specs.declared.names.NameEntry.{NameEntry}
 use Rattle.rst_transform_names.specs.declared.names.Holder.{Holder}
-use Rattle.rst_transform_names.specs.declared.names.Holder.TheVariants.{Nobody}
-use Rattle.rst_transform_names.specs.Names.{held_by}
 use Rattle.rst_tree.specs.declared.key.Key.TheVariants.{Refname}
 use Rattle.rst_tree.specs.declared.node.Node.{Node}
 use Rattle.rst_tree.specs.declared.node.Node.TheVariants.{Element, Text}
 use Rattle.rst_tree.specs.declared.tag.Tag.{Tag}
 use Rattle.rst_tree.specs.declared.tag.Tag.TheVariants.{Citation, CitationReference, Footnote, FootnoteReference, Reference}
 use Rattle.rst_tree.specs.Attributes.{said_text, value_of}
-use Rattle.rst_transform_references.specs.declared.meanings.Lookup.{Lookup}
 use Rattle.rst_transform_references.specs.declared.meanings.Meaning.{Meaning}
 use Rattle.rst_transform_references.specs.declared.meanings.Meaning.TheVariants.{Leads, Unknown, Duplicate}
-use Rattle.rst_transform_links.specs.Holders.{name_lead, place_at}
-use Rattle.rst_transform_links.specs.Linkings.{held, Held}
+use Rattle.rst_transform_links.specs.Holders.{element_at, is_nobody, name_lead}
+use Rattle.rst_transform_links.specs.Linkings.{Held}
 
 -- a footnote or a citation
 abbrev pub is_footnote_or_citation_tag : Tag → Bool
@@ -47,23 +44,10 @@ abbrev pub reference_name : Node → Option (List ℕ)
 reference_name (Element t a c l) = if refers_by_name t then said_text (value_of Refname a) else None
 reference_name (Text t) = None
 
-abbrev pub is_nobody : Holder → Bool
-is_nobody Nobody = true
-is_nobody _ = false
-
 -- the place of an element, if there is one and it is a footnote or a citation
 abbrev pub referent_place : Option Node → Option ℕ → Option ℕ
 referent_place (Some node) place = if is_footnote_or_citation node then place else None
 referent_place None place = None
-
--- the linked element at a place, if there is one
-abbrev pub element_at : List Held → Option ℕ → Option Node
-element_at linked None = None
-element_at linked (Some place) = option_map (λ one. one.0) (slice_get linked place)
-
--- what is asked of the places of holders, of linked elements and of names, by what these are looked up in
-abbrev pub looked_up : {A : Type 0} → ((Holder → Option ℕ) → List Held → (List ℕ → Option NameEntry) → A) → Lookup → A
-looked_up asked lookup = asked (place_at lookup.holders.now.places.items) (map held lookup.linked.now) (held_by lookup.names.now)
 
 -- the places of holders among the linked elements of a document, and these
 module _ (places : Holder → Option ℕ) (linked : List Held) where

@@ -13,10 +13,10 @@ use Rattle.rst_transform_links.specs.declared.links.Outcome.TheVariants.{Stays, 
 use Rattle.rst_transform_references.specs.declared.meanings.Meaning.{Meaning}
 use Rattle.rst_transform_references.specs.declared.meanings.Meaning.TheVariants.{Leads, Unknown, Duplicate}
 use Rattle.rst_transform_work.specs.Known.{Known}
-use Rattle.rst_transform_links.specs.Holders.{holder_place}
+use Rattle.rst_transform_links.specs.Holders.{element_at, holder_place}
 use Rattle.rst_transform_links.specs.Linkings.{Held}
 use Rattle.rst_transform_references.specs.Backrefs.{referents_of, with_backrefs}
-use Rattle.rst_transform_references.specs.Meanings.{element_at, meaning_to, refers_to_footnote_or_citation}
+use Rattle.rst_transform_references.specs.Meanings.{meaning_to, refers_to_footnote_or_citation}
 use Rattle.rst_transform_links.specs.Outcomes.{adds, fails}
 use Rattle.rst_transform_work.specs.Reading.{line_of, text_said}
 use Rattle.rst_transform_work.specs.Reports.{reported}
@@ -59,7 +59,7 @@ failing node text known = (Fails (length known.reports), reported Error (line_of
 
 -- what becomes of a reference whose name means something
 abbrev pub outcome_of : List Held → Node → Meaning → Known → Outcome × Known
-outcome_of linked node (Leads attr place) known = (Stays (record { attr = Some attr; shown = shown_for linked node place }), known)
+outcome_of linked node (Leads attr place) known = (Stays (Some attr) (shown_for linked node place), known)
 outcome_of linked node Unknown known = failing node (unknown (name_of node)) known
 outcome_of linked node Duplicate known = failing node (duplicate (name_of node)) known
 

@@ -2,55 +2,54 @@
 ghost use Rattle.std.specs.Prelude.{◌≡◌, [], map, replicate};
 ghost use Rattle.std.specs.List.{list_any};
 ghost use Rattle.rst_tree.specs.Faults.{Gives};
-ghost use Rattle.rst_transform_references.specs.Backrefs.{reference_ids, referent_meant, referent_of, referents_of, referred_to, with_backref_lists, with_backrefs, with_reference};
+ghost use Rattle.rst_transform_references.specs.Backrefs.{reference_ids, referent_of, referents_of, referred_to, with_backref_lists, with_backrefs, with_reference};
 ghost use Rattle.rst_transform_links.specs.Holders.{place_at};
 ghost use Rattle.rst_transform_links.specs.Linkings.{held};
 ghost use Rattle.rst_transform_names.specs.Names.{held_by};
-ghost use Rattle.rst_transform_references.specs.Meanings.{looked_up, refers_to_footnote_or_citation};
+ghost use Rattle.rst_transform_references.specs.Meanings.{refers_to_footnote_or_citation};
 
-use crate::meanings::{Lookup, Meaning, refers_to_footnote_or_citation};
+use crate::meanings::{Meaning, meaning_to, refers_to_footnote_or_citation};
 use rst_transform_links::{Holders, Linked, Outcome, found_by_order};
 use rst_transform_names::Names;
 use rst_transform_work::{at_place, first_said};
 use rst_tree::{Entry, Key, Node, Text, Texts, TreeFault, Value};
 use std::alloc::Global;
 
-/// The footnote or citation that a name means, or else that which is found by the order.
-fn referent_meant(meaning: Option<Meaning>, found: Option<usize>) -> Option<usize>
-    ensures { result ≡ referent_meant meaning found }
-{
-    match meaning {
-        Some(Meaning::Leads { referent, .. }) => referent,
-        Some(Meaning::Unknown | Meaning::Duplicate) | None => found,
-    }
-}
-
 /// The place of the footnote or citation that an element refers to, by its name or by the order.
 fn referent_of(
     alloc: Global,
-    lookup: &Lookup<'_, '_>,
+    linked: &[Linked<'_>],
+    names: &Names,
+    holders: &Holders,
     element: &Node,
     found: Option<usize>,
 ) -> Result<Option<usize>, TreeFault>
-    ensures { Gives (λ referent. referent ≡ looked_up referent_of lookup.now element.now found) result }
+    ensures { Gives (λ referent. referent ≡ referent_of (place_at holders.now.places.items) (map held linked.now) (held_by names.now) element.now found) result }
 {
     if !refers_to_footnote_or_citation(element) {
         return Ok(None);
     }
-    let meaning = lookup.meaning_to(alloc, element)?;
-    Ok(referent_meant(meaning, found))
+    match meaning_to(alloc, linked, names, holders, element)? {
+        Some(Meaning::Leads { referent, .. }) => Ok(referent),
+        Some(Meaning::Unknown | Meaning::Duplicate) | None => Ok(found),
+    }
 }
 
 /// For each linked element the place of the footnote or citation that it refers to.
-fn referents_of(alloc: Global, lookup: &Lookup<'_, '_>) -> Result<Vec<Option<usize>>, TreeFault>
-    ensures { Gives (λ referents. referents.items ≡ looked_up referents_of lookup.now) result }
+fn referents_of(
+    alloc: Global,
+    linked: &[Linked<'_>],
+    names: &Names,
+    holders: &Holders,
+) -> Result<Vec<Option<usize>>, TreeFault>
+    ensures { Gives (λ referents. referents.items ≡ referents_of (place_at holders.now.places.items) (map held linked.now) (held_by names.now)) result }
 {
-    let linked = lookup.linked;
     let found = found_by_order(alloc, linked)?;
     let mut referents = Vec::with_capacity(alloc, linked.len())?;
     for (place, one) in linked.iter().enumerate() {
         let found = at_place(found.as_slice(), place);
-        referents.push(referent_of(alloc, lookup, one.element, found)?)?;
+        let referent = referent_of(alloc, linked, names, holders, one.element, found)?;
+        referents.push(referent)?;
     }
     Ok(referents)
 }
@@ -116,7 +115,7 @@ fn referred_to(ids: Texts, outcome: Outcome) -> Outcome
     if ids.as_slice().is_empty() {
         return outcome;
     }
-    Outcome::says(Entry::new(Key::Backrefs, Value::List(ids)))
+    Outcome::adds(Some(Entry::new(Key::Backrefs, Value::List(ids))))
 }
 
 /// What becomes of elements, each with the ids of the references to it.
@@ -127,10 +126,8 @@ fn with_backref_lists(
 ) -> Result<Vec<Outcome>, TreeFault>
     ensures { Gives (λ changed. changed.items ≡ with_backref_lists lists.items outcomes.items) result }
 {
-    let mut changed = Vec::with_capacity(alloc, outcomes.len())?;
-    for (ids, outcome) in lists.into_iter().zip(outcomes) {
-        changed.push(referred_to(ids, outcome))?;
-    }
+    let pairs = lists.into_iter().zip(outcomes);
+    let changed = pairs.map(|(ids, outcome)| referred_to(ids, outcome)).collect(alloc)?;
     Ok(changed)
 }
 
@@ -138,20 +135,15 @@ fn with_backref_lists(
 fn any_refers_to_footnote_or_citation(linked: &[Linked<'_>]) -> bool
     ensures { result ≡ list_any (λ one. refers_to_footnote_or_citation one.0) (map held linked.now) }
 {
-    for one in linked {
-        if refers_to_footnote_or_citation(one.element) {
-            return true;
-        }
-    }
-    false
+    linked.iter().any(|one| refers_to_footnote_or_citation(one.element))
 }
 
 /// What becomes of the linked elements, where each footnote and citation lists the ids of the references to it, in order.
-pub fn with_backrefs<'l>(
+pub fn with_backrefs(
     alloc: Global,
-    linked: &'l [Linked<'l>],
-    names: &'l Names,
-    holders: &'l Holders,
+    linked: &[Linked<'_>],
+    names: &Names,
+    holders: &Holders,
     outcomes: Vec<Outcome>,
 ) -> Result<Vec<Outcome>, TreeFault>
     ensures { let all = map held linked.now in Gives (λ changed. changed.items ≡ with_backrefs (referents_of (place_at holders.now.places.items) all (held_by names.now)) all outcomes.items) result }
@@ -159,13 +151,7 @@ pub fn with_backrefs<'l>(
     if !any_refers_to_footnote_or_citation(linked) {
         return Ok(outcomes);
     }
-    let lookup = Lookup {
-        linked,
-        names,
-        holders,
-    };
-    let referents = referents_of(alloc, &lookup)?;
+    let referents = referents_of(alloc, linked, names, holders)?;
     let lists = reference_ids(alloc, linked, referents.as_slice(), outcomes.len())?;
-    let changed = with_backref_lists(alloc, lists, outcomes)?;
-    Ok(changed)
+    with_backref_lists(alloc, lists, outcomes)
 }

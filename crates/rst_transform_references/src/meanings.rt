@@ -1,13 +1,13 @@
 //! What names mean to the references by name.
-ghost use Rattle.std.specs.Prelude.{◌≡◌, map, slice_get, MatchOption, None, Some};
+ghost use Rattle.std.specs.Prelude.{◌≡◌, map, MatchOption, None, Some};
 ghost use Rattle.rst_tree.specs.Faults.{Gives};
-ghost use Rattle.rst_transform_names.specs.declared.names.Holder.{Holder};
-ghost use Rattle.rst_transform_links.specs.Holders.{holding};
+ghost use Rattle.rst_transform_names.specs.Names.{held_by};
+ghost use Rattle.rst_transform_links.specs.Holders.{holding, place_at};
 ghost use Rattle.rst_transform_links.specs.Linkings.{held};
-ghost use Rattle.rst_transform_references.specs.Meanings.{element_at, held_meaning, is_footnote_or_citation, is_nobody, looked_up, meaning_to, reference_name, referent_place, refers_to_footnote_or_citation};
+ghost use Rattle.rst_transform_references.specs.Meanings.{held_meaning, is_footnote_or_citation, meaning_to, reference_name, referent_place, refers_to_footnote_or_citation};
 
-use rst_transform_links::{Holders, Linked, lead_by_name};
-use rst_transform_names::{Holder, NameEntry, Names};
+use rst_transform_links::{Holders, Linked, element_at, is_lost, lead_by_name};
+use rst_transform_names::{NameEntry, Names};
 use rst_tree::{Entry, Key, Node, Tag, TreeFault};
 use std::alloc::Global;
 
@@ -23,14 +23,6 @@ pub enum Meaning {
     Unknown,
     /// Elements with equal names lost it.
     Duplicate,
-}
-
-/// What the names of a document are looked up in.
-#[derive(Drop)]
-pub struct Lookup<'l, 'n> {
-    pub linked: &'l [Linked<'l>],
-    pub names: &'n Names,
-    pub holders: &'l Holders,
 }
 
 /// Whether a node is a footnote or a citation.
@@ -65,20 +57,10 @@ pub fn reference_name<'n>(node: &'n Node) -> Option<&'n str>
                 tag,
                 Tag::Reference | Tag::FootnoteReference | Tag::CitationReference
             ) => {
-            match attrs.text(Key::Refname) {
-                Some(name) => Some(name.as_str()),
-                None => None,
-            }
+            Some(attrs.text(Key::Refname)?.as_str())
         }
         _ => None,
     }
-}
-
-/// Whether no element holds a name.
-fn is_nobody(holder: Holder) -> bool
-    ensures { result ≡ is_nobody holder }
-{
-    matches!(holder, Holder::Nobody)
 }
 
 /// The place of a footnote or a citation, if the element there is one.
@@ -91,49 +73,46 @@ fn referent_place(element: Option<&Node>, place: Option<usize>) -> Option<usize>
     }
 }
 
-/// The linked element at a place, if there is one.
-pub fn element_at<'a>(linked: &[Linked<'a>], place: Option<usize>) -> Option<&'a Node>
-    ensures { holding result ≡ element_at (map held linked.now) place }
+/// What its name means to a reference by name; there is nothing for another element.
+pub fn meaning_to(
+    alloc: Global,
+    linked: &[Linked<'_>],
+    names: &Names,
+    holders: &Holders,
+    element: &Node,
+) -> Result<Option<Meaning>, TreeFault>
+    ensures { Gives (λ meaning. meaning ≡ meaning_to (place_at holders.now.places.items) (map held linked.now) (held_by names.now) element.now) result }
 {
-    let one = linked.get(place?)?;
-    Some(one.element)
+    let Some(name) = reference_name(element) else {
+        return Ok(None);
+    };
+    let Some(known) = names.get(name) else {
+        return Ok(Some(Meaning::Unknown));
+    };
+    let needs_referent = refers_to_footnote_or_citation(element);
+    let meaning = held_meaning(alloc, linked, holders, needs_referent, known)?;
+    Ok(Some(meaning))
 }
 
-impl<'l, 'n> Lookup<'l, 'n> {
-    /// What its name means to a reference by name; there is nothing for another element.
-    pub fn meaning_to(&self, alloc: Global, element: &Node) -> Result<Option<Meaning>, TreeFault>
-        ensures { Gives (λ meaning. meaning ≡ looked_up meaning_to self.now element.now) result }
-    {
-        let Some(name) = reference_name(element) else {
-            return Ok(None);
-        };
-        let Some(known) = self.names.get(name) else {
-            return Ok(Some(Meaning::Unknown));
-        };
-        let needs_referent = refers_to_footnote_or_citation(element);
-        let meaning = self.held_meaning(alloc, needs_referent, known)?;
-        Ok(Some(meaning))
+/// What a name means that some element was written with, to a reference which may be one to footnotes and citations alone.
+fn held_meaning(
+    alloc: Global,
+    linked: &[Linked<'_>],
+    holders: &Holders,
+    needs_referent: bool,
+    known: &NameEntry,
+) -> Result<Meaning, TreeFault>
+    ensures { Gives (λ meaning. meaning ≡ held_meaning (place_at holders.now.places.items) (map held linked.now) needs_referent known.now) result }
+{
+    if is_lost(known) {
+        return Ok(Meaning::Duplicate);
     }
-
-    /// What a name means that some element was written with, to a reference which may be one to footnotes and citations alone.
-    fn held_meaning(
-        &self,
-        alloc: Global,
-        needs_referent: bool,
-        known: &NameEntry,
-    ) -> Result<Meaning, TreeFault>
-        ensures { Gives (λ meaning. meaning ≡ looked_up (λ places linked names. held_meaning places linked) self.now needs_referent known.now) result }
-    {
-        if is_nobody(known.holder) {
-            return Ok(Meaning::Duplicate);
-        }
-        let place = self.holders.place(known.holder);
-        let holder = element_at(self.linked, place);
-        let referent = referent_place(holder, place);
-        if needs_referent && referent.is_none() {
-            return Ok(Meaning::Unknown);
-        }
-        let attr = lead_by_name(alloc, known, holder)?;
-        Ok(Meaning::Leads { attr, referent })
+    let place = holders.place(known.holder);
+    let holder = element_at(linked, place);
+    let referent = referent_place(holder, place);
+    if needs_referent && referent.is_none() {
+        return Ok(Meaning::Unknown);
     }
+    let attr = lead_by_name(alloc, known, holder)?;
+    Ok(Meaning::Leads { attr, referent })
 }

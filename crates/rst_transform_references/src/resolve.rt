@@ -4,14 +4,13 @@ ghost use Rattle.rst_tree.specs.Faults.{Gives};
 ghost use Rattle.rst_transform_work.specs.Known.{Makes};
 ghost use Rattle.rst_transform_links.specs.Holders.{place_at};
 ghost use Rattle.rst_transform_links.specs.Linkings.{held};
-ghost use Rattle.rst_transform_links.specs.LinkTransforms.{link_changes};
 ghost use Rattle.rst_transform_links.specs.Outcomes.{fails};
 ghost use Rattle.rst_transform_references.specs.Resolving as spec;
-ghost use Rattle.rst_transform_references.specs.Resolving.{duplicate, is_gone, label_of, name_of, resolved_from, shown_for, shows_label, unknown};
+ghost use Rattle.rst_transform_references.specs.Resolving.{is_gone, label_of, resolved_from, shown_for, shows_label};
 
 use crate::backrefs::with_backrefs;
-use crate::meanings::{Lookup, Meaning, element_at, refers_to_footnote_or_citation};
-use rst_transform_links::{Addition, Changes, Holders, LinkTransform, Linked, Outcome, changes_by};
+use crate::meanings::{Meaning, meaning_to, refers_to_footnote_or_citation};
+use rst_transform_links::{Holders, Linked, Outcome, element_at};
 use rst_transform_work::{Context, has, line_of, text_said};
 use rst_tree::{Key, Level, Node, Text, TreeFault};
 use std::alloc::Global;
@@ -49,27 +48,16 @@ use std::alloc::Global;
 ///
 /// A name that means nothing gives an ERROR, and the reference becomes a problematic; the references inside it are gone, and
 /// give no message.
-pub fn resolve(context: &mut Context, linked: &[Linked<'_>]) -> Result<Changes, TreeFault>
-    ensures { Gives (Makes (link_changes spec.reference_outcomes (map held linked.now)) context.old context.new) result }
+pub fn reference_outcomes(
+    context: &mut Context,
+    linked: &[Linked<'_>],
+) -> Result<Vec<Outcome>, TreeFault>
+    ensures { Gives (λ outcomes. Makes (spec.reference_outcomes (map held linked.now)) context.old context.new outcomes.items) result }
 {
-    let changes = changes_by::<Resolving>(context, linked)?;
-    Ok(changes)
-}
-
-/// The transform of links that resolves references by name.
-struct Resolving;
-
-impl LinkTransform for Resolving {
-    ghost use Rattle.rst_transform_references.specs.Resolving.{reference_outcomes};
-
-    ghost decides = { reference_outcomes };
-
-    fn outcomes(context: &mut Context, linked: &[Linked<'_>]) -> Result<Vec<Outcome>, TreeFault> {
-        let holders = Holders::of(context.alloc, linked, context.serials)?;
-        let outcomes = resolved(context, &*linked, &holders)?;
-        let outcomes = with_backrefs(context.alloc, &*linked, &context.names, &holders, outcomes)?;
-        Ok(outcomes)
-    }
+    let holders = Holders::of(context.alloc, linked, context.serials)?;
+    let outcomes = resolved(context, linked, &holders)?;
+    let outcomes = with_backrefs(context.alloc, linked, &context.names, &holders, outcomes)?;
+    Ok(outcomes)
 }
 
 /// The label that a footnote or a citation shows.
@@ -82,8 +70,7 @@ fn label_of(alloc: Global, referent: &Node) -> Result<Option<Text>, TreeFault>
     let Some(label) = children.get(0) else {
         return Ok(None);
     };
-    let text = label.text_of(alloc)?;
-    Ok(Some(text))
+    Ok(Some(label.text_of(alloc)?))
 }
 
 /// Whether a reference shows the label of the footnote that it refers to.
@@ -108,32 +95,7 @@ fn shown_for(
     let Some(referent) = element_at(linked, referent) else {
         return Ok(None);
     };
-    let label = label_of(alloc, referent)?;
-    Ok(label)
-}
-
-/// What the ERROR says of a name that means nothing.
-fn unknown(alloc: Global, name: &str) -> Result<Text, TreeFault>
-    ensures { Gives (λ text. text ≡ unknown name.now) result }
-{
-    let text = Text::of_three(alloc, "Unknown target name: \"", name, "\".")?;
-    Ok(text)
-}
-
-/// What the ERROR says of a name that elements with equal names lost.
-fn duplicate(alloc: Global, name: &str) -> Result<Text, TreeFault>
-    ensures { Gives (λ text. text ≡ duplicate name.now) result }
-{
-    let before = "Duplicate target name, cannot be used as a unique reference: \"";
-    let text = Text::of_three(alloc, before, name, "\".")?;
-    Ok(text)
-}
-
-/// The name of a reference, or the empty name.
-fn name_of(reference: &Node) -> &str
-    ensures { result.now ≡ name_of reference.now }
-{
-    text_said(reference, Key::Refname).unwrap_or("")
+    label_of(alloc, referent)
 }
 
 /// A reference that fails for an ERROR of its own.
@@ -155,18 +117,20 @@ fn outcome_of(
 ) -> Result<Outcome, TreeFault>
     ensures { Gives (Makes (spec.outcome_of (map held linked.now) reference.now meaning) context.old context.new) result }
 {
+    let name = text_said(reference, Key::Refname).unwrap_or("");
     match meaning {
         Meaning::Leads { attr, referent } => {
             let shown = shown_for(context.alloc, linked, reference, referent)?;
             let attr = Some(attr);
-            Ok(Outcome::Stays(Addition { attr, shown }))
+            Ok(Outcome::Stays { attr, shown })
         }
         Meaning::Unknown => {
-            let text = unknown(context.alloc, name_of(reference))?;
+            let text = Text::of_three(context.alloc, "Unknown target name: \"", name, "\".")?;
             failing(context, reference, text)
         }
         Meaning::Duplicate => {
-            let text = duplicate(context.alloc, name_of(reference))?;
+            let before = "Duplicate target name, cannot be used as a unique reference: \"";
+            let text = Text::of_three(context.alloc, before, name, "\".")?;
             failing(context, reference, text)
         }
     }
@@ -183,25 +147,20 @@ fn is_gone(ended: &[bool], outer: Option<usize>) -> bool
 }
 
 /// What becomes of an element that may be gone.
-fn what_becomes<'l>(
+fn what_becomes(
     context: &mut Context,
-    linked: &'l [Linked<'l>],
-    holders: &'l Holders,
+    linked: &[Linked<'_>],
+    holders: &Holders,
     element: &Node,
     gone: bool,
 ) -> Result<Outcome, TreeFault>
     ensures { Gives (Makes (spec.what_becomes (place_at holders.now.places.items) (map held linked.now) gone element.now) context.old context.new) result }
 {
     if gone {
-        return Ok(Outcome::same());
+        return Ok(Outcome::adds(None));
     }
-    let lookup = Lookup {
-        linked,
-        names: &context.names,
-        holders,
-    };
-    let Some(meaning) = lookup.meaning_to(context.alloc, element)? else {
-        return Ok(Outcome::same());
+    let Some(meaning) = meaning_to(context.alloc, linked, &context.names, holders, element)? else {
+        return Ok(Outcome::adds(None));
     };
     let outcome = outcome_of(context, linked, element, meaning)?;
     Ok(outcome)
@@ -215,10 +174,10 @@ fn ends(gone: bool, outcome: &Outcome) -> bool
 }
 
 /// What becomes of all linked elements, where the messages of those that fail are made.
-fn resolved<'l>(
+fn resolved(
     context: &mut Context,
-    linked: &'l [Linked<'l>],
-    holders: &'l Holders,
+    linked: &[Linked<'_>],
+    holders: &Holders,
 ) -> Result<Vec<Outcome>, TreeFault>
     ensures { let all = map held linked.now in Gives (λ outcomes. Makes (resolved_from (place_at holders.now.places.items) all [] all) context.old context.new outcomes.items) result }
 {

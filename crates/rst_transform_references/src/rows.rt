@@ -55,7 +55,7 @@ pub fn outcomes()
     ensures shows_the_label { (known : Known) → (outcome_of (linked_of (document_of (element Footnote [] (element Label [] (text "7" ∷ [])
         ∷ element Paragraph [] (text "x" ∷ []) ∷ []) ∷ []))) (element FootnoteReference (says Auto "1" ∷ says Refname "a"
         ∷ []) []) (Leads (says Refid "a") (Some 0)) known).0
-        ≡ Stays (record { attr = Some (says Refid "a"); shown = Some (codes "7") }) }
+        ≡ Stays (Some (says Refid "a")) (Some (codes "7")) }
     ensures keeps_what_it_shows { (known : Known) → (outcome_of (linked_of (document_of (element Footnote [] (element Label [] (text "7" ∷ []) ∷ [])
         ∷ []))) (element FootnoteReference (says Refname "7" ∷ []) []) (Leads (says Refid "a") (Some 0)) known).0
         ≡ adds (Some (says Refid "a")) }

@@ -1,13 +1,11 @@
+use Rattle.std.proofs.Common.{map}
+use Rattle.rst_transform_links.specs.Linkings.{held}
+use Rattle.rst_transform_links.specs.Settling.{settled}
+use Rattle.rst_transform.proofs.Sequence.{makes_then}
+use Rattle.rst_transform.specs.Linking.{decision_of}
 use Rattle.rst_transform.proofs.linking.changes_by.Goals as goal
 
-pub returns-in-Anonymous : goal.returns-in-Anonymous
-returns-in-Anonymous c = rw c.in-Anonymous.is c.anonymous.ensures
-
-pub returns-in-Indirect : goal.returns-in-Indirect
-returns-in-Indirect c = rw c.in-Indirect.is c.indirect.ensures
-
-pub returns-in-Footnotes : goal.returns-in-Footnotes
-returns-in-Footnotes c = rw c.in-Footnotes.is c.footnotes.ensures
-
-pub returns-in-References : goal.returns-in-References
-returns-in-References c = rw c.in-References.is c.resolve.ensures
+pub returns : goal.returns
+returns c =
+    let linked = map held c.args.linked.now in
+    makes_then (decision_of c.args.transform linked) (settled linked) c.args.context.now c.outcomes_by.new.context c.settle.new.context _ _ c.in_ok-outcomes.ensures c.in_ok-changes.ensures

@@ -4,7 +4,7 @@ use Rattle.std.specs.Prelude.{is_none}
 use Rattle.rst_transform_links.specs.Holders.{place_at}
 use Rattle.rst_transform_links.specs.Linkings.{held}
 use Rattle.rst_transform_hyperlinks.proofs.Leading.{leads_all, leads_none}
-use Rattle.rst_transform_hyperlinks.proofs.indirect.FollowingLinkTransform.outcomes.Goals as goal
+use Rattle.rst_transform_hyperlinks.proofs.indirect.indirect_outcomes.Goals as goal
 
 pub returns-then-are_none : goal.returns-then-are_none
 returns-then-are_none c =

@@ -1,8 +1,7 @@
-use Rattle.std.proofs.Common.{rules}
-use Rattle.std.proofs.Common.{map}
+use Rattle.std.proofs.Common.{rules, map}
 use Rattle.rst_transform_links.specs.Linkings.{held}
 use Rattle.rst_transform_hyperlinks.proofs.Agreeing.{failed_all, none_paired, paired_all}
-use Rattle.rst_transform_hyperlinks.proofs.anonymous.PairingLinkTransform.outcomes.Goals as goal
+use Rattle.rst_transform_hyperlinks.proofs.anonymous.anonymous_outcomes.Goals as goal
 
 pub returns-then-is_empty : goal.returns-then-is_empty
 returns-then-is_empty c =

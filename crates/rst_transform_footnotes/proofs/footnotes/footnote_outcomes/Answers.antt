@@ -1,7 +1,7 @@
 use Rattle.std.proofs.Common.{rules, map}
 use Rattle.rst_transform_links.specs.Linkings.{held}
 use Rattle.rst_transform_footnotes.proofs.FootnoteLemmas.{decided}
-use Rattle.rst_transform_footnotes.proofs.footnotes.NumberingLinkTransform.outcomes.Goals as goal
+use Rattle.rst_transform_footnotes.proofs.footnotes.footnote_outcomes.Goals as goal
 
 pub returns : goal.returns
 returns c =
