@@ -11,8 +11,7 @@ ghost use Rattle.rst_transform_work.specs.Lists.{at_place};
 
 use crate::footnote_labels::labels;
 use rst_transform_links::{
-    Linked, Order, Outcome, footnote_order, found_by_order, in_order, reference_order,
-    text_attr,
+    Linked, Order, Outcome, footnote_order, found_by_order, in_order, reference_order, text_attr,
 };
 use rst_transform_names::{Holder, NameEntry, Names, Strength};
 use rst_transform_work::{Context, at_place, first_said, line_of, list_said, number_said};

@@ -127,7 +127,9 @@ fn with_backref_lists(
     ensures { Gives (λ changed. changed.items ≡ with_backref_lists lists.items outcomes.items) result }
 {
     let pairs = lists.into_iter().zip(outcomes);
-    let changed = pairs.map(|(ids, outcome)| referred_to(ids, outcome)).collect(alloc)?;
+    let changed = pairs
+        .map(|(ids, outcome)| referred_to(ids, outcome))
+        .collect(alloc)?;
     Ok(changed)
 }
 
@@ -135,7 +137,9 @@ fn with_backref_lists(
 fn any_refers_to_footnote_or_citation(linked: &[Linked<'_>]) -> bool
     ensures { result ≡ list_any (λ one. refers_to_footnote_or_citation one.0) (map held linked.now) }
 {
-    linked.iter().any(|one| refers_to_footnote_or_citation(one.element))
+    linked
+        .iter()
+        .any(|one| refers_to_footnote_or_citation(one.element))
 }
 
 /// What becomes of the linked elements, where each footnote and citation lists the ids of the references to it, in order.

@@ -56,9 +56,7 @@ pub fn reference_name<'n>(node: &'n Node) -> Option<&'n str>
             if matches!(
                 tag,
                 Tag::Reference | Tag::FootnoteReference | Tag::CitationReference
-            ) => {
-            Some(attrs.text(Key::Refname)?.as_str())
-        }
+            ) => { Some(attrs.text(Key::Refname)?.as_str()) }
         _ => None,
     }
 }

@@ -1,9 +1,11 @@
-use Rattle.std.proofs.Common.{arith, rules}
+use Rattle.std.proofs.Common.{◌≡◌, ◌+◌, arith, false, length, replicate, rules}
 use Rattle.rst_transform_footnotes.proofs.Numbering.{Writing-init, Writing-more, Writing-end}
 use Rattle.rst_transform_footnotes.proofs.footnote_labels.written_numbers.Goals as goal
 
 pub loop-one-init : goal.loop-one-init
-loop-one-init c = rw (c.in_ok-written.ensures) (Writing-init c.args.linked.now)
+loop-one-init c =
+    let none : c.in_ok-written.written.items ≡ replicate (length c.args.linked.now + 1) false = search rules in
+    rw none (Writing-init c.args.linked.now)
 
 pub loop-one-preserved : goal.loop-one-preserved
 loop-one-preserved c =
