@@ -1,5 +1,5 @@
 //! Anonymous references.
-ghost use Rattle.std.specs.Prelude.{◌≡◌, length, map, true};
+ghost use Rattle.std.specs.Prelude.{◌≡◌, drop, length, map, true};
 ghost use Rattle.rst_tree.specs.Faults.{Gives};
 ghost use Rattle.rst_tree.specs.declared.note.Level.TheVariants.{Error};
 ghost use Rattle.rst_transform_hyperlinks.specs.Anonymous.{anonymous_outcomes, anonymous_references, anonymous_targets, failing, first_lead, first_line, is_anonymous_reference, is_anonymous_target, lead_to, mismatch, paired};
@@ -160,12 +160,19 @@ fn paired(
     for one in linked {
         if is_anonymous_reference(one.element) {
             outcomes.push(Outcome::adds(first_lead(alloc, left)?))?;
-            left = &left[left.len().min(1)..];
+            left = behind_first(left);
             continue;
         }
         outcomes.push(Outcome::adds(None))?;
     }
     Ok(outcomes)
+}
+
+/// All but the first.
+fn behind_first<'t, 'a>(targets: &'t [Linked<'a>]) -> &'t [Linked<'a>]
+    ensures { result.now ≡ drop 1 targets.now }
+{
+    &targets[targets.len().min(1)..]
 }
 
 /// What a reference says of the first of some targets, if there is one.

@@ -4,7 +4,7 @@ ghost use Rattle.std.specs.List.{list_all};
 ghost use Rattle.rst_tree.specs.Faults.{Gives};
 ghost use Rattle.rst_transform_names.specs.Names.{held_by};
 ghost use Rattle.rst_transform_links.specs.Holders.{place_at};
-ghost use Rattle.rst_transform_hyperlinks.specs.Indirect.{anonymous_from, failure_of, indirect_outcomes, is_reference_node, led, named_place, outcome_or, outcome_through, outcomes_by, targets_of, with_report, with_reports};
+ghost use Rattle.rst_transform_hyperlinks.specs.Indirect.{anonymous_from, failure_of, indirect_outcomes, is_reference_node, led, missing_text, named_place, outcome_or, outcome_through, outcomes_by, targets_of, with_report, with_reports};
 ghost use Rattle.rst_transform_hyperlinks.specs.Chains.{indirect_name, own_step, step_to, steps_of};
 ghost use Rattle.rst_transform_links.specs.Linkings.{held};
 ghost use Rattle.rst_transform_work.specs.Known.{Makes};
@@ -13,9 +13,7 @@ ghost use Rattle.rst_transform_work.specs.Lists.{at_place};
 
 use crate::anonymous::{is_anonymous_reference, is_anonymous_target};
 use crate::chains::{Answer, Step, answer_at, answers};
-use rst_transform_links::{
-    Holders, Linked, Outcome, element_at, is_lost, is_target, lead_by_name,
-};
+use rst_transform_links::{Holders, Linked, Outcome, element_at, is_lost, is_target, lead_by_name};
 use rst_transform_names::{NameEntry, Names};
 use rst_transform_work::{Context, at_place, has, line_of, text_said};
 use rst_tree::{Key, Level, Node, Tag, Text, TreeFault};
@@ -148,6 +146,16 @@ fn first_steps(
     Ok(steps)
 }
 
+/// What the message says of a target whose chain breaks at a name that no element holds.
+fn missing_text(alloc: Global, name: &str, missing: &str) -> Result<Text, TreeFault>
+    ensures { Gives (λ text. text ≡ missing_text name.now missing.now) result }
+{
+    let text = format!(in alloc;
+        "Indirect hyperlink target \"{name}\" refers to target \"{missing}\", which does not exist."
+    )?;
+    Ok(Text::new(text))
+}
+
 /// What the message on the element at a place says, if it fails.
 fn failure_at(
     alloc: Global,
@@ -159,13 +167,7 @@ fn failure_at(
 {
     let name = text_said(node, Key::OwnName).unwrap_or("");
     match answer_at(answers, place) {
-        Some(Answer::Missing(missing)) => {
-            let text = format!(in alloc;
-                "Indirect hyperlink target \"{name}\" refers to target \"{}\", which does not exist.",
-                missing.as_str()
-            )?;
-            Ok(Some(Text::new(text)))
-        }
+        Some(Answer::Missing(missing)) => { Ok(Some(missing_text(alloc, name, missing.as_str())?)) }
         Some(Answer::Circular) => {
             let text = format!(in alloc; "Indirect hyperlink target \"{name}\" is circular.")?;
             Ok(Some(Text::new(text)))

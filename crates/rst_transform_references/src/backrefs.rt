@@ -137,9 +137,12 @@ fn with_backref_lists(
 fn any_refers_to_footnote_or_citation(linked: &[Linked<'_>]) -> bool
     ensures { result ≡ list_any (λ one. refers_to_footnote_or_citation one.0) (map held linked.now) }
 {
-    linked
-        .iter()
-        .any(|one| refers_to_footnote_or_citation(one.element))
+    for one in linked {
+        if refers_to_footnote_or_citation(one.element) {
+            return true;
+        }
+    }
+    false
 }
 
 /// What becomes of the linked elements, where each footnote and citation lists the ids of the references to it, in order.

@@ -6,7 +6,7 @@ ghost use Rattle.rst_transform_links.specs.Holders.{place_at};
 ghost use Rattle.rst_transform_links.specs.Linkings.{held};
 ghost use Rattle.rst_transform_links.specs.Outcomes.{fails};
 ghost use Rattle.rst_transform_references.specs.Resolving as spec;
-ghost use Rattle.rst_transform_references.specs.Resolving.{is_gone, label_of, resolved_from, shown_for, shows_label};
+ghost use Rattle.rst_transform_references.specs.Resolving.{duplicate, is_gone, label_of, name_of, resolved_from, shown_for, shows_label, unknown};
 
 use crate::backrefs::with_backrefs;
 use crate::meanings::{Meaning, meaning_to, refers_to_footnote_or_citation};
@@ -98,6 +98,30 @@ fn shown_for(
     label_of(alloc, referent)
 }
 
+/// What the ERROR says of a name that means nothing.
+fn unknown(alloc: Global, name: &str) -> Result<Text, TreeFault>
+    ensures { Gives (λ text. text ≡ unknown name.now) result }
+{
+    let text = Text::of_three(alloc, "Unknown target name: \"", name, "\".")?;
+    Ok(text)
+}
+
+/// What the ERROR says of a name that elements with equal names lost.
+fn duplicate(alloc: Global, name: &str) -> Result<Text, TreeFault>
+    ensures { Gives (λ text. text ≡ duplicate name.now) result }
+{
+    let before = "Duplicate target name, cannot be used as a unique reference: \"";
+    let text = Text::of_three(alloc, before, name, "\".")?;
+    Ok(text)
+}
+
+/// The name of a reference, or the empty name.
+fn name_of(reference: &Node) -> &str
+    ensures { result.now ≡ name_of reference.now }
+{
+    text_said(reference, Key::Refname).unwrap_or("")
+}
+
 /// A reference that fails for an ERROR of its own.
 #[tactic(auto, using(crate::proofs::Resolves::fails_for))]
 fn failing(context: &mut Context, reference: &Node, text: Text) -> Result<Outcome, TreeFault>
@@ -117,7 +141,6 @@ fn outcome_of(
 ) -> Result<Outcome, TreeFault>
     ensures { Gives (Makes (spec.outcome_of (map held linked.now) reference.now meaning) context.old context.new) result }
 {
-    let name = text_said(reference, Key::Refname).unwrap_or("");
     match meaning {
         Meaning::Leads { attr, referent } => {
             let shown = shown_for(context.alloc, linked, reference, referent)?;
@@ -125,12 +148,11 @@ fn outcome_of(
             Ok(Outcome::Stays { attr, shown })
         }
         Meaning::Unknown => {
-            let text = Text::of_three(context.alloc, "Unknown target name: \"", name, "\".")?;
+            let text = unknown(context.alloc, name_of(reference))?;
             failing(context, reference, text)
         }
         Meaning::Duplicate => {
-            let before = "Duplicate target name, cannot be used as a unique reference: \"";
-            let text = Text::of_three(context.alloc, before, name, "\".")?;
+            let text = duplicate(context.alloc, name_of(reference))?;
             failing(context, reference, text)
         }
     }
