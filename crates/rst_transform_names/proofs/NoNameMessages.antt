@@ -1,6 +1,6 @@
 -- Without messages on equal names the document is the same.
-use Rattle.std.proofs.Common.{◌≡◌, ℕ, ◌+◌, List, [], ◌∷◌, ◌++◌, length, Bool, true, false, not, Option, Some, None, refl, ap, ap₂, ◌∙◌}
-use Rattle.std.specs.Prelude.{◌&&◌, if◌then◌else◌, option_and_then}
+use Rattle.std.proofs.Common.{◌≡◌, ℕ, List, [], ◌∷◌, ◌++◌, Bool, true, false, Option, Some, None, refl, ap, ◌∙◌, append_assoc}
+use Rattle.std.specs.Prelude.{if◌then◌else◌, map, option_and_then}
 use Rattle.std.specs.Option.{option_to_list}
 use Rattle.std.proofs.Math.Path.{fun_ext}
 use Rattle.std.proofs.lemmas.List.{append-nil}
@@ -11,98 +11,74 @@ use Rattle.rst_tree.specs.declared.node.Node.TheVariants.{Element, Text}
 use Rattle.rst_tree.specs.declared.tag.Tag.{Tag}
 use Rattle.rst_tree.specs.Forest.{Forest, bare, element, words}
 use Rattle.rst_tree.specs.Nodes.{forest_of, nodes_of}
+use Rattle.rst_tree.proofs.Changes.{forest_of-nodes_of}
 use Rattle.rst_transform_names.specs.Gathered.{number_at}
-use Rattle.rst_transform_names.specs.NameMessages.{after_own, after_texts, ahead, before_nodes, filled, further, goes_in, goes_out, left_waiting, messages_of, on_inline, outside, placed_in, takes_in, texts, texts_out, waiting, with_messages, with_name_messages, woven, OfText}
+use Rattle.rst_transform_names.specs.NameMessages.{beginning, filled, given, goes_in, goes_out, no_texts, nodes_with, taken, takes_in, texts, then_texts, with_element, with_messages, with_name_messages, Filled, Placed, Texts}
 use Rattle.rst_transform_names.proofs.MessageGaps.{woven-none}
-use Rattle.rst_transform_names.proofs.MessagePlaces.{either_none}
 
--- texts without messages on the names in them
-abbrev Quiet : List OfText → Type 0
-Quiet [] = Unit {0}
-Quiet (one ∷ more) = (one.1 ≡ []) × Quiet more
+either_none : {X : Type 0} (b : Bool) → ◌≡◌ {A = List X} (if b then [] else []) []
+either_none true = refl
+either_none false = refl
 
-quiet-append : (xs ys : List OfText) → Quiet xs → Quiet ys → Quiet (xs ++ ys)
-quiet-append [] ys x y = y
-quiet-append (one ∷ xs) ys x y = (x.0, quiet-append xs ys x.1 y)
+quiet_if : (b : Bool) (x y : Texts) → x.placed ≡ [] → y.placed ≡ [] → (if b then x else y).placed ≡ []
+quiet_if true x y is is' = is
+quiet_if false x y is is' = is'
 
-quiet_if : (b : Bool) (xs ys : List OfText) → Quiet xs → Quiet ys → Quiet (if b then xs else ys)
-quiet_if true xs ys x y = x
-quiet_if false xs ys x y = y
+-- nodes that give no message
+record Quiet (nodes : List Node) (f : Filled) : Type 0 where
+  same : f.nodes ≡ nodes
+  inline : f.inline ≡ []
+  before : f.before ≡ []
+  after : f.after ≡ []
+  texts_out : f.texts_out.placed ≡ []
+  waiting : f.waiting.placed ≡ []
 
-after_own-quiet : (place : ℕ) (ts : List OfText) → Quiet ts → after_own place ts ≡ []
-after_own-quiet place [] q = refl
-after_own-quiet place (one ∷ more) q = rw q.0 (after_own-quiet (further place one.0) more q.1)
+nodes-none : (t : Tag) (a : List Attr) (nodes : List Node) (f : Filled) → Quiet nodes f → nodes_with t a [] f ≡ nodes
+nodes-none t a nodes f q = rw (q.after, q.before, q.waiting, q.same, either_none, either_none) (woven-none nodes)
 
-messages_of-quiet : (ts : List OfText) → Quiet ts → messages_of ts ≡ []
-messages_of-quiet [] q = refl
-messages_of-quiet (one ∷ more) q = rw q.0 (messages_of-quiet more q.1)
+texts-none : (t : Tag) (a : List Attr) (nodes : List Node) (f : Filled) → Quiet nodes f → (texts t a f).placed ≡ []
+texts-none t a nodes f q = rw (q.inline, q.texts_out) refl
+
+then-none : (x y : Texts) → x.placed ≡ [] → y.placed ≡ [] → (then_texts x y).placed ≡ []
+then-none x y is is' = rw (is, is') refl
 
 -- no message on any name
-abbrev none : List Attr → List Node
+abbrev none : List Attr → Placed
 none a = []
 
-on_inline-none : (c : Forest) → on_inline none c ≡ []
-on_inline-none bare = refl
-on_inline-none (words t r) = on_inline-none r
-on_inline-none (element t a c l r) = simp (either_none, on_inline-none r)
+element-none : (p t : Tag) (a : List Attr) (l : ℕ) (c : Forest) (nodes : List Node) (inside f : Filled) → Quiet (nodes_of c) inside → Quiet nodes f → Quiet (nodes ++ Element t a c l ∷ []) (with_element p t a l [] inside f)
+element-none p t a l c nodes inside f i q =
+    let no_text = texts-none t a (nodes_of c) inside i in record {
+      same = rw (q.same, nodes-none t a (nodes_of c) inside i, forest_of-nodes_of c) refl;
+      inline = simp (q.inline, either_none);
+      before = simp (q.before, i.before, either_none);
+      after = simp (q.after, no_text, either_none);
+      texts_out = quiet_if (goes_out p t) (then_texts f.texts_out (texts t a inside)) f.texts_out (then-none f.texts_out (texts t a inside) q.texts_out no_text) q.texts_out;
+      waiting = quiet_if _ (then_texts f.waiting (texts t a inside)) f.waiting (then-none f.waiting (texts t a inside) q.waiting no_text) q.waiting;
+    }
 
-texts_out-none : (p : Tag) (c : Forest) → Quiet (texts_out none p c)
-texts_out-none p bare = tt
-texts_out-none p (words t r) = texts_out-none p r
-texts_out-none p (element t a c l r) =
-    quiet-append (if goes_out p t then texts none t a c else []) (texts_out none p r) (quiet_if (goes_out p t) (texts none t a c) [] (on_inline-none c, texts_out-none t c) tt) (texts_out-none p r)
+begun-none : (before : Texts) → before.placed ≡ [] → Quiet [] (beginning before)
+begun-none before is = record { same = refl; inline = refl; before = refl; after = is; texts_out = refl; waiting = refl }
 
-texts-none : (t : Tag) (a : List Attr) (c : Forest) → Quiet (texts none t a c)
-texts-none t a c = (on_inline-none c, texts_out-none t c)
-
-after_texts-none : (p : Tag) (place : ℕ) (c : Forest) → after_texts none p place c ≡ []
-after_texts-none p place bare = refl
-after_texts-none p place (words t r) = after_texts-none p (place + 1) r
-after_texts-none p place (element t a c l r) =
-    let no_text = after_own-quiet (place + 1) (texts none t a c) (texts-none t a c) in simp (no_text, either_none, after_texts-none p (place + 1) r)
-
-waiting-none : (p : Tag) (before : List OfText) (t : Tag) (a : List Attr) (c : Forest) → Quiet before → Quiet (waiting none p before t a c)
-waiting-none p before t a c q =
-    quiet_if (takes_in t) [] (if goes_in t && not (goes_out p t) then before ++ texts none t a c else before) tt
-    (quiet_if (goes_in t && not (goes_out p t)) (before ++ texts none t a c) before (quiet-append before (texts none t a c) q (texts-none t a c)) q)
-
-left_waiting-none : (p : Tag) (before : List OfText) (c : Forest) → Quiet before → Quiet (left_waiting none p before c)
-left_waiting-none p before bare q = q
-left_waiting-none p before (words t r) q = left_waiting-none p before r q
-left_waiting-none p before (element t a c l r) q = left_waiting-none p (waiting none p before t a c) r (waiting-none p before t a c q)
-
-ahead-none : (c : Forest) → ahead none c ≡ []
-ahead-none bare = refl
-ahead-none (words t r) = ahead-none r
-ahead-none (element t a c l r) = simp (ahead-none c, either_none, ahead-none r)
-
-before_nodes-none : (place : ℕ) (c : Forest) → before_nodes none place c ≡ []
-before_nodes-none place bare = refl
-before_nodes-none place (words t r) = before_nodes-none (place + 1) r
-before_nodes-none place (element t a c l r) = simp (ahead-none c, either_none, before_nodes-none (place + 1) r)
-
-placed_in-none : (given : List OfText) (t : Tag) (a : List Attr) (c : Forest) → Quiet given → placed_in none given t a c ≡ []
-placed_in-none given t a c q =
-    let last = after_own-quiet (length (nodes_of c)) (left_waiting none t [] c) (left_waiting-none t [] c tt) in
-    simp (after_own-quiet 0 given q, after_texts-none t 0 c, before_nodes-none 0 c, last, either_none)
-
-filled-none : (p : Tag) (before : List OfText) (c : Forest) → Quiet before → forest_of (filled none p before c) ≡ c
-filled-none p before bare q = refl
-filled-none p before (words t r) q = ap (words t) (filled-none p before r q)
-filled-none p before (element t a c l r) q =
-    let inside : forest_of (woven 0 (placed_in none (if takes_in t then before else []) t a c) (filled none t [] c)) ≡ c = rw (placed_in-none (if takes_in t then before else []) t a c (quiet_if (takes_in t) before [] q tt), woven-none 0 (filled none t [] c)) (filled-none t [] c tt) in
-    ap₂ (λ c' r'. element t a c' l r') inside (filled-none p (waiting none p before t a c) r (waiting-none p before t a c q))
-
-outside-none : (t : Tag) (a : List Attr) (c : Forest) → outside none t a c ≡ []
-outside-none t a c = let no_text = messages_of-quiet (texts none t a c) (texts-none t a c) in simp (ahead-none c, no_text, either_none)
+filled-none : (p : Tag) (nodes : List Node) (f : Filled) (c : Forest) → Quiet nodes f → Quiet (nodes ++ nodes_of c) (filled none p f c)
+filled-none p nodes f bare q = rw append-nil q
+filled-none p nodes f (words t r) q =
+    let rest = filled-none p (nodes ++ Text t ∷ []) (record f { nodes = f.nodes ++ Text t ∷ [] }) r (record { same = ap (λ ns. ns ++ Text t ∷ []) q.same; inline = q.inline; before = q.before; after = q.after; texts_out = q.texts_out; waiting = q.waiting }) in
+    rw append_assoc at rest
+filled-none p nodes f (element t a c l r) q =
+    let inside = filled-none t [] (beginning (given t f)) c (begun-none (given t f) (quiet_if (takes_in t) f.waiting no_texts q.waiting refl)) in
+    let left : Quiet nodes (taken t f) = record { same = q.same; inline = q.inline; before = q.before; after = q.after; texts_out = q.texts_out; waiting = quiet_if (takes_in t) no_texts f.waiting refl q.waiting } in
+    let rest = filled-none p (nodes ++ Element t a c l ∷ []) (with_element p t a l [] (filled none t (beginning (given t f)) c) (taken t f)) r (element-none p t a l c nodes (filled none t (beginning (given t f)) c) (taken t f) inside left) in
+    rw append_assoc at rest
 
 with_none : (document : Node) → with_messages none document ≡ document
 with_none (Text t) = refl
 with_none (Element t a c l) =
-    let nodes = filled none t [] c in
-    ap (λ c'. Element t a c' l) (rw (placed_in-none [] t a c tt, outside-none t a c, woven-none 0 nodes, append-nil nodes) (filled-none t [] c tt))
+    let f = filled none t (beginning no_texts) c in
+    let q = filled-none t [] (beginning no_texts) c (begun-none no_texts refl) in
+    rw (nodes-none t a (nodes_of c) f q, texts-none t a (nodes_of c) f q, q.before, either_none, woven-none (nodes_of c), forest_of-nodes_of c) refl
 
-none_numbered : (number : Option ℕ) → ◌≡◌ {A = List Node} (option_to_list (option_and_then (λ (n : ℕ). None) number)) []
+none_numbered : (number : Option ℕ) → ◌≡◌ {A = Placed} (map (λ message. (0, message)) (option_to_list (option_and_then (λ (n : ℕ). None) number))) []
 none_numbered None = refl
 none_numbered (Some n) = refl
 

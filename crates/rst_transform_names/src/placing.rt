@@ -5,10 +5,12 @@ ghost use Rattle.std.specs.Ordering.{nat_cmp};
 ghost use Rattle.std.specs.VecDeque.{deque_items};
 ghost use Rattle.rst_tree.specs.Faults.{Gives};
 ghost use Rattle.rst_transform_names.specs.NameMessages as spec;
-ghost use Rattle.rst_transform_names.specs.PlacingMessages.{IsInside};
+ghost use Rattle.rst_tree.specs.Nodes.{nodes_of};
+ghost use Rattle.rst_transform_names.specs.PlacingMessages.{seen, texts_in};
 
 use super::duplicate_messages::NameMessage;
-use super::inside::{Inside, OwnMessage, place_among};
+use super::inside::Inside;
+use super::weaving::{Placed, TextMessages, put_from, weave};
 use rst_tree::{Attrs, Children, Key, Node, Tag, TreeFault};
 use std::alloc::Global;
 use std::collections::{BTreeMap, VecDeque};
@@ -64,30 +66,32 @@ struct NumberedMessages {
 
 impl NumberedMessages {
     /// The message on the name of an element with these attributes, if there is one.
-    fn message(&self, alloc: Global, attrs: &Attrs) -> Result<Vec<Node>, TreeFault>
+    fn message(&self, alloc: Global, attrs: &Attrs) -> Result<Placed, TreeFault>
         ensures { Gives (λ own. own.items ≡ spec.own_numbered (get nat_cmp self.now.messages) attrs.now) result }
     {
         let mut own = Vec::new(alloc);
         if let Some(serial) = attrs.number(Key::Serial) {
             if let Some(message) = self.messages.get(&serial) {
-                own.push(message.node(alloc)?)?;
+                own.push((0, message.node(alloc)?))?;
             }
         }
         Ok(own)
     }
 }
 
-/// Puts the messages on names that come into nodes there, and gives what else is made of the nodes, which are those of an element
-/// of this kind.
+/// Puts the messages on names that come into nodes there, and gives the others; the nodes are those of an element of this kind, and
+/// `given` the messages of the terms or the field name before it.
 fn fill(
     alloc: Global,
     tag: Tag,
     nodes: &mut Children,
+    given: TextMessages,
     messages: &NumberedMessages,
 ) -> Result<Inside, TreeFault>
-    ensures { Gives (IsInside (spec.own_numbered (get nat_cmp messages.now.messages)) tag nodes.old nodes.new) result }
+    ensures { Gives (λ made. seen (nodes_of nodes.new) made ≡ spec.filled (spec.own_numbered (get nat_cmp messages.now.messages)) tag (spec.beginning (texts_in given)) nodes.old) result }
 {
-    let mut made = Inside::none(alloc, tag);
+    let parent = tag;
+    let mut made = Inside::after(alloc, given);
     for place in 0..nodes.len() {
         match nodes.get_mut(place) {
             Node::Text(_) => continue,
@@ -97,13 +101,11 @@ fn fill(
                 children,
                 ..
             } => {
-                let message = messages.message(alloc, attrs)?;
-                let inside = fill(alloc, *tag, children, messages)?;
-                if message.is_empty() && inside.gives_nothing(made.tag) {
-                    // So it is with most elements.
-                    continue;
-                }
-                made.put(alloc, place, attrs, children, message, inside)?;
+                let given = made.given(alloc, *tag);
+                let inside = fill(alloc, *tag, children, given, messages)?;
+                let own = messages.message(alloc, attrs)?;
+                let outside = inside.weave(alloc, *tag, attrs, children, own)?;
+                made.put(parent, place, *tag, attrs, outside)?;
             }
         }
     }
@@ -136,11 +138,12 @@ pub fn place_name_messages(
         return Ok(document);
     };
     let messages = name_messages.numbered(alloc)?;
-    let message = messages.message(alloc, attrs)?;
-    let inside = fill(alloc, *tag, children, &messages)?;
-    let own = OwnMessage::of(alloc, *tag, attrs, message)?;
-    let given = Vec::new(alloc);
-    let outside = place_among(alloc, attrs, children, given, own.section, inside)?;
-    outside.put_last(alloc, children)?;
+    let inside = fill(alloc, *tag, children, TextMessages::none(alloc), &messages)?;
+    let own = messages.message(alloc, attrs)?;
+    let outside = inside.weave(alloc, *tag, attrs, children, own)?;
+    let mut last = Vec::new(alloc);
+    put_from(&mut last, children.len() as u64, outside.ahead)?;
+    put_from(&mut last, children.len() as u64, outside.texts.placed)?;
+    weave(alloc, children, last)?;
     Ok(document)
 }

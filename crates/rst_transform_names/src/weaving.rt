@@ -3,63 +3,58 @@ ghost use Rattle.std.specs.Prelude.{◌≡◌, ◌+◌, ◌++◌, [], min, repli
 ghost use Rattle.rst_tree.specs.Faults.{Gives};
 ghost use Rattle.rst_tree.specs.Nodes.{forest_of, nodes_of};
 ghost use Rattle.rst_transform_names.specs.NameMessages as spec;
-ghost use Rattle.rst_transform_names.specs.PlacingMessages.{gap_nodes, gaps, of_texts, pairs, with_gaps};
+ghost use Rattle.rst_transform_names.specs.PlacingMessages.{gap_nodes, texts_in};
 
 use rst_tree::{Children, Node, TreeFault};
 use std::alloc::Global;
 use std::mem;
 
-/// A message, and how many of some nodes come before it.
-#[derive(Drop)]
-pub struct PlacedMessage {
-    pub place: u64,
-    pub message: Node,
+/// Messages among nodes, each with its place: how many of the nodes come before it.
+pub type Placed = Vec<(u64, Node)>;
+
+/// Puts messages behind others, with their places counted from a place on.
+pub fn put_from(placed: &mut Placed, place: u64, messages: Placed) -> Result<(), TreeFault>
+    ensures { Gives (λ _. placed.new.items ≡ placed.old.items ++ spec.from place messages.items) result }
+{
+    for (here, message) in messages {
+        placed.push((place.saturating_add(here), message))?;
+    }
+    Ok(())
 }
 
-/// The messages on the names in a text, which follow so many messages of the text's own.
+/// The messages on the names in some texts.
 #[derive(Drop)]
 pub struct TextMessages {
+    /// How many messages the texts have of their own.
     pub own: u64,
-    pub messages: Vec<Node>,
+    /// Those on names, with their places among the texts' own messages.
+    pub placed: Placed,
 }
 
-/// Gives messages a place, and puts them after others.
-pub fn put_at(
-    placed: &mut Vec<PlacedMessage>,
-    place: u64,
-    messages: Vec<Node>,
-) -> Result<(), TreeFault>
-    ensures { Gives (λ _. pairs placed.new.items ≡ pairs placed.old.items ++ spec.all_at place messages.items) result }
-{
-    for message in messages {
-        placed.push(PlacedMessage { place, message })?;
+impl TextMessages {
+    /// Those of no text.
+    pub fn none(alloc: Global) -> TextMessages
+        ensures { texts_in result ≡ spec.no_texts }
+    {
+        TextMessages {
+            own: 0,
+            placed: Vec::new(alloc),
+        }
     }
-    Ok(())
-}
 
-/// Gives the messages on names in texts their places, after the texts' own messages, which follow one another from a place on.
-pub fn put_after_own(
-    placed: &mut Vec<PlacedMessage>,
-    place: u64,
-    texts: Vec<TextMessages>,
-) -> Result<(), TreeFault>
-    ensures { Gives (λ _. pairs placed.new.items ≡ pairs placed.old.items ++ spec.after_own place (of_texts texts.items)) result }
-{
-    let mut place = place;
-    for text in texts {
-        place = place.saturating_add(text.own);
-        put_at(placed, place, text.messages)?;
+    /// Puts those of other texts behind.
+    pub fn append(&mut self, more: TextMessages) -> Result<(), TreeFault>
+        ensures { Gives (λ _. texts_in self.new ≡ spec.then_texts (texts_in self.old) (texts_in more)) result }
+    {
+        put_from(&mut self.placed, self.own, more.placed)?;
+        self.own = self.own.saturating_add(more.own);
+        Ok(())
     }
-    Ok(())
 }
 
 /// Puts messages among nodes; those with a place further than after all nodes come after all nodes.
-pub fn weave(
-    alloc: Global,
-    nodes: &mut Children,
-    placed: Vec<PlacedMessage>,
-) -> Result<(), TreeFault>
-    ensures { Gives (λ _. nodes.new ≡ forest_of (spec.woven 0 (pairs placed.items) (nodes_of nodes.old))) result }
+pub fn weave(alloc: Global, nodes: &mut Children, placed: Placed) -> Result<(), TreeFault>
+    ensures { Gives (λ _. nodes.new ≡ forest_of (spec.woven placed.items (nodes_of nodes.old))) result }
 {
     if placed.is_empty() {
         return Ok(());
@@ -71,17 +66,13 @@ pub fn weave(
 }
 
 /// The messages in each gap of so many nodes: before each node, and after all.
-fn gaps_of(
-    alloc: Global,
-    count: usize,
-    placed: Vec<PlacedMessage>,
-) -> Result<Vec<Vec<Node>>, TreeFault>
-    ensures { Gives (λ all. gap_nodes all.items ≡ gaps count 0 (pairs placed.items)) result }
+fn gaps_of(alloc: Global, count: usize, placed: Placed) -> Result<Vec<Vec<Node>>, TreeFault>
+    ensures { Gives (λ all. gap_nodes all.items ≡ spec.in_gaps count placed.items (replicate (count + 1) [])) result }
 {
     let mut gaps = empty_gaps(alloc, count)?;
-    for one in placed {
-        let gap = gap_at(one.place, count);
-        gaps[gap].push(one.message)?;
+    for (place, message) in placed {
+        let gap = gap_at(place, count);
+        gaps[gap].push(message)?;
     }
     Ok(gaps)
 }
@@ -111,7 +102,7 @@ fn empty_gaps(alloc: Global, count: usize) -> Result<Vec<Vec<Node>>, TreeFault>
 
 /// The nodes of the first gap, the first node, and so on, as far as there are gaps.
 fn with_gaps(alloc: Global, nodes: Vec<Node>, gaps: Vec<Vec<Node>>) -> Result<Vec<Node>, TreeFault>
-    ensures { Gives (λ all. all.items ≡ with_gaps (gap_nodes gaps.items) nodes.items) result }
+    ensures { Gives (λ all. all.items ≡ spec.with_gaps (gap_nodes gaps.items) nodes.items) result }
 {
     let mut all = Vec::new(alloc);
     let mut nodes = nodes.into_iter();

@@ -1,20 +1,17 @@
-use Rattle.std.proofs.Common.{◌≡◌, ◌+◌, ◌≤◌, nat_cmp, sym, ap, ◌∙◌, arith, eqb-true, rules}
+use Rattle.std.proofs.Common.{◌≡◌, ◌+◌, ◌≤◌, List, [], ◌∷◌, ◌++◌, length, nat_cmp, refl, sym, ap, ◌∙◌, arith, rules}
 use Rattle.std.specs.BTreeMap.{get}
 use Rattle.rst_tree.specs.Forest.{height}
-use Rattle.rst_tree.specs.Nodes.{node_height}
+use Rattle.rst_tree.specs.Nodes.{node_height, nodes_of}
+use Rattle.rst_tree.specs.declared.node.Node.{Node}
+use Rattle.rst_tree.specs.declared.node.Node.TheVariants.{Element}
 use Rattle.rst_tree.proofs.Rewrites.{Same-child}
-use Rattle.rst_transform_names.specs.NameMessages.{own_numbered}
-use Rattle.rst_transform_names.proofs.MessageGaps.{none_left}
-use Rattle.rst_transform_names.proofs.MessagePlaces.{Filling-all, Filling-element, Filling-init, Filling-text, puts_nothing}
+use Rattle.rst_transform_names.specs.NameMessages.{beginning, filled, given, own_numbered, taken, with_element, Texts}
+use Rattle.rst_transform_names.specs.PlacingMessages.{seen, texts_in}
+use Rattle.rst_transform_names.proofs.MessagePlaces.{Filling-all, Filling-init, Filling-more}
 use Rattle.rst_transform_names.proofs.placing.+fill.Goals as goal
 
 pub loop-place-init : goal.loop-place-init
-loop-place-init t c = Filling-init (own_numbered (get nat_cmp c.args.messages.now.messages)) c.args.tag c.args.nodes.now c.none-made.result c.none-made.ensures.tag c.none-made.ensures.bare
-
-pub loop-place-preserved-in-Text : goal.loop-place-preserved-in-Text
-loop-place-preserved-in-Text t c =
-    Filling-text (own_numbered (get nat_cmp c.args.messages.now.messages)) c.args.tag _ c.loop-place.nodes c.loop-place.made c.loop-place.place c.get_mut.result.now c.in-Text.field-0 c.loop-place.invariant
-    (omega (arith, c.loop-place.invariant.same.same_len, c.len-place-end.ensures)) c.get_mut.ensures.value c.in-Text.is
+loop-place-init t c = Filling-init (own_numbered (get nat_cmp c.args.messages.now.messages)) c.args.tag (beginning (texts_in c.args.given)) c.args.nodes.now c.after-made.result c.after-made.ensures
 
 pub fill-requires : goal.fill-requires
 fill-requires t c =
@@ -24,24 +21,25 @@ fill-requires t c =
     let h : height c.in-Element.children + 1 ≤ height c.args.nodes.now = omega (arith, m, k) in
     search (rules, h)
 
-pub loop-place-preserved-then-gives_nothing : goal.loop-place-preserved-then-gives_nothing
-loop-place-preserved-then-gives_nothing t c =
-    let e = c.in-Element in
-    let message = c.in_ok-message-in-Element.message in
-    let inside = c.in_ok-inside-in-Element.inside in
-    let none = none_left message.items message.len message.ok.0 (eqb-true message.len 0 (sym c.is_empty.ensures ∙ c.if-is_empty.true)) in
-    Filling-element (own_numbered (get nat_cmp c.args.messages.now.messages)) e.tag e.attrs e.children c.fill.new.nodes message.items inside c.in_ok-message-in-Element.ensures c.in_ok-inside-in-Element.ensures
-    c.args.tag _ c.loop-place.nodes c.loop-place.made c.loop-place.made c.loop-place.place e.line c.get_mut.result.now c.fill.new.nodes c.loop-place.invariant
-    (omega (arith, c.loop-place.invariant.same.same_len, c.len-place-end.ensures)) c.get_mut.ensures.value e.is
-    (puts_nothing c.loop-place.made.tag c.loop-place.place e.attrs message.items inside c.loop-place.made c.fill.new.nodes none (c.gives_nothing.ensures c.if-gives_nothing.true))
+pub returns : goal.returns
+returns t c =
+    Filling-all (own_numbered (get nat_cmp c.args.messages.now.messages)) c.args.tag (beginning (texts_in c.args.given)) _ c.loop-place.nodes c.loop-place.made c.loop-place.place c.loop-place.invariant (omega (arith, c.loop-place.invariant.same.same_len, c.len-place-end.ensures))
+
+pub loop-place-preserved-in-Text : goal.loop-place-preserved-in-Text
+loop-place-preserved-in-Text t c =
+    let old = c.get_mut.result.now in
+    Filling-more (own_numbered (get nat_cmp c.args.messages.now.messages)) c.args.tag (beginning (texts_in c.args.given)) _ c.loop-place.nodes c.loop-place.made c.loop-place.made c.loop-place.place old old c.loop-place.invariant
+    (omega (arith, c.loop-place.invariant.same.same_len, c.len-place-end.ensures)) c.get_mut.ensures.value (λ done rest long. rw c.in-Text.is refl)
 
 pub loop-place-preserved : goal.loop-place-preserved
 loop-place-preserved t c =
+    let own = own_numbered (get nat_cmp c.args.messages.now.messages) in
     let e = c.in-Element in
-    Filling-element (own_numbered (get nat_cmp c.args.messages.now.messages)) e.tag e.attrs e.children c.fill.new.nodes c.in_ok-message-in-Element.message.items c.in_ok-inside-in-Element.inside c.in_ok-message-in-Element.ensures c.in_ok-inside-in-Element.ensures
-    c.args.tag _ c.loop-place.nodes c.loop-place.made c.put.new.self c.loop-place.place e.line c.get_mut.result.now c.put.new.nodes c.loop-place.invariant
-    (omega (arith, c.loop-place.invariant.same.same_len, c.len-place-end.ensures)) c.get_mut.ensures.value e.is c.in_ok-put-in-Element.ensures
-
-pub returns : goal.returns
-returns t c =
-    Filling-all (own_numbered (get nat_cmp c.args.messages.now.messages)) c.args.tag _ c.loop-place.nodes c.loop-place.made c.loop-place.place c.loop-place.invariant (omega (arith, c.loop-place.invariant.same.same_len, c.len-place-end.ensures))
+    let put = c.in_ok-put-in-Element.ensures in
+    let out = c.in_ok-outside-in-Element.ensures in
+    let new = Element e.tag e.attrs c.weave.new.nodes e.line in
+    let step : (done : List Node) → length done ≡ c.loop-place.place → seen (done ++ new ∷ []) c.put.new.self ≡ with_element c.args.tag e.tag e.attrs e.line (own e.attrs) (filled own e.tag (beginning (given e.tag (seen done c.loop-place.made))) e.children) (taken e.tag (seen done c.loop-place.made)) = (λ done long.
+    let inside : filled own e.tag (beginning (given e.tag (seen done c.loop-place.made))) e.children ≡ seen (nodes_of c.fill.new.nodes) c.in_ok-inside-in-Element.inside = sym (c.in_ok-inside-in-Element.ensures ∙ ap (λ texts. filled own e.tag (beginning texts) e.children) c.given-given.ensures.given) in
+    rw (inside, long, put.inline, put.before, put.after, put.texts_out, put.waiting, out.nodes, out.ahead, out.own, ap (λ (x : Texts). x.own) out.texts, ap (λ (x : Texts). x.placed) out.texts, c.in_ok-own-in-Element.ensures, c.given-given.ensures.taken, ap (λ (x : Texts). x.own) c.given-given.ensures.waiting, ap (λ (x : Texts). x.placed) c.given-given.ensures.waiting) refl) in
+    Filling-more own c.args.tag (beginning (texts_in c.args.given)) _ c.loop-place.nodes c.loop-place.made c.put.new.self c.loop-place.place c.get_mut.result.now new c.loop-place.invariant
+    (omega (arith, c.loop-place.invariant.same.same_len, c.len-place-end.ensures)) c.get_mut.ensures.value (λ done rest long. rw e.is (ap (λ f. filled own c.args.tag f rest) (sym (step done long))))

@@ -1,7 +1,8 @@
 use Rattle.std.proofs.Common.{nat_cmp}
 use Rattle.std.specs.BTreeMap.{get}
 use Rattle.rst_tree.specs.Forest.{height}
-use Rattle.rst_transform_names.specs.NameMessages.{own_numbered}
+use Rattle.rst_transform_names.specs.NameMessages.{beginning, own_numbered}
+use Rattle.rst_transform_names.specs.PlacingMessages.{texts_in}
 use Rattle.rst_transform_names.proofs.MessagePlaces.{Filling}
 use Rattle.rst_transform_names.proofs.placing.+fill.Given as goal
 
@@ -9,4 +10,4 @@ abbrev pub decreases-fill : goal.decreases-fill
 decreases-fill l = height l.nodes.now
 
 abbrev pub invariant-loop-place : goal.invariant-loop-place
-invariant-loop-place l = Filling (own_numbered (get nat_cmp l.fn.messages.messages)) l.fn.tag l.initial.nodes l.nodes l.made l.place
+invariant-loop-place l = Filling (own_numbered (get nat_cmp l.fn.messages.messages)) l.fn.tag (beginning (texts_in l.fn.given)) l.initial.nodes l.nodes l.made l.place

@@ -1,6 +1,8 @@
-use Rattle.rst_transform_names.specs.PlacingMessages.{pairs}
-use Rattle.rst_transform_names.proofs.MessageGaps.{Gapped}
+use Rattle.std.proofs.Common.{◌≡◌, ◌+◌, [], length, replicate}
+use Rattle.rst_transform_names.specs.NameMessages.{in_gaps}
+use Rattle.rst_transform_names.specs.PlacingMessages.{gap_nodes}
 use Rattle.rst_transform_names.proofs.weaving.gaps_of.Given as goal
 
-abbrev pub invariant-loop-one : goal.invariant-loop-one
-invariant-loop-one l = Gapped l.fn.count (pairs l.fn.placed.items) l.gaps.items l.one-iterator.rest.items
+abbrev pub invariant-loop-place : goal.invariant-loop-place
+invariant-loop-place l =
+    (length l.gaps.items ≡ l.count + 1) × (in_gaps l.count l.place-iterator.rest.items (gap_nodes l.gaps.items) ≡ in_gaps l.count l.fn.placed.items (replicate (l.count + 1) []))

@@ -1,5 +1,6 @@
 use Rattle.std.proofs.Common.{◌≡◌, ◌++◌}
-use Rattle.rst_transform_names.specs.PlacingMessages.{gap_nodes, with_gaps}
+use Rattle.rst_transform_names.specs.NameMessages.{with_gaps}
+use Rattle.rst_transform_names.specs.PlacingMessages.{gap_nodes}
 use Rattle.rst_transform_names.proofs.weaving.with_gaps.Given as goal
 
 abbrev pub invariant-loop-gap : goal.invariant-loop-gap
