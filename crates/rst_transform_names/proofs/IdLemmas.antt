@@ -22,14 +22,9 @@ use Rattle.rst_tree.specs.TagNames.{hyphenated, tag_name}
 use Rattle.rst_transform_names.specs.Ids.{numbered, number_of, last_of, taken_by, is_among, is_taken, id_by, kind_id, least_free, least_from, numbered_id, wanted_id, AreTaken, IsLeastFree, Takes, TakesNone, GivesId, GivesNumber, GivesNumbered}
 use Rattle.rst_transform_names.proofs.IdNumbers.{number_of-numbered, some_same, number_of-is}
 
--- what the empty name gives, and what another one does
-pub nothing_wanted : (name : List ℕ) → (length name == 0) ≡ true → [] ≡ wanted_id name
-nothing_wanted [] none = refl
-nothing_wanted (c ∷ cs) none = absurd (omega (arith, eqb-true (length (c ∷ cs)) 0 none))
-
-pub something_wanted : {A : Type 0} (s : String A) (name : List ℕ) → (length name == 0) ≡ false → chars_of s ≡ id_of (chars name) → string_bytes s ≡ wanted_id name
-something_wanted s [] some is = absurd (cc)
-something_wanted s (c ∷ cs) some is = sym (encodes-chars (string_bytes s) (IsUtf8-string_bytes s)) ∙ ap encode_utf8_all is
+-- the bytes of a text with some characters
+pub bytes_of_chars : {A : Type 0} (s : String A) (cs : List ℕ) → chars_of s ≡ cs → string_bytes s ≡ encode_utf8_all cs
+bytes_of_chars s cs e = sym (encodes-chars (string_bytes s) (IsUtf8-string_bytes s)) ∙ ap encode_utf8_all e
 
 -- ---- ids taken
 

@@ -82,5 +82,5 @@ none_numbered : (number : Option ℕ) → ◌≡◌ {A = Placed} (map (λ messag
 none_numbered None = refl
 none_numbered (Some n) = refl
 
-pub without_name_messages : (document : Node) → with_name_messages [] document ≡ document
+pub without_name_messages : (document : Node) → with_name_messages (λ number. None) document ≡ document
 without_name_messages document = ap (λ own. with_messages own document) (fun_ext (λ a. none_numbered (number_at Serial a))) ∙ with_none document

@@ -54,10 +54,9 @@ pub record IsLeastFree (taken : List ℕ → Bool) (base : List ℕ) (n : ℕ) :
   pub is_free : taken (numbered base n) ≡ false
   pub is_least : (m : ℕ) → 0 < m → m < n → taken (numbered base m) ≡ true
 
--- what a name gives; the empty name is none
+-- what a name gives; the empty name gives the empty id, which is none
 abbrev pub wanted_id : List ℕ → List ℕ
-wanted_id [] = []
-wanted_id (c ∷ cs) = encode_utf8_all (id_of (chars (c ∷ cs)))
+wanted_id name = encode_utf8_all (id_of (chars name))
 
 -- an id is among some
 abbrev pub is_among : List (List ℕ) → List ℕ → Bool

@@ -179,21 +179,16 @@ module _ (own : List Attr → Placed) where
       let nodes = nodes_with t a (own a) f in
       Element t a (forest_of (woven (from (length nodes) (ahead t f) ++ from (length nodes) (texts t a f).placed) nodes)) l
 
--- ---- the messages of a registry
+-- ---- the messages by the numbers of their elements
 
--- the last of some messages that is on the name of the element with a number, or else the one before them
-abbrev pub numbered_as : ℕ → Option Node → List (ℕ × Node) → Option Node
-numbered_as number before [] = before
-numbered_as number before (one ∷ more) = numbered_as number (if nat_eq one.0 number then Some one.1 else before) more
+-- with one more, on the name of the element with a number
+abbrev pub with_message_on : ℕ → Node → (ℕ → Option Node) → ℕ → Option Node
+with_message_on number message messages other = if nat_eq number other then Some message else messages other
 
--- the message on the name of an element with some attributes, if there is one, given which one is on the name of the element with a number
-abbrev pub own_numbered : (ℕ → Option Node) → List Attr → Placed
-own_numbered numbered attrs = map (λ message. (0, message)) (option_to_list (option_and_then numbered (number_at Serial attrs)))
-
--- the same, given the messages with the numbers of their elements
-abbrev pub own_message : List (ℕ × Node) → List Attr → Placed
-own_message messages = own_numbered (λ number. numbered_as number None messages)
+-- the message on the name of an element with some attributes, if there is one
+abbrev pub own_message : (ℕ → Option Node) → List Attr → Placed
+own_message messages attrs = map (λ message. (0, message)) (option_to_list (option_and_then messages (number_at Serial attrs)))
 
 -- the document with these messages
-abbrev pub with_name_messages : List (ℕ × Node) → Node → Node
+abbrev pub with_name_messages : (ℕ → Option Node) → Node → Node
 with_name_messages messages document = with_messages (own_message messages) document

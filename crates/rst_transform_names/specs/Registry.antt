@@ -20,6 +20,7 @@ use Rattle.rst_transform_names.specs.declared.rulings.Now.TheVariants.{Old, New,
 use Rattle.rst_transform_names.specs.declared.rulings.Ruling.{Ruling}
 use Rattle.rst_transform_names.specs.Gathered.{text_at}
 use Rattle.rst_transform_names.specs.Names.{moved}
+use Rattle.rst_transform_names.specs.NameMessages.{with_message_on}
 use Rattle.rst_transform_names.specs.DuplicateMessages.{duplicate_definition, duplicate_name}
 use Rattle.rst_transform_names.specs.Rulings.{ruling_for}
 
@@ -67,10 +68,10 @@ abbrev pub holder_in : Option NameEntry → Holder
 holder_in None = Lost
 holder_in (Some held) = held.holder
 
--- the message on the name of an element, with the element's number, if the rule asks for one
-abbrev pub name_messages_by : Option DuplicateMessage → ℕ → Item → List ℕ → List (ℕ × Node)
-name_messages_by None number new id = []
-name_messages_by (Some message) number new id = (number, duplicate_name message new id) ∷ []
+-- the messages with that on the name of an element, which has a number, if the rule asks for one
+abbrev pub name_messages_by : Option DuplicateMessage → ℕ → Item → List ℕ → (ℕ → Option Node) → ℕ → Option Node
+name_messages_by None number new id messages = messages
+name_messages_by (Some message) number new id messages = with_message_on number (duplicate_name message new id) messages
 
 -- nothing becomes of a name
 abbrev pub no_rule : Ruling
@@ -89,6 +90,6 @@ abbrev pub definer : Option ℕ → Holder
 definer None = Lost
 definer (Some number) = Element number
 
-abbrev pub definition_messages : Option ℕ → ℕ → Item → List (ℕ × Node)
-definition_messages None number new = []
-definition_messages (Some earlier) number new = (number, duplicate_definition new) ∷ []
+abbrev pub definition_messages : Option ℕ → ℕ → Item → (ℕ → Option Node) → ℕ → Option Node
+definition_messages None number new messages = messages
+definition_messages (Some earlier) number new messages = with_message_on number (duplicate_definition new) messages

@@ -189,12 +189,10 @@ fn begins_from_one(digits: &str) -> bool
 }
 
 /// The id that a name gives; it may be empty, as that of the empty name is.
+#[tactic(auto, using(crate::proofs::IdLemmas::bytes_of_chars))]
 fn id_text(alloc: Global, name: &str) -> Result<String, TreeFault>
     ensures { Gives (λ id. string_bytes id ≡ wanted_id name.now) result }
 {
-    if name.is_empty() {
-        return Ok(String::new(alloc));
-    }
     match id_of(alloc, name) {
         Ok(id) => Ok(id),
         // The call has no other refusal than want of memory.

@@ -183,7 +183,11 @@ impl Inside {
             self.inline.append(&mut own)?;
         }
         ahead.append(&mut own)?;
-        let first = if is_passed_over(parent) { 0 } else { place as u64 };
+        let first = if is_passed_over(parent) {
+            0
+        } else {
+            place as u64
+        };
         put_from(&mut self.before, first, ahead)?;
         if goes_out(parent, tag) {
             return self.texts_out.append(texts);

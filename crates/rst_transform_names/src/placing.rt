@@ -1,73 +1,51 @@
 //! The places of the messages on equal names.
-ghost use Rattle.std.specs.Prelude.{◌≡◌, ◌==◌, [], ◌∷◌, ◌++◌, length, ℕ, None};
-ghost use Rattle.std.specs.BTreeMap.{get};
-ghost use Rattle.std.specs.Ordering.{nat_cmp};
-ghost use Rattle.std.specs.VecDeque.{deque_items};
+ghost use Rattle.std.specs.Prelude.{◌≡◌, ◌∷◌, [], ℕ, IsTrue, None};
 ghost use Rattle.rst_tree.specs.Faults.{Gives};
-ghost use Rattle.rst_transform_names.specs.NameMessages as spec;
 ghost use Rattle.rst_tree.specs.Nodes.{nodes_of};
-ghost use Rattle.rst_transform_names.specs.PlacingMessages.{seen, texts_in};
+ghost use Rattle.rst_transform_names.specs.NameMessages as spec;
+ghost use Rattle.rst_transform_names.specs.PlacingMessages.{message_on, seen, texts_in};
 
 use super::duplicate_messages::NameMessage;
 use super::inside::Inside;
 use super::weaving::{Placed, TextMessages, put_from, weave};
 use rst_tree::{Attrs, Children, Key, Node, Tag, TreeFault};
 use std::alloc::Global;
-use std::collections::{BTreeMap, VecDeque};
+use std::collections::BTreeMap;
 
-/// Messages on names that have no place yet: each with the number of its element, in preorder.
+/// Messages on names that have no place yet, by the numbers of their elements.
 #[derive(Drop)]
 pub struct NameMessages {
-    queue: VecDeque<(u64, NameMessage)>,
+    messages: BTreeMap<u64, NameMessage>,
 }
 
 impl NameMessages {
     /// No message.
     pub fn new(alloc: Global) -> NameMessages
-        ensures { deque_items result.queue ≡ [] }
+        ensures { (serial : ℕ) → message_on result serial ≡ None }
     {
         NameMessages {
-            queue: VecDeque::new(alloc),
+            messages: BTreeMap::new(alloc),
         }
     }
 
-    /// One more message, on the name of the element with a number above the earlier ones.
-    pub fn push(&mut self, serial: u64, message: NameMessage) -> Result<(), TreeFault>
-        ensures { Gives (λ _. deque_items self.new.queue ≡ deque_items self.old.queue ++ (serial, message) ∷ []) result }
+    /// Puts a message on the name of the element with a number.
+    pub fn put(&mut self, serial: u64, message: NameMessage) -> Result<(), TreeFault>
+        ensures { Gives (λ _. (other : ℕ) → message_on self.new other ≡ spec.with_message_on serial message (message_on self.old) other) result }
     {
-        self.queue.push_back((serial, message))?;
+        self.messages.insert(serial, message)?;
         Ok(())
     }
 
     /// Whether there is no message.
-    pub fn is_empty(&self) -> bool
-        ensures { result ≡ (length (deque_items self.now.queue) == 0) }
+    fn is_empty(&self) -> bool
+        ensures { IsTrue result → (serial : ℕ) → message_on self.now serial ≡ None }
     {
-        self.queue.is_empty()
+        self.messages.is_empty()
     }
 
-    /// The messages by the numbers of their elements.
-    fn numbered(self, alloc: Global) -> Result<NumberedMessages, TreeFault>
-        ensures { Gives (λ n. (serial : ℕ) → get nat_cmp n.messages serial ≡ spec.numbered_as serial None (deque_items self.queue)) result }
-    {
-        let mut messages = BTreeMap::new(alloc);
-        for (serial, message) in self.queue {
-            messages.insert(serial, message)?;
-        }
-        Ok(NumberedMessages { messages })
-    }
-}
-
-/// The messages on names by the numbers of their elements.
-#[derive(Drop)]
-struct NumberedMessages {
-    messages: BTreeMap<u64, NameMessage>,
-}
-
-impl NumberedMessages {
     /// The message on the name of an element with these attributes, if there is one.
     fn message(&self, alloc: Global, attrs: &Attrs) -> Result<Placed, TreeFault>
-        ensures { Gives (λ own. own.items ≡ spec.own_numbered (get nat_cmp self.now.messages) attrs.now) result }
+        ensures { Gives (λ own. own.items ≡ spec.own_message (message_on self.now) attrs.now) result }
     {
         let mut own = Vec::new(alloc);
         if let Some(serial) = attrs.number(Key::Serial) {
@@ -86,9 +64,9 @@ fn fill(
     tag: Tag,
     nodes: &mut Children,
     given: TextMessages,
-    messages: &NumberedMessages,
+    messages: &NameMessages,
 ) -> Result<Inside, TreeFault>
-    ensures { Gives (λ made. seen (nodes_of nodes.new) made ≡ spec.filled (spec.own_numbered (get nat_cmp messages.now.messages)) tag (spec.beginning (texts_in given)) nodes.old) result }
+    ensures { Gives (λ made. seen (nodes_of nodes.new) made ≡ spec.filled (spec.own_message (message_on messages.now)) tag (spec.beginning (texts_in given)) nodes.old) result }
 {
     let parent = tag;
     let mut made = Inside::after(alloc, given);
@@ -120,11 +98,11 @@ fn fill(
 pub fn place_name_messages(
     alloc: Global,
     document: Node,
-    name_messages: NameMessages,
+    messages: &NameMessages,
 ) -> Result<Node, TreeFault>
-    ensures { Gives (λ placed. placed ≡ spec.with_name_messages (deque_items name_messages.queue) document) result }
+    ensures { Gives (λ placed. placed ≡ spec.with_name_messages (message_on messages.now) document) result }
 {
-    if name_messages.is_empty() {
+    if messages.is_empty() {
         return Ok(document);
     }
     let mut document = document;
@@ -137,8 +115,7 @@ pub fn place_name_messages(
     else {
         return Ok(document);
     };
-    let messages = name_messages.numbered(alloc)?;
-    let inside = fill(alloc, *tag, children, TextMessages::none(alloc), &messages)?;
+    let inside = fill(alloc, *tag, children, TextMessages::none(alloc), messages)?;
     let own = messages.message(alloc, attrs)?;
     let outside = inside.weave(alloc, *tag, attrs, children, own)?;
     let mut last = Vec::new(alloc);

@@ -62,7 +62,7 @@ pub fn register(alloc: Global, document: Marked, messages: u64) -> Result<Regist
     let mut writing = Writing::of(alloc, standings, known_messages);
     let written = document.visit(&mut writing)?;
     Ok(Registered {
-        root: place_name_messages(alloc, written, name_messages)?,
+        root: place_name_messages(alloc, written, &name_messages)?,
         ids,
         names,
         serials,

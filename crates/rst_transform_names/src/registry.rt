@@ -1,11 +1,11 @@
 //! Names and ids, given one element after the other.
-ghost use Rattle.std.specs.Prelude.{◌≡◌, ◌++◌, if◌then◌else◌, length, map};
-ghost use Rattle.std.specs.VecDeque.{deque_items};
+ghost use Rattle.std.specs.Prelude.{◌≡◌, ℕ, if◌then◌else◌, length, map};
 ghost use Rattle.rst_tree.specs.Faults.{Gives};
 ghost use Rattle.rst_tree.specs.PrintedAttributes.{given};
 ghost use Rattle.rst_tree_index.specs.Registered.{item_of};
 ghost use Rattle.rst_transform_names.specs.Gathered as spec;
 ghost use Rattle.rst_transform_names.specs.Names.{held_by, Knows};
+ghost use Rattle.rst_transform_names.specs.PlacingMessages.{message_on};
 ghost use Rattle.rst_transform_names.specs.Registering.{all_registered, nothing_known, with_definition, with_element, with_message, with_named, Holds, Makes};
 ghost use Rattle.rst_transform_names.specs.Registry.{strength_of, is_same_text, target_uri, known_by, losing, holder_in, name_messages_by, rule_named, definer, definition_messages};
 
@@ -157,10 +157,10 @@ fn add_definition_message(
     serial: u64,
     new: Element<'_>,
 ) -> Result<(), TreeFault>
-    ensures { Gives (λ _. deque_items name_messages.new.queue ≡ deque_items name_messages.old.queue ++ definition_messages before serial (item_of new.entry)) result }
+    ensures { Gives (λ _. (other : ℕ) → message_on name_messages.new other ≡ definition_messages before serial (item_of new.entry) (message_on name_messages.old) other) result }
 {
     match before {
-        Some(_) => name_messages.push(serial, duplicate_definition(alloc, new)?),
+        Some(_) => name_messages.put(serial, duplicate_definition(alloc, new)?),
         None => Ok(()),
     }
 }
@@ -191,10 +191,10 @@ fn add_name_message(
     new: Element<'_>,
     id: &Text,
 ) -> Result<(), TreeFault>
-    ensures { Gives (λ _. deque_items name_messages.new.queue ≡ deque_items name_messages.old.queue ++ name_messages_by message serial (item_of new.entry) id.now) result }
+    ensures { Gives (λ _. (other : ℕ) → message_on name_messages.new other ≡ name_messages_by message serial (item_of new.entry) id.now (message_on name_messages.old) other) result }
 {
     match message {
-        Some(message) => name_messages.push(serial, duplicate_name(alloc, message, new, id)?),
+        Some(message) => name_messages.put(serial, duplicate_name(alloc, message, new, id)?),
         None => Ok(()),
     }
 }
@@ -281,7 +281,7 @@ fn target_uri<'a>(element: Element<'a>) -> Option<&'a Text>
 }
 
 /// A copy of a text, if there is one.
-fn copied(text: Option<&Text>) -> Result<Option<Text>, TreeFault>
+pub fn copied(text: Option<&Text>) -> Result<Option<Text>, TreeFault>
     ensures { Gives (λ copy. copy ≡ given text.entry) result }
 {
     match text {

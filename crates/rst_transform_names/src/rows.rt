@@ -19,7 +19,7 @@ ghost use Rattle.rst_transform_names.specs.NameMessages.{with_name_messages};
 ghost use Rattle.rst_transform_names.specs.Registering.{registration};
 ghost use Rattle.rst_transform_names.specs.Registry.{rule_by, standing};
 ghost use Rattle.rst_transform_names.specs.Rulings.{ruling_for};
-ghost use Rattle.rst_transform_names.specs.Trees.{counts, document, element, lists, paragraph, says, text, Prints, PrintsRegistered};
+ghost use Rattle.rst_transform_names.specs.Trees.{counts, document, element, lists, numbered_messages, paragraph, says, text, Prints, PrintsRegistered};
 ghost use Rattle.rst_transform_names.specs.Written.{given, left_behind, with_given};
 
 /// What a name gives as an id, and the numbers at the end of ids (Directives, 'Identifier Normalization').
@@ -135,60 +135,60 @@ pub fn messages()
 
 /// Where the message on an element's name comes (Markup Specification, 'Implicit Hyperlink Targets').
 pub fn places()
-    ensures in_a_section { Prints (with_name_messages ((0, text "here") ∷ []) (document (element Section (counts Serial 0 ∷ []) (element Title [] []
+    ensures in_a_section { Prints (with_name_messages (numbered_messages ((0, text "here") ∷ [])) (document (element Section (counts Serial 0 ∷ []) (element Title [] []
         ∷ paragraph "b" ∷ []) ∷ [])))
         ("<document>" ∷ "    <section>" ∷ "        <title>" ∷ "        here" ∷ "        <paragraph>" ∷ "            b" ∷ []) }
-    ensures after_messages_of_a_title { Prints (with_name_messages ((0, text "here") ∷ []) (document (element Section (counts Serial 0
+    ensures after_messages_of_a_title { Prints (with_name_messages (numbered_messages ((0, text "here") ∷ [])) (document (element Section (counts Serial 0
         ∷ counts TextMessages 1 ∷ []) (element Title [] [] ∷ element SystemMessage [] [] ∷ paragraph "b" ∷ []) ∷ [])))
         ("<document>" ∷ "    <section>" ∷ "        <title>" ∷ "        <system_message line=\"1\">" ∷ "        here" ∷ "        <paragraph>"
         ∷ "            b" ∷ []) }
-    ensures before_a_target { Prints (with_name_messages ((0, text "here") ∷ []) (document (paragraph "a" ∷ element Target (counts Serial 0 ∷ []) []
+    ensures before_a_target { Prints (with_name_messages (numbered_messages ((0, text "here") ∷ [])) (document (paragraph "a" ∷ element Target (counts Serial 0 ∷ []) []
         ∷ [])))
         ("<document>" ∷ "    <paragraph>" ∷ "        a" ∷ "    here" ∷ "    <target>" ∷ []) }
-    ensures of_another_element { Prints (with_name_messages ((1, text "here") ∷ []) (document (element Target (counts Serial 0 ∷ []) [] ∷ [])))
+    ensures of_another_element { Prints (with_name_messages (numbered_messages ((1, text "here") ∷ [])) (document (element Target (counts Serial 0 ∷ []) [] ∷ [])))
         ("<document>" ∷ "    <target>" ∷ []) }
-    ensures in_a_text { Prints (with_name_messages ((0, text "here") ∷ []) (document (element Paragraph (counts TextMessages 1
+    ensures in_a_text { Prints (with_name_messages (numbered_messages ((0, text "here") ∷ [])) (document (element Paragraph (counts TextMessages 1
         ∷ []) (element Target (counts Inline 1 ∷ counts Serial 0 ∷ []) [] ∷ []) ∷ element SystemMessage [] [] ∷ paragraph "b" ∷ [])))
         ("<document>" ∷ "    <paragraph>" ∷ "        <target>" ∷ "    <system_message line=\"1\">" ∷ "    here" ∷ "    <paragraph>" ∷ "        b"
         ∷ []) }
-    ensures texts_before_elements { Prints (with_name_messages ((0, text "first") ∷ (1, text "second")
-        ∷ []) (document (element Paragraph [] (element Target (counts Inline 1 ∷ counts Serial 0 ∷ []) [] ∷ []) ∷ element Target (counts Serial 1
+    ensures texts_before_elements { Prints (with_name_messages (numbered_messages ((0, text "first") ∷ (1, text "second")
+        ∷ [])) (document (element Paragraph [] (element Target (counts Inline 1 ∷ counts Serial 0 ∷ []) [] ∷ []) ∷ element Target (counts Serial 1
         ∷ []) [] ∷ [])))
         ("<document>" ∷ "    <paragraph>" ∷ "        <target>" ∷ "    first" ∷ "    second" ∷ "    <target>" ∷ []) }
-    ensures of_a_term { Prints (with_name_messages ((0, text "here")
-        ∷ []) (element DefinitionListItem [] (element Term [] (element Target (counts Inline 1 ∷ counts Serial 0 ∷ []) [] ∷ [])
+    ensures of_a_term { Prints (with_name_messages (numbered_messages ((0, text "here")
+        ∷ [])) (element DefinitionListItem [] (element Term [] (element Target (counts Inline 1 ∷ counts Serial 0 ∷ []) [] ∷ [])
         ∷ element Definition [] (paragraph "d" ∷ []) ∷ [])))
         ("<definition_list_item>" ∷ "    <term>" ∷ "        <target>" ∷ "    <definition>" ∷ "        here" ∷ "        <paragraph>"
         ∷ "            d" ∷ []) }
-    ensures of_a_classifier { Prints (with_name_messages ((0, text "here") ∷ []) (element DefinitionListItem [] (element Term (counts TextMessages 1
+    ensures of_a_classifier { Prints (with_name_messages (numbered_messages ((0, text "here") ∷ [])) (element DefinitionListItem [] (element Term (counts TextMessages 1
         ∷ []) [] ∷ element Classifier [] (element Target (counts Inline 1 ∷ counts Serial 0 ∷ []) [] ∷ [])
         ∷ element Definition [] (element SystemMessage [] [] ∷ paragraph "d" ∷ []) ∷ [])))
         ("<definition_list_item>" ∷ "    <term>" ∷ "    <classifier>" ∷ "        <target>" ∷ "    <definition>"
         ∷ "        <system_message line=\"1\">" ∷ "        here" ∷ "        <paragraph>" ∷ "            d" ∷ []) }
-    ensures of_a_field_name { Prints (with_name_messages ((0, text "here")
-        ∷ []) (element Field [] (element FieldName [] (element Target (counts Inline 1 ∷ counts Serial 0 ∷ []) [] ∷ []) ∷ element FieldBody [] []
+    ensures of_a_field_name { Prints (with_name_messages (numbered_messages ((0, text "here")
+        ∷ [])) (element Field [] (element FieldName [] (element Target (counts Inline 1 ∷ counts Serial 0 ∷ []) [] ∷ []) ∷ element FieldBody [] []
         ∷ [])))
         ("<field>" ∷ "    <field_name>" ∷ "        <target>" ∷ "    <field_body>" ∷ "        here" ∷ []) }
-    ensures of_a_nested_line { Prints (with_name_messages ((0, text "here")
-        ∷ []) (document (element LineBlock [] (element LineBlock [] (element Line [] (element Target (counts Inline 1 ∷ counts Serial 0 ∷ []) []
+    ensures of_a_nested_line { Prints (with_name_messages (numbered_messages ((0, text "here")
+        ∷ [])) (document (element LineBlock [] (element LineBlock [] (element Line [] (element Target (counts Inline 1 ∷ counts Serial 0 ∷ []) []
         ∷ []) ∷ []) ∷ []) ∷ paragraph "b" ∷ [])))
         ("<document>" ∷ "    <line_block>" ∷ "        <line_block>" ∷ "            <line>" ∷ "                <target>" ∷ "    here"
         ∷ "    <paragraph>" ∷ "        b" ∷ []) }
-    ensures of_an_attribution { Prints (with_name_messages ((0, text "here")
-        ∷ []) (document (element BlockQuote [] (element Attribution [] (element Target (counts Inline 1 ∷ counts Serial 0 ∷ []) [] ∷ []) ∷ [])
+    ensures of_an_attribution { Prints (with_name_messages (numbered_messages ((0, text "here")
+        ∷ [])) (document (element BlockQuote [] (element Attribution [] (element Target (counts Inline 1 ∷ counts Serial 0 ∷ []) [] ∷ []) ∷ [])
         ∷ [])))
         ("<document>" ∷ "    <block_quote>" ∷ "        <attribution>" ∷ "            <target>" ∷ "    here" ∷ []) }
-    ensures of_a_caption { Prints (with_name_messages ((0, text "here")
-        ∷ []) (document (element Figure [] (element Caption [] (element Target (counts Inline 1 ∷ counts Serial 0 ∷ []) [] ∷ []) ∷ []) ∷ [])))
+    ensures of_a_caption { Prints (with_name_messages (numbered_messages ((0, text "here")
+        ∷ [])) (document (element Figure [] (element Caption [] (element Target (counts Inline 1 ∷ counts Serial 0 ∷ []) [] ∷ []) ∷ []) ∷ [])))
         ("<document>" ∷ "    <figure>" ∷ "        <caption>" ∷ "            <target>" ∷ "    here" ∷ []) }
-    ensures of_an_image_in_a_reference { Prints (with_name_messages ((0, text "here")
-        ∷ []) (document (element Reference [] (element Image (counts Serial 0 ∷ []) [] ∷ []) ∷ [])))
+    ensures of_an_image_in_a_reference { Prints (with_name_messages (numbered_messages ((0, text "here")
+        ∷ [])) (document (element Reference [] (element Image (counts Serial 0 ∷ []) [] ∷ []) ∷ [])))
         ("<document>" ∷ "    here" ∷ "    <reference>" ∷ "        <image>" ∷ []) }
-    ensures of_an_image_in_a_definition { Prints (with_name_messages ((0, text "here")
-        ∷ []) (document (element SubstitutionDefinition [] (element Reference [] (element Image (counts Serial 0 ∷ []) [] ∷ []) ∷ []) ∷ [])))
+    ensures of_an_image_in_a_definition { Prints (with_name_messages (numbered_messages ((0, text "here")
+        ∷ [])) (document (element SubstitutionDefinition [] (element Reference [] (element Image (counts Serial 0 ∷ []) [] ∷ []) ∷ []) ∷ [])))
         ("<document>" ∷ "    here" ∷ "    <substitution_definition>" ∷ "        <reference>" ∷ "            <image>" ∷ []) }
-    ensures of_an_image_in_a_figure { Prints (with_name_messages ((0, text "here")
-        ∷ []) (document (element Figure [] (element Image (counts Serial 0 ∷ []) [] ∷ []) ∷ [])))
+    ensures of_an_image_in_a_figure { Prints (with_name_messages (numbered_messages ((0, text "here")
+        ∷ [])) (document (element Figure [] (element Image (counts Serial 0 ∷ []) [] ∷ []) ∷ [])))
         ("<document>" ∷ "    <figure>" ∷ "        here" ∷ "        <image>" ∷ []) }
 {}
 

@@ -1,5 +1,5 @@
 //! Messages with places among nodes.
-ghost use Rattle.std.specs.Prelude.{◌≡◌, ◌+◌, ◌++◌, [], min, replicate};
+ghost use Rattle.std.specs.Prelude.{◌≡◌, ◌+◌, ◌++◌, [], replicate};
 ghost use Rattle.rst_tree.specs.Faults.{Gives};
 ghost use Rattle.rst_tree.specs.Nodes.{forest_of, nodes_of};
 ghost use Rattle.rst_transform_names.specs.NameMessages as spec;
@@ -69,33 +69,14 @@ pub fn weave(alloc: Global, nodes: &mut Children, placed: Placed) -> Result<(), 
 fn gaps_of(alloc: Global, count: usize, placed: Placed) -> Result<Vec<Vec<Node>>, TreeFault>
     ensures { Gives (λ all. gap_nodes all.items ≡ spec.in_gaps count placed.items (replicate (count + 1) [])) result }
 {
-    let mut gaps = empty_gaps(alloc, count)?;
-    for (place, message) in placed {
-        let gap = gap_at(place, count);
-        gaps[gap].push(message)?;
-    }
-    Ok(gaps)
-}
-
-/// The gap of so many nodes that a place is in.
-fn gap_at(place: u64, count: usize) -> usize
-    ensures { result ≡ min place count }
-{
-    if place < count as u64 {
-        place as usize
-    } else {
-        count
-    }
-}
-
-/// No message in each gap of so many nodes.
-fn empty_gaps(alloc: Global, count: usize) -> Result<Vec<Vec<Node>>, TreeFault>
-    ensures { Gives (λ all. gap_nodes all.items ≡ replicate (count + 1) []) result }
-{
     let mut gaps = Vec::new(alloc);
     gaps.push(Vec::new(alloc))?;
     for _done in 0..count {
         gaps.push(Vec::new(alloc))?;
+    }
+    for (place, message) in placed {
+        let gap = place.min(count as u64) as usize;
+        gaps[gap].push(message)?;
     }
     Ok(gaps)
 }

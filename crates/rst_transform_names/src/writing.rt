@@ -1,13 +1,11 @@
 //! The attributes that registration gives, written at the elements.
 ghost use Rattle.std.specs.Prelude.{◌≡◌, MatchOption, None, Some};
 ghost use Rattle.rst_tree.specs.Faults.{Gives};
-ghost use Rattle.rst_tree.specs.declared.key.Key.TheVariants.{OwnName};
-ghost use Rattle.rst_transform_names.specs.Gathered.{text_at};
 ghost use Rattle.rst_transform_names.specs.Written.{given, with_id, with_name, with_standing, message_of, with_problematic, with_refid, with_message, with_backrefs, left_behind, with_given};
 
 use super::ids::{message_id, problematic_id};
 use super::message_ids::{KnownMessages, MessageIds};
-use super::registry::Standing;
+use super::registry::{Standing, copied};
 use rst_tree::{Attrs, Key, Tag, Text, Texts, TreeFault, Value, Visitor};
 use std::alloc::Global;
 use std::collections::VecDeque;
@@ -41,16 +39,6 @@ fn write_name(
     }
 }
 
-/// A copy of the name that an element was written with, if it was with one.
-fn copied_name(attrs: &Attrs) -> Result<Option<Text>, TreeFault>
-    ensures { Gives (λ name. name ≡ text_at OwnName attrs.now) result }
-{
-    match attrs.text(Key::OwnName) {
-        Some(name) => Ok(Some(name.copy()?)),
-        None => Ok(None),
-    }
-}
-
 /// How many attributes tell what an element got that has a name or none.
 fn count_of(standing: &Standing, name: &Option<Text>) -> usize {
     let parts = [true, standing.id.is_some(), name.is_some()];
@@ -61,7 +49,7 @@ fn count_of(standing: &Standing, name: &Option<Text>) -> usize {
 fn write(alloc: Global, attrs: &mut Attrs, standing: Standing) -> Result<(), TreeFault>
     ensures { Gives (λ _. attrs.new ≡ with_standing standing attrs.old) result }
 {
-    let name = copied_name(attrs)?;
+    let name = copied(attrs.text(Key::OwnName))?;
     attrs.reserve(count_of(&standing, &name))?;
     let Standing { serial, id, lost } = standing;
     attrs.set(Key::Serial, Value::Number(serial))?;

@@ -1,17 +1,16 @@
-use Rattle.std.proofs.Common.{◌≡◌, ◌+◌, ◌≤◌, List, [], ◌∷◌, ◌++◌, length, nat_cmp, refl, sym, ap, ◌∙◌, arith, rules}
-use Rattle.std.specs.BTreeMap.{get}
+use Rattle.std.proofs.Common.{◌≡◌, ◌+◌, ◌≤◌, List, [], ◌∷◌, ◌++◌, length, refl, sym, ap, ◌∙◌, arith, rules}
 use Rattle.rst_tree.specs.Forest.{height}
 use Rattle.rst_tree.specs.Nodes.{node_height, nodes_of}
 use Rattle.rst_tree.specs.declared.node.Node.{Node}
 use Rattle.rst_tree.specs.declared.node.Node.TheVariants.{Element}
 use Rattle.rst_tree.proofs.Rewrites.{Same-child}
-use Rattle.rst_transform_names.specs.NameMessages.{beginning, filled, given, own_numbered, taken, with_element, Texts}
-use Rattle.rst_transform_names.specs.PlacingMessages.{seen, texts_in}
+use Rattle.rst_transform_names.specs.NameMessages.{beginning, filled, given, own_message, taken, with_element, Texts}
+use Rattle.rst_transform_names.specs.PlacingMessages.{message_on, seen, texts_in}
 use Rattle.rst_transform_names.proofs.MessagePlaces.{Filling-all, Filling-init, Filling-more}
 use Rattle.rst_transform_names.proofs.placing.+fill.Goals as goal
 
 pub loop-place-init : goal.loop-place-init
-loop-place-init t c = Filling-init (own_numbered (get nat_cmp c.args.messages.now.messages)) c.args.tag (beginning (texts_in c.args.given)) c.args.nodes.now c.after-made.result c.after-made.ensures
+loop-place-init t c = Filling-init (own_message (message_on c.args.messages.now)) c.args.tag (beginning (texts_in c.args.given)) c.args.nodes.now c.after-made.result c.after-made.ensures
 
 pub fill-requires : goal.fill-requires
 fill-requires t c =
@@ -23,17 +22,17 @@ fill-requires t c =
 
 pub returns : goal.returns
 returns t c =
-    Filling-all (own_numbered (get nat_cmp c.args.messages.now.messages)) c.args.tag (beginning (texts_in c.args.given)) _ c.loop-place.nodes c.loop-place.made c.loop-place.place c.loop-place.invariant (omega (arith, c.loop-place.invariant.same.same_len, c.len-place-end.ensures))
+    Filling-all (own_message (message_on c.args.messages.now)) c.args.tag (beginning (texts_in c.args.given)) _ c.loop-place.nodes c.loop-place.made c.loop-place.place c.loop-place.invariant (omega (arith, c.loop-place.invariant.same.same_len, c.len-place-end.ensures))
 
 pub loop-place-preserved-in-Text : goal.loop-place-preserved-in-Text
 loop-place-preserved-in-Text t c =
     let old = c.get_mut.result.now in
-    Filling-more (own_numbered (get nat_cmp c.args.messages.now.messages)) c.args.tag (beginning (texts_in c.args.given)) _ c.loop-place.nodes c.loop-place.made c.loop-place.made c.loop-place.place old old c.loop-place.invariant
+    Filling-more (own_message (message_on c.args.messages.now)) c.args.tag (beginning (texts_in c.args.given)) _ c.loop-place.nodes c.loop-place.made c.loop-place.made c.loop-place.place old old c.loop-place.invariant
     (omega (arith, c.loop-place.invariant.same.same_len, c.len-place-end.ensures)) c.get_mut.ensures.value (λ done rest long. rw c.in-Text.is refl)
 
 pub loop-place-preserved : goal.loop-place-preserved
 loop-place-preserved t c =
-    let own = own_numbered (get nat_cmp c.args.messages.now.messages) in
+    let own = own_message (message_on c.args.messages.now) in
     let e = c.in-Element in
     let put = c.in_ok-put-in-Element.ensures in
     let out = c.in_ok-outside-in-Element.ensures in

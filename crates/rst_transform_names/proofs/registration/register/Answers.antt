@@ -1,4 +1,5 @@
 use Rattle.std.proofs.Common.{◌≡◌, map, ap, ap₂, subst, length, ◌∙◌, arith}
+use Rattle.std.proofs.Math.Path.{fun_ext}
 use Rattle.rst_tree.specs.Walk.{walked_node}
 use Rattle.rst_tree_index.specs.Marks.{heeded_next, heeded_out}
 use Rattle.rst_tree_index.specs.Registered.{is_registered, item_of}
@@ -16,7 +17,7 @@ returns c =
     let h = subst (λ es. Holds held (all_registered es (nothing_known c.args.messages))) elements c.in_ok-ids.ensures in
     let wrote : c.in_ok-written.written ≡ written r c.args.document = c.in_ok-written.ensures.node ∙ ap (λ g. walked_node (heeded_next is_registered left_behind) (heeded_out is_registered with_given) g c.args.document) (c.of-writing.ensures ∙ written_as_held held r h) in
     record {
-      root = c.in_ok-place_name_messages.ensures ∙ ap₂ (λ ms n. with_name_messages ms n) h.name_messages wrote;
+      root = c.in_ok-place_name_messages.ensures ∙ ap₂ (λ ms n. with_name_messages ms n) (fun_ext h.name_messages) wrote;
       ids = h.ids;
       names = h.names;
       serials = omega (arith, c.len-serials.ensures, held.standings.ok.0, ap length h.standings);

@@ -1,7 +1,9 @@
 use Rattle.std.proofs.Common.{◌≡◌, ◌++◌, ◌∷◌, [], Some, None, false, length, ap, ap₂, ◌∙◌, string_bytes}
 use Rattle.std.specs.BTreeMap.{get_by_text}
+use Rattle.std.proofs.Math.Path.{fun_ext}
 use Rattle.rst_tree_index.specs.Registered.{item_of}
 use Rattle.rst_transform_names.specs.Gathered.{own_name}
+use Rattle.rst_transform_names.specs.PlacingMessages.{message_on}
 use Rattle.rst_transform_names.specs.Registry.{definer, losing, standing}
 use Rattle.rst_transform_names.proofs.RegistryLemmas.{put_lost, entered}
 use Rattle.rst_transform_names.proofs.registry.Registry.define.Goals as goal
@@ -24,5 +26,8 @@ returns c = λ r h.
       standings = c.in_ok-push.ensures.items ∙ ap₂ (λ ss n. ss ++ standing n None false ∷ []) lost number;
       numbers = h.numbers;
       messages = h.messages;
-      name_messages = let kept = c.in_ok-add_definition_message.ensures in cc;
+      name_messages = λ other.
+          let kept = c.in_ok-add_definition_message.ensures other in
+          let was : message_on old.name_messages ≡ r.name_messages = fun_ext h.name_messages in
+          cc;
     }

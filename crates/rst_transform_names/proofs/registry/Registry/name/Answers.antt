@@ -1,9 +1,11 @@
 use Rattle.std.proofs.Common.{◌≡◌, ◌∷◌, length, ap, ap₂, subst, ◌∙◌}
 use Rattle.std.specs.Prelude.{if◌then◌else◌}
+use Rattle.std.proofs.Math.Path.{fun_ext}
 use Rattle.rst_tree_index.specs.Registered.{item_of}
 use Rattle.rst_transform_names.specs.Gathered.{own_name}
 use Rattle.rst_transform_names.specs.Ids.{id_for, AreTaken}
 use Rattle.rst_transform_names.specs.Names.{held_by}
+use Rattle.rst_transform_names.specs.PlacingMessages.{message_on}
 use Rattle.rst_transform_names.specs.Registry.{holder_in, losing, rule_named}
 use Rattle.rst_transform_names.proofs.RegistryLemmas.{put_lost_if}
 use Rattle.rst_transform_names.proofs.registry.Registry.name.Goals as goal
@@ -30,5 +32,8 @@ returns c = λ r h.
       standings = let put = c.in_ok-push.ensures.items in cc;
       numbers = h.numbers;
       messages = h.messages;
-      name_messages = let kept = c.in_ok-add_name_message.ensures in cc;
+      name_messages = λ other.
+          let kept = c.in_ok-add_name_message.ensures other in
+          let was : message_on old.name_messages ≡ r.name_messages = fun_ext h.name_messages in
+          cc;
     }
