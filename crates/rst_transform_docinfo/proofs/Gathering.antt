@@ -40,22 +40,6 @@ no_parts a (x ∷ []) l other = refl
 no_parts a (x ∷ y ∷ []) l other = absurd (other refl)
 no_parts a (x ∷ y ∷ z ∷ zs) l other = refl
 
--- what is in the last of some nodes
-last_of : (xs : List Node) (n : Node) → last_in (forest_of (xs ++ n ∷ [])) ≡ nodes_in n
-last_of [] (Element t a c l) = refl
-last_of [] (Text t) = refl
-last_of (Element t a c l ∷ []) (Element u b d m) = refl
-last_of (Element t a c l ∷ []) (Text u) = refl
-last_of (Text t ∷ []) (Element u b d m) = refl
-last_of (Text t ∷ []) (Text u) = refl
-last_of (Element t a c l ∷ Element u b d m ∷ xs) n = last_of (Element u b d m ∷ xs) n
-last_of (Element t a c l ∷ Text u ∷ xs) n = last_of (Text u ∷ xs) n
-last_of (Text t ∷ Element u b d m ∷ xs) n = last_of (Element u b d m ∷ xs) n
-last_of (Text t ∷ Text u ∷ xs) n = last_of (Text u ∷ xs) n
-
-pub in_the_last : (f : Forest) (xs : List Node) (n : Node) → f ≡ forest_of (xs ++ n ∷ []) → last_in f ≡ nodes_in n
-in_the_last f xs n e = ap last_in e ∙ last_of xs n
-
 -- the only one of some nodes
 pub lone_one : (f : Forest) (xs : List Node) (n : Node) → f ≡ forest_of xs → length xs ≡ 1 → n ≡ slice_index_or xs 0 n → lone f ≡ Some n
 lone_one f [] n e one at = absurd (omega arith)
@@ -70,22 +54,6 @@ lone_none f (Element t a c l ∷ Element u b d m ∷ zs) e other = ap lone e
 lone_none f (Element t a c l ∷ Text u ∷ zs) e other = ap lone e
 lone_none f (Text t ∷ Element u b d m ∷ zs) e other = ap lone e
 lone_none f (Text t ∷ Text u ∷ zs) e other = ap lone e
-
-pub bare_by_count : (f : Forest) → is_bare f ≡ nat_eq (length (nodes_of f)) 0
-bare_by_count bare = refl
-bare_by_count (element t a c l r) = grind arith
-bare_by_count (words t r) = grind arith
-
--- a paragraph alone is the last of the nodes
-pub in_paragraph : (f : Forest) → is_some (one_paragraph f) ≡ true → one_paragraph f ≡ Some (last_in f)
-in_paragraph (element t a c l bare) =
-    elim (is_paragraph t) as (λ b. is_some (if b then Some c else None) ≡ true → (if b then Some c else None) ≡ Some c) [ true ↦ λ e. refl | false ↦ λ e. grind (arith, e) ]
-in_paragraph bare = λ e. grind (arith, e)
-in_paragraph (words t bare) = λ e. grind (arith, e)
-in_paragraph (words t (words u r)) = λ e. grind (arith, e)
-in_paragraph (words t (element u b d m r)) = λ e. grind (arith, e)
-in_paragraph (element t a c l (words u r)) = λ e. grind (arith, e)
-in_paragraph (element t a c l (element u b d m r)) = λ e. grind (arith, e)
 
 -- ---- the authors that a field names
 
@@ -106,47 +74,22 @@ item_refused line f xs nodes i n e fits at none h =
     ∙ ap (λ z. option_map (λ more. nodes ++ more) (all_paragraphs line z)) d
     ∙ ap (λ z. option_map (λ more. nodes ++ more) (and_author line z (all_paragraphs line (drop (suc i) xs)))) none
 
--- ---- one more field
-
--- of a topic that had one
-pub further_field : (first : ℕ) (f : Field) (g : Gathered) (name : List ℕ) (row : Row) → name ≡ name_of f → row ≡ row_of name → is_further row g ≡ true → with_field first f g ≡ with_fault first name f g
-further_field first f g name row is at h =
-    ap (λ z. with_row first (row_of z) z f g) (sym is) ∙ ap (λ z. with_row first z name f g) (sym at)
-    ∙ ap (λ (b : Bool). if b then with_fault first name f g else by_form first row name f (made row name f) (with_seen row g)) h
-
--- that isn't in its form
-pub refused_field : (first : ℕ) (f : Field) (g : Gathered) (name : List ℕ) (row : Row) → name ≡ name_of f → row ≡ row_of name → is_further row g ≡ false → made row name f ≡ None
-    → with_field first f g ≡ with_fault first name f (with_seen row g)
-refused_field first f g name row is at h m =
-    ap (λ z. with_row first (row_of z) z f g) (sym is) ∙ ap (λ z. with_row first z name f g) (sym at)
-    ∙ ap (λ (b : Bool). if b then with_fault first name f g else by_form first row name f (made row name f) (with_seen row g)) h
-    ∙ ap (λ o. by_form first row name f o (with_seen row g)) m
-
 -- one more node of the list
 pub gathered_more : (first : ℕ) (g : Gathered) (xs : List Node) (n : Node) → gathered first g (xs ++ n ∷ []) ≡ with_node first n (gathered first g xs)
 gathered_more first g [] n = refl
 gathered_more first g (x ∷ xs) n = gathered_more first (with_node first x g) xs n
 
--- what holds of a value that a call gives, if it follows from what the call says of it
-pub given : {A : Type 0} (P Q : A → Type 0) (r : Result A TreeFault) → ((x : A) → P x → Q x) → Gives P r → Gives Q r
-given P Q (Ok x) implied h = implied x h
-given P Q (Err NoMemory) implied h = tt
-
 -- ---- the document
 
 -- a field list at a place
-found_list : (o : Option Node) (n : Node) → is_some (list_in o) ≡ true → n ≡ unwrap_or o n → list_in o ≡ Some n
+found_list : (o : Option Node) (n : Node) → is_list o ≡ true → n ≡ unwrap_or o n → o ≡ Some n
 found_list None n is at = grind (arith, is)
-found_list (Some (Text t)) n is at = grind (arith, is)
-found_list (Some (Element t a c l)) n is at =
-    elim (is_field_list t) as (λ b. is_some (if b then Some (Element t a c l) else None) ≡ true → (if b then Some (Element t a c l) else None) ≡ Some n) [
-      | true ↦ λ e. ap Some (sym at)
-      | false ↦ λ e. grind (arith, e)
-    ] is
+found_list (Some m) n is at = ap Some (sym at)
 
-pub list_there : (nodes : List Node) (place : ℕ) (n : Node) → place ≡ list_place nodes → is_some (list_in (slice_get nodes place)) ≡ true → n ≡ get_or nodes place n → leading_list nodes ≡ Some n
+pub list_there : (nodes : List Node) (place : ℕ) (n : Node) → place ≡ list_place nodes → is_list (slice_get nodes place) ≡ true → n ≡ get_or nodes place n → leading_list nodes ≡ Some n
 list_there nodes place n there is at =
-    ap (λ i. list_in (slice_get nodes i)) (sym there) ∙ found_list (slice_get nodes place) n is (at ∙ sym (unwrap_or-slice_get nodes place n))
+    let first : slice_get nodes (list_place nodes) ≡ Some n = ap (slice_get nodes) (sym there) ∙ found_list (slice_get nodes place) n is (at ∙ sym (unwrap_or-slice_get nodes place n)) in
+    rw (ap (λ i. is_list (slice_get nodes i)) (sym there) ∙ is) first
 
 -- what it became comes after the titles
 pub list_replaced : (first : ℕ) (reports : List Report) (nodes rest made all : List Node) (place count : ℕ) (n : Node) → leading_list nodes ≡ Some n → place ≡ list_place nodes → rest ≡ remove nodes place

@@ -8,19 +8,19 @@ use Rattle.rst_tree.specs.declared.node.Node.{Node}
 use Rattle.rst_tree.specs.declared.node.Node.TheVariants.{Element}
 use Rattle.rst_tree.specs.declared.note.Level.TheVariants.{Warning}
 use Rattle.rst_tree.specs.declared.tag.Tag.{Tag}
-use Rattle.rst_tree.specs.declared.tag.Tag.TheVariants.{Author, Organization, Contact, Version, Revision, Status, Date, Copyright, Title, Address as IsAddress, Topic as IsTopic}
+use Rattle.rst_tree.specs.declared.tag.Tag.TheVariants.{Author, Organization, Contact, Version, Revision, Status, Date, Copyright, Title, Address as IsAddress, Authors as IsAuthors, Field as IsField, Topic as IsTopic}
 use Rattle.rst_tree.specs.Attributes.{with_attr}
-use Rattle.rst_tree.specs.Forest.{Forest, bare, element, words}
+use Rattle.rst_tree.specs.Forest.{Forest, bare, words}
+use Rattle.rst_tree.specs.Nodes.{forest_of, nodes_of}
 use Rattle.rst_tree.specs.Paths.{with_child}
 use Rattle.rst_transform_docinfo.specs.declared.bibliography.Row.{Row}
 use Rattle.rst_transform_docinfo.specs.declared.bibliography.Row.TheVariants.{Simple, Address, Authors, Topic, Generic}
 use Rattle.rst_transform_docinfo.specs.declared.bibliography.TopicKind.{TopicKind}
 use Rattle.rst_transform_docinfo.specs.declared.bibliography.TopicKind.TheVariants.{Dedication, Abstract}
 use Rattle.rst_transform_docinfo.specs.declared.field.Field.{Field}
-use Rattle.rst_transform_work.specs.declared.context.Context.{Context}
 use Rattle.rst_transform_work.specs.declared.report.Report.{Report}
-use Rattle.rst_transform_docinfo.specs.Authors.{authors_node}
-use Rattle.rst_transform_docinfo.specs.Fields.{field, field_node, nodes_in, paragraph_in}
+use Rattle.rst_transform_docinfo.specs.Authors.{authors_in}
+use Rattle.rst_transform_docinfo.specs.Fields.{nodes_in, paragraph_in}
 use Rattle.rst_transform_work.specs.Reading.{identifier}
 use Rattle.rst_transform_work.specs.Reports.{next_report, report_node}
 
@@ -41,19 +41,16 @@ row_of name =
     else if bytes_eq name (codes "abstract") then Topic Abstract
     else Generic
 
--- an element of this kind with the nodes of the one paragraph, if the body is one
-abbrev pub simple_node : Tag → Field → Option Node
-simple_node t f = option_map (λ nodes. Element t f.attrs nodes f.line) (paragraph_in f.body)
+-- an element of this kind with the field's ids and names, if there are nodes for it
+abbrev pub element_of : Tag → List Attr → ℕ → Option Forest → Option Node
+element_of t attrs line nodes = option_map (λ nodes. Element t attrs nodes line) nodes
 
--- the same, whose lines stay as they are
-abbrev pub address_node : Field → Option Node
-address_node f = option_map (λ nodes. Element IsAddress (with_attr XmlSpace (Says (codes "preserve")) f.attrs) nodes f.line) (paragraph_in f.body)
+-- the attributes with one class, if it isn't empty
+abbrev pub with_class : List ℕ → List Attr → List Attr
+with_class [] attrs = attrs
+with_class (c ∷ cs) attrs = with_attr Classes (Listed ((c ∷ cs) ∷ [])) attrs
 
--- the class of a topic, and its title
-abbrev pub topic_class : TopicKind → List ℕ
-topic_class Dedication = codes "dedication"
-topic_class Abstract = codes "abstract"
-
+-- the title of a topic
 abbrev pub topic_title : TopicKind → List ℕ
 topic_title Dedication = codes "Dedication"
 topic_title Abstract = codes "Abstract"
@@ -61,40 +58,29 @@ topic_title Abstract = codes "Abstract"
 abbrev pub title_node : List ℕ → ℕ → Node
 title_node text line = Element Title [] (words text bare) line
 
--- the attributes with one class, if it isn't empty
-abbrev pub with_class : List ℕ → List Attr → List Attr
-with_class [] attrs = attrs
-with_class (c ∷ cs) attrs = with_attr Classes (Listed ((c ∷ cs) ∷ [])) attrs
+-- nodes after a title, if there are some
+abbrev pub titled : Node → List Node → Option Forest
+titled title [] = None
+titled title (n ∷ ns) = Some (forest_of (title ∷ n ∷ ns))
 
--- a topic with its title and the nodes of the body, if there are some
-abbrev pub topic_of : TopicKind → Field → Forest → Option Node
-topic_of k f bare = None
-topic_of k f nodes = Some (Element IsTopic (with_class (topic_class k) f.attrs) (element Title [] (words (topic_title k) bare) f.line nodes) f.line)
-
-abbrev pub topic_node : TopicKind → Field → Option Node
-topic_node k f = topic_of k f (nodes_in f.body)
-
--- any other field: it stays, with a class by its name
-abbrev pub generic : List ℕ → Field → Field
-generic name f = field (with_class (identifier name) f.attrs) f.name f.body f.line
-
--- what a field of a row with this name becomes, if it is in its form
+-- What a field of a row with this name becomes, if it is in its form: a simple one an element with the nodes of its one paragraph, whose lines stay as
+-- they are in an address; a topic has a title before the nodes of the body.
 abbrev pub made : Row → List ℕ → Field → Option Node
-made (Simple t) name f = simple_node t f
-made Address name f = address_node f
-made Authors name f = authors_node f
-made (Topic k) name f = topic_node k f
-made Generic name f = Some (field_node (generic name f))
+made (Simple t) name f = element_of t f.attrs f.line (paragraph_in f.body)
+made Address name f = element_of IsAddress (with_attr XmlSpace (Says (codes "preserve")) f.attrs) f.line (paragraph_in f.body)
+made Authors name f = element_of IsAuthors f.attrs f.line (option_map forest_of (authors_in f.line f.body))
+made (Topic k) name f = element_of IsTopic (with_class name f.attrs) f.line (titled (title_node (topic_title k) f.line) (nodes_of (nodes_in f.body)))
+made Generic name f = None
+
+-- a field of this name that stays one, with a class by the name
+abbrev pub stays : List ℕ → Field → Node
+stays name f = Element IsField (with_class (identifier name) f.attrs) (forest_of (f.name ∷ f.body ∷ [])) f.line
 
 -- the message on a field of this name and line that isn't in its form
 abbrev pub fault_report : ℕ → List Report → List ℕ → ℕ → Report
 fault_report first reports name line =
     next_report first reports Warning line (codes "Bibliographic field \"" ++ (name ++ codes "\" is not in its form.")) false
 
--- the same after those that are known
-abbrev pub fault_in : Context → List ℕ → ℕ → Report
-fault_in context name line = fault_report context.first_number context.reports.items name line
-
--- such a field: it stays, like any other, and the message is the last node in its body
+-- such a field: it stays, and the message is the last node in its body
 abbrev pub fault_node : List ℕ → Report → Field → Node
-fault_node name told f = field_node (field (with_class (identifier name) f.attrs) f.name (with_child (report_node told) f.body) f.line)
+fault_node name told f = stays name (record f { body = with_child (report_node told) f.body })

@@ -5,14 +5,12 @@ use Rattle.std.specs.List.{prefix_len, remove}
 use Rattle.rst_tree.specs.declared.attrs.Attr.{Attr}
 use Rattle.rst_tree.specs.declared.node.Node.{Node}
 use Rattle.rst_tree.specs.declared.node.Node.TheVariants.{Element, Text}
-use Rattle.rst_tree.specs.declared.tag.Tag.{Tag}
 use Rattle.rst_tree.specs.declared.tag.Tag.TheVariants.{FieldList}
-use Rattle.rst_tree.specs.Forest.{Forest}
 use Rattle.rst_tree.specs.Nodes.{forest_of, nodes_of}
 use Rattle.rst_transform_work.specs.declared.report.Report.{Report}
 use Rattle.rst_transform_work.specs.declared.document.Document.{Document}
 use Rattle.rst_transform_work.specs.Known.{Known}
-use Rattle.rst_transform_docinfo.specs.Gathered.{Gathered, docinfo_nodes, gathered, none_yet}
+use Rattle.rst_transform_docinfo.specs.Gathered.{docinfo_nodes, gathered, none_yet}
 use Rattle.rst_transform_work.specs.Reading.{is_title, may_precede}
 use Rattle.rst_transform_work.specs.Lists.{named}
 
@@ -21,13 +19,10 @@ abbrev pub first_named : List Attr → List Node → List Node
 first_named from [] = []
 first_named from (n ∷ ns) = named from n ∷ ns
 
--- what the fields of a list became, and the messages then
-abbrev pub list_gathered : ℕ → List Report → Forest → Gathered
-list_gathered first reports fields = gathered first (none_yet reports) (nodes_of fields)
-
 -- what becomes of a field list, and the messages then; the first node has the list's ids and names, too
 abbrev pub replaced : ℕ → List Report → Node → List Node × List Report
-replaced first reports (Element t a c l) = let all = list_gathered first reports c in (first_named a (docinfo_nodes l all), all.reports)
+replaced first reports (Element t a c l) =
+    let all = gathered first (none_yet reports) (nodes_of c) in (first_named a (docinfo_nodes l all), all.reports)
 replaced first reports (Text t) = ([], reports)
 
 -- whether a node may come before the field list: a title, a subtitle, a comment, a target, a substitution definition or a message
@@ -38,19 +33,14 @@ may_lead n = is_title n || may_precede n
 abbrev pub list_place : List Node → ℕ
 list_place nodes = prefix_len may_lead nodes
 
-abbrev pub is_field_list : Tag → Bool
-is_field_list FieldList = true
-is_field_list _ = false
-
--- a field list, if the node is one
-abbrev pub list_in : Option Node → Option Node
-list_in (Some (Element t a c l)) = if is_field_list t then Some (Element t a c l) else None
-list_in (Some (Text t)) = None
-list_in None = None
+-- whether there is a node, a field list
+abbrev pub is_list : Option Node → Bool
+is_list (Some (Element FieldList a c l)) = true
+is_list _ = false
 
 -- the field list of a document's nodes, if the first that may not come before one is one
 abbrev pub leading_list : List Node → Option Node
-leading_list nodes = list_in (slice_get nodes (list_place nodes))
+leading_list nodes = let first = slice_get nodes (list_place nodes) in if is_list first then first else None
 
 -- nodes with others after the titles that come first
 abbrev pub behind_titles : List Node → List Node → List Node

@@ -8,11 +8,11 @@ use Rattle.rst_tree.specs.declared.tag.Tag.TheVariants.{Docinfo}
 use Rattle.rst_tree.specs.Nodes.{forest_of}
 use Rattle.rst_transform_docinfo.specs.declared.bibliography.Bibliography.{Bibliography}
 use Rattle.rst_transform_docinfo.specs.declared.bibliography.Row.{Row}
-use Rattle.rst_transform_docinfo.specs.declared.bibliography.Row.TheVariants.{Topic}
+use Rattle.rst_transform_docinfo.specs.declared.bibliography.Row.TheVariants.{Generic, Topic}
 use Rattle.rst_transform_docinfo.specs.declared.bibliography.TopicKind.TheVariants.{Dedication, Abstract}
 use Rattle.rst_transform_docinfo.specs.declared.field.Field.{Field}
 use Rattle.rst_transform_work.specs.declared.report.Report.{Report}
-use Rattle.rst_transform_docinfo.specs.Bibliography.{fault_node, fault_report, made, row_of}
+use Rattle.rst_transform_docinfo.specs.Bibliography.{fault_node, fault_report, made, row_of, stays}
 use Rattle.rst_transform_docinfo.specs.Fields.{field_in, name_of}
 
 -- What the fields became so far: the elements of the `docinfo`, and the topics, and whether there was a field for each; and the messages so far.
@@ -61,12 +61,12 @@ with_fault first name f g =
 
 abbrev pub by_form : ℕ → Row → List ℕ → Field → Option Node → Gathered → Gathered
 by_form first row name f (Some n) g = with_element row n g
+by_form first Generic name f None g = with_info (stays name f) g
 by_form first row name f None g = with_fault first name f g
 
 -- one more field, of a row with this name
 abbrev pub with_row : ℕ → Row → List ℕ → Field → Gathered → Gathered
-with_row first row name f g =
-    if is_further row g then with_fault first name f g else by_form first row name f (made row name f) (with_seen row g)
+with_row first row name f g = by_form first row name f (if is_further row g then None else made row name f) (with_seen row g)
 
 abbrev pub with_field : ℕ → Field → Gathered → Gathered
 with_field first f g = with_row first (row_of (name_of f)) (name_of f) f g

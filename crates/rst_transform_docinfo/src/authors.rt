@@ -4,81 +4,54 @@ ghost use Rattle.std.specs.List.{list_any};
 ghost use Rattle.std.specs.Str.{chars};
 ghost use Rattle.rst_tree.specs.Faults.{Gives};
 ghost use Rattle.rst_tree.specs.Nodes.{nodes_of};
-ghost use Rattle.rst_transform_work.specs.Made.{IsMadeOf};
-ghost use Rattle.rst_transform_docinfo.specs.Authors.{all_paragraphs, author, author_named, authors_in, authors_node, by_paragraph, lone_text, names_in, parted};
+ghost use Rattle.rst_transform_docinfo.specs.Authors.{all_paragraphs, author, author_named, authors_in, named_by, names_in, parted};
+ghost use Rattle.rst_transform_docinfo.specs.Fields.{lone};
 
-use crate::field::{Field, lone, one_list, one_paragraph, paragraph_in};
+use crate::field::{lone, lone_in, paragraph_in};
 use rst_transform_work::copies;
 use rst_tree::{Attrs, Children, Node, Tag, TreeFault};
 use std::alloc::Global;
 
-/// `authors`: an element with the authors that the body names (Markup Specification, 'Bibliographic Fields'), or the field back
-/// where it isn't in its form.
-pub fn authors(alloc: Global, field: Field) -> Result<Result<Node, Field>, TreeFault>
-    ensures { Gives (IsMadeOf field (authors_node field)) result }
-{
-    match authors_in(alloc, &field.body, field.line)? {
-        Some(nodes) => {
-            let Field { attrs, line, .. } = field;
-            Ok(Ok(Node::Element {
-                tag: Tag::Authors,
-                attrs,
-                children: Children::of(nodes),
-                line,
-            }))
-        }
-        None => Ok(Err(field)),
-    }
-}
-
-/// The authors that a body names, if it is in its form: one paragraph, or one bullet list.
-fn authors_in(alloc: Global, body: &Node, line: usize) -> Result<Option<Vec<Node>>, TreeFault>
+/// The authors that a body names, if it is in its form: one paragraph, or one bullet list (Markup Specification, 'Bibliographic
+/// Fields').
+pub fn authors_in(alloc: Global, body: &Node, line: usize) -> Result<Option<Vec<Node>>, TreeFault>
     ensures { let wanted = authors_in line body.now in Gives (λ found. MatchOption found (wanted ≡ None) (λ nodes. wanted ≡ Some nodes.items)) result }
 {
-    let Node::Element { children, .. } = body else {
-        return Ok(None);
-    };
-    if let Some(paragraph) = one_paragraph(children) {
-        return by_paragraph(alloc, paragraph, line);
-    }
-    match one_list(children) {
-        Some(items) => all_paragraphs(alloc, items, line),
-        None => Ok(None),
-    }
-}
-
-/// The authors that the nodes of a paragraph name: those in a text, which names one at least, or all of it as one author.
-fn by_paragraph(
-    alloc: Global,
-    paragraph: &Children,
-    line: usize,
-) -> Result<Option<Vec<Node>>, TreeFault>
-    ensures { let wanted = by_paragraph line paragraph.now in Gives (λ found. MatchOption found (wanted ≡ None) (λ nodes. wanted ≡ Some nodes.items)) result }
-{
-    let mut nodes = Vec::new(alloc);
-    match lone_text(paragraph) {
-        Some(text) => {
-            let nodes = names_in(alloc, text, line)?;
+    match lone_in(body) {
+        Some(
+            Node::Element {
+                tag: Tag::Paragraph,
+                children,
+                ..
+            },
+        ) => {
+            let nodes = named_by(alloc, children, line)?;
             if nodes.is_empty() {
                 return Ok(None);
             }
             Ok(Some(nodes))
         }
-        None => {
-            nodes.push(author(alloc, copies(alloc, paragraph)?, line))?;
-            Ok(Some(nodes))
-        }
+        Some(
+            Node::Element {
+                tag: Tag::BulletList,
+                children,
+                ..
+            },
+        ) => all_paragraphs(alloc, children, line),
+        _ => Ok(None),
     }
 }
 
-/// The only node, if it is a text.
-fn lone_text(nodes: &Children) -> Option<&str>
-    ensures { MatchOption result (lone_text nodes.now ≡ None) (λ text. lone_text nodes.now ≡ Some text.now) }
+/// The authors that the nodes of a paragraph name: those in a text, or all of it as one author.
+fn named_by(alloc: Global, paragraph: &Children, line: usize) -> Result<Vec<Node>, TreeFault>
+    ensures { Gives (λ nodes. nodes.items ≡ named_by line paragraph.now (lone paragraph.now)) result }
 {
-    match lone(nodes) {
-        Some(Node::Text(text)) => Some(text.as_str()),
-        _ => None,
+    if let Some(Node::Text(text)) = lone(paragraph) {
+        return names_in(alloc, text.as_str(), line);
     }
+    let mut nodes = Vec::new(alloc);
+    nodes.push(author(alloc, copies(alloc, paragraph)?, line))?;
+    Ok(nodes)
 }
 
 /// The paragraphs in the items of a list as one author each, if each item holds one paragraph alone.

@@ -1,21 +1,21 @@
 //! What the fields of a document's bibliography become.
-ghost use Rattle.std.specs.Prelude.{◌≡◌, ◌++◌, List};
+ghost use Rattle.std.specs.Prelude.{◌≡◌, ◌++◌, [], List, None};
 ghost use Rattle.std.specs.Option.{option_to_list};
 ghost use Rattle.rst_tree.specs.Faults.{Gives};
+ghost use Rattle.rst_tree.specs.Nodes.{nodes_of};
 ghost use Rattle.rst_tree.specs.Paths.{with_child};
-ghost use Rattle.rst_tree.specs.declared.node.Node.TheVariants.{Element};
 ghost use Rattle.rst_transform_work.specs.declared.report.Report.{Report};
-ghost use Rattle.rst_transform_docinfo.specs.Bibliography.{address_node, fault_in, fault_node, generic, made, row_of, simple_node, title_node, topic_class, topic_node, topic_title, with_class};
-ghost use Rattle.rst_transform_docinfo.specs.Gathered.{docinfo_nodes, info_nodes, is_further, none_yet, so_far, with_element, with_fault, with_field, with_node, with_seen};
-ghost use Rattle.rst_transform_docinfo.specs.Fields.{last_in, nodes_in};
-ghost use Rattle.rst_transform_work.specs.Made.{IsMadeOf};
+ghost use Rattle.rst_transform_docinfo.specs.Bibliography.{element_of, fault_node, fault_report, made, row_of, stays, title_node, titled, topic_title, with_class};
+ghost use Rattle.rst_transform_docinfo.specs.Gathered.{by_form, docinfo_nodes, info_nodes, is_further, none_yet, so_far, with_element, with_field, with_node, with_seen};
+ghost use Rattle.rst_transform_docinfo.specs.Fields.{nodes_in, paragraph_in};
 ghost use Rattle.rst_transform_work.specs.Reports.{report_node, IsReported, KeepsRest};
 
-use crate::authors::authors;
-use crate::field::{Field, into_children, into_last};
-use rst_transform_work::{Context, identified};
+use crate::authors::authors_in;
+use crate::field::{Field, paragraph_in};
+use rst_transform_work::{Context, copies, folded, identified};
 use rst_tree::{Attrs, Children, Key, Level, Node, Tag, Text, Texts, TreeFault, Value};
 use std::alloc::Global;
+use std::mem;
 
 /// A row of the table of bibliographic fields (Markup Specification, 'Bibliographic Fields').
 #[derive(Clone, Copy)]
@@ -61,102 +61,79 @@ fn row_of(name: &str) -> Row
     }
 }
 
-/// What a field of a row with this name becomes, or the field back where it isn't in its form.
-fn made(alloc: Global, row: Row, name: &str, field: Field) -> Result<Result<Node, Field>, TreeFault>
-    ensures { Gives (IsMadeOf field (made row name.now field)) result }
+/// What a field of a row with this name becomes, if it is in its form.
+fn made(alloc: Global, row: Row, name: &str, field: &Field) -> Result<Option<Node>, TreeFault>
+    ensures { Gives (λ node. node ≡ made row name.now field.now) result }
 {
+    let mut attrs = field.attrs.copy(alloc)?;
     match row {
-        Row::Simple(tag) => Ok(simple(alloc, tag, field)),
-        Row::Address => address(alloc, field),
-        Row::Authors => authors(alloc, field),
-        Row::Topic(kind) => topic(alloc, kind, field),
-        Row::Generic => Ok(Ok(generic(alloc, name, field)?.into_node(alloc)?)),
+        Row::Simple(tag) => Ok(element_of(tag, attrs, field.line, paragraph(alloc, field)?)),
+        Row::Address => {
+            let preserve = Text::from_str(alloc, "preserve")?;
+            attrs.set(Key::XmlSpace, Value::Text(preserve))?;
+            let nodes = paragraph(alloc, field)?;
+            Ok(element_of(Tag::Address, attrs, field.line, nodes))
+        }
+        Row::Authors => match authors_in(alloc, &field.body, field.line)? {
+            Some(nodes) => {
+                let nodes = Some(Children::of(nodes));
+                Ok(element_of(Tag::Authors, attrs, field.line, nodes))
+            }
+            None => Ok(None),
+        },
+        Row::Topic(kind) => {
+            set_class(alloc, &mut attrs, name)?;
+            let nodes = topic(alloc, kind.title(), field)?;
+            Ok(element_of(Tag::Topic, attrs, field.line, nodes))
+        }
+        Row::Generic => Ok(None),
     }
 }
 
-/// A simple field: an element of this kind with the nodes of the one paragraph.
-#[tactic(auto, using(crate::proofs::Gathering::in_paragraph))]
-fn simple(alloc: Global, tag: Tag, field: Field) -> Result<Node, Field>
-    ensures { IsMadeOf field (simple_node tag field) result }
+/// An element with these nodes, if there are such.
+fn element_of(tag: Tag, attrs: Attrs, line: usize, nodes: Option<Children>) -> Option<Node>
+    ensures { result ≡ element_of tag attrs line nodes }
 {
-    if !field.has_paragraph() {
-        return Err(field);
-    }
-    let Field {
-        attrs,
-        body,
-        line,
-        ..
-    } = field;
-    Ok(element(alloc, tag, attrs, body, line))
-}
-
-/// `address`: a simple field whose lines stay as they are.
-#[tactic(auto, using(crate::proofs::Gathering::in_paragraph))]
-fn address(alloc: Global, field: Field) -> Result<Result<Node, Field>, TreeFault>
-    ensures { Gives (IsMadeOf field (address_node field)) result }
-{
-    if !field.has_paragraph() {
-        return Ok(Err(field));
-    }
-    let Field {
-        mut attrs,
-        body,
-        line,
-        ..
-    } = field;
-    let preserve = Text::from_str(alloc, "preserve")?;
-    attrs.set(Key::XmlSpace, Value::Text(preserve))?;
-    Ok(Ok(element(alloc, Tag::Address, attrs, body, line)))
-}
-
-/// An element with the nodes in the last of those in a body.
-fn element(alloc: Global, tag: Tag, attrs: Attrs, body: Node, line: usize) -> Node
-    ensures { result ≡ Element tag attrs (last_in (nodes_in body)) line }
-{
-    Node::Element {
+    nodes.map(|children| Node::Element {
         tag,
         attrs,
-        children: into_last(alloc, into_children(alloc, body)),
+        children,
         line,
+    })
+}
+
+/// The nodes of the one paragraph in a field's body.
+fn paragraph(alloc: Global, field: &Field) -> Result<Option<Children>, TreeFault>
+    ensures { Gives (λ nodes. nodes ≡ paragraph_in field.now.body) result }
+{
+    match paragraph_in(&field.body) {
+        Some(nodes) => Ok(Some(copies(alloc, nodes)?)),
+        None => Ok(None),
     }
 }
 
-/// `dedication` and `abstract`: a topic with a title and the nodes of the body, which isn't empty.
-fn topic(alloc: Global, kind: TopicKind, field: Field) -> Result<Result<Node, Field>, TreeFault>
-    ensures { Gives (IsMadeOf field (topic_node kind field)) result }
+/// A title, and after it the nodes of a field's body, if that isn't empty.
+fn topic(alloc: Global, title: &str, field: &Field) -> Result<Option<Children>, TreeFault>
+    ensures { Gives (λ nodes. nodes ≡ titled (title_node title.now field.now.line) (nodes_of (nodes_in field.now.body))) result }
 {
-    if field.is_empty() {
-        return Ok(Err(field));
+    let Node::Element { children, .. } = &field.body else {
+        return Ok(None);
+    };
+    let mut nodes = copies(alloc, children)?.into_list();
+    if nodes.is_empty() {
+        return Ok(None);
     }
-    let Field {
-        mut attrs,
-        body,
-        line,
-        ..
-    } = field;
-    set_class(alloc, &mut attrs, kind.class())?;
-    let mut nodes = into_children(alloc, body).into_list();
-    nodes.insert(0, title_of(alloc, kind.title(), line)?)?;
-    Ok(Ok(Node::Element {
-        tag: Tag::Topic,
-        attrs,
-        children: Children::of(nodes),
-        line,
-    }))
+    let title = Node::Element {
+        tag: Tag::Title,
+        attrs: Attrs::new(alloc),
+        children: Children::lone(alloc, Node::text(alloc, title)?)?,
+        line: field.line,
+    };
+    nodes.insert(0, title)?;
+    Ok(Some(Children::of(nodes)))
 }
 
 impl TopicKind {
-    /// The class of the topic.
-    fn class(self) -> &'static str
-        ensures { result.now ≡ topic_class self }
-    {
-        match self {
-            TopicKind::Dedication => "dedication",
-            TopicKind::Abstract => "abstract",
-        }
-    }
-
     /// The topic's title.
     fn title(self) -> &'static str
         ensures { result.now ≡ topic_title self }
@@ -166,38 +143,6 @@ impl TopicKind {
             TopicKind::Abstract => "Abstract",
         }
     }
-}
-
-/// A title of one text.
-fn title_of(alloc: Global, text: &str, line: usize) -> Result<Node, TreeFault>
-    ensures { Gives (λ node. node ≡ title_node text.now line) result }
-{
-    Ok(Node::Element {
-        tag: Tag::Title,
-        attrs: Attrs::new(alloc),
-        children: Children::lone(alloc, Node::text(alloc, text)?)?,
-        line,
-    })
-}
-
-/// Any other field: it stays, with a class by its name.
-fn generic(alloc: Global, name: &str, field: Field) -> Result<Field, TreeFault>
-    ensures { Gives (λ stays. stays ≡ generic name.now field) result }
-{
-    let Field {
-        mut attrs,
-        name: named,
-        body,
-        line,
-    } = field;
-    let class = identified(alloc, name)?;
-    set_class(alloc, &mut attrs, class.as_str())?;
-    Ok(Field {
-        attrs,
-        name: named,
-        body,
-        line,
-    })
 }
 
 /// Gives attributes one class, unless that is empty.
@@ -211,33 +156,39 @@ fn set_class(alloc: Global, attrs: &mut Attrs, class: &str) -> Result<(), TreeFa
     attrs.set(Key::Classes, Value::List(Texts::lone(alloc, class)))
 }
 
-/// A field of the table that isn't in its form: any other field, whose body ends with a WARNING.
-fn out_of_form(name: &str, field: Field, context: &mut Context) -> Result<Node, TreeFault>
-    ensures node { Gives (λ node. node ≡ fault_node name.now (fault_in context.old name.now field.line) field) result }
-    ensures reports { Gives (λ _. IsReported (fault_in context.old name.now field.line) context.old context.new) result }
+/// A field of this name that stays one, with a class by the name.
+fn stays(alloc: Global, name: &str, field: Field) -> Result<Node, TreeFault>
+    ensures { Gives (λ node. node ≡ stays name.now field) result }
+{
+    let mut attrs = field.attrs;
+    let class = identified(alloc, name)?;
+    set_class(alloc, &mut attrs, class.as_str())?;
+    let mut parts = Vec::with_capacity(alloc, 2)?;
+    parts.push(field.name)?;
+    parts.push(field.body)?;
+    Ok(Node::Element {
+        tag: Tag::Field,
+        attrs,
+        children: Children::of(parts),
+        line: field.line,
+    })
+}
+
+/// A field of the table that isn't in its form: it stays, and its body ends with a WARNING.
+fn out_of_form(name: &str, mut field: Field, context: &mut Context) -> Result<Node, TreeFault>
+    ensures node { let told = fault_report context.old.first_number context.old.reports.items name.now field.line in Gives (λ node. node ≡ fault_node name.now told field) result }
+    ensures reports { Gives (λ _. IsReported (fault_report context.old.first_number context.old.reports.items name.now field.line) context.old context.new) result }
     ensures rest { Gives (λ _. KeepsRest context.old context.new) result }
 {
     let message = message(field.line, name, context)?;
-    let Field {
-        attrs,
-        name: named,
-        body,
-        line,
-    } = generic(context.alloc, name, field)?;
-    let body = with_child(body, message)?;
-    let field = Field {
-        attrs,
-        name: named,
-        body,
-        line,
-    };
-    field.into_node(context.alloc)
+    field.body = with_child(field.body, message)?;
+    stays(context.alloc, name, field)
 }
 
 /// The WARNING on a field of this name that isn't in its form. It is in the list of messages, too.
 fn message(line: usize, name: &str, context: &mut Context) -> Result<Node, TreeFault>
-    ensures node { Gives (λ node. node ≡ report_node (fault_in context.old name.now line)) result }
-    ensures reports { Gives (λ _. IsReported (fault_in context.old name.now line) context.old context.new) result }
+    ensures node { Gives (λ node. node ≡ report_node (fault_report context.old.first_number context.old.reports.items name.now line)) result }
+    ensures reports { Gives (λ _. IsReported (fault_report context.old.first_number context.old.reports.items name.now line) context.old context.new) result }
     ensures rest { Gives (λ _. KeepsRest context.old context.new) result }
 {
     let text = Text::of_three(
@@ -250,26 +201,13 @@ fn message(line: usize, name: &str, context: &mut Context) -> Result<Node, TreeF
 }
 
 /// A body with one more node after those in it.
-fn with_child(body: Node, node: Node) -> Result<Node, TreeFault>
+fn with_child(mut body: Node, node: Node) -> Result<Node, TreeFault>
     ensures { Gives (λ all. all ≡ with_child node body) result }
 {
-    match body {
-        Node::Element {
-            tag,
-            attrs,
-            mut children,
-            line,
-        } => {
-            children.push(node)?;
-            Ok(Node::Element {
-                tag,
-                attrs,
-                children,
-                line,
-            })
-        }
-        Node::Text(text) => Ok(Node::Text(text)),
+    if let Node::Element { children, .. } = &mut body {
+        children.push(node)?;
     }
+    Ok(body)
 }
 
 /// What the fields of a bibliography became so far.
@@ -318,37 +256,29 @@ impl Bibliography {
         ensures gathered { Gives (λ _. so_far self.new context.new.reports.items ≡ with_field context.old.first_number field (so_far self.old context.old.reports.items)) result }
         ensures rest { Gives (λ _. KeepsRest context.old context.new) result }
     {
-        let name = field.name(context.alloc)?;
+        let text = field.name.text_of(context.alloc)?;
+        let name = folded(context.alloc, text.as_str())?;
         let row = row_of(name.as_str());
-        if self.is_further(row) {
-            return self.put_fault(name.as_str(), field, context);
-        }
-        self.mark_seen(row);
-        match made(context.alloc, row, name.as_str(), field)? {
-            Ok(node) => self.put(row, node),
-            Err(field) => self.put_fault(name.as_str(), field, context),
+        let made = if self.see(row) {
+            None
+        } else {
+            made(context.alloc, row, name.as_str(), &field)?
+        };
+        match made {
+            Some(node) => self.put(row, node),
+            None => self.put_field(row, name.as_str(), field, context),
         }
     }
 
-    /// Whether only the first field of a row may become a topic, and there was one.
-    fn is_further(&self, row: Row) -> bool
-        ensures { (reports : List Report) → result ≡ is_further row (so_far self.now reports) }
+    /// Remembers that there was a field of a row. Whether there was one before, where only the first may become a topic.
+    fn see(&mut self, row: Row) -> bool
+        ensures further { (reports : List Report) → result ≡ is_further row (so_far self.old reports) }
+        ensures seen { (reports : List Report) → so_far self.new reports ≡ with_seen row (so_far self.old reports) }
     {
         match row {
-            Row::Topic(TopicKind::Dedication) => self.has_dedication,
-            Row::Topic(TopicKind::Abstract) => self.has_abstract,
+            Row::Topic(TopicKind::Dedication) => mem::replace(&mut self.has_dedication, true),
+            Row::Topic(TopicKind::Abstract) => mem::replace(&mut self.has_abstract, true),
             _ => false,
-        }
-    }
-
-    /// Remembers that there was a field of a row.
-    fn mark_seen(&mut self, row: Row)
-        ensures { (reports : List Report) → so_far self.new reports ≡ with_seen row (so_far self.old reports) }
-    {
-        match row {
-            Row::Topic(TopicKind::Dedication) => self.has_dedication = true,
-            Row::Topic(TopicKind::Abstract) => self.has_abstract = true,
-            _ => {}
         }
     }
 
@@ -364,34 +294,31 @@ impl Bibliography {
         Ok(())
     }
 
-    /// Puts a field of this name that isn't in its form after the elements of the `docinfo`.
-    fn put_fault(
+    /// Puts a field of a row with this name that stays one after the elements of the `docinfo`.
+    fn put_field(
         &mut self,
+        row: Row,
         name: &str,
         field: Field,
         context: &mut Context,
     ) -> Result<(), TreeFault>
-        ensures gathered { Gives (λ _. so_far self.new context.new.reports.items ≡ with_fault context.old.first_number name.now field (so_far self.old context.old.reports.items)) result }
+        ensures gathered { Gives (λ _. so_far self.new context.new.reports.items ≡ by_form context.old.first_number row name.now field None (so_far self.old context.old.reports.items)) result }
         ensures rest { Gives (λ _. KeepsRest context.old context.new) result }
     {
-        let node = out_of_form(name, field, context)?;
-        self.info.push(node)?;
+        match row {
+            Row::Generic => self.info.push(stays(context.alloc, name, field)?)?,
+            _ => self.info.push(out_of_form(name, field, context)?)?,
+        }
         Ok(())
     }
 
     /// The `docinfo`, if it isn't empty, the dedication and the abstract; `line` is that of the field list.
     pub fn into_nodes(self, alloc: Global, line: usize) -> Result<Vec<Node>, TreeFault>
-        ensures { Gives (λ nodes. (reports : List Report) → nodes.items ≡ docinfo_nodes line (so_far self reports)) result }
+        ensures { Gives (λ nodes. nodes.items ≡ docinfo_nodes line (so_far self [])) result }
     {
-        let Bibliography {
-            info,
-            dedication,
-            abstract_,
-            ..
-        } = self;
-        let nodes = info_nodes(alloc, info, line)?;
-        let nodes = with_topic(nodes, dedication)?;
-        with_topic(nodes, abstract_)
+        let nodes = info_nodes(alloc, self.info, line)?;
+        let nodes = with_topic(nodes, self.dedication)?;
+        with_topic(nodes, self.abstract_)
     }
 }
 

@@ -1,10 +1,9 @@
 //! A leading field list becomes the bibliography of the document.
-ghost use Rattle.std.specs.Prelude.{◌≡◌, ◌≤◌, ◌++◌, take, drop, vec_len, slice_get, is_some};
+ghost use Rattle.std.specs.Prelude.{◌≡◌, ◌≤◌, ◌++◌, take, drop, vec_len, slice_get};
 ghost use Rattle.std.specs.List.{prefix_len};
 ghost use Rattle.rst_tree.specs.Faults.{Gives};
 ghost use Rattle.rst_tree.specs.Nodes.{forest_of, nodes_of};
-ghost use Rattle.rst_transform_docinfo.specs.Docinfo.{first_named, is_field_list, leading_list, list_gathered, list_in, list_place, may_lead, nodes_with, replaced, with_docinfo};
-ghost use Rattle.rst_transform_docinfo.specs.Gathered.{docinfo_nodes};
+ghost use Rattle.rst_transform_docinfo.specs.Docinfo.{first_named, is_list, leading_list, list_place, may_lead, nodes_with, replaced, with_docinfo};
 ghost use Rattle.rst_transform_work.specs.Known.{Makes};
 ghost use Rattle.rst_transform_work.specs.Reports.{KeepsRest};
 ghost use Rattle.rst_transform_work.specs.Reading.{is_title};
@@ -47,48 +46,24 @@ fn title_count(nodes: &[Node]) -> usize
 
 /// Whether a field list is at a place.
 fn is_list_at(nodes: &[Node], place: usize) -> bool
-    ensures { result ≡ is_some (list_in (slice_get nodes.now place)) }
+    ensures { result ≡ is_list (slice_get nodes.now place) }
 {
-    match nodes.get(place) {
-        Some(Node::Element { tag, .. }) => is_field_list(*tag),
-        _ => false,
-    }
-}
-
-/// Whether an element of a kind is a field list.
-fn is_field_list(tag: Tag) -> bool
-    ensures { result ≡ is_field_list tag }
-{
-    matches!(tag, Tag::FieldList)
-}
-
-/// What the fields of a list become.
-fn bibliography(
-    fields: Children,
-    line: usize,
-    context: &mut Context,
-) -> Result<Vec<Node>, TreeFault>
-    ensures nodes { let all = list_gathered context.old.first_number context.old.reports.items fields in Gives (λ nodes. nodes.items ≡ docinfo_nodes line all) result }
-    ensures reports { let all = list_gathered context.old.first_number context.old.reports.items fields in Gives (λ _. context.new.reports.items ≡ all.reports) result }
-    ensures rest { Gives (λ _. KeepsRest context.old context.new) result }
-{
-    let mut bibliography = Bibliography::new(context.alloc);
-    for node in fields.into_list() {
-        bibliography.add_node(node, context)?;
-    }
-    bibliography.into_nodes(context.alloc, line)
+    matches!(
+        nodes.get(place),
+        Some(Node::Element {
+            tag: Tag::FieldList,
+            ..
+        })
+    )
 }
 
 /// The nodes, the first of them with more ids and names.
 fn with_names(alloc: Global, mut nodes: Vec<Node>, attrs: &Attrs) -> Result<Vec<Node>, TreeFault>
     ensures { Gives (λ all. all.items ≡ first_named attrs.now nodes.items) result }
 {
-    if nodes.is_empty() {
-        return Ok(nodes);
+    if let Some(first) = nodes.get_mut(0) {
+        add_names(alloc, first, attrs)?;
     }
-    let mut first = nodes.remove(0);
-    add_names(alloc, &mut first, attrs)?;
-    nodes.insert(0, first)?;
     Ok(nodes)
 }
 
@@ -98,18 +73,21 @@ fn replaced(list: Node, context: &mut Context) -> Result<Vec<Node>, TreeFault>
     ensures reports { Gives (λ _. context.new.reports.items ≡ (replaced context.old.first_number context.old.reports.items list).1) result }
     ensures rest { Gives (λ _. KeepsRest context.old context.new) result }
 {
-    match list {
-        Node::Element {
-            tag: _tag,
-            attrs,
-            children,
-            line,
-        } => {
-            let nodes = bibliography(children, line, context)?;
-            with_names(context.alloc, nodes, &attrs)
-        }
-        Node::Text(_text) => Ok(Vec::new(context.alloc)),
+    let Node::Element {
+        attrs,
+        children,
+        line,
+        ..
+    } = list
+    else {
+        return Ok(Vec::new(context.alloc));
+    };
+    let mut bibliography = Bibliography::new(context.alloc);
+    for node in children.into_list() {
+        bibliography.add_node(node, context)?;
     }
+    let nodes = bibliography.into_nodes(context.alloc, line)?;
+    with_names(context.alloc, nodes, &attrs)
 }
 
 /// The nodes with more of them from a place on.
@@ -173,18 +151,9 @@ fn with_bibliography(children: Children, context: &mut Context) -> Result<Childr
 /// ```
 ///
 /// The only refusal is [`TreeFault::NoMemory`].
-pub fn docinfo(document: Document, context: &mut Context) -> Result<Document, TreeFault>
+pub fn docinfo(mut document: Document, context: &mut Context) -> Result<Document, TreeFault>
     ensures { Gives (Makes (with_docinfo document) context.old context.new) result }
 {
-    let Document {
-        attrs,
-        children,
-        line,
-    } = document;
-    let children = with_bibliography(children, context)?;
-    Ok(Document {
-        attrs,
-        children,
-        line,
-    })
+    document.children = with_bibliography(document.children, context)?;
+    Ok(document)
 }

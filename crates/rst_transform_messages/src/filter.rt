@@ -2,7 +2,7 @@
 ghost use Rattle.std.specs.Prelude.{◌≡◌, true, filter};
 ghost use Rattle.rst_tree.specs.Faults.{Gives};
 ghost use Rattle.rst_tree.specs.Nodes.{forest_of, nodes_of};
-ghost use Rattle.rst_transform_messages.specs.Filtered.{filtered, is_message_shown, is_unexplained, node_fate, with_filtered};
+ghost use Rattle.rst_transform_messages.specs.Filtered.{filtered, is_unexplained, with_filtered};
 ghost use Rattle.rst_transform_messages.specs.Messages.{marked};
 ghost use Rattle.rst_transform_messages.specs.Shown.{may_stay, is_shown_in};
 ghost use Rattle.rst_transform_work.specs.States.{document_node};
@@ -10,7 +10,7 @@ ghost use Rattle.rst_transform_work.specs.States.{document_node};
 use crate::messages::{level_number, reaches};
 use rst_settings::Threshold;
 use rst_transform_work::Document;
-use rst_tree::{Attrs, Children, Key, Node, Tag, TreeFault};
+use rst_tree::{Children, Key, Node, Tag, TreeFault};
 use std::alloc::Global;
 use std::mem;
 
@@ -43,43 +43,20 @@ pub fn filter(
     Ok(document)
 }
 
-/// What becomes of a node.
-#[derive(Clone, Copy)]
-enum Fate {
-    Stays,
-    BecomesText,
-    Vanishes,
-}
-
-/// What becomes of a node, whatever becomes of the nodes in it.
-fn fate_of(node: &Node, report: Threshold, shown: &[bool]) -> Fate
-    ensures { result ≡ node_fate report (marked shown.now) node.now }
+/// Whether a node is a problematic whose message isn't shown; where it tells no number, there is none.
+fn is_unexplained(node: &Node, shown: &[bool]) -> bool
+    ensures { result ≡ is_unexplained (marked shown.now) node.now }
 {
-    if !may_stay(node, report) {
-        return Fate::Vanishes;
-    }
-    if let Node::Element { tag, attrs, .. } = node {
-        if is_unexplained(*tag, attrs, shown) {
-            return Fate::BecomesText;
-        }
-    }
-    Fate::Stays
-}
-
-/// Whether an element is a problematic whose message isn't shown.
-fn is_unexplained(tag: Tag, attrs: &Attrs, shown: &[bool]) -> bool
-    ensures { result ≡ is_unexplained (marked shown.now) tag attrs.now }
-{
-    matches!(tag, Tag::Problematic) && !is_message_shown(attrs.number(Key::Message), shown)
-}
-
-/// Whether the message of a number is shown; where there is no number, there is none.
-fn is_message_shown(number: Option<u64>, shown: &[bool]) -> bool
-    ensures { result ≡ is_message_shown (marked shown.now) number }
-{
-    match number {
-        Some(number) => matches!(shown.get(number as usize), Some(true)),
-        None => false,
+    match node {
+        Node::Element {
+            tag: Tag::Problematic,
+            attrs,
+            ..
+        } => match attrs.number(Key::Message) {
+            Some(number) => !matches!(shown.get(number as usize), Some(true)),
+            None => true,
+        },
+        _ => false,
     }
 }
 
@@ -117,26 +94,24 @@ fn filter_in(
     let mut leaves = false;
     for i in 0..nodes.len() {
         let node = nodes.get_mut(i);
-        match fate_of(node, report, shown) {
-            Fate::Vanishes => {
-                // It is taken out with all that do, after the last.
-                leaves = true;
-                continue;
-            }
-            Fate::BecomesText => {
-                let text = node.text_of(alloc)?;
-                *node = Node::Text(text);
-                continue;
-            }
-            Fate::Stays => match node {
-                Node::Text(_) => continue,
-                Node::Element { children, .. } => {
-                    if children.are_plain() {
-                        continue;
-                    }
-                    filter_in(alloc, children, report, shown)?;
+        if !may_stay(node, report) {
+            // It is taken out with all that do, after the last.
+            leaves = true;
+            continue;
+        }
+        if is_unexplained(node, shown) {
+            let text = node.text_of(alloc)?;
+            *node = Node::Text(text);
+            continue;
+        }
+        match node {
+            Node::Text(_) => continue,
+            Node::Element { children, .. } => {
+                if children.are_plain() {
+                    continue;
                 }
-            },
+                filter_in(alloc, children, report, shown)?;
+            }
         }
     }
     if leaves {

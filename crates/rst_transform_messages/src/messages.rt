@@ -46,7 +46,7 @@ pub struct Messages {
 impl Messages {
     ghost use Rattle.std.specs.Prelude.{[], ◌∷◌, List, map};
     ghost use Rattle.rst_transform_messages.specs.Messages.{until_halt, notes_of, is_number_shown, Numbered};
-    ghost use Rattle.rst_transform_messages.specs.MessagesIn.{message_said, messages_among};
+    ghost use Rattle.rst_transform_messages.specs.MessagesIn.{messages_among};
     ghost use Rattle.rst_transform_messages.specs.Listed.{report_said, Adds, Lists, KeepsLevels};
 
     /// No message, in a list with room for so many, of a run that halts at a threshold and shows messages from another one on.
@@ -85,22 +85,7 @@ impl Messages {
         Ok(())
     }
 
-    /// Adds the message that a `system_message` with these attributes and nodes tells.
-    fn add(
-        &mut self,
-        alloc: Global,
-        attrs: &Attrs,
-        children: &Children,
-        line: usize,
-    ) -> Result<(), TreeFault>
-        ensures levels { KeepsLevels self.old self.new }
-        ensures adds { Gives (λ _. Adds (message_said attrs.now children.now line ∷ []) self.old self.new) result }
-    {
-        let note = note_of(alloc, attrs, children, line)?;
-        self.push(note, attrs.number(Key::Message))
-    }
-
-    /// Adds those among nodes and in them, in preorder. A message holds no other.
+    /// Adds the messages among nodes and in them, in preorder. A message holds no other.
     pub fn add_all(&mut self, alloc: Global, nodes: &Children) -> Result<(), TreeFault>
         ensures levels { KeepsLevels self.old self.new }
         ensures adds { Gives (λ _. Adds (messages_among nodes.now) self.old self.new) result }
@@ -115,7 +100,8 @@ impl Messages {
                     line,
                 } => {
                     if is_message(*tag) {
-                        self.add(alloc, attrs, children, *line)?;
+                        let note = note_of(alloc, attrs, children, *line)?;
+                        self.push(note, attrs.number(Key::Message))?;
                         continue;
                     }
                     if children.are_plain() {

@@ -1,6 +1,5 @@
 //! The last section of a document, with the messages of the transforms.
 ghost use Rattle.std.specs.Prelude.{◌≡◌, ◌∷◌, ◌++◌, [], map};
-ghost use Rattle.std.specs.List.{list_any};
 ghost use Rattle.rst_tree.specs.Faults.{Gives};
 ghost use Rattle.rst_tree.specs.Nodes.{forest_of, nodes_of};
 ghost use Rattle.rst_transform_work.specs.Known.{Makes};
@@ -25,24 +24,12 @@ pub fn last_section(
 ) -> Result<Document, TreeFault>
     ensures { Gives (Makes (with_last_section report document) context.old context.new) result }
 {
-    if !is_any_shown(context.reports.as_slice(), report) {
+    if !context.reports.iter().any(|own| is_shown(own, report)) {
         return Ok(document);
     }
     let section = section(context.alloc, &mut context.reports)?;
     document.children.push(section)?;
     Ok(document)
-}
-
-/// Whether one of some messages is in the last section and is at or above the report level.
-fn is_any_shown(reports: &[Report], threshold: Threshold) -> bool
-    ensures { result ≡ list_any (is_shown threshold) reports.now }
-{
-    for report in reports {
-        if is_shown(report, threshold) {
-            return true;
-        }
-    }
-    false
 }
 
 /// Whether a message is in the last section and is at or above the report level.
@@ -74,7 +61,13 @@ fn section_nodes(alloc: Global, reports: &mut Vec<Report>) -> Result<Children, T
     ensures reports { Gives (λ _. reports.new.items ≡ map ids_moved reports.old.items) result }
 {
     let mut nodes = Children::with_room(alloc, reports.len().saturating_add(1))?;
-    nodes.push(heading(alloc)?)?;
+    let title = Node::text(alloc, "Docutils System Messages")?;
+    nodes.push(Node::Element {
+        tag: Tag::Title,
+        attrs: Attrs::new(alloc),
+        children: Children::lone(alloc, title)?,
+        line: 0,
+    })?;
     for i in 0..reports.len() {
         add_own(alloc, &mut reports[i], &mut nodes)?;
     }
@@ -92,18 +85,4 @@ fn add_own(alloc: Global, report: &mut Report, nodes: &mut Children) -> Result<(
     let node = report.node(alloc)?;
     nodes.push(node)?;
     Ok(())
-}
-
-/// The section's title.
-fn heading(alloc: Global) -> Result<Node, TreeFault>
-    ensures { Gives (λ node. node ≡ heading) result }
-{
-    let title = Node::text(alloc, "Docutils System Messages")?;
-    let children = Children::lone(alloc, title)?;
-    Ok(Node::Element {
-        tag: Tag::Title,
-        attrs: Attrs::new(alloc),
-        children,
-        line: 0,
-    })
 }

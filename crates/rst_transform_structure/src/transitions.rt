@@ -1,18 +1,14 @@
 //! The places of transitions.
 ghost use Rattle.std.specs.Prelude.{◌≡◌, ◌++◌, ◌∷◌, [], if◌then◌else◌, false, None, Some, MatchOption};
-ghost use Rattle.std.specs.List.{list_all};
 ghost use Rattle.rst_tree.specs.Faults.{Gives};
 ghost use Rattle.rst_tree.specs.Nodes.{forest_of};
 ghost use Rattle.rst_tree.specs.declared.node.Node.TheVariants.{Element};
-ghost use Rattle.rst_tree.specs.declared.note.Level.TheVariants.{Error};
-ghost use Rattle.rst_transform_work.specs.Reports.{report_in, report_node, IsReported, KeepsRest};
+ghost use Rattle.rst_transform_work.specs.Reports.{KeepsRest};
 ghost use Rattle.rst_transform_work.specs.Known.{Makes};
 ghost use Rattle.rst_transform_structure.specs.Transitions.{ends_in_transition, fault_before, is_section, is_transition, none_yet, placed_in, put_transition, so_far, with_fault, with_message, with_transitions};
-ghost use Rattle.rst_transform_work.specs.Reading.{is_title};
 
 use rst_transform_work::{Context, Document, is_title};
 use rst_tree::{Attrs, Children, Level, Node, Tag, Text, TreeFault};
-use std::alloc::Global;
 
 /// Looks at the places of the transitions in document order (Markup Specification, 'Transitions'): each that begins a section
 /// or follows another one gets a message before it, and each that ends a section moves after it.
@@ -35,20 +31,12 @@ use std::alloc::Global;
 ///
 /// One that the document ends with stays, and a message follows it. No element but the document and its sections holds a
 /// transition, so nothing else is gone through.
-pub fn transitions(document: Document, context: &mut Context) -> Result<Document, TreeFault>
+pub fn transitions(mut document: Document, context: &mut Context) -> Result<Document, TreeFault>
     ensures { Gives (Makes (with_transitions document) context.old context.new) result }
 {
-    let Document {
-        attrs,
-        children,
-        line,
-    } = document;
-    let Placed { nodes, moving: _ } = place_in(children, true, context)?;
-    Ok(Document {
-        attrs,
-        children: Children::of(nodes),
-        line,
-    })
+    let placed = place_in(document.children, true, context)?;
+    document.children = Children::of(placed.nodes);
+    Ok(document)
 }
 
 /// The nodes of the document or a section, whose transitions have their places.
@@ -66,7 +54,10 @@ fn place_in(nodes: Children, ends: bool, context: &mut Context) -> Result<Placed
     ensures rest { Gives (λ _. KeepsRest context.old context.new) result }
 {
     let mut left = nodes.len();
-    let mut placed = Placed::with_room(context.alloc, left)?;
+    let mut placed = Placed {
+        nodes: Vec::with_capacity(context.alloc, left)?,
+        moving: Vec::new(context.alloc),
+    };
     for node in nodes.into_list() {
         left = left.saturating_sub(1);
         match node {
@@ -105,18 +96,7 @@ fn place_in(nodes: Children, ends: bool, context: &mut Context) -> Result<Placed
 }
 
 impl Placed {
-    /// No node, in a list with room for so many.
-    fn with_room(alloc: Global, room: usize) -> Result<Placed, TreeFault>
-        ensures nodes { Gives (λ placed. placed.nodes.items ≡ []) result }
-        ensures moving { Gives (λ placed. placed.moving.items ≡ []) result }
-    {
-        Ok(Placed {
-            nodes: Vec::with_capacity(alloc, room)?,
-            moving: Vec::new(alloc),
-        })
-    }
-
-    /// Puts a message on a transition after the nodes.
+    /// Puts an ERROR on a transition after the nodes. It is in the list of messages, too.
     #[tactic(auto, unfolding(crate::specs::Transitions::with_message))]
     fn put_message(
         &mut self,
@@ -127,7 +107,8 @@ impl Placed {
         ensures siblings { Gives (λ _. so_far self.new context.new ≡ with_message context.old.first_number line words.now (so_far self.old context.old)) result }
         ensures rest { Gives (λ _. KeepsRest context.old context.new) result }
     {
-        let message = message(line, words, context)?;
+        let text = Text::from_str(context.alloc, words)?;
+        let message = context.report_in_place(Level::Error, line, text)?;
         self.nodes.push(message)?;
         Ok(())
     }
@@ -211,20 +192,13 @@ const AT_END: &str = "Document may not end with a transition.";
 fn fault_before(before: &[Node]) -> Option<&'static str>
     ensures { MatchOption result (fault_before before.now ≡ None) (λ words. fault_before before.now ≡ Some words.now) }
 {
-    if only_titles(before) {
+    if before.iter().all(|node| is_title(node)) {
         return Some(AT_BEGINNING);
     }
     if ends_in_transition(before) {
         return Some(ADJACENT);
     }
     None
-}
-
-/// Whether the nodes are titles and subtitles.
-fn only_titles(nodes: &[Node]) -> bool
-    ensures { result ≡ list_all is_title nodes.now }
-{
-    nodes.iter().all(|node| is_title(node))
 }
 
 /// Whether the last of these nodes is a transition.
@@ -249,14 +223,4 @@ fn is_transition(tag: Tag) -> bool
     ensures { result ≡ is_transition tag }
 {
     matches!(tag, Tag::Transition)
-}
-
-/// An ERROR on a transition. It is in the list of messages, too.
-fn message(line: usize, words: &str, context: &mut Context) -> Result<Node, TreeFault>
-    ensures node { Gives (λ node. node ≡ report_node (report_in context.old Error line words.now false)) result }
-    ensures reports { Gives (λ _. IsReported (report_in context.old Error line words.now false) context.old context.new) result }
-    ensures rest { Gives (λ _. KeepsRest context.old context.new) result }
-{
-    let text = Text::from_str(context.alloc, words)?;
-    context.report_in_place(Level::Error, line, text)
 }

@@ -5,7 +5,7 @@ use Rattle.std.specs.Borrow.{Bor}
 use Rattle.std.specs.List.{flat_map, list_all, list_any}
 use Rattle.std.specs.Option.{option_to_list}
 use Rattle.std.proofs.Math.Path.{fun_ext}
-use Rattle.std.proofs.lemmas.Bool.{leb-true, le-leb}
+use Rattle.std.proofs.lemmas.Bool.{and_parts, leb-true, le-leb}
 use Rattle.std.proofs.lemmas.Grind.{flat_map-append}
 use Rattle.std.proofs.lemmas.List.{append-nil, flat_map_more, take_more}
 use Rattle.std.proofs.lemmas.List.Folds.{flat_map-map, list_all-append}
@@ -25,16 +25,11 @@ use Rattle.rst_transform_substitutions.specs.Expansion.{and_then, behind, enteri
 use Rattle.rst_transform_substitutions.specs.Numbering.{is_at_least, may_lead, names_said, own_name, places_found, places_of, AreOrdered}
 use Rattle.rst_transform_substitutions.specs.Outcomes.{came}
 
--- both parts of a test hold
-both : (a b : Bool) → (a && b) ≡ true → (a ≡ true) × (b ≡ true)
-both true b holds = (refl, holds)
-both false b holds = absurd (true≢false (sym holds))
-
 -- a test that a weaker one follows from
 weaker : (one two : ℕ → Bool) → ((x : ℕ) → one x ≡ true → two x ≡ true) → (xs : List ℕ) → list_all one xs ≡ true → list_all two xs ≡ true
 weaker one two follows [] all = refl
 weaker one two follows (x ∷ xs) all =
-    let parts = both (one x) (list_all one xs) all in
+    let parts = and_parts (one x) (list_all one xs) all in
     rw (follows x parts.0) (weaker one two follows xs parts.1)
 
 -- numbers that a test tells apart differ
@@ -54,7 +49,7 @@ module _ (known : Definitions) (led : ℕ → Bool) (closed : (place : ℕ) (con
 
   led_parts : (xs ys : List (List ℕ)) → list_all led (places_of known (xs ++ ys)) ≡ true → (list_all led (places_of known xs) ≡ true) × (list_all led (places_of known ys) ≡ true)
   led_parts xs ys passes =
-      both (list_all led (places_of known xs)) (list_all led (places_of known ys))
+      and_parts (list_all led (places_of known xs)) (list_all led (places_of known ys))
       (sym (ap (list_all led) (flat_map-append (λ name. option_to_list (known_found known name)) xs ys) ∙ list_all-append led (places_of known xs) (places_of known ys)) ∙ passes)
 
   abbrev IsLed : Option (ℕ × Forest) → Type 0
@@ -67,7 +62,7 @@ module _ (known : Definitions) (led : ℕ → Bool) (closed : (place : ℕ) (con
 
   led_found : (place : Option ℕ) → list_all led (option_to_list place) ≡ true → IsLed (placed known.contents.items place)
   led_found None passes = tt
-  led_found (Some place) passes = led_there place (slice_get known.contents.items place) refl (both (led place) true passes).0
+  led_found (Some place) passes = led_there place (slice_get known.contents.items place) refl (and_parts (led place) true passes).0
 
   element_same : (one two : List ℕ → ℕ → Expansion) (is : Bool) (t : Tag) (a : List Attr) (c : Forest) (l : ℕ) → ((name : List ℕ) → FindsLed name → one name ≡ two name) → (list_all led (places_found known c) ≡ true → expanded one c ≡ expanded two c)
       → list_all led (places_of known (if is then name_said a ∷ [] else [])) ≡ true → list_all led (places_found known c) ≡ true → here_of one is t a c l ≡ here_of two is t a c l

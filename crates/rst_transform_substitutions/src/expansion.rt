@@ -104,17 +104,6 @@ struct Progress {
 }
 
 impl Progress {
-    /// At the reference that is to be replaced; `within` is the definition that it stands in.
-    fn start(alloc: Global, within: Option<usize>) -> Result<Progress, TreeFault>
-        ensures path { Gives (λ progress. progress.path.items ≡ path_from within) result }
-        ensures left { Gives (λ progress. progress.left ≡ most_visited) result }
-    {
-        Ok(Progress {
-            path: path_from(alloc, within)?,
-            left: MOST_VISITED,
-        })
-    }
-
     /// Counts a node that is visited, and the characters of a text, if so many may still be visited.
     fn visit(&mut self, node: &Node) -> bool
         ensures fits { result ≡ nat_le (size_of node.now) self.old.left }
@@ -134,14 +123,6 @@ impl Progress {
         ensures { result ≡ list_any (λ entered. entered == place) self.now.path.items }
     {
         self.path.iter().any(|entered| *entered == place)
-    }
-
-    /// Leaves the definition that was entered last.
-    fn leave(&mut self)
-        ensures left { self.new.left ≡ self.old.left }
-        ensures path { self.new.path.items ≡ take (vec_len self.old.path - 1) self.old.path.items }
-    {
-        self.path.pop();
     }
 }
 
@@ -208,7 +189,7 @@ fn add_expanded(
                 if is_reference(*tag) {
                     let inner = entered(alloc, definitions, said(attrs, Key::Refname), progress)?;
                     add_expanded(alloc, definitions, inner, copies, progress, nodes)?;
-                    progress.leave();
+                    progress.path.pop();
                     continue;
                 }
                 let mut inner = Vec::new(alloc);
@@ -289,7 +270,10 @@ pub fn expansion(
 ) -> Result<Vec<Node>, Halted>
     ensures { ComesTo (nodes_for (found_by definitions.now) within name.now) (λ nodes. nodes.items) result }
 {
-    let mut progress = Progress::start(alloc, within)?;
+    let mut progress = Progress {
+        path: path_from(alloc, within)?,
+        left: MOST_VISITED,
+    };
     let content = entered(alloc, definitions, name, &mut progress)?;
     let mut nodes = Vec::new(alloc);
     add_expanded(

@@ -75,8 +75,12 @@ impl Outcomes {
     {
         Ok(Outcomes {
             numbers: numbered(alloc, definitions)?,
-            outside: Memory::new(alloc),
-            inside: Memory::new(alloc),
+            outside: Memory {
+                kept: BTreeMap::new(alloc),
+            },
+            inside: Memory {
+                kept: BTreeMap::new(alloc),
+            },
         })
     }
 
@@ -90,49 +94,6 @@ impl Outcomes {
             return outer;
         }
         self.numbers.len()
-    }
-}
-
-impl Memory {
-    /// Nothing is remembered yet.
-    fn new(alloc: Global) -> Memory
-        ensures { (known : AnyDefinitions) → HoldsTrue known result }
-    {
-        let kept = BTreeMap::new(alloc);
-        Memory { kept }
-    }
-
-    /// What a reference to the definition at a place came to, if it stands in the same definition as the last, or in none as that.
-    fn find(
-        &self,
-        alloc: Global,
-        place: usize,
-        within: Option<usize>,
-    ) -> Result<Option<Outcome>, TreeFault>
-        ensures { Gives (λ found. MatchOption found (Unit {0}) (λ outcome. get nat_cmp self.now.kept place ≡ Some (kept_of within outcome))) result }
-    {
-        let Some(kept) = self.kept.get(&place) else {
-            return Ok(None);
-        };
-        if !is_same(kept.within, within) {
-            return Ok(None);
-        }
-        Ok(Some(kept.outcome.copy(alloc)?))
-    }
-
-    /// Remembers what a reference to the definition at a place came to, instead of what the one before came to.
-    fn keep(
-        &mut self,
-        alloc: Global,
-        place: usize,
-        within: Option<usize>,
-        outcome: &Outcome,
-    ) -> Result<(), TreeFault>
-        ensures { Gives (λ _. (other : ℕ) → get nat_cmp self.new.kept other ≡ (if nat_eq place other then Some (kept_of within outcome.now) else get nat_cmp self.old.kept other)) result }
-    {
-        let outcome = outcome.copy(alloc)?;
-        self.kept.insert(place, Kept { within, outcome })?;
-        Ok(())
     }
 }
 
@@ -188,7 +149,8 @@ fn new_outcome(
     }
 }
 
-/// What a reference of a name comes to, which goes into the definition at a place, remembered or expanded anew.
+/// What a reference of a name comes to, which goes into the definition at a place: what the last one came to, if that stands in the
+/// same definition, or in none as that; or it is expanded anew, and remembered.
 fn remembered(
     alloc: Global,
     definitions: &Definitions,
@@ -202,12 +164,15 @@ fn remembered(
     ensures came { Gives (λ outcome. came outcome ≡ nodes_for (found_by definitions.now) within name.now) result }
     ensures holds { OnOk result (HoldsTrue definitions.now memory.new) }
 {
-    let before = memory.find(alloc, place, within)?;
-    if let Some(known) = before {
-        return Ok(known);
+    if let Some(kept) = memory.kept.get(&place) {
+        if is_same(kept.within, within) {
+            let known = kept.outcome.copy(alloc)?;
+            return Ok(known);
+        }
     }
     let new = new_outcome(alloc, definitions, name, within)?;
-    memory.keep(alloc, place, within, &new)?;
+    let outcome = new.copy(alloc)?;
+    memory.kept.insert(place, Kept { within, outcome })?;
     Ok(new)
 }
 

@@ -22,8 +22,9 @@ loop-node-preserved-in-Text t c = record {
 pub loop-node-preserved-then-is_message : goal.loop-node-preserved-then-is_message
 loop-node-preserved-then-is_message t c = record {
   levels = search rules;
-  adds = past_message c.as_slice-node-items.result.now c.loop-node.node-index c.node-item.result c.in-Element.tag c.in-Element.attrs c.in-Element.children c.in-Element.line _ c.loop-node.self c.add.new.self
-      c.loop-node-test.true c.node-item.is c.in-Element.is (sym c.if-is_message.true ∙ c.is_message.ensures) c.loop-node.invariant.adds c.in_ok-add-in-Element.ensures.adds;
+  adds = past_message c.as_slice-node-items.result.now c.loop-node.node-index c.node-item.result c.in-Element.tag c.in-Element.attrs c.in-Element.children c.in-Element.line _ c.loop-node.self c.push.new.self
+      c.loop-node-test.true c.node-item.is c.in-Element.is (sym c.if-is_message.true ∙ c.is_message.ensures) c.loop-node.invariant.adds
+      (rw (c.in_ok-note-in-Element.ensures, c.number.ensures) at c.in_ok-push-in-Element.ensures.adds);
 }
 
 pub loop-node-preserved-then-are_plain : goal.loop-node-preserved-then-are_plain

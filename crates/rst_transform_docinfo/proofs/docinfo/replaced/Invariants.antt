@@ -1,7 +1,7 @@
 use Rattle.std.proofs.Common.{◌≡◌}
 use Rattle.rst_transform_docinfo.specs.Gathered.{gathered, none_yet, so_far}
 use Rattle.rst_transform_work.specs.Reports.{KeepsRest}
-use Rattle.rst_transform_docinfo.proofs.docinfo.bibliography.Given as goal
+use Rattle.rst_transform_docinfo.proofs.docinfo.replaced.Given as goal
 
 abbrev pub invariant-loop-node : goal.invariant-loop-node
 invariant-loop-node l = record {
