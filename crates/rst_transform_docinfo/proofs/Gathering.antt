@@ -1,29 +1,22 @@
 -- The fields of a bibliography, taken in one after another.
 use Rattle.std.proofs.Common.{◌≡◌, ◌∙◌, ℕ, suc, ◌<◌, ◌≤◌, List, [], ◌∷◌, ◌++◌, length, get_or, take, drop, Option, Some, None, refl, ap, sym, drop-cons, arith}
-use Rattle.std.specs.Prelude.{slice_index_or, is_some, nat_eq, slice_get, unwrap_or, Bool, true, false, if◌then◌else◌, option_map}
+use Rattle.std.specs.Prelude.{slice_index_or, slice_get, unwrap_or, true, if◌then◌else◌, option_map}
 use Rattle.std.specs.List.{prefix_len, remove}
 use Rattle.std.proofs.lemmas.Grind.{common_steps}
 use Rattle.std.proofs.lemmas.List.{append-nil}
-use Rattle.rst_tree.proofs.Changes.{nodes_of-forest_of}
-use Rattle.rst_transform_docinfo.specs.declared.bibliography.Row.{Row}
-use Rattle.rst_transform_docinfo.specs.declared.field.Field.{Field}
-use Rattle.rst_transform_docinfo.specs.Authors.{all_paragraphs, and_author}
-use Rattle.rst_transform_docinfo.specs.Bibliography.{made, row_of}
-use Rattle.rst_transform_docinfo.specs.Docinfo.{behind_titles, is_field_list, leading_list, list_in, list_place, nodes_with, replaced}
-use Rattle.rst_transform_docinfo.specs.Gathered.{Gathered, by_form, gathered, is_further, with_seen, with_fault, with_field, with_node, with_row}
-use Rattle.rst_transform_work.specs.Reading.{is_title}
-use Rattle.rst_transform_work.specs.declared.report.Report.{Report}
 use Rattle.std.proofs.lemmas.Option.{unwrap_or-slice_get}
-use Rattle.rst_tree.specs.Faults.{Gives}
-use Rattle.rst_tree.specs.declared.fault.TreeFault.{TreeFault}
-use Rattle.rst_tree.specs.declared.fault.TreeFault.TheVariants.{NoMemory}
-use Rattle.std.specs.Prelude.{Result, Ok, Err}
+use Rattle.rst_tree.proofs.Changes.{nodes_of-forest_of}
 use Rattle.rst_tree.specs.declared.attrs.Attr.{Attr}
 use Rattle.rst_tree.specs.declared.node.Node.{Node}
 use Rattle.rst_tree.specs.declared.node.Node.TheVariants.{Element, Text}
-use Rattle.rst_tree.specs.Forest.{Forest, bare, element, words}
+use Rattle.rst_tree.specs.Forest.{Forest}
 use Rattle.rst_tree.specs.Nodes.{forest_of, nodes_of}
-use Rattle.rst_transform_docinfo.specs.Fields.{field, field_of, is_bare, is_paragraph, last_in, lone, name_of, nodes_in, one_paragraph, paragraph_in}
+use Rattle.rst_transform_docinfo.specs.Authors.{all_paragraphs, and_author}
+use Rattle.rst_transform_docinfo.specs.Docinfo.{behind_titles, is_list, leading_list, list_place, nodes_with, replaced}
+use Rattle.rst_transform_docinfo.specs.Gathered.{Gathered, gathered, with_node}
+use Rattle.rst_transform_docinfo.specs.Fields.{field, field_of, lone, paragraph_in}
+use Rattle.rst_transform_work.specs.Reading.{is_title}
+use Rattle.rst_transform_work.specs.declared.report.Report.{Report}
 
 -- two nodes are the name and the body of a field
 pub two_parts : (a : List Attr) (xs : List Node) (l : ℕ) (name body : Node) → length xs ≡ 2 → body ≡ slice_index_or xs 1 body → name ≡ slice_index_or (remove xs 1) 0 name

@@ -69,7 +69,8 @@ module _ (report : Threshold) (shown : ℕ → Bool) where
       let parts : drop i ns ≡ child ∷ drop (i + 1) ns = drop_item ns i child fits is in
       record {
         same = Same-more old now i new s.same fits;
-        nodes = rw (set_is, take_more_set ns i new fits, behind, front, append_assoc (remaining (take i ns)) (remaining (new ∷ [])) (kept (drop (i + 1) ns)), ← becomes (drop (i + 1) ns), ← parts) s.nodes;
+        nodes = rw (set_is, take_more_set ns i new fits, behind, front, append_assoc (remaining (take i ns)) (remaining (new ∷ [])) (kept (drop (i + 1) ns)), ← becomes (drop (i + 1) ns))
+            (ap (λ xs. remaining (take i ns) ++ kept xs) (sym parts) ∙ s.nodes);
         all = λ h. rw (set_is, take_more_set ns i new fits, front, s.all (keeps h).0, (keeps h).1) refl;
       }
 

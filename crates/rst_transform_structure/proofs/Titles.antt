@@ -1,8 +1,7 @@
 -- Lone sections, and the names that move with their titles.
-use Rattle.std.proofs.Common.{◌≡◌, ◌∙◌, ℕ, ◌+◌, ◌-◌, ◌<◌, List, [], ◌∷◌, ◌++◌, length, get_or, take, slice_get, nat_eq, Bool, true, false, Some, None, refl, ap, ap₂, sym, subst, arith}
-use Rattle.std.specs.Prelude.{◌&&◌, not, if◌then◌else◌, is_some, option_map, Option, Result, Ok, Err}
-use Rattle.std.specs.List.{list_all, remove}
-use Rattle.std.proofs.lemmas.Bool.{and_parts}
+use Rattle.std.proofs.Common.{◌≡◌, ◌∙◌, ℕ, ◌+◌, ◌-◌, ◌<◌, List, [], ◌∷◌, ◌++◌, length, get_or, take, slice_get, Bool, true, false, Some, None, refl, ap, ap₂, sym, subst, arith}
+use Rattle.std.specs.Prelude.{if◌then◌else◌, option_map, Result, Ok, Err}
+use Rattle.std.specs.List.{list_all}
 use Rattle.std.proofs.lemmas.List.{length-append, map-append, take_more}
 use Rattle.std.proofs.lemmas.Option.{slice_get-get_or}
 use Rattle.std.proofs.Math.Seq.{get_or-append_seam, take-append_seam}
@@ -13,17 +12,13 @@ use Rattle.rst_tree.proofs.Changes.{nodes_of-forest_of}
 use Rattle.rst_tree.specs.declared.fault.TreeFault.{TreeFault}
 use Rattle.rst_tree.specs.declared.fault.TreeFault.TheVariants.{NoMemory}
 use Rattle.rst_tree.specs.declared.key.Key.TheVariants.{Names as OfNames}
-use Rattle.rst_tree.specs.declared.attrs.Attr.{Attr}
 use Rattle.rst_tree.specs.declared.node.Node.{Node}
-use Rattle.rst_tree.specs.declared.node.Node.TheVariants.{Element, Text}
-use Rattle.rst_tree.specs.declared.tag.Tag.{Tag}
-use Rattle.rst_tree.specs.declared.tag.Tag.TheVariants.{Section as IsSection}
 use Rattle.rst_tree.specs.Faults.{Gives}
-use Rattle.rst_tree.specs.Forest.{Forest, bare, element, words}
+use Rattle.rst_tree.specs.Forest.{Forest}
 use Rattle.rst_tree.specs.Nodes.{forest_of, nodes_of}
 use Rattle.rst_transform_structure.specs.declared.title.Section.{Section}
 use Rattle.rst_transform_work.specs.Lists.{listed}
-use Rattle.rst_transform_structure.specs.Title.{lone_section, section, section_after, section_in, section_of, subtitle_names, title_names, with_before}
+use Rattle.rst_transform_structure.specs.Title.{lone_section, section_after, section_in, subtitle_names, title_names, with_before}
 use Rattle.rst_transform_structure.specs.Passing.{with_number, Passes}
 use Rattle.rst_transform_structure.proofs.Passing.{Passes-more, Passes-then}
 use Rattle.rst_transform_work.specs.Reading.{may_precede}
@@ -37,53 +32,20 @@ last_is_lone nodes items xs n e f =
     slice_get-get_or (xs ++ n ∷ []) (length xs) n (let k = length-append xs (n ∷ []) in omega (arith, k)) ∙ ap Some (get_or-append_seam xs n [] n) in
     ap₂ (λ ys k. section_after (take k ys) (slice_get ys k)) all place ∙ ap₂ section_after (take-append_seam xs (n ∷ [])) last
 
--- a section has a title if it has a node
-pub titled_by_count : (a : List Attr) (c : Forest) → is_some (section_of a c) ≡ not (nat_eq (length (nodes_of c)) 0)
-titled_by_count a bare = refl
-titled_by_count a (element t b c l r) = grind arith
-titled_by_count a (words t r) = grind arith
+-- what their lone section is
+pub passed : (nodes : Forest) (items xs : List Node) (n : Node) (s made : Section) → nodes ≡ forest_of items → items ≡ xs ++ n ∷ [] → list_all may_precede xs ≡ true → section_in n ≡ Some s
+    → made ≡ with_before xs s → lone_section nodes ≡ Some made
+passed nodes items xs n s made e f all is m = last_is_lone nodes items xs n e f ∙ (rw (all, is) (ap Some (sym m)))
 
-of_section : (t : Tag) (a : List Attr) (c : Forest) (l : ℕ) → is_some (section_in (Element t a c l)) ≡ true → section_in (Element t a c l) ≡ section_of a c
-of_section IsSection a c l is = refl
-of_section _ a c l is = absurd (cc)
+pub not_passed : (nodes : Forest) (items xs : List Node) (n : Node) → nodes ≡ forest_of items → items ≡ xs ++ n ∷ [] → list_all may_precede xs ≡ false → lone_section nodes ≡ None
+not_passed nodes items xs n e f all = last_is_lone nodes items xs n e f ∙ (rw all refl)
 
--- the parts of one with a title
-in_parts : (a : List Attr) (ys : List Node) (title : Node) → is_some (section_of a (forest_of ys)) ≡ true → title ≡ get_or ys 0 title → section_of a (forest_of ys) ≡ Some (section a title (forest_of (remove ys 0)))
-in_parts a [] title some at = absurd (cc)
-in_parts a (Element t b c l ∷ ys) title some at = ap (λ x. Some (section a x (forest_of ys))) (sym at)
-in_parts a (Text t ∷ ys) title some at = ap (λ x. Some (section a x (forest_of ys))) (sym at)
+either_none : (b : Bool) (xs : List Node) → (if b then option_map (with_before xs) None else None) ≡ None
+either_none true xs = refl
+either_none false xs = refl
 
--- a node that is a section with a title, where those before may precede it
-module _ (nodes : Forest) (items xs ys : List Node) (n : Node) (t : Tag) (a : List Attr) (c : Forest) (l : ℕ) (is : n ≡ Element t a c l) (inner : c ≡ forest_of ys)
-    (lone : (is_some (section_in n) && list_all may_precede xs) ≡ true) where
-  some_title : is_some (section_of a (forest_of ys)) ≡ true
-  some_title =
-      let titled : is_some (section_in (Element t a c l)) ≡ true = rw is at (and_parts (is_some (section_in n)) (list_all may_precede xs) lone).0 in
-      sym (ap is_some (of_section t a c l titled ∙ ap (section_of a) inner)) ∙ titled
-
-  pub has_title : 0 < length ys
-  has_title = by ys some_title
-    where
-      by : (zs : List Node) → is_some (section_of a (forest_of zs)) ≡ true → 0 < length zs
-      by [] titled = absurd (cc)
-      by (z ∷ zs) titled = omega arith
-
-  -- what the lone section is
-  pub passed : (title : Node) (made : Section) → nodes ≡ forest_of items → items ≡ xs ++ n ∷ [] → title ≡ get_or ys 0 title → made ≡ section a title (forest_of (xs ++ remove ys 0)) → lone_section nodes ≡ Some made
-  passed title made e f at m =
-      let parts = and_parts (is_some (section_in n)) (list_all may_precede xs) lone in
-      let in_it : section_in n ≡ Some (section a title (forest_of (remove ys 0))) =
-      ap section_in is ∙ of_section t a c l (rw is at parts.0) ∙ ap (section_of a) inner ∙ in_parts a ys title some_title at in
-      last_is_lone nodes items xs n e f ∙ (rw (parts.1, in_it) (ap (λ zs. Some (section a title (forest_of (xs ++ zs)))) (nodes_of-forest_of (remove ys 0)) ∙ ap Some (sym m)))
-
-pub not_passed : (nodes : Forest) (items xs : List Node) (n : Node) → nodes ≡ forest_of items → items ≡ xs ++ n ∷ [] → (is_some (section_in n) && list_all may_precede xs) ≡ false → lone_section nodes ≡ None
-not_passed nodes items xs n e f other =
-    last_is_lone nodes items xs n e f ∙ by (list_all may_precede xs) (section_in n) other
-  where
-    by : (b : Bool) (s : Option Section) → (is_some s && b) ≡ false → (if b then option_map (with_before xs) s else None) ≡ None
-    by false s h = refl
-    by true None h = refl
-    by true (Some s) h = absurd (cc)
+pub no_section : (nodes : Forest) (items xs : List Node) (n : Node) → nodes ≡ forest_of items → items ≡ xs ++ n ∷ [] → section_in n ≡ None → lone_section nodes ≡ None
+no_section nodes items xs n e f is = last_is_lone nodes items xs n e f ∙ (rw is (either_none (list_all may_precede xs) xs))
 
 -- the nodes as they were, once the last is put back
 pub put_back : (nodes back : Forest) (items pushed xs : List Node) (n m : Node) → nodes ≡ forest_of items → items ≡ xs ++ n ∷ [] → m ≡ n → pushed ≡ xs ++ m ∷ [] → back ≡ forest_of pushed → back ≡ nodes

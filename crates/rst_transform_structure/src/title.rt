@@ -1,5 +1,5 @@
 //! The title and the subtitle of a document.
-ghost use Rattle.std.specs.Prelude.{◌≡◌, ◌++◌, ◌&&◌, is_some, None};
+ghost use Rattle.std.specs.Prelude.{◌≡◌, ◌++◌, None};
 ghost use Rattle.std.specs.List.{list_all};
 ghost use Rattle.rst_tree.specs.declared.key.Key.TheVariants.{Names as OfNames};
 ghost use Rattle.rst_tree.specs.Faults.{Gives};
@@ -7,9 +7,9 @@ ghost use Rattle.rst_tree.specs.Nodes.{join_node};
 ghost use Rattle.rst_transform_work.specs.Known.{Makes};
 ghost use Rattle.rst_transform_work.specs.Lists.{with_names, listed};
 ghost use Rattle.rst_transform_work.specs.Made.{IsMadeOf};
-ghost use Rattle.rst_transform_structure.specs.Title.{lone_section, section_in, subtitle, subtitle_names, subtitled_by, title_attrs, title_names, titled_by, with_title};
-ghost use Rattle.rst_transform_work.specs.Reading.{may_precede};
+ghost use Rattle.rst_transform_structure.specs.Title.{lone_section, section_in, subtitle, subtitle_names, subtitled_by, title_attrs, title_names, titled_by, with_before, with_title};
 ghost use Rattle.rst_transform_structure.specs.Passing.{with_number, Passes};
+ghost use Rattle.rst_transform_work.specs.Reading.{may_precede};
 
 use rst_transform_names::{Holder, Names};
 use rst_transform_work::{Context, Document, append_names, may_precede};
@@ -38,13 +38,9 @@ use std::alloc::Global;
 pub fn title(mut document: Document, context: &mut Context) -> Result<Document, TreeFault>
     ensures { Gives (Makes (with_title document) context.old context.new) result }
 {
+    let alloc = context.alloc;
     let nodes = document.children;
-    document.children = titled(
-        context.alloc,
-        &mut document.attrs,
-        nodes,
-        &mut context.names,
-    )?;
+    document.children = titled(alloc, &mut document.attrs, nodes, &mut context.names)?;
     Ok(document)
 }
 
@@ -99,8 +95,62 @@ fn with_first(first: Node, nodes: Children) -> Result<Children, TreeFault>
 struct Section {
     attrs: Attrs,
     title: Node,
-    /// What comes before the section, and then what comes after its title.
+    /// What comes after the title. That of a lone section begins with what comes before the section.
     body: Children,
+}
+
+impl Section {
+    /// A section with a title, in its parts, or the node back where it is none.
+    fn of(node: Node) -> Result<Section, Node>
+        ensures { IsMadeOf node (section_in node) result }
+    {
+        match node {
+            Node::Element {
+                tag: Tag::Section,
+                attrs,
+                children,
+                line,
+            } => {
+                let mut content = children.into_list();
+                if content.is_empty() {
+                    return Err(Node::Element {
+                        tag: Tag::Section,
+                        attrs,
+                        children: Children::of(content),
+                        line,
+                    });
+                }
+                let title = content.remove(0);
+                Ok(Section {
+                    attrs,
+                    title,
+                    body: Children::of(content),
+                })
+            }
+            node => Err(node),
+        }
+    }
+
+    /// The section with these nodes before its body.
+    fn behind(self, before: Vec<Node>) -> Result<Section, TreeFault>
+        ensures { Gives (λ section. section ≡ with_before before.items self) result }
+    {
+        let Section { attrs, title, body } = self;
+        let mut nodes = before;
+        nodes.append(&mut body.into_list())?;
+        Ok(Section {
+            attrs,
+            title,
+            body: Children::of(nodes),
+        })
+    }
+}
+
+/// Whether all of these nodes may.
+fn all_may_precede(nodes: &[Node]) -> bool
+    ensures { result ≡ list_all may_precede nodes.now }
+{
+    nodes.iter().all(|node| may_precede(node))
 }
 
 /// The lone section of some nodes, or the nodes back where they have none: the last node, if all before may precede it.
@@ -111,40 +161,16 @@ fn lone_section(nodes: Children) -> Result<Result<Section, Children>, TreeFault>
     let Some(last) = before.pop() else {
         return Ok(Err(Children::of(before)));
     };
-    if !is_lone(&last, before.as_slice()) {
+    if !all_may_precede(before.as_slice()) {
         before.push(last)?;
         return Ok(Err(Children::of(before)));
     }
-    let Node::Element {
-        attrs,
-        children,
-        ..
-    } = last
-    else {
-        unreachable!()
-    };
-    let mut content = children.into_list();
-    let title = content.remove(0);
-    before.append(&mut content)?;
-    Ok(Ok(Section {
-        attrs,
-        title,
-        body: Children::of(before),
-    }))
-}
-
-/// Whether a node is a section with a title, and each of those before may precede it.
-#[tactic(auto, using(crate::proofs::Titles::titled_by_count))]
-fn is_lone(node: &Node, before: &[Node]) -> bool
-    ensures { result ≡ (is_some (section_in node.now) && list_all may_precede before.now) }
-{
-    match node {
-        Node::Element {
-            tag: Tag::Section,
-            children,
-            ..
-        } => children.len() != 0 && before.iter().all(|node| may_precede(node)),
-        _ => false,
+    match Section::of(last) {
+        Ok(section) => Ok(Ok(section.behind(before)?)),
+        Err(last) => {
+            before.push(last)?;
+            Ok(Err(Children::of(before)))
+        }
     }
 }
 

@@ -24,4 +24,4 @@ returns-clause-holds c =
     λ other.
     let is : get nat_cmp c.insert.new.self other ≡ (if nat_eq c.args.place other then Some (kept_of c.args.within c.in_ok-outcome.outcome) else get nat_cmp c.args.memory.now.kept other) = grind (arith, common_steps, c.in_ok-insert.ensures.updates.0 other) in
     rw (c.in_ok-outcome.ensures) at is in
-    remembers-more c.args.definitions.now c.args.memory.now _ c.args.place c.args.within c.in_ok-new.new c.args.name.now c.requires.holds c.requires.goes c.in_ok-new.ensures put
+    remembers-more c.args.definitions.now c.args.memory.now (record { kept = c.insert.new.self }) c.args.place c.args.within c.in_ok-new.new c.args.name.now c.requires.holds c.requires.goes c.in_ok-new.ensures put
