@@ -182,7 +182,8 @@ fn out_of_form(name: &str, mut field: Field, context: &mut Context) -> Result<No
 {
     let message = message(field.line, name, context)?;
     field.body = with_child(field.body, message)?;
-    stays(context.alloc, name, field)
+    let node = stays(context.alloc, name, field)?;
+    Ok(node)
 }
 
 /// The WARNING on a field of this name that isn't in its form. It is in the list of messages, too.

@@ -1,5 +1,6 @@
 //! The last section of a document, with the messages of the transforms.
 ghost use Rattle.std.specs.Prelude.{◌≡◌, ◌∷◌, ◌++◌, [], map};
+ghost use Rattle.std.specs.List.{list_any};
 ghost use Rattle.rst_tree.specs.Faults.{Gives};
 ghost use Rattle.rst_tree.specs.Nodes.{forest_of, nodes_of};
 ghost use Rattle.rst_transform_work.specs.Known.{Makes};
@@ -24,12 +25,19 @@ pub fn last_section(
 ) -> Result<Document, TreeFault>
     ensures { Gives (Makes (with_last_section report document) context.old context.new) result }
 {
-    if !context.reports.iter().any(|own| is_shown(own, report)) {
+    if !is_any_shown(context.reports.as_slice(), report) {
         return Ok(document);
     }
     let section = section(context.alloc, &mut context.reports)?;
     document.children.push(section)?;
     Ok(document)
+}
+
+/// Whether one of some messages is in the last section and is at or above the report level.
+fn is_any_shown(reports: &[Report], threshold: Threshold) -> bool
+    ensures { result ≡ list_any (is_shown threshold) reports.now }
+{
+    reports.iter().any(|report| is_shown(report, threshold))
 }
 
 /// Whether a message is in the last section and is at or above the report level.

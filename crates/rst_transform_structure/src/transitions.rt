@@ -1,10 +1,12 @@
 //! The places of transitions.
 ghost use Rattle.std.specs.Prelude.{◌≡◌, ◌++◌, ◌∷◌, [], if◌then◌else◌, false, None, Some, MatchOption};
+ghost use Rattle.std.specs.List.{list_all};
 ghost use Rattle.rst_tree.specs.Faults.{Gives};
 ghost use Rattle.rst_tree.specs.Nodes.{forest_of};
 ghost use Rattle.rst_tree.specs.declared.node.Node.TheVariants.{Element};
 ghost use Rattle.rst_transform_work.specs.Reports.{KeepsRest};
 ghost use Rattle.rst_transform_work.specs.Known.{Makes};
+ghost use Rattle.rst_transform_work.specs.Reading.{is_title};
 ghost use Rattle.rst_transform_structure.specs.Transitions.{ends_in_transition, fault_before, is_section, is_transition, none_yet, placed_in, put_transition, so_far, with_fault, with_message, with_transitions};
 
 use rst_transform_work::{Context, Document, is_title};
@@ -192,13 +194,20 @@ const AT_END: &str = "Document may not end with a transition.";
 fn fault_before(before: &[Node]) -> Option<&'static str>
     ensures { MatchOption result (fault_before before.now ≡ None) (λ words. fault_before before.now ≡ Some words.now) }
 {
-    if before.iter().all(|node| is_title(node)) {
+    if only_titles(before) {
         return Some(AT_BEGINNING);
     }
     if ends_in_transition(before) {
         return Some(ADJACENT);
     }
     None
+}
+
+/// Whether the nodes are titles and subtitles.
+fn only_titles(nodes: &[Node]) -> bool
+    ensures { result ≡ list_all is_title nodes.now }
+{
+    nodes.iter().all(|node| is_title(node))
 }
 
 /// Whether the last of these nodes is a transition.
