@@ -18,7 +18,7 @@ ghost use Rattle.rst_block_nodes.specs.Admonitions.{with_title_class};
 ghost use Rattle.rst_block_nodes.specs.Elements.{plain_node, preserved_node, bullet_list_node, enumerated_list_node, start_text, option_node, footnote_node, citation_node, substitution_definition_node, tgroup_node, entry_node};
 ghost use Rattle.rst_block_nodes.specs.LineBlocks.{line_block};
 ghost use Rattle.rst_block_nodes.specs.Options.{code_element, directive_element, figure_element, image_element};
-ghost use Rattle.rst_block_nodes.specs.Readings.{term_nodes, texted};
+ghost use Rattle.rst_block_nodes.specs.Readings.{term_nodes, texted, texted_node};
 ghost use Rattle.rst_block_nodes.specs.Targets.{may_replace, target_node};
 ghost use Rattle.rst_block_nodes.specs.Texts.{message_node, section_node};
 ghost use Rattle.rst_block_nodes.specs.Whole.{Says, read_nodes};
@@ -37,6 +37,15 @@ pub fn texts()
         ∷ "        c" ∷ "         d" ∷ []) }
     ensures section { Says (section_node (plain_node tag.Title 2 (codes "A  Bc")) 0 2 ∷ [])
         ("<section own_name=\"a bc\"> 2" ∷ "    <title> 2" ∷ "        A  Bc" ∷ []) }
+    ensures markup_in_a_title { Says (section_node (texted_node tag.Title 2 (codes "A  *b*") 2 0) 0 2 ∷ [])
+        ("<section own_name=\"a b\"> 2" ∷ "    <title> 2" ∷ "        A  " ∷ "        <emphasis> 2" ∷ "            b" ∷ []) }
+    ensures labels_in_a_title { Says (section_node (texted_node tag.Title 2 (codes "[1]_ [#]_ |x|") 2 0) 0 2 ∷ [])
+        ("<section own_name=\"1 x\"> 2" ∷ "    <title> 2" ∷ "        <footnote_reference rawsource=\"[1]_\" refname=\"1\"> 2" ∷ "            1"
+        ∷ "         " ∷ "        <footnote_reference auto=\"1\" rawsource=\"[#]_\"> 2" ∷ "         "
+        ∷ "        <substitution_reference rawsource=\"|x|\" refname=\"x\"> 2" ∷ "            x" ∷ []) }
+    ensures reference_in_a_title { Says (section_node (texted_node tag.Title 2 (codes "`a`_ **") 2 0) 0 2 ∷ [])
+        ("<section own_name=\"a **\"> 2" ∷ "    <title> 2" ∷ "        <reference name=\"a\" rawsource=\"`a`_\" refname=\"a\"> 2" ∷ "            a"
+        ∷ "         **" ∷ []) }
     ensures section_with_messages { Says (section_node (plain_node tag.Title 2 (codes "a")) 3 2 ∷ [])
         ("<section own_name=\"a\" text_messages=\"3\"> 2" ∷ "    <title> 2" ∷ "        a" ∷ []) }
 {}
@@ -81,11 +90,20 @@ pub fn terms()
         ("<term> 2" ∷ "    <emphasis> 2" ∷ "        a" ∷ "     b" ∷ "<classifier> 2" ∷ "    <literal> 2" ∷ "        c : d" ∷ "     e" ∷ []) }
     ensures escaped_colon { Says (term_nodes (codes "a \\: b") 2 0) ("<term> 2" ∷ "    a : b" ∷ []) }
     ensures escaped_space { Says (term_nodes (codes "a\\ : b") 2 0) ("<term> 2" ∷ "    a: b" ∷ []) }
+    ensures escaped_space_behind { Says (term_nodes (codes "a :\\ b") 2 0) ("<term> 2" ∷ "    a :b" ∷ []) }
     ensures space_left { Says (term_nodes (codes "a \\ : b") 2 0) ("<term> 2" ∷ "    a" ∷ "<classifier> 2" ∷ "    b" ∷ []) }
+    ensures colon_after_a_colon { Says (term_nodes (codes "a : : b") 2 0) ("<term> 2" ∷ "    a" ∷ "<classifier> 2" ∷ "    : b" ∷ []) }
+    ensures spaces_before_a_colon { Says (term_nodes (codes "a :  : b") 2 0) ("<term> 2" ∷ "    a" ∷ "<classifier> 2" ∷ "    : b" ∷ []) }
+    ensures backslashes { Says (term_nodes (codes "\\\\ : \\\\") 2 0) ("<term> 2" ∷ "    \\" ∷ "<classifier> 2" ∷ "    \\" ∷ []) }
     ensures empty { Says (term_nodes (codes "a : :sub:`b` : c") 2 0)
         ("<term> 2" ∷ "    a" ∷ "<classifier> 2" ∷ "    <subscript> 2" ∷ "        b" ∷ "<classifier> 2" ∷ "    c" ∷ []) }
     ensures messages { Says (term_nodes (codes "a : *b") 2 4)
         ("<term text_messages=\"1\"> 2" ∷ "    a" ∷ "<classifier> 2" ∷ "    <problematic message=\"4\"> 2" ∷ "        *" ∷ "    b" ∷ []) }
+    ensures message_on_the_term { Says (term_nodes (codes "*a : b") 2 4)
+        ("<term text_messages=\"1\"> 2" ∷ "    <problematic message=\"4\"> 2" ∷ "        *" ∷ "    a" ∷ "<classifier> 2" ∷ "    b" ∷ []) }
+    ensures unended_over_a_colon { Says (term_nodes (codes "a : |x : y") 2 4)
+        ("<term text_messages=\"1\"> 2" ∷ "    a" ∷ "<classifier> 2" ∷ "    <problematic message=\"4\"> 2" ∷ "        |" ∷ "    x"
+        ∷ "<classifier> 2" ∷ "    y" ∷ []) }
 {}
 
 /// Line blocks (Markup Specification, 'Line Blocks').
@@ -125,10 +143,12 @@ pub fn replacements()
     ensures roles { may_replace (nodes_behind (codes "*a* **b** ``c`` :sub:`d` :sup:`e` `f` |g| h") 1 []
         (pieces_of (codes "*a* **b** ``c`` :sub:`d` :sup:`e` `f` |g| h"))) ≡ true }
     ensures references { may_replace (nodes_behind (codes "a_ http://b") 1 [] (pieces_of (codes "a_ http://b"))) ≡ true }
+    ensures embedded { may_replace (nodes_behind (codes "`a <u>`__ `a <b_>`_") 1 [] (pieces_of (codes "`a <u>`__ `a <b_>`_"))) ≡ true }
     ensures anonymous { may_replace (nodes_behind (codes "a__") 1 [] (pieces_of (codes "a__"))) ≡ false }
     ensures round_a_substitution { may_replace (nodes_behind (codes "|a|_") 1 [] (pieces_of (codes "|a|_"))) ≡ false }
     ensures target { may_replace (nodes_behind (codes "_`a`") 1 [] (pieces_of (codes "_`a`"))) ≡ false }
     ensures footnote { may_replace (nodes_behind (codes "[1]_") 1 [] (pieces_of (codes "[1]_"))) ≡ false }
+    ensures citation { may_replace (nodes_behind (codes "[a]_") 1 [] (pieces_of (codes "[a]_"))) ≡ false }
     ensures problematic { may_replace (nodes_behind (codes "*a") 1 [] (pieces_of (codes "*a"))) ≡ false }
 {}
 
@@ -149,6 +169,10 @@ pub fn directives()
         ("<note classes=\"b a\" own_name=\"c\"> 1" ∷ []) }
     ensures class_of_a_title { Says (with_title_class (directive_element Admonition [] 1) (plain_node tag.Title 1 (codes "My *Note*")) ∷ [])
         ("<admonition classes=\"admonition-my-note\"> 1" ∷ []) }
+    ensures classes_of_titles { Says (map (λ t. with_title_class (directive_element Admonition [] 1) (texted_node tag.Title 1 (codes t) 1 0))
+        (":sub:`2`" ∷ "ß 1" ∷ "2 Ä" ∷ "|x| y" ∷ []))
+        ("<admonition classes=\"admonition-\"> 1" ∷ "<admonition classes=\"admonition-\"> 1" ∷ "<admonition classes=\"admonition-a\"> 1"
+        ∷ "<admonition classes=\"admonition-x-y\"> 1" ∷ []) }
     ensures class_of_the_options { Says (with_title_class (directive_element Admonition ((Class, classed (codes "a" ∷ [])) ∷ []) 1)
         (plain_node tag.Title 1 (codes "My Note")) ∷ []) ("<admonition classes=\"a\"> 1" ∷ []) }
     ensures code { Says (code_element None [] (codes "a\n b") 2 ∷ [])
@@ -163,6 +187,8 @@ pub fn images()
     ensures options { Says (image_element (codes "a") ((Alt, plain (codes "b")) ∷ (Height, measured (codes "1em")) ∷ (Width, measured (codes "2%"))
         ∷ (Scale, numbered 3) ∷ (Align, placed Middle) ∷ (Class, classed (codes "c" ∷ [])) ∷ (Name, called (codes "d")) ∷ []) 2 false None ∷ [])
         ("<image align=\"middle\" alt=\"b\" classes=\"c\" height=\"1em\" own_name=\"d\" scale=\"3\" uri=\"a\" width=\"2%\"> 2" ∷ []) }
+    ensures nothing { Says (image_element (codes "i") ((Alt, plain []) ∷ (Name, called []) ∷ []) 2 false None ∷ [])
+        ("<image alt=\"\" own_name=\"\" uri=\"i\"> 2" ∷ []) }
     ensures in_a_figure { Says (image_element (codes "a") ((Align, placed Left) ∷ (FigureWidth, measured (codes "1px"))
         ∷ (Width, measured (codes "2px")) ∷ (FigureClass, classed (codes "c" ∷ [])) ∷ (Class, classed (codes "d" ∷ [])) ∷ []) 2 true None ∷ [])
         ("<image classes=\"d\" uri=\"a\" width=\"2px\"> 2" ∷ []) }

@@ -46,7 +46,10 @@ pub fn references()
     ensures anonymous { Shows "a__" ("<reference anonymous=\"1\" name=\"a\" rawsource=\"a__\">" ∷ "    a" ∷ []) }
     ensures phrase { Shows "`A  b`_" ("<reference name=\"A b\" rawsource=\"`A  b`_\" refname=\"a b\">" ∷ "    A  b" ∷ []) }
     ensures anonymous_phrase { Shows "`A b`__" ("<reference anonymous=\"1\" name=\"A b\" rawsource=\"`A b`__\">" ∷ "    A b" ∷ []) }
+    ensures phrase_of_two_lines { Shows "`c\n d`_"
+        ("<reference name=\"c d\" rawsource=\"`c\n d`_\" refname=\"c d\">" ∷ "    c" ∷ "     d" ∷ []) }
     ensures escapes { Shows "`\\  a\\_`_" ("<reference name=\"a_\" rawsource=\"`\\  a\\_`_\" refname=\"a_\">" ∷ "     a_" ∷ []) }
+    ensures escaped_backquote { Shows "`d\\`e`_" ("<reference name=\"d`e\" rawsource=\"`d\\`e`_\" refname=\"d`e\">" ∷ "    d`e" ∷ []) }
     ensures uri { Shows "HTTP://A.b" ("<reference rawsource=\"HTTP://A.b\" refuri=\"HTTP://A.b\">" ∷ "    HTTP://A.b" ∷ []) }
 {}
 
@@ -56,6 +59,7 @@ pub fn embedded()
         ("<reference name=\"A\" rawsource=\"`A <http://b>`_\" refuri=\"http://b\">" ∷ "    A"
         ∷ "<target inline=\"1\" own_name=\"a\" refuri=\"http://b\">" ∷ []) }
     ensures anonymous_uri { Shows "`A <u>`__" ("<reference name=\"A\" rawsource=\"`A <u>`__\" refuri=\"u\">" ∷ "    A" ∷ []) }
+    ensures text_of_nothing { Shows "`\\ <u>`__" ("<reference name=\"\" rawsource=\"`\\ <u>`__\" refuri=\"u\">" ∷ []) }
     ensures alias { Shows "`A <B  c_>`_" ("<reference name=\"A\" rawsource=\"`A <B  c_>`_\" refname=\"b c\">" ∷ "    A" ∷ []) }
     ensures anonymous_alias { Shows "`A <b_>`__" ("<reference name=\"A\" rawsource=\"`A <b_>`__\" refname=\"b\">" ∷ "    A" ∷ []) }
     ensures uri_like_alias { Shows "`a <http://x.org/b_>`_"
@@ -94,6 +98,7 @@ pub fn plain_angles()
 /// Substitution references (Markup Specification, 'Substitution References').
 pub fn substitutions()
     ensures alone { Shows "|A  b|" ("<substitution_reference rawsource=\"|A  b|\" refname=\"A b\">" ∷ "    A  b" ∷ []) }
+    ensures bar_inside { Shows "|z |a|" ("<substitution_reference rawsource=\"|z |a|\" refname=\"z |a\">" ∷ "    z |a" ∷ []) }
     ensures with_a_reference { Shows "|A|_"
         ("<reference rawsource=\"|A|_\" refname=\"a\">" ∷ "    <substitution_reference rawsource=\"|A|\" refname=\"A\">" ∷ "        A" ∷ []) }
     ensures anonymous { Shows "|a|__"

@@ -23,11 +23,14 @@ pub fn characters()
 /// Where a start may stand (Markup Specification, 'Inline markup recognition rules').
 pub fn starts()
     ensures inside_a_word { Cuts "a*b*" ((Plain, "a*b*") ∷ []) }
+    ensures after_punctuation_past_ascii { Cuts "。*c*" ((Plain, "。") ∷ (Marked Emphasis Bare, "*c*") ∷ []) }
     ensures before_white { Cuts "2 * 3 * 4" ((Plain, "2 * 3 * 4") ∷ []) }
     ensures quoted { Cuts "'*' \"*\" <*> (*) [*] {*}" ((Plain, "'*' \"*\" <*> (*) [*] {*}") ∷ []) }
+    ensures quoted_after_a_quoted { Cuts "'*'*' <*>*>" ((Plain, "'*'*' <*>*>") ∷ []) }
     ensures other_bracket { Cuts "(*]" ((Plain, "(") ∷ (Unended Emphasis, "*") ∷ (Plain, "]") ∷ []) }
     ensures quoted_role { Cuts "(:sub:`)x`" ((Plain, "(:sub:") ∷ (Marked Interpreted Bare, "`)x`") ∷ []) }
     ensures escaped { Cuts "\\*a*" ((Plain, "\\*a*") ∷ []) }
+    ensures before_escaped_white { Cuts "*\\ * ** b**" ((Marked Emphasis Bare, "*\\ * **") ∷ (Plain, " b**") ∷ []) }
     ensures escaped_white { Cuts "*a*\\ *b*" ((Marked Emphasis Bare, "*a*") ∷ (Plain, "\\ ") ∷ (Marked Emphasis Bare, "*b*") ∷ []) }
     ensures after_a_start { Cuts "**a_" ((Unended Strong, "**") ∷ (Plain, "a_") ∷ []) }
 {}
@@ -56,6 +59,7 @@ pub fn strings()
     ensures two_stars_end_emphasis { Cuts "*a**" ((Marked Emphasis Bare, "*a**") ∷ []) }
     ensures three_backquotes { Cuts "```a```" ((Marked Literal Bare, "```a```") ∷ []) }
     ensures doubled { Cuts "`` a` ||b|" ((Plain, "`` a` ||b|") ∷ []) }
+    ensures bar_after_white { Cuts "|z |a|" ((Marked Substitution Bare, "|z |a|") ∷ []) }
     ensures target_is_no_reference { Cuts "_`a`_" ((Unended Target, "_`") ∷ (Plain, "a`_") ∷ []) }
 {}
 
@@ -95,6 +99,8 @@ pub fn references()
     ensures joint_at_the_end { Cuts "a._" ((Plain, "a._") ∷ []) }
     ensures before_a_letter { Cuts "a_b a__b" ((Plain, "a_b a__b") ∷ []) }
     ensures before_a_bracket { Cuts "a_(" ((Plain, "a_(") ∷ []) }
+    ensures three_underscores { Cuts "e___" ((Plain, "e___") ∷ []) }
+    ensures after_a_comma { Cuts "g_,h_" ((Reference Named, "g_") ∷ (Plain, ",h_") ∷ []) }
     ensures underscore_before { Cuts "_a_" ((Plain, "_a_") ∷ []) }
     ensures letter_past_ascii { Cuts "ß_" ((Reference Named, "ß_") ∷ []) }
     ensures digit_past_ascii { Cuts "²_" ((Reference Named, "²_") ∷ []) }
@@ -122,6 +128,9 @@ pub fn labels()
     ensures side_by_side { Cuts "[1]_[2]_" ((Plain, "[1]_[2]_") ∷ []) }
     ensures inside_a_word { Cuts "a[1]_" ((Plain, "a[1]_") ∷ []) }
     ensures with_white { Cuts "[a b]_" ((Plain, "[a b]_") ∷ []) }
+    ensures joint_at_the_end { Cuts "[a-]_ [#-]_" ((Plain, "[a-]_ [#-]_") ∷ []) }
+    ensures before_a_letter { Cuts "[2]_x" ((Plain, "[2]_x") ∷ []) }
+    ensures escaped { Cuts "\\[1]_" ((Plain, "\\[1]_") ∷ []) }
     ensures reference_in_brackets { Cuts "[a_]_" ((Plain, "[") ∷ (Reference Named, "a_") ∷ (Plain, "]_") ∷ []) }
     ensures symbol_with_a_name { Cuts "[*a]_" ((Plain, "[") ∷ (Unended Emphasis, "*") ∷ (Plain, "a]_") ∷ []) }
 {}
@@ -136,10 +145,12 @@ pub fn uris()
     ensures http { Cuts "http://a" ((Uri, "http://a") ∷ []) }
     ensures irc { Cuts "irc://a" ((Uri, "irc://a") ∷ []) }
     ensures colon_schemes { Cuts "mailto:a@b news:a" ((Uri, "mailto:a@b") ∷ (Plain, " ") ∷ (Uri, "news:a") ∷ []) }
+    ensures punctuation_first { Cuts "mailto:x, news: news:!a" ((Uri, "mailto:x") ∷ (Plain, ", news: ") ∷ (Uri, "news:!a") ∷ []) }
     ensures other_scheme { Cuts "gopher://a" ((Plain, "gopher://a") ∷ []) }
     ensures letter_before_a_scheme { Cuts "xhttp://a" ((Plain, "xhttp://a") ∷ []) }
     ensures one_slash { Cuts "http:/a" ((Plain, "http:/a") ∷ []) }
     ensures any_case { Cuts "HttP://A" ((Uri, "HttP://A") ∷ []) }
+    ensures query_and_fragment { Cuts "HTTP://a/?b#c." ((Uri, "HTTP://a/?b#c") ∷ (Plain, ".") ∷ []) }
     ensures punctuation { Cuts "(http://a.b/c.)" ((Plain, "(") ∷ (Uri, "http://a.b/c") ∷ (Plain, ".)") ∷ []) }
     ensures bracket_in_it { Cuts "http://a/(b)" ((Uri, "http://a/(b") ∷ (Plain, ")") ∷ []) }
     ensures nothing { Cuts "http:// http://." ((Plain, "http:// http://.") ∷ []) }

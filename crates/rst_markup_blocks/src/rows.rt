@@ -133,6 +133,7 @@ pub fn attributions()
     ensures one_line { attribution_at 2 (block ("--  a" ∷ "" ∷ "  b" ∷ [])) ≡ Some (record { marker = 4; end = 3; indent = 0 }) }
     ensures three_lines { attribution_at 2 (block ("-- a" ∷ "   b" ∷ "   c" ∷ "" ∷ "d" ∷ [])) ≡ Some (record { marker = 3; end = 5; indent = 3 }) }
     ensures not_indented { attribution_at 2 (block ("—a" ∷ "b" ∷ [])) ≡ Some (record { marker = 1; end = 4; indent = 0 }) }
+    ensures second_mark { attribution_at 2 (block ("--- b" ∷ "---- c" ∷ [])) ≡ Some (record { marker = 4; end = 4; indent = 0 }) }
     ensures uneven { attribution_at 2 (block ("-- a" ∷ "   b" ∷ "  c" ∷ [])) ≡ None }
 {}
 
@@ -149,6 +150,8 @@ pub fn explicit_markup()
     ensures anonymous { explicit_of 0 (block (".. __: a" ∷ "b" ∷ [])) ≡ AnonymousTarget (record { from = 0; to = 1; first_cut = 7; rest_cut = 0 }) }
     ensures underscores { explicit_of 3 (block ("__ a" ∷ "  b" ∷ "" ∷ "  c" ∷ []))
         ≡ AnonymousTarget (record { from = 3; to = 5; first_cut = 3; rest_cut = 0 }) }
+    ensures underscores_alone { explicit_of 0 (block ("__" ∷ "  x" ∷ []))
+        ≡ AnonymousTarget (record { from = 0; to = 2; first_cut = 2; rest_cut = 0 }) }
     ensures substitution { explicit_of 0 (block (".. |a| image:: b" ∷ "" ∷ "  c" ∷ "d" ∷ []))
         ≡ Substitution (record { from = 4; to = 5 }) (Some (record {
           name = record { from = 7; to = 12 };

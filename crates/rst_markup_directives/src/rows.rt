@@ -90,6 +90,7 @@ pub fn targets()
     ensures escaped_underscore { target_value (codes "a\\_") ≡ Some (located (codes "a_")) }
     ensures two_underscores { target_value (codes "a__") ≡ Some (located (codes "a__")) }
     ensures two_words { target_value (codes "a b_") ≡ Some (located (codes "ab_")) }
+    ensures two_lines { target_value (codes "u\nv_") ≡ Some (located (codes "uv_")) }
     ensures two_phrases { target_value (codes "`a` `b`_") ≡ Some (located (codes "`a``b`_")) }
     ensures phrase_with_a_space { target_value (codes "`a `_") ≡ Some (located (codes "`a`_")) }
     ensures escaped_end { target_value (codes "`a\\`_") ≡ Some (located (codes "`a`_")) }
@@ -144,6 +145,30 @@ pub fn blocks()
             second = record { from = 9; to = 10; first_cut = 3; rest_cut = 3 };
           };
         }) }
+    ensures field_in_a_replacement { read_block Replace false (record { from = 0; to = 1; first_cut = 13; rest_cut = 0 }) (block (":class: a" ∷ []))
+        ≡ Ok (record {
+          name = Replace;
+          argument = nothing;
+          options = [];
+          content = record {
+            first = record { from = 0; to = 1; first_cut = 13; rest_cut = 0 };
+            second = record { from = 1; to = 1; first_cut = 0; rest_cut = 0 };
+          };
+        }) }
+    ensures late_code { read_block Code true (record { from = 2; to = 3; first_cut = 3; rest_cut = 3 }) (block (":class: c" ∷ []))
+        ≡ Ok (record {
+          name = Code;
+          argument = nothing;
+          options = [];
+          content = record {
+            first = record { from = 2; to = 2; first_cut = 3; rest_cut = 3 };
+            second = record { from = 2; to = 3; first_cut = 3; rest_cut = 3 };
+          };
+        }) }
+{}
+
+/// The arguments of directives (Markup Specification, 'Directives').
+pub fn arguments()
     ensures with_title { read_block Topic false (record { from = 0; to = 5; first_cut = 10; rest_cut = 3 }) (block ("A" ∷ "B" ∷ ":name: C d" ∷ ""
         ∷ "e" ∷ []))
         ≡ Ok (record {
@@ -167,14 +192,14 @@ pub fn blocks()
             second = record { from = 3; to = 3; first_cut = 3; rest_cut = 3 };
           };
         }) }
-    ensures field_in_a_replacement { read_block Replace false (record { from = 0; to = 1; first_cut = 13; rest_cut = 0 }) (block (":class: a" ∷ []))
+    ensures backslash_in_a_uri { read_block Image false (record { from = 0; to = 2; first_cut = 10; rest_cut = 3 }) (block ("a b" ∷ "c\\ d" ∷ []))
         ≡ Ok (record {
-          name = Replace;
-          argument = nothing;
+          name = Image;
+          argument = uri (codes "abc\\d");
           options = [];
           content = record {
-            first = record { from = 0; to = 1; first_cut = 13; rest_cut = 0 };
-            second = record { from = 1; to = 1; first_cut = 0; rest_cut = 0 };
+            first = record { from = 0; to = 0; first_cut = 10; rest_cut = 3 };
+            second = record { from = 2; to = 2; first_cut = 3; rest_cut = 3 };
           };
         }) }
     ensures with_language { read_block Code false (record { from = 0; to = 3; first_cut = 9; rest_cut = 3 }) (block ("C++" ∷ "" ∷ ":a: b" ∷ []))
@@ -184,16 +209,6 @@ pub fn blocks()
           options = [];
           content = record {
             first = record { from = 0; to = 0; first_cut = 9; rest_cut = 3 };
-            second = record { from = 2; to = 3; first_cut = 3; rest_cut = 3 };
-          };
-        }) }
-    ensures late_code { read_block Code true (record { from = 2; to = 3; first_cut = 3; rest_cut = 3 }) (block (":class: c" ∷ []))
-        ≡ Ok (record {
-          name = Code;
-          argument = nothing;
-          options = [];
-          content = record {
-            first = record { from = 2; to = 2; first_cut = 3; rest_cut = 3 };
             second = record { from = 2; to = 3; first_cut = 3; rest_cut = 3 };
           };
         }) }
@@ -212,6 +227,8 @@ pub fn wrong_blocks()
     ensures invalid_value { read_block Image false (record { from = 0; to = 2; first_cut = 0; rest_cut = 0 }) (block (":alt: a" ∷ ":scale: x" ∷ []))
         ≡ Err (invalid (codes "scale")) }
     ensures missing_argument { read_block Image false (record { from = 0; to = 1; first_cut = 0; rest_cut = 0 }) (block (":alt: a" ∷ []))
+        ≡ Err no_argument }
+    ensures option_for_an_argument { read_block Admonition true (record { from = 2; to = 3; first_cut = 3; rest_cut = 3 }) (block (":class: x" ∷ []))
         ≡ Err no_argument }
     ensures text_among_options { read_block Note false (record { from = 0; to = 2; first_cut = 0; rest_cut = 0 }) (block (":class: a" ∷ "b" ∷ []))
         ≡ Err option_block }

@@ -103,6 +103,7 @@ pub fn next_items()
     ensures number { option_map (λ e. filter (λ t. begins_next e (codes t)) ("1. b" ∷ "2. b" ∷ "02. b" ∷ "3. b" ∷ "2." ∷ "2) b" ∷ "(2) b" ∷ "ii. b"
         ∷ "b. b" ∷ "#. b" ∷ [])) (enumerator_of (codes "1. a"))
         ≡ Some ("2. b" ∷ "02. b" ∷ "#. b" ∷ []) }
+    ensures ten_digits { option_map (λ e. begins_next e (codes "1000000000. b")) (enumerator_of (codes "999999999. a")) ≡ Some false }
     ensures both_readings { option_map (λ e. filter (λ t. begins_next e (codes t)) ("i) b" ∷ "ii) b" ∷ "iii) b" ∷ "j) b" ∷ "k) b" ∷ "II) b" ∷ "J) b"
         ∷ "2) b" ∷ [])) (enumerator_of (codes "i) a"))
         ≡ Some ("ii) b" ∷ "j) b" ∷ []) }
@@ -147,12 +148,13 @@ pub fn options()
     ensures argument_alone { option_marker (codes "-a b") ≡ Some (record { cut = 4; bare = true }) }
     ensures digit { option_marker (codes "-1   d") ≡ Some (record { cut = 5; bare = false }) }
     ensures names { filter (λ t. is_some (option_marker (codes t))) ("--a_b-c  d" ∷ "--1  d" ∷ "/a-b  d" ∷ "--größe=Ä_1  d" ∷ "---a  d" ∷ "--_a  d"
-        ∷ "--ä  d" ∷ "-ä  d" ∷ "--  d" ∷ "-  d" ∷ "/  d" ∷ "++a  d" ∷ [])
+        ∷ "--ä  d" ∷ "-ä  d" ∷ "-<a>  x" ∷ "--  d" ∷ "-  d" ∷ "/  d" ∷ "++a  d" ∷ [])
         ≡ "--a_b-c  d" ∷ "--1  d" ∷ "/a-b  d" ∷ "--größe=Ä_1  d" ∷ [] }
     ensures arguments { filter (λ t. is_some (option_marker (codes t))) ("-a <b  c>  d" ∷ "--a <>  d" ∷ "-a <b  d" ∷ "-a <b<c>  d" ∷ "-a 1  d"
         ∷ "-a=B  d" ∷ "--a= b  d" ∷ "--a=_b  d" ∷ [])
         ≡ "-a <b  c>  d" ∷ [] }
-    ensures tails { filter (λ t. is_some (option_marker (codes t))) ("-a, -b" ∷ "-a,-b" ∷ "-a,  -b" ∷ "-a, b" ∷ "-a," ∷ "-a B c" ∷ "-a; -b" ∷ [])
+    ensures tails { filter (λ t. is_some (option_marker (codes t))) ("-a, -b" ∷ "-a <n> , -b" ∷ "-a,-b" ∷ "-a,  -b" ∷ "-a, b" ∷ "-a," ∷ "-a B c"
+        ∷ "-a; -b" ∷ [])
         ≡ "-a, -b" ∷ [] }
 {}
 
@@ -204,7 +206,7 @@ pub fn labels()
     ensures citations { map (λ t. option_map (λ l. l.kind) (label_of (codes t))) ("[a.b] c" ∷ "[1a] c" ∷ "[३] c" ∷ [])
         ≡ Some Citation ∷ Some Citation ∷ Some Citation ∷ [] }
     ensures comments { filter (λ t. is_some (label_of (codes t))) ("[a b] c" ∷ "[] c" ∷ "[**] c" ∷ "[*a] c" ∷ "[##] c" ∷ "[#a b] c" ∷ "[-a] c"
-        ∷ "[a--b] c" ∷ "[1]c" ∷ "[1 a" ∷ "1] a" ∷ [])
+        ∷ "[a--b] c" ∷ "[1.] x" ∷ "[1]c" ∷ "[1 a" ∷ "1] a" ∷ [])
         ≡ [] }
 {}
 
@@ -218,9 +220,10 @@ pub fn targets()
     ensures quoted { target_of (codes "_`a: b`: u") ≡ Some (Named 2 4 (record { cut = 9; bare = false })) }
     ensures quoted_underscore { target_of (codes "_`_a`: u") ≡ Some (Named 2 2 (record { cut = 7; bare = false })) }
     ensures quoted_backquote { target_of (codes "_`a`:b`: u") ≡ Some (Named 2 4 (record { cut = 9; bare = false })) }
+    ensures backquote_inside { target_of (codes "_a`: b") ≡ Some (Named 1 2 (record { cut = 5; bare = false })) }
     ensures anonymous { target_of (codes "__: u") ≡ Some (Anonymous (record { cut = 4; bare = false })) }
     ensures malformed { filter (λ t. is_some (target_of (codes t))) ("_: u" ∷ "_ a: u" ∷ "_a" ∷ "_a:b" ∷ "__a: u" ∷ "__:a" ∷ "_`a: u" ∷ "_`a`"
-        ∷ "_``: u" ∷ "_```: u" ∷ "_` a`: u" ∷ "a: u" ∷ [])
+        ∷ "_`a`b: c" ∷ "_``: u" ∷ "_```: u" ∷ "_` a`: u" ∷ "a: u" ∷ [])
         ≡ [] }
 {}
 

@@ -20,6 +20,8 @@ pub fn grid_cells()
     ensures least_indentation { MakesGrid ("+------+" ∷ "|   a  |" ∷ "|      |" ∷ "|  b   |" ∷ "+------+" ∷ []) (6 ∷ []) 0
         ((plain 2 (" a" ∷ "" ∷ "b" ∷ []) ∷ []) ∷ []) 5 }
     ensures bar_in_a_text { MakesGrid ("+---+" ∷ "|a|b|" ∷ "+---+" ∷ []) (3 ∷ []) 0 ((plain 2 ("a|b" ∷ []) ∷ []) ∷ []) 3 }
+    ensures table_in_a_cell { MakesGrid ("+-------+" ∷ "| +---+ |" ∷ "| | x | |" ∷ "| +---+ |" ∷ "+-------+" ∷ []) (7 ∷ []) 0
+        ((plain 2 ("+---+" ∷ "| x |" ∷ "+---+" ∷ []) ∷ []) ∷ []) 5 }
     ensures place { grid_table (block ("x" ∷ "" ∷ "+---+" ∷ "| a |" ∷ "+---+" ∷ [])) 2 ≡ Table (3 ∷ []) 0 ((plain 4 ("a" ∷ []) ∷ []) ∷ []) 5 }
 {}
 
@@ -52,6 +54,11 @@ pub fn grid_spans()
         ((cell 1 0 2 ("" ∷ "" ∷ "" ∷ []) ∷ []) ∷ [] ∷ []) 5 }
     ensures bound_in_the_right_side { MakesGrid ("+---+" ∷ "|   |" ∷ "|   +" ∷ "| a |" ∷ "+---+" ∷ []) (3 ∷ []) 0
         ((cell 1 0 2 ("" ∷ "" ∷ "a" ∷ []) ∷ []) ∷ [] ∷ []) 5 }
+    ensures gap_in_a_border { MakesGrid ("+---+---+" ∷ "| a   b |" ∷ "+-- +---+" ∷ "| a | b |" ∷ "+---+---+" ∷ []) (3 ∷ 3 ∷ []) 0
+        ((cell 1 1 2 (" a   b" ∷ "-- +---" ∷ " a | b" ∷ []) ∷ []) ∷ [] ∷ []) 5 }
+    ensures bound_below_a_span { MakesGrid ("+---+---+" ∷ "| a | b |" ∷ "+===+===+" ∷ "| c   d |" ∷ "+-------+" ∷ "| e | f |" ∷ "+---+---+"
+        ∷ []) (3 ∷ 3 ∷ []) 1
+        ((plain 2 ("a" ∷ []) ∷ plain 2 ("b" ∷ []) ∷ []) ∷ (cell 0 1 4 ("c   d" ∷ []) ∷ []) ∷ (cell 0 1 6 ("e | f" ∷ []) ∷ []) ∷ []) 7 }
 {}
 
 /// Where grid tables end (Markup Specification, 'Grid Tables').
@@ -65,11 +72,14 @@ pub fn grid_ends()
 /// What can be wrong with grid tables (Markup Specification, 'Grid Tables').
 pub fn grid_faults()
     ensures no_bottom_border { BreaksGrid ("+---+" ∷ "| a |" ∷ "+--" ∷ []) BottomBorderMissing 3 }
+    ensures longer_bottom_border { BreaksGrid ("+---+" ∷ "| a |" ∷ "+---++" ∷ []) BottomBorderMissing 3 }
     ensures border_in_the_second_line { BreaksGrid ("+---+" ∷ "+---+" ∷ []) BottomBorderMissing 2 }
     ensures longer_line { BreaksGrid ("+---+" ∷ "| a  |" ∷ "+---+" ∷ []) RightEdgeBroken 3 }
+    ensures wide_space { BreaksGrid ("+---+" ∷ "| \u{3000}a |" ∷ "+---+" ∷ []) RightEdgeBroken 3 }
     ensures open_line { BreaksGrid ("+---+" ∷ "| a x" ∷ "+---+" ∷ []) RightEdgeBroken 3 }
     ensures two_head_rules { BreaksGrid ("+---+" ∷ "| a |" ∷ "+===+" ∷ "| b |" ∷ "+===+" ∷ "| c |" ∷ "+---+" ∷ []) (TwoHeadRules 3 5) 7 }
     ensures no_tiling { BreaksGrid ("+---+---+" ∷ "| a | b |" ∷ "+---+   |" ∷ "| c   d |" ∷ "+---+---+" ∷ []) ParseIncomplete 5 }
+    ensures bent_cells { BreaksGrid ("+-+-+-+" ∷ "| |   |" ∷ "+-+-+ |" ∷ "| | | |" ∷ "| +-+-+" ∷ "|   | |" ∷ "+---+-+" ∷ []) ParseIncomplete 7 }
 {}
 
 /// The rows of simple tables (Markup Specification, 'Simple Tables').
@@ -82,8 +92,14 @@ pub fn simple_rows()
         ((plain 2 ("a" ∷ "" ∷ "" ∷ []) ∷ plain 2 ("b" ∷ "" ∷ "c" ∷ []) ∷ []) ∷ []) 5 }
     ensures first_column_blank { MakesSimple ("== ==" ∷ "" ∷ "   b" ∷ "== ==" ∷ []) (2 ∷ 2 ∷ []) 0
         ((plain 3 ("" ∷ []) ∷ plain 3 ("b" ∷ []) ∷ []) ∷ []) 4 }
+    ensures blank_lines_around { MakesSimple ("== ==" ∷ "" ∷ "a  b" ∷ "" ∷ "c  d" ∷ "" ∷ "== ==" ∷ []) (2 ∷ 2 ∷ []) 0
+        ((plain 3 ("a" ∷ "" ∷ []) ∷ plain 3 ("b" ∷ "" ∷ []) ∷ []) ∷ (plain 5 ("c" ∷ "" ∷ []) ∷ plain 5 ("d" ∷ "" ∷ []) ∷ []) ∷ []) 7 }
     ensures short_line { MakesSimple ("== ==" ∷ "a" ∷ "== ==" ∷ []) (2 ∷ 2 ∷ []) 0 ((plain 2 ("a" ∷ []) ∷ plain 2 ("" ∷ []) ∷ []) ∷ []) 3 }
     ensures long_line { MakesSimple ("== ==" ∷ "a  bcdef" ∷ "== ==" ∷ []) (2 ∷ 5 ∷ []) 0 ((plain 2 ("a" ∷ []) ∷ plain 2 ("bcdef" ∷ []) ∷ []) ∷ []) 3 }
+    ensures wide_character_past_the_border { MakesSimple ("== ==" ∷ "a  long 中 text" ∷ "== ==" ∷ []) (2 ∷ 12 ∷ []) 0
+        ((plain 2 ("a" ∷ []) ∷ plain 2 ("long 中 text" ∷ []) ∷ []) ∷ []) 3 }
+    ensures spaces_past_the_border { MakesSimple ("== == ==" ∷ "a        c" ∷ "== == ==" ∷ []) (2 ∷ 2 ∷ 4 ∷ []) 0
+        ((plain 2 ("a" ∷ []) ∷ plain 2 ("" ∷ []) ∷ plain 2 ("c" ∷ []) ∷ []) ∷ []) 3 }
     ensures wide_character { MakesSimple ("== ==" ∷ "日 b" ∷ "== ==" ∷ []) (2 ∷ 2 ∷ []) 0 ((plain 2 ("日" ∷ []) ∷ plain 2 ("b" ∷ []) ∷ []) ∷ []) 3 }
     ensures wide_space { MakesSimple ("== ==" ∷ "a  b" ∷ "\u{3000} c" ∷ "== ==" ∷ []) (2 ∷ 2 ∷ []) 0
         ((plain 2 ("a" ∷ []) ∷ plain 2 ("b" ∷ []) ∷ []) ∷ (plain 3 ("" ∷ []) ∷ plain 3 ("c" ∷ []) ∷ []) ∷ []) 4 }
@@ -95,12 +111,15 @@ pub fn simple_rows()
 pub fn simple_heads()
     ensures one { MakesSimple ("== ==" ∷ "a  b" ∷ "== ==" ∷ "c  d" ∷ "== ==" ∷ []) (2 ∷ 2 ∷ []) 1
         ((plain 2 ("a" ∷ []) ∷ plain 2 ("b" ∷ []) ∷ []) ∷ (plain 4 ("c" ∷ []) ∷ plain 4 ("d" ∷ []) ∷ []) ∷ []) 5 }
+    ensures joined_columns { MakesSimple ("== ==" ∷ "a  b" ∷ "=====" ∷ "c  d" ∷ "== ==" ∷ []) (2 ∷ 2 ∷ []) 1
+        ((cell 0 1 2 ("a  b" ∷ []) ∷ []) ∷ (plain 4 ("c" ∷ []) ∷ plain 4 ("d" ∷ []) ∷ []) ∷ []) 5 }
     ensures blank_line_after_the_border { MakesSimple ("== ==" ∷ "a  b" ∷ "== ==" ∷ "" ∷ "== ==" ∷ []) (2 ∷ 2 ∷ []) 0
         ((plain 2 ("a" ∷ []) ∷ plain 2 ("b" ∷ []) ∷ []) ∷ []) 3 }
     ensures without_rows { MakesSimple ("== ==" ∷ "== ==" ∷ "a  b" ∷ "== ==" ∷ []) (2 ∷ 2 ∷ []) 0
         ((plain 3 ("a" ∷ []) ∷ plain 3 ("b" ∷ []) ∷ []) ∷ []) 4 }
     ensures without_a_body { MakesSimple ("== ==" ∷ "a  b" ∷ "== ==" ∷ "== ==" ∷ []) (2 ∷ 2 ∷ []) 1
         ((plain 2 ("a" ∷ []) ∷ plain 2 ("b" ∷ []) ∷ []) ∷ []) 4 }
+    ensures borders_alone { MakesSimple ("== ==" ∷ "== ==" ∷ "== ==" ∷ []) (2 ∷ 2 ∷ []) 0 [] 3 }
 {}
 
 /// Cells of several columns in simple tables (Markup Specification, 'Simple Tables').
@@ -109,6 +128,12 @@ pub fn simple_spans()
         ((plain 2 ("a" ∷ []) ∷ cell 0 1 2 ("b  c" ∷ []) ∷ []) ∷ (plain 4 ("d" ∷ []) ∷ plain 4 ("e" ∷ []) ∷ plain 4 ("" ∷ []) ∷ []) ∷ []) 5 }
     ensures row_before_another { MakesSimple ("== ==" ∷ "a  b" ∷ "c d" ∷ "-----" ∷ "== ==" ∷ []) (2 ∷ 2 ∷ []) 0
         ((plain 2 ("a" ∷ []) ∷ plain 2 ("b" ∷ []) ∷ []) ∷ (cell 0 1 3 ("c d" ∷ []) ∷ []) ∷ []) 5 }
+    ensures rule_first { MakesSimple ("== ==" ∷ "-- --" ∷ "a  b" ∷ "== ==" ∷ []) (2 ∷ 2 ∷ []) 0
+        ((plain 3 ("a" ∷ []) ∷ plain 3 ("b" ∷ []) ∷ []) ∷ []) 4 }
+    ensures rules_that_join_nothing { MakesSimple ("== ==" ∷ "a  b" ∷ "-- --" ∷ "c  d" ∷ "-- --" ∷ "== ==" ∷ []) (2 ∷ 2 ∷ []) 0
+        ((plain 2 ("a" ∷ []) ∷ plain 2 ("b" ∷ []) ∷ []) ∷ (plain 4 ("c" ∷ []) ∷ plain 4 ("d" ∷ []) ∷ []) ∷ []) 6 }
+    ensures two_of_three_columns { MakesSimple ("== == ==" ∷ "a  b  c" ∷ "----- --" ∷ "== == ==" ∷ []) (2 ∷ 2 ∷ 2 ∷ []) 0
+        ((cell 0 1 2 ("a  b" ∷ []) ∷ plain 2 ("c" ∷ []) ∷ []) ∷ []) 4 }
     ensures widest_line { MakesSimple ("== ==" ∷ "a bbbbbbbb" ∷ "-----" ∷ "c  d" ∷ "== ==" ∷ []) (2 ∷ 7 ∷ []) 0
         ((cell 0 1 2 ("a bbbbbbbb" ∷ []) ∷ []) ∷ (plain 4 ("c" ∷ []) ∷ plain 4 ("d" ∷ []) ∷ []) ∷ []) 5 }
 {}
@@ -119,6 +144,8 @@ pub fn simple_faults()
     ensures margin_in_the_second_line { BreaksSimple ("== ==" ∷ "a  b" ∷ "  c" ∷ "== ==" ∷ []) (Margin 3) 4 }
     ensures wide_character_in_the_margin { BreaksSimple ("== ==" ∷ "a中 b" ∷ "== ==" ∷ []) (Margin 2) 3 }
     ensures column_left_out { BreaksSimple ("== == ==" ∷ "a     c" ∷ "--    --" ∷ "== == ==" ∷ []) (ColumnSpan 3) 4 }
+    ensures rule_to_the_middle_of_a_column { BreaksSimple ("==  ==" ∷ "a   b" ∷ "-----" ∷ "==  ==" ∷ []) (ColumnSpan 3) 4 }
+    ensures rule_from_a_margin { BreaksSimple ("==  ==" ∷ "a x b" ∷ "-- ---" ∷ "==  ==" ∷ []) (ColumnSpan 3) 4 }
     ensures one_dash { BreaksSimple ("== ==" ∷ "a  b" ∷ "-" ∷ "== ==" ∷ []) (ColumnSpan 3) 4 }
     ensures rules_before_margins { BreaksSimple ("== ==" ∷ "abc d" ∷ "a  b" ∷ "-- -" ∷ "== ==" ∷ []) (ColumnSpan 4) 5 }
     ensures longer_border { BreaksSimple ("== ==" ∷ "a  b" ∷ "== ===" ∷ []) BorderMismatch 3 }

@@ -2,7 +2,7 @@
 //! text that is written out.
 #![tactic(auto, unfolding(crate::proofs::Computing::rst_text))]
 
-ghost use Rattle.std.specs.Prelude.{◌≡◌, true, false, Some, None, codes, map, [], ◌∷◌};
+ghost use Rattle.std.specs.Prelude.{◌≡◌, ◌++◌, true, false, Some, None, codes, filter, map, [], ◌∷◌};
 ghost use Rattle.rst_text.specs.Characters.{columns, is_alphanumeric, is_letter, is_white};
 ghost use Rattle.rst_text.specs.Lines.{expanded, lines_of, first_longer};
 ghost use Rattle.rst_text.specs.Names.{id_of, name_of};
@@ -23,6 +23,11 @@ pub fn lines()
 pub fn names()
     ensures white { name_of (codes " A\t Bc ") ≡ codes "a bc" }
     ensures folded { name_of (codes "ÄRGER") ≡ codes "ärger" }
+    ensures spaces_past_ascii { name_of (codes "\u{3000}A\u{a0}\u{2003}\tb\u{85}c\u{2028}") ≡ codes "a b c" }
+    ensures not_white { name_of (codes "a\u{200b}b\u{1f}c\u{1c}d\u{feff}e\0") ≡ codes "a\u{200b}b\u{1f}c\u{1c}d\u{feff}e\0" }
+    ensures each_to_one { name_of (codes
+        "ẞİıKÅΣςǄǅﬁⅧⒶꭰᎠͅµ𐐀ſÉ")
+        ≡ codes "ßİıkåσσǆǆﬁⅷⓐᎠᎠιμ𐐨sé" }
 {}
 
 /// Ids that names give (Directives, 'Identifier Normalization').
@@ -30,15 +35,33 @@ pub fn ids()
     ensures joined { id_of (codes "1. Änd & so") ≡ codes "and-so" }
     ensures nothing { id_of (codes "日本 42") ≡ [] }
     ensures hyphens { id_of (codes "-- A_b--C 9 --") ≡ codes "a-b-c-9" }
+    ensures taken_apart { id_of (codes "ﬁne x²") ≡ codes "fine-x2" }
+    ensures not_taken_apart { id_of (codes "ß") ≡ [] }
 {}
 
-/// What letters and white characters are, and how many columns a text takes (Markup Specification, 'Whitespace').
+/// What letters and white characters are (Markup Specification, 'Whitespace').
 pub fn characters()
-    ensures wide { columns (codes "日本a") ≡ 5 }
-    ensures combining { columns (codes "é") ≡ 1 }
     ensures no_break_space { is_white 160 ≡ true }
     ensures zero_width_space { is_white 8203 ≡ false }
+    ensures other_spaces { filter is_white (32 ∷ 133 ∷ 160 ∷ 8232 ∷ 12288 ∷ 28 ∷ 31 ∷ 8203 ∷ []) ≡ 32 ∷ 133 ∷ 160 ∷ 8232 ∷ 12288 ∷ [] }
     ensures letter { is_letter 228 ≡ true }
     ensures digit { is_letter 49 ≡ false }
     ensures alphanumeric { is_alphanumeric 49 ≡ true }
+    ensures letters { filter is_letter (codes "aZéª中ʰǅ5_- \u{660}½Ⅷ²〇ⓐ😀" ++ 769 ∷ []) ≡ codes "aZéª中ʰǅ" }
+    ensures letters_and_numbers { filter is_alphanumeric (codes "aZéª中ʰǅ5\u{660}½Ⅷ²〇_- ⓐ😀" ++ 769 ∷ 8203 ∷ []) ≡ codes "aZéª中ʰǅ5\u{660}½Ⅷ²〇" }
+{}
+
+/// How many columns a text takes (Markup Specification, 'Sections').
+pub fn widths()
+    ensures wide { columns (codes "日本a") ≡ 5 }
+    ensures combining { columns (codes "é") ≡ 1 }
+    ensures alone { map (λ t. columns (codes t)) ("ｱ" ∷ "Ａ" ∷ "́" ∷ "\u{ad}" ∷ "\u{1f}" ∷ "៘" ∷ [])
+        ≡ 1 ∷ 2 ∷ 0 ∷ 0 ∷ 1 ∷ 3 ∷ [] }
+    ensures emoji { map (λ t. columns (codes t)) ("😀" ∷ "👍🏽" ∷ "👨\u{200d}👩\u{200d}👧" ∷ [])
+        ≡ 2 ∷ 2 ∷ 2 ∷ [] }
+    ensures presentation { map (λ t. columns (codes t)) ("❤" ∷ "❤\u{fe0f}" ∷ "1\u{fe0f}⃣" ∷ "⚠\u{fe0e}" ∷ [])
+        ≡ 1 ∷ 2 ∷ 2 ∷ 1 ∷ [] }
+    ensures flags { map (λ t. columns (codes t)) ("🇩" ∷ "🇩🇪" ∷ "🇩🇪🇫" ∷ []) ≡ 1 ∷ 2 ∷ 3 ∷ [] }
+    ensures joined { map (λ t. columns (codes t)) ("\u{644}\u{627}" ∷ "한" ∷ "ꓐꓹ" ∷ "a\u{200b}b" ∷ [])
+        ≡ 1 ∷ 2 ∷ 2 ∷ 2 ∷ [] }
 {}

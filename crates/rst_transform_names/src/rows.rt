@@ -216,14 +216,6 @@ pub fn written()
 /// What registration leaves of whole documents: ids, names, messages on equal names, and problematics with their messages (Document Tree,
 /// 'Attribute Reference').
 pub fn registered()
-    ensures ids_of_kinds { PrintsRegistered 0 (element Target [] [] ∷ element Target [] [] ∷ element Footnote [] [] ∷ [])
-        ("<document>" ∷ "    <target ids=\"target-1\">" ∷ "    <target ids=\"target-2\">" ∷ "    <footnote ids=\"footnote-1\">" ∷ []) }
-    ensures id_of_a_name { PrintsRegistered 0 (element Section (says OwnName "a b" ∷ []) (element Title [] [] ∷ paragraph "c" ∷ []) ∷ [])
-        ("<document>" ∷ "    <section ids=\"a-b\" names=\"a\\ b\">" ∷ "        <title>" ∷ "        <paragraph>" ∷ "            c" ∷ []) }
-    ensures id_that_is_taken { PrintsRegistered 0 (element Target (says OwnName "a b" ∷ []) [] ∷ element Target (says OwnName "a-b" ∷ []) [] ∷ [])
-        ("<document>" ∷ "    <target ids=\"a-b\" names=\"a\\ b\">" ∷ "    <target ids=\"a-b-1\" names=\"a-b\">" ∷ []) }
-    ensures number_that_is_taken { PrintsRegistered 0 (element Target (says OwnName "target-1" ∷ []) [] ∷ element Target [] [] ∷ [])
-        ("<document>" ∷ "    <target ids=\"target-1\" names=\"target-1\">" ∷ "    <target ids=\"target-2\">" ∷ []) }
     ensures two_sections { PrintsRegistered 0 (element Section (says OwnName "a" ∷ []) [] ∷ element Section (says OwnName "a" ∷ []) (element Title [] []
         ∷ paragraph "b" ∷ []) ∷ [])
         ("<document>" ∷ "    <section dupnames=\"a\" ids=\"a\">" ∷ "    <section dupnames=\"a\" ids=\"a-1\">" ∷ "        <title>"
@@ -266,6 +258,22 @@ pub fn registered()
     ensures holder_that_lost { (registration 0 (document (element Section (says OwnName "a" ∷ []) [] ∷ element Section (says OwnName "a" ∷ []) []
         ∷ []))).names (codes "a")
         ≡ Some (record { holder = Nobody; strength = Implicit; id = codes "a"; uri = None }) }
+{}
+
+/// The ids that registration gives (Document Tree, 'Attribute Reference').
+pub fn registered_ids()
+    ensures ids_of_kinds { PrintsRegistered 0 (element Target [] [] ∷ element Target [] [] ∷ element Footnote [] [] ∷ [])
+        ("<document>" ∷ "    <target ids=\"target-1\">" ∷ "    <target ids=\"target-2\">" ∷ "    <footnote ids=\"footnote-1\">" ∷ []) }
+    ensures id_of_a_name { PrintsRegistered 0 (element Section (says OwnName "a b" ∷ []) (element Title [] [] ∷ paragraph "c" ∷ []) ∷ [])
+        ("<document>" ∷ "    <section ids=\"a-b\" names=\"a\\ b\">" ∷ "        <title>" ∷ "        <paragraph>" ∷ "            c" ∷ []) }
+    ensures id_that_is_taken { PrintsRegistered 0 (element Target (says OwnName "a b" ∷ []) [] ∷ element Target (says OwnName "a-b" ∷ []) [] ∷ [])
+        ("<document>" ∷ "    <target ids=\"a-b\" names=\"a\\ b\">" ∷ "    <target ids=\"a-b-1\" names=\"a-b\">" ∷ []) }
+    ensures number_that_is_taken { PrintsRegistered 0 (element Target (says OwnName "target-1" ∷ []) [] ∷ element Target [] [] ∷ [])
+        ("<document>" ∷ "    <target ids=\"target-1\" names=\"target-1\">" ∷ "    <target ids=\"target-2\">" ∷ []) }
+    ensures number_that_a_name_took { PrintsRegistered 0 (element Target (says OwnName "a 1" ∷ []) [] ∷ element Target (says OwnName "a" ∷ []) []
+        ∷ element Target (says OwnName "a+" ∷ []) [] ∷ element Target (says OwnName "a-" ∷ []) [] ∷ [])
+        ("<document>" ∷ "    <target ids=\"a-1\" names=\"a\\ 1\">" ∷ "    <target ids=\"a\" names=\"a\">" ∷ "    <target ids=\"a-2\" names=\"a+\">"
+        ∷ "    <target ids=\"a-3\" names=\"a-\">" ∷ []) }
     ensures taken_ids { (registration 0 (document (element Target [] [] ∷ element Problematic [] [] ∷ []))).ids
         ≡ codes "problematic-1" ∷ codes "target-1" ∷ [] }
     ensures elements_with_numbers { (registration 0 (document (element Target [] [] ∷ element Problematic [] [] ∷ paragraph "b" ∷ []))).serials ≡ 1 }
