@@ -13,7 +13,7 @@ use Rattle.rst_block_state.specs.Joins.{alone_ending}
 use Rattle.rst_block_state.specs.Meanings.{Keeps, comes, deepest, done_of, reads, reads_from, text_items, text_with, within_at}
 use Rattle.rst_block_state.specs.Nodes.{below_last_level, block_items, ending_notes, inner_nodes, nodes_among}
 use Rattle.rst_block_state.specs.Numbered.{Numbered, then_read, ◌>>=◌, just, each}
-use Rattle.rst_block_state.specs.OpenBlocks.{IsMoved, HasMore, IsPlaced}
+use Rattle.rst_block_state.specs.OpenBlocks.{IsMoved, HasMore}
 use Rattle.rst_block_state.specs.Tables.{entry_of, row_of, table_node}
 use Rattle.rst_block_state.specs.Titles.{Item, plain}
 use Rattle.rst_block_state.specs.declared.fault.BlockFault.{BlockFault}
@@ -95,14 +95,14 @@ text_inside depth B n low high =
     ∙ ap (λ depth. (text_with (deepest - d) depth B >>= λ items. just (nodes_among items)) n) e
     ∙ text_as d (deepest - d) B n (omega (arith, high)) refl
 
-entry_reads : (depth : ℕ) (cell : Cell) (B : Block) (level : OpenBlock) (node : Node) (n m : ℕ) → 1 ≤ depth → depth ≤ 251 → B ≡ cell.lines
+entry_reads : (depth : ℕ) (cell : Cell) (B : Block) (level : OpenBlock) (node : Node) (n m : ℕ) → 1 ≤ depth → depth ≤ 251 → level.depth ≡ depth → B ≡ cell.lines
     → just (done_of level) m ≡ text_items depth B n → node ≡ filled (entry_node cell.morerows cell.morecols 0) level.nodes
     → entry_of (within_at (depth - 1)) cell n ≡ Ok (node, m)
-entry_reads depth cell B level node n m low high b h e =
+entry_reads depth cell B level node n m low high d b h e =
     let F : List Node → Node = λ ns. filled (entry_node cell.morerows cell.morecols 0) ns in
     ap (λ X. ((within_at (depth - 1)).inner X >>= λ nodes. just (F nodes)) n) (sym b)
     ∙ ap (then_read (λ nodes. just (F nodes))) (sym (text_inside depth B n low high) ∙ ap (then_read (λ items. just (nodes_among items))) (sym h))
-    ∙ ap (λ (ns : List Node). Ok (F ns, m)) (among_done level)
+    ∙ ap (λ (ns : List Node). Ok (F ns, m)) (among_done level (omega (arith, low, d)))
     ∙ ap (λ made. Ok (made, m)) (sym e)
 
 entry_keeps : {A C : Type 0} (depth : ℕ) (cell : Cell) (B : Block) (n : ℕ) (e : BlockFault) (f : C → Result (List Item × ℕ) ℕ) (g : A → Result (Node × ℕ) ℕ) → 1 ≤ depth → depth ≤ 251 → B ≡ cell.lines
@@ -131,15 +131,15 @@ row_keeps depth cells left rest cell B made n m e f g low high l b inv k =
 -- the rows of a table at the next line of a block that stands in one block less than its cells
 pub table_reads : (old moved mid new : OpenBlock) (B : Block) (depth : ℕ) (found : TableResult) (cols : List ℕ) (head end : ℕ) (rows : List (List Cell)) (made : List Node) (node : Node) (n m : ℕ)
     → found ≡ Table cols head rows end → depth ≡ suc old.depth → each (row_of (within_at (depth - 1))) rows n ≡ Ok (made, m) → node ≡ table_node cols head made (first_number (drop old.at B))
-    → IsMoved old moved → moved.at ≡ end → HasMore moved mid (node ∷ []) → HasMore mid new (ending_notes (alone_ending grid) (drop mid.at B)) → IsPlaced old
+    → IsMoved old moved → moved.at ≡ end → HasMore moved mid (node ∷ []) → HasMore mid new (ending_notes (alone_ending grid) (drop mid.at B))
     → reads new B m ≡ comes old B (Cells found) n
-table_reads old moved mid new B depth found cols head end rows made node n m q d h e mv at some more w =
+table_reads old moved mid new B depth found cols head end rows made node n m q d h e mv at some more =
     let N : List Node = ending_notes (alone_ending grid) (drop end B) in
     let T : List Node → List Node = λ made. table_node cols head made (first_number (drop old.at B)) ∷ [] in
     let c : depth - 1 ≡ old.depth = omega (arith, d) in
     let k : mid.at ≡ end = some.at ∙ at in
     let all : HasMore moved new (node ∷ N) = more_more some (subst (λ i. HasMore mid new (ending_notes (alone_ending grid) (drop i B))) k more) in
-    at_number m (more_is_read B (moved_more mv at all) w)
+    at_number m (more_is_read B (moved_more mv at all))
     ∙ ap (λ node. reads_from old B (node ∷ N) end m) e
     ∙ ap (λ r. then_read (λ ns. reads_from old B (ns ++ N) end) (then_read (λ made. just (T made)) r)) (sym (ap (λ depth. each (row_of (within_at depth)) rows n) (sym c) ∙ h))
     ∙ ap (λ t. comes old B (Cells t) n) (sym q)
@@ -159,8 +159,8 @@ table_keeps old B depth found cols head end rows n NoMemory f g t d k = tt
 
 -- an entry more
 pub entry_next : (depth : ℕ) (cell : Cell) (B : Block) (left rest : List Cell) (level : OpenBlock) (made new : List Node) (node : Node) (n m : ℕ) (all : Result (List Node × ℕ) ℕ)
-    → 1 ≤ depth → depth ≤ 251 → left ≡ cell ∷ rest → B ≡ cell.lines → just (done_of level) m ≡ text_items depth B n
+    → 1 ≤ depth → depth ≤ 251 → level.depth ≡ depth → left ≡ cell ∷ rest → B ≡ cell.lines → just (done_of level) m ≡ text_items depth B n
     → node ≡ filled (entry_node cell.morerows cell.morecols 0) level.nodes → new ≡ made ++ node ∷ []
     → each_after (entry_of (within_at (depth - 1))) made left n ≡ all → each_after (entry_of (within_at (depth - 1))) new rest m ≡ all
-entry_next depth cell B left rest level made new node n m all low high l b k e v inv =
-    each_goes_on (entry_of (within_at (depth - 1))) cell left rest made new node n m all l (sym (entry_reads depth cell B level node n m low high b k e)) v inv
+entry_next depth cell B left rest level made new node n m all low high d l b k e v inv =
+    each_goes_on (entry_of (within_at (depth - 1))) cell left rest made new node n m all l (sym (entry_reads depth cell B level node n m low high d b k e)) v inv

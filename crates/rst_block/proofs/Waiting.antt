@@ -1,21 +1,18 @@
 -- A block inside one that waits has ended: the next part is read for the one that waits, or it goes on with the nodes of the one inside.
-use Rattle.std.proofs.Common.{◌≡◌, ℕ, suc, ◌+◌, ◌-◌, ◌≤◌, List, [], ◌∷◌, ◌++◌, take, drop, map, Option, Some, None, Result, Err, arith, sym, ◌∙◌, ap}
-use Rattle.std.proofs.lemmas.Grind.{flat_map-append}
-use Rattle.std.proofs.lemmas.List.{take-append-drop}
+use Rattle.std.proofs.Common.{◌≡◌, ℕ, suc, ◌<◌, ◌≤◌, List, [], ◌∷◌, ◌++◌, Option, Some, None, Result, Err, arith, sym, ◌∙◌, ap}
 use Rattle.rst_text.specs.Block.{Block}
 use Rattle.rst_text.specs.Shown.{block_of, placement_block}
 use Rattle.rst_text.specs.declared.view.View.{View}
 use Rattle.rst_tree.specs.declared.node.Node.{Node}
 use Rattle.rst_markup_blocks.specs.declared.part.Part.{Part}
-use Rattle.rst_block_sections.specs.declared.heading.Heading.{Heading}
-use Rattle.rst_block_sections.specs.Sections.{items_from, title_of}
+use Rattle.rst_block_sections.specs.Sections.{items_of}
 use Rattle.rst_block_state.specs.Frames.{ended_as}
 use Rattle.rst_block_state.specs.Meanings.{IsNew, Keeps, after, comes, deepest, done_of, open_of, plug, reads, reads_from, resumed, with_item, within_at}
-use Rattle.rst_block_state.specs.Nodes.{block_items, node_if, nodes_among}
+use Rattle.rst_block_state.specs.Nodes.{block_items, nodes_among}
 use Rattle.rst_block_state.specs.Numbered.{Numbered, ◌>>=◌, just}
-use Rattle.rst_block_state.specs.OpenBlocks.{HasMore, HasItem, IsPlaced}
+use Rattle.rst_block_state.specs.OpenBlocks.{HasMore, HasItem}
 use Rattle.rst_block_state.specs.Texts.{lines_in}
-use Rattle.rst_block_state.specs.Titles.{Item, plain, titled}
+use Rattle.rst_block_state.specs.Titles.{Item}
 use Rattle.rst_block_state.specs.declared.fault.BlockFault.{BlockFault}
 use Rattle.rst_block_state.specs.declared.fault.BlockFault.TheVariants.{TooDeep, NoMemory}
 use Rattle.rst_block_state.specs.declared.frame.Ended.TheVariants.{Waiting, GoesOn}
@@ -31,20 +28,10 @@ use Rattle.rst_block_state.proofs.RestLemmas.{nodes_among_plain}
 
 -- ---- the nodes of the one inside
 
--- the nodes among nodes with titles between them
-among_items : (done : ℕ) (nodes : List Node) (hs : List Heading) → nodes_among (items_from done nodes hs) ≡ nodes
-unfolding items_from
-among_items done nodes [] = nodes_among_plain nodes
-among_items done nodes (h ∷ hs) =
-    let k : ℕ = h.before - done in
-    flat_map-append node_if (map plain (take k nodes)) (titled (title_of h) ∷ items_from (done + k) (drop k nodes) hs)
-    ∙ ap (λ (front : List Node). front ++ nodes_among (items_from (done + k) (drop k nodes) hs)) (nodes_among_plain (take k nodes))
-    ∙ ap (λ (back : List Node). take k nodes ++ back) (among_items (done + k) (drop k nodes) hs)
-    ∙ take-append-drop k nodes
-
--- the nodes of a block that was read
-pub among_done : (l : OpenBlock) → nodes_among (done_of l) ≡ l.nodes
-among_done l = among_items 0 l.nodes l.headings.items
+-- the nodes of a block that was read inside another: it has no titles
+pub among_done : (l : OpenBlock) → 0 < l.depth → nodes_among (done_of l) ≡ l.nodes
+unfolding items_of
+among_done l inner = ap (λ hs. nodes_among (items_of hs l.nodes)) (l.untitled inner) ∙ nodes_among_plain l.nodes
 
 -- what a block gives that waits for these lines
 abbrev pub waiting_for : OpenBlock → Block → Block → Waits → Option Part → List Node → Numbered (List Item)
@@ -53,26 +40,26 @@ waiting_for l B X w second earlier = do
   after l B w second earlier ns
 
 -- the second part is read behind the first one
-pub second_reads : (S : Block) (f : Frame) (old level : OpenBlock) (p : Part) (X : Block) (nodes : List Node) (n : ℕ) → f.second ≡ Some p → level ≡ f.level
+pub second_reads : (S : Block) (f : Frame) (old level : OpenBlock) (p : Part) (X : Block) (nodes : List Node) (n : ℕ) → 0 < old.depth → f.second ≡ Some p → level ≡ f.level
     → X ≡ lines_in (placement_block S f.placement) p → nodes ≡ f.nodes ++ old.nodes
     → waiting_for level (placement_block S f.placement) X f.waits None nodes n
     ≡ after f.level (placement_block S f.placement) f.waits f.second f.nodes (nodes_among (done_of old)) n
-second_reads S f old level p X nodes n e l x m =
+second_reads S f old level p X nodes n inner e l x m =
     let B : Block = placement_block S f.placement in
     ap (λ level. waiting_for level B X f.waits None nodes n) l
     ∙ ap (λ Y. waiting_for f.level B Y f.waits None nodes n) x
-    ∙ ap (λ (earlier : List Node). waiting_for f.level B (lines_in B p) f.waits None earlier n) (m ∙ ap (λ (ns : List Node). f.nodes ++ ns) (sym (among_done old)))
+    ∙ ap (λ (earlier : List Node). waiting_for f.level B (lines_in B p) f.waits None earlier n) (m ∙ ap (λ (ns : List Node). f.nodes ++ ns) (sym (among_done old inner)))
     ∙ ap (λ second. after f.level B f.waits second f.nodes (nodes_among (done_of old)) n) (sym e)
 
 -- the block goes on that waited
-pub last_reads : (S : Block) (f : Frame) (old level : OpenBlock) (X : Block) (nodes : List Node) (n : ℕ) → f.second ≡ None → level ≡ f.level
+pub last_reads : (S : Block) (f : Frame) (old level : OpenBlock) (X : Block) (nodes : List Node) (n : ℕ) → 0 < old.depth → f.second ≡ None → level ≡ f.level
     → X ≡ placement_block S f.placement → nodes ≡ f.nodes ++ old.nodes
     → resumed level X f.waits nodes n ≡ after f.level (placement_block S f.placement) f.waits f.second f.nodes (nodes_among (done_of old)) n
-last_reads S f old level X nodes n e l x m =
+last_reads S f old level X nodes n inner e l x m =
     let B : Block = placement_block S f.placement in
     ap (λ level. resumed level X f.waits nodes n) l
     ∙ ap (λ Y. resumed f.level Y f.waits nodes n) x
-    ∙ ap (λ (ns : List Node). resumed f.level B f.waits ns n) (m ∙ ap (λ (ns : List Node). f.nodes ++ ns) (sym (among_done old)))
+    ∙ ap (λ (ns : List Node). resumed f.level B f.waits ns n) (m ∙ ap (λ (ns : List Node). f.nodes ++ ns) (sym (among_done old inner)))
     ∙ ap (λ second. after f.level B f.waits second f.nodes (nodes_among (done_of old)) n) (sym e)
 
 -- ---- what all blocks give that wait
@@ -146,12 +133,12 @@ plug_over S fs l n all e h =
 -- ---- the nodes that a block gets once one inside it is read
 
 -- more nodes are given next
-pub nodes_given : {old new last : OpenBlock} {more wanted : List Node} (B : Block) (n : ℕ) → HasMore old new more → more ≡ wanted → IsPlaced old → last ≡ new
+pub nodes_given : {old new last : OpenBlock} {more wanted : List Node} (B : Block) (n : ℕ) → HasMore old new more → more ≡ wanted → last ≡ new
     → reads last B n ≡ reads_from old B wanted old.at n
-nodes_given {old} B n h e w is = ap (λ l. reads l B n) is ∙ at_number n (more_is_read B h w) ∙ ap (λ ns. reads_from old B ns old.at n) e
+nodes_given {old} B n h e is = ap (λ l. reads l B n) is ∙ at_number n (more_is_read B h) ∙ ap (λ ns. reads_from old B ns old.at n) e
 
 -- an item is given in its list
-pub item_given : (old new last : OpenBlock) (B : Block) (item wanted : Node) (n : ℕ) → HasItem old new item → item ≡ wanted → IsPlaced old → last ≡ new
+pub item_given : (old new last : OpenBlock) (B : Block) (item wanted : Node) (n : ℕ) → HasItem old new item → item ≡ wanted → last ≡ new
     → reads last B n ≡ with_item old B wanted (open_of old.run) n
-item_given old new last B item wanted n h e w is =
-    ap (λ l. reads l B n) is ∙ at_number n (item_is_read old new B item h w) ∙ ap (λ node. with_item old B node (open_of old.run) n) e
+item_given old new last B item wanted n h e is =
+    ap (λ l. reads l B n) is ∙ at_number n (item_is_read old new B item h) ∙ ap (λ node. with_item old B node (open_of old.run) n) e

@@ -24,6 +24,7 @@ pub(crate) fn closed<'a>(
     requires frame { frames.IsFrame (source_of whole.now) frame }
     requires depth { depth ≡ suc frame.level.depth }
     requires deepest { frame.level.depth < deepest }
+    requires inner { 0 < level.old.depth }
     ensures ended { IfOk result (frames.IsEnded (source_of whole.now) frame level.new.at) }
     ensures kept { IfOk result (frames.KeepsFrame frame depth level.new) }
     ensures read { let S = source_of whole.now in

@@ -72,8 +72,6 @@ pub(crate) fn changes_are_read()
     ensures nodes { meaning.NodesAreRead }
     ensures item { meaning.ItemIsAdded }
     ensures title { meaning.TitleIsLast }
-    ensures nodes_placed { meaning.NodesKeepPlaces }
-    ensures title_placed { meaning.TitlesArePlaced }
 {}
 
 /// The blocks that are opened in a block whose lines don't end in white stand in its lines, one after another, and each begins with

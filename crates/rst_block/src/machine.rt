@@ -7,7 +7,6 @@ ghost use Rattle.rst_markup_blocks.specs.Parts.{IsBlock};
 ghost use Rattle.rst_block_state.specs.Meanings.{Keeps, TellsBlank, comes, deepest, done_of, reads, text_items, within_at};
 ghost use Rattle.rst_block_state.specs.Steps as spec;
 ghost use Rattle.rst_block_state.specs.declared.step.Step.TheVariants.{Next, Open, Cells};
-ghost use Rattle.rst_block_state.specs.OpenBlocks.{IsKept, IsPlaced};
 ghost use Rattle.rst_block_state.specs.Nodes.{block_items};
 ghost use Rattle.rst_block_state.specs.Numbered.{each, just};
 ghost use Rattle.rst_block_state.specs.Tables as tables;
@@ -45,7 +44,7 @@ pub(crate) fn read(
     requires depth { depth ≤ 251 }
     requires room { length frames.old.items ≤ depth }
     ensures frames { IfOk result (λ _. frames.new.items ≡ frames.old.items) }
-    ensures placed { IfOk result IsPlaced }
+    ensures depth { IfOk result (λ level. level.depth ≡ depth) }
     ensures read { Keeps result (λ level. just (done_of level) pass.new.numbers) (text_items depth lines.now pass.old.numbers) }
     ensures paid { IfOk result (λ _. TakesFor (total_at depth lines.now) pass.old.looks pass.new.looks) }
     ensures lines { IfOk result (λ _. IsTrue (are_lines lines.now)) }
@@ -69,7 +68,7 @@ fn read_blocks(
     requires depth { depth ≤ 250 }
     requires room { length frames.old.items ≤ depth }
     ensures frames { IfOk result (λ _. frames.new.items ≡ frames.old.items) }
-    ensures placed { IfOk result IsPlaced }
+    ensures depth { IfOk result (λ level. level.depth ≡ depth) }
     ensures read { Keeps result (λ level. just (done_of level) pass.new.numbers)
         (block_items (within_at depth) (block_of whole.entry) pass.old.numbers) }
     ensures paid { IfOk result (λ _. TakesFor (total_at depth (block_of whole.entry)) pass.old.looks pass.new.looks) }
@@ -117,9 +116,8 @@ fn read_blocks(
 /// What comes in a block behind the constructs that are read at once: one that waits for a block inside, or the block's end.
 #[tactic(auto, using(rst_block_state::proofs::Views::few_lines, crate::proofs::Stack::next_of_step))]
 fn next(view: &View<'_>, level: &mut OpenBlock, pass: &mut Pass) -> Result<Step, BlockFault>
-    requires placed { IsPlaced level.old }
     ensures next { IfOk result (λ s. spec.IsNext (block_of view.now) level.old.at level.new.at s) }
-    ensures kept { IfOk result (λ _. IsKept level.old level.new) }
+    ensures kept { IfOk result (λ _. level.new.depth ≡ level.old.depth) }
     ensures read { Keeps result (λ s. comes level.new (block_of view.now) s pass.new.numbers)
         (reads level.old (block_of view.now) pass.old.numbers) }
     ensures paid { let B = block_of view.now in
@@ -178,10 +176,9 @@ fn flat(
     requires first { IsBlock (block_of view.now) first }
     requires second { spec.IsBlockIf (block_of view.now) second }
     requires waits { spec.IsWaiting (block_of view.now) level.old.at waits }
-    requires placed { IsPlaced level.old }
     requires deepest { level.old.depth ≡ deepest }
     ensures step { IfOk result (λ s. spec.IsResumed (block_of view.now) level.old.at level.new.at s) }
-    ensures kept { IfOk result (λ _. IsKept level.old level.new) }
+    ensures kept { IfOk result (λ _. level.new.depth ≡ level.old.depth) }
     ensures read { Keeps result (λ s. comes level.new (block_of view.now) s pass.new.numbers)
         (comes level.old (block_of view.now) (Open waits first second) pass.old.numbers) }
     ensures paid { let B = block_of view.now in
@@ -209,13 +206,12 @@ fn cells(
     requires inside { level.old.at < length (block_of view.now) }
     requires depth { depth ≤ 251 }
     requires room { length frames.old.items ≤ depth }
-    requires placed { IsPlaced level.old }
     requires level { depth ≡ suc level.old.depth }
     requires table { spec.IsTable level.old.at found }
     ensures frames { IfOk result (λ _. frames.new.items ≡ frames.old.items) }
     ensures next { IfOk result (λ s. s ≡ Next) }
     ensures later { IfOk result (λ _. level.old.at < level.new.at) }
-    ensures kept { IfOk result (λ _. IsKept level.old level.new) }
+    ensures kept { IfOk result (λ _. level.new.depth ≡ level.old.depth) }
     ensures read { Keeps result (λ s. comes level.new (block_of view.now) s pass.new.numbers)
         (comes level.old (block_of view.now) (Cells found) pass.old.numbers) }
     ensures paid { let B = block_of view.now in

@@ -5,7 +5,7 @@ ghost use Rattle.rst_tree.specs.Faults as faults;
 ghost use Rattle.rst_block_nodes.specs.Elements.{element_of};
 ghost use Rattle.rst_block_state.specs.Steps as spec;
 ghost use Rattle.rst_block_state.specs.Meanings.{Keeps, after_quote, comes, quote_by, resumed};
-ghost use Rattle.rst_block_state.specs.OpenBlocks.{Gives, HasMore, IsKept, IsPlaced};
+ghost use Rattle.rst_block_state.specs.OpenBlocks.{Gives, HasMore};
 ghost use Rattle.rst_block_state.specs.Ledger.{Takes, least_after, least_left, most_after, most_left};
 ghost use Rattle.std.specs.declared.alloc.Global.{Global};
 ghost use Rattle.rst_block_nodes.specs.declared.texted.Texted.{Texted};
@@ -31,9 +31,8 @@ pub(crate) fn resume(
     pass: &mut Pass,
 ) -> Result<Step, BlockFault>
     requires waits { spec.IsWaiting (block_of view.now) level.old.at waits }
-    requires placed { IsPlaced level.old }
     ensures step { IfOk result (λ s. spec.IsResumed (block_of view.now) level.old.at level.new.at s) }
-    ensures kept { IfOk result (λ _. IsKept level.old level.new) }
+    ensures kept { IfOk result (λ _. level.new.depth ≡ level.old.depth) }
     ensures read { Keeps result (λ s. comes level.new (block_of view.now) s pass.new.numbers)
         (resumed level.old (block_of view.now) waits nodes pass.old.numbers) }
     ensures paid { let B = block_of view.now in
@@ -130,9 +129,8 @@ fn after_quote(
     pass: &mut Pass,
 ) -> Result<Step, BlockFault>
     requires rest { spec.IsRest (block_of view.now) level.old.at rest }
-    requires placed { IsPlaced level.old }
     ensures step { IfOk result (λ s. spec.IsResumed (block_of view.now) level.old.at level.new.at s) }
-    ensures kept { IfOk result (λ _. IsKept level.old level.new) }
+    ensures kept { IfOk result (λ _. level.new.depth ≡ level.old.depth) }
     ensures read { Keeps result (λ s. comes level.new (block_of view.now) s pass.new.numbers)
         (after_quote level.old (block_of view.now) [] rest end pass.old.numbers) }
     ensures paid { (line : ℕ) (made : Option (Box Texted Global))

@@ -1,6 +1,7 @@
 -- A line of one punctuation character at the next line of a block: its form says the construct.
-use Rattle.std.proofs.Common.{◌≡◌, ℕ, Bool, true, List, Result, codes, drop, Option, Some, unwrap_or, sym, ◌∙◌, ap}
-use Rattle.std.specs.Prelude.{◌==◌}
+use Rattle.std.proofs.Common.{◌≡◌, ℕ, Bool, true, false, cond, List, Result, codes, drop, Option, Some, unwrap_or, refl, sym, ◌∙◌, ap}
+use Rattle.std.proofs.lemmas.Bool.{eqb-true}
+use Rattle.std.specs.Prelude.{◌==◌, ◌&&◌, nat_le}
 use Rattle.std.specs.Option.{option_map_or}
 use Rattle.rst_text.specs.Block.{Block, first_number}
 use Rattle.rst_tree.specs.declared.node.Node.{Node}
@@ -9,10 +10,11 @@ use Rattle.rst_markup_lines.specs.Front.{unindented}
 use Rattle.rst_markup_lines.specs.declared.adornment.Adornment.{Adornment}
 use Rattle.rst_markup_blocks.specs.Begun.{IsBegun}
 use Rattle.rst_markup_blocks.specs.Conditions.{next_text}
-use Rattle.rst_markup_blocks.specs.Forms.{adorned_form}
+use Rattle.rst_markup_blocks.specs.Forms.{adorned_form, adorned_below}
 use Rattle.rst_markup_blocks.specs.Sizes.{adornment_size, adorned_size, fixed_size, text_size, third_text}
 use Rattle.rst_markup_blocks.specs.declared.begun.Begun.TheVariants as begun
 use Rattle.rst_markup_blocks.specs.declared.form.Adorned.{Adorned}
+use Rattle.rst_markup_blocks.specs.declared.form.Adorned.TheVariants.{Title as AdornedTitle, Text, Unexpected, ShortAdornment}
 use Rattle.rst_block_sections.specs.declared.heading.Style.{Style}
 use Rattle.rst_block_state.specs.Constructs.{adorned_by, misplaced_lines}
 use Rattle.rst_block_state.specs.NextLine.{IsNextConstruct, IsMessageOn}
@@ -45,6 +47,20 @@ adorned_next l B {mark} h e =
       construct = next.construct ∙ ap (λ g. adorned_by g (l.depth == 0) mark (drop l.at B)) (sym e);
       size = next.size ∙ size_by l B mark h ∙ ap (λ g. adorned_size g (drop l.at B)) (sym e);
     }
+
+-- titles stand in the document alone
+pub titled_at_top : (l : OpenBlock) (B : Block) (mark : Adornment) {short : Bool} → AdornedTitle short ≡ form_at l B mark → l.depth ≡ 0
+unfolding adorned_form adorned_below
+titled_at_top l B mark {short} e = by (l.depth == 0) refl e
+  where
+    below : (texts long : Bool) → AdornedTitle short ≡ cond texts Text (cond long Unexpected ShortAdornment) → l.depth ≡ 0
+    below true long h = cc
+    below false true h = cc
+    below false false h = cc
+
+    by : (titles : Bool) → (l.depth == 0) ≡ titles → AdornedTitle short ≡ adorned_form titles mark (next_text (drop l.at B)) (third_text (drop l.at B)) → l.depth ≡ 0
+    by true t h = eqb-true l.depth 0 t
+    by false t h = below (mark.character == 58 && mark.len == 2) (nat_le 4 mark.len) h
 
 -- lines of a form that is wrong
 pub wrong_next : (l : OpenBlock) (B : Block) {mark : Adornment} {form : Adorned} (level : Level) (text : List ℕ) {lines : ℕ} → IsBegun (drop l.at B) (begun.Adornment mark) → form ≡ form_at l B mark

@@ -16,7 +16,7 @@ use Rattle.rst_block_body.specs.TextSteps.{text_over}
 use Rattle.rst_block_state.specs.Meanings.{joining_in, open_of, within_at, done_of, reads}
 use Rattle.rst_block_state.specs.NextLine.{IsNextConstruct}
 use Rattle.rst_block_state.specs.Numbered.{Numbered, ◌>>=◌, before}
-use Rattle.rst_block_state.specs.OpenBlocks.{IsMoved, HasRun, IsPlaced, IsKept, HasLine, line_added, lines_end_at}
+use Rattle.rst_block_state.specs.OpenBlocks.{IsMoved, HasRun, HasLine, line_added, lines_end_at}
 use Rattle.rst_block_state.specs.Rest.{OpenRun, no_run, open_list, open_lines, open_markup, joining_with, last_indent, rest, rest_with}
 use Rattle.rst_block_state.specs.RestLaws.{found_as}
 use Rattle.rst_block_state.specs.Texts.{joined}
@@ -26,7 +26,7 @@ use Rattle.rst_block_state.specs.declared.run.ListKind.{ListKind}
 use Rattle.rst_block_state.specs.declared.run.ListKind.TheVariants.{Bullet, Enumerated, Definition, Field, OptionItem}
 use Rattle.rst_block_state.specs.declared.run.Run.{Run}
 use Rattle.rst_block_state.specs.declared.run.Run.TheVariants.{None as NoRun, List as ListRun, Lines, Explicit}
-use Rattle.rst_block_state.proofs.Changes.{done_same, kept_same, reads_is}
+use Rattle.rst_block_state.proofs.Changes.{done_same, reads_is}
 use Rattle.rst_block_state.proofs.NextConstructs.{span_to, next_found, next_reads, run_of, HasEnded, closed_reads, close_refused}
 use Rattle.rst_block_state.proofs.NumberedLemmas.{same_before, at_number}
 use Rattle.rst_block_state.proofs.RestLemmas.{line_joins, line_begins}
@@ -185,7 +185,7 @@ line_begun {old} {mid} {new} {B} {m} {lines} {n} {k} opened bar e h next line en
     ∙ ap (λ l. before (done_of mid) (rest (within_at old.depth) B (old.at + lines) (open_lines (old.at + lines) (l ∷ []))) k) (line 0)
     ∙ sym (
     run_then_line n h next
-    ∙ closed_reads old mid B n k no_run (λ done. before done (after_begin old B m lines)) (after_begin old B m lines) ended.closed ended.placed (λ done j. refl))
+    ∙ closed_reads old mid B n k no_run (λ done. before done (after_begin old B m lines)) (after_begin old B m lines) ended.closed (λ done j. refl))
 
 -- where the open run is nested too deeply, so is all
 pub line_refused : {l : OpenBlock} {B : Block} {m : Marker} {lines line : ℕ} (n : ℕ) → lines_end_at l.at (open_of l.run) ≡ false → IsNextConstruct l B (bar_line m) lines → run_of l B n ≡ Err line → reads l B n ≡ Err line
@@ -193,10 +193,6 @@ unfolding after_begin
 line_refused {l} {B} {m} {lines} {line} n h next e = run_then_line n h next ∙ close_refused l B n line (λ done. before done (after_begin l B m lines)) e
 
 -- ---- what a step keeps
-
--- a line that was put leaves the depth as it is, and titles among the nodes
-pub kept_line : {old new : OpenBlock} {o : OpenRun} → HasLine old new o → IsPlaced old → IsKept old new
-kept_line {old} {new} g w = kept_same old new g.depth g.nodes g.headings w
 
 -- a line that was put, where the block then goes on
 pub line_gone : {old mid new : OpenBlock} {o : OpenRun} → HasLine old mid o → IsMoved mid new → HasLine old new o

@@ -28,7 +28,7 @@ use Rattle.rst_block_state.specs.Lists.{item_by, list_item, item_with, option_gr
 use Rattle.rst_block_state.specs.Meanings.{joining_in, open_of, list_kind_in, within_at, done_of, reads, comes, Keeps}
 use Rattle.rst_block_state.specs.NextLine.{IsText, IsNextConstruct}
 use Rattle.rst_block_state.specs.Numbered.{Numbered, then_read, ◌>>=◌, just, before}
-use Rattle.rst_block_state.specs.OpenBlocks.{joined_at, begun_at, IsMoved, HasRun, IsClosed, Closes, Gives, IsPlaced, IsKept, with_infos}
+use Rattle.rst_block_state.specs.OpenBlocks.{joined_at, begun_at, IsMoved, HasRun, IsClosed, Closes, Gives, with_infos}
 use Rattle.rst_block_state.specs.Rest.{ListSoFar, OpenRun, no_run, open_list, open_lines, open_markup, joining_with, joined_run, begun_run, with_items, rest, rest_with}
 use Rattle.rst_block_state.specs.RestLaws.{found_as}
 use Rattle.rst_block_state.specs.Texts.{termed, texted}
@@ -44,7 +44,7 @@ use Rattle.rst_block_state.specs.declared.run.Run.{Run}
 use Rattle.rst_block_state.specs.declared.run.Run.TheVariants.{None as NoRun, List as ListRun, Lines, Explicit}
 use Rattle.rst_block_state.specs.declared.step.Step.{Step}
 use Rattle.rst_block_state.specs.declared.step.Step.TheVariants.{Open}
-use Rattle.rst_block_state.proofs.Changes.{run_then, closed_then, done_same, done_moved, kept_run, kept_closed}
+use Rattle.rst_block_state.proofs.Changes.{run_then, closed_then, done_same, done_moved}
 use Rattle.rst_block_state.proofs.MeaningLemmas.{item_means}
 use Rattle.rst_block_state.proofs.NextConstructs.{next_of, next_of_form, next_some, span_to, next_reads, run_of, closed_reads, close_refused}
 use Rattle.rst_block_state.proofs.NumberedLemmas.{before_then, same_before}
@@ -309,14 +309,13 @@ item_in_list old mid new B mark j s item stop n m found h run moved at reads sam
 -- an item that begins a list
 item_of_new_list : (old mid new : OpenBlock) (B : Block) (mark : ItemMark) (s : Step) (item : Within → Numbered (List Node)) (stop n k m : ℕ) → IsNextItem old B mark stop
     → joining_with (open_of old.run) (item_found old mark stop) ≡ None
-    → IsClosed (run_of old B n) old mid k (begun_run (item_of_list mark) B (span_to old.at stop) (drop old.at B)) → IsPlaced old
-    → IsMoved mid new → new.at ≡ stop → ReadsItem new B s m item → item_by (within_at old.depth) B old.at mark (drop old.at B) k ≡ item (within_at old.depth) m → comes new B s m ≡ reads old B n
-item_of_new_list old mid new B mark s item stop n k m found h run w moved at reads same =
+    → IsClosed (run_of old B n) old mid k (begun_run (item_of_list mark) B (span_to old.at stop) (drop old.at B)) → IsMoved mid new → new.at ≡ stop → ReadsItem new B s m item → item_by (within_at old.depth) B old.at mark (drop old.at B) k ≡ item (within_at old.depth) m → comes new B s m ≡ reads old B n
+item_of_new_list old mid new B mark s item stop n k m found h run moved at reads same =
     let o : OpenRun = begun_run (item_of_list mark) B (span_to old.at stop) (drop old.at B) in
     let list : IsList o = record { list = _; is = refl } in
     sym (
     run_then_item n found h
-    ∙ closed_reads old mid B n k o (after_run old.depth B old.at mark stop) (item_then old.depth B old.at mark stop o) run w (run_first old.depth B old.at mark stop)
+    ∙ closed_reads old mid B n k o (after_run old.depth B old.at mark stop) (item_then old.depth B old.at mark stop o) run (run_first old.depth B old.at mark stop)
     ∙ step_reads old mid new B mark s item stop k m o list reads same (done_moved moved) (moved.depth ∙ run.depth) at (ap open_of moved.run ∙ run.run))
 
 -- ---- items that are the block of their marker: those of bullet lists and of enumerated lists
@@ -346,11 +345,10 @@ listed_joins {old} {mid} {new} {B} {mark} {j} {s} {line} {part} n none e found h
 -- one that begins a list
 pub listed_begins : {old mid new : OpenBlock} {B : Block} {mark : ItemMark} {s : Step} {line : ℕ} {part : Part} (n k : ℕ) → s ≡ Open (InItem line) part None → IsNextItem old B mark part.to
     → joining_with (open_of old.run) (item_found old mark part.to) ≡ None
-    → IsClosed (run_of old B n) old mid k (begun_run (item_of_list mark) B (span_to old.at part.to) (drop old.at B)) → IsPlaced old
-    → IsMoved mid new → new.at ≡ part.to → IsListItem old B mark line part k → comes new B s k ≡ reads old B n
-listed_begins {old} {mid} {new} {B} {mark} {s} {line} {part} n k e found h run w moved at made =
+    → IsClosed (run_of old B n) old mid k (begun_run (item_of_list mark) B (span_to old.at part.to) (drop old.at B)) → IsMoved mid new → new.at ≡ part.to → IsListItem old B mark line part k → comes new B s k ≡ reads old B n
+listed_begins {old} {mid} {new} {B} {mark} {s} {line} {part} n k e found h run moved at made =
     ap (λ step. comes new B step k) e
-    ∙ item_of_new_list old mid new B mark (Open (InItem line) part None) (λ c. list_item c B line part) part.to n k k found h run w moved at
+    ∙ item_of_new_list old mid new B mark (Open (InItem line) part None) (λ c. list_item c B line part) part.to n k k found h run moved at
     (λ r j. item_means new B line part r k j) (made (within_at old.depth))
 
 -- an item with a bullet joins the open list with this bullet
@@ -404,10 +402,9 @@ none_noted l = record { depth = refl; at = refl; nodes = refl; headings = refl; 
 -- an item of such a list, after the messages that come before the list
 pub plain_item : (old mid put new : OpenBlock) (B : Block) (mark : ItemMark) (kind : ListKind) (s : Step) (item : Within → Numbered (List Node)) (stop n k m : ℕ)
     → IsPlain mark kind → IsNextItem old B mark stop → IsOpened old mid B kind (empty_list mark (drop old.at B)) stop n k
-    → HasRun mid put (with_infos (infos_of (item_of_list mark)) (open_of mid.run)) → IsMoved put new → new.at ≡ stop → IsPlaced old
-    → ReadsItem new B s m item → item_by (within_at old.depth) B old.at mark (drop old.at B) k ≡ item (within_at old.depth) m
+    → HasRun mid put (with_infos (infos_of (item_of_list mark)) (open_of mid.run)) → IsMoved put new → new.at ≡ stop → ReadsItem new B s m item → item_by (within_at old.depth) B old.at mark (drop old.at B) k ≡ item (within_at old.depth) m
     → comes new B s m ≡ reads old B n
-plain_item old mid put new B mark kind s item stop n k m plain found opened noted moved at w reads same =
+plain_item old mid put new B mark kind s item stop n k m plain found opened noted moved at reads same =
     let infos : List Node = infos_of (item_of_list mark) in
     let span : Span = span_to old.at stop in
     let by = joining_by_kind old.run mark span in
@@ -420,14 +417,14 @@ plain_item old mid put new B mark kind s item stop n k m plain found opened note
       | inr e ↦ (
           let run = opened.begins e.0 in
           let is = ap (with_infos infos) run.run ∙ plain_begun mark kind B (drop old.at B) span plain in
-          item_of_new_list old put new B mark s item stop n k m found (by ∙ e.1) (subst (IsClosed (run_of old B n) old put k) is (closed_then run noted)) w moved at reads same)
+          item_of_new_list old put new B mark s item stop n k m found (by ∙ e.1) (subst (IsClosed (run_of old B n) old put k) is (closed_then run noted)) moved at reads same)
     ]
 
--- the block stays as deep, and its titles stay among its nodes
-pub kept_opened : {old mid : OpenBlock} {B : Block} {kind : ListKind} {element : Node} {stop n k : ℕ} (mark : ItemMark) → IsPlain mark kind → IsOpened old mid B kind element stop n k → IsPlaced old → IsKept old mid
-kept_opened {old = old} {kind = kind} mark plain opened w = elim (plain_joins mark kind (list_kind_in old.run) plain) [
-  | inl e ↦ kept_run (opened.joins e.0) w
-  | inr e ↦ kept_closed (opened.begins e.0) w
+-- the block stays as deep
+pub opened_depth : {old mid : OpenBlock} {B : Block} {kind : ListKind} {element : Node} {stop n k : ℕ} (mark : ItemMark) → IsPlain mark kind → IsOpened old mid B kind element stop n k → mid.depth ≡ old.depth
+opened_depth {old = old} {kind = kind} mark plain opened = elim (plain_joins mark kind (list_kind_in old.run) plain) [
+  | inl e ↦ (opened.joins e.0).depth
+  | inr e ↦ (opened.begins e.0).depth
 ]
 
 -- where the run before the list is nested too deeply, so is all

@@ -25,7 +25,7 @@ use Rattle.rst_block_state.specs.MeaningLaws.{IsAttributed, front_of}
 use Rattle.rst_block_state.specs.Meanings.{open_of, within_at, done_of, reads, reads_from, quote_by, quotes_from, after_quote, comes}
 use Rattle.rst_block_state.specs.Nodes.{piece_of, ending_notes}
 use Rattle.rst_block_state.specs.Numbered.{Numbered, then_read, ◌>>=◌, just, before}
-use Rattle.rst_block_state.specs.OpenBlocks.{IsMoved, HasMore, IsPlaced}
+use Rattle.rst_block_state.specs.OpenBlocks.{IsMoved, HasMore}
 use Rattle.rst_block_state.specs.Quotes.{first_attribution, quote_after, quote_node, quotes_by, quotes}
 use Rattle.rst_block_state.specs.Rest.{no_run, rest}
 use Rattle.rst_block_state.specs.RestLaws.{found_as}
@@ -182,31 +182,31 @@ attributed_part old new B p k next line n m a made box L is first behind read va
 -- ---- quotes after more nodes
 
 -- nodes that a block has already come before those that it is to get
-reads_after : {old new : OpenBlock} {earlier : List Node} (B : Block) (more : List Node) (at : ℕ) → HasMore old new earlier → IsPlaced old → reads_from new B more at ≡ reads_from old B (earlier ++ more) at
-reads_after {old} {new} {earlier} B more at m w =
+reads_after : {old new : OpenBlock} {earlier : List Node} (B : Block) (more : List Node) (at : ℕ) → HasMore old new earlier → reads_from new B more at ≡ reads_from old B (earlier ++ more) at
+reads_after {old} {new} {earlier} B more at m =
     let done : done_of new ++ map plain more ≡ done_of old ++ map plain (earlier ++ more) =
-    ap (λ items. items ++ map plain more) (done_more m w)
+    ap (λ items. items ++ map plain more) (done_more m)
     ∙ append_assoc (done_of old) (map plain earlier) (map plain more)
     ∙ ap (λ items. done_of old ++ items) (sym (map-append plain earlier more)) in
     reads_from_is new B more at done m.depth (ap open_of m.run)
 
 -- what comes after a quote is the same once its nodes are among those of the block
-pub after_more : (old new : OpenBlock) (B : Block) (earlier : List Node) (left : Option Part) (end n : ℕ) → HasMore old new earlier → IsPlaced old
+pub after_more : (old new : OpenBlock) (B : Block) (earlier : List Node) (left : Option Part) (end n : ℕ) → HasMore old new earlier
     → after_quote new B [] left end n ≡ after_quote old B earlier left end n
-after_more old new B earlier None end n m w =
+after_more old new B earlier None end n m =
     let E : List Node = ending_notes (alone_ending block_quote) (drop end B) in
-    at_number n (ap (reads_from new B E) m.at ∙ reads_after B E old.at m w)
-after_more old new B earlier (Some p) end n m w =
+    at_number n (ap (reads_from new B E) m.at ∙ reads_after B E old.at m)
+after_more old new B earlier (Some p) end n m =
     let E : List Node = ending_notes (alone_ending block_quote) (drop p.to B) in
     let N : ℕ = p.to - p.from in
     ap (λ d. then_read (λ more. reads_from new B (more ++ E) p.to) (quotes (within_at d) N (lines_in B p) n)) m.depth
     ∙ same_after (quotes (within_at old.depth) N (lines_in B p) n) (λ more. reads_from new B (more ++ E) p.to) (λ more. reads_from old B (earlier ++ more ++ E) p.to)
-    (λ more j. at_number j (reads_after B (more ++ E) p.to m w ∙ ap (λ ns. reads_from old B ns p.to) (sym (append_assoc earlier more E))))
+    (λ more j. at_number j (reads_after B (more ++ E) p.to m ∙ ap (λ ns. reads_from old B ns p.to) (sym (append_assoc earlier more E))))
 
 -- where no blank line follows the last quote, the WARNING comes next
 pub quote_ends : {old new : OpenBlock} {left : Option Part} (B : Block) (end n : ℕ) {m : ℕ} → left ≡ None → m ≡ n
-    → HasMore old new (ending_notes (alone_ending block_quote) (drop end B)) → IsPlaced old → reads new B m ≡ after_quote old B [] left end n
-quote_ends {old} {new} B end n none same h w = ap (reads new B) same ∙ at_number n (more_is_read B h w) ∙ ap (λ o. after_quote old B [] o end n) (sym none)
+    → HasMore old new (ending_notes (alone_ending block_quote) (drop end B)) → reads new B m ≡ after_quote old B [] left end n
+quote_ends {old} {new} B end n none same h = ap (reads new B) same ∙ at_number n (more_is_read B h) ∙ ap (λ o. after_quote old B [] o end n) (sym none)
 
 -- what is left of a quote may come next in a block that goes on no later
 pub rest_follows : (B : Block) (quote : Part) (next at : ℕ) → IsBlock B quote → at ≤ quote.from + next → IsRest B at (rest_of quote next)

@@ -40,7 +40,7 @@ use Rattle.rst_block_state.specs.Within.{Within}
 use Rattle.rst_block_state.specs.declared.open_block.OpenBlock.{OpenBlock}
 use Rattle.rst_block_state.specs.declared.step.Step.TheVariants.{Cells}
 use Rattle.rst_block_state.proofs.Changes.{moved_more, reads_from_is, more_is_read}
-use Rattle.rst_block_state.proofs.NextConstructs.{next_of, next_some, span_to, next_found, HasEnded, kept_ended, next_alone}
+use Rattle.rst_block_state.proofs.NextConstructs.{next_of, next_some, span_to, next_found, HasEnded, next_alone}
 use Rattle.rst_block_state.proofs.NumberedLemmas.{same_after, after_after, before_before, before_then, at_number}
 
 -- ---- where tables end
@@ -133,7 +133,7 @@ pub malformed_reads : {old mid moved new : OpenBlock} {B : Block} {end : ℕ} {f
     → HasEnded old mid B n m → IsMoved mid moved → moved.at ≡ end
     → HasMore moved new (shown Error (first_number (drop mid.at B)) (malformed_text fault.detail) (source_of B (span_to mid.at end)) ∷ ending_notes (alone_ending grid) (drop end B))
     → reads new B m ≡ reads old B n
-malformed_reads {B = B} {m = m} h e g at more = at_number m (more_is_read B (moved_more g at more) (kept_ended e).placed) ∙ table_comes h e
+malformed_reads {B = B} {m = m} h e g at more = at_number m (more_is_read B (moved_more g at more)) ∙ table_comes h e
 
 -- a table whose cells come next ends behind its first line
 pub table_steps : (l : OpenBlock) (B : Block) (t : TableResult) (to : ℕ) → IsNextTable l B t → ((end : ℕ) (fault : TableFault) → t ≡ Malformed end fault → ⊥) → to ≡ l.at → l.at < length B

@@ -20,13 +20,13 @@ use Rattle.rst_block_state.specs.Meanings.{done_of, reads}
 use Rattle.rst_block_state.specs.NextLine.{IsText, IsNextConstruct}
 use Rattle.rst_block_state.specs.Nodes.{plainly}
 use Rattle.rst_block_state.specs.Numbered.{Numbered, then_read, just}
-use Rattle.rst_block_state.specs.OpenBlocks.{IsMoved, HasMoreAt, HasMore, HasTitle, ReadsNodes, ReadsItems, IsPlaced, IsKept}
+use Rattle.rst_block_state.specs.OpenBlocks.{IsMoved, HasMoreAt, HasMore, HasTitle, ReadsNodes, ReadsItems}
 use Rattle.rst_block_body.specs.TextSteps.{under_style, unexpected_notes}
 use Rattle.rst_block_state.specs.Texts.{said, source_of}
 use Rattle.rst_block_state.specs.Titles.{Item, plain, titled, title_item, short_warning, underline_warning, underline_item}
 use Rattle.rst_block_state.specs.declared.open_block.OpenBlock.{OpenBlock}
-use Rattle.rst_block_state.proofs.Changes.{more_as, more_then, more_more, done_moved, done_more, done_title, kept_moved, kept_more, kept_title}
-use Rattle.rst_block_state.proofs.NextConstructs.{lines_after, HasEnded, kept_ended, next_items, next_nodes}
+use Rattle.rst_block_state.proofs.Changes.{more_as, more_then, more_more, done_moved, done_more, done_title}
+use Rattle.rst_block_state.proofs.NextConstructs.{lines_after, HasEnded, next_items, next_nodes}
 use Rattle.rst_block_body.proofs.ParagraphLemmas.{after_infos}
 
 -- ---- a line of text
@@ -98,7 +98,7 @@ underlined_goes {old} {mid} {pre} {new} {B} {infos} {short} {n} {m} {next} h e s
     let whole : List Item = map plain infos ++ here.more in
     next_items new whole h tt e (ap (then_read (λ (items : List Item). just (map plain infos ++ items))) here.given)
     (here.done
-    ∙ ap (λ items. items ++ here.more) (done_more some (kept_ended e).placed)
+    ∙ ap (λ items. items ++ here.more) (done_more some)
     ∙ append_assoc (done_of mid) (map plain infos) here.more
     ∙ ap (λ items. done_of mid ++ items) (sym (append-nil whole)))
     (here.depth ∙ some.depth) here.at (here.run ∙ some.run)
@@ -106,27 +106,21 @@ underlined_goes {old} {mid} {pre} {new} {B} {infos} {short} {n} {m} {next} h e s
 -- ---- titles and the messages on them
 
 -- nodes are items
-pub more_items : {old new : OpenBlock} {more : List Node} {at next : ℕ} (read : Result (List Item × ℕ) ℕ) → read ≡ Ok (map plain more, next) → IsPlaced old → HasMoreAt old new more at
+pub more_items : {old new : OpenBlock} {more : List Node} {at next : ℕ} (read : Result (List Item × ℕ) ℕ) → read ≡ Ok (map plain more, next) → HasMoreAt old new more at
     → ReadsItems read old new at next
-more_items {more = more} read e w h = record { more = map plain more; given = e; depth = h.depth; at = h.at; done = done_more h w; run = h.run; placed = (kept_more h w).placed }
+more_items {more = more} read e h = record { more = map plain more; given = e; depth = h.depth; at = h.at; done = done_more h; run = h.run }
 
 -- and so is a title
-pub title_items : {old mid new : OpenBlock} {heading : Heading} {at next : ℕ} (read : Result (List Item × ℕ) ℕ) → read ≡ Ok (titled (title_of heading) ∷ [], next) → IsPlaced old → IsMoved old mid → mid.at ≡ at
+pub title_items : {old mid new : OpenBlock} {heading : Heading} {at next : ℕ} (read : Result (List Item × ℕ) ℕ) → read ≡ Ok (titled (title_of heading) ∷ [], next) → IsMoved old mid → mid.at ≡ at
     → HasTitle mid new heading → ReadsItems read old new at next
-title_items {heading = heading} read e w moved at m =
-    let placed = (kept_moved moved w).placed in
-    record {
-      more = titled (title_of heading) ∷ [];
-      given = e;
-      depth = m.depth ∙ moved.depth;
-      at = m.at ∙ at;
-      done = done_title m placed ∙ ap (λ items. items ++ titled (title_of heading) ∷ []) (done_moved moved);
-      run = m.run ∙ moved.run;
-      placed = (kept_title m placed).placed;
-    }
-
-pub kept_items : {read : Result (List Item × ℕ) ℕ} {old new : OpenBlock} {at next : ℕ} → ReadsItems read old new at next → IsKept old new
-kept_items g = record { depth = g.depth; placed = g.placed }
+title_items {heading = heading} read e moved at m = record {
+  more = titled (title_of heading) ∷ [];
+  given = e;
+  depth = m.depth ∙ moved.depth;
+  at = m.at ∙ at;
+  done = done_title m ∙ ap (λ items. items ++ titled (title_of heading) ∷ []) (done_moved moved);
+  run = m.run ∙ moved.run;
+}
 
 pub under_number : (B : Block) (i : ℕ) {j line : ℕ} → j ≡ i + 1 → line ≡ first_number (drop j B) → line ≡ first_number (drop 1 (drop i B))
 under_number B i {j} e l = l ∙ ap first_number (sym (lines_after B i 1 j e))

@@ -11,7 +11,6 @@ ghost use Rattle.rst_markup_blocks.specs.declared.begun.Begun.TheVariants as mar
 ghost use Rattle.rst_block_state.specs.Constructs.{transition, overlined_title, misplaced_lines};
 ghost use Rattle.rst_block_state.specs.Meanings.{Keeps, comes, reads};
 ghost use Rattle.rst_block_state.specs.NextLine.{IsText, IsNextConstruct, IsWrong, IsMessageOn};
-ghost use Rattle.rst_block_state.specs.OpenBlocks.{IsKept, IsPlaced};
 ghost use Rattle.rst_block_state.specs.Texts.{said};
 ghost use Rattle.rst_block_state.specs.Ledger.{IsPaid};
 ghost use Rattle.rst_block_state.specs.declared.step.Step.TheVariants.{Next};
@@ -37,9 +36,8 @@ pub fn adornment(
 ) -> Result<Step, BlockFault>
     requires inside { level.old.at < length (block_of view.now) }
     requires begun { IsBegun (drop level.old.at (block_of view.now)) (marks.Adornment mark) }
-    requires placed { IsPlaced level.old }
     ensures step { IfOk result (λ s. spec.IsStep (block_of view.now) level.old.at level.new.at s) }
-    ensures kept { IfOk result (λ _. IsKept level.old level.new) }
+    ensures kept { IfOk result (λ _. level.new.depth ≡ level.old.depth) }
     ensures read { Keeps result (λ s. comes level.new (block_of view.now) s pass.new.numbers)
         (reads level.old (block_of view.now) pass.old.numbers) }
     ensures paid { IfOk result (λ s. IsPaid 29 level.old level.new (block_of view.now) s pass.old.looks pass.new.looks) }
@@ -110,10 +108,9 @@ fn wrong_form(form: Adorned) -> WrongForm
 /// A transition.
 fn transition(view: &View<'_>, level: &mut OpenBlock, pass: &mut Pass) -> Result<(), BlockFault>
     requires inside { level.old.at < length (block_of view.now) }
-    requires placed { IsPlaced level.old }
     requires found { IsNextConstruct level.old (block_of view.now) transition 1 }
     ensures later { IfOk result (λ _. level.old.at < level.new.at) }
-    ensures kept { IfOk result (λ _. IsKept level.old level.new) }
+    ensures kept { IfOk result (λ _. level.new.depth ≡ level.old.depth) }
     ensures read { Keeps result (λ _. reads level.new (block_of view.now) pass.new.numbers)
         (reads level.old (block_of view.now) pass.old.numbers) }
     ensures paid { IfOk result (λ _. IsPaid 27 level.old level.new (block_of view.now) Next pass.old.looks pass.new.looks) }
@@ -133,10 +130,9 @@ fn short(
     pass: &mut Pass,
 ) -> Result<Step, BlockFault>
     requires inside { level.old.at < length (block_of view.now) }
-    requires placed { IsPlaced level.old }
     requires text { IsText level.old (block_of view.now) (said Info (first_number (drop level.old.at (block_of view.now))) text.now ∷ []) }
     ensures step { IfOk result (λ s. spec.IsStep (block_of view.now) level.old.at level.new.at s) }
-    ensures kept { IfOk result (λ _. IsKept level.old level.new) }
+    ensures kept { IfOk result (λ _. level.new.depth ≡ level.old.depth) }
     ensures read { Keeps result (λ s. comes level.new (block_of view.now) s pass.new.numbers)
         (reads level.old (block_of view.now) pass.old.numbers) }
     ensures paid { IfOk result (λ s. IsPaid 27 level.old level.new (block_of view.now) s pass.old.looks pass.new.looks) }
@@ -154,10 +150,9 @@ fn wrong(
     pass: &mut Pass,
 ) -> Result<(), BlockFault>
     requires inside { level.old.at < length (block_of view.now) }
-    requires placed { IsPlaced level.old }
     requires found { IsNextConstruct level.old (block_of view.now) (misplaced_lines form.gravity form.text.now) form.lines }
     ensures later { IfOk result (λ _. level.old.at < level.new.at) }
-    ensures kept { IfOk result (λ _. IsKept level.old level.new) }
+    ensures kept { IfOk result (λ _. level.new.depth ≡ level.old.depth) }
     ensures read { Keeps result (λ _. reads level.new (block_of view.now) pass.new.numbers)
         (reads level.old (block_of view.now) pass.old.numbers) }
     ensures paid { IfOk result (λ _. IsPaid 27 level.old level.new (block_of view.now) Next pass.old.looks pass.new.looks) }
@@ -182,10 +177,10 @@ fn overlined(
     pass: &mut Pass,
 ) -> Result<(), BlockFault>
     requires inside { level.old.at < length (block_of view.now) }
-    requires placed { IsPlaced level.old }
     requires found { IsNextConstruct level.old (block_of view.now) (overlined_title mark short) 3 }
+    requires titles { level.old.depth ≡ 0 }
     ensures later { IfOk result (λ _. level.old.at < level.new.at) }
-    ensures kept { IfOk result (λ _. IsKept level.old level.new) }
+    ensures kept { IfOk result (λ _. level.new.depth ≡ level.old.depth) }
     ensures read { Keeps result (λ _. reads level.new (block_of view.now) pass.new.numbers)
         (reads level.old (block_of view.now) pass.old.numbers) }
     ensures paid { IfOk result (λ _. IsPaid 27 level.old level.new (block_of view.now) Next pass.old.looks pass.new.looks) }
@@ -210,5 +205,5 @@ fn overlined(
     let text = skip(text, indentation(text));
     let heading = heading_of(style, text, line, warning, lines, pass)?;
     level.go_to(end);
-    level.push_heading(heading)
+    level.push_heading(pass.alloc, heading)
 }

@@ -8,7 +8,7 @@ ghost use Rattle.rst_markup_blocks.specs.Forms.{text_form};
 ghost use Rattle.rst_markup_blocks.specs.declared.form.TextForm.TheVariants.{Definition};
 ghost use Rattle.rst_block_state.specs.Meanings.{Keeps, comes, open_of, reads};
 ghost use Rattle.rst_block_state.specs.NextLine.{IsText};
-ghost use Rattle.rst_block_state.specs.OpenBlocks.{Gives, HasRun, IsKept, IsPlaced, with_infos};
+ghost use Rattle.rst_block_state.specs.OpenBlocks.{Gives, HasRun, with_infos};
 ghost use Rattle.rst_block_state.specs.Ledger.{IsPaid};
 
 use super::field::join_list;
@@ -31,9 +31,8 @@ pub(crate) fn definition(
     requires inside { level.old.at < length (block_of view.now) }
     requires text { IsText level.old (block_of view.now) infos.items }
     requires form { let X = drop level.old.at (block_of view.now) in text_form (front_text X) (next_text X) ≡ Definition }
-    requires placed { IsPlaced level.old }
     ensures step { IfOk result (λ s. spec.IsStep (block_of view.now) level.old.at level.new.at s) }
-    ensures kept { IfOk result (λ _. IsKept level.old level.new) }
+    ensures kept { IfOk result (λ _. level.new.depth ≡ level.old.depth) }
     ensures read { Keeps result (λ s. comes level.new (block_of view.now) s pass.new.numbers)
         (reads level.old (block_of view.now) pass.old.numbers) }
     ensures paid { IfOk result (λ s. IsPaid 25 level.old level.new (block_of view.now) s pass.old.looks pass.new.looks) }

@@ -6,7 +6,7 @@ ghost use Rattle.rst_text.specs.Shown.{block_of};
 ghost use Rattle.rst_tree.specs.Forest.{bare};
 ghost use Rattle.rst_tree.specs.declared.node.Node.TheVariants.{Element};
 ghost use Rattle.rst_block_state.specs.Meanings.{Keeps, comes, deepest, joining_in, list_kind_in, open_of, reads};
-ghost use Rattle.rst_block_state.specs.OpenBlocks.{Closes, Gives, HasRun, IsKept, IsPlaced, begun_at, joined_at};
+ghost use Rattle.rst_block_state.specs.OpenBlocks.{Closes, Gives, HasRun, begun_at, joined_at};
 ghost use Rattle.rst_block_state.specs.Rest.{closed_run};
 ghost use Rattle.rst_block_state.specs.Steps as spec;
 ghost use Rattle.rst_markup_blocks.specs.Begun.{IsBegun};
@@ -31,9 +31,8 @@ pub fn field(
 ) -> Result<Step, BlockFault>
     requires inside { level.old.at < length (block_of view.now) }
     requires begun { IsBegun (drop level.old.at (block_of view.now)) (Field mark) }
-    requires placed { IsPlaced level.old }
     ensures step { IfOk result (λ s. spec.IsStep (block_of view.now) level.old.at level.new.at s) }
-    ensures kept { IfOk result (λ _. IsKept level.old level.new) }
+    ensures kept { IfOk result (λ _. level.new.depth ≡ level.old.depth) }
     ensures read { Keeps result (λ s. comes level.new (block_of view.now) s pass.new.numbers)
         (reads level.old (block_of view.now) pass.old.numbers) }
     ensures paid { IfOk result (λ s. IsPaid 29 level.old level.new (block_of view.now) s pass.old.looks pass.new.looks) }

@@ -10,7 +10,7 @@ ghost use Rattle.rst_markup_blocks.specs.declared.begun.Begun.TheVariants.{Line}
 ghost use Rattle.rst_block_state.specs.LineRuns.{indented_line, indentation_of};
 ghost use Rattle.rst_block_body.specs.TextSteps.{text_over};
 ghost use Rattle.rst_block_state.specs.Meanings.{Keeps, reads, open_of};
-ghost use Rattle.rst_block_state.specs.OpenBlocks.{Gives, IsKept, IsPlaced, HasLine, line_added, lines_end_at};
+ghost use Rattle.rst_block_state.specs.OpenBlocks.{Gives, HasLine, line_added, lines_end_at};
 ghost use Rattle.rst_block_state.specs.Texts.{joined};
 ghost use Rattle.rst_block_state.specs.Ledger.{IsPaid};
 ghost use Rattle.rst_block_state.specs.declared.step.Step.TheVariants.{Next};
@@ -34,9 +34,8 @@ pub fn bar_line(
 ) -> Result<(), BlockFault>
     requires inside { level.old.at < length (block_of view.now) }
     requires begun { IsBegun (drop level.old.at (block_of view.now)) (Line marker) }
-    requires placed { IsPlaced level.old }
     ensures later { IfOk result (λ _. level.old.at < level.new.at) }
-    ensures kept { IfOk result (λ _. IsKept level.old level.new) }
+    ensures kept { IfOk result (λ _. level.new.depth ≡ level.old.depth) }
     ensures read { Keeps result (λ _. reads level.new (block_of view.now) pass.new.numbers)
         (reads level.old (block_of view.now) pass.old.numbers) }
     ensures paid { IfOk result (λ _. IsPaid 29 level.old level.new (block_of view.now) Next pass.old.looks pass.new.looks) }

@@ -17,7 +17,7 @@ ghost use Rattle.rst_block_state.specs.Constructs.{enumerated_item, item_of_list
 ghost use Rattle.rst_block_state.specs.Joins.{list_joining_after};
 ghost use Rattle.rst_block_state.specs.Meanings.{Keeps, comes, joining_in, list_kind_in, open_of, reads};
 ghost use Rattle.rst_block_state.specs.OpenBlocks as blocks;
-ghost use Rattle.rst_block_state.specs.OpenBlocks.{HasRun, IsKept, IsMoved, IsPlaced, with_notes};
+ghost use Rattle.rst_block_state.specs.OpenBlocks.{HasRun, IsMoved, with_notes};
 ghost use Rattle.rst_block_state.specs.Rest.{begun_run};
 ghost use Rattle.rst_block_state.specs.declared.waits.Waits.TheVariants.{ListItem};
 ghost use Rattle.rst_block_state.specs.declared.step.Step.TheVariants.{Open};
@@ -60,9 +60,8 @@ pub fn bullet_item(
 ) -> Result<Step, BlockFault>
     requires inside { level.old.at < length (block_of view.now) }
     requires begun { IsBegun (drop level.old.at (block_of view.now)) (Bullet mark marker) }
-    requires placed { IsPlaced level.old }
     ensures step { IfOk result (λ s. spec.IsStep (block_of view.now) level.old.at level.new.at s) }
-    ensures kept { IfOk result (λ _. IsKept level.old level.new) }
+    ensures kept { IfOk result (λ _. level.new.depth ≡ level.old.depth) }
     ensures read { Keeps result (λ s. comes level.new (block_of view.now) s pass.new.numbers)
         (reads level.old (block_of view.now) pass.old.numbers) }
     ensures paid { IfOk result (λ s. IsPaid 29 level.old level.new (block_of view.now) s pass.old.looks pass.new.looks) }
@@ -90,9 +89,8 @@ pub fn enumerated_item(
 ) -> Result<Step, BlockFault>
     requires inside { level.old.at < length (block_of view.now) }
     requires begun { IsBegun (drop level.old.at (block_of view.now)) (ItemEnumerator enumerator) }
-    requires placed { IsPlaced level.old }
     ensures step { IfOk result (λ s. spec.IsStep (block_of view.now) level.old.at level.new.at s) }
-    ensures kept { IfOk result (λ _. IsKept level.old level.new) }
+    ensures kept { IfOk result (λ _. level.new.depth ≡ level.old.depth) }
     ensures read { Keeps result (λ s. comes level.new (block_of view.now) s pass.new.numbers)
         (reads level.old (block_of view.now) pass.old.numbers) }
     ensures paid { IfOk result (λ s. IsPaid 29 level.old level.new (block_of view.now) s pass.old.looks pass.new.looks) }

@@ -8,7 +8,6 @@ ghost use Rattle.rst_block_state.specs.Steps as spec;
 ghost use Rattle.rst_markup_blocks.specs.Begun.{IsBegun};
 ghost use Rattle.rst_markup_blocks.specs.declared.begun.Begun.TheVariants.{OptionItem};
 ghost use Rattle.rst_block_state.specs.Meanings.{Keeps, comes, reads};
-ghost use Rattle.rst_block_state.specs.OpenBlocks.{IsKept, IsPlaced};
 ghost use Rattle.rst_block_state.specs.Ledger.{IsPaid};
 
 use super::field::join_list;
@@ -30,9 +29,8 @@ pub fn option_item(
 ) -> Result<Step, BlockFault>
     requires inside { level.old.at < length (block_of view.now) }
     requires begun { IsBegun (drop level.old.at (block_of view.now)) (OptionItem marker) }
-    requires placed { IsPlaced level.old }
     ensures step { IfOk result (λ s. spec.IsStep (block_of view.now) level.old.at level.new.at s) }
-    ensures kept { IfOk result (λ _. IsKept level.old level.new) }
+    ensures kept { IfOk result (λ _. level.new.depth ≡ level.old.depth) }
     ensures read { Keeps result (λ s. comes level.new (block_of view.now) s pass.new.numbers)
         (reads level.old (block_of view.now) pass.old.numbers) }
     ensures paid { IfOk result (λ s. IsPaid 29 level.old level.new (block_of view.now) s pass.old.looks pass.new.looks) }

@@ -8,7 +8,7 @@ ghost use Rattle.rst_markup_blocks.specs.declared.begun.Begun.TheVariants.{Docte
 ghost use Rattle.rst_block_state.specs.Ledger.{IsPaid};
 ghost use Rattle.rst_block_state.specs.Meanings.{Keeps, reads};
 ghost use Rattle.rst_block_state.specs.declared.step.Step.TheVariants.{Next};
-ghost use Rattle.rst_block_state.specs.OpenBlocks.{IsKept, IsPlaced, Gives, ReadsNodes, HasMoreAt};
+ghost use Rattle.rst_block_state.specs.OpenBlocks.{Gives, ReadsNodes, HasMoreAt};
 ghost use Rattle.rst_block_state.specs.Literals as literals;
 ghost use Rattle.rst_block_body.specs.TextSteps as parts;
 ghost use Rattle.rst_markup_blocks.specs.Lines.{lines_while};
@@ -38,9 +38,8 @@ pub fn doctest_block(
 ) -> Result<(), BlockFault>
     requires inside { level.old.at < length (block_of view.now) }
     requires begun { IsBegun (drop level.old.at (block_of view.now)) Doctest }
-    requires placed { IsPlaced level.old }
     ensures later { IfOk result (λ _. level.old.at < level.new.at) }
-    ensures kept { IfOk result (λ _. IsKept level.old level.new) }
+    ensures kept { IfOk result (λ _. level.new.depth ≡ level.old.depth) }
     ensures read { Keeps result (λ _. reads level.new (block_of view.now) pass.new.numbers)
         (reads level.old (block_of view.now) pass.old.numbers) }
     ensures paid { IfOk result (λ _. IsPaid 29 level.old level.new (block_of view.now) Next pass.old.looks pass.new.looks) }

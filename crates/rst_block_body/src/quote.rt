@@ -13,7 +13,6 @@ ghost use Rattle.rst_block_state.specs.Texts.{joined, lines_in, texted};
 ghost use Rattle.rst_markup_blocks.specs.Begun.{IsBegun};
 ghost use Rattle.rst_markup_blocks.specs.declared.begun.Begun.TheVariants.{Quote};
 ghost use Rattle.rst_block_state.specs.Meanings.{Keeps, comes, quotes_from, reads};
-ghost use Rattle.rst_block_state.specs.OpenBlocks.{IsKept, IsPlaced};
 ghost use Rattle.rst_block_state.specs.Ledger.{AreQuotesPaid, IsPaid};
 
 use rst_block_nodes::{Texted, with_text};
@@ -33,9 +32,8 @@ pub fn block_quote(
 ) -> Result<Step, BlockFault>
     requires inside { level.old.at < length (block_of view.now) }
     requires begun { IsBegun (drop level.old.at (block_of view.now)) Quote }
-    requires placed { IsPlaced level.old }
     ensures step { IfOk result (λ s. spec.IsStep (block_of view.now) level.old.at level.new.at s) }
-    ensures kept { IfOk result (λ _. IsKept level.old level.new) }
+    ensures kept { IfOk result (λ _. level.new.depth ≡ level.old.depth) }
     ensures read { Keeps result (λ s. comes level.new (block_of view.now) s pass.new.numbers)
         (reads level.old (block_of view.now) pass.old.numbers) }
     ensures paid { IfOk result (λ s. IsPaid 29 level.old level.new (block_of view.now) s pass.old.looks pass.new.looks) }
@@ -56,11 +54,10 @@ pub fn quote_part(
     requires block { IsBlock (block_of view.now) quote }
     requires at { level.old.at ≤ quote.from }
     requires inside { level.old.at < length (block_of view.now) }
-    requires placed { IsPlaced level.old }
     requires filled { quote.from < quote.to }
     ensures step { IfOk result (λ s. spec.IsStep (block_of view.now) level.old.at level.new.at s) }
     ensures resumed { IfOk result (λ s. spec.IsResumed (block_of view.now) level.old.at level.new.at s) }
-    ensures kept { IfOk result (λ _. IsKept level.old level.new) }
+    ensures kept { IfOk result (λ _. level.new.depth ≡ level.old.depth) }
     ensures read { Keeps result (λ s. comes level.new (block_of view.now) s pass.new.numbers)
         (quotes_from level.old (block_of view.now) [] quote pass.old.numbers) }
     ensures paid { IfOk result (λ s. AreQuotesPaid level.old level.new (block_of view.now) quote quote.to s pass.old.looks pass.new.looks) }

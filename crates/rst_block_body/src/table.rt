@@ -15,7 +15,6 @@ ghost use Rattle.rst_block_state.specs.Texts.{shown, source_of, warned};
 ghost use Rattle.rst_block_state.specs.Meanings.{Keeps, comes, reads};
 ghost use Rattle.rst_block_state.specs.NextLine.{IsTableAt};
 ghost use Rattle.rst_block_state.specs.OpenBlocks as blocks;
-ghost use Rattle.rst_block_state.specs.OpenBlocks.{IsKept, IsPlaced};
 ghost use Rattle.rst_block_state.specs.Ledger.{IsPaid};
 ghost use Rattle.rst_block_state.specs.Reaches.{reach_at};
 ghost use Rattle.rst_markup_blocks.specs.Partition.{construct_size};
@@ -38,9 +37,8 @@ pub fn table(
 ) -> Result<Step, BlockFault>
     requires inside { level.old.at < length (block_of view.now) }
     requires table { IsTableAt (block_of view.now) level.old.at found }
-    requires placed { IsPlaced level.old }
     ensures step { IfOk result (λ s. spec.IsStep (block_of view.now) level.old.at level.new.at s) }
-    ensures kept { IfOk result (λ _. IsKept level.old level.new) }
+    ensures kept { IfOk result (λ _. level.new.depth ≡ level.old.depth) }
     ensures read { Keeps result (λ s. comes level.new (block_of view.now) s pass.new.numbers)
         (reads level.old (block_of view.now) pass.old.numbers) }
     ensures paid { (before : ℕ) → let B = block_of view.now in

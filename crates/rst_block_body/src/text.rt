@@ -5,7 +5,7 @@ ghost use Rattle.rst_text.specs.Shown.{block_of};
 ghost use Rattle.rst_block_state.specs.Steps as spec;
 ghost use Rattle.rst_block_state.specs.Meanings.{Keeps, comes, reads};
 ghost use Rattle.rst_block_state.specs.NextLine.{IsText};
-ghost use Rattle.rst_block_state.specs.OpenBlocks.{IsKept, IsPlaced, Gives, ReadsItems, HasMoreAt, HasMore};
+ghost use Rattle.rst_block_state.specs.OpenBlocks.{Gives, ReadsItems, HasMoreAt, HasMore};
 ghost use Rattle.rst_block_state.specs.Constructs as constructs;
 ghost use Rattle.rst_block_state.specs.Texts.{source_of};
 ghost use Rattle.rst_block_state.specs.Titles as titles;
@@ -36,9 +36,8 @@ pub fn text_line(
 ) -> Result<Step, BlockFault>
     requires inside { level.old.at < length (block_of view.now) }
     requires text { IsText level.old (block_of view.now) infos.items }
-    requires placed { IsPlaced level.old }
     ensures step { IfOk result (λ s. spec.IsStep (block_of view.now) level.old.at level.new.at s) }
-    ensures kept { IfOk result (λ _. IsKept level.old level.new) }
+    ensures kept { IfOk result (λ _. level.new.depth ≡ level.old.depth) }
     ensures read { Keeps result (λ s. comes level.new (block_of view.now) s pass.new.numbers)
         (reads level.old (block_of view.now) pass.old.numbers) }
     ensures paid { IfOk result (λ s. IsPaid 27 level.old level.new (block_of view.now) s pass.old.looks pass.new.looks) }
@@ -104,7 +103,6 @@ fn underlined(
     pass: &mut Pass,
 ) -> Result<(), BlockFault>
     requires inside { level.old.at + 1 < length (block_of view.now) }
-    requires placed { IsPlaced level.old }
     ensures later { IfOk result (λ _. level.old.at < level.new.at) }
     ensures read { let B = block_of view.now in
         let lines = source_of B (record { start = level.old.at; stop = level.old.at + 2 }) in
@@ -139,7 +137,7 @@ fn put_title(
     pass: &mut Pass,
 ) -> Result<(), BlockFault>
     requires inside { level.old.at + 1 < length (block_of view.now) }
-    requires placed { IsPlaced level.old }
+    requires titles { level.old.depth ≡ 0 }
     ensures later { IfOk result (λ _. level.old.at < level.new.at) }
     ensures read { let X = drop level.old.at (block_of view.now) in
         let item = titles.title_item (under_style X) (front_text X) (first_number X) warning (string_bytes lines) pass.old.numbers in
@@ -157,7 +155,7 @@ fn put_title(
     let line = number_at(view, at);
     let heading = heading_of(style, text, line, warning, lines, pass)?;
     level.go_to(at.saturating_add(2));
-    level.push_heading(heading)
+    level.push_heading(pass.alloc, heading)
 }
 
 /// Puts the messages on a title over its underline where none may stand.

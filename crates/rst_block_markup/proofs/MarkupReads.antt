@@ -181,7 +181,7 @@ begun_markup {old} {mid} {new} {B} {end} {n} {m} h e r =
     let all = closed_then e.closed r in
     sym (
     run_then_markup old B end n h
-    ∙ closed_reads old new B n m (open_markup end) (markup_after old.depth B s end) (M >>= λ ns. before (map plain ns) R) all e.placed
+    ∙ closed_reads old new B n m (open_markup end) (markup_after old.depth B s end) (M >>= λ ns. before (map plain ns) R) all
     (λ done k. sym (
     before_then done M (λ ns. before (map plain ns) R) k
     ∙ same_after (M k) (λ ns. before done (before (map plain ns) R)) (λ ns. before (done ++ map plain ns) R) (λ ns j. before_before done (map plain ns) R j)))

@@ -23,7 +23,7 @@ ghost use Rattle.rst_block_state.specs.Numbered.{then_read, just};
 ghost use Rattle.rst_markup_directives.specs.Call.{IsArgumentIn, IsContentIn, IsDirectiveIn};
 ghost use Rattle.rst_markup_directives.specs.declared.found.Place.{Place};
 ghost use Rattle.rst_markup_blocks.specs.Parts.{IsBlock, IsCall};
-ghost use Rattle.rst_block_state.specs.OpenBlocks.{Gives, IsKept, IsMoved, IsPlaced};
+ghost use Rattle.rst_block_state.specs.OpenBlocks.{Gives, IsMoved};
 ghost use Rattle.rst_block_state.specs.Paragraphs.{is_single_paragraph};
 ghost use Rattle.rst_block_state.specs.Steps as spec;
 ghost use Rattle.rst_block_state.specs.Texts.{joined, lines_in, shown, source_of, texted};
@@ -112,10 +112,9 @@ pub(crate) fn directive_block(
     requires call { IsCall (block_of view.now) level.old.at invocation.now }
     requires inside { level.old.at < length (block_of view.now) }
     requires later { level.old.at < invocation.now.block.to }
-    requires placed { IsPlaced level.old }
     requires begins { level.old.at ≤ invocation.now.block.from }
     ensures step { IfOk result (λ s. spec.IsStep (block_of view.now) level.old.at level.new.at s) }
-    ensures kept { IfOk result (λ _. IsKept level.old level.new) }
+    ensures kept { IfOk result (λ _. level.new.depth ≡ level.old.depth) }
     ensures read { let B = block_of view.now in
         let end = invocation.now.block.to in
         let nodes = meaning.directive_nodes (within_at level.old.depth) B (record { start = level.old.at; stop = end }) invocation.now in
@@ -222,9 +221,8 @@ fn directive_nodes(
     requires argument { IsArgumentIn (block_of view.now) found.now.argument }
     requires inside { level.old.at < length (block_of view.now) }
     requires later { level.old.at < found.now.end }
-    requires placed { IsPlaced level.old }
     ensures step { IfOk result (λ s. spec.IsStep (block_of view.now) level.old.at level.new.at s) }
-    ensures kept { IfOk result (λ _. IsKept level.old level.new) }
+    ensures kept { IfOk result (λ _. level.new.depth ≡ level.old.depth) }
     ensures read { let B = block_of view.now in
         let line = first_number (drop level.old.at B) in
         let source = source_of B (record { start = level.old.at; stop = found.now.end }) in
@@ -260,9 +258,8 @@ fn titled_block(
     requires title { IsBlock (block_of view.now) title }
     requires inside { level.old.at < length (block_of view.now) }
     requires later { level.old.at < found.now.end }
-    requires placed { IsPlaced level.old }
     ensures step { IfOk result (λ s. spec.IsStep (block_of view.now) level.old.at level.new.at s) }
-    ensures kept { IfOk result (λ _. IsKept level.old level.new) }
+    ensures kept { IfOk result (λ _. level.new.depth ≡ level.old.depth) }
     ensures read { let B = block_of view.now in
         let line = first_number (drop level.old.at B) in
         let nodes = meaning.titled_nodes (within_at level.old.depth) B line (read_of found.now) (lines_in B title) in
@@ -286,9 +283,8 @@ fn plain_block(
     requires content { IsContentIn (block_of view.now) found.now.content }
     requires inside { level.old.at < length (block_of view.now) }
     requires later { level.old.at < found.now.end }
-    requires placed { IsPlaced level.old }
     ensures step { IfOk result (λ s. spec.IsStep (block_of view.now) level.old.at level.new.at s) }
-    ensures kept { IfOk result (λ _. IsKept level.old level.new) }
+    ensures kept { IfOk result (λ _. level.new.depth ≡ level.old.depth) }
     ensures read { let B = block_of view.now in
         let line = first_number (drop level.old.at B) in
         let source = source_of B (record { start = level.old.at; stop = found.now.end }) in
@@ -319,9 +315,8 @@ fn image_block(
     requires content { IsContentIn (block_of view.now) found.now.content }
     requires inside { level.old.at < length (block_of view.now) }
     requires later { level.old.at < found.now.end }
-    requires placed { IsPlaced level.old }
     ensures step { IfOk result (λ s. spec.IsStep (block_of view.now) level.old.at level.new.at s) }
-    ensures kept { IfOk result (λ _. IsKept level.old level.new) }
+    ensures kept { IfOk result (λ _. level.new.depth ≡ level.old.depth) }
     ensures read { (number : ℕ) → let B = block_of view.now in
         let line = first_number (drop level.old.at B) in
         let source = source_of B (record { start = level.old.at; stop = found.now.end }) in
@@ -369,9 +364,8 @@ fn figure_block(
     requires content { IsContentIn (block_of view.now) found.now.content }
     requires inside { level.old.at < length (block_of view.now) }
     requires later { level.old.at < found.now.end }
-    requires placed { IsPlaced level.old }
     ensures step { IfOk result (λ s. spec.IsStep (block_of view.now) level.old.at level.new.at s) }
-    ensures kept { IfOk result (λ _. IsKept level.old level.new) }
+    ensures kept { IfOk result (λ _. level.new.depth ≡ level.old.depth) }
     ensures read { (number : ℕ) → let B = block_of view.now in
         let line = first_number (drop level.old.at B) in
         let source = source_of B (record { start = level.old.at; stop = found.now.end }) in
@@ -405,9 +399,8 @@ fn code_nodes(
     requires content { IsContentIn (block_of view.now) found.now.content }
     requires inside { level.old.at < length (block_of view.now) }
     requires later { level.old.at < found.now.end }
-    requires placed { IsPlaced level.old }
     ensures step { IfOk result (λ s. spec.IsStep (block_of view.now) level.old.at level.new.at s) }
-    ensures kept { IfOk result (λ _. IsKept level.old level.new) }
+    ensures kept { IfOk result (λ _. level.new.depth ≡ level.old.depth) }
     ensures read { let B = block_of view.now in
         let line = first_number (drop level.old.at B) in
         let nodes = just (meaning.code_nodes B line (read_of found.now) (option_map (λ word. word.now) language.entry)) in

@@ -16,7 +16,6 @@ ghost use Rattle.rst_block_markup.specs.MarkupSteps.{is_markup, markup_reads, re
 ghost use Rattle.rst_block_state.specs.Meanings.{Keeps, comes, open_of, reads, within_at};
 ghost use Rattle.rst_block_state.specs.Numbered.{just};
 ghost use Rattle.rst_block_state.specs.OpenBlocks as blocks;
-ghost use Rattle.rst_block_state.specs.OpenBlocks.{IsKept, IsPlaced};
 ghost use Rattle.rst_block_state.specs.Steps as spec;
 ghost use Rattle.rst_block_state.specs.Texts.{excerpt, lines_in, said, spelled};
 ghost use Rattle.rst_block_state.specs.declared.waits.Waits.TheVariants.{Element};
@@ -45,9 +44,8 @@ pub fn explicit_markup(
 ) -> Result<Step, BlockFault>
     requires inside { level.old.at < length (block_of view.now) }
     requires kind { IsTrue (is_explicit_kind (kind_of (block_of view.now) level.old.at)) }
-    requires placed { IsPlaced level.old }
     ensures step { IfOk result (λ s. spec.IsStep (block_of view.now) level.old.at level.new.at s) }
-    ensures kept { IfOk result (λ _. IsKept level.old level.new) }
+    ensures kept { IfOk result (λ _. level.new.depth ≡ level.old.depth) }
     ensures read { Keeps result (λ s. comes level.new (block_of view.now) s pass.new.numbers)
         (reads level.old (block_of view.now) pass.old.numbers) }
     ensures paid { IfOk result (λ s. IsPaid 29 level.old level.new (block_of view.now) s pass.old.looks pass.new.looks) }
@@ -73,9 +71,8 @@ fn begin_markup(
     end: usize,
     pass: &mut Pass,
 ) -> Result<(), BlockFault>
-    requires placed { IsPlaced level.old }
     ensures at { level.new.at ≡ level.old.at }
-    ensures kept { IfOk result (λ _. IsKept level.old level.new) }
+    ensures kept { IfOk result (λ _. level.new.depth ≡ level.old.depth) }
     ensures read { let B = block_of view.now in
         let nodes = markup.markup_nodes (within_at level.new.depth) B (record { start = level.old.at; stop = end }) in
         Keeps result (λ _. reads_with level.new B nodes end pass.new.numbers) (markup_reads level.old B end pass.old.numbers) }
@@ -103,10 +100,9 @@ fn markup_of(
     requires end { end ≡ explicit_end level.old.at found }
     requires inside { level.old.at < length (block_of view.now) }
     requires later { level.old.at < end }
-    requires placed { IsPlaced level.old }
     requires explicit { found ≡ explicit_of level.old.at (drop level.old.at (block_of view.now)) }
     ensures step { IfOk result (λ s. spec.IsStep (block_of view.now) level.old.at level.new.at s) }
-    ensures kept { IfOk result (λ _. IsKept level.old level.new) }
+    ensures kept { IfOk result (λ _. level.new.depth ≡ level.old.depth) }
     ensures read { let B = block_of view.now in
         let X = drop level.old.at B in
         let nodes = markup.markup_by found (within_at level.old.depth) B (record { start = level.old.at; stop = end }) X in
@@ -148,9 +144,8 @@ fn labelled_block(
     requires body { IsBlock (block_of view.now) body }
     requires inside { level.old.at < length (block_of view.now) }
     requires later { level.old.at < body.to }
-    requires placed { IsPlaced level.old }
     ensures step { IfOk result (λ s. spec.IsStep (block_of view.now) level.old.at level.new.at s) }
-    ensures kept { IfOk result (λ _. IsKept level.old level.new) }
+    ensures kept { IfOk result (λ _. level.new.depth ≡ level.old.depth) }
     ensures read { let B = block_of view.now in
         let X = drop level.old.at B in
         let element = markup.labelled_node kind (excerpt (front_text X) label) (first_number X) in
@@ -186,9 +181,8 @@ fn target_block(
     requires text { IsBlock (block_of view.now) text }
     requires inside { level.old.at < length (block_of view.now) }
     requires later { level.old.at < text.to }
-    requires placed { IsPlaced level.old }
     ensures step { IfOk result (λ s. spec.IsStep (block_of view.now) level.old.at level.new.at s) }
-    ensures kept { IfOk result (λ _. IsKept level.old level.new) }
+    ensures kept { IfOk result (λ _. level.new.depth ≡ level.old.depth) }
     ensures read { let B = block_of view.now in
         let X = drop level.old.at B in
         let node = target_node (option_map (excerpt (front_text X)) name) (spelled (lines_in B text)) (first_number X) in
@@ -238,9 +232,8 @@ fn comment(
     requires text { IsBlock (block_of view.now) text }
     requires inside { level.old.at < length (block_of view.now) }
     requires later { level.old.at < text.to }
-    requires placed { IsPlaced level.old }
     ensures step { IfOk result (λ s. spec.IsStep (block_of view.now) level.old.at level.new.at s) }
-    ensures kept { IfOk result (λ _. IsKept level.old level.new) }
+    ensures kept { IfOk result (λ _. level.new.depth ≡ level.old.depth) }
     ensures read { let B = block_of view.now in
         let line = first_number (drop level.old.at B) in
         let node = preserved_node CommentTag line (spelled (lines_in B text)) in
@@ -266,9 +259,8 @@ fn empty_comment(
     pass: &mut Pass,
 ) -> Result<Step, BlockFault>
     requires later { level.old.at < end }
-    requires placed { IsPlaced level.old }
     ensures step { IfOk result (λ s. spec.IsStep (block_of view.now) level.old.at level.new.at s) }
-    ensures kept { IfOk result (λ _. IsKept level.old level.new) }
+    ensures kept { IfOk result (λ _. level.new.depth ≡ level.old.depth) }
     ensures read { let B = block_of view.now in
         let node = preserved_node CommentTag (first_number (drop level.old.at B)) [] in
         Keeps result (λ s. comes level.new B s pass.new.numbers) (reads_with level.old B (just (node ∷ [])) end pass.old.numbers) }
@@ -314,9 +306,8 @@ fn noted(level: &mut OpenBlock, element: Node, body: Part) -> Step
 /// Puts a node behind the last, in a block that goes on at place `end`.
 pub(crate) fn put(level: &mut OpenBlock, node: Node, end: usize) -> Result<Step, BlockFault>
     requires later { level.old.at < end }
-    requires placed { IsPlaced level.old }
     ensures step { (B : Block) → IfOk result (λ s. spec.IsStep B level.old.at level.new.at s) }
-    ensures kept { IfOk result (λ _. IsKept level.old level.new) }
+    ensures kept { IfOk result (λ _. level.new.depth ≡ level.old.depth) }
     ensures read { (B : Block) (number : ℕ)
         → Keeps result (λ s. comes level.new B s number) (reads_with level.old B (just (node ∷ [])) end number) }
     ensures paid { (B : Block) (before after : ℕ) → capped before ≤ after

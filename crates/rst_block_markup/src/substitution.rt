@@ -20,7 +20,6 @@ ghost use Rattle.rst_block_state.specs.Directives as directives;
 ghost use Rattle.rst_block_markup.specs.MarkupSteps.{made_of, reads_with};
 ghost use Rattle.rst_block_state.specs.Meanings.{Keeps, comes, within_at};
 ghost use Rattle.rst_block_state.specs.OpenBlocks as blocks;
-ghost use Rattle.rst_block_state.specs.OpenBlocks.{IsKept, IsPlaced};
 ghost use Rattle.rst_block_state.specs.Steps as spec;
 ghost use Rattle.rst_block_state.specs.Texts as texts;
 ghost use Rattle.rst_block_state.specs.Ledger.{Opens, unread_at};
@@ -55,10 +54,9 @@ pub(crate) fn substitution_definition(
     requires call { IfSome held (IsCall (block_of view.now) level.old.at) }
     requires inside { level.old.at < length (block_of view.now) }
     requires later { level.old.at < end }
-    requires placed { IsPlaced level.old }
     requires begins { IfSome held (λ call. (level.old.at ≤ call.block.from) × (call.block.to ≤ end)) }
     ensures step { IfOk result (λ s. spec.IsStep (block_of view.now) level.old.at level.new.at s) }
-    ensures kept { IfOk result (λ _. IsKept level.old level.new) }
+    ensures kept { IfOk result (λ _. level.new.depth ≡ level.old.depth) }
     ensures read { let B = block_of view.now in
         let within = within_at level.old.depth in
         let nodes = directives.substitution_nodes within B (record { start = level.old.at; stop = end }) written.now held in
@@ -107,10 +105,9 @@ fn holding(
     requires call { IsCall (block_of view.now) level.old.at invocation.now }
     requires inside { level.old.at < length (block_of view.now) }
     requires later { level.old.at < end }
-    requires placed { IsPlaced level.old }
     requires begins { (level.old.at ≤ invocation.now.block.from) × (invocation.now.block.to ≤ end) }
     ensures step { IfOk result (λ s. spec.IsStep (block_of view.now) level.old.at level.new.at s) }
-    ensures kept { IfOk result (λ _. IsKept level.old level.new) }
+    ensures kept { IfOk result (λ _. level.new.depth ≡ level.old.depth) }
     ensures read { let B = block_of view.now in
         let within = within_at level.old.depth in
         let outcome = directives.called within B level.old.at invocation.now Substitution in
@@ -180,9 +177,8 @@ fn replacement(
     requires content { IsContentIn (block_of view.now) content }
     requires inside { level.old.at < length (block_of view.now) }
     requires later { level.old.at < end }
-    requires placed { IsPlaced level.old }
     ensures step { IfOk result (λ s. spec.IsStep (block_of view.now) level.old.at level.new.at s) }
-    ensures kept { IfOk result (λ _. IsKept level.old level.new) }
+    ensures kept { IfOk result (λ _. level.new.depth ≡ level.old.depth) }
     ensures read { let B = block_of view.now in
         let line = first_number (drop level.old.at B) in
         let source = texts.source_of B (record { start = level.old.at; stop = end }) in

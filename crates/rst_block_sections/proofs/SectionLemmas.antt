@@ -16,7 +16,7 @@ use Rattle.rst_block_sections.specs.declared.sectioning.OpenSection.{OpenSection
 use Rattle.rst_block_sections.specs.declared.sectioning.Sections.{Sections}
 use Rattle.rst_block_sections.specs.OpenSections.{Open, open_of, put_inside, close, closed_with, goes_on, StopsAt}
 use Rattle.rst_block_nodes.specs.Texts.{section_node}
-use Rattle.rst_block_sections.specs.Sections.{Title, Item, plain, titled, Entry, alone, under, Member, loose, section_at, node_of, inside, behind, filled, section_of, title_notes, members, judged, level_of, same_style, with_style, inconsistent, title_of, items_from, document_of}
+use Rattle.rst_block_sections.specs.Sections.{Title, Item, plain, titled, Entry, alone, under, Member, loose, section_at, node_of, inside, behind, filled, section_of, title_notes, members, judged, level_of, same_style, with_style, inconsistent, title_of, items_of, document_of}
 
 abbrev pub opened : Node → List Node → Open
 opened element nodes = record { element = element; nodes = nodes }
@@ -151,12 +151,6 @@ pub all_of_document : (items : List Item) (styles : List Style) (current : ℕ)
     → inside 0 (members (judged styles current items)) ≡ map node_of (members (judged styles current items))
 all_of_document items styles current = all_inside (members (judged styles current items)) (deep_judged items styles current)
 
--- nodes alone are the document's
-pub nodes_alone : (ns : List Node) (styles : List Style) (current : ℕ) → map node_of (members (judged styles current (map plain ns))) ≡ ns
-unfolding judged members
-nodes_alone [] styles current = refl
-nodes_alone (n ∷ ns) styles current = ap (λ (xs : List Node). n ∷ xs) (nodes_alone ns styles current)
-
 -- ---- the steps of the sections that are open
 
 -- the innermost section was put into the one round it
@@ -262,19 +256,6 @@ pub level_behind : (s : Style) (styles : List Style) (i : ℕ) → length styles
 unfolding level_of
 level_behind s styles i h = at_drop_all (level_of s) styles i h
 
--- ---- nodes from the front of some
-
-pub one_moved : (all left rest : List Node) (i : ℕ) (n : Node) → left ≡ drop i all → left ≡ n ∷ rest → (take (i + 1) all ≡ take i all ++ n ∷ []) × (rest ≡ drop (i + 1) all)
-one_moved all left rest i n is first =
-    let fits : i < length all = omega (arith, length-drop i all, ap length is, ap length first) in
-    let both : n ∷ rest ≡ get_or all i n ∷ drop (i + 1) all = sym first ∙ is ∙ rw add-one (drop-cons all i n fits) in
-    (take_more all i n fits ∙ ap (λ x. take i all ++ x ∷ []) (cc both), cc both)
-
-pub all_moved : (all left : List Node) (i count : ℕ) → left ≡ drop i all → left ≡ [] → i ≤ count → (take i all ≡ take count all) × (left ≡ drop count all)
-all_moved all left i count is none h =
-    let short : length all ≤ i = omega (arith, length-drop i all, ap length is, ap length none) in
-    (take_all i all short ∙ sym (take_all count all (omega arith)), none ∙ sym (drop_all count all (omega arith)))
-
 -- ---- the whole document
 
 none_open : (ms : List Member) → (close 0 [] (opened (Element Document [] (forest_of []) 0) []) ms).0 ≡ Element Document [] (forest_of (inside 0 ms)) 0
@@ -304,45 +285,24 @@ pub all_closed : (s t : Sections) → ((ms : List Member) → StopsAt 1 ms → c
     → filled t.current.element t.current.nodes ≡ goes_on s []
 all_closed s t ends few = sym (alone_closed t.outer.items t.current few) ∙ ap (λ r. r.0) (ends [] (stops_at_none 1)) ∙ goes_on_none s
 
--- nodes were put into the innermost section
-pub put : (s m : Sections) (ns : List Node) (items : List Item) → m.outer ≡ s.outer → m.styles ≡ s.styles → m.current.element ≡ s.current.element
-    → m.current.nodes ≡ s.current.nodes ++ ns → goes_on m items ≡ goes_on s (map plain ns ++ items)
-put s m ns items outer styles element nodes =
-    ap₂ (λ os ss. (close 0 (map open_of os.items) (open_of m.current) (members (judged ss.items (length os.items) items))).0) outer styles
-    ∙ ap₂ (λ x xs. (close 0 (map open_of s.outer.items) (opened x xs) (members (judged s.styles.items (length s.outer.items) items))).0) element nodes
-    ∙ nodes_put (map open_of s.outer.items) s.current.element s.current.nodes ns s.styles.items (length s.outer.items) items
-
-items_of_title : (done : ℕ) (nodes : List Node) (h : Heading) (hs : List Heading)
-    → items_from done nodes (h ∷ hs) ≡ map plain (take (h.before - done) nodes) ++ titled (title_of h) ∷ items_from (done + (h.before - done)) (drop (h.before - done) nodes) hs
-unfolding items_from
-items_of_title done nodes h hs = refl
+-- the innermost section holds these nodes
+abbrev pub holding : Sections → List Node → Sections
+holding s nodes = record { outer = s.outer; current = record { element = s.current.element; nodes = nodes }; styles = s.styles }
 
 -- a title was met, with the nodes before it
-pub title_met : (s m t : Sections) (h : Heading) (done more : ℕ) (nodes rest : List Node) (hs : List Heading) → more ≡ h.before - done
-    → m.outer ≡ s.outer → m.styles ≡ s.styles → m.current.element ≡ s.current.element
-    → m.current.nodes ≡ s.current.nodes ++ take more nodes → rest ≡ drop more nodes
-    → ((items : List Item) → goes_on t items ≡ goes_on m (titled (title_of h) ∷ items))
-    → goes_on t (items_from (done + more) rest hs) ≡ goes_on s (items_from done nodes (h ∷ hs))
-title_met s m t h done more nodes rest hs so outer styles element here left met =
-    met (items_from (done + more) rest hs)
-    ∙ put s m (take more nodes) (titled (title_of h) ∷ items_from (done + more) rest hs) outer styles element here
-    ∙ ap (λ xs. goes_on s (map plain (take more nodes) ++ titled (title_of h) ∷ items_from (done + more) xs hs)) left
-    ∙ ap (λ n. goes_on s (map plain (take n nodes) ++ titled (title_of h) ∷ items_from (done + n) (drop n nodes) hs)) so
-    ∙ ap (goes_on s) (sym (items_of_title done nodes h hs))
-
-items_without_titles : (done : ℕ) (nodes : List Node) → items_from done nodes [] ≡ map plain nodes
-unfolding items_from
-items_without_titles done nodes = refl
+pub title_met : (s t : Sections) (h : Heading) (hs : List Heading) (put nodes : List Node) → put ≡ s.current.nodes ++ h.nodes
+    → ((items : List Item) → goes_on t items ≡ goes_on (holding s put) (titled (title_of h) ∷ items)) → goes_on t (items_of hs nodes) ≡ goes_on s (items_of (h ∷ hs) nodes)
+unfolding items_of
+title_met s t h hs put nodes is met =
+    let items : List Item = titled (title_of h) ∷ items_of hs nodes in
+    met (items_of hs nodes)
+    ∙ ap (λ (xs : List Node). goes_on (holding s xs) items) is
+    ∙ nodes_put (map open_of s.outer.items) s.current.element s.current.nodes h.nodes s.styles.items (length s.outer.items) items
 
 -- no title is left
-pub last_met : (s m : Sections) (done count : ℕ) (nodes : List Node) → count ≡ length nodes → m.outer ≡ s.outer → m.styles ≡ s.styles → m.current.element ≡ s.current.element
-    → m.current.nodes ≡ s.current.nodes ++ take count nodes → goes_on m [] ≡ goes_on s (items_from done nodes [])
-last_met s m done count nodes all outer styles element here =
-    put s m nodes [] outer styles element (here ∙ ap (λ n. s.current.nodes ++ take n nodes) all ∙ ap (λ xs. s.current.nodes ++ xs) (take_all (length nodes) nodes (omega arith)))
-    ∙ ap (goes_on s) (append-nil (map plain nodes) ∙ sym (items_without_titles done nodes))
-
--- a document without titles
-pub untitled : (nodes : List Node) → Element Document [] (forest_of nodes) 0 ≡ document_of (items_from 0 nodes [])
-untitled nodes =
-    ap (λ xs. Element Document [] (forest_of xs) 0) (sym (nodes_alone nodes [] 0))
-    ∙ ap document_of (sym (items_without_titles 0 nodes))
+pub last_met : (s : Sections) (put nodes : List Node) → put ≡ s.current.nodes ++ nodes → goes_on (holding s put) [] ≡ goes_on s (items_of [] nodes)
+unfolding items_of
+last_met s put nodes is =
+    ap (λ (xs : List Node). goes_on (holding s xs) []) is
+    ∙ nodes_put (map open_of s.outer.items) s.current.element s.current.nodes nodes s.styles.items (length s.outer.items) []
+    ∙ ap (goes_on s) (append-nil (map plain nodes))

@@ -1,5 +1,5 @@
 -- The sections of a document, made of its nodes and its titles (reStructuredText Markup Specification, 'Sections'; Document Tree, 'section').
-use Rattle.std.specs.Prelude.{ℕ, suc, ◌+◌, ◌-◌, ◌==◌, ◌&&◌, Bool, false, nat_lt, nat_le, List, [], ◌∷◌, ◌++◌, length, take, drop, map, if◌then◌else◌, Option, Some, codes, string_bytes}
+use Rattle.std.specs.Prelude.{ℕ, suc, ◌+◌, ◌==◌, ◌&&◌, Bool, false, nat_lt, nat_le, List, [], ◌∷◌, ◌++◌, length, map, if◌then◌else◌, Option, Some, codes, string_bytes}
 use Rattle.std.specs.Bool.{beq}
 use Rattle.std.specs.Option.{option_to_list}
 use Rattle.rst_tree.specs.declared.node.Node.{Node}
@@ -115,9 +115,7 @@ document_of items = Element Document [] (forest_of (map node_of (members (judged
 abbrev pub title_of : Heading → Title
 title_of h = record { style = h.style; element = h.title.element; notes = h.title.notes.items; warning = h.warning; line = h.line; source = string_bytes h.source }
 
--- The items that nodes are with headings between them. Each heading says how many nodes of the document stand before it; `done` of them stand before
--- these.
-unfoldable pub items_from : ℕ → List Node → List Heading → List Item
-items_from done nodes [] = map plain nodes
-items_from done nodes (h ∷ hs) =
-    map plain (take (h.before - done) nodes) ++ titled (title_of h) ∷ items_from (done + (h.before - done)) (drop (h.before - done) nodes) hs
+-- the items of a document: each title comes after its nodes, and these nodes after the last one
+unfoldable pub items_of : List Heading → List Node → List Item
+items_of [] nodes = map plain nodes
+items_of (h ∷ hs) nodes = map plain h.nodes ++ titled (title_of h) ∷ items_of hs nodes

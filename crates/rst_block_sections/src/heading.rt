@@ -4,6 +4,7 @@ ghost use Rattle.rst_block_sections.specs.Sections.{same_style};
 
 use rst_block_nodes::Texted;
 use rst_tree::Node;
+use rst_tree_index::MarkedNodes;
 
 /// The style of a title: its character, and whether it has an overline.
 #[derive(Clone, Copy)]
@@ -24,8 +25,8 @@ impl Style {
 /// A title where it stands in the document.
 #[derive(Drop)]
 pub struct Heading {
-    /// How many nodes of the document stand before it.
-    pub before: usize,
+    /// The nodes that come before it, since the last title.
+    pub nodes: MarkedNodes,
     pub style: Style,
     /// The title, with the messages of its text.
     pub title: Texted,

@@ -1,15 +1,15 @@
 //! Sections, made of the nodes and the titles of a document (Markup Specification, 'Sections').
-ghost use Rattle.std.specs.Prelude.{◌≡◌, ◌+◌, ◌-◌, ◌≤◌, List, ◌∷◌, ◌++◌, [], length, take, drop};
+ghost use Rattle.std.specs.Prelude.{◌≡◌, ◌+◌, ◌-◌, ◌≤◌, List, ◌∷◌, [], length};
 ghost use Rattle.rst_block_nodes.specs.Texts.{section_node};
 ghost use Rattle.rst_tree.specs.Faults.{Gives};
-ghost use Rattle.rst_block_sections.specs.Sections.{Item, titled, Member, section_at, inside, behind, section_of, document_of, inconsistent, level_of, with_style, title_notes, title_of, items_from};
+ghost use Rattle.rst_block_sections.specs.Sections.{Item, titled, Member, section_at, inside, behind, section_of, document_of, inconsistent, level_of, with_style, title_notes, title_of, items_of};
 ghost use Rattle.rst_block_sections.specs.OpenSections.{goes_on, closed_with, StopsAt};
 
 use crate::heading::{Heading, Style};
 use crate::nodes::completed;
 use rst_block_nodes::{message, section};
-use rst_tree::{Attrs, Level as Gravity, Node, Tag, TreeFault};
-use rst_tree_index::{Marked, MarkedIter, MarkedNodes};
+use rst_tree::{Level as Gravity, Node, Tag, TreeFault};
+use rst_tree_index::{Marked, MarkedNodes};
 use std::alloc::Global;
 use std::mem;
 
@@ -29,53 +29,16 @@ pub fn document(
     nodes: MarkedNodes,
     headings: Vec<Heading>,
 ) -> Result<Marked, TreeFault>
-    ensures { Gives (λ root. root ≡ document_of (items_from 0 nodes headings.items)) result }
+    ensures { Gives (λ root. root ≡ document_of (items_of headings.items nodes)) result }
 {
-    if headings.is_empty() {
-        return nodes.into_element(Tag::Document, Attrs::new(alloc), 0);
-    }
     let mut sections = Sections::none(alloc);
-    let mut nodes = nodes.into_marked();
-    let mut done = 0;
-    for heading in headings {
-        let more = heading.before.saturating_sub(done);
-        move_front(alloc, &mut nodes, more, &mut sections.current.nodes)?;
-        done += more;
+    for mut heading in headings {
+        let before = mem::replace(&mut heading.nodes, MarkedNodes::none(alloc));
+        sections.current.nodes.append(before)?;
         sections.title(alloc, heading)?;
     }
-    let left = nodes.len();
-    move_front(alloc, &mut nodes, left, &mut sections.current.nodes)?;
+    sections.current.nodes.append(nodes)?;
     sections.closed(alloc)
-}
-
-/// Makes room for so many nodes in a section that was just begun: mostly no others come.
-fn make_room(nodes: &mut MarkedNodes, count: usize) -> Result<(), TreeFault>
-    ensures { nodes.new ≡ nodes.old }
-{
-    if nodes.is_empty() {
-        nodes.reserve(count)?;
-    }
-    Ok(())
-}
-
-/// Puts so many nodes from the front of some behind others, or all that there are.
-fn move_front(
-    alloc: Global,
-    nodes: &mut MarkedIter,
-    count: usize,
-    to: &mut MarkedNodes,
-) -> Result<(), TreeFault>
-    ensures moved { Gives (λ _. to.new ≡ to.old ++ take count nodes.old) result }
-    ensures left { Gives (λ _. nodes.new ≡ drop count nodes.old) result }
-{
-    make_room(to, count.min(nodes.len()))?;
-    for _done in 0..count {
-        match nodes.next(alloc) {
-            Some(node) => to.push(node)?,
-            None => return Ok(()),
-        }
-    }
-    Ok(())
 }
 
 /// The sections that are open, and the styles of titles in the order of their first use.

@@ -1,13 +1,12 @@
 -- Answers of calls: what holds of what they give, and what a fault leaves to the caller.
 use Rattle.std.proofs.Common.{◌≡◌, ℕ, List, Result, Ok, Err, IfOk, sym, ◌∙◌, subst}
 use Rattle.rst_block_state.specs.Meanings.{Keeps}
-use Rattle.rst_block_state.specs.OpenBlocks.{Closes, Gives, IsKept}
+use Rattle.rst_block_state.specs.OpenBlocks.{Closes, Gives}
 use Rattle.rst_block_state.specs.Rest.{no_run}
 use Rattle.rst_block_state.specs.Titles.{Item}
 use Rattle.rst_block_state.specs.declared.fault.BlockFault.{BlockFault}
 use Rattle.rst_block_state.specs.declared.fault.BlockFault.TheVariants.{TooDeep, NoMemory}
 use Rattle.rst_block_state.specs.declared.open_block.OpenBlock.{OpenBlock}
-use Rattle.rst_block_state.proofs.Changes.{kept_then}
 
 -- ---- a call that gives a value, or for which memory runs out
 
@@ -47,10 +46,10 @@ refused_as NoMemory first follows read other e h = tt
 
 -- ---- steps
 
--- what the last call keeps is kept after what calls before it keep
-pub kept_after : {A : Type 0} (result : Result A BlockFault) (new : OpenBlock) {old mid : OpenBlock} → IsKept old mid → IfOk result (λ _. IsKept mid new) → IfOk result (λ _. IsKept old new)
-kept_after (Ok value) new h k = kept_then h (λ w. k)
-kept_after (Err fault) new h k = tt
+-- the block is as deep after the last call as before the calls before it
+pub depth_after : {A : Type 0} (result : Result A BlockFault) {old mid new : ℕ} → mid ≡ old → IfOk result (λ _. new ≡ mid) → IfOk result (λ _. new ≡ old)
+depth_after (Ok value) h k = k ∙ h
+depth_after (Err fault) h k = tt
 
 -- where ending the open run is refused, so is the step
 pub close_refuses : {A R : Type 0} (result : Result A BlockFault) (fault : BlockFault) (follows : A → Result (R × ℕ) ℕ) (read : Result (R × ℕ) ℕ) (closed : Result (List Item × ℕ) ℕ) (l : OpenBlock)

@@ -29,7 +29,7 @@ use Rattle.rst_block_state.specs.Meanings.{deepest, open_of, within_at, done_of,
 use Rattle.rst_block_state.specs.NextLine.{IsText, IsNextConstruct}
 use Rattle.rst_block_state.specs.Nodes.{piece_of, ending_notes}
 use Rattle.rst_block_state.specs.Numbered.{Numbered, then_read, ◌>>=◌, just, before}
-use Rattle.rst_block_state.specs.OpenBlocks.{IsMoved, HasMoreAt, HasTitle, IsClosed, IsPlaced, IsKept}
+use Rattle.rst_block_state.specs.OpenBlocks.{IsMoved, HasMoreAt, HasTitle, IsClosed}
 use Rattle.rst_block_state.specs.Rest.{OpenRun, no_run, closed_run, rest, rest_with}
 use Rattle.rst_block_state.specs.RestLaws.{found_as, IsAlone}
 use Rattle.rst_block_state.specs.Texts.{shown, source_of}
@@ -37,7 +37,7 @@ use Rattle.rst_block_state.specs.Titles.{Item, plain, titled}
 use Rattle.rst_block_state.specs.declared.open_block.OpenBlock.{OpenBlock}
 use Rattle.rst_block_state.specs.declared.step.Step.TheVariants.{Done}
 use Rattle.rst_block_state.proofs.BegunLemmas.{marks_tell_constructs}
-use Rattle.rst_block_state.proofs.Changes.{done_moved, done_more, done_closed, done_title, kept_moved, kept_closed, reads_is}
+use Rattle.rst_block_state.proofs.Changes.{done_moved, done_more, done_closed, done_title, reads_is}
 use Rattle.rst_block_state.proofs.NumberedLemmas.{same_after, before_before, before_then, same_before, at_number}
 pub use Rattle.rst_block_state.proofs.RestLemmas.{lines_after, span_to}
 use Rattle.rst_block_state.proofs.RestLemmas.{rest_over, rest_blanks, rest_text, alone_begins}
@@ -123,22 +123,18 @@ run_of l B = closed_run (suc deepest - l.depth) B (open_of l.run)
 -- it has ended: mid is the block after its end, and m the number of the next message
 pub record HasEnded (old mid : OpenBlock) (B : Block) (n m : ℕ) : Type 0 where
   pub closed : IsClosed (run_of old B n) old mid m no_run
-  pub placed : IsPlaced old
 
-pub has_ended : {old mid : OpenBlock} {m : ℕ} (B : Block) (n : ℕ) → IsClosed (run_of old B n) old mid m no_run → IsPlaced old → HasEnded old mid B n m
-has_ended B n closed placed = record { closed = closed; placed = placed }
-
-pub kept_ended : {old mid : OpenBlock} {B : Block} {n m : ℕ} → HasEnded old mid B n m → IsKept old mid
-kept_ended e = kept_closed e.closed e.placed
+pub has_ended : {old mid : OpenBlock} {m : ℕ} (B : Block) (n : ℕ) → IsClosed (run_of old B n) old mid m no_run → HasEnded old mid B n m
+has_ended B n closed = record { closed = closed }
 
 -- what comes after the end of the open run, once the run has ended
-pub closed_reads : (old mid : OpenBlock) (B : Block) (n m : ℕ) (o : OpenRun) (K : List Item → Numbered (List Item)) (R : Numbered (List Item)) → IsClosed (run_of old B n) old mid m o → IsPlaced old
+pub closed_reads : (old mid : OpenBlock) (B : Block) (n m : ℕ) (o : OpenRun) (K : List Item → Numbered (List Item)) (R : Numbered (List Item)) → IsClosed (run_of old B n) old mid m o
     → ((done : List Item) (k : ℕ) → K done k ≡ before done R k) → before (done_of old) (run_of old B >>= K) n ≡ before (done_of mid) R m
-closed_reads old mid B n m o K R h w f =
+closed_reads old mid B n m o K R h f =
     ap (λ r. then_read (λ others. just (done_of old ++ others)) (then_read K r)) h.given
     ∙ same_before (done_of old) (K (map plain h.more)) (before (map plain h.more) R) m (f (map plain h.more) m)
     ∙ before_before (done_of old) (map plain h.more) R m
-    ∙ ap (λ items. before items R m) (sym (done_closed h w))
+    ∙ ap (λ items. before items R m) (sym (done_closed h))
 
 -- where the open run is nested too deeply, so is all
 pub close_refused : (l : OpenBlock) (B : Block) (n line : ℕ) (K : List Item → Numbered (List Item)) → run_of l B n ≡ Err line → before (done_of l) (run_of l B >>= K) n ≡ Err line
@@ -179,7 +175,7 @@ pub next_alone : {old mid : OpenBlock} {B : Block} {what : Construct} {lines n m
     → reads old B n ≡ before (done_of mid) (alone_rest old.depth B (next_found old what lines)) m
 next_alone {old} {mid} {B} {what} {lines} {n} {m} h a e =
     let f : Found = next_found old what lines in
-    run_then_alone n h a ∙ closed_reads old mid B n m no_run (after_run old.depth B f) (alone_rest old.depth B f) e.closed e.placed (run_first old.depth B f)
+    run_then_alone n h a ∙ closed_reads old mid B n m no_run (after_run old.depth B f) (alone_rest old.depth B f) e.closed (run_first old.depth B f)
 
 -- where the open run is nested too deeply, so is all
 pub next_refused : {l : OpenBlock} {B : Block} {what : Construct} {lines line : ℕ} (n : ℕ) → IsNextConstruct l B what lines → IsAlone what → run_of l B n ≡ Err line → reads l B n ≡ Err line
@@ -205,7 +201,7 @@ pub next_nodes : {old mid new : OpenBlock} {B : Block} {what : Construct} {lines
     → HasMoreAt mid new (nodes ++ ending_notes (alone_ending what) (drop (old.at + lines) B)) (old.at + lines) → reads new B k ≡ reads old B n
 next_nodes {old} {mid} {new} {B} {what} {lines} nodes h a e p more =
     let E : List Node = ending_notes (alone_ending what) (drop (old.at + lines) B) in
-    next_items new (map plain nodes) h a e p (done_more more (kept_ended e).placed ∙ ap (λ items. done_of mid ++ items) (map-append plain nodes E)) more.depth more.at more.run
+    next_items new (map plain nodes) h a e p (done_more more ∙ ap (λ items. done_of mid ++ items) (map-append plain nodes E)) more.depth more.at more.run
 
 -- the same, where it is a title
 pub next_title : {old mid moved new : OpenBlock} {B : Block} {what : Construct} {heading : Heading} {lines n m k : ℕ} → IsNextConstruct old B what lines → IsAlone what → HasEnded old mid B n m
@@ -214,7 +210,7 @@ pub next_title : {old mid moved new : OpenBlock} {B : Block} {what : Construct} 
 next_title {old} {mid} {moved} {new} {B} {what} {heading} {lines} h a e p none g at more =
     let item : List Item = titled (title_of heading) ∷ [] in
     next_items new (titled (title_of heading) ∷ []) h a e p
-    (done_title more (kept_moved g (kept_ended e).placed).placed
+    (done_title more
     ∙ ap (λ items. items ++ item) (done_moved g)
     ∙ ap (λ (notes : List Node). done_of mid ++ (item ++ map plain notes)) (sym none))
     (more.depth ∙ g.depth) (more.at ∙ at) (more.run ∙ g.run)
@@ -253,7 +249,7 @@ over_is l B n h = ap (λ (r : Numbered (List Item)). before (done_of l) r n) (re
 -- once it has ended there, the block is read
 pub over_reads : {old new : OpenBlock} {B : Block} {n m : ℕ} → HasEnded old new B n m → length B ≤ old.at → comes new B Done m ≡ reads old B n
 over_reads {old} {new} {B} {n} {m} e h =
-    sym (over_is old B n h ∙ ap (then_read (λ others. just (done_of old ++ others))) e.closed.given ∙ ap (λ items. just items m) (sym (done_closed e.closed e.placed)))
+    sym (over_is old B n h ∙ ap (then_read (λ others. just (done_of old ++ others))) e.closed.given ∙ ap (λ items. just items m) (sym (done_closed e.closed)))
 
 -- where it is nested too deeply, so is the block
 pub over_refused : (l : OpenBlock) (B : Block) (n line : ℕ) → length B ≤ l.at → run_of l B n ≡ Err line → reads l B n ≡ Err line

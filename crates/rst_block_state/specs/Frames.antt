@@ -6,7 +6,6 @@ use Rattle.rst_markup_blocks.specs.Parts.{IsBlock}
 use Rattle.rst_markup_blocks.specs.declared.part.Part.{Part}
 use Rattle.rst_block_state.specs.Meanings.{IsNew, after, comes, within_at}
 use Rattle.rst_block_state.specs.Numbered.{Numbered, ◌>>=◌}
-use Rattle.rst_block_state.specs.OpenBlocks.{IsKept, IsPlaced}
 use Rattle.rst_block_state.specs.Steps.{IsBlockIf, IsTable, IsWaiting, IsResumed}
 use Rattle.rst_block_state.specs.Titles.{Item}
 use Rattle.rst_block_state.specs.declared.frame.Frame.{Frame}
@@ -16,11 +15,11 @@ use Rattle.rst_block_state.specs.declared.open_block.OpenBlock.{OpenBlock}
 use Rattle.rst_block_state.specs.declared.step.Step.{Step}
 use Rattle.rst_block_state.specs.declared.step.Step.TheVariants.{Next, Open, Cells, Done}
 
--- a block of a text that waits: its parts are those of its lines, and its titles stand among its nodes
+-- a block of a text that waits: its parts are those of its lines
 abbrev pub IsFrame : Block → Frame → Type 0
 IsFrame S f =
     IsPlacement S f.placement × IsBlockIf (placement_block S f.placement) f.second
-    × IsWaiting (placement_block S f.placement) f.level.at f.waits × IsPlaced f.level
+    × IsWaiting (placement_block S f.placement) f.level.at f.waits
 
 -- all of them are
 abbrev pub AreFrames : Block → List Frame → Type 0
@@ -55,8 +54,8 @@ IsEnded S f to (GoesOn view s) =
 
 -- what follows keeps the block that waited: the next part is read from its begin and stands in so many blocks, or the block goes on
 abbrev pub KeepsFrame : Frame → ℕ → OpenBlock → Ended → Type 0
-KeepsFrame f depth l (Waiting g part) = (g.level ≡ f.level) × IsNew l × (l.depth ≡ depth) × IsPlaced l
-KeepsFrame f depth l (GoesOn view s) = IsKept f.level l
+KeepsFrame f depth l (Waiting g part) = (g.level ≡ f.level) × IsNew l × (l.depth ≡ depth)
+KeepsFrame f depth l (GoesOn view s) = l.depth ≡ f.level.depth
 
 -- what the block that waited gives by what follows: the next part is read for it, or it goes on
 abbrev pub ended_as : Block → OpenBlock → Ended → Numbered (List Item)

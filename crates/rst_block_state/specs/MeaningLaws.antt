@@ -17,7 +17,7 @@ use Rattle.rst_block_state.specs.Lists.{list_item}
 use Rattle.rst_block_state.specs.Meanings.{IsNew, open_of, deepest, within_at, done_of, reads, reads_from, quotes_from, with_item, resumed, after, plug, comes}
 use Rattle.rst_block_state.specs.Nodes.{below_last_level, block_items, nodes_among}
 use Rattle.rst_block_state.specs.Numbered.{◌>>=◌, just, before}
-use Rattle.rst_block_state.specs.OpenBlocks.{IsMoved, HasMore, HasItem, HasTitle, IsPlaced}
+use Rattle.rst_block_state.specs.OpenBlocks.{IsMoved, HasMore, HasItem, HasTitle}
 use Rattle.rst_block_state.specs.Quotes.{first_attribution, quotes}
 use Rattle.rst_block_state.specs.Rest.{ListSoFar, open_list, with_items, rest}
 use Rattle.rst_block_state.specs.Steps.{rest_of}
@@ -102,25 +102,16 @@ ItemIsRead = (l : OpenBlock) (B : Block) (line : ℕ) (part : Part) (r : ListSoF
 
 -- more nodes after the last are given next
 abbrev pub NodesAreRead : Type 0
-NodesAreRead = (old new : OpenBlock) (B : Block) (more : List Node) → HasMore old new more → IsPlaced old
-    → reads new B ≡ reads_from old B more old.at
+NodesAreRead = (old new : OpenBlock) (B : Block) (more : List Node) → HasMore old new more → reads new B ≡ reads_from old B more old.at
 
 -- an item after the last is given in its list
 abbrev pub ItemIsAdded : Type 0
-ItemIsAdded = (old new : OpenBlock) (B : Block) (item : Node) → HasItem old new item → IsPlaced old
-    → reads new B ≡ with_item old B item (open_of old.run)
+ItemIsAdded = (old new : OpenBlock) (B : Block) (item : Node) → HasItem old new item → reads new B ≡ with_item old B item (open_of old.run)
 
 -- a title after the last node is the last item so far
 abbrev pub TitleIsLast : Type 0
-TitleIsLast = (old new : OpenBlock) (h : Heading) → HasTitle old new h → IsPlaced old
+TitleIsLast = (old new : OpenBlock) (h : Heading) → HasTitle old new h
     → done_of new ≡ done_of old ++ titled (title_of h) ∷ []
-
--- titles stay among the nodes
-abbrev pub TitlesArePlaced : Type 0
-TitlesArePlaced = (old new : OpenBlock) (h : Heading) → HasTitle old new h → IsPlaced old → IsPlaced new
-
-abbrev pub NodesKeepPlaces : Type 0
-NodesKeepPlaces = (old new : OpenBlock) (more : List Node) → HasMore old new more → IsPlaced old → IsPlaced new
 
 -- ---- block quotes
 

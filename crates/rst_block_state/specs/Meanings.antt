@@ -11,7 +11,7 @@ use Rattle.rst_markup_tables.specs.Ends.{end_of}
 use Rattle.rst_block_nodes.specs.Elements.{element_of}
 use Rattle.rst_block_nodes.specs.LineBlocks.{indented}
 use Rattle.rst_block_nodes.specs.declared.texted.Texted.{Texted}
-use Rattle.rst_block_sections.specs.Sections.{items_from, filled}
+use Rattle.rst_block_sections.specs.Sections.{items_of, filled}
 use Rattle.rst_block_state.specs.Constructs.{block_quote, grid}
 use Rattle.rst_block_state.specs.Directives.{first_paragraph, replacement}
 use Rattle.rst_block_state.specs.Figures.{caption_error, figure_nodes}
@@ -83,7 +83,7 @@ within_at depth = record { titles = depth == 0; code = true; levels = suc deepes
 
 -- the nodes and titles of a block so far, but for those of the open run
 abbrev pub done_of : OpenBlock → List Item
-done_of l = items_from 0 l.nodes l.headings.items
+done_of l = items_of l.headings.items l.nodes
 
 -- what the block B gives that is read: what came of it so far, and what is still to come
 abbrev pub reads : OpenBlock → Block → Numbered (List Item)

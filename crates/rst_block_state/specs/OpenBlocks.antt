@@ -1,5 +1,5 @@
 -- What calls change of the block that is read and of its open run. No rule of markup.
-use Rattle.std.specs.Prelude.{◌≡◌, ℕ, ◌≤◌, ◌==◌, Bool, false, List, [], ◌∷◌, ◌++◌, length, map, unwrap_or, Result, Ok, Err}
+use Rattle.std.specs.Prelude.{◌≡◌, ℕ, ◌==◌, Bool, false, List, [], ◌∷◌, ◌++◌, map, unwrap_or, Result, Ok, Err}
 use Rattle.rst_tree.specs.declared.node.Node.{Node}
 use Rattle.rst_block_nodes.specs.LineBlocks.{indented_by}
 use Rattle.rst_block_nodes.specs.declared.line_blocks.BarText.{BarText}
@@ -88,33 +88,13 @@ HasItemIn o old new item = HasMore old new (item ∷ [])
 abbrev pub HasItem : OpenBlock → OpenBlock → Node → Type 0
 HasItem old new item = HasItemIn (open_of old.run) old new item
 
--- a heading that stands after this many nodes
-abbrev pub placed_after : ℕ → Heading → Heading
-placed_after n h = record { before = n; style = h.style; title = h.title; warning = h.warning; line = h.line; source = h.source }
-
--- a title comes after the last node, and nothing else changes
+-- a title comes after the last node, with the nodes since the title before it, and nothing else changes
 pub record HasTitle (old new : OpenBlock) (h : Heading) : Type 0 where
   pub depth : new.depth ≡ old.depth
   pub at : new.at ≡ old.at
-  pub nodes : new.nodes ≡ old.nodes
-  pub headings : new.headings.items ≡ old.headings.items ++ placed_after (length old.nodes) h ∷ []
+  pub nodes : new.nodes ≡ []
+  pub headings : new.headings.items ≡ old.headings.items ++ record h { nodes = old.nodes } ∷ []
   pub run : new.run ≡ old.run
-
--- ---- what each step keeps
-
--- no title stands after more nodes than there are
-abbrev pub AreWithin : ℕ → List Heading → Type 0
-AreWithin n [] = Unit {0}
-AreWithin n (h ∷ hs) = (h.before ≤ n) × AreWithin n hs
-
--- each title of a block stands among its nodes
-abbrev pub IsPlaced : OpenBlock → Type 0
-IsPlaced l = AreWithin (length l.nodes) l.headings.items
-
--- what each step leaves as it is: the block is as deep, and its titles stand among its nodes
-pub record IsKept (old new : OpenBlock) : Type 0 where
-  pub depth : new.depth ≡ old.depth
-  pub placed : IsPlaced new
 
 -- ---- what is read, as a change
 
@@ -152,7 +132,7 @@ pub record ReadsNodes (read : Result (List Node × ℕ) ℕ) (old new : OpenBloc
   pub given : read ≡ Ok (more, next)
   pub gone : HasMoreAt old new more place
 
--- The same of items, of which some may be titles. They come after the last item, each title among the nodes.
+-- the same of items, of which some may be titles; they come after the last item
 pub record ReadsItems (read : Result (List Item × ℕ) ℕ) (old new : OpenBlock) (place next : ℕ) : Type 0 where
   pub more : List Item
   pub given : read ≡ Ok (more, next)
@@ -160,7 +140,6 @@ pub record ReadsItems (read : Result (List Item × ℕ) ℕ) (old new : OpenBloc
   pub at : new.at ≡ place
   pub done : done_of new ≡ done_of old ++ more
   pub run : new.run ≡ old.run
-  pub placed : IsPlaced new
 
 -- ---- answers
 

@@ -4,7 +4,6 @@ ghost use Rattle.rst_text.specs.Shown.{block_of, source_of, placement_block};
 ghost use Rattle.rst_block_state.specs.Steps as spec;
 ghost use Rattle.rst_block_state.specs.Frames as frames;
 ghost use Rattle.rst_block_state.specs.Meanings.{IsNew};
-ghost use Rattle.rst_block_state.specs.OpenBlocks.{IsPlaced};
 
 use super::open_block::OpenBlock;
 use super::step::Step;
@@ -62,7 +61,6 @@ pub fn opened(
 ) -> Frame
     requires second { spec.IsBlockIf (block_of view.now) second }
     requires waits { spec.IsWaiting (block_of view.now) level.old.at waits }
-    requires placed { IsPlaced level.old }
     ensures frame { frames.IsFrame (source_of view.now) result }
     ensures block { placement_block (source_of view.now) result.placement ≡ block_of view.now }
     ensures at { result.level.at ≡ level.old.at }
@@ -70,7 +68,6 @@ pub fn opened(
     ensures kept { result.level ≡ level.old }
     ensures waits { (result.waits ≡ waits) × (result.second ≡ second) × (result.nodes ≡ []) }
     ensures begun { IsNew level.new }
-    ensures placed { IsPlaced level.new }
     ensures depth { level.new.depth ≡ depth }
 {
     Frame {

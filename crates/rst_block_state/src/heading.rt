@@ -9,9 +9,10 @@ use super::texts::Pass;
 use rst_block_nodes::{message, with_text};
 use rst_block_sections::{Heading, Style};
 use rst_tree::{Level, Node, Tag, TreeFault};
+use rst_tree_index::MarkedNodes;
 use std::alloc::Global;
 
-/// A title with this text.
+/// A title with this text, and no nodes before it.
 pub fn heading_of(
     style: Style,
     text: &str,
@@ -26,7 +27,7 @@ pub fn heading_of(
 {
     let title = with_text(pass.alloc, Tag::Title, line, text, line, &mut pass.numbers)?;
     Ok(Heading {
-        before: 0,
+        nodes: MarkedNodes::none(pass.alloc),
         style,
         title,
         warning,

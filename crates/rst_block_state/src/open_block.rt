@@ -1,12 +1,5 @@
 //! A block that is being read.
-ghost use Rattle.std.specs.Prelude.{◌≡◌, ℕ, suc, ◌+◌, ◌-◌, ◌^◌, ◌<◌, ◌≤◌, ◌==◌, [], ◌∷◌, length, drop};
-ghost use Rattle.rst_text.specs.Looked.{capped};
-ghost use Rattle.rst_text.specs.Shown.{block_of};
-ghost use Rattle.rst_block_state.specs.Meanings.{IsNew, deepest, joining_in, open_of};
-ghost use Rattle.rst_block_state.specs.Ledger.{run_looks};
-ghost use Rattle.rst_block_state.specs.OpenBlocks as spec;
-ghost use Rattle.rst_block_state.specs.Rest.{closed_run, no_run};
-ghost use Rattle.rst_block_state.specs.Texts.{warned};
+ghost use Rattle.std.specs.Prelude.{◌≡◌, ◌<◌, []};
 
 use super::fault::BlockFault;
 use super::run::{ListKind, OpenList, Run};
@@ -27,21 +20,30 @@ pub struct OpenBlock {
     pub depth: usize,
     /// The place of the next line.
     pub at: usize,
-    /// The nodes and messages so far, but for those of the open run.
+    /// The nodes and messages since the last title, but for those of the open run.
     pub nodes: MarkedNodes,
     /// The constructs before the next line that it may join.
     pub run: Run,
     /// The titles so far. Only the document has some.
     pub headings: Vec<Heading>,
+    pub ghost untitled: { 0 < depth → headings.items ≡ [] },
 }
 
 impl OpenBlock {
+    ghost use Rattle.std.specs.Prelude.{ℕ, suc, ◌+◌, ◌-◌, ◌^◌, ◌≤◌, ◌==◌, ◌∷◌, drop};
+    ghost use Rattle.rst_text.specs.Looked.{capped};
+    ghost use Rattle.rst_text.specs.Shown.{block_of};
+    ghost use Rattle.rst_block_state.specs.Meanings.{IsNew, deepest, joining_in, open_of};
+    ghost use Rattle.rst_block_state.specs.Ledger.{run_looks};
+    ghost use Rattle.rst_block_state.specs.OpenBlocks as spec;
+    ghost use Rattle.rst_block_state.specs.Rest.{closed_run, no_run};
+    ghost use Rattle.rst_block_state.specs.Texts.{warned};
+
     /// A block of which nothing was read.
     pub fn new(alloc: Global, depth: usize) -> OpenBlock
         ensures at { result.at ≡ 0 }
         ensures depth { result.depth ≡ depth }
         ensures begun { IsNew result }
-        ensures placed { spec.IsPlaced result }
     {
         OpenBlock {
             depth,
@@ -103,11 +105,12 @@ impl OpenBlock {
     }
 
     /// Puts a title behind the last node.
-    pub fn push_heading(&mut self, mut heading: Heading) -> Result<(), BlockFault>
+    pub fn push_heading(&mut self, alloc: Global, mut heading: Heading) -> Result<(), BlockFault>
+        requires { self.old.depth ≡ 0 }
         ensures at { self.new.at ≡ self.old.at }
         ensures title { spec.Gives (λ _. spec.HasTitle self.old self.new heading) result }
     {
-        heading.before = self.nodes.len();
+        heading.nodes = mem::replace(&mut self.nodes, MarkedNodes::none(alloc));
         self.headings.push(heading)?;
         Ok(())
     }

@@ -9,7 +9,7 @@ use Rattle.rst_block.proofs.ended.closed.Goals as goal
 
 pub returns-in-Some-clause-read : goal.returns-in-Some-clause-read
 returns-in-Some-clause-read c =
-    second_reads (source_of c.args.whole.now) c.args.frame c.args.level.now c.replace.result c.in-Some.second (block_of c.inside-part.result) c.append.new.self c.args.pass.now.numbers c.in-Some.is
+    second_reads (source_of c.args.whole.now) c.args.frame c.args.level.now c.replace.result c.in-Some.second (block_of c.inside-part.result) c.append.new.self c.args.pass.now.numbers c.requires.inner c.in-Some.is
     (c.replace.ensures.value ∙ c.replace-done.ensures.after)
     (c.inside-part.ensures.block ∙ ap (λ Y. lines_in Y c.in-Some.second) c.at-view.ensures.block)
     (c.in_ok-append.ensures ∙ ap (λ (done : OpenBlock). c.args.frame.nodes ++ done.nodes) c.replace-done.ensures.value)
@@ -18,14 +18,14 @@ pub returns-in_err-next-in-None-clause-read : goal.returns-in_err-next-in-None-c
 returns-in_err-next-in-None-clause-read c =
     refuses c.from_residual-in_err-next-in-None.result c.in_err-next-in-None.field-0.0 _ _ (search rules)
     (refused_as c.in_err-next-in-None.field-0.0 _ _ _ _
-    (last_reads (source_of c.args.whole.now) c.args.frame c.args.level.now c.replace-done.new.dest (block_of c.at-view.result) c.append.new.self c.args.pass.now.numbers c.in-None.is c.replace-done.ensures.after c.at-view.ensures.block
+    (last_reads (source_of c.args.whole.now) c.args.frame c.args.level.now c.replace-done.new.dest (block_of c.at-view.result) c.append.new.self c.args.pass.now.numbers c.requires.inner c.in-None.is c.replace-done.ensures.after c.at-view.ensures.block
     (c.in_ok-append.ensures ∙ ap (λ (done : OpenBlock). c.args.frame.nodes ++ done.nodes) c.replace-done.ensures.value))
     c.in_err-next-in-None.ensures.read)
 
 pub returns-clause-read : goal.returns-clause-read
 returns-clause-read c =
     c.in_ok-next-in-None.ensures.read
-    ∙ last_reads (source_of c.args.whole.now) c.args.frame c.args.level.now c.replace-done.new.dest (block_of c.at-view.result) c.append.new.self c.args.pass.now.numbers c.in-None.is c.replace-done.ensures.after c.at-view.ensures.block
+    ∙ last_reads (source_of c.args.whole.now) c.args.frame c.args.level.now c.replace-done.new.dest (block_of c.at-view.result) c.append.new.self c.args.pass.now.numbers c.requires.inner c.in-None.is c.replace-done.ensures.after c.at-view.ensures.block
     (c.in_ok-append.ensures ∙ ap (λ (done : OpenBlock). c.args.frame.nodes ++ done.nodes) c.replace-done.ensures.value)
 
 pub returns-in-Some-clause-paid : goal.returns-in-Some-clause-paid

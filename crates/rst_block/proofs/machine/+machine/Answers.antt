@@ -23,7 +23,7 @@ use Rattle.rst_block_state.specs.declared.step.Step.{Step}
 use Rattle.rst_block_state.specs.declared.step.Step.TheVariants.{Next, Open, Cells}
 use Rattle.rst_block_state.proofs.Calls.{refuses}
 use Rattle.rst_block.proofs.CellsRead.{each_begins, each_ends, each_goes_on, each_keeps, entry_next, row_keeps, table_keeps, table_reads}
-use Rattle.rst_block_state.proofs.Changes.{moved_more, more_more, kept_more}
+use Rattle.rst_block_state.proofs.Changes.{moved_more, more_more}
 use Rattle.rst_block.proofs.LastLevel.{flat_text, flat_text_fails}
 use Rattle.rst_block.proofs.MachinePaid.{none_read, some_read, next_cell, row_paid, next_row, rows_paid, table_paid, text_begins, block_goes_on, block_opens, block_ends, block_waits, text_ends, flat_paid}
 use Rattle.rst_block.proofs.Stack.{left, parts_left, now_of_next, now_of_resumed, cost_of_resumed, goes_on, stepped, opens, resumes, waits_again, second_left, parts_at_most, parts_at_least, taken, placed, nested_push, nested_pop}
@@ -50,6 +50,9 @@ read_blocks-closed-requires-clause-deepest t c =
     let off = taken (source_of c.args.whole) c.len-base.result c.loop-now.frames.items c.last_of.new.frames.items f c.in-Some.ensures.some.0 c.in-Some.ensures.some.1 c.loop-now.invariant.waiting in
     let nest = nested_pop c.args.depth (drop c.len-base.result c.last_of.new.frames.items) f (rw off.1 at c.loop-now.invariant.nested) in
     omega (arith, nest.1, length-drop c.len-base.result c.last_of.new.frames.items, ap length c.in-Some.ensures.some.0, length-append c.last_of.new.frames.items (f ∷ []), off.0, c.loop-now.invariant.room)
+
+pub read_blocks-closed-requires-clause-inner : goal.read_blocks-closed-requires-clause-inner
+read_blocks-closed-requires-clause-inner t c = omega (arith, c.loop-now.invariant.depth, c.in-Some.ensures.some.1)
 
 pub read_blocks-loop-now-smaller-in_ok-now-in-Next : goal.read_blocks-loop-now-smaller-in_ok-now-in-Next
 read_blocks-loop-now-smaller-in_ok-now-in-Next t c =
@@ -98,7 +101,6 @@ read_blocks-loop-now-preserved-else-inner-gt-DEEPEST t c =
       text = c.inside-view.ensures.text ∙ c.loop-now.invariant.text;
       now = tt;
       depth = rw c.push.ensures.items (omega (arith, length-append c.loop-now.frames.items (f ∷ []), c.len.ensures.value, c.opened.ensures.depth, c.loop-now.invariant.base));
-      placed = c.opened.ensures.placed;
       nested = rw (c.push.ensures.items, on.1) (nested_push c.args.depth (drop c.len-base.result c.loop-now.frames.items) f c.loop-now.invariant.nested
           (ap (λ (l : OpenBlock). l.depth) c.opened.ensures.kept ∙ c.loop-now.invariant.depth ∙ ap (λ n. c.args.depth + n) (sym (length-drop c.len-base.result c.loop-now.frames.items))));
       read = rw (c.push.ensures.items, on.1) (
@@ -149,7 +151,6 @@ read_blocks-loop-now-preserved-in-Waiting t c =
       text = e.5;
       now = tt;
       depth = rw c.push-in-Waiting.ensures.items (omega (arith, length-append c.last_of.new.frames.items (g ∷ []), ap length c.in-Some.ensures.some.0, length-append c.last_of.new.frames.items (f ∷ []), c.len.ensures.value, keeps.2, c.loop-now.invariant.base, off.0));
-      placed = keeps.3;
       nested = rw (c.push-in-Waiting.ensures.items, on.1) (nested_push c.args.depth fs g nest.0 (ap (λ (l : OpenBlock). l.depth) keeps.0 ∙ nest.1));
       read = rw (c.push-in-Waiting.ensures.items, on.1) (
           plug_waits S fs f g c.loop-now.level c.closed.new.level c.in-Waiting.part c.closed.new.pass.numbers c.loop-now.pass.numbers (block_items (within_at c.args.depth) (block_of c.args.whole) c.args.pass.now.numbers)
@@ -192,8 +193,7 @@ read_blocks-loop-now-preserved t c =
       waiting = off.3;
       text = e.0;
       now = now_of_resumed (block_of c.in-GoesOn.outer) f.level.at c.closed.new.level.at c.in-GoesOn.next e.2;
-      depth = omega (arith, keeps.depth, nest.1, length-drop c.len-base.result c.last_of.new.frames.items, off.0);
-      placed = keeps.placed;
+      depth = omega (arith, keeps, nest.1, length-drop c.len-base.result c.last_of.new.frames.items, off.0);
       nested = nest.0;
       read = plug_ends S fs f c.loop-now.level c.closed.new.level c.in-GoesOn.outer c.in-GoesOn.next c.closed.new.pass.numbers c.loop-now.pass.numbers (block_items (within_at c.args.depth) (block_of c.args.whole) c.args.pass.now.numbers)
           (rw c.in-GoesOn.is at c.in_ok-frame-in-Some.ensures.read) (rw (c.in-Done.is, off.1) at c.loop-now.invariant.read);
@@ -214,8 +214,7 @@ read_blocks-loop-now-preserved-in_ok-now-in-Next t c =
       waiting = c.loop-now.invariant.waiting;
       text = c.loop-now.invariant.text;
       now = now_of_next B c.loop-now.level.at c.next.new.level.at s c.in_ok-now-in-Next.ensures.next;
-      depth = c.in_ok-now-in-Next.ensures.kept.depth ∙ c.loop-now.invariant.depth;
-      placed = c.in_ok-now-in-Next.ensures.kept.placed;
+      depth = c.in_ok-now-in-Next.ensures.kept ∙ c.loop-now.invariant.depth;
       nested = c.loop-now.invariant.nested;
       read = plug_goes_on S (drop c.len-base.result c.loop-now.frames.items) (comes c.next.new.level B s) (reads c.loop-now.level B) c.next.new.pass.numbers c.loop-now.pass.numbers
           (block_items (within_at c.args.depth) (block_of c.args.whole) c.args.pass.now.numbers) c.in_ok-now-in-Next.ensures.read (rw c.in-Next.is at c.loop-now.invariant.read);
@@ -236,8 +235,7 @@ read_blocks-loop-now-preserved-in_ok-now-in-Cells t c =
       waiting = rw same c.loop-now.invariant.waiting;
       text = c.loop-now.invariant.text;
       now = rw c.in_ok-now-in-Cells.ensures.next tt;
-      depth = rw same (c.in_ok-now-in-Cells.ensures.kept.depth ∙ c.loop-now.invariant.depth);
-      placed = c.in_ok-now-in-Cells.ensures.kept.placed;
+      depth = rw same (c.in_ok-now-in-Cells.ensures.kept ∙ c.loop-now.invariant.depth);
       nested = rw same c.loop-now.invariant.nested;
       read = rw same (plug_goes_on S (drop c.len-base.result c.loop-now.frames.items) (comes c.cells.new.level B s) (comes c.loop-now.level B (Cells c.in-Cells.table)) c.cells.new.pass.numbers c.loop-now.pass.numbers
           (block_items (within_at c.args.depth) (block_of c.args.whole) c.args.pass.now.numbers) c.in_ok-now-in-Cells.ensures.read (rw c.in-Cells.is at c.loop-now.invariant.read));
@@ -258,8 +256,7 @@ read_blocks-loop-now-preserved-in_ok-now-in-Open t c =
       waiting = c.loop-now.invariant.waiting;
       text = c.loop-now.invariant.text;
       now = now_of_resumed B c.loop-now.level.at c.flat.new.level.at s c.in_ok-now-in-Open.ensures.step;
-      depth = c.in_ok-now-in-Open.ensures.kept.depth ∙ c.loop-now.invariant.depth;
-      placed = c.in_ok-now-in-Open.ensures.kept.placed;
+      depth = c.in_ok-now-in-Open.ensures.kept ∙ c.loop-now.invariant.depth;
       nested = c.loop-now.invariant.nested;
       read = plug_goes_on S (drop c.len-base.result c.loop-now.frames.items) (comes c.flat.new.level B s) (comes c.loop-now.level B (Open c.in-Open.waits c.in-Open.first c.in-Open.second)) c.flat.new.pass.numbers c.loop-now.pass.numbers
           (block_items (within_at c.args.depth) (block_of c.args.whole) c.args.pass.now.numbers) c.in_ok-now-in-Open.ensures.read (rw c.in-Open.is at c.loop-now.invariant.read);
@@ -281,7 +278,6 @@ read_blocks-loop-now-init t c =
       text = refl;
       now = tt;
       depth = omega (arith, c.len-base.ensures.value, c.new-level.ensures.depth);
-      placed = c.new-level.ensures.placed;
       nested = rw none tt;
       read = plug_begins (source_of c.args.whole) (drop base c.args.frames.now.items) c.new-level.result (block_of c.args.whole) c.args.depth c.args.pass.now.numbers none c.new-level.ensures.begun c.new-level.ensures.depth;
       paid = text_begins (source_of c.args.whole) (drop base c.args.frames.now.items) c.new-level.result (block_of c.args.whole) c.args.depth c.args.pass.now.looks none c.new-level.ensures.begun c.new-level.ensures.depth c.requires.depth;
@@ -304,6 +300,9 @@ read_blocks-returns-in_err-now-in-Open-clause-read t c =
     refuses _ c.in_err-now-in-Open.field-0.0 _ _ (search rules)
     (plug_fails (source_of c.args.whole) (drop c.len-base.result c.loop-now.frames.items) (comes c.loop-now.level (block_of c.loop-now.view) (Open c.in-Open.waits c.in-Open.first c.in-Open.second)) c.loop-now.pass.numbers
     (block_items (within_at c.args.depth) (block_of c.args.whole) c.args.pass.now.numbers) c.in_err-now-in-Open.field-0.0 _ _ (rw c.in-Open.is at c.loop-now.invariant.read) c.in_err-now-in-Open.ensures.read)
+
+pub read_blocks-returns-in-None-clause-depth : goal.read_blocks-returns-in-None-clause-depth
+read_blocks-returns-in-None-clause-depth t c = omega (arith, c.loop-now.invariant.depth, c.in-None.ensures.none.1)
 
 pub read_blocks-returns-in-None-clause-read : goal.read_blocks-returns-in-None-clause-read
 read_blocks-returns-in-None-clause-read t c =
@@ -363,8 +362,7 @@ cells-returns-in_err-made-clause-read t c =
     c.in_err-made.ensures.rows)
 
 pub cells-returns-clause-kept : goal.cells-returns-clause-kept
-cells-returns-clause-kept t c =
-    kept_more (more_more (moved_more c.go_to.ensures.moved refl c.in_ok-push_marked.ensures.more) c.in_ok-after_table.ensures.more) c.requires.placed
+cells-returns-clause-kept t c = c.in_ok-after_table.ensures.more.depth ∙ c.in_ok-push_marked.ensures.more.depth ∙ c.go_to.ensures.moved.depth
 
 pub cells-returns-clause-read : goal.cells-returns-clause-read
 cells-returns-clause-read t c =
@@ -375,7 +373,7 @@ cells-returns-clause-read t c =
     c.args.pass.now.numbers c.rows_of.new.pass.numbers c.in-Table.is c.requires.level (sym c.in_ok-made.ensures.rows)
     (c.in_ok-table.ensures ∙ ap (λ widths. table_node widths c.in-Table.head c.in_ok-made.made c.number-line.result) c.as_slice.ensures
     ∙ ap (λ line. table_node c.in-Table.cols c.in-Table.head c.in_ok-made.made line) c.number-line.ensures.value)
-    c.go_to.ensures.moved (c.go_to.ensures.there behind) c.in_ok-push_marked.ensures.more c.in_ok-after_table.ensures.more c.requires.placed
+    c.go_to.ensures.moved (c.go_to.ensures.there behind) c.in_ok-push_marked.ensures.more c.in_ok-after_table.ensures.more
 
 pub cells-returns-clause-paid : goal.cells-returns-clause-paid
 cells-returns-clause-paid t c =

@@ -9,7 +9,6 @@ use Rattle.rst_block_state.specs.Ledger.{total_at, totals}
 use Rattle.rst_block_state.specs.Meanings.{comes, plug, within_at}
 use Rattle.rst_block_state.specs.Nodes.{block_items}
 use Rattle.rst_block_state.specs.Numbered.{each}
-use Rattle.rst_block_state.specs.OpenBlocks.{IsPlaced}
 use Rattle.rst_block_state.specs.Tables.{entry_of, row_of}
 use Rattle.rst_block.proofs.CellsRead.{each_after}
 use Rattle.rst_block.proofs.MachinePaid.{AreLeft, cell_lines, row_lines, IsPaidFor}
@@ -42,7 +41,6 @@ invariant-read_blocks-loop-now l = record {
   text : source_of l.view ≡ source_of l.whole;
   now : IsNow (block_of l.view) l.level.at l.now;
   depth : l.level.depth ≡ l.depth + (length l.frames.items - l.base);
-  placed : IsPlaced l.level;
   nested : AreNested l.depth (drop l.base l.frames.items);
   read : plug (source_of l.whole) (drop l.base l.frames.items) (comes l.level (block_of l.view) l.now) l.pass.numbers ≡ block_items (within_at l.depth) (block_of l.whole) l.fn.pass.numbers;
   paid : IsPaidFor (total_at l.depth (block_of l.whole)) (source_of l.whole) (drop l.base l.frames.items) l.level (block_of l.view) l.now l.fn.pass.looks l.pass.looks;

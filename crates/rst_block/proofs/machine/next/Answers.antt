@@ -6,7 +6,6 @@ use Rattle.rst_block_state.specs.Meanings.{comes, reads}
 use Rattle.rst_block_state.specs.Steps.{IsStep}
 use Rattle.rst_block_state.specs.declared.step.Step.TheVariants.{Next}
 use Rattle.rst_block_state.proofs.Calls.{close_refuses}
-use Rattle.rst_block_state.proofs.Changes.{kept_closed}
 use Rattle.rst_block_state.proofs.LedgerLemmas.{ended}
 use Rattle.rst_block_state.proofs.NextConstructs.{has_ended, over_reads, over_refused}
 use Rattle.rst_block.proofs.Stack.{next_of_step}
@@ -14,7 +13,7 @@ use Rattle.rst_block_body.proofs.StepsPaid.{takes_then, takes_none}
 use Rattle.rst_block.proofs.machine.next.Goals as goal
 
 pub loop-level-init : goal.loop-level-init
-loop-level-init c = record { on = omega arith; depth = refl; placed = c.requires.placed; reads = refl; takes = takes_none _ _ _ }
+loop-level-init c = record { on = omega arith; depth = refl; reads = refl; takes = takes_none _ _ _ }
 
 -- a step after which the block goes on
 pub loop-level-preserved : goal.loop-level-preserved
@@ -28,8 +27,7 @@ loop-level-preserved c =
     subst (λ s. Takes (most_left old B Next) (least_left old B Next) c.loop-level.pass.looks (most_left new B s) (least_left new B s) c.step_at.new.pass.looks) c.in-Next.is c.in_ok-step.ensures.paid in
     record {
       on = omega (arith, c.loop-level.invariant.on, gone);
-      depth = c.in_ok-step.ensures.kept.depth ∙ c.loop-level.invariant.depth;
-      placed = c.in_ok-step.ensures.kept.placed;
+      depth = c.in_ok-step.ensures.kept ∙ c.loop-level.invariant.depth;
       reads = read ∙ c.loop-level.invariant.reads;
       takes = takes_then c.loop-level.invariant.takes paid;
     }
@@ -40,7 +38,7 @@ returns-in_default c =
     let B : Block = block_of c.args.view.now in
     record {
       next = next_of_step B c.args.level.now.at c.loop-level.level.at c.step_at.new.level.at c.in_ok-step.step c.loop-level.invariant.on (omega (arith, c.loop-level-test.true, c.len.ensures)) c.in_ok-step.ensures.step;
-      kept = record { depth = c.in_ok-step.ensures.kept.depth ∙ c.loop-level.invariant.depth; placed = c.in_ok-step.ensures.kept.placed };
+      kept = c.in_ok-step.ensures.kept ∙ c.loop-level.invariant.depth;
       read = c.in_ok-step.ensures.read ∙ c.loop-level.invariant.reads;
       paid = takes_then c.loop-level.invariant.takes c.in_ok-step.ensures.paid;
     }
@@ -51,13 +49,11 @@ returns-in_err-close-clause-read c =
     (λ line h. sym c.loop-level.invariant.reads ∙ over_refused c.loop-level.level (block_of c.args.view.now) c.loop-level.pass.numbers line (omega arith) h)
 
 pub returns-clause-kept : goal.returns-clause-kept
-returns-clause-kept c =
-    let kept = kept_closed c.in_ok-close.ensures.closed c.loop-level.invariant.placed in
-    record { depth = kept.depth ∙ c.loop-level.invariant.depth; placed = kept.placed }
+returns-clause-kept c = c.in_ok-close.ensures.closed.depth ∙ c.loop-level.invariant.depth
 
 pub returns-clause-read : goal.returns-clause-read
 returns-clause-read c =
-    over_reads (has_ended (block_of c.args.view.now) c.loop-level.pass.numbers c.in_ok-close.ensures.closed c.loop-level.invariant.placed) (omega arith) ∙ c.loop-level.invariant.reads
+    over_reads (has_ended (block_of c.args.view.now) c.loop-level.pass.numbers c.in_ok-close.ensures.closed) (omega arith) ∙ c.loop-level.invariant.reads
 
 pub returns-clause-paid : goal.returns-clause-paid
 returns-clause-paid c =

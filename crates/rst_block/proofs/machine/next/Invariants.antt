@@ -2,7 +2,6 @@ use Rattle.std.proofs.Common.{◌≡◌, ◌-◌, ◌≤◌, length}
 use Rattle.rst_text.specs.Shown.{block_of}
 use Rattle.rst_block_state.specs.Ledger.{most_left, least_left, Takes}
 use Rattle.rst_block_state.specs.Meanings.{reads}
-use Rattle.rst_block_state.specs.OpenBlocks.{IsPlaced}
 use Rattle.rst_block_state.specs.declared.step.Step.TheVariants.{Next}
 use Rattle.rst_block.proofs.machine.next.Given as goal
 
@@ -11,7 +10,6 @@ abbrev pub invariant-loop-level : goal.invariant-loop-level
 invariant-loop-level l = record {
   on : l.fn.level.at ≤ l.level.at;
   depth : l.level.depth ≡ l.fn.level.depth;
-  placed : IsPlaced l.level;
   reads : reads l.level (block_of l.fn.view) l.pass.numbers ≡ reads l.fn.level (block_of l.fn.view) l.fn.pass.numbers;
   takes : Takes (most_left l.fn.level (block_of l.fn.view) Next) (least_left l.fn.level (block_of l.fn.view) Next) l.fn.pass.looks (most_left l.level (block_of l.fn.view) Next) (least_left l.level (block_of l.fn.view) Next) l.pass.looks;
 }

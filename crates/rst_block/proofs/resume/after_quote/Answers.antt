@@ -1,16 +1,15 @@
 use Rattle.std.proofs.lemmas.Result.{IfOk-weaker}
 use Rattle.rst_text.specs.Shown.{block_of}
-use Rattle.rst_block_state.proofs.Changes.{kept_more}
 use Rattle.rst_block_body.proofs.QuoteSteps.{quote_ends}
 use Rattle.rst_block_body.proofs.QuotesPaid.{further_paid, last_paid}
 use Rattle.rst_block.proofs.resume.after_quote.Goals as goal
 
 pub returns-in_ok-warn-in-None-clause-kept : goal.returns-in_ok-warn-in-None-clause-kept
-returns-in_ok-warn-in-None-clause-kept c = kept_more c.in_ok-warn-in-None.ensures.more c.requires.placed
+returns-in_ok-warn-in-None-clause-kept c = c.in_ok-warn-in-None.ensures.more.depth
 
 pub returns-in_ok-warn-in-None-clause-read : goal.returns-in_ok-warn-in-None-clause-read
 returns-in_ok-warn-in-None-clause-read c =
-    quote_ends (block_of c.args.view.now) c.args.end c.args.pass.now.numbers c.in-None.is c.in_ok-warn-in-None.ensures.numbers c.in_ok-warn-in-None.ensures.more c.requires.placed
+    quote_ends (block_of c.args.view.now) c.args.end c.args.pass.now.numbers c.in-None.is c.in_ok-warn-in-None.ensures.numbers c.in_ok-warn-in-None.ensures.more
 
 pub returns-in-Some-clause-paid : goal.returns-in-Some-clause-paid
 returns-in-Some-clause-paid c line made =

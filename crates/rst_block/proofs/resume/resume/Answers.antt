@@ -9,8 +9,8 @@ use Rattle.rst_block_state.specs.Directives.{first_paragraph, replacement}
 use Rattle.rst_block_state.specs.Ledger.{WaitsForOne, run_looks, waiting_looks}
 use Rattle.rst_block_state.specs.Meanings.{after_quote, quote_by, resumed}
 use Rattle.rst_block_state.specs.declared.waits.OpenReplacement.{OpenReplacement}
-use Rattle.rst_block_state.proofs.Calls.{keeps_as}
-use Rattle.rst_block_state.proofs.Changes.{kept_more, kept_item}
+use Rattle.rst_block_state.proofs.Calls.{keeps_as, depth_after}
+use Rattle.rst_block_state.proofs.Changes.{item_depth}
 use Rattle.rst_block_state.proofs.WaitingLooks.{resumed as waited}
 use Rattle.rst_block_body.proofs.QuoteSteps.{after_more}
 use Rattle.rst_block_body.proofs.QuotesPaid.{more_paid, nodes_paid, item_paid}
@@ -18,8 +18,8 @@ use Rattle.rst_block.proofs.Waiting.{nodes_given, item_given}
 use Rattle.rst_block.proofs.resume.resume.Goals.{in-ListItem+in_ok-item-in-ListItem+in_ok-push_item-in-ListItem, in-ListedBody+in_ok-listed_item-in-ListedBody+in_ok-push_item-in-ListedBody, in-Element+in_ok-completed-in-Element+in_ok-push_marked-in-Element, in-Replacement+in_ok-finished_replacement-in-Replacement+in_ok-push-in-Replacement}
 use Rattle.rst_block.proofs.resume.resume.Goals as goal
 
-pub after_quote-requires-clause-placed : goal.after_quote-requires-clause-placed
-after_quote-requires-clause-placed c = (kept_more c.in_ok-put_quote-in-Quote.ensures.more c.requires.placed).placed
+pub returns-in-Quote-clause-kept : goal.returns-in-Quote-clause-kept
+returns-in-Quote-clause-kept c = depth_after c.after_quote.result c.in_ok-put_quote-in-Quote.ensures.more.depth c.after_quote.ensures.kept
 
 pub returns-in-Quote-clause-read : goal.returns-in-Quote-clause-read
 returns-in-Quote-clause-read c =
@@ -28,7 +28,7 @@ returns-in-Quote-clause-read c =
     let mid = c.put_quote.new.level in
     let earlier : List Node = quote_by c.in-Quote.line (option_map box_value c.in-Quote.attribution) c.args.nodes in
     let same : after_quote mid B [] c.in-Quote.rest c.in-Quote.end c.args.pass.now.numbers ≡ resumed old B c.args.waits c.args.nodes c.args.pass.now.numbers =
-    after_more old mid B earlier c.in-Quote.rest c.in-Quote.end c.args.pass.now.numbers c.in_ok-put_quote-in-Quote.ensures.more c.requires.placed
+    after_more old mid B earlier c.in-Quote.rest c.in-Quote.end c.args.pass.now.numbers c.in_ok-put_quote-in-Quote.ensures.more
     ∙ ap (λ w. resumed old B w c.args.nodes c.args.pass.now.numbers) (sym c.in-Quote.is) in
     keeps_as c.after_quote.result _ _ _ same c.after_quote.ensures.read
 
@@ -43,8 +43,8 @@ returns-in-Figure c =
     let lines : waiting_looks c.args.waits ≡ x.end - x.start = ap waiting_looks x.is in
     record {
       step = m.at;
-      kept = kept_more m c.requires.placed;
-      read = nodes_given B n m c.in_ok-made-in-Figure.ensures.figure c.requires.placed refl ∙ ap (λ waits. resumed old B waits c.args.nodes n) (sym x.is);
+      kept = m.depth;
+      read = nodes_given B n m c.in_ok-made-in-Figure.ensures.figure refl ∙ ap (λ waits. resumed old B waits c.args.nodes n) (sym x.is);
       paid = waited old c.append_marked.new.self B c.args.waits _ _ (subst WaitsForOne (sym x.is) tt) m.depth m.at (omega (arith, run)) (omega (arith, lines, c.finished_figure.ensures.looks)) c.in_ok-made-in-Figure.ensures.low;
     }
 
@@ -52,11 +52,11 @@ pub returns-clause-kept : goal.returns-clause-kept
 returns-clause-kept c =
     let old = c.args.level.now in
     elim c.match-waits.branch [
-      | in-ListItem+in_ok-item-in-ListItem+in_ok-push_item-in-ListItem w ↦ rw w.level-is (kept_item old w.push_item.new.self _ w.in_ok-push_item-in-ListItem.ensures.item c.requires.placed)
+      | in-ListItem+in_ok-item-in-ListItem+in_ok-push_item-in-ListItem w ↦ rw w.level-is (item_depth old w.push_item.new.self _ w.in_ok-push_item-in-ListItem.ensures.item)
       | in-ListedBody+in_ok-listed_item-in-ListedBody+in_ok-push_item-in-ListedBody w ↦
-          rw w.level-is (kept_item old w.push_item-in-ListedBody.new.self _ w.in_ok-push_item-in-ListedBody.ensures.item c.requires.placed)
-      | in-Element+in_ok-completed-in-Element+in_ok-push_marked-in-Element w ↦ rw w.level-is (kept_more w.in_ok-push_marked-in-Element.ensures.more c.requires.placed)
-      | in-Replacement+in_ok-finished_replacement-in-Replacement+in_ok-push-in-Replacement w ↦ rw w.level-is (kept_more w.in_ok-push-in-Replacement.ensures.more c.requires.placed)
+          rw w.level-is (item_depth old w.push_item-in-ListedBody.new.self _ w.in_ok-push_item-in-ListedBody.ensures.item)
+      | in-Element+in_ok-completed-in-Element+in_ok-push_marked-in-Element w ↦ rw w.level-is w.in_ok-push_marked-in-Element.ensures.more.depth
+      | in-Replacement+in_ok-finished_replacement-in-Replacement+in_ok-push-in-Replacement w ↦ rw w.level-is w.in_ok-push-in-Replacement.ensures.more.depth
     ]
 
 pub returns-clause-read : goal.returns-clause-read
@@ -70,22 +70,22 @@ returns-clause-read c =
       | in-ListItem+in_ok-item-in-ListItem+in_ok-push_item-in-ListItem w ↦
           let item : Node = element_of ListItem [] ns w.in-ListItem.line in
           let made : w.in_ok-item-in-ListItem.item ≡ item = w.in_ok-item-in-ListItem.ensures ∙ ap (λ attrs. element_of ListItem attrs ns w.in-ListItem.line) w.new.ensures in
-          item_given old w.push_item.new.self last B w.in_ok-item-in-ListItem.item item n w.in_ok-push_item-in-ListItem.ensures.item made c.requires.placed w.level-is
+          item_given old w.push_item.new.self last B w.in_ok-item-in-ListItem.item item n w.in_ok-push_item-in-ListItem.ensures.item made w.level-is
           ∙ ap (λ waits. resumed old B waits ns n) (sym w.in-ListItem.is)
       | in-ListedBody+in_ok-listed_item-in-ListedBody+in_ok-push_item-in-ListedBody w ↦
           let x = w.in-ListedBody in
-          item_given old w.push_item-in-ListedBody.new.self last B w.in_ok-listed_item-in-ListedBody.field-0 _ n w.in_ok-push_item-in-ListedBody.ensures.item w.in_ok-listed_item-in-ListedBody.ensures c.requires.placed w.level-is
+          item_given old w.push_item-in-ListedBody.new.self last B w.in_ok-listed_item-in-ListedBody.field-0 _ n w.in_ok-push_item-in-ListedBody.ensures.item w.in_ok-listed_item-in-ListedBody.ensures w.level-is
           ∙ ap (λ waits. resumed old B waits ns n) (sym x.is)
       | in-Element+in_ok-completed-in-Element+in_ok-push_marked-in-Element w ↦
           let node : Node = w.in_ok-completed-in-Element.field-0 in
           nodes_given B n w.in_ok-push_marked-in-Element.ensures.more
-          (ap (λ (m : Node). m ∷ []) w.in_ok-completed-in-Element.ensures) c.requires.placed w.level-is
+          (ap (λ (m : Node). m ∷ []) w.in_ok-completed-in-Element.ensures) w.level-is
           ∙ ap (λ waits. resumed old B waits ns n) (sym w.in-Element.is)
       | in-Replacement+in_ok-finished_replacement-in-Replacement+in_ok-push-in-Replacement w ↦
           let node : Node = w.in_ok-finished_replacement-in-Replacement.field-0 in
           let node_of : OpenReplacement → List Node = λ o. replacement (string_bytes o.name) o.line (string_bytes o.source) (first_paragraph ns) ∷ [] in
           nodes_given B n w.in_ok-push-in-Replacement.ensures.more
-          (ap (λ (m : Node). m ∷ []) w.in_ok-finished_replacement-in-Replacement.ensures ∙ ap node_of w.into_inner.ensures) c.requires.placed w.level-is
+          (ap (λ (m : Node). m ∷ []) w.in_ok-finished_replacement-in-Replacement.ensures ∙ ap node_of w.into_inner.ensures) w.level-is
           ∙ ap (λ waits. resumed old B waits ns n) (sym w.in-Replacement.is)
     ]
 

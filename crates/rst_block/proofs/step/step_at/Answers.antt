@@ -8,7 +8,6 @@ use Rattle.rst_markup_blocks.specs.Lines.{lines_while}
 use Rattle.rst_markup_blocks.specs.declared.kind.Kind.TheVariants as kinds
 use Rattle.rst_markup_blocks.specs.declared.lines.LineTest.TheVariants.{Blank as BlankTest}
 use Rattle.rst_markup_blocks.proofs.RowLemmas.{row_at}
-use Rattle.rst_block_state.proofs.Changes.{kept_moved}
 use Rattle.rst_block_state.proofs.NextConstructs.{blank_reads, next_of}
 use Rattle.rst_block_body.proofs.StepsPaid.{blanks_taken, construct_taken, step_taken, text_taken, markup_filled, grid_found, simple_found}
 use Rattle.rst_block_body.proofs.TableSteps.{grid_there}
@@ -35,7 +34,7 @@ returns-in-Blank c =
     let there = c.go_to.ensures.there later in
     record {
       step = c.go_to.ensures.later;
-      kept = kept_moved c.go_to.ensures.moved c.requires.placed;
+      kept = c.go_to.ensures.moved.depth;
       read = blank_reads B c.args.pass.now.numbers c.go_to.ensures.moved (omega (arith, there)) (there ∙ c.lines_end.ensures.end);
       paid = blanks_taken B (omega (arith, there)) (omega (arith, there, c.lines_end.ensures.within)) (there ∙ c.lines_end.ensures.end) c.go_to.ensures.moved
           c.begun_at.ensures.looks (omega (arith, c.begun_at.ensures.low)) c.lines_end.ensures.few c.lines_end.ensures.low;

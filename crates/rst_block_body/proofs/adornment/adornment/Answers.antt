@@ -2,7 +2,7 @@ use Rattle.std.proofs.Common.{sym, refl, subst}
 use Rattle.std.proofs.lemmas.Result.{IfOk-weaker}
 use Rattle.rst_text.specs.Shown.{block_of}
 use Rattle.rst_block_state.specs.NextLine.{IsText}
-use Rattle.rst_block_body.proofs.AdornedSteps.{form_is, adorned_next, wrong_next}
+use Rattle.rst_block_body.proofs.AdornedSteps.{form_is, adorned_next, titled_at_top, wrong_next}
 use Rattle.rst_block_body.proofs.TextsPaid.{paid_adorned}
 use Rattle.rst_block_body.proofs.adornment.adornment.Goals as goal
 
@@ -35,6 +35,9 @@ overlined-requires-clause-found c =
     let B = block_of c.args.view.now in
     let l = c.args.level.now in
     adorned_next l B c.requires.begun (form_is l B c.args.mark c.in-Title.is c.adorned_at.ensures.form c.titles.ensures)
+
+pub overlined-requires-clause-titles : goal.overlined-requires-clause-titles
+overlined-requires-clause-titles c = titled_at_top c.args.level.now (block_of c.args.view.now) c.args.mark (form_is c.args.level.now (block_of c.args.view.now) c.args.mark c.in-Title.is c.adorned_at.ensures.form c.titles.ensures)
 
 pub wrong-requires-clause-found : goal.wrong-requires-clause-found
 wrong-requires-clause-found c =

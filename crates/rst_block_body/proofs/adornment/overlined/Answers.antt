@@ -10,11 +10,13 @@ use Rattle.rst_block_state.specs.Texts.{source_of}
 use Rattle.rst_block_state.specs.Titles.{short_warning}
 use Rattle.rst_block_body.proofs.AdornedSteps.{overlined_reads}
 use Rattle.rst_block_state.proofs.Calls.{close_refuses, gives_keeps, gives_kept}
-use Rattle.rst_block_state.proofs.Changes.{kept_closed, kept_moved, kept_title, kept_then}
 use Rattle.rst_block_state.proofs.NextConstructs.{next_some, next_within, lines_after, end_behind, goes_behind, span_to, has_ended, next_refused, next_title}
 use Rattle.rst_block_body.proofs.TextsPaid.{paid_flat, lines_looked}
 use Rattle.rst_block_state.proofs.Views.{few_lines}
 use Rattle.rst_block_body.proofs.adornment.overlined.Goals as goal
+
+pub push_heading-requires : goal.push_heading-requires
+push_heading-requires c = c.go_to.ensures.moved.depth ∙ c.in_ok-close.ensures.closed.depth ∙ c.requires.titles
 
 pub returns-in_err-close-clause-read : goal.returns-in_err-close-clause-read
 returns-in_err-close-clause-read c =
@@ -23,7 +25,7 @@ returns-in_err-close-clause-read c =
 pub returns-clause-kept : goal.returns-clause-kept
 returns-clause-kept c =
     gives_kept _ _ c.push_heading.result c.push_heading.ensures.title
-    (λ _ h. kept_then (kept_closed c.in_ok-close.ensures.closed c.requires.placed) (λ w. kept_then (kept_moved c.go_to.ensures.moved w) (kept_title h)))
+    (λ _ h. h.depth ∙ c.go_to.ensures.moved.depth ∙ c.in_ok-close.ensures.closed.depth)
 
 pub returns-clause-read : goal.returns-clause-read
 returns-clause-read c =
@@ -49,7 +51,7 @@ returns-clause-read c =
     goes_behind l.at c.close.new.self.at c.go_to.new.self.at c.saturating_add-end.result 3 (length B) c.close.ensures.at c.saturating_add-end.ensures (next_some found c.requires.inside)
     within (few_lines c.args.view.now) c.go_to.ensures.there in
     gives_keeps _ c.push_heading.result _ _ c.push_heading.ensures.title
-    (λ _ h. next_title found tt (has_ended B _ c.in_ok-close.ensures.closed c.requires.placed)
+    (λ _ h. next_title found tt (has_ended B _ c.in_ok-close.ensures.closed)
     (overlined_reads c.args.mark c.args.short B l.at (l.at + 3) c.number_at-line.result c.close.new.pass.numbers (chars c.skip-text.result.now) (string_bytes c.in_ok-lines.lines) c.in_ok-warning.warning _
     text line warning bytes c.in_ok-heading.ensures.title)
     refl c.go_to.ensures.moved at h)

@@ -5,7 +5,7 @@ use Rattle.rst_tree.specs.declared.node.Node.{Node}
 use Rattle.rst_block_state.specs.Texts.{shown, source_of}
 use Rattle.rst_block_state.specs.Titles.{plain}
 use Rattle.rst_block_state.proofs.Calls.{close_refuses, gives_keeps, gives_kept}
-use Rattle.rst_block_state.proofs.Changes.{moved_more, kept_closed, kept_more, kept_then}
+use Rattle.rst_block_state.proofs.Changes.{moved_more}
 use Rattle.rst_block_state.proofs.NextConstructs.{next_some, next_within, end_behind, goes_behind, span_to, has_ended, next_refused, next_nodes, message_is}
 use Rattle.rst_block_body.proofs.TextsPaid.{paid_flat, lines_looked}
 use Rattle.rst_block_state.proofs.Views.{few_lines}
@@ -17,7 +17,7 @@ returns-in_err-close-clause-read c =
 
 pub returns-clause-kept : goal.returns-clause-kept
 returns-clause-kept c =
-    gives_kept _ _ c.push.result c.push.ensures.more (λ _ h. kept_then (kept_closed c.in_ok-close.ensures.closed c.requires.placed) (kept_more (moved_more c.go_to.ensures.moved refl h)))
+    gives_kept _ _ c.push.result c.push.ensures.more (λ _ h. h.depth ∙ c.go_to.ensures.moved.depth ∙ c.in_ok-close.ensures.closed.depth)
 
 pub returns-clause-read : goal.returns-clause-read
 returns-clause-read c =
@@ -35,7 +35,7 @@ returns-clause-read c =
     goes_behind l.at c.close.new.self.at c.go_to.new.self.at c.saturating_add-end.result form.lines (length B) c.close.ensures.at c.saturating_add-end.ensures (next_some found c.requires.inside)
     within (few_lines c.args.view.now) c.go_to.ensures.there in
     gives_keeps _ c.push.result _ _ c.push.ensures.more
-    (λ _ h. next_nodes (c.in_ok-node.node ∷ []) found tt (has_ended B _ c.in_ok-close.ensures.closed c.requires.placed)
+    (λ _ h. next_nodes (c.in_ok-node.node ∷ []) found tt (has_ended B _ c.in_ok-close.ensures.closed)
     (ap (λ (n : Node). Ok (plain n ∷ [], c.close.new.pass.numbers)) (sym node)) (moved_more c.go_to.ensures.moved at h))
 
 pub returns-clause-paid : goal.returns-clause-paid

@@ -8,8 +8,7 @@ use Rattle.rst_block_state.specs.Meanings.{within_at}
 use Rattle.rst_block_state.specs.declared.waits.Waits.TheVariants.{ListedBody}
 use Rattle.rst_block_state.specs.declared.run.ListKind.TheVariants.{Definition}
 use Rattle.rst_block_state.specs.declared.step.Step.TheVariants.{Open}
-use Rattle.rst_block_state.proofs.Changes.{kept_run, kept_moved, kept_then}
-use Rattle.rst_block_body.proofs.ListItems.{item_behind, next_definition, IsOpened, plain_item, kept_opened, plain_refused, definition_made}
+use Rattle.rst_block_body.proofs.ListItems.{item_behind, next_definition, IsOpened, plain_item, opened_depth, plain_refused, definition_made}
 use Rattle.rst_block_body.proofs.ListsPaid.{found_below, definition_is, paid_item}
 use Rattle.rst_block_state.proofs.MeaningLemmas.{body_means}
 use Rattle.rst_block_body.proofs.definition.definition.Goals as goal
@@ -28,7 +27,7 @@ returns-clause-kept c =
     let mark = definition_item c.args.infos.items in
     let opened : IsOpened l c.join_list.new.level B Definition (empty_list mark (drop l.at B)) c.indented-body.result.to c.args.pass.now.numbers c.join_list.new.pass.numbers =
     record { joins = c.in_ok-join_list.ensures.joins; numbers = c.in_ok-join_list.ensures.numbers; begins = c.in_ok-join_list.ensures.begins } in
-    kept_then (kept_then (kept_opened mark refl opened c.requires.placed) (kept_run c.in_ok-put_before.ensures.run)) (kept_moved c.go_to.ensures.moved)
+    c.go_to.ensures.moved.depth ∙ c.in_ok-put_before.ensures.run.depth ∙ opened_depth mark refl opened
 
 pub returns-clause-read : goal.returns-clause-read
 returns-clause-read c =
@@ -47,7 +46,7 @@ returns-clause-read c =
     let next = next_definition l B c.args.infos.items c.requires.text c.requires.form c.indented-body.ensures.part in
     plain_item l c.join_list.new.level c.put_before.new.level c.go_to.new.self B mark Definition (Open waits part None) (λ w. item_with w B DefinitionListItem DefinitionTag line part heads.items notes.items) part.to
     c.args.pass.now.numbers k m refl next opened c.in_ok-put_before.ensures.run c.go_to.ensures.moved
-    (c.go_to.ensures.there (rw (c.put_before.ensures.at, c.in_ok-join_list.ensures.at) (item_behind next c.requires.inside))) c.requires.placed
+    (c.go_to.ensures.there (rw (c.put_before.ensures.at, c.in_ok-join_list.ensures.at) (item_behind next c.requires.inside)))
     (λ r h. body_means c.go_to.new.self B line DefinitionListItem DefinitionTag heads.items notes.items waits part r m h (λ ns. refl))
     (definition_made (within_at l.depth) B l.at c.args.infos.items (drop l.at B) k refl c.number_at-line.ensures c.line-term.ensures.text c.indented-body.ensures.part c.in_ok-heads.ensures.read)
 

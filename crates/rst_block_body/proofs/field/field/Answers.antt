@@ -10,8 +10,7 @@ use Rattle.rst_block_state.specs.Meanings.{within_at}
 use Rattle.rst_block_state.specs.declared.waits.Waits.TheVariants.{ListedBody}
 use Rattle.rst_block_state.specs.declared.run.ListKind.TheVariants.{Field}
 use Rattle.rst_block_state.specs.declared.step.Step.TheVariants.{Open}
-use Rattle.rst_block_state.proofs.Changes.{kept_moved, kept_then}
-use Rattle.rst_block_body.proofs.ListItems.{item_behind, next_field, IsOpened, none_noted, plain_item, kept_opened, plain_refused, field_made}
+use Rattle.rst_block_body.proofs.ListItems.{item_behind, next_field, IsOpened, none_noted, plain_item, opened_depth, plain_refused, field_made}
 use Rattle.rst_block_body.proofs.ListsPaid.{found_hanging, paid_item}
 use Rattle.rst_block_state.proofs.MeaningLemmas.{body_means}
 use Rattle.rst_block_body.proofs.field.field.Goals as goal
@@ -30,7 +29,7 @@ returns-clause-kept c =
     let mark = field_item c.args.mark in
     let opened : IsOpened l c.join_list.new.level B Field (empty_list mark (drop l.at B)) c.hanging-body.result.to c.args.pass.now.numbers c.join_list.new.pass.numbers =
     record { joins = c.in_ok-join_list.ensures.joins; numbers = c.in_ok-join_list.ensures.numbers; begins = c.in_ok-join_list.ensures.begins } in
-    kept_then (kept_opened mark refl opened c.requires.placed) (kept_moved c.go_to.ensures.moved)
+    c.go_to.ensures.moved.depth ∙ opened_depth mark refl opened
 
 pub returns-clause-read : goal.returns-clause-read
 returns-clause-read c =
@@ -50,7 +49,7 @@ returns-clause-read c =
     let text = sym (chars_from_encodes _ (string_bytes c.in_ok-name.name) (IsUtf8-string_bytes c.in_ok-name.name) (sym c.in_ok-name.ensures)) in
     let next = next_field l B c.requires.begun c.hanging-body.ensures.part in
     plain_item l mid mid c.go_to.new.self B mark Field (Open waits part None) (λ w. item_with w B FieldTag FieldBody line part heads.items notes.items) part.to c.args.pass.now.numbers k m
-    refl next opened (none_noted mid) c.go_to.ensures.moved (c.go_to.ensures.there (rw c.in_ok-join_list.ensures.at (item_behind next c.requires.inside))) c.requires.placed
+    refl next opened (none_noted mid) c.go_to.ensures.moved (c.go_to.ensures.there (rw c.in_ok-join_list.ensures.at (item_behind next c.requires.inside)))
     (λ r h. body_means c.go_to.new.self B line FieldTag FieldBody heads.items notes.items waits part r m h (λ ns. refl))
     (field_made (within_at l.depth) B l.at c.args.mark (drop l.at B) k c.number_at-line.ensures (ap chars c.as_str.ensures.value ∙ text ∙ ap (λ t. slice_range t c.args.mark.name.from c.args.mark.name.to) c.line.ensures.text)
     c.hanging-body.ensures.part (search rules) c.in_ok-name-2.ensures.read)

@@ -10,8 +10,7 @@ use Rattle.rst_block_state.specs.Rest.{open_lines}
 use Rattle.rst_block_state.specs.declared.open_block.OpenBlock.{OpenBlock}
 use Rattle.rst_block_state.specs.declared.run.Run.TheVariants.{Lines}
 use Rattle.rst_block_state.proofs.Calls.{close_refuses, gives_keeps, gives_kept}
-use Rattle.rst_block_state.proofs.Changes.{kept_run, kept_closed, kept_then}
-use Rattle.rst_block_body.proofs.LineSteps.{line_refused, line_joined, line_begun, kept_line}
+use Rattle.rst_block_body.proofs.LineSteps.{line_refused, line_joined, line_begun}
 use Rattle.rst_block_body.proofs.LinesPaid.{line_paid}
 use Rattle.rst_block_state.proofs.NextConstructs.{next_of, next_some, span_to, has_ended}
 use Rattle.rst_block_body.proofs.line.bar_line.Goals as goal
@@ -24,7 +23,7 @@ returns-in_err-close-clause-read c =
     (λ line h. sym (ap (reads l B) c.in_ok-text.ensures.numbers) ∙ line_refused _ (sym c.lines_end_at.ensures ∙ c.if-lines_end_at.false) (next_of (Line c.args.marker) l B c.requires.begun tt) h)
 
 pub returns-then-lines_end_at-clause-kept : goal.returns-then-lines_end_at-clause-kept
-returns-then-lines_end_at-clause-kept c = gives_kept _ _ c.add_line.result c.add_line.ensures.line (λ _ h. kept_line h.0 c.requires.placed)
+returns-then-lines_end_at-clause-kept c = gives_kept _ _ c.add_line.result c.add_line.ensures.line (λ _ h. h.0.depth)
 
 pub returns-then-lines_end_at-clause-read : goal.returns-then-lines_end_at-clause-read
 returns-then-lines_end_at-clause-read c =
@@ -49,7 +48,7 @@ returns-clause-kept c =
     let mid = c.close.new.self in
     let opened : OpenBlock = record { depth = mid.depth; at = mid.at; nodes = mid.nodes; run = Lines c.new.result c.args.level.now.at; headings = mid.headings } in
     let run : HasRun mid opened (open_of opened.run) = record { depth = refl; at = refl; nodes = refl; headings = refl; run = refl } in
-    gives_kept _ _ c.add_line-2.result c.add_line-2.ensures.line (λ _ h. kept_then (kept_then (kept_closed c.in_ok-close.ensures.closed c.requires.placed) (kept_run run)) (kept_line h.0))
+    gives_kept _ _ c.add_line-2.result c.add_line-2.ensures.line (λ _ h. h.0.depth ∙ run.depth ∙ c.in_ok-close.ensures.closed.depth)
 
 pub returns-clause-read : goal.returns-clause-read
 returns-clause-read c =
@@ -68,7 +67,7 @@ returns-clause-read c =
     let line : (last : ℕ) → indented_by (unwrap_or bar.indent last) bar ≡ indented_line (indentation_of last m) B m (span_to l.at (l.at + lines)) =
     λ last. c.in_ok-text.ensures.line last ∙ ap (λ i. indented_line (indentation_of last m) B m (span_to l.at i)) stop in
     gives_keeps _ c.add_line-2.result _ _ c.add_line-2.ensures.line
-    (λ _ h. line_begun opened bar l.at (sym c.lines_end_at.ensures ∙ c.if-lines_end_at.false) next line (has_ended B _ c.in_ok-close.ensures.closed c.requires.placed) run
+    (λ _ h. line_begun opened bar l.at (sym c.lines_end_at.ensures ∙ c.if-lines_end_at.false) next line (has_ended B _ c.in_ok-close.ensures.closed) run
     (subst (λ i. HasLine opened new (line_added bar i (open_of opened.run))) stop h.0) (h.1 (omega (arith, stop, some, c.close.ensures.at)) ∙ stop)
     ∙ ap (reads l B) c.in_ok-text.ensures.numbers)
 

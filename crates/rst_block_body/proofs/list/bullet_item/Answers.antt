@@ -3,7 +3,6 @@ use Rattle.rst_text.specs.Shown.{block_of}
 use Rattle.rst_block_state.specs.declared.waits.Waits.TheVariants.{ListItem}
 use Rattle.rst_block_state.specs.declared.run.ListKind.TheVariants.{Bullet}
 use Rattle.rst_block_state.proofs.Calls.{close_refuses}
-use Rattle.rst_block_state.proofs.Changes.{kept_run, kept_moved, kept_closed, kept_then}
 use Rattle.rst_block_body.proofs.ListItems.{item_behind, next_bullet, item_refused, bullet_made, listed_joins, listed_begins, bullet_joins, bullet_begins, bullet_run}
 use Rattle.rst_block_body.proofs.ListsPaid.{found_item, paid_item}
 use Rattle.rst_block_body.proofs.list.bullet_item.Goals as goal
@@ -28,7 +27,7 @@ returns-in_err-close-clause-read c =
 
 pub returns-clause-kept : goal.returns-clause-kept
 returns-clause-kept c =
-    kept_then (kept_then (kept_closed c.in_ok-close.ensures.closed c.requires.placed) (kept_run c.in_ok-begin.ensures.run)) (kept_moved c.opened-2.ensures.moved)
+    c.opened-2.ensures.moved.depth ∙ c.in_ok-begin.ensures.run.depth ∙ c.in_ok-close.ensures.closed.depth
 
 pub returns-clause-read : goal.returns-clause-read
 returns-clause-read c =
@@ -38,7 +37,7 @@ returns-clause-read c =
     let next = next_bullet l B c.requires.begun c.item_part-body.ensures.part in
     let closed = bullet_run B c.args.marker c.in_ok-close.ensures.closed c.in_ok-begin.ensures.run c.in_ok-bullet_list.ensures c.number_at-line.ensures in
     let other : c.list_kind.result ≡ Some (Bullet c.args.mark) → ⊥ = search rules in
-    listed_begins c.args.pass.now.numbers k c.opened-2.ensures.waits next (bullet_begins l c.args.mark c.args.marker c.item_part-body.result.to (λ e. other (c.list_kind.ensures ∙ e))) closed c.requires.placed
+    listed_begins c.args.pass.now.numbers k c.opened-2.ensures.waits next (bullet_begins l c.args.mark c.args.marker c.item_part-body.result.to (λ e. other (c.list_kind.ensures ∙ e))) closed
     c.opened-2.ensures.moved (c.opened-2.ensures.there (rw (c.begin.ensures.at, c.close.ensures.at) (item_behind next c.requires.inside)))
     (bullet_made l B c.args.mark c.args.marker k c.number_at-line.ensures c.item_part-body.ensures.part)
 

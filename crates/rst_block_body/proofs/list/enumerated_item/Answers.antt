@@ -4,7 +4,6 @@ use Rattle.rst_text.specs.Shown.{block_of}
 use Rattle.rst_block_state.specs.Meanings.{joining_in}
 use Rattle.rst_block_state.specs.declared.waits.Waits.TheVariants.{ListItem}
 use Rattle.rst_block_state.proofs.Calls.{close_refuses}
-use Rattle.rst_block_state.proofs.Changes.{kept_run, kept_moved, kept_closed, kept_then}
 use Rattle.rst_block_body.proofs.ListItems.{item_behind, next_enumerated, item_refused, enumerated_made, listed_joins, listed_begins, enumerated_joins, enumerated_run}
 use Rattle.rst_block_body.proofs.ListsPaid.{found_item, paid_item}
 use Rattle.rst_block_body.proofs.list.enumerated_item.Goals as goal
@@ -29,7 +28,7 @@ returns-in_err-close-clause-read c =
 
 pub returns-clause-kept : goal.returns-clause-kept
 returns-clause-kept c =
-    kept_then (kept_then (kept_closed c.in_ok-close.ensures.closed c.requires.placed) (kept_run c.in_ok-begin_enumerated_list.ensures.run)) (kept_moved c.opened-2.ensures.moved)
+    c.opened-2.ensures.moved.depth ∙ c.in_ok-begin_enumerated_list.ensures.run.depth ∙ c.in_ok-close.ensures.closed.depth
 
 pub returns-clause-read : goal.returns-clause-read
 returns-clause-read c =
@@ -41,7 +40,7 @@ returns-clause-read c =
     let closed = enumerated_run B c.args.enumerator stop c.in_ok-close.ensures.closed c.close.ensures.at c.in_ok-begin_enumerated_list.ensures.run in
     let none : c.going_on.result ≡ None = search rules in
     let begins = sym (ap (option_map (λ kind. joining_in kind)) none) ∙ c.going_on.ensures in
-    let same = listed_begins c.args.pass.now.numbers k c.opened-2.ensures.waits next (enumerated_joins l c.args.enumerator stop begins) closed c.requires.placed c.opened-2.ensures.moved
+    let same = listed_begins c.args.pass.now.numbers k c.opened-2.ensures.waits next (enumerated_joins l c.args.enumerator stop begins) closed c.opened-2.ensures.moved
     (c.opened-2.ensures.there (rw (c.begin_enumerated_list.ensures.at, c.close.ensures.at) (item_behind next c.requires.inside)))
     (enumerated_made l B c.args.enumerator k c.number_at-line.ensures c.item_part-body.ensures.part) in
     rw c.begin_enumerated_list.ensures.numbers same

@@ -8,8 +8,7 @@ use Rattle.rst_block_state.specs.Meanings.{within_at}
 use Rattle.rst_block_state.specs.declared.waits.Waits.TheVariants.{ListedBody}
 use Rattle.rst_block_state.specs.declared.run.ListKind.TheVariants.{OptionItem}
 use Rattle.rst_block_state.specs.declared.step.Step.TheVariants.{Open}
-use Rattle.rst_block_state.proofs.Changes.{kept_moved, kept_then}
-use Rattle.rst_block_body.proofs.ListItems.{item_behind, next_option, IsOpened, none_noted, plain_item, kept_opened, plain_refused, option_made}
+use Rattle.rst_block_body.proofs.ListItems.{item_behind, next_option, IsOpened, none_noted, plain_item, opened_depth, plain_refused, option_made}
 use Rattle.rst_block_body.proofs.ListsPaid.{found_hanging, paid_item}
 use Rattle.rst_block_state.proofs.MeaningLemmas.{body_means}
 use Rattle.rst_block_body.proofs.option.option_item.Goals as goal
@@ -28,7 +27,7 @@ returns-clause-kept c =
     let mark = option_item c.args.marker in
     let opened : IsOpened l c.join_list.new.level B OptionItem (empty_list mark (drop l.at B)) c.hanging-body.result.to c.args.pass.now.numbers c.join_list.new.pass.numbers =
     record { joins = c.in_ok-join_list.ensures.joins; numbers = c.in_ok-join_list.ensures.numbers; begins = c.in_ok-join_list.ensures.begins } in
-    kept_then (kept_opened mark refl opened c.requires.placed) (kept_moved c.go_to.ensures.moved)
+    c.go_to.ensures.moved.depth ∙ opened_depth mark refl opened
 
 pub returns-clause-read : goal.returns-clause-read
 returns-clause-read c =
@@ -46,7 +45,7 @@ returns-clause-read c =
     record { joins = c.in_ok-join_list.ensures.joins; numbers = c.in_ok-join_list.ensures.numbers; begins = c.in_ok-join_list.ensures.begins } in
     let next = next_option l B c.requires.begun c.hanging-body.ensures.part in
     plain_item l mid mid c.go_to.new.self B mark OptionItem (Open waits part None) (λ w. item_with w B OptionListItem Description line part heads.items notes.items) part.to c.args.pass.now.numbers k k
-    refl next opened (none_noted mid) c.go_to.ensures.moved (c.go_to.ensures.there (rw c.in_ok-join_list.ensures.at (item_behind next c.requires.inside))) c.requires.placed
+    refl next opened (none_noted mid) c.go_to.ensures.moved (c.go_to.ensures.there (rw c.in_ok-join_list.ensures.at (item_behind next c.requires.inside)))
     (λ r h. body_means c.go_to.new.self B line OptionListItem Description heads.items notes.items waits part r k h (λ ns. refl))
     (option_made (within_at l.depth) B l.at c.args.marker (drop l.at B) k c.number_at-line.ensures c.line.ensures.text c.hanging-body.ensures.part c.in_ok-group.ensures (search rules) c.new.ensures.items)
 

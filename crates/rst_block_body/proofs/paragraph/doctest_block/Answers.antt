@@ -5,7 +5,7 @@ use Rattle.rst_markup_blocks.specs.Sizes.{doctest_size}
 use Rattle.rst_markup_blocks.specs.declared.begun.Begun.TheVariants.{Doctest}
 use Rattle.rst_block_state.specs.Literals.{doctest_node}
 use Rattle.rst_block_state.proofs.Calls.{close_refuses, gives_keeps, gives_kept}
-use Rattle.rst_block_state.proofs.Changes.{moved_more, kept_closed, kept_more, kept_then}
+use Rattle.rst_block_state.proofs.Changes.{moved_more}
 use Rattle.rst_block_body.proofs.LiteralLemmas.{doctest_end, doctest_is, doctest_looks}
 use Rattle.rst_block_state.proofs.NextConstructs.{next_of, next_some, span_to, has_ended, next_refused, next_nodes}
 use Rattle.rst_block_state.proofs.PaidSteps.{paid_alone}
@@ -19,7 +19,7 @@ returns-in_err-close-clause-read c =
 
 pub returns-clause-kept : goal.returns-clause-kept
 returns-clause-kept c =
-    gives_kept _ _ c.push.result c.push.ensures.more (λ _ h. kept_then (kept_closed c.in_ok-close.ensures.closed c.requires.placed) (kept_more (moved_more c.go_to.ensures.moved refl h)))
+    gives_kept _ _ c.push.result c.push.ensures.more (λ _ h. h.depth ∙ c.go_to.ensures.moved.depth ∙ c.in_ok-close.ensures.closed.depth)
 
 pub returns-clause-read : goal.returns-clause-read
 returns-clause-read c =
@@ -32,7 +32,7 @@ returns-clause-read c =
     let found = next_of Doctest l B c.requires.begun tt in
     let goes : c.go_to.new.self.at ≡ c.lines_end-end.result = c.go_to.ensures.there (omega (arith, stop, at, next_some found c.requires.inside)) in
     gives_keeps _ c.push.result _ _ c.push.ensures.more
-    (λ _ h. next_nodes (c.in_ok-node.node ∷ []) found tt (has_ended B _ c.in_ok-close.ensures.closed c.requires.placed) (rw (node, stop) refl) (moved_more c.go_to.ensures.moved (goes ∙ stop) h))
+    (λ _ h. next_nodes (c.in_ok-node.node ∷ []) found tt (has_ended B _ c.in_ok-close.ensures.closed) (rw (node, stop) refl) (moved_more c.go_to.ensures.moved (goes ∙ stop) h))
 
 pub returns-clause-paid : goal.returns-clause-paid
 returns-clause-paid c =

@@ -5,8 +5,7 @@ use Rattle.rst_markup_blocks.specs.declared.begun.Begun.TheVariants.{Quote}
 use Rattle.rst_markup_blocks.specs.declared.part.Part.{Part}
 use Rattle.rst_block_state.specs.Meanings.{quotes_from}
 use Rattle.rst_block_state.specs.Within.{indented_part}
-use Rattle.rst_block_state.proofs.Calls.{close_refuses, keeps_as, kept_after}
-use Rattle.rst_block_state.proofs.Changes.{kept_closed}
+use Rattle.rst_block_state.proofs.Calls.{close_refuses, keeps_as, depth_after}
 use Rattle.rst_block_state.proofs.NextConstructs.{next_of, next_some, has_ended, next_refused}
 use Rattle.rst_block_body.proofs.QuoteSteps.{quote_reads}
 use Rattle.rst_block_body.proofs.QuotesPaid.{block_quote_paid}
@@ -18,9 +17,6 @@ returns-in_err-close-clause-read c =
     close_refuses c.from_residual.result c.in_err-close.field-0.0 _ _ _ l (search rules) c.in_err-close.ensures.closed
     (λ line h. next_refused _ (next_of Quote l (block_of c.args.view.now) c.requires.begun tt) tt h)
 
-pub quote_part-requires-clause-placed : goal.quote_part-requires-clause-placed
-quote_part-requires-clause-placed c = (kept_closed c.in_ok-close.ensures.closed c.requires.placed).placed
-
 pub quote_part-requires-clause-filled : goal.quote_part-requires-clause-filled
 quote_part-requires-clause-filled c =
     let B = block_of c.args.view.now in
@@ -31,11 +27,11 @@ pub returns-clause-read : goal.returns-clause-read
 returns-clause-read c =
     let B = block_of c.args.view.now in
     let part = c.indented-quote.ensures.part ∙ ap (λ i. indented_part i (drop i B)) c.close.ensures.at in
-    let read = quote_reads (omega arith) c.requires.begun (has_ended B _ c.in_ok-close.ensures.closed c.requires.placed) in
+    let read = quote_reads (omega arith) c.requires.begun (has_ended B _ c.in_ok-close.ensures.closed) in
     keeps_as c.quote_part.result _ _ _ (ap (λ p. quotes_from c.close.new.self B [] p c.close.new.pass.numbers) part ∙ sym read) c.quote_part.ensures.read
 
 pub returns-clause-kept : goal.returns-clause-kept
-returns-clause-kept c = kept_after c.quote_part.result _ (kept_closed c.in_ok-close.ensures.closed c.requires.placed) c.quote_part.ensures.kept
+returns-clause-kept c = depth_after c.quote_part.result c.in_ok-close.ensures.closed.depth c.quote_part.ensures.kept
 
 pub returns-clause-paid : goal.returns-clause-paid
 returns-clause-paid c =

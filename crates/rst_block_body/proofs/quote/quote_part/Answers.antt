@@ -7,7 +7,6 @@ use Rattle.rst_block_state.specs.Meanings.{comes}
 use Rattle.rst_block_state.specs.declared.waits.Waits.TheVariants.{Quote}
 use Rattle.rst_block_state.specs.declared.step.Step.TheVariants.{Open}
 use Rattle.rst_block_state.proofs.Blocks.{front_block}
-use Rattle.rst_block_state.proofs.Changes.{kept_moved}
 use Rattle.rst_block_body.proofs.QuoteSteps.{plain_part, attributed_part, rest_follows}
 use Rattle.rst_block_body.proofs.QuotesPaid.{plain_paid, attributed_paid}
 use Rattle.rst_block_body.proofs.quote.quote_part.Goals as goal
@@ -53,7 +52,7 @@ returns-in_ok-attribution-in-Some-clause-read c =
     c.requires.block.within c.go_to-in-Some.ensures.moved (c.go_to-in-Some.ensures.there behind) c.number_at-line.ensures
 
 pub returns-in_ok-attribution-in-Some-clause-kept : goal.returns-in_ok-attribution-in-Some-clause-kept
-returns-in_ok-attribution-in-Some-clause-kept c = kept_moved c.go_to-in-Some.ensures.moved c.requires.placed
+returns-in_ok-attribution-in-Some-clause-kept c = c.go_to-in-Some.ensures.moved.depth
 
 pub returns-in-None-clause-paid : goal.returns-in-None-clause-paid
 returns-in-None-clause-paid c =

@@ -10,7 +10,7 @@ use Rattle.rst_block_state.specs.NextLine.{IsTableAt}
 use Rattle.rst_block_state.specs.OpenBlocks.{HasMore}
 use Rattle.rst_block_state.specs.Texts.{shown, source_of, warned}
 use Rattle.rst_block_state.proofs.Calls.{close_refuses}
-use Rattle.rst_block_state.proofs.Changes.{more_more, moved_more, kept_closed, kept_more, kept_then}
+use Rattle.rst_block_state.proofs.Changes.{more_more, moved_more}
 use Rattle.rst_block_state.proofs.NextConstructs.{next_some, span_to, has_ended, next_refused}
 use Rattle.rst_block_body.proofs.StepsPaid.{malformed_paid, cells_paid}
 use Rattle.rst_block_body.proofs.TableSteps.{IsNextTable, next_table, table_comes, malformed_reads, table_steps}
@@ -25,8 +25,7 @@ returns-in_err-close-clause-read c =
 
 pub returns-in_ok-after_table-in-Malformed-clause-kept : goal.returns-in_ok-after_table-in-Malformed-clause-kept
 returns-in_ok-after_table-in-Malformed-clause-kept c =
-    kept_then (kept_closed c.in_ok-close.ensures.closed c.requires.placed)
-    (kept_more (moved_more c.go_to.ensures.moved refl (more_more c.in_ok-push-in-Malformed.ensures.more c.in_ok-after_table-in-Malformed.ensures.more)))
+    c.in_ok-after_table-in-Malformed.ensures.more.depth ∙ c.in_ok-push-in-Malformed.ensures.more.depth ∙ c.go_to.ensures.moved.depth ∙ c.in_ok-close.ensures.closed.depth
 
 pub returns-in_ok-after_table-in-Malformed-clause-read : goal.returns-in_ok-after_table-in-Malformed-clause-read
 returns-in_ok-after_table-in-Malformed-clause-read c =
@@ -45,7 +44,7 @@ returns-in_ok-after_table-in-Malformed-clause-read c =
     ap (λ (n : Node). n ∷ warned (codes "Blank line required after table.") (drop c.push.new.self.at B)) c.in_ok-error-in-Malformed.ensures.error
     ∙ ap (λ i. shown Error (first_number (drop mid.at B)) (malformed_text fault.detail) (source_of B (span_to mid.at end)) ∷ warned (codes "Blank line required after table.") (drop i B)) (c.push.ensures.at ∙ at) in
     ap (reads new B) c.in_ok-after_table-in-Malformed.ensures.numbers
-    ∙ malformed_reads t (has_ended B _ c.in_ok-close.ensures.closed c.requires.placed) c.go_to.ensures.moved at
+    ∙ malformed_reads t (has_ended B _ c.in_ok-close.ensures.closed) c.go_to.ensures.moved at
     (subst (HasMore c.go_to.new.self new) nodes (more_more c.in_ok-push-in-Malformed.ensures.more c.in_ok-after_table-in-Malformed.ensures.more))
 
 pub returns-in_default-clause-step : goal.returns-in_default-clause-step
@@ -54,11 +53,11 @@ returns-in_default-clause-step c =
     table_steps c.args.level.now B c.args.found c.close.new.self.at (next_table c.args.level.now B c.args.found c.requires.table) c.in_default.not-Malformed c.close.ensures.at c.requires.inside
 
 pub returns-in_default-clause-kept : goal.returns-in_default-clause-kept
-returns-in_default-clause-kept c = kept_closed c.in_ok-close.ensures.closed c.requires.placed
+returns-in_default-clause-kept c = c.in_ok-close.ensures.closed.depth
 
 pub returns-in_default-clause-read : goal.returns-in_default-clause-read
 returns-in_default-clause-read c =
-    table_comes (next_table c.args.level.now (block_of c.args.view.now) c.args.found c.requires.table) (has_ended _ _ c.in_ok-close.ensures.closed c.requires.placed)
+    table_comes (next_table c.args.level.now (block_of c.args.view.now) c.args.found c.requires.table) (has_ended _ _ c.in_ok-close.ensures.closed)
 
 pub returns-in_ok-after_table-in-Malformed-clause-paid : goal.returns-in_ok-after_table-in-Malformed-clause-paid
 returns-in_ok-after_table-in-Malformed-clause-paid c =

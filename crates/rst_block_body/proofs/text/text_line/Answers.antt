@@ -6,9 +6,8 @@ use Rattle.rst_markup_lines.specs.Front.{is_loose}
 use Rattle.rst_markup_blocks.specs.Sizes.{paragraph_size}
 use Rattle.rst_block_state.specs.Ledger.{run_looks}
 use Rattle.rst_block_state.proofs.Calls.{close_refuses}
-use Rattle.rst_block_state.proofs.Changes.{kept_closed, kept_more, kept_then}
 use Rattle.rst_block_state.proofs.NextConstructs.{next_of_form, next_within, has_ended, next_refused}
-use Rattle.rst_block_body.proofs.TextLines.{text_plain, form_here, paragraph_goes, short_more, underlined_goes, kept_items}
+use Rattle.rst_block_body.proofs.TextLines.{text_plain, form_here, paragraph_goes, short_more, underlined_goes}
 use Rattle.rst_block_body.proofs.TextsPaid.{paid_flat, paid_text, paragraph_looks}
 use Rattle.rst_block_body.proofs.text.text_line.Goals as goal
 
@@ -49,30 +48,27 @@ underlined-requires-clause-inside c =
     let form = form_here (block_of c.args.view.now) c.args.level.now.at c.line-text.ensures.text c.below_text-next.ensures.text c.text_form.ensures c.in-Title.is in
     omega (arith, next_within (next_of_form c.args.infos.items c.requires.text form) c.requires.inside, c.append-in-Title.ensures.at, c.close-in-Title.ensures.at)
 
-pub underlined-requires-clause-placed : goal.underlined-requires-clause-placed
-underlined-requires-clause-placed c = (kept_then (kept_closed c.in_ok-close-in-Title.ensures.closed c.requires.placed) (kept_more c.in_ok-append-in-Title.ensures.more)).placed
-
 pub returns-in_ok-paragraph-in-Paragraph-clause-kept : goal.returns-in_ok-paragraph-in-Paragraph-clause-kept
 returns-in_ok-paragraph-in-Paragraph-clause-kept c =
-    kept_then (kept_then (kept_closed c.in_ok-close-in-Paragraph.ensures.closed c.requires.placed) (kept_more c.in_ok-append-in-Paragraph.ensures.more)) (kept_more c.in_ok-paragraph-in-Paragraph.ensures.read.gone)
+    c.in_ok-paragraph-in-Paragraph.ensures.read.gone.depth ∙ c.in_ok-append-in-Paragraph.ensures.more.depth ∙ c.in_ok-close-in-Paragraph.ensures.closed.depth
 
 pub returns-in_ok-paragraph-in-Paragraph-clause-read : goal.returns-in_ok-paragraph-in-Paragraph-clause-read
 returns-in_ok-paragraph-in-Paragraph-clause-read c =
     let B = block_of c.args.view.now in
     let form = form_here B c.args.level.now.at c.line-text.ensures.text c.below_text-next.ensures.text c.text_form.ensures c.in-Paragraph.is in
-    paragraph_goes (next_of_form c.args.infos.items c.requires.text form) (has_ended B _ c.in_ok-close-in-Paragraph.ensures.closed c.requires.placed) c.in_ok-append-in-Paragraph.ensures.more
+    paragraph_goes (next_of_form c.args.infos.items c.requires.text form) (has_ended B _ c.in_ok-close-in-Paragraph.ensures.closed) c.in_ok-append-in-Paragraph.ensures.more
     c.in_ok-paragraph-in-Paragraph.ensures.read
 
 pub returns-in_ok-paragraph-in-ShortUnderline-clause-kept : goal.returns-in_ok-paragraph-in-ShortUnderline-clause-kept
 returns-in_ok-paragraph-in-ShortUnderline-clause-kept c =
-    let first = kept_then (kept_closed c.in_ok-close-in-ShortUnderline.ensures.closed c.requires.placed) (kept_more c.in_ok-append-in-ShortUnderline.ensures.more) in
-    kept_then (kept_then first (kept_more c.in_ok-put_short_underline-in-ShortUnderline.ensures.more)) (kept_more c.in_ok-paragraph-in-ShortUnderline.ensures.read.gone)
+    c.in_ok-paragraph-in-ShortUnderline.ensures.read.gone.depth ∙ c.in_ok-put_short_underline-in-ShortUnderline.ensures.more.depth
+    ∙ c.in_ok-append-in-ShortUnderline.ensures.more.depth ∙ c.in_ok-close-in-ShortUnderline.ensures.closed.depth
 
 pub returns-in_ok-paragraph-in-ShortUnderline-clause-read : goal.returns-in_ok-paragraph-in-ShortUnderline-clause-read
 returns-in_ok-paragraph-in-ShortUnderline-clause-read c =
     let B = block_of c.args.view.now in
     let form = form_here B c.args.level.now.at c.line-text.ensures.text c.below_text-next.ensures.text c.text_form.ensures c.in-ShortUnderline.is in
-    let ended = has_ended B c.args.pass.now.numbers c.in_ok-close-in-ShortUnderline.ensures.closed c.requires.placed in
+    let ended = has_ended B c.args.pass.now.numbers c.in_ok-close-in-ShortUnderline.ensures.closed in
     paragraph_goes (next_of_form c.args.infos.items c.requires.text form) ended (short_more ended c.in_ok-append-in-ShortUnderline.ensures.more c.in_ok-put_short_underline-in-ShortUnderline.ensures.more)
     c.in_ok-paragraph-in-ShortUnderline.ensures.read
 
@@ -80,12 +76,12 @@ pub returns-in_ok-underlined-in-Title-clause-read : goal.returns-in_ok-underline
 returns-in_ok-underlined-in-Title-clause-read c =
     let B = block_of c.args.view.now in
     let form = form_here B c.args.level.now.at c.line-text.ensures.text c.below_text-next.ensures.text c.text_form.ensures c.in-Title.is in
-    underlined_goes (next_of_form c.args.infos.items c.requires.text form) (has_ended B _ c.in_ok-close-in-Title.ensures.closed c.requires.placed) c.in_ok-append-in-Title.ensures.more
+    underlined_goes (next_of_form c.args.infos.items c.requires.text form) (has_ended B _ c.in_ok-close-in-Title.ensures.closed) c.in_ok-append-in-Title.ensures.more
     c.in_ok-underlined-in-Title.ensures.read
 
 pub returns-in_ok-underlined-in-Title-clause-kept : goal.returns-in_ok-underlined-in-Title-clause-kept
 returns-in_ok-underlined-in-Title-clause-kept c =
-    kept_then (kept_then (kept_closed c.in_ok-close-in-Title.ensures.closed c.requires.placed) (kept_more c.in_ok-append-in-Title.ensures.more)) (λ w. kept_items c.in_ok-underlined-in-Title.ensures.read)
+    c.in_ok-underlined-in-Title.ensures.read.depth ∙ c.in_ok-append-in-Title.ensures.more.depth ∙ c.in_ok-close-in-Title.ensures.closed.depth
 
 pub returns-in-Definition-clause-paid : goal.returns-in-Definition-clause-paid
 returns-in-Definition-clause-paid c =

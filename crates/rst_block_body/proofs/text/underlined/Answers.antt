@@ -1,5 +1,6 @@
 use Rattle.std.proofs.Common.{◌≡◌, ◌+◌, length, drop, slice_range, refl, sym, ap, subst, ◌∙◌, arith}
 use Rattle.std.specs.Prelude.{string_bytes}
+use Rattle.std.proofs.lemmas.Bool.{eqb-true}
 use Rattle.rst_text.specs.Block.{front_text, first_number}
 use Rattle.rst_text.specs.Shown.{block_of}
 use Rattle.rst_block_state.specs.OpenBlocks.{ReadsItems}
@@ -11,6 +12,9 @@ use Rattle.rst_block_body.proofs.TextLines.{more_items, warning_as, titled_as, u
 use Rattle.rst_block_body.proofs.TextsPaid.{lines_looked}
 use Rattle.rst_block_state.proofs.Views.{few_lines}
 use Rattle.rst_block_body.proofs.text.underlined.Goals as goal
+
+pub put_title-requires-clause-titles : goal.put_title-requires-clause-titles
+put_title-requires-clause-titles c = eqb-true c.args.level.now.depth 0 (sym c.titles.ensures ∙ c.if-titles.true)
 
 pub returns-then-titles-clause-read : goal.returns-then-titles-clause-read
 returns-then-titles-clause-read c =
@@ -34,7 +38,7 @@ returns-clause-read c =
     let bytes = c.as_str-2.ensures.value ∙ c.in_ok-lines.ensures.bytes ∙ ap (λ stop. source_of B (record { start = l.at; stop = stop })) end in
     let warning = warning_as c.args.short B l.at place end c.number_at-under.ensures (c.as_str.ensures.value ∙ c.in_ok-lines.ensures.bytes) c.in_ok-warning.ensures in
     gives_map _ _ c.put_unexpected.result c.put_unexpected.ensures.gone
-    (λ _ h. more_items _ (unexpected_as c.args.short B l.at c.args.pass.now.numbers (sym c.titles.ensures ∙ c.if-titles.false) bytes warning) c.requires.placed h)
+    (λ _ h. more_items _ (unexpected_as c.args.short B l.at c.args.pass.now.numbers (sym c.titles.ensures ∙ c.if-titles.false) bytes warning) h)
 
 pub returns-then-titles-clause-low : goal.returns-then-titles-clause-low
 returns-then-titles-clause-low c =

@@ -1,7 +1,6 @@
 use Rattle.std.proofs.Common.{arith, rules, sym, ◌∙◌}
 use Rattle.rst_text.specs.Shown.{block_of}
 use Rattle.rst_block_state.proofs.Calls.{close_refuses}
-use Rattle.rst_block_state.proofs.Changes.{kept_run, kept_closed, kept_then}
 use Rattle.rst_block_markup.proofs.MarkupReads.{joined_markup, begun_markup, markup_refused, has_markup}
 use Rattle.rst_block_state.proofs.NextConstructs.{has_ended}
 use Rattle.rst_block_markup.proofs.explicit.begin_markup.Goals as goal
@@ -11,11 +10,11 @@ returns-then-is_markup-clause-read c =
     joined_markup (block_of c.args.view.now) c.args.pass.now.numbers (sym c.is_markup.ensures ∙ c.if-is_markup.true) (has_markup c.args.level.now c.args.end)
 
 pub returns-clause-kept : goal.returns-clause-kept
-returns-clause-kept c = kept_then (kept_closed c.in_ok-close.ensures.closed c.requires.placed) (kept_run (has_markup c.close.new.self c.args.end))
+returns-clause-kept c = (has_markup c.close.new.self c.args.end).depth ∙ c.in_ok-close.ensures.closed.depth
 
 pub returns-clause-read : goal.returns-clause-read
 returns-clause-read c =
-    begun_markup (sym c.is_markup.ensures ∙ c.if-is_markup.false) (has_ended (block_of c.args.view.now) _ c.in_ok-close.ensures.closed c.requires.placed) (has_markup c.close.new.self c.args.end)
+    begun_markup (sym c.is_markup.ensures ∙ c.if-is_markup.false) (has_ended (block_of c.args.view.now) _ c.in_ok-close.ensures.closed) (has_markup c.close.new.self c.args.end)
 
 pub returns-in_err-close-clause-read : goal.returns-in_err-close-clause-read
 returns-in_err-close-clause-read c =

@@ -7,7 +7,7 @@ use Rattle.rst_block_nodes.specs.Elements.{preserved_node}
 use Rattle.rst_block_state.specs.Markup.{cause_notes}
 use Rattle.rst_block_state.specs.Meanings.{reads_from}
 use Rattle.rst_block_state.specs.Texts.{spelled}
-use Rattle.rst_block_state.proofs.Changes.{more_more, moved_more, kept_more, more_is_read}
+use Rattle.rst_block_state.proofs.Changes.{more_more, moved_more, more_is_read}
 use Rattle.rst_block_state.proofs.NumberedLemmas.{at_number}
 use Rattle.rst_block_markup.proofs.MarkupPaid.{opens_none}
 use Rattle.rst_block_markup.proofs.explicit.comment.Goals as goal
@@ -18,14 +18,14 @@ comment_is cause line at t u node e h l = rw (e, h, l) refl
 
 pub returns-clause-kept : goal.returns-clause-kept
 returns-clause-kept c =
-    kept_more (more_more (moved_more c.go_to.ensures.moved (c.go_to.ensures.there c.requires.later) c.in_ok-push.ensures.more) c.in_ok-put_cause.ensures.more) c.requires.placed
+    c.in_ok-put_cause.ensures.more.depth ∙ c.in_ok-push.ensures.more.depth ∙ c.go_to.ensures.moved.depth
 
 pub returns-clause-read : goal.returns-clause-read
 returns-clause-read c =
     let B = block_of c.args.view.now in
     let more = more_more (moved_more c.go_to.ensures.moved (c.go_to.ensures.there c.requires.later) c.in_ok-push.ensures.more) c.in_ok-put_cause.ensures.more in
     at_number c.args.pass.now.numbers (
-    more_is_read B more c.requires.placed
+    more_is_read B more
     ∙ ap (λ ns. reads_from c.args.level.now B ns c.args.text.to)
     (comment_is c.args.cause c.number_at-line.result _ c.as_str.result.now _ c.in_ok-node.node c.in_ok-node.ensures (c.as_str.ensures.value ∙ c.in_ok-lines.ensures.bytes ∙ ap spelled c.inside.ensures.block) c.number_at-line.ensures))
 

@@ -1,9 +1,9 @@
 use Rattle.std.proofs.Common.{◌≡◌}
 use Rattle.std.specs.Vec.Iter.{into_iter_items}
 use Rattle.rst_block_sections.specs.OpenSections.{goes_on}
-use Rattle.rst_block_sections.specs.Sections.{document_of, items_from}
+use Rattle.rst_block_sections.specs.Sections.{document_of, items_of}
 use Rattle.rst_block_sections.proofs.sectioning.document.Given as goal
 
 abbrev pub invariant-loop-heading : goal.invariant-loop-heading
 invariant-loop-heading l =
-    goes_on l.sections (items_from l.done l.nodes (into_iter_items l.heading-iterator)) ≡ document_of (items_from 0 l.fn.nodes l.fn.headings.items)
+    goes_on l.sections (items_of (into_iter_items l.heading-iterator) l.fn.nodes) ≡ document_of (items_of l.fn.headings.items l.fn.nodes)
