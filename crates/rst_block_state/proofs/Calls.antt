@@ -47,9 +47,9 @@ refused_as NoMemory first follows read other e h = tt
 -- ---- steps
 
 -- the block is as deep after the last call as before the calls before it
-pub depth_after : {A : Type 0} (result : Result A BlockFault) {old mid new : ℕ} → mid ≡ old → IfOk result (λ _. new ≡ mid) → IfOk result (λ _. new ≡ old)
-depth_after (Ok value) h k = k ∙ h
-depth_after (Err fault) h k = tt
+pub depth_after : {A : Type 0} (result : Result A BlockFault) (new : ℕ) {old mid : ℕ} → mid ≡ old → IfOk result (λ _. new ≡ mid) → IfOk result (λ _. new ≡ old)
+depth_after (Ok value) new h k = k ∙ h
+depth_after (Err fault) new h k = tt
 
 -- where ending the open run is refused, so is the step
 pub close_refuses : {A R : Type 0} (result : Result A BlockFault) (fault : BlockFault) (follows : A → Result (R × ℕ) ℕ) (read : Result (R × ℕ) ℕ) (closed : Result (List Item × ℕ) ℕ) (l : OpenBlock)

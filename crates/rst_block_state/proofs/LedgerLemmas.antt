@@ -1,5 +1,5 @@
 -- What may still be taken of looks, and has to be taken, falls with each line, each construct and each block by what these take.
-use Rattle.std.proofs.Common.{◌≡◌, ℕ, zero, suc, ◌+◌, ◌-◌, ◌*◌, ◌<◌, ◌≤◌, Bool, true, false, List, [], ◌∷◌, ◌++◌, length, length-drop, drop, Option, Some, None, arith, ap, ◌∙◌}
+use Rattle.std.proofs.Common.{◌≡◌, ℕ, zero, suc, ◌+◌, ◌-◌, ◌*◌, ◌<◌, ◌≤◌, Bool, true, false, List, [], ◌∷◌, ◌++◌, length, length-drop, drop, Option, Some, None, arith, sym, subst, ap, ◌∙◌}
 use Rattle.std.specs.Prelude.{◌==◌, flat_map}
 use Rattle.std.proofs.lemmas.List.{drop-drop}
 use Rattle.rst_text.specs.Block.{Block}
@@ -156,7 +156,11 @@ paid_construct old new B s before after inside text h least = by s h.goes h.plac
         → Takes (most_left old B Next) (least_left old B Next) before
         (end_looks new t + 128 * (totals new.depth (next_blocks B t) + totals new.depth (next_cells t)) + most_from new.depth B (place_after new t))
         (totals new.depth (next_blocks B t) + totals new.depth (next_cells t) + least_from new.depth B (place_after new t)) after
-    same t g p b c few = rw h.depth (all (place_after new t) (totals D (next_blocks B t)) (totals D (next_cells t)) (end_looks new t) p b c few)
+    same t g p b c few =
+        subst (λ d. Takes (most_left old B Next) (least_left old B Next) before
+        (end_looks new t + 128 * (totals d (next_blocks B t) + totals d (next_cells t)) + most_from d B (place_after new t))
+        (totals d (next_blocks B t) + totals d (next_cells t) + least_from d B (place_after new t)) after) (sym h.depth)
+        (all (place_after new t) (totals D (next_blocks B t)) (totals D (next_cells t)) (end_looks new t) p b c few)
 
     by : (t : Step) → GoesOn t → place_after new t ≡ j → totals D (next_blocks B t) ≡ opened → totals D (next_cells t) ≡ cells → after + end_looks new t ≤ before + run_looks old.run + 32 * reach_at (D == 0) (drop old.at B)
         → Takes (most_left old B Next) (least_left old B Next) before (most_left new B t) (least_left new B t) after

@@ -1,5 +1,5 @@
 -- What blocks that wait may still take of looks, and have to take.
-use Rattle.std.proofs.Common.{◌≡◌, ℕ, zero, suc, ◌+◌, ◌-◌, ◌*◌, ◌≤◌, Bool, true, false, cond, List, [], ◌∷◌, ◌++◌, length, length-drop, map, take, drop, Option, Some, None, arith, refl, ap, sym, ◌∙◌, inl, inr}
+use Rattle.std.proofs.Common.{◌≡◌, ℕ, zero, suc, ◌+◌, ◌-◌, ◌*◌, ◌≤◌, Bool, true, false, cond, List, [], ◌∷◌, ◌++◌, length, length-drop, map, take, drop, Option, Some, None, arith, refl, subst, ap, sym, ◌∙◌, inl, inr}
 use Rattle.std.specs.Prelude.{Box, flat_map, ◌==◌, if◌then◌else◌}
 use Rattle.std.specs.declared.alloc.Global.{Global}
 use Rattle.std.proofs.lemmas.Bool.{cases_lt, lt-ltb, le-ltb}
@@ -141,7 +141,10 @@ quotes_go_on l new B line end made p s before after h = by s h.goes h.place h.bl
         let m = ap (most_from D B) place in
         let n = ap (least_from D B) place in
         let none = ap (totals D) cells in
-        rw h.depth (record { no_more = omega (arith, few, m, blocks, none); no_less = omega (arith, h.least, n, blocks, none) })
+        subst (λ d. Takes (most_after l B (Quote line made (Some p) end) None) (least_after l B (Quote line made (Some p) end) None) before
+        (end_looks new t + 128 * (totals d (next_blocks B t) + totals d (next_cells t)) + most_from d B (place_after new t))
+        (totals d (next_blocks B t) + totals d (next_cells t) + least_from d B (place_after new t)) after) (sym h.depth)
+        (record { no_more = omega (arith, few, m, blocks, none); no_less = omega (arith, h.least, n, blocks, none) })
 
     by : (t : Step) → GoesOn t → place_after new t ≡ p.to → totals D (next_blocks B t) ≡ totals D quotes → next_cells t ≡ [] → after + end_looks new t ≤ before + run_looks l.run + (1 + 16 * (p.to - p.from))
         → Takes (most_after l B (Quote line made (Some p) end) None) (least_after l B (Quote line made (Some p) end) None) before (most_left new B t) (least_left new B t) after

@@ -19,7 +19,7 @@ use Rattle.rst_block.proofs.resume.resume.Goals.{in-ListItem+in_ok-item-in-ListI
 use Rattle.rst_block.proofs.resume.resume.Goals as goal
 
 pub returns-in-Quote-clause-kept : goal.returns-in-Quote-clause-kept
-returns-in-Quote-clause-kept c = depth_after c.after_quote.result c.in_ok-put_quote-in-Quote.ensures.more.depth c.after_quote.ensures.kept
+returns-in-Quote-clause-kept c = depth_after c.after_quote.result _ c.in_ok-put_quote-in-Quote.ensures.more.depth c.after_quote.ensures.kept
 
 pub returns-in-Quote-clause-read : goal.returns-in-Quote-clause-read
 returns-in-Quote-clause-read c =

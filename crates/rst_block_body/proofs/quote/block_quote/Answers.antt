@@ -31,7 +31,7 @@ returns-clause-read c =
     keeps_as c.quote_part.result _ _ _ (ap (λ p. quotes_from c.close.new.self B [] p c.close.new.pass.numbers) part ∙ sym read) c.quote_part.ensures.read
 
 pub returns-clause-kept : goal.returns-clause-kept
-returns-clause-kept c = depth_after c.quote_part.result c.in_ok-close.ensures.closed.depth c.quote_part.ensures.kept
+returns-clause-kept c = depth_after c.quote_part.result _ c.in_ok-close.ensures.closed.depth c.quote_part.ensures.kept
 
 pub returns-clause-paid : goal.returns-clause-paid
 returns-clause-paid c =
