@@ -55,13 +55,15 @@ pub fn characters()
 pub fn widths()
     ensures wide { columns (codes "日本a") ≡ 5 }
     ensures combining { columns (codes "é") ≡ 1 }
-    ensures alone { map (λ t. columns (codes t)) ("ｱ" ∷ "Ａ" ∷ "́" ∷ "\u{ad}" ∷ "\u{1f}" ∷ "៘" ∷ [])
-        ≡ 1 ∷ 2 ∷ 0 ∷ 0 ∷ 1 ∷ 3 ∷ [] }
+    ensures alone { map (λ t. columns (codes t)) ("ｱ" ∷ "Ａ" ∷ "\u{ad}" ∷ "\u{1f}" ∷ "៘" ∷ [])
+        ≡ 1 ∷ 2 ∷ 0 ∷ 1 ∷ 3 ∷ [] }
+    ensures mark_alone { columns (769 ∷ []) ≡ 0 }
     ensures emoji { map (λ t. columns (codes t)) ("😀" ∷ "👍🏽" ∷ "👨\u{200d}👩\u{200d}👧" ∷ [])
         ≡ 2 ∷ 2 ∷ 2 ∷ [] }
     ensures presentation { map (λ t. columns (codes t)) ("❤" ∷ "❤\u{fe0f}" ∷ "1\u{fe0f}⃣" ∷ "⚠\u{fe0e}" ∷ [])
         ≡ 1 ∷ 2 ∷ 2 ∷ 1 ∷ [] }
     ensures flags { map (λ t. columns (codes t)) ("🇩" ∷ "🇩🇪" ∷ "🇩🇪🇫" ∷ []) ≡ 1 ∷ 2 ∷ 3 ∷ [] }
-    ensures joined { map (λ t. columns (codes t)) ("\u{644}\u{627}" ∷ "한" ∷ "ꓐꓹ" ∷ "a\u{200b}b" ∷ [])
-        ≡ 1 ∷ 2 ∷ 2 ∷ 2 ∷ [] }
+    ensures joined { map (λ t. columns (codes t)) ("\u{644}\u{627}" ∷ "ꓐꓹ" ∷ "a\u{200b}b" ∷ [])
+        ≡ 1 ∷ 2 ∷ 2 ∷ [] }
+    ensures letters_of_a_syllable { columns (4370 ∷ 4449 ∷ 4523 ∷ []) ≡ 2 }
 {}
