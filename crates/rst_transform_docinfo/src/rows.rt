@@ -2,12 +2,10 @@
 #![tactic(auto, unfolding(crate::proofs::Computing::rst_transform_docinfo))]
 
 ghost use Rattle.std.specs.Prelude.{◌≡◌, Some, None, codes, [], ◌∷◌, map};
-ghost use Rattle.rst_tree.specs.declared.key.Key.TheVariants.{Ids, Names, Refuri};
-ghost use Rattle.rst_tree.specs.declared.tag.Tag.TheVariants.{Author, BulletList, Comment, Contact, Copyright, Date, Emphasis, Field, FieldBody, FieldList, FieldName, ListItem, Organization, Paragraph, Reference, Revision, Status, Subtitle, SystemMessage, Target, Title, Version};
+ghost use Rattle.rst_tree.specs.declared.key.Key.TheVariants.{Ids, Names};
+ghost use Rattle.rst_tree.specs.declared.tag.Tag.TheVariants.{Author, BulletList, Comment, Contact, Copyright, Date, Emphasis, Field, FieldBody, FieldList, FieldName, ListItem, Organization, Paragraph, Revision, Status, Subtitle, SystemMessage, Title, Version};
 ghost use Rattle.rst_transform_docinfo.specs.declared.bibliography.Row.TheVariants.{Simple, Address, Authors, Topic, Generic};
 ghost use Rattle.rst_transform_docinfo.specs.declared.bibliography.TopicKind.TheVariants.{Dedication, Abstract};
-ghost use Rattle.rst_transform_names.specs.declared.names.Holder.TheVariants.{Element as By};
-ghost use Rattle.rst_transform_names.specs.declared.names.Strength.TheVariants.{Explicit};
 ghost use Rattle.rst_transform_names.specs.Trees.{document, element, lists, paragraph, says, text, Prints};
 ghost use Rattle.rst_transform_work.specs.Written.{document_of, knowing, Shows};
 ghost use Rattle.rst_transform_docinfo.specs.Authors.{names_in};
@@ -51,12 +49,6 @@ pub fn fields()
     ensures names { Shows (with_docinfo (document_of (element FieldList (lists Ids ("l" ∷ []) ∷ []) (element Field (lists Ids ("f" ∷ [])
         ∷ []) (element FieldName [] (text "date" ∷ []) ∷ element FieldBody [] (paragraph "x" ∷ []) ∷ []) ∷ []) ∷ [])) (knowing [])).0
         ("<document>" ∷ "    <docinfo ids=\"l\">" ∷ "        <date ids=\"f\">" ∷ "            x" ∷ []) }
-    ensures known_uri { (with_docinfo (document_of (element FieldList [] (element Field [] (element FieldName [] (element Reference (says Refuri "u"
-        ∷ []) (text "Author" ∷ []) ∷ element Target (lists Names ("author" ∷ []) ∷ says Refuri "u" ∷ []) [] ∷ [])
-        ∷ element FieldBody [] (paragraph "Ann" ∷ []) ∷ []) ∷ []) ∷ [])) (record (knowing []) {
-          names = λ name. Some (record { holder = By 0; strength = Explicit; id = codes "author"; uri = Some (codes "u") });
-        })).1.names (codes "author")
-        ≡ Some (record { holder = By 0; strength = Explicit; id = codes "author"; uri = Some (codes "u") }) }
 {}
 
 /// Dedication and abstract: topics after the other elements, whatever the order of the fields (Markup Specification, 'Bibliographic Fields').
@@ -70,10 +62,6 @@ pub fn topics()
         ∷ paragraph "b" ∷ []) ∷ []) ∷ [])) (knowing [])).0
         ("<document>" ∷ "    <topic classes=\"abstract\" ids=\"l\">" ∷ "        <title>" ∷ "            Abstract" ∷ "        <paragraph>"
         ∷ "            a" ∷ "        <paragraph>" ∷ "            b" ∷ []) }
-    ensures ids { Shows (with_docinfo (document_of (element FieldList (lists Ids ("l" ∷ []) ∷ []) (element Field (lists Ids ("f" ∷ [])
-        ∷ []) (element FieldName [] (text "dedication" ∷ []) ∷ element FieldBody [] (paragraph "d" ∷ []) ∷ []) ∷ []) ∷ [])) (knowing [])).0
-        ("<document>" ∷ "    <topic classes=\"dedication\" ids=\"f l\">" ∷ "        <title>" ∷ "            Dedication" ∷ "        <paragraph>"
-        ∷ "            d" ∷ []) }
     ensures second { map (λ r. r.text) (with_docinfo (document_of (element FieldList [] (field "abstract" (paragraph "a" ∷ [])
         ∷ field "abstract" (paragraph "b" ∷ []) ∷ []) ∷ [])) (knowing [])).1.reports
         ≡ codes "Bibliographic field \"abstract\" is not in its form." ∷ [] }

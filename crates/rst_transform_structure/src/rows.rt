@@ -135,42 +135,24 @@ pub fn transitions()
         ∷ "            Document or section may not begin with a transition." ∷ "    <transition>"
         ∷ "    <system_message level=\"3\" line=\"1\" type=\"ERROR\">" ∷ "        <paragraph>"
         ∷ "            Document may not end with a transition." ∷ []) }
-    ensures in_a_quote { Shows (with_transitions (document_of (element BlockQuote [] (element Transition [] [] ∷ []) ∷ paragraph "a" ∷ [])) (known_from 0 [])).0
-        ("<document>" ∷ "    <block_quote>" ∷ "        <transition>" ∷ "    <paragraph>" ∷ "        a" ∷ []) }
-    ensures numbers { map (λ r. r.number) (with_transitions (document_of (element Transition [] [] ∷ element Transition [] [] ∷ [])) (known_from 4 [])).1.reports
-        ≡ 4 ∷ 5 ∷ 6 ∷ [] }
-{}
-
-/// Transitions at the end of sections (Markup Specification, 'Transitions').
-pub fn section_ends()
     ensures at_the_end_of_a_section { Shows (with_transitions (document_of (element Section [] (element Title [] [] ∷ paragraph "a"
         ∷ element Transition [] [] ∷ []) ∷ element Section [] (element Title [] [] ∷ []) ∷ [])) (known_from 0 [])).0
         ("<document>" ∷ "    <section>" ∷ "        <title>" ∷ "        <paragraph>" ∷ "            a" ∷ "    <transition>" ∷ "    <section>"
         ∷ "        <title>" ∷ []) }
-    ensures all_of_a_section { Shows (with_transitions (document_of (element Section [] (element Title [] (text "A" ∷ []) ∷ element Transition [] []
-        ∷ []) ∷ element Section [] (element Title [] (text "B" ∷ []) ∷ []) ∷ [])) (known_from 0 [])).0
-        ("<document>" ∷ "    <section>" ∷ "        <title>" ∷ "            A"
-        ∷ "        <system_message level=\"3\" line=\"1\" type=\"ERROR\">" ∷ "            <paragraph>"
-        ∷ "                Document or section may not begin with a transition." ∷ "    <transition>" ∷ "    <section>" ∷ "        <title>"
-        ∷ "            B" ∷ []) }
     ensures out_of_two_sections { Shows (with_transitions (document_of (element Section [] (element Title [] []
         ∷ element Section [] (element Title [] [] ∷ paragraph "a" ∷ element Transition [] [] ∷ []) ∷ []) ∷ element Section [] (element Title [] []
         ∷ []) ∷ [])) (known_from 0 [])).0
         ("<document>" ∷ "    <section>" ∷ "        <title>" ∷ "        <section>" ∷ "            <title>" ∷ "            <paragraph>"
         ∷ "                a" ∷ "    <transition>" ∷ "    <section>" ∷ "        <title>" ∷ []) }
-    ensures two_at_the_end { Shows (with_transitions (document_of (element Section [] (element Title [] [] ∷ element Section [] (element Title [] []
-        ∷ paragraph "a" ∷ element Transition [] [] ∷ element Transition [] [] ∷ []) ∷ []) ∷ element Section [] (element Title [] [] ∷ [])
-        ∷ [])) (known_from 0 [])).0
-        ("<document>" ∷ "    <section>" ∷ "        <title>" ∷ "        <section>" ∷ "            <title>" ∷ "            <paragraph>"
-        ∷ "                a" ∷ "            <transition>" ∷ "            <system_message level=\"3\" line=\"1\" type=\"ERROR\">"
-        ∷ "                <paragraph>"
-        ∷ "                    At least one body element must separate transitions; adjacent transitions are not allowed." ∷ "    <transition>"
-        ∷ "    <section>" ∷ "        <title>" ∷ []) }
     ensures last_in_the_last_section { Shows (with_transitions (document_of (element Section [] (element Title [] [] ∷ paragraph "a"
         ∷ element Transition [] [] ∷ []) ∷ [])) (known_from 0 [])).0
         ("<document>" ∷ "    <section>" ∷ "        <title>" ∷ "        <paragraph>" ∷ "            a" ∷ "        <transition>"
         ∷ "        <system_message level=\"3\" line=\"1\" type=\"ERROR\">" ∷ "            <paragraph>"
         ∷ "                Document may not end with a transition." ∷ []) }
+    ensures in_a_quote { Shows (with_transitions (document_of (element BlockQuote [] (element Transition [] [] ∷ []) ∷ paragraph "a" ∷ [])) (known_from 0 [])).0
+        ("<document>" ∷ "    <block_quote>" ∷ "        <transition>" ∷ "    <paragraph>" ∷ "        a" ∷ []) }
+    ensures numbers { map (λ r. r.number) (with_transitions (document_of (element Transition [] [] ∷ element Transition [] [] ∷ [])) (known_from 4 [])).1.reports
+        ≡ 4 ∷ 5 ∷ 6 ∷ [] }
 {}
 
 /// The last section, with the messages of the transforms that have no place of their own (Markup Specification, 'Error Handling').
