@@ -44,11 +44,7 @@ returns-then-lines_end_at-clause-read c =
     (subst (λ i. HasLine l new (line_added bar i (open_of l.run))) stop h.0) (h.1 (omega (arith, stop, some)) ∙ stop))
 
 pub returns-clause-kept : goal.returns-clause-kept
-returns-clause-kept c =
-    let mid = c.close.new.self in
-    let opened : OpenBlock = record { depth = mid.depth; at = mid.at; nodes = mid.nodes; run = Lines c.new.result c.args.level.now.at; headings = mid.headings } in
-    let run : HasRun mid opened (open_of opened.run) = record { depth = refl; at = refl; nodes = refl; headings = refl; run = refl } in
-    gives_kept _ _ c.add_line-2.result c.add_line-2.ensures.line (λ _ h. h.0.depth ∙ run.depth ∙ c.in_ok-close.ensures.closed.depth)
+returns-clause-kept c = gives_kept _ _ c.add_line-2.result c.add_line-2.ensures.line (λ _ h. h.0.depth ∙ c.in_ok-close.ensures.closed.depth)
 
 pub returns-clause-read : goal.returns-clause-read
 returns-clause-read c =
@@ -57,7 +53,7 @@ returns-clause-read c =
     let m = c.args.marker in
     let mid = c.close.new.self in
     let new = c.add_line-2.new.level in
-    let opened : OpenBlock = record { depth = mid.depth; at = mid.at; nodes = mid.nodes; run = Lines c.new.result l.at; headings = mid.headings } in
+    let opened : OpenBlock = record mid { run = Lines c.new.result l.at } in
     let run : HasRun mid opened (open_lines l.at []) = record { depth = refl; at = refl; nodes = refl; headings = refl; run = ap (λ bars. open_lines l.at (indented bars)) c.new.ensures.items } in
     let bar = c.in_ok-text.text in
     let lines : ℕ = indented_size (drop l.at B) in
