@@ -1,4 +1,4 @@
-use Rattle.std.proofs.Common.{drop, arith, refl, rules}
+use Rattle.std.proofs.Common.{◌∙◌, drop, arith, refl, rules}
 use Rattle.std.specs.Prelude.{None}
 use Rattle.rst_text.specs.Shown.{block_of}
 use Rattle.rst_tree.specs.declared.tag.Tag.TheVariants.{DefinitionListItem, Definition as DefinitionTag}
@@ -60,6 +60,6 @@ returns-clause-paid c =
     let mid = c.indented-body.new.looks in
     let next = next_definition l B infos c.requires.text c.requires.form part in
     paid_item 25 (ListedBody c.number_at-line.result DefinitionListItem DefinitionTag c.in_ok-heads.heads.heads c.in_ok-heads.heads.notes) c.indented-body.result start start mid c.line-term.new.looks (omega arith)
-    next (definition_is B l.at infos part) (found_below B l.at start mid part c.indented-body.ensures.reach c.indented-body.ensures.low) refl tt refl (returns-clause-kept c).depth
+    next (definition_is B l.at infos part) (found_below B l.at start mid part c.indented-body.ensures.reach c.indented-body.ensures.low) refl tt refl (returns-clause-kept c)
     (c.go_to.ensures.there (rw (c.put_before.ensures.at, c.in_ok-join_list.ensures.at) (item_behind next c.requires.inside))) (omega arith)
     (omega (arith, c.in_ok-join_list.ensures.low, c.line-term.ensures.looks)) (omega (arith, c.in_ok-join_list.ensures.looks, c.line-term.ensures.looks))

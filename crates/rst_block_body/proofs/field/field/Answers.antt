@@ -63,6 +63,6 @@ returns-clause-paid c =
     let mid = c.hanging-body.new.looks in
     let next = next_field l B c.requires.begun part in
     paid_item 29 (ListedBody c.number_at-line.result FieldTag FieldBody c.push.new.self c.in_ok-name-2.name.notes) c.hanging-body.result start start mid c.line.new.looks (omega arith) next part
-    (found_hanging B l.at c.args.mark.marker start mid part c.hanging-body.ensures.reach c.hanging-body.ensures.low) refl tt refl (returns-clause-kept c).depth
+    (found_hanging B l.at c.args.mark.marker start mid part c.hanging-body.ensures.reach c.hanging-body.ensures.low) refl tt refl (returns-clause-kept c)
     (c.go_to.ensures.there (rw c.in_ok-join_list.ensures.at (item_behind next c.requires.inside))) (omega arith)
     (omega (arith, c.in_ok-join_list.ensures.low, c.line.ensures.looks)) (omega (arith, c.in_ok-join_list.ensures.looks, c.line.ensures.looks))

@@ -1,4 +1,4 @@
-use Rattle.std.proofs.Common.{drop, arith, refl, rules}
+use Rattle.std.proofs.Common.{◌∙◌, drop, arith, refl, rules}
 use Rattle.std.specs.Prelude.{None}
 use Rattle.rst_text.specs.Shown.{block_of}
 use Rattle.rst_tree.specs.declared.tag.Tag.TheVariants.{OptionListItem, Description}
@@ -58,6 +58,6 @@ returns-clause-paid c =
     let mid = c.hanging-body.new.looks in
     let next = next_option l B c.requires.begun part in
     paid_item 29 (ListedBody c.number_at-line.result OptionListItem Description c.push.new.self c.new.result) c.hanging-body.result c.args.pass.now.looks start mid c.join_list.new.pass.looks (omega arith) next part
-    (found_hanging B l.at c.args.marker start mid part c.hanging-body.ensures.reach c.hanging-body.ensures.low) refl tt refl (returns-clause-kept c).depth
+    (found_hanging B l.at c.args.marker start mid part c.hanging-body.ensures.reach c.hanging-body.ensures.low) refl tt refl (returns-clause-kept c)
     (c.go_to.ensures.there (rw c.in_ok-join_list.ensures.at (item_behind next c.requires.inside))) (omega (arith, c.line.ensures.looks))
     c.in_ok-join_list.ensures.low (omega (arith, c.in_ok-join_list.ensures.looks, c.line.ensures.looks))

@@ -43,8 +43,8 @@ paragraph-requires-in-ShortUnderline-clause-plain c =
     ap (λ i. is_loose (front_text (drop i B))) (c.put_short_underline.ensures.at ∙ c.append-in-ShortUnderline.ensures.at ∙ c.close-in-ShortUnderline.ensures.at)
     ∙ text_plain c.args.level.now B c.args.infos.items c.requires.text
 
-pub underlined-requires-clause-inside : goal.underlined-requires-clause-inside
-underlined-requires-clause-inside c =
+pub underlined-requires : goal.underlined-requires
+underlined-requires c =
     let form = form_here (block_of c.args.view.now) c.args.level.now.at c.line-text.ensures.text c.below_text-next.ensures.text c.text_form.ensures c.in-Title.is in
     omega (arith, next_within (next_of_form c.args.infos.items c.requires.text form) c.requires.inside, c.append-in-Title.ensures.at, c.close-in-Title.ensures.at)
 

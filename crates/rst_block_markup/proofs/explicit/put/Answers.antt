@@ -1,4 +1,4 @@
-use Rattle.std.proofs.Common.{◌-◌, arith}
+use Rattle.std.proofs.Common.{◌∙◌, ◌-◌, arith}
 use Rattle.rst_block_state.proofs.Changes.{moved_more, more_is_read}
 use Rattle.rst_block_state.proofs.NumberedLemmas.{at_number}
 use Rattle.rst_block_markup.proofs.MarkupPaid.{opens_none}
