@@ -192,8 +192,8 @@ pub markup_refused : (l : OpenBlock) (B : Block) (end n line : ℕ) → is_marku
 markup_refused l B end n line h e = run_then_markup l B end n h ∙ close_refused l B n line (markup_after l.depth B (span_to l.at end) end) e
 
 -- a block whose open run becomes explicit markup up to a place
-pub has_markup : (l : OpenBlock) (end : ℕ) → HasRun l (record l { run = ExplicitRun end }) (open_markup end)
-has_markup l end = record { depth = refl; at = refl; nodes = refl; headings = refl; run = refl }
+pub has_markup : (l : OpenBlock) (end : ℕ) (untitled : 0 < l.depth → l.headings.items ≡ []) → HasRun l (record l { run = ExplicitRun end; untitled = untitled }) (open_markup end)
+has_markup l end untitled = record { depth = refl; at = refl; nodes = refl; headings = refl; run = refl }
 
 -- ---- explicit markup at the next line
 

@@ -53,7 +53,7 @@ returns-clause-read c =
     let m = c.args.marker in
     let mid = c.close.new.self in
     let new = c.add_line-2.new.level in
-    let opened : OpenBlock = record mid { run = Lines c.new.result l.at } in
+    let opened : OpenBlock = record mid { run = Lines c.new.result l.at; untitled = c.level-1.given.0 } in
     let run : HasRun mid opened (open_lines l.at []) = record { depth = refl; at = refl; nodes = refl; headings = refl; run = ap (λ bars. open_lines l.at (indented bars)) c.new.ensures.items } in
     let bar = c.in_ok-text.text in
     let lines : ℕ = indented_size (drop l.at B) in
