@@ -7,14 +7,14 @@ use Rattle.rst_block_markup.proofs.explicit.begin_markup.Goals as goal
 
 pub returns-then-is_markup-clause-read : goal.returns-then-is_markup-clause-read
 returns-then-is_markup-clause-read c =
-    joined_markup (block_of c.args.view.now) c.args.pass.now.numbers (sym c.is_markup.ensures ∙ c.if-is_markup.true) (has_markup c.args.level.now c.args.end)
+    joined_markup (block_of c.args.view.now) c.args.pass.now.numbers (sym c.is_markup.ensures ∙ c.if-is_markup.true) (has_markup c.args.level.now c.args.end c.args.level.now.untitled)
 
 pub returns-clause-kept : goal.returns-clause-kept
 returns-clause-kept c = c.in_ok-close.ensures.closed.depth
 
 pub returns-clause-read : goal.returns-clause-read
 returns-clause-read c =
-    begun_markup (sym c.is_markup.ensures ∙ c.if-is_markup.false) (has_ended (block_of c.args.view.now) _ c.in_ok-close.ensures.closed) (has_markup c.close.new.self c.args.end _)
+    begun_markup (sym c.is_markup.ensures ∙ c.if-is_markup.false) (has_ended (block_of c.args.view.now) _ c.in_ok-close.ensures.closed) (has_markup c.close.new.self c.args.end c.close.new.self.untitled)
 
 pub returns-in_err-close-clause-read : goal.returns-in_err-close-clause-read
 returns-in_err-close-clause-read c =
