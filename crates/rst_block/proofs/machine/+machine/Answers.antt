@@ -426,7 +426,7 @@ pub row_of-loop-cell-preserved : goal.row_of-loop-cell-preserved
 row_of-loop-cell-preserved t c = record {
   frames = c.in_ok-nodes.ensures.frames ∙ c.loop-cell.invariant.frames;
   made = entry_next c.args.depth c.in-Some.cell c.in_ok-lines.lines (into_iter_items c.loop-cell.cell-iterator) _ c.in_ok-nodes.field-0 c.loop-cell.entries c.push.new.self c.in_ok-entry_of.field-0 c.loop-cell.pass.numbers
-      c.read.new.pass.numbers _ c.requires.inner c.requires.depth c.in-Some.ensures.steps.0 c.in_ok-lines.ensures c.in_ok-nodes.ensures.read c.in_ok-entry_of.ensures c.in_ok-push.ensures c.loop-cell.invariant.made;
+      c.read.new.pass.numbers _ c.requires.inner c.requires.depth c.in_ok-nodes.ensures.depth c.in-Some.ensures.steps.0 c.in_ok-lines.ensures c.in_ok-nodes.ensures.read c.in_ok-entry_of.ensures c.in_ok-push.ensures c.loop-cell.invariant.made;
   paid = some_read _ _ _ _ _ _ _ c.loop-cell.invariant.paid (next_cell c.args.depth (into_iter_items c.loop-cell.cell-iterator) _ c.in-Some.cell c.in_ok-lines.lines c.requires.inner c.in-Some.ensures.steps.0 c.in_ok-lines.ensures)
       c.in_ok-nodes.ensures.paid;
 }
@@ -435,7 +435,7 @@ pub row_of-loop-cell-preserved-in_ok-push : goal.row_of-loop-cell-preserved-in_o
 row_of-loop-cell-preserved-in_ok-push t c = record {
   frames = c.in_ok-nodes.ensures.frames ∙ c.loop-cell.invariant.frames;
   made = entry_next c.args.depth c.in-Some.cell c.in_ok-lines.lines (into_iter_items c.loop-cell.cell-iterator) _ c.in_ok-nodes.field-0 c.loop-cell.entries c.push.new.self c.in_ok-entry_of.field-0 c.loop-cell.pass.numbers
-      c.read.new.pass.numbers _ c.requires.inner c.requires.depth c.in-Some.ensures.steps.0 c.in_ok-lines.ensures c.in_ok-nodes.ensures.read c.in_ok-entry_of.ensures c.in_ok-push.ensures c.loop-cell.invariant.made;
+      c.read.new.pass.numbers _ c.requires.inner c.requires.depth c.in_ok-nodes.ensures.depth c.in-Some.ensures.steps.0 c.in_ok-lines.ensures c.in_ok-nodes.ensures.read c.in_ok-entry_of.ensures c.in_ok-push.ensures c.loop-cell.invariant.made;
   paid = some_read _ _ _ _ _ _ _ c.loop-cell.invariant.paid (next_cell c.args.depth (into_iter_items c.loop-cell.cell-iterator) _ c.in-Some.cell c.in_ok-lines.lines c.requires.inner c.in-Some.ensures.steps.0 c.in_ok-lines.ensures)
       c.in_ok-nodes.ensures.paid;
 }
