@@ -1,7 +1,7 @@
 //! Nodes and messages of texts. The answers were worked out from the public Markup Specification, not by this crate.
-use super::tree_tests::{element, printed};
-use rst_inline::{inline, unescape};
-use rst_tree::{Children, Node, Tag};
+use super::tree_tests::printed;
+use rst_inline::{Pieces, inline, unescape};
+use rst_tree::{Attrs, Children, Node, Tag};
 use std::alloc::Global;
 use std::test::Fail;
 
@@ -65,13 +65,15 @@ ERROR 7: Unknown interpreted text role \"x\".
 
 /// The nodes and the messages of a text on line 7.
 fn shown(alloc: Global, text: &str) -> Result<String, Fail> {
-    let read = inline(alloc, text, 7)?;
-    let mut paragraph = element(alloc, Tag::Paragraph, &[], [])?;
-    if let Node::Element { children, .. } = &mut paragraph {
-        *children = Children::of(read.nodes);
-    }
+    let Pieces { nodes, notes } = inline(alloc, text, 7)?;
+    let paragraph = Node::Element {
+        tag: Tag::Paragraph,
+        attrs: Attrs::new(alloc),
+        children: Children::of(nodes),
+        line: 7,
+    };
     let mut out = printed(alloc, paragraph)?;
-    for note in &read.notes {
+    for note in &notes {
         let message = format!(in alloc;
             "{} {}: {}\n",
             note.level.name(),
