@@ -1,6 +1,6 @@
 -- Standalone URIs.
 use Rattle.std.proofs.Common.{◌≡◌, ◌↔◌, ⊎_elim, ℕ, zero, suc, ◌+◌, ◌-◌, ◌<◌, ◌≤◌, Bool, true, false, not, ◌&&◌, ◌||◌, ◌==◌, cond, List, [], ◌∷◌, ◌++◌, Option, Some, None, length, option_and_then, option_map, get_or, unwrap_or, true≢false, refl, sym, ap, ap₂, ◌∙◌, subst, arith}
-use Rattle.std.specs.Prelude.{nat_lt, map, find}
+use Rattle.std.specs.Prelude.{nat_lt, find}
 use Rattle.std.specs.List.{list_all}
 use Rattle.std.specs.Char.{is_ascii_alphanumeric, to_ascii_lowercase}
 use Rattle.std.specs.Str.{chars, IsUtf8}
@@ -8,32 +8,19 @@ use Rattle.std.proofs.Math.Utf8.{encodes}
 use Rattle.std.proofs.lemmas.Str.{encode_ascii, encodes-chars, chars_from_encodes}
 use Rattle.std.proofs.lemmas.Bool.{ltb-true, lt-ltb, eqb-true, and_parts, cases_lt}
 use Rattle.std.proofs.lemmas.Bool.Decides.{nat_tests}
-use Rattle.std.proofs.lemmas.List.{length-map}
 use Rattle.rst_text.specs.Places.{first_from, last_from, NoneFrom, IsFirst, IsLast}
 use Rattle.rst_text.proofs.PlacesLemmas.{cases_bool, lt_eq_gt, first_from-is, first_from-IsFirst, last_from-is, last_from-last, NoneFrom-within}
-use Rattle.rst_inline_scan.specs.Characters.{Text, has, is_among, is_free_behind}
-use Rattle.rst_inline_scan.specs.Uri.{has_any_case, schemes, scheme_end, is_uri_char, is_uri_trail, uri_stop, uri_close, uri_behind, if_free, uri_end, uri_piece, uri, IsUri}
+use Rattle.rst_inline_scan.specs.Characters.{Text, is_among, is_free_behind}
+use Rattle.rst_inline_scan.specs.Uri.{has_letter, has_any_case, schemes, scheme_end, is_uri_char, is_uri_trail, uri_stop, uri_close, uri_behind, if_free, uri_end, uri_piece, uri, IsUri}
 use Rattle.rst_inline_scan.proofs.FitLemmas.{Fit, Fit-none, Fit-some, Some-same, Some-None, chosen}
 
 -- ---- the scheme
 
-lower-at : (t : Text) (i : ℕ) → get_or (map to_ascii_lowercase t) i 0 ≡ to_ascii_lowercase (get_or t i 0)
-lower-at [] i = refl
-lower-at (c ∷ cs) zero = refl
-lower-at (c ∷ cs) (suc i) = lower-at cs i
-
--- a character stands in the text that is in lower case where it is the one in the text, in lower case
-pub lower_has : (t : Text) (i c : ℕ) → has (map to_ascii_lowercase t) i c ≡ (nat_lt i (length t) && to_ascii_lowercase (get_or t i 0) == c)
-lower_has t i c = rw (length-map t to_ascii_lowercase, lower-at t i) refl
-
--- so the character is within the text, and in lower case it is the one
-pub letter_at : (t : Text) (i c : ℕ) → has (map to_ascii_lowercase t) i c ≡ true → (i < length t) × (to_ascii_lowercase (get_or t i 0) ≡ c)
+-- the character is within the text, and in lower case it is the one
+pub letter_at : (t : Text) (i c : ℕ) → has_letter t i c ≡ true → (i < length t) × (to_ascii_lowercase (get_or t i 0) ≡ c)
 letter_at t i c h =
-    let parts = and_parts (nat_lt i (length t)) (to_ascii_lowercase (get_or t i 0) == c) (sym (lower_has t i c) ∙ h) in
+    let parts = and_parts (nat_lt i (length t)) (to_ascii_lowercase (get_or t i 0) == c) h in
     (ltb-true i (length t) parts.0, eqb-true _ _ parts.1)
-
-pub letter_before : (t : Text) (i c : ℕ) (cs : List ℕ) → has_any_case t i (c ∷ cs) ≡ true → (has (map to_ascii_lowercase t) i c ≡ true) × (has_any_case t (i + 1) cs ≡ true)
-letter_before t i c cs h = and_parts (has (map to_ascii_lowercase t) i c) (has_any_case t (i + 1) cs) h
 
 upper-uri : (c : ℕ) → nat_lt c 65 ≡ false → nat_lt c 91 ≡ true → is_uri_char c ≡ true
 unfolding is_uri_char
@@ -58,7 +45,7 @@ same-uri a b e h = ap is_uri_char e ∙ h
 scheme-uri : (t : Text) (i : ℕ) (word : List ℕ) → has_any_case t i word ≡ true → AllUri word → (k : ℕ) → i ≤ k → k < i + length word → is_uri_char (get_or t k 0) ≡ true
 scheme-uri t i [] h all k above below = absurd (omega arith)
 scheme-uri t i (c ∷ cs) h all k above below =
-    let here = letter_before t i c cs h in
+    let here = and_parts (has_letter t i c) (has_any_case t (i + 1) cs) h in
     let letter = letter_at t i c here.0 in
     let fits = and_parts (is_uri_char c) (list_all is_uri_char cs) all in
     ⊎_elim
@@ -72,7 +59,7 @@ scheme-uri t i (c ∷ cs) h all k above below =
 scheme-fits : (t : Text) (i : ℕ) (word : List ℕ) → has_any_case t i word ≡ true → i ≤ length t → i + length word ≤ length t
 scheme-fits t i [] h within = omega arith
 scheme-fits t i (c ∷ cs) h within =
-    let here = letter_before t i c cs h in
+    let here = and_parts (has_letter t i c) (has_any_case t (i + 1) cs) h in
     let letter = letter_at t i c here.0 in
     let less : i < length t = letter.0 in
     let rest : i + 1 + length cs ≤ length t = scheme-fits t (i + 1) cs here.1 (omega arith) in

@@ -18,14 +18,14 @@ use Rattle.rst_inline_scan.specs.Tails.{name_tail}
 use Rattle.rst_inline_scan.specs.Names.{is_joint, is_name_at, role_end, ends_name, is_reference, name_end, reference_to, reference}
 use Rattle.rst_inline_scan.specs.Marked.{has_start, markup_of, start_of, starts, marked_from, marked}
 use Rattle.rst_inline_scan.specs.Footnotes.{label}
-use Rattle.rst_inline_scan.specs.Uri.{has_any_case, schemes, scheme_end, uri_piece, uri}
+use Rattle.rst_inline_scan.specs.Uri.{has_letter, has_any_case, schemes, scheme_end, uri_piece, uri}
 use Rattle.rst_inline_scan.specs.Words.{IsWord, goes_on}
 use Rattle.rst_inline_scan.specs.Pieces.{markup_at, is_free, piece_at, HasNoStart}
 use Rattle.rst_inline_scan.specs.declared.piece.Markup.{Markup}
 use Rattle.rst_inline_scan.specs.declared.piece.Markup.TheVariants.{Strong, Emphasis, Literal, Target, Substitution, Interpreted}
 use Rattle.rst_inline_scan.proofs.EscapeLemmas.{IsBare, other-bare, is_escaped-bare}
 use Rattle.rst_inline_scan.proofs.NameLemmas.{not_reference, is_reference-past}
-use Rattle.rst_inline_scan.proofs.UriLemmas.{letter_at, letter_before, uri_end-none}
+use Rattle.rst_inline_scan.proofs.UriLemmas.{letter_at, uri_end-none}
 
 -- ---- letters and digits
 
@@ -147,7 +147,7 @@ lower-letter c h = grind (arith, nat_tests)
 no-scheme : (t : Text) (i e : ℕ) (word : List ℕ) → IsBarred t i e → named word ≡ true → has_any_case t i word ≡ true → ⊥
 no-scheme t i e [] bar n h = true≢false (sym n)
 no-scheme t i e (c ∷ cs) bar n h =
-    let here = letter_before t i c cs h in
+    let here = and_parts (has_letter t i c) (has_any_case t (i + 1) cs) h in
     let letter = letter_at t i c here.0 in
     let within : i < length t = letter.0 in
     let same : to_ascii_lowercase (get_or t i 0) ≡ c = letter.1 in

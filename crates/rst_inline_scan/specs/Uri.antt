@@ -1,14 +1,19 @@
 -- Standalone hyperlinks (Markup Specification, 'Standalone Hyperlinks').
-use Rattle.std.specs.Prelude.{◌≡◌, ℕ, ◌+◌, ◌-◌, Bool, not, ◌||◌, List, [], ◌∷◌, Option, None, Some, slice_index, length, map, find, unwrap_or, option_map, option_and_then, codes, if◌then◌else◌}
+use Rattle.std.specs.Prelude.{◌≡◌, ℕ, ◌+◌, ◌-◌, Bool, true, not, ◌&&◌, ◌||◌, ◌==◌, nat_lt, List, [], ◌∷◌, Option, None, Some, slice_index, length, find, unwrap_or, option_map, option_and_then, codes, if◌then◌else◌}
 use Rattle.std.specs.Char.{to_ascii_lowercase, is_ascii_alphanumeric}
-use Rattle.rst_inline_scan.specs.Characters.{Text, has_string, is_among, is_free_behind}
+use Rattle.rst_inline_scan.specs.Characters.{Text, is_among, is_free_behind}
 use Rattle.rst_text.specs.Places.{first_from, last_from}
 use Rattle.rst_inline_scan.specs.declared.piece.Kind.TheVariants.{Uri}
 use Rattle.rst_inline_scan.specs.declared.piece.Piece.{Piece}
 
+-- the character, which is in lower case, stands at the place in any case
+abbrev pub has_letter : Text → ℕ → ℕ → Bool
+has_letter t i c = nat_lt i (length t) && to_ascii_lowercase (slice_index t i) == c
+
 -- the string, which is in lower case, stands at the place without regard to the case of letters of ASCII
 abbrev pub has_any_case : Text → ℕ → Text → Bool
-has_any_case t i string = has_string (map to_ascii_lowercase t) i string
+has_any_case t i [] = true
+has_any_case t i (c ∷ cs) = has_letter t i c && has_any_case t (i + 1) cs
 
 -- the schemes, with what stands between them and what they name
 abbrev pub schemes : List Text

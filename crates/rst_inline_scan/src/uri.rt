@@ -1,10 +1,8 @@
 //! Standalone URIs.
-ghost use Rattle.std.specs.Prelude.{◌≡◌, ◌<◌, ◌≤◌, ◌↔◌, ℕ, length, map, IsTrue};
-ghost use Rattle.std.specs.Char.{to_ascii_lowercase};
+ghost use Rattle.std.specs.Prelude.{◌≡◌, ◌<◌, ◌≤◌, ◌↔◌, ℕ, length, IsTrue};
 ghost use Rattle.std.specs.Str.{chars, IsUtf8};
 ghost use Rattle.std.specs.List.{list_all};
-ghost use Rattle.rst_inline_scan.specs.Characters.{has};
-ghost use Rattle.rst_inline_scan.specs.Uri.{has_any_case, scheme_end, is_uri_char, is_uri_trail, uri_stop, uri_close, uri_end, uri, IsUri};
+ghost use Rattle.rst_inline_scan.specs.Uri.{has_letter, has_any_case, scheme_end, is_uri_char, is_uri_trail, uri_stop, uri_close, uri_end, uri, IsUri};
 ghost use Rattle.rst_inline_scan.specs.Missing.{IsMissing};
 
 use super::characters::is_free_behind;
@@ -12,9 +10,8 @@ use super::missing::Missing;
 use super::piece::{Kind, Piece};
 
 /// Whether the character, which is in lower case, stands at the place in any case.
-#[tactic(auto, using(crate::proofs::UriLemmas::lower_has))]
 fn has_letter(text: &[char], place: usize, c: u8) -> bool
-    ensures { result ≡ has (map to_ascii_lowercase text.now) place c }
+    ensures { result ≡ has_letter text.now place c }
 {
     match text.get(place) {
         Some(letter) => letter.to_ascii_lowercase() == char::from(c),
@@ -248,9 +245,8 @@ fn begins_with(bytes: &[u8], word: &[u8]) -> bool
 }
 
 /// The same for bytes.
-#[tactic(auto, using(crate::proofs::UriLemmas::lower_has))]
 fn has_byte(bytes: &[u8], place: usize, c: u8) -> bool
-    ensures { result ≡ has (map to_ascii_lowercase bytes.now) place c }
+    ensures { result ≡ has_letter bytes.now place c }
 {
     match bytes.get(place) {
         Some(byte) => byte.to_ascii_lowercase() == c,
