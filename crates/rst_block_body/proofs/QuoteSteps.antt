@@ -12,7 +12,7 @@ use Rattle.rst_markup_blocks.specs.Attributions.{attribution_part}
 use Rattle.rst_markup_blocks.specs.Begun.{IsBegun}
 use Rattle.rst_markup_blocks.specs.Lines.{lines_while}
 use Rattle.rst_markup_blocks.specs.Parts.{IsBlock}
-use Rattle.rst_markup_blocks.specs.RowLaws.{extent_le, while_le}
+use Rattle.rst_markup_blocks.proofs.RowLaws.{extent_le, while_le}
 use Rattle.rst_markup_blocks.specs.declared.attribution.Attribution.{Attribution}
 use Rattle.rst_markup_blocks.specs.declared.begun.Begun.TheVariants as Begins
 use Rattle.rst_markup_blocks.specs.declared.lines.LineTest.TheVariants.{Blank}

@@ -8,7 +8,7 @@ use Rattle.rst_text.specs.Reach.{reach}
 use Rattle.rst_tree.specs.declared.node.Node.{Node}
 use Rattle.rst_markup_blocks.specs.Begun.{IsBegun}
 use Rattle.rst_markup_blocks.specs.Lines.{lines_while}
-use Rattle.rst_markup_blocks.specs.RowLaws.{while_le}
+use Rattle.rst_markup_blocks.proofs.RowLaws.{while_le}
 use Rattle.rst_markup_blocks.specs.declared.attribution.Attribution.{Attribution}
 use Rattle.rst_markup_blocks.specs.declared.begun.Begun.TheVariants as Begins
 use Rattle.rst_markup_blocks.specs.declared.lines.LineTest.TheVariants.{Blank}

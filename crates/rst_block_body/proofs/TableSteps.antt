@@ -7,8 +7,8 @@ use Rattle.rst_tree.specs.declared.note.Level.TheVariants.{Error}
 use Rattle.rst_markup_blocks.specs.Begun.{IsBegun}
 use Rattle.rst_markup_blocks.specs.declared.begun.Begun.TheVariants as begun
 use Rattle.rst_markup_blocks.specs.declared.lines.LineTest.TheVariants.{Drawn}
-use Rattle.rst_markup_blocks.specs.RowLaws.{while_le}
-use Rattle.rst_markup_blocks.specs.TableLaws.{grid_size_le, simple_size_le}
+use Rattle.rst_markup_blocks.proofs.RowLaws.{while_le}
+use Rattle.rst_markup_blocks.proofs.TableLaws.{grid_size_le, simple_size_le}
 use Rattle.rst_markup_blocks.specs.TableRows.{grid_bottom, grid_size, simple_size, head_border}
 use Rattle.rst_markup_tables.specs.Ends.{end_of}
 use Rattle.rst_markup_tables.specs.GridTable.{IsGridTable, grid_fault, head_of, with_dashes, tiled}

@@ -12,7 +12,7 @@ use Rattle.rst_markup_lines.specs.Front.{begins_with}
 use Rattle.rst_markup_lines.specs.Marker.{marker_of}
 use Rattle.rst_markup_lines.specs.declared.marker.Marker.{Marker}
 use Rattle.rst_markup_blocks.specs.Explicit.{is_explicit_kind, explicit_of, explicit_size}
-use Rattle.rst_markup_blocks.specs.ExplicitLaws.{explicit_within}
+use Rattle.rst_markup_blocks.proofs.ExplicitLaws.{explicit_within}
 use Rattle.rst_markup_blocks.specs.Kinds.{kind_at}
 use Rattle.rst_markup_blocks.specs.Partition.{Span}
 use Rattle.rst_markup_blocks.specs.declared.begun.Begun.TheVariants.{Explicit, Anonymous}

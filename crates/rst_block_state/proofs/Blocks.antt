@@ -9,7 +9,7 @@ use Rattle.rst_text.proofs.Indented.{is_indented-drop, is_indented-take, is_inde
 use Rattle.rst_text.proofs.Reaches.{extent_indented}
 use Rattle.rst_markup_lines.specs.declared.marker.Marker.{Marker}
 use Rattle.rst_markup_blocks.specs.Parts.{IsBlock}
-use Rattle.rst_markup_blocks.specs.RowLaws.{extent_le, below_le}
+use Rattle.rst_markup_blocks.proofs.RowLaws.{extent_le, below_le}
 use Rattle.rst_markup_blocks.specs.Sizes.{item_size, least_below}
 use Rattle.rst_markup_blocks.specs.declared.part.Part.{Part}
 use Rattle.rst_text.specs.declared.view.Extent.{Extent}

@@ -14,9 +14,9 @@ use Rattle.rst_markup_blocks.specs.Ends.{row_size, row_reach}
 use Rattle.rst_markup_blocks.specs.Kinds.{kind_at, row_holds}
 use Rattle.rst_markup_blocks.specs.Lines.{lines_while}
 use Rattle.rst_markup_blocks.specs.Partition.{construct_size}
-use Rattle.rst_markup_blocks.specs.RowLaws.{while_le}
-use Rattle.rst_markup_blocks.specs.ReachLaws.{simple_scan_le}
-use Rattle.rst_markup_blocks.specs.TableLaws.{grid_size_le}
+use Rattle.rst_markup_blocks.proofs.RowLaws.{while_le}
+use Rattle.rst_markup_blocks.proofs.ReachLaws.{simple_scan_le}
+use Rattle.rst_markup_blocks.proofs.TableLaws.{grid_size_le}
 use Rattle.rst_markup_blocks.specs.TableLines.{is_drawn, border_len, is_lower_border}
 use Rattle.rst_markup_blocks.specs.TableRows.{grid_size, grid_scan, grid_reach, simple_size, simple_scan, simple_reach}
 use Rattle.rst_markup_blocks.specs.declared.lines.LineTest.TheVariants.{Drawn}

@@ -3,12 +3,9 @@
 //! `rst_markup_tables` have the code; this one has the calls that a reader of blocks needs in one place.
 #![tactic(auto)]
 
-pub use rst_markup_blocks::laws::one_partition;
+pub use rst_markup_blocks::laws::{constructs_stand_in_their_blocks, one_partition};
 pub use rst_markup_blocks::{
-    AdornmentLine, AnonymousTarget, BarLine, BlankLine, BlockQuote, BulletItem, Characters,
-    CommentCause, Construct, DoctestBlock, EnumeratedItem, Explicit, ExplicitMarkup, FieldItem,
-    GridTable, Invocation, Kind, OptionListItem, Part, SimpleTable, TextLine, end_of, explicit,
-    kind_of,
+    Characters, CommentCause, Construct, Explicit, Invocation, Kind, Part, explicit, kind_of,
 };
 pub use rst_markup_directives::{
     Directive, DirectiveFault, MarkupFault, Name, Place, called, directive,

@@ -26,7 +26,7 @@ use Rattle.rst_markup_blocks.specs.ExplicitMarkup.{explicit_form, substitution_f
 use Rattle.rst_markup_blocks.specs.Conditions.{next_text}
 use Rattle.rst_markup_blocks.specs.Lines.{lines_while}
 use Rattle.rst_markup_blocks.specs.Parts.{IsBlock, IsPlace, IsCall}
-use Rattle.rst_markup_blocks.specs.RowLaws.{below_le, while_le}
+use Rattle.rst_markup_blocks.proofs.RowLaws.{below_le, while_le}
 use Rattle.rst_markup_blocks.specs.Sizes.{hanging_size, indented_size, run_size}
 use Rattle.rst_markup_blocks.specs.declared.explicit_markup.ExplicitForm.{ExplicitForm}
 use Rattle.rst_markup_blocks.specs.declared.explicit_markup.ExplicitForm.TheVariants.{Label, Target as TargetForm, Substitution as SubstitutionForm, Directive as DirectiveForm, Comment as CommentForm}

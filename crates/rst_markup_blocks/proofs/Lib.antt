@@ -9,3 +9,9 @@ pub mod AdornmentLemmas
 pub mod KindRows
 pub mod TableLemmas
 pub mod PartitionLemmas
+pub mod RowLaws
+pub mod AdornmentLaws
+pub mod TableLaws
+pub mod ReachLaws
+pub mod ExplicitLaws
+pub mod ConstructLaws

@@ -3,35 +3,12 @@ use Rattle.std.proofs.Common.{◌≡◌, ℕ, zero, suc, ◌+◌, ◌-◌, ◌<�
 use Rattle.std.proofs.lemmas.List.{drop_all, drop-drop}
 use Rattle.std.proofs.lemmas.Bool.{cases_lt}
 use Rattle.rst_text.specs.Block.{Block, is_blank, front_text}
-use Rattle.rst_markup_blocks.specs.AdornmentLaws.{adornment_within}
-use Rattle.rst_markup_blocks.specs.Ends.{row_size}
-use Rattle.rst_markup_blocks.specs.ExplicitLaws.{explicit_within}
-use Rattle.rst_markup_blocks.specs.Kinds.{kind_at, row_holds}
+use Rattle.rst_markup_blocks.specs.Kinds.{kind_at}
 use Rattle.rst_markup_blocks.specs.Partition.{Span, spans, spans_from, construct_size, construct_end, IsBlankAt, IsTextAt, AreBlank, PartitionFrom, IsPartition}
-use Rattle.rst_markup_blocks.specs.RowLaws.{blank_within, quote_within, bullet_within, enumerator_within, hanging_within, indented_within, doctest_within, text_within}
-use Rattle.rst_markup_blocks.specs.Rows.{is_field_row, is_option_row, is_bar_row, is_anonymous_row}
-use Rattle.rst_markup_blocks.specs.TableLaws.{grid_within, simple_within}
-use Rattle.rst_markup_blocks.specs.declared.kind.Kind.{Kind}
-use Rattle.rst_markup_blocks.specs.declared.kind.Kind.TheVariants.{Blank, Quote, Bullet, Enumerator, Field, OptionItem, Doctest, Line as BarLine, Grid, Simple, Explicit, Anonymous, Adornment, Text}
+use Rattle.rst_markup_blocks.proofs.ConstructLaws.{row_within}
 use Rattle.rst_markup_blocks.proofs.RowLemmas.{row_of_kind}
 
 -- ---- a construct has a line or more, and ends within the block
-
-row_within : (k : Kind) (titles : Bool) (X : Block) → 1 ≤ length X → row_holds k X ≡ true → (1 ≤ row_size k titles X) × (row_size k titles X ≤ length X)
-row_within Blank = blank_within
-row_within Quote = quote_within
-row_within Bullet = bullet_within
-row_within Enumerator = enumerator_within
-row_within Field = hanging_within is_field_row
-row_within OptionItem = hanging_within is_option_row
-row_within Doctest = doctest_within
-row_within BarLine = indented_within is_bar_row
-row_within Grid = grid_within
-row_within Simple = simple_within
-row_within Explicit = explicit_within
-row_within Anonymous = indented_within is_anonymous_row
-row_within Adornment = adornment_within
-row_within Text = text_within
 
 size_within : (titles : Bool) (X : Block) → 1 ≤ length X → (1 ≤ construct_size titles X) × (construct_size titles X ≤ length X)
 unfolding construct_size

@@ -9,8 +9,8 @@ use Rattle.rst_text.specs.Reach.{reach}
 use Rattle.rst_text.proofs.PlacesLemmas.{first_from-is, last_from-is, NoneFrom-within}
 use Rattle.rst_markup_blocks.specs.declared.lines.LineTest.TheVariants.{Drawn}
 use Rattle.rst_markup_blocks.specs.Lines.{lines_while}
-use Rattle.rst_markup_blocks.specs.RowLaws.{while_le}
-use Rattle.rst_markup_blocks.specs.TableLaws.{grid_bottom_within, border_below_within, simple_border_within}
+use Rattle.rst_markup_blocks.proofs.RowLaws.{while_le}
+use Rattle.rst_markup_blocks.proofs.TableLaws.{grid_bottom_within, border_below_within, simple_border_within}
 use Rattle.rst_markup_blocks.specs.TableRows.{through, is_border_at, grid_bottom, grid_size, grid_scan, grid_reach, is_lower_border_at, border_below, closes_head, head_border, simple_bottom, simple_size, simple_scan, simple_reach}
 
 -- ---- grid tables

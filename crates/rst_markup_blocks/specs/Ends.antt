@@ -31,3 +31,10 @@ abbrev pub row_reach : Kind → Bool → Block → ℕ
 row_reach Grid titles X = grid_reach X
 row_reach Simple titles X = simple_reach X
 row_reach kind titles X = own_reach (row_size kind) titles X
+
+-- how many looks show whether the row's condition holds: one, and one more for each line below that the condition is on. No rule of
+-- markup: it bounds the time.
+abbrev pub row_looks : Kind → ℕ
+row_looks Enumerator = 2
+row_looks OptionItem = 3
+row_looks kind = 1

@@ -4,16 +4,11 @@ pub mod Conditions
 pub mod Forms
 pub mod Sizes
 pub mod Rows
-pub mod RowLaws
-pub mod AdornmentLaws
 pub mod TableRows
-pub mod TableLaws
-pub mod ReachLaws
 pub mod ExplicitMarkup
 pub mod Parts
 pub mod Explicit
 pub mod Attributions
-pub mod ExplicitLaws
 pub mod Kinds
 pub mod Begun
 pub mod Ends

@@ -1,13 +1,14 @@
 //! Lines of one punctuation character.
-ghost use Rattle.std.specs.Prelude.{◌≡◌, ◌+◌, ◌<◌, ◌≤◌, length, drop, Bool};
+ghost use Rattle.std.specs.Prelude.{◌≡◌, ◌+◌, ◌*◌, ◌<◌, ◌≤◌, length, drop, IsTrue};
 ghost use Rattle.std.specs.Str.{chars};
 ghost use Rattle.rst_text.specs.Looked.{capped};
+ghost use Rattle.rst_text.specs.Reach.{reach};
 ghost use Rattle.rst_text.specs.Shown.{block_of};
 ghost use Rattle.rst_markup_blocks.specs.Forms.{adorned_form};
 ghost use Rattle.rst_markup_blocks.specs.Conditions.{next_text};
+ghost use Rattle.rst_markup_blocks.specs.Rows.{is_adornment_row};
 ghost use Rattle.rst_markup_blocks.specs.Sizes as spec;
 
-use super::construct::Construct;
 use super::ends::text_end;
 use super::form::{Adorned, adorned_alone, adorned_below, adorned_over};
 use super::lines::below_text;
@@ -59,44 +60,23 @@ fn fixed_size(form: Adorned) -> Option<usize>
     }
 }
 
-/// A line of one punctuation character: a transition, a title with an overline, or a text.
-pub struct AdornmentLine;
-
-impl Construct for AdornmentLine {
-    ghost use Rattle.rst_markup_blocks.specs.Rows.{is_adornment_row, own_reach};
-    ghost use Rattle.rst_markup_blocks.specs.Sizes.{adornment_size};
-    ghost use Rattle.rst_markup_blocks.specs.AdornmentLaws.{adornment_within, adornment_on_three};
-    ghost use Rattle.rst_markup_blocks.specs.ReachLaws.{own_reaches};
-
-    ghost holds = { is_adornment_row };
-
-    ghost size = { adornment_size };
-
-    ghost reached = { own_reach adornment_size };
-
-    ghost first_looks = { 1 };
-
-    ghost within = { adornment_within };
-
-    ghost reaches = { own_reaches is_adornment_row adornment_size adornment_within };
-
-    ghost on_three = { adornment_on_three };
-
-    fn starts(&self, view: &View<'_>, i: usize, _titles: bool, looks: &mut Looks) -> bool {
-        adornment_of(view.line(i, looks)).is_some()
-    }
-
-    fn end(&self, view: &View<'_>, i: usize, titles: bool, looks: &mut Looks) -> usize {
-        prove!(i < view.len());
-        let text = view.line(i, looks);
-        let next = below_text(view, i, 1, looks);
-        let Some(mark) = adornment_of(text) else {
-            return text_end(view, i, text, next, looks);
-        };
-        let form = adorned_at(view, i, titles, mark, next, looks);
-        match fixed_size(form) {
-            Some(n) => i + n,
-            None => text_end(view, i, text, next, looks),
-        }
+/// The place after what the line of one punctuation character at place `i` begins: a transition, a title with an overline, or a text.
+pub(crate) fn adornment_end(view: &View<'_>, i: usize, titles: bool, looks: &mut Looks) -> usize
+    requires inside { i < length (block_of view.now) }
+    requires begins { IsTrue (is_adornment_row (drop i (block_of view.now))) }
+    ensures end { result ≡ i + spec.adornment_size titles (drop i (block_of view.now)) }
+    ensures looks { looks.new ≤ looks.old + 4 * reach (spec.adornment_size titles (drop i (block_of view.now))) (drop i (block_of view.now)) }
+    ensures low { capped looks.old ≤ looks.new }
+{
+    prove!(i < view.len());
+    let text = view.line(i, looks);
+    let next = below_text(view, i, 1, looks);
+    let Some(mark) = adornment_of(text) else {
+        return text_end(view, i, text, next, looks);
+    };
+    let form = adorned_at(view, i, titles, mark, next, looks);
+    match fixed_size(form) {
+        Some(n) => i + n,
+        None => text_end(view, i, text, next, looks),
     }
 }

@@ -1,15 +1,14 @@
 //! The rows of tables.
-ghost use Rattle.std.specs.Prelude.{◌≡◌, ◌+◌, ◌-◌, ◌<◌, ◌≤◌, length, drop, IfSome};
+ghost use Rattle.std.specs.Prelude.{◌≡◌, ◌+◌, ◌-◌, ◌*◌, ◌<◌, ◌≤◌, length, drop, IfSome, IsTrue};
 ghost use Rattle.std.specs.Option.{option_or};
 ghost use Rattle.rst_text.specs.Looked.{capped};
 ghost use Rattle.rst_text.specs.Shown.{block_of};
 ghost use Rattle.rst_markup_blocks.specs.Lines.{lines_while};
 ghost use Rattle.rst_markup_blocks.specs.TableRows as spec;
 
-use super::construct::Construct;
 use super::lines::{LineTest, below_text, lines_end};
 use super::table_line::{border_len, is_lower_border};
-use rst_markup_lines::{is_blank, is_grid_border, is_simple_border};
+use rst_markup_lines::{is_blank, is_grid_border};
 use rst_text::{Looks, View};
 
 /// The bottom border of the grid table at place `i`, counted from there, where `all` lines from there on begin with `+` or
@@ -32,40 +31,19 @@ fn grid_bottom(view: &View<'_>, i: usize, all: usize, looks: &mut Looks) -> Opti
     bottom
 }
 
-/// A grid table.
-pub struct GridTable;
-
-impl Construct for GridTable {
-    ghost use Rattle.rst_markup_blocks.specs.Rows.{anywhere};
-    ghost use Rattle.rst_markup_blocks.specs.TableRows.{is_grid_row, grid_size, grid_reach};
-    ghost use Rattle.rst_markup_blocks.specs.TableLaws.{grid_within, grid_on_three};
-    ghost use Rattle.rst_markup_blocks.specs.ReachLaws.{grid_reaches};
-
-    ghost holds = { is_grid_row };
-
-    ghost size = { anywhere grid_size };
-
-    ghost reached = { anywhere grid_reach };
-
-    ghost first_looks = { 1 };
-
-    ghost within = { grid_within };
-
-    ghost reaches = { grid_reaches };
-
-    ghost on_three = { grid_on_three };
-
-    fn starts(&self, view: &View<'_>, i: usize, _titles: bool, looks: &mut Looks) -> bool {
-        is_grid_border(view.line(i, looks))
-    }
-
-    fn end(&self, view: &View<'_>, i: usize, _titles: bool, looks: &mut Looks) -> usize {
-        prove!(i < view.len());
-        let end = lines_end(view, i, LineTest::Drawn, looks);
-        match grid_bottom(view, i, end - i, looks) {
-            Some(k) => i + k + 1,
-            None => end,
-        }
+/// The place after the grid table at place `i`.
+pub(crate) fn grid_end(view: &View<'_>, i: usize, looks: &mut Looks) -> usize
+    requires inside { i < length (block_of view.now) }
+    requires begins { IsTrue (spec.is_grid_row (drop i (block_of view.now))) }
+    ensures end { result ≡ i + spec.grid_size (drop i (block_of view.now)) }
+    ensures looks { looks.new ≤ looks.old + 4 * spec.grid_reach (drop i (block_of view.now)) }
+    ensures low { capped looks.old ≤ looks.new }
+{
+    prove!(i < view.len());
+    let end = lines_end(view, i, LineTest::Drawn, looks);
+    match grid_bottom(view, i, end - i, looks) {
+        Some(k) => i + k + 1,
+        None => end,
     }
 }
 
@@ -166,35 +144,13 @@ pub fn simple_borders(view: &View<'_>, i: usize, looks: &mut Looks) -> SimpleBor
     }
 }
 
-/// A simple table.
-pub struct SimpleTable;
-
-impl Construct for SimpleTable {
-    ghost use Rattle.rst_markup_blocks.specs.Rows.{anywhere};
-    ghost use Rattle.rst_markup_blocks.specs.TableRows.{is_simple_row, simple_size, simple_reach};
-    ghost use Rattle.rst_markup_blocks.specs.TableLaws.{simple_within, simple_on_three};
-    ghost use Rattle.rst_markup_blocks.specs.ReachLaws.{simple_reaches};
-
-    ghost holds = { is_simple_row };
-
-    ghost size = { anywhere simple_size };
-
-    ghost reached = { anywhere simple_reach };
-
-    ghost first_looks = { 1 };
-
-    ghost within = { simple_within };
-
-    ghost reaches = { simple_reaches };
-
-    ghost on_three = { simple_on_three };
-
-    fn starts(&self, view: &View<'_>, i: usize, _titles: bool, looks: &mut Looks) -> bool {
-        is_simple_border(view.line(i, looks))
-    }
-
-    fn end(&self, view: &View<'_>, i: usize, _titles: bool, looks: &mut Looks) -> usize {
-        prove!(i < view.len());
-        i + simple_borders(view, i, looks).size(view.len() - i)
-    }
+/// The place after the simple table at place `i`.
+pub(crate) fn simple_end(view: &View<'_>, i: usize, looks: &mut Looks) -> usize
+    requires inside { i < length (block_of view.now) }
+    ensures end { result ≡ i + spec.simple_size (drop i (block_of view.now)) }
+    ensures looks { looks.new ≤ looks.old + 4 * spec.simple_reach (drop i (block_of view.now)) }
+    ensures low { capped looks.old ≤ looks.new }
+{
+    prove!(i < view.len());
+    i + simple_borders(view, i, looks).size(view.len() - i)
 }

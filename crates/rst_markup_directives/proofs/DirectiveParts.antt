@@ -10,7 +10,7 @@ use Rattle.rst_text.proofs.Indented.{is_indented-drop, is_indented-take}
 use Rattle.rst_inline_scan.specs.Characters.{is_among}
 use Rattle.rst_markup_blocks.specs.Parts.{IsBlock}
 use Rattle.rst_markup_blocks.specs.declared.part.Part.{Part}
-use Rattle.rst_markup_blocks.specs.RowLaws.{while_le}
+use Rattle.rst_markup_blocks.proofs.RowLaws.{while_le}
 use Rattle.rst_markup_blocks.specs.declared.lines.LineTest.TheVariants.{Blank}
 use Rattle.rst_markup_directives.specs.Argument.{Given, title, language, joined_lines, word_of, argument_by, argument_of}
 use Rattle.rst_markup_directives.specs.Call.{part_of, content_of, is_empty, IsContentIn, IsDirectiveIn}

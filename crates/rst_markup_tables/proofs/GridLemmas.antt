@@ -14,8 +14,8 @@ use Rattle.rst_markup_lines.specs.Border.{is_grid_border}
 use Rattle.rst_markup_blocks.specs.declared.lines.LineTest.TheVariants.{Drawn}
 use Rattle.rst_markup_blocks.specs.TableLines.{is_drawn}
 use Rattle.rst_markup_blocks.specs.Lines.{lines_while}
-use Rattle.rst_markup_blocks.specs.RowLaws.{while_le}
-use Rattle.rst_markup_blocks.specs.TableLaws.{grid_size_le}
+use Rattle.rst_markup_blocks.proofs.RowLaws.{while_le}
+use Rattle.rst_markup_blocks.proofs.TableLaws.{grid_size_le}
 use Rattle.rst_markup_blocks.specs.TableRows.{through, is_border_at, grid_bottom, grid_size, grid_scan}
 use Rattle.rst_markup_blocks.proofs.LineLemmas.{drop_one}
 use Rattle.rst_markup_blocks.proofs.TableLemmas.{grid_size-is}

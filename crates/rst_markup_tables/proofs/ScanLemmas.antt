@@ -10,7 +10,7 @@ use Rattle.rst_markup_lines.specs.Border.{is_grid_border}
 use Rattle.rst_markup_blocks.specs.declared.lines.LineTest.TheVariants.{Drawn}
 use Rattle.rst_markup_blocks.specs.TableLines.{is_drawn}
 use Rattle.rst_markup_blocks.specs.Lines.{lines_while}
-use Rattle.rst_markup_blocks.specs.TableLaws.{grid_drawn}
+use Rattle.rst_markup_blocks.proofs.TableLaws.{grid_drawn}
 use Rattle.rst_markup_blocks.specs.TableRows.{through, is_border_at, grid_bottom, grid_size, grid_scan, is_lower_border_at, border_below, head_border, simple_bottom, simple_size, simple_scan}
 
 -- ---- grid tables

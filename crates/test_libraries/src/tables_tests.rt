@@ -1,6 +1,6 @@
 //! Tables: what they are, and what is wrong with those that are malformed. The answers come from outside.
 use rst_markup::{Cell, TableResult, grid, simple};
-use rst_markup_blocks::{Construct, GridTable, SimpleTable, end_after};
+use rst_markup_blocks::{Construct, Kind};
 use rst_markup_tables::malformed_text;
 use rst_text::{Lines, Looks, TextFault, View};
 use std::alloc::{AllocError, Global};
@@ -145,12 +145,12 @@ fn simples(rt: HostRuntime) -> Result<(), Fail> {
 }
 
 /// The end of the construct that a row begins at the first line of a text.
-fn end_by<C: Construct>(alloc: Global, row: &C, text: &str) -> Result<Option<usize>, TextFault> {
+fn end_by<C: Construct>(alloc: Global, row: C, text: &str) -> Result<Option<usize>, TextFault> {
     let lines = Lines::of(alloc, text, 8)?;
     let view = View::whole(&lines);
     let mut looks = Looks::none();
     if 0 < view.len() && row.starts(&view, 0, true, &mut looks) {
-        Ok(Some(end_after(row, &view, 0, true, &mut looks)))
+        Ok(Some(row.end(&view, 0, true, &mut looks)))
     } else {
         Ok(None)
     }
@@ -159,7 +159,7 @@ fn end_by<C: Construct>(alloc: Global, row: &C, text: &str) -> Result<Option<usi
 #[test]
 fn ends_tables(rt: HostRuntime) -> Result<(), Fail> {
     let text = "+---+\n| a |\n+---+\nb";
-    assert_eq!(rt; end_by(rt.alloc(), &GridTable, text)?, Some(3));
-    assert_eq!(rt; end_by(rt.alloc(), &SimpleTable, text)?, None);
+    assert_eq!(rt; end_by(rt.alloc(), Kind::Grid, text)?, Some(3));
+    assert_eq!(rt; end_by(rt.alloc(), Kind::Simple, text)?, None);
     Ok(())
 }

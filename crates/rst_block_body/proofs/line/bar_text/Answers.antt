@@ -4,7 +4,7 @@ use Rattle.rst_text.specs.Extent.{extent}
 use Rattle.rst_text.specs.Shown.{block_of}
 use Rattle.std.specs.Prelude.{string_bytes}
 use Rattle.std.specs.Str.{chars}
-use Rattle.rst_markup_blocks.specs.RowLaws.{extent_le}
+use Rattle.rst_markup_blocks.proofs.RowLaws.{extent_le}
 use Rattle.rst_block_state.specs.LineRuns.{below_bar}
 use Rattle.rst_block_body.specs.TextSteps.{text_over}
 use Rattle.rst_block_state.specs.Texts.{lines_in}

@@ -2,7 +2,7 @@ use Rattle.std.proofs.Common.{◌≡◌, ◌∙◌, ◌+◌, true, false, sym, d
 use Rattle.rst_text.specs.Block.{Block, front_text}
 use Rattle.rst_text.specs.Shown.{block_of}
 use Rattle.rst_markup_blocks.specs.Lines.{passes, lines_while}
-use Rattle.rst_markup_blocks.specs.RowLaws.{while_le}
+use Rattle.rst_markup_blocks.proofs.RowLaws.{while_le}
 use Rattle.rst_markup_blocks.specs.declared.lines.LineTest.TheVariants.{Blank}
 use Rattle.rst_markup_blocks.proofs.LineLemmas.{blanks_are, blanks_through, while_more, while_stop, while_end, behind_while}
 use Rattle.rst_markup_blocks.proofs.lines.lines_end.Goals as goal

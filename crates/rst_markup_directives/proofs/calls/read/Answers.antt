@@ -2,8 +2,8 @@ use Rattle.std.proofs.Common.{◌≡◌, ◌-◌, Result, length, length-drop, d
 use Rattle.rst_text.specs.Block.{Block, cut}
 use Rattle.rst_text.specs.Shown.{block_of}
 use Rattle.rst_markup_blocks.specs.Lines.{lines_while}
-use Rattle.rst_markup_blocks.specs.ReachLaws.{reach_within}
-use Rattle.rst_markup_blocks.specs.RowLaws.{while_le}
+use Rattle.rst_markup_blocks.proofs.ReachLaws.{reach_within}
+use Rattle.rst_markup_blocks.proofs.RowLaws.{while_le}
 use Rattle.rst_markup_blocks.specs.declared.lines.LineTest.TheVariants.{Blank}
 use Rattle.rst_markup_directives.specs.Directive.{Read, reading_in}
 use Rattle.rst_markup_directives.specs.Faults.{Gives}

@@ -4,8 +4,8 @@ use Rattle.rst_text.specs.Block.{Block}
 use Rattle.rst_text.specs.Shown.{block_of}
 use Rattle.rst_markup_blocks.specs.declared.lines.LineTest.TheVariants.{Drawn}
 use Rattle.rst_markup_blocks.specs.Lines.{lines_while}
-use Rattle.rst_markup_blocks.specs.RowLaws.{while_le}
-use Rattle.rst_markup_blocks.specs.TableLaws.{grid_size_le}
+use Rattle.rst_markup_blocks.proofs.RowLaws.{while_le}
+use Rattle.rst_markup_blocks.proofs.TableLaws.{grid_size_le}
 use Rattle.rst_markup_blocks.proofs.TableLemmas.{grid_bottom-below}
 use Rattle.rst_markup_tables.specs.Places.{Grid, AreNumbered}
 use Rattle.rst_markup_tables.proofs.Numbered.{numbered-take}

@@ -3,7 +3,7 @@ use Rattle.std.specs.Option.{option_or}
 use Rattle.rst_text.specs.Block.{Block, first_number}
 use Rattle.rst_text.specs.Shown.{block_of}
 use Rattle.rst_markup_blocks.specs.TableRows.{head_border, simple_size}
-use Rattle.rst_markup_blocks.specs.TableLaws.{simple_size_le}
+use Rattle.rst_markup_blocks.proofs.TableLaws.{simple_size_le}
 use Rattle.rst_markup_tables.specs.Places.{Grid, rows_of}
 use Rattle.rst_markup_tables.specs.Ends.{end_of}
 use Rattle.rst_markup_tables.specs.GridTable.{malformed}

@@ -2,8 +2,8 @@ use Rattle.std.proofs.Common.{◌∙◌, ◌+◌, ◌≤◌, ap, subst, drop, ta
 use Rattle.rst_text.specs.Block.{Block}
 use Rattle.rst_text.specs.Shown.{block_of}
 use Rattle.rst_markup_blocks.specs.declared.lines.LineTest.TheVariants.{Drawn}
-use Rattle.rst_markup_blocks.specs.RowLaws.{while_le}
-use Rattle.rst_markup_blocks.specs.TableLaws.{grid_size_le}
+use Rattle.rst_markup_blocks.proofs.RowLaws.{while_le}
+use Rattle.rst_markup_blocks.proofs.TableLaws.{grid_size_le}
 use Rattle.rst_markup_blocks.specs.TableRows.{grid_bottom, grid_size}
 use Rattle.rst_markup_tables.specs.Places.{Grid, rows_of}
 use Rattle.rst_markup_tables.specs.GridTable.{grid_fault, IsOfRows}

@@ -1,8 +1,6 @@
--- Laws, which a reader of the definitions may pass over: those of the row of explicit markup that begins with dots
--- (Markup Specification, 'Explicit Markup Blocks').
--- The proofs are here since the rows' contracts name these laws.
-use Rattle.std.specs.Prelude.{◌≡◌, ℕ, ◌+◌, ◌≤◌, Bool, true, false, cond, is_some, IsTrue, length, take, drop, Option, None, Some}
-use Rattle.std.proofs.Common.{ap, arith, length-drop}
+-- Explicit markup that begins with dots ends within its block.
+use Rattle.std.specs.Prelude.{ℕ, ◌+◌, ◌≤◌, Bool, true, false, cond, IsTrue, length, drop, Option, None, Some}
+use Rattle.std.proofs.Common.{arith, length-drop}
 use Rattle.rst_text.specs.Block.{Block, front_text, is_blank}
 use Rattle.rst_markup_lines.specs.ExplicitMarks.{dots}
 use Rattle.rst_markup_lines.specs.Place.{place_of}
@@ -15,7 +13,7 @@ use Rattle.rst_markup_blocks.specs.Explicit.{label_with, explicit_by, behind_dot
 use Rattle.rst_markup_blocks.specs.ExplicitMarkup.{explicit_form, hanging_part}
 use Rattle.rst_markup_blocks.specs.Conditions.{next_text}
 use Rattle.rst_markup_blocks.specs.Rows.{is_explicit_row}
-use Rattle.rst_markup_blocks.specs.RowLaws.{same_front, below_le, while_le}
+use Rattle.rst_markup_blocks.proofs.RowLaws.{below_le, while_le}
 use Rattle.rst_markup_blocks.specs.Sizes.{hanging_size, indented_size, run_size}
 use Rattle.rst_markup_blocks.specs.declared.explicit_markup.ExplicitForm.{ExplicitForm}
 use Rattle.rst_markup_blocks.specs.declared.explicit_markup.ExplicitForm.TheVariants.{Label, Target, Substitution, Directive, Comment as CommentForm}
@@ -23,10 +21,6 @@ use Rattle.rst_markup_blocks.specs.declared.forms.CommentCause.TheVariants.{Plai
 use Rattle.rst_markup_blocks.specs.declared.forms.Explicit.TheVariants.{Comment, EmptyComment}
 use Rattle.rst_markup_blocks.specs.declared.lines.LineTest.TheVariants.{Indented}
 use Rattle.rst_markup_blocks.specs.declared.part.Part.{Part}
-
--- Whether explicit markup begins depends on the first three lines alone.
-pub explicit_on_three : (X Y : Block) → take 3 X ≡ take 3 Y → is_explicit_row X ≡ is_explicit_row Y
-explicit_on_three X Y h = ap (λ t. is_some (dots t)) (same_front X Y h)
 
 -- a line with the indented block below it ends within the block
 hanging_fits : (X : Block) → 1 ≤ length X → (1 ≤ hanging_size X) × (hanging_size X ≤ length X)

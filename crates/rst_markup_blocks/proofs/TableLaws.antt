@@ -1,29 +1,19 @@
--- Laws, which a reader of the definitions may pass over: those of the rows of tables (Markup Specification, 'Grid
--- Tables', 'Simple Tables').
--- The proofs are here since the rows' contracts name these laws.
-use Rattle.std.specs.Prelude.{◌≡◌, ℕ, ◌+◌, ◌-◌, ◌<◌, ◌≤◌, Bool, true, false, cond, IsTrue, List, [], ◌∷◌, length, take, refl, Option, Some, None, IfSome, unwrap_or}
+-- Tables end within their block.
+use Rattle.std.specs.Prelude.{◌≡◌, ℕ, ◌+◌, ◌-◌, ◌<◌, ◌≤◌, Bool, true, false, cond, IsTrue, List, [], ◌∷◌, length, refl, Option, Some, None, IfSome, unwrap_or}
 use Rattle.std.specs.Option.{option_or, option_and_then}
-use Rattle.std.proofs.Common.{ap, arith}
+use Rattle.std.proofs.Common.{arith}
 use Rattle.std.proofs.lemmas.Bool.{and_parts}
 use Rattle.rst_text.specs.Block.{Block, front_text}
 use Rattle.rst_text.specs.Places.{IsFirst, IsLast}
 use Rattle.rst_text.proofs.PlacesLemmas.{first_from-IsFirst, last_from-IsLast}
 use Rattle.rst_markup_lines.specs.Front.{begins_with}
-use Rattle.rst_markup_lines.specs.Border.{is_grid_border, is_simple_border}
+use Rattle.rst_markup_lines.specs.Border.{is_grid_border}
 use Rattle.rst_markup_blocks.specs.declared.lines.LineTest.{LineTest}
 use Rattle.rst_markup_blocks.specs.declared.lines.LineTest.TheVariants.{Drawn}
 use Rattle.rst_markup_blocks.specs.TableLines.{is_drawn}
 use Rattle.rst_markup_blocks.specs.Lines.{passes, lines_while}
-use Rattle.rst_markup_blocks.specs.RowLaws.{same_front, while_le}
+use Rattle.rst_markup_blocks.proofs.RowLaws.{while_le}
 use Rattle.rst_markup_blocks.specs.TableRows.{through, is_border_at, grid_bottom, grid_size, is_lower_border_at, border_below, closes_head, head_border, simple_bottom, simple_size, is_grid_row, is_simple_row}
-
--- Whether a grid table begins depends on the first three lines alone.
-pub grid_on_three : (X Y : Block) → take 3 X ≡ take 3 Y → is_grid_row X ≡ is_grid_row Y
-grid_on_three X Y h = ap is_grid_border (same_front X Y h)
-
--- Whether a simple table begins depends on the first three lines alone.
-pub simple_on_three : (X Y : Block) → take 3 X ≡ take 3 Y → is_simple_row X ≡ is_simple_row Y
-simple_on_three X Y h = ap is_simple_border (same_front X Y h)
 
 -- ---- grid tables
 

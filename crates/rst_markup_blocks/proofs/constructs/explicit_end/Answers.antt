@@ -6,7 +6,7 @@ use Rattle.rst_text.specs.Shown.{block_of}
 use Rattle.rst_markup_lines.specs.ExplicitMarks.{dots}
 use Rattle.rst_markup_lines.proofs.MarkBounds.{dots_within}
 use Rattle.rst_markup_blocks.proofs.ExplicitLemmas.{explicit_ends_at, explicit_dots, size_dots}
-use Rattle.rst_markup_blocks.proofs.explicit_row.ExplicitMarkupConstruct.end.Goals as goal
+use Rattle.rst_markup_blocks.proofs.constructs.explicit_end.Goals as goal
 
 pub behind_dots-requires-clause-marker : goal.behind_dots-requires-clause-marker
 behind_dots-requires-clause-marker c = dots_within (chars c.line-text.result.now) c.in-Some.marker (sym c.dots.ensures ∙ c.in-Some.is)

@@ -1,9 +1,7 @@
--- Laws, which a reader of the definitions may pass over: those of the row of lines of one punctuation character (Markup
--- Specification, 'Sections', 'Transitions').
--- The proofs are here since the rows' contracts name these laws.
-use Rattle.std.specs.Prelude.{◌≡◌, ℕ, ◌≤◌, Bool, true, false, cond, is_some, IsTrue, List, [], ◌∷◌, length, take, refl, Option, None, Some, unwrap_or, ◌==◌, ◌&&◌, ◌||◌}
+-- What a line of one punctuation character begins ends within its block.
+use Rattle.std.specs.Prelude.{◌≡◌, ℕ, ◌≤◌, Bool, true, false, cond, is_some, IsTrue, List, [], ◌∷◌, length, refl, Option, None, Some, unwrap_or, ◌==◌, ◌&&◌, ◌||◌}
 use Rattle.std.specs.Option.{option_map_or}
-use Rattle.std.proofs.Common.{ap, arith, leb, ltb}
+use Rattle.std.proofs.Common.{arith, leb, ltb}
 use Rattle.std.proofs.lemmas.Bool.{ltb-true}
 use Rattle.rst_text.specs.Block.{Block, front_text, is_blank}
 use Rattle.rst_text.specs.Characters.{columns}
@@ -14,11 +12,7 @@ use Rattle.rst_markup_blocks.specs.Conditions.{next_text, after_text}
 use Rattle.rst_markup_blocks.specs.Forms.{adorned_form, adorned_below, adorned_alone, adorned_over, overlined, overlined_by, over_title, is_same_adornment, is_whole_title}
 use Rattle.rst_markup_blocks.specs.Sizes.{adorned_size, adornment_size, fixed_size, third_text, text_size}
 use Rattle.rst_markup_blocks.specs.Rows.{is_adornment_row}
-use Rattle.rst_markup_blocks.specs.RowLaws.{same_front, text_within}
-
--- Whether a line is of one punctuation character depends on the first three lines alone.
-pub adornment_on_three : (X Y : Block) → take 3 X ≡ take 3 Y → is_adornment_row X ≡ is_adornment_row Y
-adornment_on_three X Y h = ap (λ t. is_some (adornment_of t)) (same_front X Y h)
+use Rattle.rst_markup_blocks.proofs.RowLaws.{text_within}
 
 -- a fixed size is at least 1 and at most k
 abbrev pub SizeWithin : ℕ → Option ℕ → Type 0

@@ -4,7 +4,7 @@ use Rattle.rst_text.specs.Reach.{reach}
 use Rattle.rst_text.specs.Shown.{block_of}
 use Rattle.rst_markup_lines.specs.Marker.{bullet}
 use Rattle.rst_markup_blocks.proofs.EndLemmas.{bullet_is}
-use Rattle.rst_markup_blocks.proofs.constructs.BulletItemConstruct.end.Goals as goal
+use Rattle.rst_markup_blocks.proofs.constructs.bullet_end.Goals as goal
 
 pub returns-in-Some-clause-end : goal.returns-in-Some-clause-end
 returns-in-Some-clause-end c =

@@ -1,14 +1,11 @@
--- Laws, which a reader of the definitions may pass over: a reach has the lines of its construct, and ends within the block.
--- No rule of markup: a reach bounds the time.
--- The proofs are here since the rows' contracts name these laws.
+-- A reach has the lines of its construct, and ends within the block.
 use Rattle.std.specs.Prelude.{ℕ, suc, max, ◌<◌, ◌≤◌, Bool, true, false, cond, IsTrue, [], ◌∷◌, length, drop, Option, Some, None, IfSome, unwrap_or}
 use Rattle.std.proofs.Common.{arith, length-drop}
 use Rattle.std.proofs.Math.Nat.{le-max_left, max-le}
 use Rattle.rst_text.specs.Block.{Block, is_blank}
 use Rattle.rst_text.specs.Reach.{reach, through_text}
-use Rattle.rst_markup_blocks.specs.Rows.{own_reach}
 use Rattle.rst_markup_blocks.specs.TableRows.{through, grid_size, grid_scan, head_border, simple_bottom, simple_size, simple_scan, is_grid_row, is_simple_row, grid_reach, simple_reach}
-use Rattle.rst_markup_blocks.specs.TableLaws.{grid_within, border_below_within, simple_within}
+use Rattle.rst_markup_blocks.proofs.TableLaws.{grid_within, border_below_within, simple_within}
 
 -- the lines through the first that isn't blank stand within the block
 through_text_le : (Y : Block) → through_text Y ≤ length Y
@@ -23,13 +20,6 @@ through_text_le (l ∷ ls) = by (is_blank l.text) (through_text_le ls)
 -- a reach of n lines has them, and ends within the block
 pub reach_within : (n : ℕ) (X : Block) → n ≤ length X → (n ≤ reach n X) × (reach n X ≤ length X)
 reach_within n X h = (omega arith, omega (arith, through_text_le (drop n X), length-drop n X))
-
--- A construct that ends within the block has a reach that does, if it is looked at no further than through the first
--- line after it that isn't blank.
-pub own_reaches : (holds : Block → Bool) (size : Bool → Block → ℕ)
-    → ((titles : Bool) (X : Block) → 1 ≤ length X → IsTrue (holds X) → (1 ≤ size titles X) × (size titles X ≤ length X))
-    → (titles : Bool) (X : Block) → 1 ≤ length X → IsTrue (holds X) → (size titles X ≤ own_reach size titles X) × (own_reach size titles X ≤ length X)
-own_reaches holds size within titles X some h = let w = within titles X some h in reach_within (size titles X) X w.1
 
 -- the reach of a table, which the lines of its scan may be
 wider : (n scan : ℕ) (X : Block) → n ≤ length X → scan ≤ length X → (n ≤ max (reach n X) scan) × (max (reach n X) scan ≤ length X)

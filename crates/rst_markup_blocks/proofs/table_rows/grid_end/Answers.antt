@@ -4,9 +4,9 @@ use Rattle.rst_text.specs.Shown.{block_of}
 use Rattle.std.specs.Prelude.{Some, None}
 use Rattle.rst_markup_blocks.specs.declared.lines.LineTest.TheVariants.{Drawn}
 use Rattle.rst_markup_blocks.specs.Lines.{lines_while}
-use Rattle.rst_markup_blocks.specs.TableLaws.{grid_drawn, while_some}
+use Rattle.rst_markup_blocks.proofs.TableLaws.{grid_drawn, while_some}
 use Rattle.rst_markup_blocks.proofs.TableLemmas.{grid_size-is, drawn_reach}
-use Rattle.rst_markup_blocks.proofs.table_rows.GridTableConstruct.end.Goals as goal
+use Rattle.rst_markup_blocks.proofs.table_rows.grid_end.Goals as goal
 
 pub returns-in-Some-clause-end : goal.returns-in-Some-clause-end
 returns-in-Some-clause-end c = omega (arith, grid_size-is (drop c.args.i (block_of c.args.view.now)) (Some c.in-Some.k) c.in-Some.ensures.bottom)

@@ -7,8 +7,8 @@ use Rattle.rst_markup_lines.specs.Adornment.{adornment_of}
 use Rattle.rst_markup_blocks.specs.Conditions.{next_text}
 use Rattle.rst_markup_blocks.specs.Forms.{adorned_form}
 use Rattle.rst_markup_blocks.specs.Sizes.{fixed_size, third_text, adornment_size, text_size}
-use Rattle.rst_markup_blocks.specs.AdornmentLaws.{SizeWithin, form_sizes, adornment_is}
-use Rattle.rst_markup_blocks.proofs.adornment_line.AdornmentLineConstruct.end.Goals as goal
+use Rattle.rst_markup_blocks.proofs.AdornmentLaws.{SizeWithin, form_sizes, adornment_is}
+use Rattle.rst_markup_blocks.proofs.adornment_line.adornment_end.Goals as goal
 
 pub overflow_add-result : goal.overflow_add-result
 overflow_add-result c =

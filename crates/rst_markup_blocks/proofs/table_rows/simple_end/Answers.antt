@@ -4,7 +4,7 @@ use Rattle.rst_text.specs.Block.{Block}
 use Rattle.rst_text.specs.Shown.{block_of}
 use Rattle.rst_markup_blocks.specs.TableRows.{through, simple_size}
 use Rattle.rst_markup_blocks.proofs.TableLemmas.{simple_size-is, scan_some, scan_reach}
-use Rattle.rst_markup_blocks.proofs.table_rows.SimpleTableConstruct.end.Goals as goal
+use Rattle.rst_markup_blocks.proofs.table_rows.simple_end.Goals as goal
 
 pub returns-clause-end : goal.returns-clause-end
 returns-clause-end c =

@@ -1,8 +1,6 @@
--- Laws, which a reader of the definitions may pass over: what begins ends within its block, and a condition is on three
--- lines alone (Markup Specification, 'Body Elements').
--- The proofs are here since the rows' contracts name these laws.
+-- What begins ends within its block, and what a block's first three lines decide.
 use Rattle.std.specs.Prelude.{◌≡◌, ℕ, zero, suc, ◌≤◌, Bool, true, false, cond, is_some, IsTrue, List, [], ◌∷◌, length, take, drop, refl, Option, None, Some}
-use Rattle.std.proofs.Common.{ap, ap₂, sym, ◌∙◌, arith, leb, ltb, length-drop, ◌+◌}
+use Rattle.std.proofs.Common.{ap, sym, ◌∙◌, arith, leb, ltb, length-drop, ◌+◌}
 use Rattle.std.proofs.lemmas.Bool.{le-leb}
 use Rattle.std.specs.Option.{option_map_or}
 use Rattle.rst_markup_lines.specs.Front.{first}
@@ -14,18 +12,16 @@ use Rattle.rst_markup_blocks.specs.declared.form.TextForm.TheVariants.{Paragraph
 use Rattle.rst_text.specs.Block.{Block, front_text, is_blank, indentation}
 use Rattle.rst_text.specs.Extent.{extent, past_blank}
 use Rattle.rst_markup_lines.specs.Front.{begins_with}
-use Rattle.rst_markup_lines.specs.Marker.{bullet, doctest, line_bar}
-use Rattle.rst_markup_lines.specs.Field.{field_of}
-use Rattle.rst_markup_lines.specs.ExplicitMarks.{underscores}
+use Rattle.rst_markup_lines.specs.Marker.{bullet, doctest}
 use Rattle.rst_markup_lines.specs.Enumerator.{enumerator_of}
 use Rattle.rst_markup_lines.specs.declared.marker.Marker.{Marker}
 use Rattle.rst_markup_lines.specs.declared.enumerator.Enumerator.{Enumerator}
 use Rattle.rst_markup_blocks.specs.declared.lines.LineTest.{LineTest}
 use Rattle.rst_markup_blocks.specs.declared.lines.LineTest.TheVariants.{Indented, Filled, Blank, Plain, Begins}
 use Rattle.rst_markup_blocks.specs.Lines.{passes, lines_while}
-use Rattle.rst_markup_blocks.specs.Conditions.{next_text, after_text, item_enumerator, item_option}
+use Rattle.rst_markup_blocks.specs.Conditions.{next_text, after_text}
 use Rattle.rst_markup_blocks.specs.Sizes.{bullet_size, enumerator_size, item_size, hanging_size, run_size, indented_size, doctest_size, least_below, literal_size, quoted_size, quoted_by, last_text, paragraph_size, paragraph_len, text_size, form_size}
-use Rattle.rst_markup_blocks.specs.Rows.{is_blank_row, is_quote_row, is_bullet_row, is_enumerator_row, is_field_row, is_option_row, is_doctest_row, is_bar_row, is_anonymous_row, is_text_row, blank_size, quote_size}
+use Rattle.rst_markup_blocks.specs.Rows.{is_blank_row, is_quote_row, is_bullet_row, is_enumerator_row, is_doctest_row, is_text_row, blank_size, quote_size}
 
 -- ---- the first lines
 
@@ -56,44 +52,6 @@ same_next X Y h = sym (front_taken X) ∙ ap (λ B. front_text (drop 1 B)) h ∙
 -- blocks with the same first three lines have the same third one
 pub same_after : (X Y : Block) → take 3 X ≡ take 3 Y → after_text X ≡ after_text Y
 same_after X Y h = sym (after_taken X) ∙ ap (λ B. front_text (drop 2 B)) h ∙ after_taken Y
-
--- each row's condition depends on the first three lines alone: that of a blank line
-pub blank_on_three : (X Y : Block) → take 3 X ≡ take 3 Y → is_blank_row X ≡ is_blank_row Y
-blank_on_three X Y h = ap is_blank (same_front X Y h)
-
--- that of a block quote
-pub quote_on_three : (X Y : Block) → take 3 X ≡ take 3 Y → is_quote_row X ≡ is_quote_row Y
-quote_on_three X Y h = ap (λ t. begins_with 32 t) (same_front X Y h)
-
--- that of an item of a bullet list
-pub bullet_on_three : (X Y : Block) → take 3 X ≡ take 3 Y → is_bullet_row X ≡ is_bullet_row Y
-bullet_on_three X Y h = ap (λ t. is_some (bullet t)) (same_front X Y h)
-
--- that of an item of an enumerated list
-pub enumerator_on_three : (X Y : Block) → take 3 X ≡ take 3 Y → is_enumerator_row X ≡ is_enumerator_row Y
-enumerator_on_three X Y h = ap₂ (λ t n. is_some (item_enumerator t n)) (same_front X Y h) (same_next X Y h)
-
--- that of a field
-pub field_on_three : (X Y : Block) → take 3 X ≡ take 3 Y → is_field_row X ≡ is_field_row Y
-field_on_three X Y h = ap (λ t. is_some (field_of t)) (same_front X Y h)
-
--- that of an item of an option list
-pub option_on_three : (X Y : Block) → take 3 X ≡ take 3 Y → is_option_row X ≡ is_option_row Y
-option_on_three X Y h =
-    ap₂ (λ t n. is_some (item_option t n (after_text X))) (same_front X Y h) (same_next X Y h)
-    ∙ ap (λ a. is_some (item_option (front_text Y) (next_text Y) a)) (same_after X Y h)
-
--- that of a doctest block
-pub doctest_on_three : (X Y : Block) → take 3 X ≡ take 3 Y → is_doctest_row X ≡ is_doctest_row Y
-doctest_on_three X Y h = ap (λ t. is_some (doctest t)) (same_front X Y h)
-
--- that of a line of a line block
-pub bar_on_three : (X Y : Block) → take 3 X ≡ take 3 Y → is_bar_row X ≡ is_bar_row Y
-bar_on_three X Y h = ap (λ t. is_some (line_bar t)) (same_front X Y h)
-
--- that of an anonymous target
-pub anonymous_on_three : (X Y : Block) → take 3 X ≡ take 3 Y → is_anonymous_row X ≡ is_anonymous_row Y
-anonymous_on_three X Y h = ap (λ t. is_some (underscores t)) (same_front X Y h)
 
 -- ---- the ends
 
@@ -195,10 +153,6 @@ doctest_some (l ∷ ls) h = go l.text h
 pub doctest_within : (titles : Bool) (X : Block) → 1 ≤ length X → IsTrue (is_doctest_row X) → (1 ≤ doctest_size X) × (doctest_size X ≤ length X)
 unfolding doctest_size
 doctest_within titles X some h = (doctest_some X h, while_le Filled X)
-
--- That any line may begin a text depends on no line.
-pub text_on_three : (X Y : Block) → take 3 X ≡ take 3 Y → is_text_row X ≡ is_text_row Y
-text_on_three X Y h = refl
 
 -- a quoted literal block ends within the block
 quoted_le : (o : Option ℕ) (b : ℕ) (Y : Block) → b ≤ length Y → quoted_by o b Y ≤ length Y

@@ -4,7 +4,7 @@ use Rattle.rst_text.specs.Reach.{reach}
 use Rattle.rst_text.specs.Shown.{block_of}
 use Rattle.rst_markup_lines.specs.Enumerator.{enumerator_of}
 use Rattle.rst_markup_blocks.proofs.EndLemmas.{enumerator_is, enumerator_none}
-use Rattle.rst_markup_blocks.proofs.constructs.EnumeratedItemConstruct.end.Goals as goal
+use Rattle.rst_markup_blocks.proofs.constructs.enumerator_end.Goals as goal
 
 pub returns-in-Some-clause-end : goal.returns-in-Some-clause-end
 returns-in-Some-clause-end c =
