@@ -7,7 +7,7 @@ ghost use Rattle.rst_block_state.specs.Nodes.{nodes_among};
 ghost use Rattle.rst_block_state.specs.Ledger.{Takes, ended_least, ended_most, least_after, most_after};
 
 use super::resume::resume;
-use rst_block_state::{BlockFault, Ended, Frame, OpenBlock, Pass, inside};
+use rst_block_state::{Ended, Frame, OpenBlock, Pass, Result, inside};
 use rst_text::View;
 use std::alloc::Global;
 use std::mem;
@@ -20,7 +20,7 @@ pub(crate) fn closed<'a>(
     level: &mut OpenBlock,
     depth: usize,
     pass: &mut Pass,
-) -> Result<Ended<'a>, BlockFault>
+) -> Result<Ended<'a>>
     requires frame { frames.IsFrame (source_of whole.now) frame }
     requires depth { depth ≡ suc frame.level.depth }
     requires deepest { frame.level.depth < deepest }

@@ -20,7 +20,7 @@ use super::step::step_at;
 use arrayvec::ArrayVec;
 use rst_block_body::table::{after_table, entry_of, table_of};
 use rst_block_state::{
-    BlockFault, DEEPEST, Ended, Frame, OpenBlock, Pass, Step, Waits, inside, opened,
+    BlockFault, DEEPEST, Ended, Frame, OpenBlock, Pass, Result, Step, Waits, inside, opened,
 };
 use rst_markup_blocks::{LineTest, Part, lines_end};
 use rst_markup_tables::{Cell, Rows, TableResult};
@@ -40,7 +40,7 @@ pub(crate) fn read(
     depth: usize,
     frames: &mut Frames,
     pass: &mut Pass,
-) -> Result<OpenBlock, BlockFault>
+) -> Result<OpenBlock>
     requires depth { depth ≤ 251 }
     requires room { length frames.old.items ≤ depth }
     ensures frames { IfOk result (λ _. frames.new.items ≡ frames.old.items) }
@@ -64,7 +64,7 @@ fn read_blocks(
     depth: usize,
     frames: &mut Frames,
     pass: &mut Pass,
-) -> Result<OpenBlock, BlockFault>
+) -> Result<OpenBlock>
     requires depth { depth ≤ 250 }
     requires room { length frames.old.items ≤ depth }
     ensures frames { IfOk result (λ _. frames.new.items ≡ frames.old.items) }
@@ -115,7 +115,7 @@ fn read_blocks(
 
 /// What comes in a block behind the constructs that are read at once: one that waits for a block inside, or the block's end.
 #[tactic(auto, using(rst_block_state::proofs::Views::few_lines, crate::proofs::Stack::next_of_step))]
-fn next(view: &View<'_>, level: &mut OpenBlock, pass: &mut Pass) -> Result<Step, BlockFault>
+fn next(view: &View<'_>, level: &mut OpenBlock, pass: &mut Pass) -> Result<Step>
     ensures next { IfOk result (λ s. spec.IsNext (block_of view.now) level.old.at level.new.at s) }
     ensures kept { IfOk result (λ _. level.new.depth ≡ level.old.depth) }
     ensures read { Keeps result (λ s. comes level.new (block_of view.now) s pass.new.numbers)
@@ -148,7 +148,7 @@ fn last_of(frames: &mut Frames, base: usize) -> Option<Frame>
 }
 
 /// Refuses lines that are nested too deeply, unless they are blank.
-fn not_blank(view: &View<'_>, pass: &mut Pass) -> Result<(), BlockFault>
+fn not_blank(view: &View<'_>, pass: &mut Pass) -> Result<()>
     ensures blank { TellsBlank (block_of view.now) result }
     ensures numbers { pass.new.numbers ≡ pass.old.numbers }
     ensures each { IfOk result (λ _. capped (pass.old.looks + length (block_of view.now)) ≤ pass.new.looks) }
@@ -172,7 +172,7 @@ fn flat(
     first: Part,
     second: Option<Part>,
     pass: &mut Pass,
-) -> Result<Step, BlockFault>
+) -> Result<Step>
     requires first { IsBlock (block_of view.now) first }
     requires second { spec.IsBlockIf (block_of view.now) second }
     requires waits { spec.IsWaiting (block_of view.now) level.old.at waits }
@@ -202,7 +202,7 @@ fn cells(
     depth: usize,
     frames: &mut Frames,
     pass: &mut Pass,
-) -> Result<Step, BlockFault>
+) -> Result<Step>
     requires inside { level.old.at < length (block_of view.now) }
     requires depth { depth ≤ 251 }
     requires room { length frames.old.items ≤ depth }
@@ -239,12 +239,7 @@ fn cells(
 
 /// The rows of a table, whose cells stand in as many blocks as `depth` says.
 #[cycle(machine)]
-fn rows_of(
-    rows: Rows,
-    depth: usize,
-    frames: &mut Frames,
-    pass: &mut Pass,
-) -> Result<MarkedNodes, BlockFault>
+fn rows_of(rows: Rows, depth: usize, frames: &mut Frames, pass: &mut Pass) -> Result<MarkedNodes>
     requires depth { depth ≤ 251 }
     requires room { length frames.old.items ≤ depth }
     requires inner { 1 ≤ depth }
@@ -263,12 +258,7 @@ fn rows_of(
 /// A row of cells that stand in as many blocks as `depth` says. The lines of a cell are kept once, and only until they are read, so a
 /// line inside several tables is kept once for each of them.
 #[cycle(machine)]
-fn row_of(
-    cells: Vec<Cell>,
-    depth: usize,
-    frames: &mut Frames,
-    pass: &mut Pass,
-) -> Result<Marked, BlockFault>
+fn row_of(cells: Vec<Cell>, depth: usize, frames: &mut Frames, pass: &mut Pass) -> Result<Marked>
     requires depth { depth ≤ 251 }
     requires room { length frames.old.items ≤ depth }
     requires inner { 1 ≤ depth }

@@ -10,7 +10,7 @@ use super::machine::{Frames, read};
 use arrayvec::ArrayVec;
 use rst_block_nodes::Numbers;
 use rst_block_sections::document;
-use rst_block_state::{BlockFault, Pass};
+use rst_block_state::{Pass, Result};
 use rst_text::{Lines, Looks};
 use rst_tree::{Node, TreeFault};
 use rst_tree_index::Marked;
@@ -46,7 +46,7 @@ impl Parsed {
 ///
 /// It is refused with [`BlockFault::TooDeep`] where a block that isn't blank stands in more than 250 blocks: at the first such
 /// block; and with [`BlockFault::NoMemory`].
-pub fn parse(alloc: Global, lines: &Lines) -> Result<Parsed, BlockFault>
+pub fn parse(alloc: Global, lines: &Lines) -> Result<Parsed>
     ensures document { (settings : Settings) → spec.Parses (spec.document (profile_of settings) lines.now 0) result }
     ensures looks { (settings : Settings) → IfOk result (λ parsed. IsWithinBounds (profile_of settings) lines.now parsed.looks) }
 {

@@ -15,7 +15,7 @@ use rst_block_body::quote::quote_part;
 use rst_block_markup::{finished_figure, finished_replacement};
 use rst_block_nodes::Texted;
 use rst_block_sections::completed;
-use rst_block_state::{BlockFault, OpenBlock, Pass, Step, Waits};
+use rst_block_state::{OpenBlock, Pass, Result, Step, Waits};
 use rst_markup_blocks::Part;
 use rst_text::View;
 use rst_tree::{Attrs, Node, Tag, TreeFault};
@@ -29,7 +29,7 @@ pub(crate) fn resume(
     waits: Waits,
     nodes: MarkedNodes,
     pass: &mut Pass,
-) -> Result<Step, BlockFault>
+) -> Result<Step>
     requires waits { spec.IsWaiting (block_of view.now) level.old.at waits }
     ensures step { IfOk result (λ s. spec.IsResumed (block_of view.now) level.old.at level.new.at s) }
     ensures kept { IfOk result (λ _. level.new.depth ≡ level.old.depth) }
@@ -104,7 +104,7 @@ fn put_quote(
     line: usize,
     mut nodes: MarkedNodes,
     attribution: Option<Box<Texted>>,
-) -> Result<(), BlockFault>
+) -> Result<()>
     ensures at { level.new.at ≡ level.old.at }
     ensures more { Gives (λ _. HasMore level.old level.new (quote_by line (option_map box_value attribution) nodes)) result }
 {
@@ -127,7 +127,7 @@ fn after_quote(
     rest: Option<Part>,
     end: usize,
     pass: &mut Pass,
-) -> Result<Step, BlockFault>
+) -> Result<Step>
     requires rest { spec.IsRest (block_of view.now) level.old.at rest }
     ensures step { IfOk result (λ s. spec.IsResumed (block_of view.now) level.old.at level.new.at s) }
     ensures kept { IfOk result (λ _. level.new.depth ≡ level.old.depth) }

@@ -16,18 +16,14 @@ use rst_block_body::quote::block_quote;
 use rst_block_body::table::table;
 use rst_block_body::text::text_line;
 use rst_block_markup::explicit_markup;
-use rst_block_state::{BlockFault, OpenBlock, Pass, Step};
+use rst_block_state::{OpenBlock, Pass, Result, Step};
 use rst_markup_blocks::{Begun, LineTest, begun_at, lines_end};
 use rst_markup_tables::{grid, simple};
 use rst_text::View;
 use std::alloc::Global;
 
 /// Reads the construct at the next line.
-pub(crate) fn step_at(
-    view: &View<'_>,
-    level: &mut OpenBlock,
-    pass: &mut Pass,
-) -> Result<Step, BlockFault>
+pub(crate) fn step_at(view: &View<'_>, level: &mut OpenBlock, pass: &mut Pass) -> Result<Step>
     requires inside { level.old.at < length (block_of view.now) }
     ensures step { IfOk result (λ s. spec.IsStep (block_of view.now) level.old.at level.new.at s) }
     ensures kept { IfOk result (λ _. level.new.depth ≡ level.old.depth) }

@@ -19,7 +19,7 @@ use super::text::text_line;
 use rst_block_nodes::message;
 use rst_block_sections::Style;
 use rst_block_state::{
-    BlockFault, OpenBlock, Pass, Step, alone, heading_of, number_at, short_warning, source,
+    OpenBlock, Pass, Result, Step, alone, heading_of, number_at, short_warning, source,
 };
 use rst_markup_blocks::{Adorned, adorned_at, below_text, text_at};
 use rst_markup_lines::Adornment;
@@ -33,7 +33,7 @@ pub fn adornment(
     level: &mut OpenBlock,
     mark: Adornment,
     pass: &mut Pass,
-) -> Result<Step, BlockFault>
+) -> Result<Step>
     requires inside { level.old.at < length (block_of view.now) }
     requires begun { IsBegun (drop level.old.at (block_of view.now)) (marks.Adornment mark) }
     ensures step { IfOk result (λ s. spec.IsStep (block_of view.now) level.old.at level.new.at s) }
@@ -106,7 +106,7 @@ fn wrong_form(form: Adorned) -> WrongForm
 }
 
 /// A transition.
-fn transition(view: &View<'_>, level: &mut OpenBlock, pass: &mut Pass) -> Result<(), BlockFault>
+fn transition(view: &View<'_>, level: &mut OpenBlock, pass: &mut Pass) -> Result<()>
     requires inside { level.old.at < length (block_of view.now) }
     requires found { IsNextConstruct level.old (block_of view.now) transition 1 }
     ensures later { IfOk result (λ _. level.old.at < level.new.at) }
@@ -123,12 +123,7 @@ fn transition(view: &View<'_>, level: &mut OpenBlock, pass: &mut Pass) -> Result
 }
 
 /// A short line that is taken as text, behind a message that says so.
-fn short(
-    view: &View<'_>,
-    level: &mut OpenBlock,
-    text: &str,
-    pass: &mut Pass,
-) -> Result<Step, BlockFault>
+fn short(view: &View<'_>, level: &mut OpenBlock, text: &str, pass: &mut Pass) -> Result<Step>
     requires inside { level.old.at < length (block_of view.now) }
     requires text { IsText level.old (block_of view.now) (said Info (first_number (drop level.old.at (block_of view.now))) text.now ∷ []) }
     ensures step { IfOk result (λ s. spec.IsStep (block_of view.now) level.old.at level.new.at s) }
@@ -143,12 +138,7 @@ fn short(
 }
 
 /// The message on some lines that are neither a title nor a transition.
-fn wrong(
-    view: &View<'_>,
-    level: &mut OpenBlock,
-    form: WrongForm,
-    pass: &mut Pass,
-) -> Result<(), BlockFault>
+fn wrong(view: &View<'_>, level: &mut OpenBlock, form: WrongForm, pass: &mut Pass) -> Result<()>
     requires inside { level.old.at < length (block_of view.now) }
     requires found { IsNextConstruct level.old (block_of view.now) (misplaced_lines form.gravity form.text.now) form.lines }
     ensures later { IfOk result (λ _. level.old.at < level.new.at) }
@@ -175,7 +165,7 @@ fn overlined(
     mark: Adornment,
     short: bool,
     pass: &mut Pass,
-) -> Result<(), BlockFault>
+) -> Result<()>
     requires inside { level.old.at < length (block_of view.now) }
     requires found { IsNextConstruct level.old (block_of view.now) (overlined_title mark short) 3 }
     requires titles { level.old.depth ≡ 0 }

@@ -14,9 +14,7 @@ ghost use Rattle.rst_block_state.specs.Ledger.{IsPaid};
 use super::field::join_list;
 use rst_block_nodes::term_and_classifiers;
 use rst_block_sections::append;
-use rst_block_state::{
-    BlockFault, ListKind, OpenBlock, Pass, Run, Step, Waits, indented, number_at,
-};
+use rst_block_state::{ListKind, OpenBlock, Pass, Result, Run, Step, Waits, indented, number_at};
 use rst_text::View;
 use rst_tree::{Node, Tag};
 use std::alloc::Global;
@@ -27,7 +25,7 @@ pub(crate) fn definition(
     level: &mut OpenBlock,
     infos: Vec<Node>,
     pass: &mut Pass,
-) -> Result<Step, BlockFault>
+) -> Result<Step>
     requires inside { level.old.at < length (block_of view.now) }
     requires text { IsText level.old (block_of view.now) infos.items }
     requires form { let X = drop level.old.at (block_of view.now) in text_form (front_text X) (next_text X) ≡ Definition }
@@ -60,7 +58,7 @@ pub(crate) fn definition(
 }
 
 /// Puts messages before the list that is open.
-fn put_before(level: &mut OpenBlock, infos: Vec<Node>) -> Result<(), BlockFault>
+fn put_before(level: &mut OpenBlock, infos: Vec<Node>) -> Result<()>
     ensures at { level.new.at ≡ level.old.at }
     ensures run { Gives (λ _. HasRun level.old level.new (with_infos infos.items (open_of level.old.run))) result }
 {

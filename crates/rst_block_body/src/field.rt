@@ -15,7 +15,7 @@ ghost use Rattle.rst_block_state.specs.Ledger.{IsPaid};
 
 use rst_block_nodes::with_text;
 use rst_block_state::{
-    BlockFault, ListKind, OpenBlock, Pass, Step, Waits, excerpt, hanging, number_at,
+    ListKind, OpenBlock, Pass, Result, Step, Waits, excerpt, hanging, number_at,
 };
 use rst_markup_lines::FieldMark;
 use rst_text::View;
@@ -28,7 +28,7 @@ pub fn field(
     level: &mut OpenBlock,
     mark: FieldMark,
     pass: &mut Pass,
-) -> Result<Step, BlockFault>
+) -> Result<Step>
     requires inside { level.old.at < length (block_of view.now) }
     requires begun { IsBegun (drop level.old.at (block_of view.now)) (Field mark) }
     ensures step { IfOk result (λ s. spec.IsStep (block_of view.now) level.old.at level.new.at s) }
@@ -75,7 +75,7 @@ pub(crate) fn join_list(
     tag: Tag,
     end: usize,
     pass: &mut Pass,
-) -> Result<(), BlockFault>
+) -> Result<()>
     ensures at { level.new.at ≡ level.old.at }
     ensures joins { list_kind_in level.old.run ≡ Some kind
         → Gives (λ _. HasRun level.old level.new (joined_at (joining_in kind) end (open_of level.old.run))) result }

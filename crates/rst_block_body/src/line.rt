@@ -17,8 +17,7 @@ ghost use Rattle.rst_block_state.specs.declared.step.Step.TheVariants.{Next};
 
 use rst_block_nodes::BarText;
 use rst_block_state::{
-    BlockFault, OpenBlock, Pass, Run, first_line_or, indented, inside, joined, lines_between,
-    number_at,
+    OpenBlock, Pass, Result, Run, first_line_or, indented, inside, joined, lines_between, number_at,
 };
 use rst_markup_blocks::indented_end;
 use rst_markup_lines::Marker;
@@ -31,7 +30,7 @@ pub fn bar_line(
     level: &mut OpenBlock,
     marker: Marker,
     pass: &mut Pass,
-) -> Result<(), BlockFault>
+) -> Result<()>
     requires inside { level.old.at < length (block_of view.now) }
     requires begun { IsBegun (drop level.old.at (block_of view.now)) (Line marker) }
     ensures later { IfOk result (λ _. level.old.at < level.new.at) }
@@ -62,7 +61,7 @@ fn lines_end_at(run: &Run, at: usize) -> bool
 }
 
 /// Puts a line behind the last of the open line block, and goes on where the line ends.
-fn add_line(level: &mut OpenBlock, text: BarText, end: usize) -> Result<(), BlockFault>
+fn add_line(level: &mut OpenBlock, text: BarText, end: usize) -> Result<()>
     requires { level.old.at < 2 ^ 64 - 1 }
     ensures later { IfOk result (λ _. level.old.at < level.new.at) }
     ensures line { Gives (λ _. HasLine level.old level.new (line_added text end (open_of level.old.run))

@@ -25,8 +25,8 @@ ghost use Rattle.rst_block_state.specs.Ledger.{IsPaid};
 
 use rst_block_nodes::{bullet_list, enumerated_list, start_message};
 use rst_block_state::{
-    BlockFault, ListKind, OpenBlock, Pass, Run, Sequel, Step, Waits, characters, item_part,
-    number_at, push,
+    ListKind, OpenBlock, Pass, Result, Run, Sequel, Step, Waits, characters, item_part, number_at,
+    push,
 };
 use rst_markup_blocks::Part;
 use rst_markup_lines::{Enumerator, Format, Marker, first_reading};
@@ -57,7 +57,7 @@ pub fn bullet_item(
     mark: char,
     marker: Marker,
     pass: &mut Pass,
-) -> Result<Step, BlockFault>
+) -> Result<Step>
     requires inside { level.old.at < length (block_of view.now) }
     requires begun { IsBegun (drop level.old.at (block_of view.now)) (Bullet mark marker) }
     ensures step { IfOk result (λ s. spec.IsStep (block_of view.now) level.old.at level.new.at s) }
@@ -86,7 +86,7 @@ pub fn enumerated_item(
     level: &mut OpenBlock,
     enumerator: Enumerator,
     pass: &mut Pass,
-) -> Result<Step, BlockFault>
+) -> Result<Step>
     requires inside { level.old.at < length (block_of view.now) }
     requires begun { IsBegun (drop level.old.at (block_of view.now)) (ItemEnumerator enumerator) }
     ensures step { IfOk result (λ s. spec.IsStep (block_of view.now) level.old.at level.new.at s) }
@@ -125,7 +125,7 @@ fn begin_enumerated_list(
     enumerator: Enumerator,
     end: usize,
     pass: &mut Pass,
-) -> Result<(), BlockFault>
+) -> Result<()>
     requires inside { level.old.at < length (block_of view.now) }
     ensures at { level.new.at ≡ level.old.at }
     ensures run { let B = block_of view.now in
@@ -147,7 +147,7 @@ fn begin_enumerated_list(
 }
 
 /// Puts a message behind the list that is open.
-fn put_behind(level: &mut OpenBlock, note: Node) -> Result<(), BlockFault>
+fn put_behind(level: &mut OpenBlock, note: Node) -> Result<()>
     ensures at { level.new.at ≡ level.old.at }
     ensures run { blocks.Gives (λ _. HasRun level.old level.new (with_notes (note ∷ []) (open_of level.old.run))) result }
 {

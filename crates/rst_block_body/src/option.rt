@@ -13,7 +13,7 @@ ghost use Rattle.rst_block_state.specs.Ledger.{IsPaid};
 use super::field::join_list;
 use rst_block_nodes::{element_of, option};
 use rst_block_state::{
-    BlockFault, ListKind, OpenBlock, Pass, Step, Waits, excerpt_after, hanging, number_at,
+    ListKind, OpenBlock, Pass, Result, Step, Waits, excerpt_after, hanging, number_at,
 };
 use rst_markup_lines::{ListedOption, Marker, listed_options};
 use rst_text::{View, skip};
@@ -26,7 +26,7 @@ pub fn option_item(
     level: &mut OpenBlock,
     marker: Marker,
     pass: &mut Pass,
-) -> Result<Step, BlockFault>
+) -> Result<Step>
     requires inside { level.old.at < length (block_of view.now) }
     requires begun { IsBegun (drop level.old.at (block_of view.now)) (OptionItem marker) }
     ensures step { IfOk result (λ s. spec.IsStep (block_of view.now) level.old.at level.new.at s) }

@@ -22,7 +22,7 @@ ghost use Rattle.rst_text.specs.Reach.{reach};
 
 use rst_block_nodes::{message, preserved, with_text};
 use rst_block_state::{
-    BlockFault, OpenBlock, Pass, announced, indented, inside, joined, number_at, source,
+    OpenBlock, Pass, Result, announced, indented, inside, joined, number_at, source,
 };
 use rst_markup_blocks::{LineTest, lines_end, text_at};
 use rst_markup_lines::{begins_with, ends_in_colons, front, is_blank, is_punctuation};
@@ -31,11 +31,7 @@ use rst_tree::{Level, Tag};
 use std::alloc::Global;
 
 /// A doctest block: the lines up to a blank one.
-pub fn doctest_block(
-    view: &View<'_>,
-    level: &mut OpenBlock,
-    pass: &mut Pass,
-) -> Result<(), BlockFault>
+pub fn doctest_block(view: &View<'_>, level: &mut OpenBlock, pass: &mut Pass) -> Result<()>
     requires inside { level.old.at < length (block_of view.now) }
     requires begun { IsBegun (drop level.old.at (block_of view.now)) Doctest }
     ensures later { IfOk result (λ _. level.old.at < level.new.at) }
@@ -55,11 +51,7 @@ pub fn doctest_block(
 }
 
 /// A paragraph, with the literal block that it announces. Of the level the open run has ended.
-pub(crate) fn paragraph(
-    view: &View<'_>,
-    level: &mut OpenBlock,
-    pass: &mut Pass,
-) -> Result<(), BlockFault>
+pub(crate) fn paragraph(view: &View<'_>, level: &mut OpenBlock, pass: &mut Pass) -> Result<()>
     requires inside { level.old.at < length (block_of view.now) }
     requires plain { is_loose (front_text (drop level.old.at (block_of view.now))) ≡ false }
     ensures later { IfOk result (λ _. level.old.at < level.new.at) }
@@ -87,7 +79,7 @@ fn paragraph_of(
     text: &str,
     end: usize,
     pass: &mut Pass,
-) -> Result<(), BlockFault>
+) -> Result<()>
     requires end { end ≤ length (block_of view.now) }
     requires inside { level.old.at < length (block_of view.now) }
     requires behind { level.old.at < end }
@@ -117,7 +109,7 @@ fn put_paragraph(
     text: &str,
     end: usize,
     pass: &mut Pass,
-) -> Result<(), BlockFault>
+) -> Result<()>
     ensures at { level.new.at ≡ level.old.at }
     ensures read { let nodes = parts.shown_paragraph (chars text.now) level.old.at end (block_of view.now) pass.old.numbers in
         Gives (λ _. ReadsNodes nodes level.old level.new level.old.at pass.new.numbers) result }
@@ -139,12 +131,7 @@ fn put_paragraph(
 }
 
 /// Puts a paragraph behind the last node, unless it is empty.
-fn put_shown(
-    view: &View<'_>,
-    level: &mut OpenBlock,
-    text: &str,
-    pass: &mut Pass,
-) -> Result<(), BlockFault>
+fn put_shown(view: &View<'_>, level: &mut OpenBlock, text: &str, pass: &mut Pass) -> Result<()>
     ensures at { level.new.at ≡ level.old.at }
     ensures read { let line = first_number (drop level.old.at (block_of view.now)) in
         let nodes = literals.text_paragraph line (chars text.now) pass.old.numbers in
@@ -162,12 +149,7 @@ fn put_shown(
 }
 
 /// The literal block that a paragraph announces that ends at `end`.
-fn literal(
-    view: &View<'_>,
-    level: &mut OpenBlock,
-    end: usize,
-    pass: &mut Pass,
-) -> Result<(), BlockFault>
+fn literal(view: &View<'_>, level: &mut OpenBlock, end: usize, pass: &mut Pass) -> Result<()>
     requires end { end ≤ length (block_of view.now) }
     requires inside { level.old.at < length (block_of view.now) }
     requires behind { level.old.at < end }
@@ -209,7 +191,7 @@ fn indented_literal(
     level: &mut OpenBlock,
     start: usize,
     pass: &mut Pass,
-) -> Result<(), BlockFault>
+) -> Result<()>
     requires start { start ≤ length (block_of view.now) }
     requires inside { level.old.at < length (block_of view.now) }
     requires behind { level.old.at < start }
@@ -242,7 +224,7 @@ fn quoted_literal(
     start: usize,
     quote: char,
     pass: &mut Pass,
-) -> Result<(), BlockFault>
+) -> Result<()>
     requires start { start ≤ length (block_of view.now) }
     requires inside { level.old.at < length (block_of view.now) }
     requires behind { level.old.at < start }

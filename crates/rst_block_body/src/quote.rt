@@ -16,20 +16,14 @@ ghost use Rattle.rst_block_state.specs.Meanings.{Keeps, comes, quotes_from, read
 ghost use Rattle.rst_block_state.specs.Ledger.{AreQuotesPaid, IsPaid};
 
 use rst_block_nodes::{Texted, with_text};
-use rst_block_state::{
-    BlockFault, OpenBlock, Pass, Step, Waits, indented, inside, joined, number_at,
-};
+use rst_block_state::{OpenBlock, Pass, Result, Step, Waits, indented, inside, joined, number_at};
 use rst_markup_blocks::{Attribution, LineTest, Part, attribution_at, lines_end};
 use rst_text::{Looks, View};
 use rst_tree::{Tag, TreeFault};
 use std::alloc::Global;
 
 /// A block quote.
-pub fn block_quote(
-    view: &View<'_>,
-    level: &mut OpenBlock,
-    pass: &mut Pass,
-) -> Result<Step, BlockFault>
+pub fn block_quote(view: &View<'_>, level: &mut OpenBlock, pass: &mut Pass) -> Result<Step>
     requires inside { level.old.at < length (block_of view.now) }
     requires begun { IsBegun (drop level.old.at (block_of view.now)) Quote }
     ensures step { IfOk result (λ s. spec.IsStep (block_of view.now) level.old.at level.new.at s) }
@@ -50,7 +44,7 @@ pub fn quote_part(
     level: &mut OpenBlock,
     quote: Part,
     pass: &mut Pass,
-) -> Result<Step, BlockFault>
+) -> Result<Step>
     requires block { IsBlock (block_of view.now) quote }
     requires at { level.old.at ≤ quote.from }
     requires inside { level.old.at < length (block_of view.now) }

@@ -21,7 +21,7 @@ ghost use Rattle.rst_markup_blocks.specs.Partition.{construct_size};
 
 use rst_block_nodes::{entry, message, tgroup};
 use rst_block_sections::completed;
-use rst_block_state::{BlockFault, OpenBlock, Pass, Step, number_at, parted, source};
+use rst_block_state::{OpenBlock, Pass, Result, Step, number_at, parted, source};
 use rst_markup_tables::{TableFault, TableResult, malformed_text};
 use rst_text::{Looks, View};
 use rst_tree::{Attrs, Level, Node, Tag, TreeFault};
@@ -34,7 +34,7 @@ pub fn table(
     level: &mut OpenBlock,
     found: TableResult,
     pass: &mut Pass,
-) -> Result<Step, BlockFault>
+) -> Result<Step>
     requires inside { level.old.at < length (block_of view.now) }
     requires table { IsTableAt (block_of view.now) level.old.at found }
     ensures step { IfOk result (λ s. spec.IsStep (block_of view.now) level.old.at level.new.at s) }
@@ -87,11 +87,7 @@ fn malformed(
 }
 
 /// Puts the message on a table that isn't followed by a blank line behind it.
-pub fn after_table(
-    view: &View<'_>,
-    level: &mut OpenBlock,
-    pass: &mut Pass,
-) -> Result<(), BlockFault>
+pub fn after_table(view: &View<'_>, level: &mut OpenBlock, pass: &mut Pass) -> Result<()>
     ensures at { level.new.at ≡ level.old.at }
     ensures more { let notes = warned (codes "Blank line required after table.") (drop level.old.at (block_of view.now)) in
         blocks.Gives (λ _. blocks.HasMore level.old level.new notes) result }

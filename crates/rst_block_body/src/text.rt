@@ -19,7 +19,7 @@ use super::paragraph::paragraph;
 use rst_block_nodes::message;
 use rst_block_sections::Style;
 use rst_block_state::{
-    BlockFault, OpenBlock, Pass, Step, heading_of, number_at, short_warning, source,
+    OpenBlock, Pass, Result, Step, heading_of, number_at, short_warning, source,
 };
 use rst_markup_blocks::{TextForm, below_text, text_at, text_form};
 use rst_markup_lines::front;
@@ -33,7 +33,7 @@ pub fn text_line(
     level: &mut OpenBlock,
     infos: Vec<Node>,
     pass: &mut Pass,
-) -> Result<Step, BlockFault>
+) -> Result<Step>
     requires inside { level.old.at < length (block_of view.now) }
     requires text { IsText level.old (block_of view.now) infos.items }
     ensures step { IfOk result (λ s. spec.IsStep (block_of view.now) level.old.at level.new.at s) }
@@ -70,11 +70,7 @@ pub fn text_line(
 }
 
 /// Puts the message on a possible underline behind the last node, where titles may stand.
-fn put_short_underline(
-    alloc: Global,
-    view: &View<'_>,
-    level: &mut OpenBlock,
-) -> Result<(), BlockFault>
+fn put_short_underline(alloc: Global, view: &View<'_>, level: &mut OpenBlock) -> Result<()>
     requires inside { level.old.at < length (block_of view.now) }
     ensures at { level.new.at ≡ level.old.at }
     ensures more { let notes = constructs.short_underline (level.old.depth == 0) (drop level.old.at (block_of view.now)) in
@@ -96,12 +92,7 @@ fn put_short_underline(
 }
 
 /// A title over its underline, or the messages on one where none may stand.
-fn underlined(
-    view: &View<'_>,
-    level: &mut OpenBlock,
-    short: bool,
-    pass: &mut Pass,
-) -> Result<(), BlockFault>
+fn underlined(view: &View<'_>, level: &mut OpenBlock, short: bool, pass: &mut Pass) -> Result<()>
     requires inside { level.old.at + 1 < length (block_of view.now) }
     ensures later { IfOk result (λ _. level.old.at < level.new.at) }
     ensures read { let B = block_of view.now in
@@ -135,7 +126,7 @@ fn put_title(
     warning: Option<Node>,
     lines: String,
     pass: &mut Pass,
-) -> Result<(), BlockFault>
+) -> Result<()>
     requires inside { level.old.at + 1 < length (block_of view.now) }
     requires titles { level.old.depth ≡ 0 }
     ensures later { IfOk result (λ _. level.old.at < level.new.at) }
@@ -165,7 +156,7 @@ fn put_unexpected(
     level: &mut OpenBlock,
     warning: Option<Node>,
     lines: &str,
-) -> Result<(), BlockFault>
+) -> Result<()>
     requires inside { level.old.at + 1 < length (block_of view.now) }
     ensures later { IfOk result (λ _. level.old.at < level.new.at) }
     ensures gone { let notes = unexpected_notes warning lines.now (drop level.old.at (block_of view.now)) in
@@ -180,7 +171,7 @@ fn put_unexpected(
 }
 
 /// Puts a node behind the last, if there is one.
-fn push_if_any(level: &mut OpenBlock, node: Option<Node>) -> Result<(), BlockFault>
+fn push_if_any(level: &mut OpenBlock, node: Option<Node>) -> Result<()>
     ensures at { level.new.at ≡ level.old.at }
     ensures more { Gives (λ _. HasMore level.old level.new (option_to_list node)) result }
 {

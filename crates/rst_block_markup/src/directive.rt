@@ -38,8 +38,8 @@ use rst_block_nodes::{
 };
 use rst_block_sections::{append, filled};
 use rst_block_state::{
-    BlockFault, OpenBlock, Pass, Step, Waits, alone, excerpt, first_line_or, inside, joined,
-    number_at, source,
+    OpenBlock, Pass, Result, Step, Waits, alone, excerpt, first_line_or, inside, joined, number_at,
+    source,
 };
 use rst_markup_blocks::{Invocation, Part};
 use rst_markup_directives::{
@@ -57,7 +57,7 @@ pub(crate) fn directive_at(
     invocation: &Invocation,
     place: Place,
     pass: &mut Pass,
-) -> Result<Directive, BlockFault>
+) -> Result<Directive>
     requires call { IsCall (block_of view.now) at invocation.now }
     ensures outcome { Gives (λ found. directives.outcome_of found
         ≡ meaning.called (within_at 0) (block_of view.now) at invocation.now place) result }
@@ -108,7 +108,7 @@ pub(crate) fn directive_block(
     level: &mut OpenBlock,
     invocation: &Invocation,
     pass: &mut Pass,
-) -> Result<Step, BlockFault>
+) -> Result<Step>
     requires call { IsCall (block_of view.now) level.old.at invocation.now }
     requires inside { level.old.at < length (block_of view.now) }
     requires later { level.old.at < invocation.now.block.to }
@@ -178,7 +178,7 @@ pub(crate) fn wrong_directive(
     fault: &DirectiveFault,
     name: &str,
     looks: &mut Looks,
-) -> Result<Node, BlockFault>
+) -> Result<Node>
     ensures error { let B = block_of view.now in
         let text = fault_text (fault_in fault.now) name.now in
         Gives (λ node. node ≡ shown Error (first_number (drop at B)) text (source_of B (record { start = at; stop = end }))) result }
@@ -216,7 +216,7 @@ fn directive_nodes(
     level: &mut OpenBlock,
     found: &Found,
     pass: &mut Pass,
-) -> Result<Step, BlockFault>
+) -> Result<Step>
     requires content { IsContentIn (block_of view.now) found.now.content }
     requires argument { IsArgumentIn (block_of view.now) found.now.argument }
     requires inside { level.old.at < length (block_of view.now) }
@@ -253,7 +253,7 @@ fn titled_block(
     found: &Found,
     title: Part,
     pass: &mut Pass,
-) -> Result<Step, BlockFault>
+) -> Result<Step>
     requires content { IsContentIn (block_of view.now) found.now.content }
     requires title { IsBlock (block_of view.now) title }
     requires inside { level.old.at < length (block_of view.now) }
@@ -279,7 +279,7 @@ fn plain_block(
     level: &mut OpenBlock,
     found: &Found,
     pass: &mut Pass,
-) -> Result<Step, BlockFault>
+) -> Result<Step>
     requires content { IsContentIn (block_of view.now) found.now.content }
     requires inside { level.old.at < length (block_of view.now) }
     requires later { level.old.at < found.now.end }
@@ -311,7 +311,7 @@ fn image_block(
     level: &mut OpenBlock,
     found: &Found,
     uri: &str,
-) -> Result<Step, BlockFault>
+) -> Result<Step>
     requires content { IsContentIn (block_of view.now) found.now.content }
     requires inside { level.old.at < length (block_of view.now) }
     requires later { level.old.at < found.now.end }
@@ -360,7 +360,7 @@ fn figure_block(
     level: &mut OpenBlock,
     found: &Found,
     uri: &str,
-) -> Result<Step, BlockFault>
+) -> Result<Step>
     requires content { IsContentIn (block_of view.now) found.now.content }
     requires inside { level.old.at < length (block_of view.now) }
     requires later { level.old.at < found.now.end }
@@ -395,7 +395,7 @@ fn code_nodes(
     found: &Found,
     language: Option<&str>,
     pass: &mut Pass,
-) -> Result<Step, BlockFault>
+) -> Result<Step>
     requires content { IsContentIn (block_of view.now) found.now.content }
     requires inside { level.old.at < length (block_of view.now) }
     requires later { level.old.at < found.now.end }

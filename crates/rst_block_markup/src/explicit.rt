@@ -27,7 +27,7 @@ use super::directive::directive_block;
 use super::substitution::substitution_definition;
 use rst_block_nodes::{citation, footnote, message, preserved, target};
 use rst_block_state::{
-    BlockFault, OpenBlock, Pass, Run, Step, Waits, excerpt, inside, joined, number_at,
+    OpenBlock, Pass, Result, Run, Step, Waits, excerpt, inside, joined, number_at,
 };
 use rst_markup_blocks::{CommentCause, Explicit, Part, explicit};
 use rst_markup_lines::{Characters, LabelKind};
@@ -37,11 +37,7 @@ use std::alloc::{AllocError, Global};
 
 /// Explicit markup, which joins other explicit markup before it.
 #[tactic(auto, using(rst_block_state::proofs::Views::few_lines))]
-pub fn explicit_markup(
-    view: &View<'_>,
-    level: &mut OpenBlock,
-    pass: &mut Pass,
-) -> Result<Step, BlockFault>
+pub fn explicit_markup(view: &View<'_>, level: &mut OpenBlock, pass: &mut Pass) -> Result<Step>
     requires inside { level.old.at < length (block_of view.now) }
     requires kind { IsTrue (is_explicit_kind (kind_of (block_of view.now) level.old.at)) }
     ensures step { IfOk result (λ s. spec.IsStep (block_of view.now) level.old.at level.new.at s) }
@@ -65,12 +61,7 @@ fn is_markup(run: &Run) -> bool
 }
 
 /// Opens explicit markup up to `end`, before which any other open run ends.
-fn begin_markup(
-    view: &View<'_>,
-    level: &mut OpenBlock,
-    end: usize,
-    pass: &mut Pass,
-) -> Result<(), BlockFault>
+fn begin_markup(view: &View<'_>, level: &mut OpenBlock, end: usize, pass: &mut Pass) -> Result<()>
     ensures at { level.new.at ≡ level.old.at }
     ensures kept { IfOk result (λ _. level.new.depth ≡ level.old.depth) }
     ensures read { let B = block_of view.now in
@@ -95,7 +86,7 @@ fn markup_of(
     found: Explicit,
     end: usize,
     pass: &mut Pass,
-) -> Result<Step, BlockFault>
+) -> Result<Step>
     requires markup { IsExplicitIn (block_of view.now) level.old.at found }
     requires end { end ≡ explicit_end level.old.at found }
     requires inside { level.old.at < length (block_of view.now) }
@@ -140,7 +131,7 @@ fn labelled_block(
     label: Characters,
     body: Part,
     pass: &mut Pass,
-) -> Result<Step, BlockFault>
+) -> Result<Step>
     requires body { IsBlock (block_of view.now) body }
     requires inside { level.old.at < length (block_of view.now) }
     requires later { level.old.at < body.to }
@@ -177,7 +168,7 @@ fn target_block(
     name: Option<Characters>,
     text: Part,
     pass: &mut Pass,
-) -> Result<Step, BlockFault>
+) -> Result<Step>
     requires text { IsBlock (block_of view.now) text }
     requires inside { level.old.at < length (block_of view.now) }
     requires later { level.old.at < text.to }
@@ -204,7 +195,7 @@ fn target_of(
     name: Option<Characters>,
     text: &str,
     looks: &mut Looks,
-) -> Result<Node, BlockFault>
+) -> Result<Node>
     requires inside { at < length (block_of view.now) }
     ensures node { let X = drop at (block_of view.now) in
         blocks.Gives (λ node. node ≡ target_node (option_map (excerpt (front_text X)) name) text.now (first_number X)) result }
@@ -228,7 +219,7 @@ fn comment(
     text: Part,
     cause: CommentCause,
     pass: &mut Pass,
-) -> Result<Step, BlockFault>
+) -> Result<Step>
     requires text { IsBlock (block_of view.now) text }
     requires inside { level.old.at < length (block_of view.now) }
     requires later { level.old.at < text.to }
@@ -257,7 +248,7 @@ fn empty_comment(
     level: &mut OpenBlock,
     end: usize,
     pass: &mut Pass,
-) -> Result<Step, BlockFault>
+) -> Result<Step>
     requires later { level.old.at < end }
     ensures step { IfOk result (λ s. spec.IsStep (block_of view.now) level.old.at level.new.at s) }
     ensures kept { IfOk result (λ _. level.new.depth ≡ level.old.depth) }
@@ -304,7 +295,7 @@ fn noted(level: &mut OpenBlock, element: Node, body: Part) -> Step
 }
 
 /// Puts a node behind the last, in a block that goes on at place `end`.
-pub(crate) fn put(level: &mut OpenBlock, node: Node, end: usize) -> Result<Step, BlockFault>
+pub(crate) fn put(level: &mut OpenBlock, node: Node, end: usize) -> Result<Step>
     requires later { level.old.at < end }
     ensures step { (B : Block) → IfOk result (λ s. spec.IsStep B level.old.at level.new.at s) }
     ensures kept { IfOk result (λ _. level.new.depth ≡ level.old.depth) }
@@ -319,12 +310,7 @@ pub(crate) fn put(level: &mut OpenBlock, node: Node, end: usize) -> Result<Step,
 }
 
 /// Puts the message on a comment that isn't meant as one behind the last node.
-fn put_cause(
-    alloc: Global,
-    level: &mut OpenBlock,
-    cause: CommentCause,
-    line: usize,
-) -> Result<(), BlockFault>
+fn put_cause(alloc: Global, level: &mut OpenBlock, cause: CommentCause, line: usize) -> Result<()>
     ensures at { level.new.at ≡ level.old.at }
     ensures more { blocks.Gives (λ _. blocks.HasMore level.old level.new (markup.cause_notes cause line)) result }
 {
@@ -346,12 +332,7 @@ fn put_cause(
 }
 
 /// Puts a warning behind the last node.
-fn put_warning(
-    alloc: Global,
-    level: &mut OpenBlock,
-    line: usize,
-    text: &str,
-) -> Result<(), BlockFault>
+fn put_warning(alloc: Global, level: &mut OpenBlock, line: usize, text: &str) -> Result<()>
     ensures at { level.new.at ≡ level.old.at }
     ensures more { blocks.Gives (λ _. blocks.HasMore level.old level.new (said Warning line text.now ∷ [])) result }
 {

@@ -32,7 +32,7 @@ use rst_block_nodes::{
 };
 use rst_block_sections::filled;
 use rst_block_state::{
-    BlockFault, OpenBlock, OpenReplacement, Pass, Step, Waits, alone, excerpt, number_at, source,
+    OpenBlock, OpenReplacement, Pass, Result, Step, Waits, alone, excerpt, number_at, source,
 };
 use rst_markup_blocks::Invocation;
 use rst_markup_directives::{Argument, Content, Directive, DirectiveFault, Place, Setting};
@@ -50,7 +50,7 @@ pub(crate) fn substitution_definition(
     held: Option<Invocation>,
     end: usize,
     pass: &mut Pass,
-) -> Result<Step, BlockFault>
+) -> Result<Step>
     requires call { IfSome held (IsCall (block_of view.now) level.old.at) }
     requires inside { level.old.at < length (block_of view.now) }
     requires later { level.old.at < end }
@@ -101,7 +101,7 @@ fn holding(
     invocation: &Invocation,
     end: usize,
     pass: &mut Pass,
-) -> Result<Step, BlockFault>
+) -> Result<Step>
     requires call { IsCall (block_of view.now) level.old.at invocation.now }
     requires inside { level.old.at < length (block_of view.now) }
     requires later { level.old.at < end }
@@ -173,7 +173,7 @@ fn replacement(
     content: Content,
     end: usize,
     pass: &mut Pass,
-) -> Result<Step, BlockFault>
+) -> Result<Step>
     requires content { IsContentIn (block_of view.now) content }
     requires inside { level.old.at < length (block_of view.now) }
     requires later { level.old.at < end }
@@ -215,7 +215,7 @@ fn wrong_definition(
     name: &str,
     invocation: &Invocation,
     looks: &mut Looks,
-) -> Result<Node, BlockFault>
+) -> Result<Node>
     requires inside { at < length (block_of view.now) }
     ensures error { let B = block_of view.now in
         let X = drop at B in

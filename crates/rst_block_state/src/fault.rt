@@ -19,6 +19,9 @@ pub enum BlockFault {
     NoMemory,
 }
 
+/// What reading blocks gives, or what hinders it.
+pub type Result<T, E = BlockFault> = std::result::Result<T, E>;
+
 impl From<AllocError> for BlockFault {
     ghost from_gives = { λ _ fault. fault ≡ NoMemory };
 

@@ -14,7 +14,7 @@ mod step;
 mod texts;
 mod waits;
 
-pub use fault::BlockFault;
+pub use fault::{BlockFault, Result};
 pub use frame::{Ended, Frame, opened};
 pub use heading::{heading_of, short_warning};
 pub use open_block::OpenBlock;

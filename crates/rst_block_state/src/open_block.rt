@@ -1,7 +1,7 @@
 //! A block that is being read.
 ghost use Rattle.std.specs.Prelude.{◌≡◌, ◌<◌, []};
 
-use super::fault::BlockFault;
+use super::fault::Result;
 use super::run::{ListKind, OpenList, Run};
 use super::texts::{Pass, number_at, unindent};
 use rst_block_sections::Heading;
@@ -73,7 +73,7 @@ impl OpenBlock {
     }
 
     /// Puts a node that was just made behind the last. It is marked by a pass over it, the only one.
-    pub fn push(&mut self, node: Node) -> Result<(), BlockFault>
+    pub fn push(&mut self, node: Node) -> Result<()>
         ensures at { self.new.at ≡ self.old.at }
         ensures more { spec.Gives (λ _. spec.HasMore self.old self.new (node ∷ [])) result }
     {
@@ -81,7 +81,7 @@ impl OpenBlock {
     }
 
     /// Puts a node behind the last.
-    pub fn push_marked(&mut self, node: Marked) -> Result<(), BlockFault>
+    pub fn push_marked(&mut self, node: Marked) -> Result<()>
         ensures at { self.new.at ≡ self.old.at }
         ensures more { spec.Gives (λ _. spec.HasMore self.old self.new (node ∷ [])) result }
     {
@@ -89,7 +89,7 @@ impl OpenBlock {
     }
 
     /// Puts more nodes that were just made behind the last.
-    pub fn append(&mut self, more: Vec<Node>) -> Result<(), BlockFault>
+    pub fn append(&mut self, more: Vec<Node>) -> Result<()>
         ensures at { self.new.at ≡ self.old.at }
         ensures more { spec.Gives (λ _. spec.HasMore self.old self.new more.items) result }
     {
@@ -97,7 +97,7 @@ impl OpenBlock {
     }
 
     /// Puts more nodes behind the last.
-    pub fn append_marked(&mut self, more: MarkedNodes) -> Result<(), BlockFault>
+    pub fn append_marked(&mut self, more: MarkedNodes) -> Result<()>
         ensures at { self.new.at ≡ self.old.at }
         ensures more { spec.Gives (λ _. spec.HasMore self.old self.new more) result }
     {
@@ -105,7 +105,7 @@ impl OpenBlock {
     }
 
     /// Puts a title behind the last node.
-    pub fn push_heading(&mut self, alloc: Global, mut heading: Heading) -> Result<(), BlockFault>
+    pub fn push_heading(&mut self, alloc: Global, mut heading: Heading) -> Result<()>
         requires { self.old.depth ≡ 0 }
         ensures at { self.new.at ≡ self.old.at }
         ensures title { spec.Gives (λ _. spec.HasTitle self.old self.new heading) result }
@@ -116,7 +116,7 @@ impl OpenBlock {
     }
 
     /// Ends the open run before the next line, with the message on an end without a blank line.
-    pub fn close(&mut self, view: &View<'_>, pass: &mut Pass) -> Result<(), BlockFault>
+    pub fn close(&mut self, view: &View<'_>, pass: &mut Pass) -> Result<()>
         ensures at { self.new.at ≡ self.old.at }
         ensures low { capped pass.old.looks ≤ pass.new.looks }
         ensures run { pass.new.looks ≤ pass.old.looks + run_looks self.old.run }
@@ -146,13 +146,7 @@ impl OpenBlock {
     }
 
     /// Begins a list.
-    pub fn begin(
-        &mut self,
-        alloc: Global,
-        kind: ListKind,
-        list: Node,
-        end: usize,
-    ) -> Result<(), BlockFault>
+    pub fn begin(&mut self, alloc: Global, kind: ListKind, list: Node, end: usize) -> Result<()>
         ensures at { self.new.at ≡ self.old.at }
         ensures run { spec.Gives (λ _. spec.HasRun self.old self.new (spec.begun_at (joining_in kind) end list)) result }
     {
@@ -169,7 +163,7 @@ impl OpenBlock {
     }
 
     /// Puts an item into the open list; without one it is a node of its own.
-    pub fn push_item(&mut self, item: Marked) -> Result<(), BlockFault>
+    pub fn push_item(&mut self, item: Marked) -> Result<()>
         ensures at { self.new.at ≡ self.old.at }
         ensures item { spec.Gives (λ _. spec.HasItem self.old self.new item) result }
     {
@@ -180,13 +174,7 @@ impl OpenBlock {
     }
 
     /// Puts a warning behind the last node where the line at place `end`, after a construct, isn't blank.
-    pub fn warn(
-        &mut self,
-        view: &View<'_>,
-        end: usize,
-        text: &str,
-        pass: &mut Pass,
-    ) -> Result<(), BlockFault>
+    pub fn warn(&mut self, view: &View<'_>, end: usize, text: &str, pass: &mut Pass) -> Result<()>
         ensures at { self.new.at ≡ self.old.at }
         ensures more { spec.Gives (λ _. spec.HasMore self.old self.new (warned text.now (drop end (block_of view.now)))) result }
         ensures numbers { pass.new.numbers ≡ pass.old.numbers }

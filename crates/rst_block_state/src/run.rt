@@ -10,7 +10,7 @@ ghost use Rattle.rst_block_state.specs.Meanings.{deepest, joining_in, list_kind_
 ghost use Rattle.rst_block_state.specs.OpenBlocks.{Adds};
 ghost use Rattle.rst_block_state.specs.Rest.{end_of_run, joining_of_run, open_lines, run_nodes};
 
-use super::fault::BlockFault;
+use super::fault::{BlockFault, Result};
 use super::texts::Pass;
 use rst_block_nodes::{BarText, LineBlockFault, line_block};
 use rst_block_sections::completed;
@@ -179,12 +179,7 @@ impl Run {
     }
 
     /// Puts the nodes of the run behind others, in a block of this depth.
-    pub fn put(
-        self,
-        nodes: &mut MarkedNodes,
-        depth: usize,
-        pass: &mut Pass,
-    ) -> Result<(), BlockFault>
+    pub fn put(self, nodes: &mut MarkedNodes, depth: usize, pass: &mut Pass) -> Result<()>
         ensures nodes { Adds (run_nodes (suc deepest - depth) (open_of self) pass.old.numbers)
             nodes.old nodes.new pass.new.numbers result }
         ensures looks { pass.new.looks ≡ pass.old.looks }
@@ -220,7 +215,7 @@ fn put_lines(
     lines: Vec<BarText>,
     depth: usize,
     pass: &mut Pass,
-) -> Result<(), BlockFault>
+) -> Result<()>
     ensures nodes { Adds (run_nodes (suc deepest - depth) (open_lines 0 (indented lines.items)) pass.old.numbers)
         nodes.old nodes.new pass.new.numbers result }
     ensures looks { pass.new.looks ≡ pass.old.looks }
