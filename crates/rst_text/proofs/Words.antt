@@ -1,8 +1,10 @@
 -- A text that is read a character at a time, with each run of white characters as one space.
-use Rattle.std.proofs.Common.{◌≡◌, ℕ, Bool, true, false, List, [], ◌∷◌, ◌++◌, map, length, arith, sym, ap, ◌∙◌, subst, append_assoc, append-nil}
-use Rattle.std.specs.Str.{IsUtf8, chars}
+use Rattle.std.proofs.Common.{◌≡◌, ◌<◌, ℕ, Bool, true, false, List, [], ◌∷◌, ◌++◌, map, length, arith, refl, sym, ap, ◌∙◌, subst, append_assoc, append-nil}
+use Rattle.std.specs.Str.{IsAscii, IsUtf8, chars}
 use Rattle.std.proofs.Math.Utf8.{encode, encodes}
-use Rattle.std.proofs.lemmas.Str.{chars_past_char, chars-nil}
+use Rattle.std.proofs.lemmas.Str.{chars_past_char, chars-nil, chars-IsAscii}
+use Rattle.std.proofs.lemmas.Str.Ascii.{IsAscii-cons, IsAscii-nil}
+use Rattle.std.proofs.lemmas.Bool.Decides.{nat_tests}
 use Rattle.rst_text.proofs.Scanning.{past_char}
 use Rattle.rst_text.specs.Characters.{is_white}
 use Rattle.rst_text.specs.Names.{normalized_white}
@@ -54,3 +56,57 @@ Spaces-due f text out rest after begun c x e h = record {
 pub Spaces-end : (f : ℕ → ℕ) (text out rest : List ℕ) (begun due : Bool) → Spaces f text out rest begun due → length rest ≡ 0 → out ≡ encodes (map f (normalized_white text))
 Spaces-end f text out [] begun due x none = sym (append-nil out) ∙ sym (ap (λ l. out ++ encodes (map f (spaced_from begun due l))) chars-nil) ∙ x.bytes
 Spaces-end f text out (b ∷ rest) begun due x none = absurd (omega arith)
+
+-- ---- a text that has its words with one space between them already
+
+-- The characters that are left behind a character of a word stay as they are, and are ASCII.
+abbrev Stays : (ℕ → ℕ) → List ℕ → Type 0
+Stays f rest = IsAscii rest × (map f (spaced_from true false rest) ≡ rest)
+
+-- the text is ASCII that stays as it is
+abbrev Settled : (ℕ → ℕ) → List ℕ → Type 0
+Settled f text = IsAscii text × (map f (normalized_white text) ≡ text)
+
+-- The text stays as it is if what is left does, behind a character of a word or not.
+abbrev pub Settles : (ℕ → ℕ) → List ℕ → List ℕ → Bool → Type 0
+Settles f text rest true = Stays f rest → Settled f text
+Settles f text rest false = (c : ℕ) (cs : List ℕ) → rest ≡ c ∷ cs → c < 128 → is_white c ≡ false → f c ≡ c → Stays f cs → Settled f text
+
+cons : {c d : ℕ} {cs ds : List ℕ} → d ≡ c → ds ≡ cs → d ∷ ds ≡ c ∷ cs
+cons e f = cc
+
+dark : (c : ℕ) → 32 < c → c < 128 → is_white c ≡ false
+unfolding is_white
+dark c more low = grind (arith, nat_tests)
+
+blank : is_white 32 ≡ true
+unfolding is_white
+blank = refl
+
+pub Settles-start : (f : ℕ → ℕ) (text : List ℕ) → Settles f text text false
+Settles-start f text c cs e low h same s = (
+  subst IsAscii (sym e) (IsAscii-cons c cs low s.0),
+  ap (λ l. map f (normalized_white l)) e ∙ sym (ap (map f) (spaced_from-start (c ∷ cs))) ∙ ap (map f) (joined_from-char is_white 32 false c cs h) ∙ cons same s.1 ∙ sym e,
+)
+
+pub Settles-word : (f : ℕ → ℕ) (text rest cs : List ℕ) (in_word : Bool) (c : ℕ) → Settles f text rest in_word → rest ≡ c ∷ cs → c < 128 → 32 < c → f c ≡ c → Settles f text cs true
+Settles-word f text rest cs true c x e low more same s = x (
+  subst IsAscii (sym e) (IsAscii-cons c cs low s.0),
+  ap (λ l. map f (spaced_from true false l)) e ∙ ap (map f) (joined_from-char is_white 32 true c cs (dark c more low)) ∙ cons same s.1 ∙ sym e,
+)
+Settles-word f text rest cs false c x e low more same s = x c cs e low (dark c more low) same s
+
+pub Settles-space : (f : ℕ → ℕ) (text rest cs : List ℕ) → Settles f text rest true → rest ≡ 32 ∷ cs → f 32 ≡ 32 → Settles f text cs false
+Settles-space f text rest cs x e space c ds k low h same s =
+    let is : rest ≡ 32 ∷ c ∷ ds = e ∙ ap (λ l. 32 ∷ l) k in
+    x (
+      subst IsAscii (sym is) (IsAscii-cons 32 (c ∷ ds) (omega arith) (IsAscii-cons c ds low s.0)),
+      ap (λ l. map f (spaced_from true false l)) is ∙ ap (map f) (joined_from-over is_white 32 true false 32 (c ∷ ds) blank) ∙ ap (map f) (joined_from-due is_white 32 true c ds h)
+          ∙ cons space (cons same s.1) ∙ sym is,
+    )
+
+pub Settles-end : (f : ℕ → ℕ) (text rest : List ℕ) → Settles f text rest true → length rest ≡ 0 → chars text ≡ map f (normalized_white (chars text))
+Settles-end f text [] x none =
+    let s : Settled f text = x (IsAscii-nil, refl) in
+    let bytes : chars text ≡ text = chars-IsAscii text s.0 in bytes ∙ sym s.1 ∙ sym (ap (λ l. map f (normalized_white l)) bytes)
+Settles-end f text (b ∷ rest) x none = absurd (omega arith)

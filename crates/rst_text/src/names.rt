@@ -1,7 +1,8 @@
 //! Names and ids of texts.
-ghost use Rattle.std.specs.Prelude.{◌≡◌, ℕ, string_bytes, encode_utf8_all, IfOk, map};
+ghost use Rattle.std.specs.Prelude.{◌≡◌, ℕ, true, string_bytes, encode_utf8_all, IfOk, map};
 ghost use Rattle.std.specs.Char.{is_ascii, is_ascii_lowercase};
 ghost use Rattle.std.specs.Str.{chars};
+ghost use Rattle.std.specs.Cow.{cow_str_bytes};
 ghost use Rattle.rst_text.specs.Faults.{Gives};
 ghost use Rattle.rst_text.specs.Names as spec;
 ghost use Rattle.rst_text.specs.Text.{chars_of};
@@ -9,6 +10,7 @@ ghost use Rattle.rst_text.specs.Text.{chars_of};
 use super::characters::is_white;
 use super::fault::TextFault;
 use std::alloc::{AllocError, Global};
+use std::borrow::CowStr;
 use unicode::case::simple_fold;
 use unicode_normalization::to_nfkd;
 
@@ -19,6 +21,15 @@ use unicode_normalization::to_nfkd;
 pub fn normalized_white(alloc: Global, text: &str) -> Result<String, TextFault>
     ensures { Gives (λ normalized. chars_of normalized ≡ spec.normalized_white (chars text.now)) result }
 {
+    Ok(normalized_borrowed(alloc, text)?.into_owned(alloc)?)
+}
+
+/// The same, without a copy where the text stays as it is.
+///
+/// The only refusal is [`TextFault::NoMemory`].
+pub fn normalized_borrowed(alloc: Global, text: &str) -> Result<CowStr<'_, Global>, TextFault>
+    ensures { Gives (λ normalized. chars (cow_str_bytes normalized) ≡ spec.normalized_white (chars text.now)) result }
+{
     Ok(spaced::<Written>(alloc, text)?)
 }
 
@@ -28,6 +39,15 @@ pub fn normalized_white(alloc: Global, text: &str) -> Result<String, TextFault>
 /// The only refusal is [`TextFault::NoMemory`].
 pub fn name_of(alloc: Global, text: &str) -> Result<String, TextFault>
     ensures { Gives (λ name. chars_of name ≡ spec.name_of (chars text.now)) result }
+{
+    Ok(name_borrowed(alloc, text)?.into_owned(alloc)?)
+}
+
+/// The same, without a copy where the text stays as it is.
+///
+/// The only refusal is [`TextFault::NoMemory`].
+pub fn name_borrowed(alloc: Global, text: &str) -> Result<CowStr<'_, Global>, TextFault>
+    ensures { Gives (λ name. chars (cow_str_bytes name) ≡ spec.name_of (chars text.now)) result }
 {
     Ok(spaced::<Folded>(alloc, text)?)
 }
@@ -40,7 +60,7 @@ pub fn name_of(alloc: Global, text: &str) -> Result<String, TextFault>
 pub fn id_of(alloc: Global, text: &str) -> Result<String, TextFault>
     ensures { Gives (λ id. chars_of id ≡ spec.id_of (chars text.now)) result }
 {
-    let name = name_of(alloc, text)?;
+    let name = name_borrowed(alloc, text)?;
     // ASCII is decomposed.
     if name.as_str().is_ascii() {
         return Ok(identifier_of(alloc, name.as_str())?);
@@ -87,10 +107,35 @@ impl Case for Folded {
     }
 }
 
-/// The text with each run of white characters as one space, and none at the ends, in its case.
-fn spaced<C: Case>(alloc: Global, text: &str) -> Result<String, AllocError>
-    ensures { IfOk result (λ out. string_bytes out ≡ encode_utf8_all (map C.cased (spec.normalized_white (chars text.now)))) }
+/// Whether a text stays as it is, as ASCII mostly does: a single space between words, no other white, and each character in its case.
+fn is_settled<C: Case>(text: &str) -> bool
+    ensures { result ≡ true → chars text.now ≡ map C.cased (spec.normalized_white (chars text.now)) }
 {
+    let mut in_word = false;
+    for byte in text.as_bytes() {
+        let c = char::from(*byte);
+        if !is_ascii(c) || C::cased(c) != c {
+            return false;
+        }
+        if c > ' ' {
+            in_word = true;
+            continue;
+        }
+        if c != ' ' || !in_word {
+            return false;
+        }
+        in_word = false;
+    }
+    in_word
+}
+
+/// The text with each run of white characters as one space, and none at the ends, in its case.
+fn spaced<C: Case>(alloc: Global, text: &str) -> Result<CowStr<'_, Global>, AllocError>
+    ensures { IfOk result (λ out. chars (cow_str_bytes out) ≡ map C.cased (spec.normalized_white (chars text.now))) }
+{
+    if is_settled::<C>(text) {
+        return Ok(CowStr::Borrowed(text));
+    }
     let mut out = String::with_capacity(alloc, text.len())?;
     let mut begun = false;
     let mut due = false;
@@ -106,7 +151,7 @@ fn spaced<C: Case>(alloc: Global, text: &str) -> Result<String, AllocError>
         out.push(C::cased(c))?;
         begun = true;
     }
-    Ok(out)
+    Ok(CowStr::Owned(out))
 }
 
 fn is_ascii(c: char) -> bool

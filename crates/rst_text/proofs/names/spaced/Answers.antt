@@ -1,5 +1,7 @@
 use Rattle.std.proofs.Common.{◌∙◌, ap, subst, sym, string_bytes}
 use Rattle.std.specs.Str.{chars}
+use Rattle.std.proofs.lemmas.Str.{IsUtf8-string_bytes}
+use Rattle.rst_text.proofs.Ids.{chars-made}
 use Rattle.rst_text.proofs.Words.{Spaces, Spaces-start, Spaces-white, Spaces-word, Spaces-due, Spaces-end}
 use Rattle.rst_text.proofs.names.spaced.Goals as goal
 use Rattle.rst_text.proofs.names.spaced.Goals.{then-due+in_ok-push, else-due}
@@ -22,4 +24,4 @@ loop-c-preserved g c = elim c.if-due.branch [
 ]
 
 pub returns : goal.returns
-returns g c = Spaces-end _ _ _ _ _ _ c.loop-c.invariant c.in-None.ensures.steps.0.0
+returns g c = chars-made _ _ (IsUtf8-string_bytes c.loop-c.out) (Spaces-end _ _ _ _ _ _ c.loop-c.invariant c.in-None.ensures.steps.0.0)
