@@ -7,7 +7,6 @@ use Rattle.std.proofs.Math.Nat.{min-le_right}
 use Rattle.std.proofs.lemmas.Bool.{eqb-true}
 use Rattle.std.proofs.lemmas.List.{append-nil, drop_all, drop-take, take_min, drop_min, length-take}
 use Rattle.std.proofs.lemmas.Str.{chars_from_encodes, encodes-chars, IsUtf8-string_bytes}
-use Rattle.rst_text.specs.Text.{chars_of}
 use Rattle.rst_tree.specs.Forest.{bare, words}
 use Rattle.rst_tree.specs.declared.node.Node.TheVariants.{Text as Words}
 use Rattle.rst_inline_scan.specs.Characters.{Text}
@@ -30,10 +29,6 @@ part-is t low high h l top bottom =
 -- the characters of a text that some characters spell
 pub chars-spelled : {A : Type 0} (s : String A) (cs : Text) → string_bytes s ≡ spelled cs → chars (string_bytes s) ≡ cs
 chars-spelled s cs e = sym (chars_from_encodes cs (string_bytes s) (IsUtf8-string_bytes s) (sym e))
-
--- the bytes of a text with some characters
-pub spelled-chars : {A : Type 0} (s : String A) (cs : Text) → chars_of s ≡ cs → string_bytes s ≡ spelled cs
-spelled-chars s cs e = sym (encodes-chars (string_bytes s) (IsUtf8-string_bytes s)) ∙ ap encode_utf8_all e
 
 -- what is written when no character is left is all
 pub all-written : (out : List ℕ) (cs : Text) (i : ℕ) → length cs ≤ i → out ++ encode_utf8_all (drop i cs) ≡ spelled cs → out ≡ spelled cs

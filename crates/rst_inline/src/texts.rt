@@ -10,7 +10,7 @@ ghost use Rattle.rst_inline.specs.Faults.{Gives};
 
 use super::fault::InlineFault;
 use rst_inline_scan::unescaped;
-use rst_text::{characters_of, name_of, normalized_white};
+use rst_text::{characters_of, name_borrowed, normalized_borrowed};
 use rst_tree::{Text, Value};
 use std::alloc::{AllocError, Global};
 
@@ -51,16 +51,16 @@ pub(crate) fn said(alloc: Global, text: &str) -> Result<Value, InlineFault>
 pub(crate) fn name_said(alloc: Global, text: &str) -> Result<Value, InlineFault>
     ensures { Gives (λ value. value ≡ said (names.name_of (chars text.now))) result }
 {
-    let name = name_of(alloc, text)?;
-    Ok(Value::Text(Text::new(name)))
+    let name = name_borrowed(alloc, text)?;
+    said(alloc, name.as_str())
 }
 
 /// A value that says a text with each run of white characters as one space, and none at the ends.
 pub(crate) fn normalized_said(alloc: Global, text: &str) -> Result<Value, InlineFault>
     ensures { Gives (λ value. value ≡ said (names.normalized_white (chars text.now))) result }
 {
-    let name = normalized_white(alloc, text)?;
-    Ok(Value::Text(Text::new(name)))
+    let name = normalized_borrowed(alloc, text)?;
+    said(alloc, name.as_str())
 }
 
 /// The characters from a place on, up to another place.
