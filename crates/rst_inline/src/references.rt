@@ -11,6 +11,7 @@ use rst_inline_scan::Suffix;
 use rst_tree::{Attrs, Children, Entry, Key, Node, Tag, Value};
 use std::alloc::Global;
 
+/// The attributes of a reference by the name that it shows, with room for the one that tells where it leads, once that is found.
 fn reference_attrs(
     alloc: Global,
     suffix: Suffix,
@@ -21,21 +22,20 @@ fn reference_attrs(
 {
     let name = normalized_said(alloc, shown)?;
     let written = said(alloc, source)?;
-    let attrs = match suffix {
-        Suffix::Anonymous => vec![in alloc;
-            Entry::new(Key::Anonymous, Value::Number(1)),
-            Entry::new(Key::Name, name),
-            Entry::new(Key::Rawsource, written),
-        ]?,
+    let mut attrs = Vec::with_capacity(alloc, 4)?;
+    match suffix {
+        Suffix::Anonymous => {
+            attrs.push_reserved(Entry::new(Key::Anonymous, Value::Number(1)));
+            attrs.push_reserved(Entry::new(Key::Name, name));
+            attrs.push_reserved(Entry::new(Key::Rawsource, written));
+        }
         _ => {
             let refname = name_said(alloc, shown)?;
-            vec![in alloc;
-                Entry::new(Key::Name, name),
-                Entry::new(Key::Rawsource, written),
-                Entry::new(Key::Refname, refname),
-            ]?
+            attrs.push_reserved(Entry::new(Key::Name, name));
+            attrs.push_reserved(Entry::new(Key::Rawsource, written));
+            attrs.push_reserved(Entry::new(Key::Refname, refname));
         }
-    };
+    }
     Ok(attrs)
 }
 
@@ -79,11 +79,10 @@ pub(crate) fn alias_reference(
     let name = normalized_said(alloc, shown)?;
     let written = said(alloc, source)?;
     let refname = name_said(alloc, alias)?;
-    let attrs = vec![in alloc;
-        Entry::new(Key::Name, name),
-        Entry::new(Key::Rawsource, written),
-        Entry::new(Key::Refname, refname),
-    ]?;
+    let mut attrs = Vec::with_capacity(alloc, 4)?;
+    attrs.push_reserved(Entry::new(Key::Name, name));
+    attrs.push_reserved(Entry::new(Key::Rawsource, written));
+    attrs.push_reserved(Entry::new(Key::Refname, refname));
     element(alloc, Tag::Reference, attrs, shown, line)
 }
 
