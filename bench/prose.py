@@ -147,9 +147,9 @@ class Plain(Prose):
         return self.rng.choice(marks).format(word, other)
 
 
-def plain(size):
-    """Plain paragraphs with ordinary punctuation, about `size` bytes."""
-    made = Plain(WORDS)
+def plain(size, words=None):
+    """Plain paragraphs with ordinary punctuation, about `size` characters of these words (by default English ones)."""
+    made = Plain(words or WORDS)
     while made.size < size:
         made.put(f"{made.text(20, 120)}\n\n")
     return "".join(made.parts)

@@ -41,6 +41,7 @@ DOCUMENTS = {
     "plain paragraphs": plain,
     "mixed": mixed,
     "Russian prose": lambda size: prose(size // 2, RUSSIAN),
+    "plain Russian": lambda size: plain(size // 2, RUSSIAN),
     "French prose": lambda size: prose(size, FRENCH),
     "Chinese prose": lambda size: prose(size // 3, CHINESE),
 }
