@@ -77,7 +77,7 @@ pub fn has(text: &[char], place: usize, c: char) -> bool
 pub fn without_white(alloc: Global, text: &[char]) -> Result<Vec<char>, AllocError>
     ensures { IfOk result (λ dark. dark.items ≡ without_white text.now) }
 {
-    let mut dark = Vec::new(alloc);
+    let mut dark = Vec::with_capacity(alloc, text.len())?;
     for c in text {
         if !is_white(*c) {
             dark.push(*c)?;
