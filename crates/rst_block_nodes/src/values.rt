@@ -1,5 +1,6 @@
 //! Texts as values of attributes.
 ghost use Rattle.std.specs.Prelude.{◌≡◌, string_bytes};
+ghost use Rattle.std.specs.Cow.{cow_str_bytes};
 ghost use Rattle.rst_tree.specs.Faults.{Gives};
 ghost use Rattle.rst_tree.specs.declared.attrs.Value.TheVariants.{Text as Said};
 ghost use Rattle.rst_block_nodes.specs.Values.{name_in, normalized, unescaped, identifier, listed};
@@ -8,6 +9,7 @@ use rst_inline::unescape;
 use rst_text::{id_of, name_of, normalized_white};
 use rst_tree::{Text, Texts, TreeFault, Value};
 use std::alloc::Global;
+use std::borrow::CowStr;
 
 /// A value that says a text.
 pub(crate) fn said(alloc: Global, text: &str) -> Result<Value, TreeFault>
@@ -39,13 +41,16 @@ pub(crate) fn normalized(alloc: Global, text: &str) -> Result<String, TreeFault>
     }
 }
 
-/// A text without its escapes.
+/// A text without its escapes. Most texts have none, and aren't copied for them.
 #[tactic(auto, using(crate::proofs::TextLemmas::bytes_of_chars))]
-pub(crate) fn unescaped(alloc: Global, text: &str) -> Result<String, TreeFault>
-    ensures { Gives (λ shown. string_bytes shown ≡ unescaped text.now) result }
+pub(crate) fn unescaped(alloc: Global, text: &str) -> Result<CowStr<'_, Global>, TreeFault>
+    ensures { Gives (λ shown. cow_str_bytes shown ≡ unescaped text.now) result }
 {
+    if !text.as_bytes().contains(&b'\\') {
+        return Ok(CowStr::Borrowed(text));
+    }
     match unescape(alloc, text) {
-        Ok(shown) => Ok(shown),
+        Ok(shown) => Ok(CowStr::Owned(shown)),
         Err(_) => Err(TreeFault::NoMemory),
     }
 }
