@@ -3,6 +3,7 @@ pub mod Powers
 pub mod Numbers
 pub mod Words
 pub mod TargetTexts
+pub mod PlainUris
 pub mod Joins
 pub mod ClassLemmas
 pub mod Runs

@@ -6,31 +6,31 @@ use Rattle.rst_markup_directives.specs.Characters.{unindented}
 use Rattle.rst_markup_directives.specs.Target.{lines_in, filled, target_text}
 
 -- what the characters that are left give: `begun` says that a character was written, `fresh` that the line has had nothing
--- but spaces, `due` that a line feed comes before the next character
-abbrev pub text_from : Bool → Bool → Bool → List ℕ → List ℕ
-text_from begun fresh due [] = []
-text_from begun fresh due (c ∷ cs) =
-    if eqb c 10 then text_from begun true begun cs
-    else if fresh && eqb c 32 then text_from begun fresh due cs
-    else if due then 10 ∷ c ∷ text_from true false false cs
-    else c ∷ text_from true false false cs
+-- but spaces
+abbrev pub text_from : Bool → Bool → List ℕ → List ℕ
+text_from begun fresh [] = []
+text_from begun fresh (c ∷ cs) =
+    if eqb c 10 then text_from begun true cs
+    else if fresh && eqb c 32 then text_from begun fresh cs
+    else if fresh && begun then 10 ∷ c ∷ text_from true false cs
+    else c ∷ text_from true false cs
 
 -- ---- steps of the pass
 
-text-end : (begun fresh due : Bool) (c : ℕ) (cs : List ℕ) → eqb c 10 ≡ true → text_from begun fresh due (c ∷ cs) ≡ text_from begun true begun cs
-text-end begun fresh due c cs h = rw h refl
+text-end : (begun fresh : Bool) (c : ℕ) (cs : List ℕ) → eqb c 10 ≡ true → text_from begun fresh (c ∷ cs) ≡ text_from begun true cs
+text-end begun fresh c cs h = rw h refl
 
-text-space : (begun due : Bool) (c : ℕ) (cs : List ℕ) → eqb c 10 ≡ false → eqb c 32 ≡ true → text_from begun true due (c ∷ cs) ≡ text_from begun true due cs
-text-space begun due c cs h k = rw (h, k) refl
+text-space : (begun : Bool) (c : ℕ) (cs : List ℕ) → eqb c 10 ≡ false → eqb c 32 ≡ true → text_from begun true (c ∷ cs) ≡ text_from begun true cs
+text-space begun c cs h k = rw (h, k) refl
 
-text-due : (begun : Bool) (c : ℕ) (cs : List ℕ) → eqb c 10 ≡ false → eqb c 32 ≡ false → text_from begun true true (c ∷ cs) ≡ 10 ∷ c ∷ text_from true false false cs
-text-due begun c cs h k = rw (h, k) refl
+text-due : (c : ℕ) (cs : List ℕ) → eqb c 10 ≡ false → eqb c 32 ≡ false → text_from true true (c ∷ cs) ≡ 10 ∷ c ∷ text_from true false cs
+text-due c cs h k = rw (h, k) refl
 
-text-first : (begun : Bool) (c : ℕ) (cs : List ℕ) → eqb c 10 ≡ false → eqb c 32 ≡ false → text_from begun true false (c ∷ cs) ≡ c ∷ text_from true false false cs
-text-first begun c cs h k = rw (h, k) refl
+pub text-first : (c : ℕ) (cs : List ℕ) → eqb c 10 ≡ false → eqb c 32 ≡ false → text_from false true (c ∷ cs) ≡ c ∷ text_from true false cs
+text-first c cs h k = rw (h, k) refl
 
-text-more : (begun : Bool) (c : ℕ) (cs : List ℕ) → eqb c 10 ≡ false → text_from begun false false (c ∷ cs) ≡ c ∷ text_from true false false cs
-text-more begun c cs h = rw h refl
+pub text-more : (c : ℕ) (cs : List ℕ) → eqb c 10 ≡ false → text_from true false (c ∷ cs) ≡ c ∷ text_from true false cs
+text-more c cs h = rw h refl
 
 -- ---- lines
 
@@ -102,34 +102,34 @@ further-words : (c : ℕ) (cs : List ℕ) → eqb c 10 ≡ false → eqb c 32 �
 further-words c cs h k l = ap (λ ts. 10 ∷ c ∷ behind ts) l.2 ∙ ap (λ t. 10 ∷ t) (sym (further-first (c ∷ l.0) (kept l.1))) ∙ sym (ap further (kept-word c l.0 l.1 k)) ∙ sym (ap (λ ts. further (kept ts)) (first-more c cs l.0 l.1 h l.2))
 
 mutual
-  text-behind : (cs : List ℕ) → text_from true false false cs ≡ behind (lines_in cs)
+  text-behind : (cs : List ℕ) → text_from true false cs ≡ behind (lines_in cs)
   text-behind [] = refl
   text-behind (c ∷ cs) = elim (cases_bool (eqb c 10)) [
-    | inl h ↦ text-end true false false c cs h ∙ text-lines cs ∙ sym (ap behind (lines-end c cs h))
-    | inr h ↦ text-more true c cs h ∙ ap (λ l. c ∷ l) (text-behind cs) ∙ behind-more c cs h (first_line cs)
+    | inl h ↦ text-end true false c cs h ∙ text-lines cs ∙ sym (ap behind (lines-end c cs h))
+    | inr h ↦ text-more c cs h ∙ ap (λ l. c ∷ l) (text-behind cs) ∙ behind-more c cs h (first_line cs)
   ]
 
-  text-lines : (cs : List ℕ) → text_from true true true cs ≡ further (kept (lines_in cs))
+  text-lines : (cs : List ℕ) → text_from true true cs ≡ further (kept (lines_in cs))
   text-lines [] = refl
   text-lines (c ∷ cs) = elim (cases_bool (eqb c 10)) [
-    | inl h ↦ text-end true true true c cs h ∙ text-lines cs ∙ sym (ap (λ ts. further (kept ts)) (lines-end c cs h))
+    | inl h ↦ text-end true true c cs h ∙ text-lines cs ∙ sym (ap (λ ts. further (kept ts)) (lines-end c cs h))
     | inr h ↦ elim (cases_bool (eqb c 32)) [
-      | inl k ↦ text-space true true c cs h k ∙ text-lines cs ∙ ap further (kept-spaces c cs h k (first_line cs))
-      | inr k ↦ text-due true c cs h k ∙ ap (λ l. 10 ∷ c ∷ l) (text-behind cs) ∙ further-words c cs h k (first_line cs)
+      | inl k ↦ text-space true c cs h k ∙ text-lines cs ∙ ap further (kept-spaces c cs h k (first_line cs))
+      | inr k ↦ text-due c cs h k ∙ ap (λ l. 10 ∷ c ∷ l) (text-behind cs) ∙ further-words c cs h k (first_line cs)
     ]
   ]
 
-text-start : (cs : List ℕ) → text_from false true false cs ≡ join_with_byte 10 (kept (lines_in cs))
+text-start : (cs : List ℕ) → text_from false true cs ≡ join_with_byte 10 (kept (lines_in cs))
 text-start [] = refl
 text-start (c ∷ cs) = elim (cases_bool (eqb c 10)) [
-  | inl h ↦ text-end false true false c cs h ∙ text-start cs ∙ sym (ap (λ ts. join_with_byte 10 (kept ts)) (lines-end c cs h))
+  | inl h ↦ text-end false true c cs h ∙ text-start cs ∙ sym (ap (λ ts. join_with_byte 10 (kept ts)) (lines-end c cs h))
   | inr h ↦ elim (cases_bool (eqb c 32)) [
-    | inl k ↦ text-space false false c cs h k ∙ text-start cs ∙ ap (join_with_byte 10) (kept-spaces c cs h k (first_line cs))
-    | inr k ↦ text-first false c cs h k ∙ ap (λ l. c ∷ l) (text-behind cs) ∙ join-words c cs h k (first_line cs)
+    | inl k ↦ text-space false c cs h k ∙ text-start cs ∙ ap (join_with_byte 10) (kept-spaces c cs h k (first_line cs))
+    | inr k ↦ text-first c cs h k ∙ ap (λ l. c ∷ l) (text-behind cs) ∙ join-words c cs h k (first_line cs)
   ]
 ]
 
 -- One pass over a text gives its lines without their indentation, joined, empty ones left out.
-pub text_from-start : (cs : List ℕ) → text_from false true false cs ≡ target_text cs
+pub text_from-start : (cs : List ℕ) → text_from false true cs ≡ target_text cs
 unfolding target_text
 text_from-start cs = text-start cs

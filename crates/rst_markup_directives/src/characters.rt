@@ -99,7 +99,7 @@ pub(crate) fn is_exactly(text: &[char], word: &str) -> bool
 pub(crate) fn text_from(alloc: Global, characters: &[char]) -> Result<String, AllocError>
     ensures { IfOk result (λ text. chars_of text ≡ characters.now) }
 {
-    let mut text = String::new(alloc);
+    let mut text = String::with_capacity(alloc, characters.len())?;
     for c in characters {
         text.push(*c)?;
     }

@@ -7,7 +7,7 @@ ghost use Rattle.rst_inline_scan.specs.Escapes.{unescaped};
 ghost use Rattle.rst_markup_directives.specs.Escapes as escapes;
 ghost use Rattle.rst_markup_directives.specs.Target as spec;
 
-use super::characters::text_from;
+use super::characters::{is_blank, text_from};
 use super::fault::MarkupFault;
 use rst_inline_scan::{escapes, has, is_dark, is_simple_name, unescaped, without_white};
 use rst_text::characters_of;
@@ -30,9 +30,26 @@ pub enum Target {
 pub fn target_value(alloc: Global, text: &str) -> Result<Option<Target>, MarkupFault>
     ensures { Gives (λ target. option_map spec.destination_of target ≡ spec.target_value (chars text.now)) result }
 {
+    if is_plain_uri(text) {
+        let uri = String::from_str(alloc, text)?;
+        return Ok(Some(Target::Uri(uri)));
+    }
     let characters = characters_of(alloc, text)?;
     let text = target_text(alloc, &characters)?;
     destination_in(alloc, &text)
+}
+
+/// Whether a text means the URI that it is, as most do: it is ASCII without white characters and escapes, and ends in no `_`.
+fn is_plain_uri(text: &str) -> bool
+    ensures { IsTrue result → (spec.target_value (chars text.now) ≡ Some (spec.located (chars text.now))) }
+{
+    let bytes = text.as_bytes();
+    if bytes.is_empty() || bytes[bytes.len() - 1] == b'_' {
+        return false;
+    }
+    bytes
+        .iter()
+        .all(|byte| byte.is_ascii_graphic() && *byte != b'\\')
 }
 
 /// What a text means as the text of a target.
@@ -68,16 +85,10 @@ fn located(alloc: Global, text: &[char]) -> Result<Option<Target>, MarkupFault>
 {
     let bare = unescaped(alloc, text)?;
     let uri = without_white(alloc, &bare)?;
-    located_if(alloc, &uri)
-}
-
-fn located_if(alloc: Global, uri: &[char]) -> Result<Option<Target>, MarkupFault>
-    ensures { Gives (λ target. option_map spec.destination_of target ≡ spec.located_if uri.now) result }
-{
-    if uri.is_empty() {
+    if is_blank(&uri) {
         return Ok(None);
     }
-    let uri = text_from(alloc, uri)?;
+    let uri = text_from(alloc, &uri)?;
     Ok(Some(Target::Uri(uri)))
 }
 
@@ -85,22 +96,19 @@ fn located_if(alloc: Global, uri: &[char]) -> Result<Option<Target>, MarkupFault
 fn target_text(alloc: Global, text: &[char]) -> Result<Vec<char>, AllocError>
     ensures { IfOk result (λ joined. joined.items ≡ spec.target_text text.now) }
 {
-    let mut joined = Vec::new(alloc);
+    let mut joined = Vec::with_capacity(alloc, text.len())?;
     let mut begun = false;
     let mut fresh = true;
-    let mut due = false;
     for c in text {
         if *c == '\n' {
-            due = begun;
             fresh = true;
             continue;
         }
         if fresh && *c == ' ' {
             continue;
         }
-        if due {
+        if fresh && begun {
             joined.push('\n')?;
-            due = false;
         }
         joined.push(*c)?;
         begun = true;

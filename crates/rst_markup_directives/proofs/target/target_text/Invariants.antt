@@ -5,4 +5,4 @@ use Rattle.rst_markup_directives.proofs.target.target_text.Given as goal
 
 -- what is written, and what the characters that are left give, are the text
 abbrev pub invariant-loop-c : goal.invariant-loop-c
-invariant-loop-c l = l.joined.items ++ text_from l.begun l.fresh l.due (drop l.c-index l.text) ≡ target_text l.text
+invariant-loop-c l = l.joined.items ++ text_from l.begun l.fresh (drop l.c-index l.text) ≡ target_text l.text
