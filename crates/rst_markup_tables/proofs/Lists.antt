@@ -1,9 +1,11 @@
 -- Lists that are read an item at a time.
-use Rattle.std.proofs.Common.{◌≡◌, ℕ, zero, suc, ◌+◌, ◌-◌, ◌<◌, ◌≤◌, Bool, true, false, cond, List, [], ◌∷◌, ◌++◌, get_or, length, drop, take, map, filter, count_by, refl, sym, ap, ap₂, ◌∙◌, arith, append_assoc, add-one}
+use Rattle.std.proofs.Common.{◌≡◌, ℕ, zero, suc, ◌+◌, ◌-◌, ◌<◌, ◌≤◌, Bool, true, false, cond, List, [], ◌∷◌, ◌++◌, get_or, length, drop, take, map, filter, count_by, refl, sym, ap, ap₂, ◌∙◌, arith, append_assoc, add-one, Option, Some, None}
 use Rattle.std.proofs.lemmas.List.{drop_more}
 use Rattle.std.proofs.lemmas.List.Sums.{sum_by_push}
 use Rattle.std.proofs.Math.Seq.{take-append_seam}
 use Rattle.rst_text.specs.Places.{first_from}
+use Rattle.rst_text.proofs.PlacesLemmas.{first_from-is}
+use Rattle.std.specs.Option.{MatchOption}
 use Rattle.std.specs.List.{range_with_len}
 use Rattle.rst_markup_tables.specs.Counts.{below}
 
@@ -18,6 +20,12 @@ left_more k high h = omega arith
 
 pub first_from-more : (p : ℕ → Bool) (k high : ℕ) → k < high → p k ≡ false → first_from p k (high - k) ≡ first_from p (k + 1) (high - (k + 1))
 first_from-more p k high h e = ap (first_from p k) (left_more k high h) ∙ rw e refl
+
+-- what `find` gives, said of the numbers from `low` up to `high`
+pub first_from-found : (p : ℕ → Bool) (low high : ℕ) (r : Option ℕ)
+    → MatchOption r ((k : ℕ) → low ≤ k → k < high → p k ≡ false) (λ i. (low ≤ i) × (i < high) × (p i ≡ true) × ((k : ℕ) → low ≤ k → k < i → p k ≡ false)) → r ≡ first_from p low (high - low)
+first_from-found p low high None h = first_from-is p low high None h
+first_from-found p low high (Some i) h = first_from-is p low high (Some i) h
 
 pub all_from-take : (p : ℕ → Bool) (k high : ℕ) → k < high → p k ≡ true → filter p (range_with_len k (high - k)) ≡ k ∷ filter p (range_with_len (k + 1) (high - (k + 1)))
 all_from-take p k high h e = ap (λ n. filter p (range_with_len k n)) (left_more k high h) ∙ rw e refl

@@ -7,7 +7,7 @@ use Rattle.rst_markup_tables.specs.declared.results.TableDetail.TheVariants.{Bot
 abbrev pub detail_text : TableDetail → List ℕ
 detail_text BottomBorderMissing = codes "Bottom border missing."
 detail_text RightEdgeBroken = codes "Right edge broken."
-detail_text (TwoHeadRules first second) = codes "Multiple head/body row separators (table lines " ++ decimal first ++ codes " and " ++ decimal second ++ codes "); only one allowed."
+detail_text (TwoHeadRules first second) = codes "Multiple head/body row separators (table lines " ++ (decimal first ++ (codes " and " ++ (decimal second ++ codes "); only one allowed.")))
 detail_text ParseIncomplete = codes "Malformed table; parse incomplete."
 detail_text BorderMismatch = codes "Bottom border or header rule does not match top border."
 detail_text BottomMissing = codes "No bottom table border found."

@@ -106,11 +106,7 @@ fn cell_texts(
 pub(crate) fn all_places(alloc: Global, lines: &[TableLine]) -> Result<Vec<usize>, AllocError>
     ensures { IfOk result (λ places. places.items ≡ range_with_len 0 (length lines.now)) }
 {
-    let mut places = Vec::with_capacity(alloc, lines.len())?;
-    for k in 0..lines.len() {
-        places.push(k)?;
-    }
-    Ok(places)
+    (0..lines.len()).collect(alloc)
 }
 
 /// Those of some places at which a line is longer than `n` places.

@@ -12,7 +12,7 @@ ghost use Rattle.rst_markup_tables.specs.Places.{AreNumbered, rows_of};
 ghost use Rattle.rst_markup_tables.specs.GridTable as spec;
 
 use super::drawn::is_upright;
-use super::places::{Place, TableLine, line_of, mark_at, width};
+use super::places::{Place, TableLine, line_of, mark_at, row_at, width};
 use super::results::TableDetail;
 use rst_markup_blocks::is_drawn;
 use rst_markup_lines::is_grid_border;
@@ -105,12 +105,7 @@ fn is_part(place: Place) -> bool
 fn are_parts(row: &[Place]) -> bool
     ensures { result ≡ list_all spec.is_part row.now }
 {
-    for place in row {
-        if !is_part(*place) {
-            return false;
-        }
-    }
-    true
+    row.iter().all(|place| is_part(*place))
 }
 
 /// Whether a row begins with `+=` and ends with `=+`.
@@ -143,12 +138,7 @@ fn is_square(lines: &[TableLine]) -> bool
     ensures { result ≡ spec.is_square lines.now }
 {
     let wide = width(lines);
-    for line in lines {
-        if !is_whole(wide, line.places()) {
-            return false;
-        }
-    }
-    true
+    lines.iter().all(|line| is_whole(wide, line.places()))
 }
 
 /// The first line from place `low` on that is a rule between head and body.
@@ -156,27 +146,21 @@ pub(crate) fn head_from(lines: &[TableLine], low: usize) -> Option<usize>
     ensures value { result ≡ spec.head_from lines.now low }
     ensures within { IfSome result (λ k. k < length lines.now) }
 {
-    for k in low..lines.len() {
-        if is_head_rule(lines[k].places()) {
-            return Some(k);
-        }
-    }
-    None
+    (low..lines.len()).find(|k| is_head_rule(row_at(lines, *k)))
 }
 
-/// The first fault of the table's lines.
-pub(crate) fn row_fault(lines: &[TableLine]) -> Option<TableDetail>
-    ensures { result ≡ spec.row_fault lines.now }
+/// The first fault of the table's lines, the last of which is the bottom border, if there is one.
+pub(crate) fn grid_fault(bottom: Option<usize>, lines: &[TableLine]) -> Option<TableDetail>
+    ensures { result ≡ spec.grid_fault bottom lines.now }
 {
+    if bottom.is_none() {
+        return Some(TableDetail::BottomBorderMissing);
+    }
     if !is_square(lines) {
         return Some(TableDetail::RightEdgeBroken);
     }
-    let Some(first) = head_from(lines, 0) else {
-        return None;
-    };
-    let Some(second) = head_from(lines, first + 1) else {
-        return None;
-    };
+    let first = head_from(lines, 0)?;
+    let second = head_from(lines, first + 1)?;
     Some(TableDetail::TwoHeadRules {
         first: first + 1,
         second: second + 1,

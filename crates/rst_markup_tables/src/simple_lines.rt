@@ -22,12 +22,7 @@ fn is_stroke(mark: char, place: Place) -> bool
 fn are_strokes(mark: char, row: &[Place]) -> bool
     ensures { result ≡ list_all (spec.is_stroke mark) row.now }
 {
-    for place in row {
-        if !is_stroke(mark, *place) {
-            return false;
-        }
-    }
-    true
+    row.iter().all(|place| is_stroke(mark, *place))
 }
 
 /// Whether a row begins with the mark, and holds only it and spaces.

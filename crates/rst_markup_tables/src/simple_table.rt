@@ -1,5 +1,5 @@
 //! Simple tables.
-ghost use Rattle.std.specs.Prelude.{◌≡◌, ◌+◌, ◌-◌, ◌*◌, ◌^◌, ◌<◌, ◌≤◌, drop, get_or, length, IfOk};
+ghost use Rattle.std.specs.Prelude.{◌≡◌, ◌+◌, ◌-◌, ◌*◌, ◌^◌, ◌<◌, ◌≤◌, drop, length, IfOk};
 ghost use Rattle.rst_text.specs.Looked.{capped};
 ghost use Rattle.rst_text.specs.Shown.{block_of};
 ghost use Rattle.rst_markup_tables.specs.Ends.{end_of};
@@ -7,30 +7,16 @@ ghost use Rattle.rst_markup_tables.specs.Places.{AreNumbered};
 ghost use Rattle.rst_markup_tables.specs.SimpleTable as spec;
 ghost use Rattle.rst_markup_blocks.specs.TableRows.{simple_size, simple_scan};
 
-use super::places::TableLine;
+use super::places::{TableLine, row_at};
 use super::results::{TableDetail, TableResult};
-use super::simple_cells::{all_entries, head_size, widths};
+use super::simple_cells::head_size;
 use super::simple_lines::{border_fault, read_lines};
-use super::simple_rows::{columns_of, first_in_margin, first_unaligned, rules_of, simple_rows};
-use super::spans::RuleSpan;
+use super::simple_rows::{SimpleLines, rules_of};
+use super::spans::spans_of;
 use super::table::malformed;
 use rst_markup_blocks::simple_borders;
 use rst_text::{Looks, View};
 use std::alloc::{AllocError, Global};
-
-/// The first column.
-fn first_column(columns: &[RuleSpan]) -> RuleSpan
-    ensures { result ≡ get_or columns.now 0 spec.no_span }
-{
-    match columns.first() {
-        Some(column) => *column,
-        None => RuleSpan {
-            from: 0,
-            to: 0,
-            columns: 0,
-        },
-    }
-}
 
 /// What the lines of a table are. The first has this number and stands at place `first`; the line at place `head` of the
 /// table closes its head.
@@ -46,21 +32,26 @@ fn simple_of(
     ensures { IfOk result (λ table. table ≡ spec.simple_by line first head lines.now (spec.lines_fault lines.now)) }
 {
     let size = lines.len();
-    let columns = columns_of(alloc, lines)?;
+    let columns = spans_of(alloc, row_at(lines, 0))?;
+    let table = SimpleLines {
+        alloc,
+        lines,
+        columns: &columns,
+    };
     let rules = rules_of(alloc, lines)?;
-    if let Some(rule) = first_unaligned(alloc, lines, &columns, &rules)? {
+    if let Some(rule) = table.first_unaligned(&rules)? {
         let detail = TableDetail::ColumnSpan { line: rule + 1 };
         return Ok(malformed(line, first, size, detail));
     }
-    let rows = simple_rows(alloc, lines, first_column(&columns), &rules)?;
-    if let Some(k) = first_in_margin(alloc, lines, &columns, &rows)? {
+    let rows = table.rows(&rules)?;
+    if let Some(k) = table.first_in_margin(&rows)? {
         let detail = TableDetail::Margin { line: k + 1 };
         return Ok(malformed(line, first, size, detail));
     }
     Ok(TableResult::Table {
-        cols: widths(alloc, lines, &columns, &rows)?,
+        cols: table.widths(&rows)?,
         head: head_size(head, &rows),
-        rows: all_entries(alloc, lines, &columns, &rows)?,
+        rows: table.all_entries(&rows)?,
         end: first + size,
     })
 }

@@ -13,6 +13,18 @@ pub(crate) struct RuleSpan {
     pub(crate) columns: usize,
 }
 
+/// One of some spans; there is nothing in a span past the last.
+pub(crate) fn span_of(spans: &[RuleSpan], k: usize) -> RuleSpan
+    ensures { result ≡ spec.span_of spans.now k }
+{
+    let none = RuleSpan {
+        from: 0,
+        to: 0,
+        columns: 0,
+    };
+    spans.get(k).copied().unwrap_or(none)
+}
+
 fn is_space(row: &[Place], place: usize) -> bool
     ensures { result ≡ spec.is_space row.now place }
 {
@@ -23,12 +35,9 @@ fn is_space(row: &[Place], place: usize) -> bool
 fn span_end(row: &[Place], from: usize) -> usize
     ensures { result ≡ spec.span_end row.now from }
 {
-    for place in from..row.len() {
-        if is_space(row, place) {
-            return place;
-        }
-    }
-    row.len()
+    (from..row.len())
+        .find(|place| is_space(row, *place))
+        .unwrap_or(row.len())
 }
 
 /// The runs of marks in a row, each as one column.
@@ -59,12 +68,7 @@ fn ending(columns: &[RuleSpan], to: usize) -> Option<usize>
     ensures value { result ≡ position (λ c. c.to == to) columns.now }
     ensures fits { IfSome result (λ k. k + 1 < 2 ^ 64) }
 {
-    for place in 0..columns.len() {
-        if columns[place].to == to {
-            return Some(place);
-        }
-    }
-    None
+    columns.iter().position(|column| column.to == to)
 }
 
 /// The place of the last column that a span joins, if it begins where the first does and ends where a column does.
@@ -72,16 +76,11 @@ fn last_joined(columns: &[RuleSpan], span: RuleSpan) -> Option<usize>
     ensures value { result ≡ spec.last_joined columns.now span }
     ensures fits { IfSome result (λ k. k + 1 < 2 ^ 64) }
 {
-    match columns.first() {
-        Some(first) => {
-            if first.from == span.from {
-                ending(columns, span.to)
-            } else {
-                None
-            }
-        }
-        None => None,
+    let first = columns.first()?;
+    if first.from != span.from {
+        return None;
     }
+    ending(columns, span.to)
 }
 
 /// The spans behind the first `n`; of fewer nothing is left.
@@ -107,11 +106,7 @@ pub(crate) fn spread(
             return Ok(None);
         };
         let columns = last + 1;
-        wide.push(RuleSpan {
-            from: span.from,
-            to: span.to,
-            columns,
-        })?;
+        wide.push(RuleSpan { columns, ..*span })?;
         left = behind(left, columns);
     }
     if left.is_empty() {

@@ -9,8 +9,7 @@ ghost use Rattle.rst_markup_blocks.specs.TableRows.{grid_size, grid_scan};
 
 use super::drawn::tiling;
 use super::grid_cells::tiled;
-use super::grid_lines::{GridLines, grid_lines, head_from, put_dashes, row_fault};
-use super::places::TableLine;
+use super::grid_lines::{GridLines, grid_fault, grid_lines, head_from, put_dashes};
 use super::results::{TableDetail, TableFault, TableResult};
 use rst_text::{Looks, View};
 use std::alloc::{AllocError, Global};
@@ -33,31 +32,6 @@ pub(crate) fn malformed(line: usize, first: usize, size: usize, detail: TableDet
 }
 
 /// What the lines of a table are. The first has this number and stands at place `first`.
-fn grid_of_rows(
-    alloc: Global,
-    line: usize,
-    first: usize,
-    lines: Vec<TableLine>,
-) -> Result<TableResult, AllocError>
-    requires fits { first + length lines.items < 2 ^ 64 }
-    requires numbered { AreNumbered lines.items }
-    ensures { IfOk result (spec.IsOfRows line first lines.items (spec.row_fault lines.items)) }
-{
-    let mut lines = lines;
-    let size = lines.len();
-    if let Some(detail) = row_fault(&lines) {
-        return Ok(malformed(line, first, size, detail));
-    }
-    let head = head_from(&lines, 0);
-    put_dashes(alloc, &mut lines, head)?;
-    let Some(rectangles) = tiling(alloc, &lines)? else {
-        return Ok(malformed(line, first, size, TableDetail::ParseIncomplete));
-    };
-    let table = tiled(alloc, &lines, &rectangles, head, first + size)?;
-    Ok(table)
-}
-
-/// What the lines of a table are, by whether its bottom border is there.
 fn grid_of(
     alloc: Global,
     line: usize,
@@ -68,11 +42,17 @@ fn grid_of(
     requires numbered { AreNumbered found.lines.items }
     ensures { IfOk result (spec.IsOfRows line first found.lines.items (spec.grid_fault found.bottom found.lines.items)) }
 {
-    if found.bottom.is_none() {
-        let size = found.lines.len();
-        return Ok(malformed(line, first, size, TableDetail::BottomBorderMissing));
+    let mut lines = found.lines;
+    let size = lines.len();
+    if let Some(detail) = grid_fault(found.bottom, &lines) {
+        return Ok(malformed(line, first, size, detail));
     }
-    let table = grid_of_rows(alloc, line, first, found.lines)?;
+    let head = head_from(&lines, 0);
+    put_dashes(alloc, &mut lines, head)?;
+    let Some(rectangles) = tiling(alloc, &lines)? else {
+        return Ok(malformed(line, first, size, TableDetail::ParseIncomplete));
+    };
+    let table = tiled(alloc, &lines, &rectangles, head, first + size)?;
     Ok(table)
 }
 

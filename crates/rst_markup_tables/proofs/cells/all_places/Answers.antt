@@ -1,9 +1,6 @@
-use Rattle.std.proofs.Common.{◌∙◌, ◌++◌, ◌∷◌, [], sym, ap, arith, add-one}
-use Rattle.std.specs.List.{range_with_len}
-use Rattle.rst_markup_tables.proofs.Lists.{range_more}
+use Rattle.std.proofs.Common.{◌-◌, length, refl, arith}
+use Rattle.std.proofs.lemmas.Iterator.{YieldsList-from_range, items_from_collect}
 use Rattle.rst_markup_tables.proofs.cells.all_places.Goals as goal
 
-pub loop-k-preserved : goal.loop-k-preserved
-loop-k-preserved c =
-    let k = c.loop-k.k in
-    c.in_ok-push.ensures.items ∙ ap (λ l. l ++ k ∷ []) c.loop-k.invariant ∙ sym (range_more 0 k k (omega arith)) ∙ ap (range_with_len 0) (sym (add-one k))
+pub returns : goal.returns
+returns c = items_from_collect _ c.collect.ensures.ran (YieldsList-from_range 0 (length c.args.lines.now) (length c.args.lines.now) refl (omega arith))

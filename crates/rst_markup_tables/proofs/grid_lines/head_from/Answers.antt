@@ -1,12 +1,12 @@
-use Rattle.std.proofs.Common.{◌≡◌, ◌∙◌, false, ap, sym, length, arith}
+use Rattle.std.proofs.Common.{◌≡◌, true, false, length, rules}
+use borrow.Author.Tests.{tests}
+use Rattle.std.proofs.lemmas.Iterator.{first_from_Range}
 use Rattle.rst_markup_tables.specs.Places.{row_at}
 use Rattle.rst_markup_tables.specs.GridTable.{is_head_rule}
-use Rattle.rst_markup_tables.proofs.Lists.{first_from-more}
-use Rattle.rst_markup_tables.proofs.GridLemmas.{row_read}
+use Rattle.rst_markup_tables.proofs.Lists.{first_from-found}
 use Rattle.rst_markup_tables.proofs.grid_lines.head_from.Goals as goal
 
-pub loop-k-preserved : goal.loop-k-preserved
-loop-k-preserved c =
-    let places = c.places.ensures.value ∙ row_read c.args.lines.now c.loop-k.k c.index-lines-k.result (omega arith) c.index-lines-k.is in
-    let miss : is_head_rule (row_at c.args.lines.now c.loop-k.k) ≡ false = sym (c.is_head_rule.ensures ∙ ap is_head_rule places) ∙ c.if-is_head_rule.false in
-    sym (first_from-more (λ k. is_head_rule (row_at c.args.lines.now k)) c.loop-k.k (length c.args.lines.now) (omega arith) miss) ∙ c.loop-k.invariant
+pub returns-clause-value : goal.returns-clause-value
+returns-clause-value c =
+    first_from-found (λ k. is_head_rule (row_at c.args.lines.now k)) c.args.low (length c.args.lines.now) _
+    (first_from_Range _ _ _ _ (λ k. is_head_rule (row_at c.args.lines.now k) ≡ true) (λ k. is_head_rule (row_at c.args.lines.now k) ≡ false) c.find.ensures.ran (λ x q k. search (rules, tests)) (λ x q k. search (rules, tests)))

@@ -1,8 +1,12 @@
-use Rattle.std.proofs.Common.{◌∙◌, length, sym, arith}
+use Rattle.std.proofs.Common.{◌≡◌, ◌∙◌, true, false, unwrap_or, length, ap, rules}
+use borrow.Author.Tests.{tests}
+use Rattle.std.proofs.lemmas.Iterator.{first_from_Range}
 use Rattle.rst_markup_tables.specs.SimpleTable.{is_space}
-use Rattle.rst_markup_tables.proofs.Lists.{first_from-more}
+use Rattle.rst_markup_tables.proofs.Lists.{first_from-found}
 use Rattle.rst_markup_tables.proofs.spans.span_end.Goals as goal
 
-pub loop-place-preserved : goal.loop-place-preserved
-loop-place-preserved c =
-    sym (first_from-more (is_space c.args.row.now) c.loop-place.place (length c.args.row.now) (omega arith) (sym c.is_space.ensures ∙ c.if-is_space.false)) ∙ c.loop-place.invariant
+pub returns : goal.returns
+returns c =
+    let found = first_from-found (is_space c.args.row.now) c.args.from (length c.args.row.now) _
+    (first_from_Range _ _ _ _ (λ k. is_space c.args.row.now k ≡ true) (λ k. is_space c.args.row.now k ≡ false) c.find.ensures.ran (λ x q k. search (rules, tests)) (λ x q k. search (rules, tests))) in
+    c.unwrap_or.ensures ∙ ap (λ o. unwrap_or o (length c.args.row.now)) found

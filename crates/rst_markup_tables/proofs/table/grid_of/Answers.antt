@@ -1,0 +1,19 @@
+use Rattle.std.proofs.Common.{◌≡◌, ◌∙◌, None, List, Option, Vec, Global, ap, ap₂, sym, subst, arith, ◌+◌, option_map, vec_items}
+use Rattle.rst_markup_tables.specs.Places.{Grid}
+use Rattle.rst_markup_tables.specs.Drawn.{IsTiling, Tiles}
+use Rattle.rst_markup_tables.specs.GridTable.{grid_fault, head_of, head_from, with_dashes, tiled_table}
+use Rattle.rst_markup_tables.specs.declared.drawn.Rectangle.{Rectangle}
+use Rattle.rst_markup_tables.proofs.TableLemmas.{with_tiling}
+use Rattle.rst_markup_tables.proofs.table.grid_of.Goals as goal
+
+pub returns : goal.returns
+returns c =
+    let T : Grid = c.args.found.lines.items in
+    let G : Grid = c.put_dashes.new.lines.items in
+    let none : grid_fault c.args.found.bottom T ≡ None = sym (ap (grid_fault c.args.found.bottom) c.deref.ensures.value) ∙ sym c.grid_fault.ensures ∙ c.in_default.is in
+    let head : c.head_from-head.result ≡ head_of T = c.head_from-head.ensures.value ∙ ap (λ (X : Grid). head_from X 0) c.deref-2.ensures.value in
+    let tiles : Tiles G (option_map vec_items c.in_ok-rectangles.field-0) = subst (λ (X : Grid). Tiles X (option_map vec_items c.in_ok-rectangles.field-0)) c.deref-3.ensures.value c.in_ok-rectangles.ensures in
+    let tiling : IsTiling G c.in-Some-2.rectangles.items = subst (λ (o : Option (Vec Rectangle Global)). Tiles G (option_map vec_items o)) c.in-Some-2.is tiles in
+    let table = c.in_ok-table.ensures ∙ ap₂ (λ (X : Grid) (rs : List Rectangle). tiled_table c.head_from-head.result X rs (c.args.first + c.len-size.result)) c.deref-4.ensures.value c.deref-5.ensures.value in
+    with_tiling c.args.line c.args.first T G c.head_from-head.result c.in-Some-2.rectangles.items c.in_ok-table.table (grid_fault c.args.found.bottom T) none (c.in_ok-put_dashes.ensures ∙ ap (with_dashes T) head) head tiling
+    (table ∙ ap (λ n. tiled_table c.head_from-head.result G c.in-Some-2.rectangles.items (c.args.first + n)) (omega arith))
