@@ -5,10 +5,11 @@ use Rattle.std.proofs.lemmas.List.Folds.{list_any_at}
 use Rattle.std.proofs.lemmas.Bool.{cases_lt, cases_eq, eq-eqb, ne_eqb, le-leb, and_from, or_left}
 use Rattle.rst_markup_tables.specs.Places.{Grid, no_row, width, place}
 use Rattle.std.specs.List.{range_with_len}
+use Rattle.std.specs.Option.{IfSome}
 use Rattle.rst_markup_tables.specs.Counts.{below}
 use Rattle.rst_markup_tables.specs.Marks.{AreMarked, AreRanks}
 use Rattle.rst_markup_tables.specs.Drawn.{IsFrame, IsDrawn, AreDrawn, IsTiling}
-use Rattle.rst_markup_tables.specs.GridTable.{bounds_row, is_row, is_column, cell_of, row_cells, more_of, dashed, with_dashes, column_widths, gaps}
+use Rattle.rst_markup_tables.specs.GridTable.{bounds_row, is_row, is_column, cell_of, row_cells, more_of, dashed, with_dashes, column_widths, gaps, head_size}
 use Rattle.rst_markup_tables.specs.declared.drawn.Rectangle.{Rectangle}
 use Rattle.rst_markup_tables.specs.declared.results.Cell.{Cell}
 use Rattle.rst_markup_tables.proofs.Lists.{onto, below_more, below_yes, below_same, all_from-same}
@@ -145,3 +146,7 @@ same_cells f f' g g' G rs low (suc n) a = ap₂ (λ x xs. x ∷ xs) (same_rows f
 pub dashes-length : (T : Grid) (head : Option ℕ) → length (with_dashes T head) ≡ length T
 dashes-length T None = refl
 dashes-length T (Some k) = length-set T k (dashed (get_or T k no_row))
+
+pub same_head : (f g : ℕ → ℕ) (n : ℕ) (head : Option ℕ) → IfSome head (λ k. k < n) → ((k : ℕ) → k < n → f k ≡ g k) → head_size f head ≡ head_size g head
+same_head f g n None inside same = refl
+same_head f g n (Some k) inside same = same k inside

@@ -30,14 +30,6 @@ pub(crate) fn is_upright(c: char) -> bool
     c == '|' || c == '+'
 }
 
-// Whether both sides go on in the row.
-#[tactic(auto, unfolding(crate::specs::Search::are_upright))]
-fn are_upright(rows: &[TableLine], row: usize, left: usize, right: usize) -> bool
-    ensures { result ≡ are_upright rows.now row left right }
-{
-    is_upright(mark(rows, row, left)) && is_upright(mark(rows, row, right))
-}
-
 // Where the run of `-` and `+` begins that ends behind the column.
 #[tactic(auto, unfolding(crate::specs::Search::next_begin))]
 fn next_begin(c: char, begin: usize, column: usize) -> usize
@@ -71,101 +63,96 @@ fn all_begins(alloc: Global, rows: &[TableLine]) -> Result<Vec<Vec<usize>>, Allo
     Ok(all)
 }
 
-// The number at a place of the table of runs.
-#[tactic(auto, unfolding(crate::specs::Search::begin_at))]
-fn begin_at(rows: &[Vec<usize>], row: usize, column: usize) -> usize
-    ensures { result ≡ begin_at (lists_of rows.now) row column }
-{
-    match rows.get(row) {
-        Some(numbers) => match numbers.get(column) {
-            Some(n) => *n,
+// The rows of a grid, and for each of their places where the run of `-` and `+` that ends there begins.
+#[derive(Drop)]
+struct Runs<'a> {
+    rows: &'a [TableLine],
+    begins: Vec<Vec<usize>>,
+    ghost are_begins: { HasBegins rows.now (lists_of begins.items) },
+}
+
+impl Runs<'_> {
+    // The number at a place of the table of runs.
+    #[tactic(auto, unfolding(crate::specs::Search::begin_at))]
+    fn begin_at(&self, row: usize, column: usize) -> usize
+        ensures { result ≡ begin_at (lists_of self.now.begins.items) row column }
+    {
+        match self.begins.get(row) {
+            Some(begins) => begins.get(column).copied().unwrap_or(0),
             None => 0,
-        },
-        None => 0,
+        }
     }
-}
 
-// Whether the row has a bottom side between the columns.
-fn is_bottom(
-    rows: &[TableLine],
-    begins: &[Vec<usize>],
-    row: usize,
-    left: usize,
-    right: usize,
-) -> bool
-    requires { HasBegins rows.now (lists_of begins.now) }
-    ensures { Tells result (IsBottom rows.now row left right) }
-{
-    if mark(rows, row, left) != '+' {
-        return false;
+    // Whether both sides go on in the row.
+    #[tactic(auto, unfolding(crate::specs::Search::are_upright))]
+    fn are_upright(&self, row: usize, left: usize, right: usize) -> bool
+        ensures { result ≡ are_upright self.now.rows.now row left right }
+    {
+        is_upright(mark(self.rows, row, left)) && is_upright(mark(self.rows, row, right))
     }
-    if mark(rows, row, right) != '+' {
-        return false;
-    }
-    if begin_at(begins, row, right) > left {
-        return false;
-    }
-    true
-}
 
-// The least bottom edge of a rectangle with these other edges.
-fn bottom(
-    rows: &[TableLine],
-    begins: &[Vec<usize>],
-    top: usize,
-    left: usize,
-    right: usize,
-) -> Option<usize>
-    requires begun { HasBegins rows.now (lists_of begins.now) }
-    requires top_left { place rows.now top left ≡ 43 }
-    requires top_right { place rows.now top right ≡ 43 }
-    ensures { Closes rows.now top left right result }
-{
-    let height = rows.len();
-    for row in top + 1..height {
-        if !are_upright(rows, row, left, right) {
+    // Whether the row has a bottom side between the columns.
+    fn is_bottom(&self, row: usize, left: usize, right: usize) -> bool
+        ensures { Tells result (IsBottom self.now.rows.now row left right) }
+    {
+        if mark(self.rows, row, left) != '+' {
+            return false;
+        }
+        if mark(self.rows, row, right) != '+' {
+            return false;
+        }
+        if self.begin_at(row, right) > left {
+            return false;
+        }
+        true
+    }
+
+    // The least bottom edge of a rectangle with these other edges.
+    fn bottom(&self, top: usize, left: usize, right: usize) -> Option<usize>
+        requires top_left { place self.now.rows.now top left ≡ 43 }
+        requires top_right { place self.now.rows.now top right ≡ 43 }
+        ensures { Closes self.now.rows.now top left right result }
+    {
+        let height = self.rows.len();
+        for row in top + 1..height {
+            if !self.are_upright(row, left, right) {
+                return None;
+            }
+            if self.is_bottom(row, left, right) {
+                return Some(row);
+            }
+        }
+        None
+    }
+
+    // The rectangle that is drawn from the place.
+    fn drawn_from(&self, top: usize, left: usize) -> Option<Rectangle>
+        requires { left < width self.now.rows.now }
+        ensures { Draws self.now.rows.now top left result }
+    {
+        if mark(self.rows, top, left) != '+' {
             return None;
         }
-        if is_bottom(rows, begins, row, left, right) {
-            return Some(row);
+        let columns = width(self.rows);
+        for right in left + 1..columns {
+            let mark = mark(self.rows, top, right);
+            if !is_across(mark) {
+                return None;
+            }
+            if mark != '+' {
+                continue;
+            }
+            if let Some(bottom) = self.bottom(top, left, right) {
+                return Some(Rectangle {
+                    top,
+                    left,
+                    bottom,
+                    right,
+                });
+            }
         }
+        None
     }
-    None
-}
-
-// The rectangle that is drawn from the place.
-fn drawn_from(
-    rows: &[TableLine],
-    begins: &[Vec<usize>],
-    top: usize,
-    left: usize,
-) -> Option<Rectangle>
-    requires inside { left < width rows.now }
-    requires begun { HasBegins rows.now (lists_of begins.now) }
-    ensures { Draws rows.now top left result }
-{
-    if mark(rows, top, left) != '+' {
-        return None;
-    }
-    let columns = width(rows);
-    for right in left + 1..columns {
-        let mark = mark(rows, top, right);
-        if !is_across(mark) {
-            return None;
-        }
-        if mark != '+' {
-            continue;
-        }
-        if let Some(bottom) = bottom(rows, begins, top, left, right) {
-            return Some(Rectangle {
-                top,
-                left,
-                bottom,
-                right,
-            });
-        }
-    }
-    None
 }
 
 // Covers the rectangle's columns down to its bottom, if each is covered down to its top.
@@ -191,6 +178,7 @@ pub(crate) fn tiling(
     ensures { IfOk result (λ found. Tiles rows.now (option_map vec_items found)) }
 {
     let begins = all_begins(alloc, rows)?;
+    let runs = Runs { rows, begins };
     let mut rectangles = Vec::new(alloc);
     let columns = width(rows).saturating_sub(1);
     let mut depths = vec![in alloc; 0; columns]?;
@@ -199,7 +187,7 @@ pub(crate) fn tiling(
             if depths[left] != top {
                 continue;
             }
-            let Some(rectangle) = drawn_from(rows, &begins, top, left) else {
+            let Some(rectangle) = runs.drawn_from(top, left) else {
                 return Ok(None);
             };
             if !fill(&mut depths, rectangle) {

@@ -26,17 +26,21 @@ impl Ranks {
     fn row(&self, row: usize) -> usize
         ensures { result ≡ get_or self.now.rows.items row 0 }
     {
-        match self.rows.get(row) {
-            Some(rank) => *rank,
-            None => 0,
-        }
+        self.rows.get(row).copied().unwrap_or(0)
     }
 
     fn column(&self, column: usize) -> usize
         ensures { result ≡ get_or self.now.columns.items column 0 }
     {
-        match self.columns.get(column) {
-            Some(rank) => *rank,
+        self.columns.get(column).copied().unwrap_or(0)
+    }
+
+    /// How many rows lie above the rule between head and body.
+    fn head_size(&self, head: Option<usize>) -> usize
+        ensures { result ≡ spec.head_size (λ k. get_or self.now.rows.items k 0) head }
+    {
+        match head {
+            Some(rule) => self.row(rule),
             None => 0,
         }
     }
@@ -104,55 +108,6 @@ fn cell_rows(
     Ok(rows)
 }
 
-/// For each row and the place behind the last how many bounds of rows stand before it.
-fn row_ranks(
-    alloc: Global,
-    lines: &[TableLine],
-    rectangles: &[Rectangle],
-) -> Result<Vec<usize>, AllocError>
-    requires tiling { IsTiling lines.now rectangles.now }
-    ensures { IfOk result (λ found. AreRanks (below (spec.is_row lines.now rectangles.now)) (length lines.now) found.items) }
-{
-    let marks = row_marks(alloc, lines, rectangles)?;
-    let found = ranks(alloc, &marks)?;
-    Ok(found)
-}
-
-/// The widths of the columns, and for each column how many bounds stand before it.
-fn columns(
-    alloc: Global,
-    lines: &[TableLine],
-    rectangles: &[Rectangle],
-) -> Result<(Vec<usize>, Vec<usize>), AllocError>
-    requires tiling { IsTiling lines.now rectangles.now }
-    ensures widths { IfOk result (λ found. found.0.items ≡ spec.column_widths lines.now rectangles.now) }
-    ensures ranks { IfOk result (λ found. AreRanks (below (spec.is_column lines.now rectangles.now)) (width lines.now) found.1.items) }
-{
-    let marks = column_marks(alloc, lines, rectangles)?;
-    let bounds = marked(alloc, &marks)?;
-    let widths = gaps(alloc, &bounds)?;
-    let found = ranks(alloc, &marks)?;
-    Ok((widths, found))
-}
-
-/// The rows of the table.
-fn table_rows(
-    alloc: Global,
-    lines: &[TableLine],
-    ranks: &Ranks,
-    rectangles: &[Rectangle],
-) -> Result<Rows, AllocError>
-    requires numbered { AreNumbered lines.now }
-    requires tiling { IsTiling lines.now rectangles.now }
-    requires rows { AreRanks (below (spec.is_row lines.now rectangles.now)) (length lines.now) ranks.now.rows.items }
-    requires columns { AreRanks (below (spec.is_column lines.now rectangles.now)) (width lines.now) ranks.now.columns.items }
-    ensures { IfOk result (λ rows. rows ≡ spec.table_rows lines.now rectangles.now) }
-{
-    let count = ranks.row(lines.len()).saturating_sub(1);
-    let rows = cell_rows(alloc, lines, ranks, rectangles, count)?;
-    Ok(Rows::of(rows))
-}
-
 /// The table that a tiling makes of a grid's lines; `head` is the rule between head and body, `end` the place after the
 /// table.
 pub(crate) fn tiled(
@@ -167,18 +122,19 @@ pub(crate) fn tiled(
     requires head { IfSome head (λ k. k < length lines.now) }
     ensures { IfOk result (λ table. table ≡ spec.tiled_table head lines.now rectangles.now end) }
 {
-    let rows = row_ranks(alloc, lines, rectangles)?;
-    let (widths, columns) = columns(alloc, lines, rectangles)?;
+    let row_bounds = row_marks(alloc, lines, rectangles)?;
+    let column_bounds = column_marks(alloc, lines, rectangles)?;
+    let bounds = marked(alloc, &column_bounds)?;
+    let widths = gaps(alloc, &bounds)?;
+    let rows = ranks(alloc, &row_bounds)?;
+    let columns = ranks(alloc, &column_bounds)?;
     let ranks = Ranks { rows, columns };
-    let head = match head {
-        Some(rule) => ranks.row(rule),
-        None => 0,
-    };
-    let rows = table_rows(alloc, lines, &ranks, rectangles)?;
+    let count = ranks.row(lines.len()).saturating_sub(1);
+    let cells = cell_rows(alloc, lines, &ranks, rectangles, count)?;
     Ok(TableResult::Table {
         cols: Widths::of(widths),
-        head,
-        rows,
+        head: ranks.head_size(head),
+        rows: Rows::of(cells),
         end,
     })
 }

@@ -3,11 +3,11 @@ use Rattle.rst_markup_tables.specs.Places.{place, width}
 use Rattle.rst_markup_tables.specs.Drawn.{is_across}
 use Rattle.rst_markup_tables.proofs.Rectangles.{frame_within}
 use Rattle.rst_markup_tables.proofs.Frames.{plus_across}
-use Rattle.rst_markup_tables.proofs.drawn.drawn_from.Goals as goal
+use Rattle.rst_markup_tables.proofs.drawn.Runs.drawn_from.Goals as goal
 
 pub loop-right-init : goal.loop-right-init
 loop-right-init c =
-    let G = c.args.rows.now in
+    let G = c.args.self.now.rows.now in
     let plus : place G c.args.top c.args.left ≡ 43 = cc in
     record {
       side = λ k above below. let e : c.args.left ≡ k = omega arith in
@@ -17,7 +17,7 @@ loop-right-init c =
 
 pub returns : goal.returns
 returns c = λ q f top left.
-    let G = c.args.rows.now in
+    let G = c.args.self.now.rows.now in
     let w = frame_within G q f in
     let inside : q.right < width G = w.1 in
     let behind : c.loop-right.right ≤ q.right = c.loop-right.invariant.none q f top left in
