@@ -27,9 +27,6 @@ use Rattle.rst_markup_tables.specs.declared.places.Place.TheVariants.{Character,
 
 -- ---- a line that was read
 
-pub row_read : (G : Grid) (i : ℕ) (r : Row) → i < length G → r ≡ get_or G i r → r.places ≡ row_at G i
-row_read G i r below is = ap (λ (x : Row). x.places) (get_or_read G i r below is no_row)
-
 pub rows_more : (B : Block) (k : ℕ) (r : Row) → k < length B → r ≡ row_of (record { number = first_number (drop k B); text = front_text (drop k B) }) → rows_of (drop k B) ≡ r ∷ rows_of (drop (k + 1) B)
 rows_more B k r below is =
     let none : Line = record { number = 0; text = [] } in

@@ -15,11 +15,8 @@ read_more xs i x below is = drop_more xs i x below ∙ ap (λ y. y ∷ drop (i +
 
 -- ---- numbers that pass
 
-left_more : (k high : ℕ) → k < high → high - k ≡ suc (high - (k + 1))
+pub left_more : (k high : ℕ) → k < high → high - k ≡ suc (high - (k + 1))
 left_more k high h = omega arith
-
-pub first_from-more : (p : ℕ → Bool) (k high : ℕ) → k < high → p k ≡ false → first_from p k (high - k) ≡ first_from p (k + 1) (high - (k + 1))
-first_from-more p k high h e = ap (first_from p k) (left_more k high h) ∙ rw e refl
 
 -- what `find` gives, said of the numbers from `low` up to `high`
 pub first_from-found : (p : ℕ → Bool) (low high : ℕ) (r : Option ℕ)

@@ -8,29 +8,17 @@ use Rattle.std.specs.Prelude.{position, option_and_then, flat_map}
 use Rattle.std.specs.List.{position_or_len, range_with_len}
 use Rattle.rst_markup_tables.specs.Neighbours.{neighbours}
 use Rattle.rst_markup_tables.specs.declared.simple_rows.RowLines.{RowLines}
-use Rattle.rst_markup_tables.proofs.Lists.{all_from-take, all_from-more}
+use Rattle.rst_markup_tables.proofs.Lists.{left_more, all_from-take, all_from-more}
 use Rattle.rst_markup_tables.specs.Places.{Grid, Row, no_row, row_at}
 use Rattle.rst_markup_tables.specs.declared.places.Place.{Place}
 use Rattle.rst_markup_tables.specs.SimpleTable.{begins_row, row_lines, row_between, section, lines_of_row, longest, last_joined, joining, spread}
 use Rattle.rst_markup_tables.specs.declared.spans.RuleSpan.{RuleSpan}
-
-left_more : (k high : ℕ) → k < high → high - k ≡ suc (high - (k + 1))
-left_more k high h = omega arith
 
 -- ---- the place of the first item that passes
 
 pub position_at : {X : Type 0} (p : X → Bool) (xs : List X) (i : ℕ) (d : X) → i < length xs → p (get_or xs i d) ≡ true → ((k : ℕ) → k < i → p (get_or xs k d) ≡ false) → position p xs ≡ Some i
 position_at p xs i d inside hit before =
     let e : position_or_len p xs ≡ i = position_or_len_is p xs i d (omega arith) before (λ there. hit) in rw (e, lt-ltb i (length xs) inside) refl
-
-pub position_none : {X : Type 0} (p : X → Bool) (xs : List X) (d : X) → ((k : ℕ) → k < length xs → p (get_or xs k d) ≡ false) → position p xs ≡ None
-position_none p xs d fails =
-    let e : position_or_len p xs ≡ length xs = position_or_len_is p xs (length xs) d (omega arith) fails (λ there. absurd (omega (arith, there))) in
-    ap (λ n. cond (ltb n (length xs)) (Some n) None) e ∙ by (ltb (length xs) (length xs)) refl
-  where
-    by : (b : Bool) → ltb (length xs) (length xs) ≡ b → cond b (Some (length xs)) None ≡ None
-    by true less = absurd (omega (arith, ltb-true (length xs) (length xs) less))
-    by false less = refl
 
 -- ---- the spans of a rule
 

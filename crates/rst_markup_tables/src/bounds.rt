@@ -1,6 +1,6 @@
 //! The bounds of a grid's columns and rows.
 ghost use Rattle.std.specs.Prelude.{◌≡◌, ◌∷◌, ◌<◌, ◌||◌, ◌==◌, length, IfOk};
-ghost use Rattle.rst_markup_tables.specs.Places.{place, width};
+ghost use Rattle.rst_markup_tables.specs.Places.{AreNumbered, place, width};
 ghost use Rattle.rst_markup_tables.specs.Marks.{Marks, AreMarked};
 ghost use Rattle.rst_markup_tables.specs.Drawn.{IsTiling};
 ghost use Rattle.rst_markup_tables.specs.GridTable.{gaps, is_column, is_row};
@@ -39,36 +39,39 @@ fn mark_rows(marks: &mut [bool], lines: &[TableLine], rectangle: Rectangle)
     }
 }
 
-/// Which places of a row are bounds of columns.
-pub(crate) fn column_marks(
-    alloc: Global,
-    lines: &[TableLine],
-    rectangles: &[Rectangle],
-) -> Result<Vec<bool>, AllocError>
-    requires tiling { IsTiling lines.now rectangles.now }
-    ensures { IfOk result (λ marks. AreMarked (is_column lines.now rectangles.now) (width lines.now) marks.items) }
-{
-    let mut marks = vec![in alloc; false; width(lines)]?;
-    for rectangle in rectangles {
-        mark_columns(&mut marks, lines, *rectangle);
-    }
-    Ok(marks)
+/// The lines of a grid, and rectangles in it.
+#[derive(Clone, Copy)]
+pub(crate) struct Tiling<'a> {
+    pub(crate) alloc: Global,
+    pub(crate) lines: &'a [TableLine],
+    pub(crate) rectangles: &'a [Rectangle],
+    ghost numbered: { AreNumbered lines.now },
 }
 
-/// Which rows are bounds of rows.
-pub(crate) fn row_marks(
-    alloc: Global,
-    lines: &[TableLine],
-    rectangles: &[Rectangle],
-) -> Result<Vec<bool>, AllocError>
-    requires tiling { IsTiling lines.now rectangles.now }
-    ensures { IfOk result (λ marks. AreMarked (is_row lines.now rectangles.now) (length lines.now) marks.items) }
-{
-    let mut marks = vec![in alloc; false; lines.len()]?;
-    for rectangle in rectangles {
-        mark_rows(&mut marks, lines, *rectangle);
+impl Tiling<'_> {
+    /// Which places of a row are bounds of columns.
+    pub(crate) fn column_marks(&self) -> Result<Vec<bool>, AllocError>
+        requires { IsTiling self.now.lines.now self.now.rectangles.now }
+        ensures { IfOk result (λ marks. AreMarked (is_column self.now.lines.now self.now.rectangles.now) (width self.now.lines.now) marks.items) }
+    {
+        let mut marks = vec![in self.alloc; false; width(self.lines)]?;
+        for rectangle in self.rectangles {
+            mark_columns(&mut marks, self.lines, *rectangle);
+        }
+        Ok(marks)
     }
-    Ok(marks)
+
+    /// Which rows are bounds of rows.
+    pub(crate) fn row_marks(&self) -> Result<Vec<bool>, AllocError>
+        requires { IsTiling self.now.lines.now self.now.rectangles.now }
+        ensures { IfOk result (λ marks. AreMarked (is_row self.now.lines.now self.now.rectangles.now) (length self.now.lines.now) marks.items) }
+    {
+        let mut marks = vec![in self.alloc; false; self.lines.len()]?;
+        for rectangle in self.rectangles {
+            mark_rows(&mut marks, self.lines, *rectangle);
+        }
+        Ok(marks)
+    }
 }
 
 /// How many places lie between neighbouring bounds, `first` standing before the others.

@@ -65,15 +65,6 @@ impl TableLine {
     ghost use Rattle.rst_markup_tables.specs.Cells.{characters};
     ghost use Rattle.rst_markup_tables.specs.Places.{row_of};
 
-    /// The line with this number and text.
-    pub(crate) fn of(alloc: Global, number: usize, text: &str) -> Result<TableLine, AllocError>
-        requires { IsTrue (is_line_text (chars text.now)) }
-        ensures { IfOk result (λ line. line ≡ row_of (record { number = number; text = chars text.now })) }
-    {
-        let places = places_of(alloc, text)?;
-        Ok(TableLine { number, places })
-    }
-
     /// The line with this number and these places.
     pub(crate) fn with(number: usize, places: Vec<Place>) -> TableLine
         requires scalars { all_scalars (characters places.items) ≡ true }
@@ -157,8 +148,9 @@ pub(crate) fn line_of(
     ensures line { IfOk result (λ line. rows_of (drop k (block_of view.now)) ≡ line ∷ rows_of (drop (k + 1) (block_of view.now))) }
     ensures number { IfOk result (λ line. line.number ≡ first_number (block_of view.now) + k) }
 {
-    let line = TableLine::of(alloc, view.number(k), text)?;
-    Ok(line)
+    let number = view.number(k);
+    let places = places_of(alloc, text)?;
+    Ok(TableLine { number, places })
 }
 
 /// The character that begins at a place of a row, or `'\0'`.

@@ -7,8 +7,8 @@ ghost use Rattle.rst_markup_tables.specs.Places.{AreNumbered};
 ghost use Rattle.rst_markup_tables.specs.GridTable as spec;
 ghost use Rattle.rst_markup_blocks.specs.TableRows.{grid_size, grid_scan};
 
+use super::bounds::Tiling;
 use super::drawn::tiling;
-use super::grid_cells::tiled;
 use super::grid_lines::{GridLines, grid_fault, grid_lines, head_from, put_dashes};
 use super::results::{TableDetail, TableFault, TableResult};
 use rst_text::{Looks, View};
@@ -52,7 +52,12 @@ fn grid_of(
     let Some(rectangles) = tiling(alloc, &lines)? else {
         return Ok(malformed(line, first, size, TableDetail::ParseIncomplete));
     };
-    let table = tiled(alloc, &lines, &rectangles, head, first + size)?;
+    let tiling = Tiling {
+        alloc,
+        lines: &lines,
+        rectangles: &rectangles,
+    };
+    let table = tiling.tiled(head, first + size)?;
     Ok(table)
 }
 

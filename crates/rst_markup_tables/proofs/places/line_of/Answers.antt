@@ -1,18 +1,30 @@
-use Rattle.std.proofs.Common.{◌∙◌, ap, ap₂, ℕ, List}
-use Rattle.rst_text.specs.Lines.{is_line_text}
+use Rattle.std.proofs.Common.{◌≡◌, ◌∙◌, ap, ap₂, ℕ, List}
+use Rattle.std.specs.List.{list_any}
+use Rattle.std.specs.Str.{all_scalars, chars}
+use Rattle.std.proofs.lemmas.Str.{scalars-chars}
+use Rattle.rst_text.specs.Lines.{is_line_end, is_line_text}
 use Rattle.rst_text.specs.Shown.{block_of}
 use Rattle.rst_text.proofs.Cuts.{is_line_text-line}
-use Rattle.rst_markup_tables.specs.Places.{Row, row_of}
+use Rattle.rst_text.proofs.LineTexts.{is_line_text-parts}
+use Rattle.rst_markup_tables.specs.Cells.{characters}
+use Rattle.rst_markup_tables.specs.Places.{Row, places_of}
+use Rattle.rst_markup_tables.specs.declared.places.Place.{Place}
+use Rattle.rst_markup_tables.proofs.CellLemmas.{characters-places}
 use Rattle.rst_markup_tables.proofs.GridLemmas.{rows_more}
 use Rattle.rst_markup_tables.proofs.places.line_of.Goals as goal
 
-pub of-requires : goal.of-requires
-of-requires c = ap is_line_text c.requires.text ∙ is_line_text-line c.args.view.now c.args.k
+pub invariant_of-result : goal.invariant_of-result
+invariant_of-result c =
+    let text : characters c.in_ok-places.places.items ≡ chars c.args.text.now = ap characters c.in_ok-places.ensures ∙ characters-places (chars c.args.text.now) in (
+      ap all_scalars text ∙ scalars-chars c.args.text.now c.utf8.text,
+      ap (list_any is_line_end) text ∙ (is_line_text-parts (chars c.args.text.now) (ap is_line_text c.requires.text ∙ is_line_text-line c.args.view.now c.args.k)).0,
+    )
 
 pub returns-clause-line : goal.returns-clause-line
 returns-clause-line c =
-    let line : ℕ → List ℕ → Row = λ n t. row_of (record { number = n; text = t }) in
-    rows_more (block_of c.args.view.now) c.args.k c.in_ok-line.line c.requires.inside (c.in_ok-line.ensures ∙ ap₂ line c.number.ensures.value c.requires.text)
+    let row : ℕ → List Place → Row = λ n ps. record { number = n; places = ps } in
+    rows_more (block_of c.args.view.now) c.args.k (row c.number-number.result c.in_ok-places.places.items) c.requires.inside
+    (ap₂ row c.number-number.ensures.value (c.in_ok-places.ensures ∙ ap places_of c.requires.text))
 
 pub returns-clause-number : goal.returns-clause-number
-returns-clause-number c = ap (λ (r : Row). r.number) c.in_ok-line.ensures ∙ c.number.ensures.from_first
+returns-clause-number c = c.number-number.ensures.from_first

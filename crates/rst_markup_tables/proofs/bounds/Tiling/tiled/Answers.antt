@@ -9,12 +9,12 @@ use Rattle.rst_markup_tables.specs.declared.drawn.Rectangle.{Rectangle}
 use Rattle.rst_markup_tables.specs.declared.results.Cell.{Cell}
 use Rattle.rst_markup_tables.specs.declared.results.TableResult.TheVariants.{Table}
 use Rattle.rst_markup_tables.proofs.RowLemmas.{ranks_of, widths_of, rank-few, agree, same_cells, same_head}
-use Rattle.rst_markup_tables.proofs.grid_cells.tiled.Goals as goal
+use Rattle.rst_markup_tables.proofs.bounds.Tiling.tiled.Goals as goal
 
 pub cell_rows-requires-clause-few : goal.cell_rows-requires-clause-few
 cell_rows-requires-clause-few c = λ k inside.
-    let G : Grid = c.args.lines.now in
-    let rs : List Rectangle = c.args.rectangles.now in
+    let G : Grid = c.args.self.now.lines.now in
+    let rs : List Rectangle = c.args.self.now.rectangles.now in
     let rows : List ℕ = c.in_ok-rows.rows.items in
     let ranked = ranks_of (is_row G rs) (length G) c.in_ok-row_bounds.row_bounds.items rows c.in_ok-row_bounds.ensures
     (subst (λ (marks : List Bool). AreRanks (below (λ k. get_or marks k false)) (length marks) rows) c.deref-3.ensures.value c.in_ok-rows.ensures) in
@@ -23,8 +23,8 @@ cell_rows-requires-clause-few c = λ k inside.
 
 pub returns : goal.returns
 returns c =
-    let G : Grid = c.args.lines.now in
-    let rs : List Rectangle = c.args.rectangles.now in
+    let G : Grid = c.args.self.now.lines.now in
+    let rs : List Rectangle = c.args.self.now.rectangles.now in
     let f : ℕ → ℕ = λ k. get_or c.in_ok-rows.rows.items k 0 in
     let g : ℕ → ℕ = λ k. get_or c.in_ok-columns.columns.items k 0 in
     let rows = ranks_of (is_row G rs) (length G) c.in_ok-row_bounds.row_bounds.items c.in_ok-rows.rows.items c.in_ok-row_bounds.ensures
