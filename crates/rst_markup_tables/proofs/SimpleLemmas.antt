@@ -62,50 +62,11 @@ sections_left-more T low rule rules h =
 abbrev pub longest_with : ℕ → Grid → ℕ
 longest_with n lines = fold max n (map (λ (line : Row). length line.places) lines)
 
-max_regroup : (a b c : ℕ) → max (max a b) c ≡ max a (max b c)
-max_regroup a b c = grind arith
-
-longest-is : (n : ℕ) (lines : Grid) → longest_with n lines ≡ max n (longest lines)
-longest-is n [] = omega arith
-longest-is n (r ∷ rs) =
-    longest-is (max n (length r.places)) rs ∙ max_regroup n (length r.places) (longest rs) ∙ ap (max n) (sym (longest-is (length r.places) rs) ∙ ap (λ m. longest_with m rs) (none (length r.places)))
-  where
-    none : (m : ℕ) → m ≡ max 0 m
-    none m = omega arith
-
--- the lines from a place up to another, read one by one
-slice-some : (T : Grid) (k to : ℕ) → k < to → k < length T → slice_range T k to ≡ get_or T k no_row ∷ slice_range T (k + 1) to
-slice-some T k to h inside = ap (λ n. take n (drop k T)) (left_more k to h) ∙ ap (take (suc (to - (k + 1)))) (drop_more T k no_row inside)
-
-slice-none : (T : Grid) (k to : ℕ) → length T ≤ k → slice_range T k to ≡ []
-slice-none T k to h = ap (take (to - k)) (drop_of_length-le T h) ∙ by (to - k)
-  where
-    none : Grid
-    none = []
-
-    by : (n : ℕ) → take n none ≡ []
-    by zero = refl
-    by (suc n) = refl
-
-pub longest-more : (T : Grid) (k to n : ℕ) → k < to → longest_with (max n (length (row_at T k))) (slice_range T (k + 1) to) ≡ longest_with n (slice_range T k to)
-longest-more T k to n h = ⊎_elim
-    (λ inside. sym (ap (longest_with n) (slice-some T k to h inside)))
-    (λ past. let none : row_at T k ≡ [] = ap (λ (r : Row). r.places) (get_or_past T k no_row past) in
-    ap₂ longest_with (ap (λ (row : List Place). max n (length row)) none ∙ least n) (slice-none T (k + 1) to (omega arith)) ∙ sym (ap (longest_with n) (slice-none T k to past)))
-    (cases_lt k (length T))
-  where
-    least : (m : ℕ) → max m 0 ≡ m
-    least m = omega arith
-
-pub longest-end : (T : Grid) (k to n : ℕ) → to ≤ k → n ≡ longest_with n (slice_range T k to)
-longest-end T k to n h = let none : to - k ≡ 0 = omega arith in sym (ap (λ m. longest_with n (take m (drop k T))) none)
-
 -- the lines of one row more
-pub longest-row : (T : Grid) (n : ℕ) (r : RowLines) (rs : List RowLines) → longest_with (max n (longest (lines_of_row T r))) (flat_map (lines_of_row T) rs) ≡ longest_with n (flat_map (lines_of_row T) (r ∷ rs))
+pub longest-row : (T : Grid) (n : ℕ) (r : RowLines) (rs : List RowLines) → longest_with (longest_with n (lines_of_row T r)) (flat_map (lines_of_row T) rs) ≡ longest_with n (flat_map (lines_of_row T) (r ∷ rs))
 longest-row T n r rs =
     let size : Row → ℕ = λ line. length line.places in
-    ap (λ m. longest_with m (flat_map (lines_of_row T) rs)) (sym (longest-is n (lines_of_row T r)))
-    ∙ sym (ap (fold max n) (map-append size (lines_of_row T r) (flat_map (lines_of_row T) rs)) ∙ fold-append max n (map size (lines_of_row T r)) (map size (flat_map (lines_of_row T) rs)))
+    sym (ap (fold max n) (map-append size (lines_of_row T r) (flat_map (lines_of_row T) rs)) ∙ fold-append max n (map size (lines_of_row T r)) (map size (flat_map (lines_of_row T) rs)))
 
 -- ---- lines that were read
 

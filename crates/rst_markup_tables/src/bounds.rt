@@ -74,25 +74,12 @@ impl Tiling<'_> {
     }
 }
 
-/// How many places lie between neighbouring bounds, `first` standing before the others.
-fn gaps_from(alloc: Global, first: usize, others: &[usize]) -> Result<Vec<usize>, AllocError>
-    ensures { IfOk result (λ found. found.items ≡ gaps (first ∷ others.now)) }
-{
-    let mut gaps = Vec::with_capacity(alloc, others.len())?;
-    let mut before = first;
-    for bound in others {
-        gaps.push(bound.saturating_sub(before).saturating_sub(1))?;
-        before = *bound;
-    }
-    Ok(gaps)
-}
-
 /// How many places lie between neighbouring bounds.
 pub(crate) fn gaps(alloc: Global, bounds: &[usize]) -> Result<Vec<usize>, AllocError>
     ensures { IfOk result (λ found. found.items ≡ gaps bounds.now) }
 {
-    match bounds {
-        [] => Ok(Vec::new(alloc)),
-        [first, others @ ..] => gaps_from(alloc, *first, others),
-    }
+    let neighbours = bounds.iter().zip(bounds.iter().skip(1));
+    neighbours
+        .map(|(low, high)| high.saturating_sub(*low).saturating_sub(1))
+        .collect(alloc)
 }

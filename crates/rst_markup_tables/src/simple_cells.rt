@@ -5,33 +5,11 @@ ghost use Rattle.rst_markup_tables.specs.Results.{cells_of};
 ghost use Rattle.rst_markup_tables.specs.SimpleTable as spec;
 
 use super::cells::{all_places, cell_lines, reaching};
-use super::places::{TableLine, row_at};
+use super::places::TableLine;
 use super::results::{Cell, Rows, Widths};
 use super::simple_rows::{RowLines, SimpleLines};
 use super::spans::{RuleSpan, span_of};
 use std::alloc::{AllocError, Global};
-
-/// How many places the longest line of a row has.
-fn longest_in(lines: &[TableLine], row: RowLines) -> usize
-    ensures { result ≡ spec.longest (spec.lines_of_row lines.now row) }
-{
-    let mut longest = 0usize;
-    for k in row.from..row.to {
-        longest = longest.max(row_at(lines, k).len());
-    }
-    longest
-}
-
-/// How many places the longest line of the rows has.
-fn longest_of(lines: &[TableLine], rows: &[RowLines]) -> usize
-    ensures { result ≡ spec.longest_of lines.now rows.now }
-{
-    let mut longest = 0usize;
-    for row in rows {
-        longest = longest.max(longest_in(lines, *row));
-    }
-    longest
-}
 
 /// How wide a column is.
 fn width_of(columns: &[RuleSpan], longest: usize, k: usize) -> usize
@@ -82,19 +60,6 @@ fn entries(alloc: Global, lines: &[TableLine], spans: &[RuleSpan]) -> Result<Vec
 }
 
 impl SimpleLines<'_> {
-    /// The widths of the columns.
-    pub(crate) fn widths(&self, rows: &[RowLines]) -> Result<Widths, AllocError>
-        requires { rows.now ≡ spec.simple_rows self.now.lines.now }
-        ensures { IfOk result (λ widths. widths ≡ spec.simple_widths self.now.lines.now) }
-    {
-        let longest = longest_of(self.lines, rows);
-        let mut widths = Vec::with_capacity(self.alloc, self.columns.len())?;
-        for k in 0..self.columns.len() {
-            widths.push(width_of(self.columns, longest, k))?;
-        }
-        Ok(Widths::of(widths))
-    }
-
     /// The lines of a row.
     fn lines_of(&self, row: RowLines) -> &[TableLine]
         ensures { result.now ≡ spec.lines_of_row self.now.lines.now row }
@@ -102,6 +67,33 @@ impl SimpleLines<'_> {
         let end = row.to.min(self.lines.len());
         let begin = row.from.min(end);
         &self.lines[begin..end]
+    }
+
+    /// How many places the longest line of the rows has.
+    fn longest_of(&self, rows: &[RowLines]) -> usize
+        ensures { result ≡ spec.longest_of self.now.lines.now rows.now }
+    {
+        let mut longest = 0usize;
+        for row in rows {
+            let lines = self.lines_of(*row);
+            for line in lines {
+                longest = longest.max(line.places().len());
+            }
+        }
+        longest
+    }
+
+    /// The widths of the columns.
+    pub(crate) fn widths(&self, rows: &[RowLines]) -> Result<Widths, AllocError>
+        requires { rows.now ≡ spec.simple_rows self.now.lines.now }
+        ensures { IfOk result (λ widths. widths ≡ spec.simple_widths self.now.lines.now) }
+    {
+        let longest = self.longest_of(rows);
+        let mut widths = Vec::with_capacity(self.alloc, self.columns.len())?;
+        for k in 0..self.columns.len() {
+            widths.push(width_of(self.columns, longest, k))?;
+        }
+        Ok(Widths::of(widths))
     }
 
     /// The cells of all rows.
