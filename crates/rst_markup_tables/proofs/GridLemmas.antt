@@ -1,6 +1,6 @@
 -- The lines of a grid table.
 use Rattle.std.proofs.Common.{◌≡◌, ℕ, suc, ◌+◌, ◌-◌, ◌<◌, ◌≤◌, Bool, true, false, cond, ◌&&◌, ◌||◌, List, [], ◌∷◌, ◌++◌, length, take, drop, length-take, get_or, map, refl, sym, ap, ap₂, ◌∙◌, arith, append-nil, eqb, leb, Option, Some, None}
-use Rattle.std.proofs.lemmas.List.{drop_more, drop-drop, get_or_read, drop-map, length-map, take-map, take-take}
+use Rattle.std.proofs.lemmas.List.{drop_more, drop-drop, drop-map, length-map, take-map, take-take}
 use Rattle.std.proofs.lemmas.Bool.{cond_both, and_from, and_parts, leb-true, leb-false}
 use Rattle.std.proofs.Math.Nat.{le-min}
 use Rattle.std.proofs.Math.Utf8.{scalar}
@@ -19,7 +19,7 @@ use Rattle.rst_markup_blocks.proofs.TableLaws.{grid_size_le}
 use Rattle.rst_markup_blocks.specs.TableRows.{through, is_border_at, grid_bottom, grid_size, grid_scan}
 use Rattle.rst_markup_blocks.proofs.LineLemmas.{drop_one}
 use Rattle.rst_markup_blocks.proofs.TableLemmas.{grid_size-is}
-use Rattle.rst_markup_tables.specs.Places.{Row, Grid, no_row, row_of, rows_of, row_at}
+use Rattle.rst_markup_tables.specs.Places.{Row, Grid, no_row, row_of, rows_of}
 use Rattle.rst_markup_tables.specs.Cells.{characters}
 use Rattle.rst_markup_tables.specs.GridTable.{dash}
 use Rattle.rst_markup_tables.specs.declared.places.Place.{Place}

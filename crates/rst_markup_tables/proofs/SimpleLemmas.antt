@@ -1,17 +1,15 @@
 -- Simple tables.
-use Rattle.std.proofs.Common.{◌≡◌, ℕ, suc, ◌+◌, ◌-◌, ◌<◌, ◌≤◌, max, Bool, true, false, cond, ltb, List, [], ◌∷◌, ◌++◌, get_or, length, drop, take, append_assoc, option_map, map, filter, zero, fold, slice_range, drop_of_length-le, ⊎_elim, refl, sym, ap, ap₂, ◌∙◌, arith, Option, Some, None}
-use Rattle.std.proofs.lemmas.Bool.{ne_eqb, lt-ltb, ltb-true}
-use Rattle.std.proofs.lemmas.Bool.{cases_lt}
-use Rattle.std.proofs.lemmas.List.{drop_more, map-append, get_or_past}
+use Rattle.std.proofs.Common.{◌≡◌, ℕ, suc, ◌+◌, ◌-◌, ◌<◌, ◌≤◌, max, Bool, true, false, cond, List, [], ◌∷◌, ◌++◌, get_or, length, drop, take, append_assoc, option_map, map, filter, fold, refl, sym, ap, ap₂, ◌∙◌, arith, Option, Some, None}
+use Rattle.std.proofs.lemmas.Bool.{ne_eqb, lt-ltb}
+use Rattle.std.proofs.lemmas.List.{map-append}
 use Rattle.std.proofs.lemmas.List.Sums.{position_or_len_is, fold-append}
 use Rattle.std.specs.Prelude.{position, option_and_then, flat_map}
 use Rattle.std.specs.List.{position_or_len, range_with_len}
 use Rattle.rst_markup_tables.specs.Neighbours.{neighbours}
 use Rattle.rst_markup_tables.specs.declared.simple_rows.RowLines.{RowLines}
 use Rattle.rst_markup_tables.proofs.Lists.{left_more, all_from-take, all_from-more}
-use Rattle.rst_markup_tables.specs.Places.{Grid, Row, no_row, row_at}
-use Rattle.rst_markup_tables.specs.declared.places.Place.{Place}
-use Rattle.rst_markup_tables.specs.SimpleTable.{begins_row, row_lines, row_between, section, lines_of_row, longest, last_joined, joining, spread}
+use Rattle.rst_markup_tables.specs.Places.{Grid, Row}
+use Rattle.rst_markup_tables.specs.SimpleTable.{begins_row, row_lines, row_between, section, lines_of_row, last_joined, joining, spread}
 use Rattle.rst_markup_tables.specs.declared.spans.RuleSpan.{RuleSpan}
 
 -- ---- the place of the first item that passes

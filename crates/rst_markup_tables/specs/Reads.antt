@@ -8,7 +8,6 @@ use Rattle.rst_markup_tables.specs.SimpleTable.{simple_table}
 use Rattle.rst_markup_tables.specs.Tiling.{grid_table}
 use Rattle.rst_markup_tables.specs.declared.results.Cell.{Cell}
 use Rattle.rst_markup_tables.specs.declared.results.TableDetail.{TableDetail}
-use Rattle.rst_markup_tables.specs.declared.results.TableResult.{TableResult}
 use Rattle.rst_markup_tables.specs.declared.results.TableResult.TheVariants.{Table}
 
 -- lines with numbers from n on

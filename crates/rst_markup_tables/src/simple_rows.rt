@@ -69,12 +69,15 @@ fn is_clear(row: &[Place], from: usize, to: usize) -> bool
     are_white(&row[begin..end])
 }
 
-/// Whether nothing but white stands between neighbouring spans, the first of which stands before the others.
-fn margins_from(row: &[Place], first: RuleSpan, others: &[RuleSpan]) -> bool
-    requires { spec.AreInOrder 0 (first ∷ others.now) }
-    ensures { result ≡ spec.are_clear (first ∷ others.now) row.now }
+/// Whether nothing but white stands between neighbouring spans.
+fn are_clear(row: &[Place], spans: &[RuleSpan]) -> bool
+    requires { spec.AreInOrder 0 spans.now }
+    ensures { result ≡ spec.are_clear spans.now row.now }
 {
-    let mut before = first;
+    let [first, others @ ..] = spans else {
+        return true;
+    };
+    let mut before = *first;
     // Past the end of a line there is no text, however many columns begin there.
     for span in others {
         if before.from >= row.len() {
@@ -86,16 +89,6 @@ fn margins_from(row: &[Place], first: RuleSpan, others: &[RuleSpan]) -> bool
         before = *span;
     }
     true
-}
-
-fn are_clear(row: &[Place], spans: &[RuleSpan]) -> bool
-    requires { spec.AreInOrder 0 spans.now }
-    ensures { result ≡ spec.are_clear spans.now row.now }
-{
-    match spans {
-        [] => true,
-        [first, others @ ..] => margins_from(row, *first, others),
-    }
 }
 
 impl SimpleLines<'_> {
