@@ -7,7 +7,8 @@ ghost use Rattle.rst_transform_links.specs.FootnoteOrders.{mark_of};
 
 use rst_transform_links::{Linked, mark_of};
 use rst_transform_names::number_in;
-use rst_tree::{Node, Text, TreeFault};
+use rst_transform_work::Result;
+use rst_tree::{Node, Text};
 use std::alloc::Global;
 
 /// The labels of symbol footnotes; the further ones are these doubled, tripled and so on (Markup Specification, 'Auto-Symbol
@@ -36,7 +37,7 @@ fn set_written(written: &mut Vec<bool>, number: Option<u64>)
 }
 
 /// For each number up to that of all linked elements whether a footnote was written with it.
-fn written_numbers(alloc: Global, linked: &[Linked<'_>]) -> Result<Vec<bool>, TreeFault>
+fn written_numbers(alloc: Global, linked: &[Linked<'_>]) -> Result<Vec<bool>>
     ensures { Gives (λ written. TellsWritten (map held linked.now) written.items) result }
 {
     let mut written = vec![in alloc; false; linked.len() + 1]?;
@@ -55,7 +56,7 @@ fn was_written(written: &[bool], number: usize) -> bool
 
 /// The numbers from 1 on, as many as there are elements, that no footnote was written with. There is one for each footnote
 /// that is to be numbered.
-fn free_numbers(alloc: Global, linked: &[Linked<'_>]) -> Result<Vec<usize>, TreeFault>
+fn free_numbers(alloc: Global, linked: &[Linked<'_>]) -> Result<Vec<usize>>
     ensures enough { Gives (λ free. length (to_number (map held linked.now)) ≤ length free.items) result }
     ensures free { Gives (λ free. free.items ≡ free_numbers (map held linked.now)) result }
 {
@@ -72,7 +73,7 @@ fn free_numbers(alloc: Global, linked: &[Linked<'_>]) -> Result<Vec<usize>, Tree
 
 /// The label of the n-th symbol footnote, from 0.
 #[tactic(auto, using(crate::proofs::Numbering::repeat_more))]
-fn symbol_label(alloc: Global, n: usize) -> Result<Text, TreeFault>
+fn symbol_label(alloc: Global, n: usize) -> Result<Text>
     ensures { Gives (λ label. label ≡ symbol_label n) result }
 {
     let symbol = SYMBOLS[n % SYMBOLS.len()];
@@ -98,12 +99,7 @@ fn is_to_number(node: &Node) -> bool
 }
 
 /// The label of a footnote, by the free numbers that are left and how many symbol footnotes come before it.
-fn label_of(
-    alloc: Global,
-    node: &Node,
-    free: &[usize],
-    before: usize,
-) -> Result<Option<Text>, TreeFault>
+fn label_of(alloc: Global, node: &Node, free: &[usize], before: usize) -> Result<Option<Text>>
     ensures { Gives (λ label. label ≡ label_by (mark_of node.now) free.now before) result }
 {
     let Some(mark) = mark_of(node) else {
@@ -140,7 +136,7 @@ fn with_symbol(node: &Node, before: usize) -> usize
 }
 
 /// The label that each footnote shows, by its place; there is nothing for the other elements.
-pub fn labels(alloc: Global, linked: &[Linked<'_>]) -> Result<Vec<Option<Text>>, TreeFault>
+pub fn labels(alloc: Global, linked: &[Linked<'_>]) -> Result<Vec<Option<Text>>>
     ensures { Gives (λ list. list.items ≡ labels (map held linked.now)) result }
 {
     let numbers = free_numbers(alloc, linked)?;

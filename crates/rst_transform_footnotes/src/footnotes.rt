@@ -14,8 +14,8 @@ use rst_transform_links::{
     Linked, Order, Outcome, footnote_order, found_by_order, in_order, reference_order, text_attr,
 };
 use rst_transform_names::{Holder, NameEntry, Names, Strength};
-use rst_transform_work::{Context, at_place, first_said, line_of, list_said, number_said};
-use rst_tree::{Entry, Key, Level, Node, Tag, Text, TreeFault, Value};
+use rst_transform_work::{Context, Result, at_place, first_said, line_of, list_said, number_said};
+use rst_tree::{Entry, Key, Level, Node, Tag, Text, Value};
 use std::alloc::Global;
 
 /// Numbers the footnotes, and lets the references find those that they find by the order (Markup Specification,
@@ -56,10 +56,7 @@ use std::alloc::Global;
 /// ```
 ///
 /// References left over become problematics of one ERROR for each of the two numberings.
-pub fn footnote_outcomes(
-    context: &mut Context,
-    linked: &[Linked<'_>],
-) -> Result<Vec<Outcome>, TreeFault>
+pub fn footnote_outcomes(context: &mut Context, linked: &[Linked<'_>]) -> Result<Vec<Outcome>>
     ensures { Gives (λ outcomes. Makes (footnote_outcomes (map held linked.now)) context.old context.new outcomes.items) result }
 {
     let labels = labels(context.alloc, linked)?;
@@ -104,7 +101,7 @@ fn hold_numbers(
     names: &mut Names,
     linked: &[Linked<'_>],
     labels: &[Option<Text>],
-) -> Result<(), TreeFault>
+) -> Result<()>
     ensures { Gives (λ _. (name : List ℕ) → held_by names.new name ≡ with_numbers labels.now (map held linked.now) (held_by names.old) name) result }
 {
     for (place, one) in linked.iter().enumerate() {
@@ -120,7 +117,7 @@ fn hold_number(
     element: &Node,
     labels: &[Option<Text>],
     place: usize,
-) -> Result<(), TreeFault>
+) -> Result<()>
     ensures { Gives (λ _. (name : List ℕ) → held_by names.new name ≡ option_or (held_by names.old name) (entry_of name (own_number element.now (at_place labels.now place)) element.now)) result }
 {
     let Some(number) = own_number(element, labels, place) else {
@@ -157,7 +154,7 @@ fn first_left_over(linked: &[Linked<'_>], found: &[Option<usize>], order: Order)
 }
 
 /// That there are too many references of an order, in words.
-fn too_many(alloc: Global, order: Order, footnotes: usize) -> Result<Text, TreeFault>
+fn too_many(alloc: Global, order: Order, footnotes: usize) -> Result<Text>
     ensures { Gives (λ text. text ≡ too_many order footnotes) result }
 {
     let text = format!(in alloc;
@@ -173,7 +170,7 @@ fn leftover(
     linked: &[Linked<'_>],
     found: &[Option<usize>],
     order: Order,
-) -> Result<Option<usize>, TreeFault>
+) -> Result<Option<usize>>
     ensures { Gives (Makes (leftover (first_left_over order found.now (map held linked.now)) order (length (in_order order (map held linked.now)))) context.old context.new) result }
 {
     let Some(line) = first_left_over(linked, found, order) else {
@@ -204,7 +201,7 @@ fn outcomes_by(
     found: &[Option<usize>],
     numbers: Option<usize>,
     symbols: Option<usize>,
-) -> Result<Vec<Outcome>, TreeFault>
+) -> Result<Vec<Outcome>>
     ensures { Gives (λ list. list.items ≡ outcomes_by (map held linked.now) labels.now found.now numbers symbols) result }
 {
     let mut list = Vec::with_capacity(alloc, linked.len())?;
@@ -233,7 +230,7 @@ fn outcome(
     one: &Linked<'_>,
     found: Option<usize>,
     report: Option<usize>,
-) -> Result<Outcome, TreeFault>
+) -> Result<Outcome>
     ensures { Gives (λ outcome. outcome ≡ outcome_by (map held linked.now) labels.now place (held one.now) found report) result }
 {
     if let Some(footnote) = found {
@@ -246,11 +243,7 @@ fn outcome(
 }
 
 /// A copy of the label of a footnote, if there is one.
-fn label_in(
-    alloc: Global,
-    labels: &[Option<Text>],
-    footnote: Option<usize>,
-) -> Result<Option<Text>, TreeFault>
+fn label_in(alloc: Global, labels: &[Option<Text>], footnote: Option<usize>) -> Result<Option<Text>>
     ensures { Gives (λ shown. shown ≡ label_in labels.now footnote) result }
 {
     match footnote {
@@ -263,11 +256,7 @@ fn label_in(
 }
 
 /// What a reference says of the footnote at a place: its id.
-fn lead_to_footnote(
-    alloc: Global,
-    linked: &[Linked<'_>],
-    footnote: usize,
-) -> Result<Option<Entry>, TreeFault>
+fn lead_to_footnote(alloc: Global, linked: &[Linked<'_>], footnote: usize) -> Result<Option<Entry>>
     ensures { Gives (λ lead. lead ≡ lead_to_footnote (slice_get (map held linked.now) footnote)) result }
 {
     let Some(one) = linked.get(footnote) else {
@@ -285,7 +274,7 @@ fn referring(
     linked: &[Linked<'_>],
     labels: &[Option<Text>],
     footnote: usize,
-) -> Result<Outcome, TreeFault>
+) -> Result<Outcome>
     ensures { Gives (λ outcome. outcome ≡ referring (map held linked.now) labels.now footnote) result }
 {
     let attr = lead_to_footnote(alloc, linked, footnote)?;
@@ -309,7 +298,7 @@ fn with_number(
     node: &Node,
     labels: &[Option<Text>],
     place: usize,
-) -> Result<Option<Entry>, TreeFault>
+) -> Result<Option<Entry>>
     ensures { Gives (λ names. names ≡ with_number node.now (own_number node.now (at_place labels.now place))) result }
 {
     let Some(number) = own_number(node, labels, place) else {
@@ -327,7 +316,7 @@ fn labelled(
     one: &Linked<'_>,
     labels: &[Option<Text>],
     place: usize,
-) -> Result<Outcome, TreeFault>
+) -> Result<Outcome>
     ensures { Gives (λ outcome. outcome ≡ labelled labels.now place (held one.now)) result }
 {
     if is_label(one.element) {

@@ -8,8 +8,8 @@ ghost use Rattle.rst_transform_work.specs.Known.{Makes};
 ghost use Rattle.rst_transform_work.specs.Reports.{report_in, IsReported, KeepsRest};
 
 use rst_transform_links::{Linked, Outcome, lead_of, text_attr};
-use rst_transform_work::{Context, first_said, has, line_of};
-use rst_tree::{Entry, Key, Level, Node, Tag, Text, TreeFault};
+use rst_transform_work::{Context, Result, first_said, has, line_of};
+use rst_tree::{Entry, Key, Level, Node, Tag, Text};
 use std::alloc::Global;
 
 /// Lets the n-th anonymous reference refer to the n-th anonymous target (Markup Specification, 'Anonymous Hyperlinks').
@@ -34,10 +34,7 @@ use std::alloc::Global;
 ///
 /// One through an indirect target is left to the next transform. If there are more of the ones than of the others, there is
 /// one ERROR, and each reference becomes a problematic.
-pub fn anonymous_outcomes(
-    context: &mut Context,
-    linked: &[Linked<'_>],
-) -> Result<Vec<Outcome>, TreeFault>
+pub fn anonymous_outcomes(context: &mut Context, linked: &[Linked<'_>]) -> Result<Vec<Outcome>>
     ensures { Gives (λ outcomes. Makes (anonymous_outcomes (map held linked.now)) context.old context.new outcomes.items) result }
 {
     let references = anonymous_references(context.alloc, linked)?;
@@ -79,10 +76,7 @@ pub fn is_anonymous_target(node: &Node) -> bool
 }
 
 /// The anonymous references among linked elements, in order.
-fn anonymous_references<'a>(
-    alloc: Global,
-    linked: &[Linked<'a>],
-) -> Result<Vec<Linked<'a>>, TreeFault>
+fn anonymous_references<'a>(alloc: Global, linked: &[Linked<'a>]) -> Result<Vec<Linked<'a>>>
     ensures { Gives (λ list. map held list.items ≡ anonymous_references (map held linked.now)) result }
 {
     let mut list = Vec::new(alloc);
@@ -95,7 +89,7 @@ fn anonymous_references<'a>(
 }
 
 /// The anonymous targets among linked elements, in order.
-fn anonymous_targets<'a>(alloc: Global, linked: &[Linked<'a>]) -> Result<Vec<Linked<'a>>, TreeFault>
+fn anonymous_targets<'a>(alloc: Global, linked: &[Linked<'a>]) -> Result<Vec<Linked<'a>>>
     ensures { Gives (λ list. map held list.items ≡ anonymous_targets (map held linked.now)) result }
 {
     let mut list = Vec::new(alloc);
@@ -121,7 +115,7 @@ fn first_line(references: &[Linked<'_>], targets: &[Linked<'_>]) -> usize
 }
 
 /// That there are more of the ones than of the others, in words.
-fn mismatch(alloc: Global, references: usize, targets: usize) -> Result<Text, TreeFault>
+fn mismatch(alloc: Global, references: usize, targets: usize) -> Result<Text>
     ensures { Gives (λ text. text ≡ mismatch references targets) result }
 {
     let text = format!(in alloc;
@@ -135,7 +129,7 @@ fn report_mismatch(
     context: &mut Context,
     references: &[Linked<'_>],
     targets: &[Linked<'_>],
-) -> Result<usize, TreeFault>
+) -> Result<usize>
     ensures place { Gives (λ place. place ≡ length context.old.reports.items) result }
     ensures reports { let line = first_line (map held references.now) (map held targets.now) in
         Gives (λ _. IsReported (report_in context.old Error line (mismatch (length references.now) (length targets.now)) true) context.old context.new) result }
@@ -148,11 +142,7 @@ fn report_mismatch(
 }
 
 /// What becomes of the elements: each anonymous reference takes the next target.
-fn paired(
-    alloc: Global,
-    linked: &[Linked<'_>],
-    targets: &[Linked<'_>],
-) -> Result<Vec<Outcome>, TreeFault>
+fn paired(alloc: Global, linked: &[Linked<'_>], targets: &[Linked<'_>]) -> Result<Vec<Outcome>>
     ensures { Gives (λ outcomes. outcomes.items ≡ paired (map held linked.entry.now) (map held targets.entry.now)) result }
 {
     let mut left = targets;
@@ -176,7 +166,7 @@ fn behind_first<'t, 'a>(targets: &'t [Linked<'a>]) -> &'t [Linked<'a>]
 }
 
 /// What a reference says of the first of some targets, if there is one.
-fn first_lead(alloc: Global, targets: &[Linked<'_>]) -> Result<Option<Entry>, TreeFault>
+fn first_lead(alloc: Global, targets: &[Linked<'_>]) -> Result<Option<Entry>>
     ensures { Gives (λ lead. lead ≡ first_lead (map held targets.entry.now)) result }
 {
     match targets.first() {
@@ -186,7 +176,7 @@ fn first_lead(alloc: Global, targets: &[Linked<'_>]) -> Result<Option<Entry>, Tr
 }
 
 /// What a reference says of its target: where that leads, or its id, unless it is an indirect one.
-fn lead_to(alloc: Global, target: &Node) -> Result<Option<Entry>, TreeFault>
+fn lead_to(alloc: Global, target: &Node) -> Result<Option<Entry>>
     ensures { Gives (λ lead. lead ≡ lead_to target.now) result }
 {
     if let Some(attr) = lead_of(alloc, target)? {
@@ -202,11 +192,7 @@ fn lead_to(alloc: Global, target: &Node) -> Result<Option<Entry>, TreeFault>
 }
 
 /// Where all anonymous references fail for a report, what becomes of the elements.
-fn mismatched(
-    alloc: Global,
-    linked: &[Linked<'_>],
-    report: usize,
-) -> Result<Vec<Outcome>, TreeFault>
+fn mismatched(alloc: Global, linked: &[Linked<'_>], report: usize) -> Result<Vec<Outcome>>
     ensures { Gives (λ outcomes. outcomes.items ≡ map (λ one. failing report one.0) (map held linked.now)) result }
 {
     let mut outcomes = Vec::with_capacity(alloc, linked.len())?;

@@ -5,7 +5,8 @@ ghost use Rattle.rst_transform_hyperlinks.specs.declared.chains.Answer.TheVarian
 ghost use Rattle.rst_transform_hyperlinks.specs.Chains.{answers_of, at_once, filled, next_on, KnownBelow};
 ghost use Rattle.rst_transform_work.specs.Lists.{at_place};
 
-use rst_tree::{Entry, Text, TreeFault};
+use rst_transform_work::Result;
+use rst_tree::{Entry, Text};
 use std::alloc::Global;
 
 /// What an indirect target comes to, through further ones.
@@ -30,7 +31,7 @@ pub enum Step {
 
 impl Answer {
     /// An equal answer.
-    fn copy(&self, alloc: Global) -> Result<Answer, TreeFault>
+    fn copy(&self, alloc: Global) -> Result<Answer>
         ensures { Gives (λ answer. answer ≡ self.now) result }
     {
         match self {
@@ -52,7 +53,7 @@ pub fn answer_at<'a>(answers: &'a [Option<Answer>], place: usize) -> Option<&'a 
 }
 
 /// What each indirect target comes to, by its place and its first step; there is nothing for the other elements.
-pub fn answers(alloc: Global, steps: &[Option<Step>]) -> Result<Vec<Option<Answer>>, TreeFault>
+pub fn answers(alloc: Global, steps: &[Option<Step>]) -> Result<Vec<Option<Answer>>>
     ensures { Gives (λ answers. answers.items ≡ answers_of steps.now) result }
 {
     let mut answers = at_once(alloc, steps)?;
@@ -63,7 +64,7 @@ pub fn answers(alloc: Global, steps: &[Option<Step>]) -> Result<Vec<Option<Answe
 }
 
 /// The answers of those whose chains end with the first step.
-fn at_once(alloc: Global, steps: &[Option<Step>]) -> Result<Vec<Option<Answer>>, TreeFault>
+fn at_once(alloc: Global, steps: &[Option<Step>]) -> Result<Vec<Option<Answer>>>
     ensures { Gives (λ answers. answers.items ≡ map at_once steps.now) result }
 {
     let mut answers = Vec::with_capacity(alloc, steps.len())?;
@@ -85,7 +86,7 @@ fn follow(
     steps: &[Option<Step>],
     answers: &mut Vec<Option<Answer>>,
     start: usize,
-) -> Result<(), TreeFault>
+) -> Result<()>
     requires { KnownBelow steps.now start answers.old.items }
     ensures { Gives (λ _. KnownBelow steps.now (start + 1) answers.new.items) result }
 {
@@ -115,7 +116,7 @@ fn next_on(steps: &[Option<Step>], answers: &[Option<Answer>], place: usize) -> 
 }
 
 /// The answer at a place where a chain stops; there is none where there is no indirect target.
-fn found_at(alloc: Global, answers: &[Option<Answer>], place: usize) -> Result<Answer, TreeFault>
+fn found_at(alloc: Global, answers: &[Option<Answer>], place: usize) -> Result<Answer>
     ensures { Gives (λ found. found ≡ unwrap_or (at_place answers.now place) Circular) result }
 {
     match answer_at(answers, place) {
@@ -130,7 +131,7 @@ fn fill(
     chain: &[usize],
     found: &Answer,
     answers: &mut Vec<Option<Answer>>,
-) -> Result<(), TreeFault>
+) -> Result<()>
     ensures { Gives (λ _. answers.new.items ≡ filled found.now chain.now answers.old.items) result }
 {
     for place in chain {

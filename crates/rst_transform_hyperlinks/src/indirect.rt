@@ -15,8 +15,8 @@ use crate::anonymous::{is_anonymous_reference, is_anonymous_target};
 use crate::chains::{Answer, Step, answer_at, answers};
 use rst_transform_links::{Holders, Linked, Outcome, element_at, is_lost, is_target, lead_by_name};
 use rst_transform_names::{NameEntry, Names};
-use rst_transform_work::{Context, at_place, has, line_of, text_said};
-use rst_tree::{Key, Level, Node, Tag, Text, TreeFault};
+use rst_transform_work::{Context, Result, at_place, has, line_of, text_said};
+use rst_tree::{Key, Level, Node, Tag, Text};
 use std::alloc::Global;
 
 /// Lets each target that refers to a name lead where that name leads, through further such targets (Markup Specification,
@@ -47,10 +47,7 @@ use std::alloc::Global;
 /// References by name are left to the last of these transforms. A target whose chain runs into a circle, or breaks at a name
 /// that no element holds, gives an ERROR, and the references through it become problematics of that message: message by message,
 /// under each in the order of the document.
-pub fn indirect_outcomes(
-    context: &mut Context,
-    linked: &[Linked<'_>],
-) -> Result<Vec<Outcome>, TreeFault>
+pub fn indirect_outcomes(context: &mut Context, linked: &[Linked<'_>]) -> Result<Vec<Outcome>>
     ensures { Gives (λ outcomes. Makes (indirect_outcomes (map held linked.now)) context.old context.new outcomes.items) result }
 {
     let holders = Holders::of(context.alloc, linked, context.serials)?;
@@ -94,7 +91,7 @@ fn step_to(
     linked: &[Linked<'_>],
     known: &NameEntry,
     place: Option<usize>,
-) -> Result<Step, TreeFault>
+) -> Result<Step>
     ensures { Gives (λ step. step ≡ step_to (map held linked.now) place known.now) result }
 {
     let holder = element_at(linked, place);
@@ -111,7 +108,7 @@ fn own_step(
     holders: &Holders,
     linked: &[Linked<'_>],
     node: &Node,
-) -> Result<Option<Step>, TreeFault>
+) -> Result<Option<Step>>
     ensures { Gives (λ step. step ≡ own_step (held_by names.now) (place_at holders.now.places.items) (map held linked.now) node.now) result }
 {
     let Some(name) = indirect_name(node) else {
@@ -135,7 +132,7 @@ fn first_steps(
     names: &Names,
     holders: &Holders,
     linked: &[Linked<'_>],
-) -> Result<Vec<Option<Step>>, TreeFault>
+) -> Result<Vec<Option<Step>>>
     ensures { Gives (λ steps. steps.items ≡ steps_of (held_by names.now) (place_at holders.now.places.items) (map held linked.now)) result }
 {
     let mut steps = Vec::with_capacity(alloc, linked.len())?;
@@ -147,7 +144,7 @@ fn first_steps(
 }
 
 /// What the message says of a target whose chain breaks at a name that no element holds.
-fn missing_text(alloc: Global, name: &str, missing: &str) -> Result<Text, TreeFault>
+fn missing_text(alloc: Global, name: &str, missing: &str) -> Result<Text>
     ensures { Gives (λ text. text ≡ missing_text name.now missing.now) result }
 {
     let text = format!(in alloc;
@@ -162,7 +159,7 @@ fn failure_at(
     node: &Node,
     answers: &[Option<Answer>],
     place: usize,
-) -> Result<Option<Text>, TreeFault>
+) -> Result<Option<Text>>
     ensures { Gives (λ text. text ≡ failure_of node.now (at_place answers.now place)) result }
 {
     let name = text_said(node, Key::OwnName).unwrap_or("");
@@ -181,7 +178,7 @@ fn report_failure(
     context: &mut Context,
     node: &Node,
     failure: Option<Text>,
-) -> Result<Option<usize>, TreeFault>
+) -> Result<Option<usize>>
     ensures place { Gives (λ place. place ≡ (with_report context.old.first_number context.old.reports.items node.now failure).0) result }
     ensures reports { Gives (λ _. context.new.reports.items ≡ (with_report context.old.first_number context.old.reports.items node.now failure).1) result }
     ensures rest { Gives (λ _. KeepsRest context.old context.new) result }
@@ -198,7 +195,7 @@ fn reports(
     context: &mut Context,
     linked: &[Linked<'_>],
     answers: &[Option<Answer>],
-) -> Result<Vec<Option<usize>>, TreeFault>
+) -> Result<Vec<Option<usize>>>
     ensures places { Gives (λ reports. reports.items ≡ (with_reports (at_place answers.now) context.old.first_number context.old.reports.items 0 (map held linked.now)).0) result }
     ensures reports { Gives (λ _. context.new.reports.items ≡ (with_reports (at_place answers.now) context.old.first_number context.old.reports.items 0 (map held linked.now)).1) result }
     ensures rest { Gives (λ _. KeepsRest context.old context.new) result }
@@ -213,7 +210,7 @@ fn reports(
 }
 
 /// The places of the anonymous targets, in order.
-fn anonymous_places(alloc: Global, linked: &[Linked<'_>]) -> Result<Vec<usize>, TreeFault>
+fn anonymous_places(alloc: Global, linked: &[Linked<'_>]) -> Result<Vec<usize>>
     ensures { Gives (λ places. places.items ≡ anonymous_from 0 (map held linked.now)) result }
 {
     let mut places = Vec::new(alloc);
@@ -253,7 +250,7 @@ fn targets_of(
     names: &Names,
     holders: &Holders,
     linked: &[Linked<'_>],
-) -> Result<Vec<Option<usize>>, TreeFault>
+) -> Result<Vec<Option<usize>>>
     ensures { Gives (λ targets. targets.items ≡ targets_of (held_by names.now) (place_at holders.now.places.items) (map held linked.now)) result }
 {
     let anonymous = anonymous_places(alloc, linked)?;
@@ -271,7 +268,7 @@ fn targets_of(
 }
 
 /// What becomes of an element that leads where an answer says.
-fn led(alloc: Global, answer: &Answer) -> Result<Outcome, TreeFault>
+fn led(alloc: Global, answer: &Answer) -> Result<Outcome>
     ensures { Gives (λ outcome. outcome ≡ led answer.now) result }
 {
     match answer {
@@ -288,7 +285,7 @@ fn outcome_at(
     reports: &[Option<usize>],
     target: Option<usize>,
     place: usize,
-) -> Result<Outcome, TreeFault>
+) -> Result<Outcome>
     ensures { Gives (λ outcome. outcome ≡ outcome_or (at_place answers.now place) (outcome_through (at_place answers.now) (at_place reports.now) node.now target)) result }
 {
     if let Some(answer) = answer_at(answers, place) {
@@ -313,7 +310,7 @@ fn outcomes(
     answers: &[Option<Answer>],
     reports: &[Option<usize>],
     targets: &[Option<usize>],
-) -> Result<Vec<Outcome>, TreeFault>
+) -> Result<Vec<Outcome>>
     ensures { Gives (λ outcomes. outcomes.items ≡ outcomes_by (at_place answers.now) (at_place reports.now) (at_place targets.now) (map held linked.now)) result }
 {
     let mut outcomes = Vec::with_capacity(alloc, linked.len())?;

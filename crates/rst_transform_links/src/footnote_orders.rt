@@ -7,7 +7,8 @@ ghost use Rattle.rst_transform_links.specs.Linkings.{held};
 ghost use Rattle.rst_transform_links.specs.FootnoteOrders.{first_left, footnote_order, found_by_order, in_order, is_order, mark_of, order_name, order_said, places_left, reference_order, take_in_order};
 
 use crate::links::Linked;
-use rst_tree::{Attrs, Key, Node, Said, Tag, TreeFault};
+use rst_transform_work::Result;
+use rst_tree::{Attrs, Key, Node, Said, Tag};
 use std::alloc::Global;
 
 /// The two orders by which a reference without a name finds its footnote (Markup Specification, 'Footnotes').
@@ -89,7 +90,7 @@ pub fn reference_order(node: &Node) -> Option<Order>
 }
 
 /// The places of the footnotes that references find by an order.
-pub fn in_order(alloc: Global, linked: &[Linked<'_>], order: Order) -> Result<Vec<usize>, TreeFault>
+pub fn in_order(alloc: Global, linked: &[Linked<'_>], order: Order) -> Result<Vec<usize>>
     ensures { Gives (λ places. places.items ≡ in_order order (map held linked.now)) result }
 {
     let mut places = Vec::new(alloc);
@@ -101,53 +102,20 @@ pub fn in_order(alloc: Global, linked: &[Linked<'_>], order: Order) -> Result<Ve
     Ok(places)
 }
 
-/// The first of the places that are left to each order, for a reference that takes one of them.
-fn first_left(order: Option<Order>, numbers: &[usize], symbols: &[usize]) -> Option<usize>
-    ensures { result ≡ first_left order numbers.now symbols.now }
-{
-    match order {
-        Some(Order::Numbers) => numbers.first().copied(),
-        Some(Order::Symbols) => symbols.first().copied(),
-        None => None,
-    }
-}
-
-/// What is left of the places of an order after a reference of some order.
-fn places_left<'p>(order: Order, taken: Option<Order>, places: &'p [usize]) -> &'p [usize]
-    ensures { result.now ≡ places_left order taken places.now }
-{
-    if order.is(taken) {
-        return &places[places.len().min(1)..];
-    }
-    places
-}
-
-/// Each reference takes the next of the places of its order, where one is left.
-fn take_in_order(
-    alloc: Global,
-    linked: &[Linked<'_>],
-    numbers: &[usize],
-    symbols: &[usize],
-) -> Result<Vec<Option<usize>>, TreeFault>
-    ensures { Gives (λ taken. taken.items ≡ take_in_order numbers.entry.now symbols.entry.now (map held linked.entry.now)) result }
-{
-    let mut numbers = numbers;
-    let mut symbols = symbols;
-    let mut taken = Vec::with_capacity(alloc, linked.len())?;
-    for one in linked {
-        let order = reference_order(one.element);
-        taken.push(first_left(order, numbers, symbols))?;
-        numbers = places_left(Order::Numbers, order, numbers);
-        symbols = places_left(Order::Symbols, order, symbols);
-    }
-    Ok(taken)
-}
-
-/// For each linked element the place of the footnote that it finds by the order, if it finds one.
-pub fn found_by_order(alloc: Global, linked: &[Linked<'_>]) -> Result<Vec<Option<usize>>, TreeFault>
+/// For each linked element the place of the footnote that it finds by the order, if it finds one: each reference takes the next
+/// footnote of its order, where one is left.
+pub fn found_by_order(alloc: Global, linked: &[Linked<'_>]) -> Result<Vec<Option<usize>>>
     ensures { Gives (λ found. found.items ≡ found_by_order (map held linked.now)) result }
 {
-    let numbers = in_order(alloc, linked, Order::Numbers)?;
-    let symbols = in_order(alloc, linked, Order::Symbols)?;
-    take_in_order(alloc, linked, numbers.as_slice(), symbols.as_slice())
+    let mut numbers = in_order(alloc, linked, Order::Numbers)?.into_iter();
+    let mut symbols = in_order(alloc, linked, Order::Symbols)?.into_iter();
+    let mut found = Vec::with_capacity(alloc, linked.len())?;
+    for one in linked {
+        match reference_order(one.element) {
+            Some(Order::Numbers) => found.push(numbers.next())?,
+            Some(Order::Symbols) => found.push(symbols.next())?,
+            None => found.push(None)?,
+        }
+    }
+    Ok(found)
 }

@@ -1,5 +1,5 @@
 //! The holders of names among the elements that references join.
-ghost use Rattle.std.specs.Prelude.{◌≡◌, map, replicate, None};
+ghost use Rattle.std.specs.Prelude.{◌≡◌, map};
 ghost use Rattle.rst_tree.specs.declared.attrs.Value.TheVariants.{Text as Words};
 ghost use Rattle.rst_tree.specs.declared.key.Key.TheVariants.{Serial};
 ghost use Rattle.rst_tree.specs.Attributes.{attr};
@@ -12,8 +12,8 @@ ghost use Rattle.rst_transform_work.specs.Reading.{number_said};
 
 use crate::links::Linked;
 use rst_transform_names::{Holder, NameEntry};
-use rst_transform_work::{number_said, text_said};
-use rst_tree::{Entry, Key, Node, Tag, Text, TreeFault, Value};
+use rst_transform_work::{Result, number_said, text_said};
+use rst_tree::{Entry, Key, Node, Tag, Text, Value};
 use std::alloc::Global;
 
 /// The places of linked elements in the list of all, by their numbers.
@@ -24,10 +24,10 @@ pub struct Holders {
 
 impl Holders {
     /// The places of some elements, whose numbers are below `serials`.
-    pub fn of(alloc: Global, linked: &[Linked<'_>], serials: u64) -> Result<Holders, TreeFault>
+    pub fn of(alloc: Global, linked: &[Linked<'_>], serials: u64) -> Result<Holders>
         ensures { Gives (λ holders. (holder : Holder) → place_at holders.places.items holder ≡ holder_place serials (map held linked.now) holder) result }
     {
-        let mut places = nowhere(alloc, serials)?;
+        let mut places = vec![in alloc; None; serials as usize]?;
         for (place, one) in linked.iter().enumerate() {
             put_place(&mut places, place, one.element);
         }
@@ -43,17 +43,6 @@ impl Holders {
             Holder::Nobody | Holder::Unregistered => None,
         }
     }
-}
-
-/// No place for each number below this.
-fn nowhere(alloc: Global, serials: u64) -> Result<Vec<Option<usize>>, TreeFault>
-    ensures { Gives (λ places. places.items ≡ replicate serials None) result }
-{
-    let mut places = Vec::new(alloc);
-    for _ in 0..serials {
-        places.push(None)?;
-    }
-    Ok(places)
 }
 
 /// Puts the place of an element at its number, if it has one below the number of places.
@@ -86,7 +75,7 @@ pub fn is_lost(known: &NameEntry) -> bool
 }
 
 /// An attribute that is a text.
-pub fn text_attr(alloc: Global, key: Key, text: &str) -> Result<Entry, TreeFault>
+pub fn text_attr(alloc: Global, key: Key, text: &str) -> Result<Entry>
     ensures { Gives (λ entry. entry ≡ attr key (Words text.now)) result }
 {
     let text = Text::from_str(alloc, text)?;
@@ -95,7 +84,7 @@ pub fn text_attr(alloc: Global, key: Key, text: &str) -> Result<Entry, TreeFault
 
 /// Where a target leads that isn't a place of its own: its `refuri` or else its `refid`, as an attribute for what refers to
 /// it.
-pub fn lead_of(alloc: Global, target: &Node) -> Result<Option<Entry>, TreeFault>
+pub fn lead_of(alloc: Global, target: &Node) -> Result<Option<Entry>>
     ensures { Gives (λ lead. lead ≡ lead_of target.now) result }
 {
     if let Some(uri) = text_said(target, Key::Refuri) {
@@ -117,24 +106,9 @@ pub fn is_target(node: &Node) -> bool
     }
 }
 
-/// Where a name leads that no target in the document leads for: to the URI of the target that brought it, or else to the id of the
-/// element that did.
-fn kept_lead(alloc: Global, held: &NameEntry) -> Result<Entry, TreeFault>
-    ensures { Gives (λ lead. lead ≡ kept_lead held.now.uri held.now.id) result }
-{
-    match &held.uri {
-        Some(uri) => text_attr(alloc, Key::Refuri, uri.as_str()),
-        None => text_attr(alloc, Key::Refid, held.id.as_str()),
-    }
-}
-
 /// Where a name leads by which another target isn't meant: to where its holder leads if that is a target, and else to the
 /// id of the element that brought the name. A target with a URI leads there though it has left the document.
-pub fn lead_by_name(
-    alloc: Global,
-    held: &NameEntry,
-    holder: Option<&Node>,
-) -> Result<Entry, TreeFault>
+pub fn lead_by_name(alloc: Global, held: &NameEntry, holder: Option<&Node>) -> Result<Entry>
     ensures { Gives (λ lead. lead ≡ name_lead (holding holder.entry) held.now.uri held.now.id) result }
 {
     if let Some(target) = holder.filter(|holder| is_target(holder)) {
@@ -142,5 +116,8 @@ pub fn lead_by_name(
             return Ok(lead);
         }
     }
-    kept_lead(alloc, held)
+    match &held.uri {
+        Some(uri) => text_attr(alloc, Key::Refuri, uri.as_str()),
+        None => text_attr(alloc, Key::Refid, held.id.as_str()),
+    }
 }

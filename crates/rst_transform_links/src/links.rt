@@ -6,8 +6,8 @@ ghost use Rattle.rst_transform_links.specs.Linkings.{held, inner_of, linked_amon
 ghost use Rattle.rst_transform_links.specs.Links.{changed_document, is_idle};
 ghost use Rattle.rst_transform_links.specs.Outcomes.{adds, fails, stays};
 
-use rst_transform_work::{Document, ProblematicAttrs, take_source};
-use rst_tree::{Attrs, Children, Entry, Node, Rewriter, Tag, Text, TreeFault, rewrite_in};
+use rst_transform_work::{Document, ProblematicAttrs, Result, take_source};
+use rst_tree::{Attrs, Children, Entry, Node, Rewriter, Tag, Text, rewrite_in};
 use rst_tree_index::is_linked_tag;
 use std::alloc::Global;
 use std::collections::VecDeque;
@@ -60,7 +60,7 @@ impl Outcome {
 }
 
 /// The linked elements in a document, in preorder.
-pub fn linked_in<'a>(alloc: Global, document: &'a Document) -> Result<Vec<Linked<'a>>, TreeFault>
+pub fn linked_in<'a>(alloc: Global, document: &'a Document) -> Result<Vec<Linked<'a>>>
     ensures { Gives (λ list. map held list.items ≡ linked_of document.now) result }
 {
     let mut list = Vec::new(alloc);
@@ -73,7 +73,7 @@ fn add_linked<'a>(
     nodes: &'a Children,
     outer: Option<usize>,
     list: &mut Vec<Linked<'a>>,
-) -> Result<(), TreeFault>
+) -> Result<()>
     ensures { Gives (λ _. map held list.new.items ≡ map held list.old.items ++ linked_among (length list.old.items) outer nodes.now) result }
 {
     for node in nodes.as_slice() {
@@ -99,7 +99,7 @@ fn add_own<'a>(
     tag: Tag,
     outer: Option<usize>,
     list: &mut Vec<Linked<'a>>,
-) -> Result<Option<usize>, TreeFault>
+) -> Result<Option<usize>>
     ensures own { Gives (λ _. map held list.new.items ≡ map held list.old.items ++ own_linked outer tag node.now) result }
     ensures inner { Gives (λ inner. inner ≡ inner_of (length list.old.items) outer tag) result }
 {
@@ -167,7 +167,7 @@ impl Changes {
         attrs: &mut Attrs,
         children: &mut Children,
         line: usize,
-    ) -> Result<bool, TreeFault>
+    ) -> Result<bool>
         ensures state { Gives (λ _. self.new ≡ drop 1 self.old) result }
         ensures outcome { Gives (λ stays. Turned (changed_by self.old tag.old attrs.old line) (Element tag.old attrs.old children.old line) (Element tag.new attrs.new children.new line) stays) result }
     {
@@ -212,7 +212,7 @@ impl Rewriter for Changes {
 
     ghost becomes = { change_of };
 
-    fn turn(&mut self, alloc: Global, element: &mut Node) -> Result<bool, TreeFault> {
+    fn turn(&mut self, alloc: Global, element: &mut Node) -> Result<bool> {
         if let Node::Element {
             tag,
             attrs,
@@ -231,11 +231,7 @@ impl Rewriter for Changes {
 
 /// A document in which its linked elements changed.
 #[tactic(auto, using(crate::proofs::Idle::idle_document))]
-pub fn with_changes(
-    alloc: Global,
-    mut document: Document,
-    mut changes: Changes,
-) -> Result<Document, TreeFault>
+pub fn with_changes(alloc: Global, mut document: Document, mut changes: Changes) -> Result<Document>
     ensures { Gives (λ after. after ≡ changed_document changes document) result }
 {
     if changes.are_idle() {

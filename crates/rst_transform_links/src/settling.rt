@@ -9,8 +9,7 @@ ghost use Rattle.rst_transform_links.specs.Settling.{by_message, earlier, first_
 ghost use Rattle.rst_transform_work.specs.Known.{Makes};
 
 use crate::links::{Changes, Linked, Outcome};
-use rst_transform_work::{Context, at_place};
-use rst_tree::TreeFault;
+use rst_transform_work::{Context, Result, at_place};
 use std::alloc::Global;
 
 /// Settles the outcomes of linked elements: what becomes of each that remains, in preorder.
@@ -21,16 +20,17 @@ pub fn settle(
     context: &mut Context,
     linked: &[Linked<'_>],
     mut outcomes: Vec<Outcome>,
-) -> Result<Changes, TreeFault>
+) -> Result<Changes>
     ensures { Gives (Makes (spec.settled (map held linked.now) outcomes.items) context.old context.new) result }
 {
     if all_stay(outcomes.as_slice()) {
         return Ok(Changes::of(outcomes));
     }
     let around = first_around(context.alloc, linked, outcomes.as_slice())?;
+    let reports = context.reports.len();
     let turns = turns(
         context.alloc,
-        context.reports.len(),
+        reports,
         outcomes.as_slice(),
         around.as_slice(),
     )?;
@@ -51,7 +51,7 @@ fn first_around(
     alloc: Global,
     linked: &[Linked<'_>],
     outcomes: &[Outcome],
-) -> Result<Vec<Option<usize>>, TreeFault>
+) -> Result<Vec<Option<usize>>>
     ensures { Gives (λ around. around.items ≡ firsts [] outcomes.now (map held linked.now)) result }
 {
     let mut around: Vec<Option<usize>> = Vec::with_capacity(alloc, linked.len())?;
@@ -68,15 +68,7 @@ fn first_in(around: &[Option<usize>], outcomes: &[Outcome], outer: Option<usize>
     ensures { result ≡ first_in around.now outcomes.now outer }
 {
     let outer = outer?;
-    let outcome = outcomes.get(outer)?;
-    earlier(*around.get(outer)?, outcome)
-}
-
-/// The earlier of a report and that of an outcome, where there are such.
-fn earlier(first: Option<usize>, outcome: &Outcome) -> Option<usize>
-    ensures { result ≡ earlier first outcome.now }
-{
-    match (first, outcome) {
+    match (*around.get(outer)?, outcomes.get(outer)?) {
         (Some(first), Outcome::Fails(report)) => Some(first.min(*report)),
         (None, Outcome::Fails(report)) => Some(*report),
         (first, _) => first,
@@ -94,37 +86,21 @@ fn is_still_there(report: usize, around: Option<usize>) -> bool
     }
 }
 
-/// The turn of an element at a place, if it becomes a problematic of one of so many reports: the report, and the place.
-fn turn_of(
-    reports: usize,
-    around: &[Option<usize>],
-    place: usize,
-    outcome: &Outcome,
-) -> Option<(usize, usize)>
-    ensures { result ≡ turn_of reports around.now (place, outcome.now) }
-{
-    match outcome {
-        Outcome::Fails(report)
-            if *report < reports && is_still_there(*report, at_place(around, place)) => {
-            Some((*report, place))
-        }
-        _ => None,
-    }
-}
-
 /// The turns of the elements that become problematics: report by report, under each in preorder.
 fn turns(
     alloc: Global,
     reports: usize,
     outcomes: &[Outcome],
     around: &[Option<usize>],
-) -> Result<Vec<(usize, usize)>, TreeFault>
+) -> Result<Vec<(usize, usize)>>
     ensures { Gives (λ turns. turns.items ≡ by_message reports (turns_of reports around.now outcomes.now)) result }
 {
     let mut turns = Vec::with_capacity(alloc, outcomes.len())?;
     for (place, outcome) in outcomes.iter().enumerate() {
-        if let Some(turn) = turn_of(reports, around, place, outcome) {
-            turns.push(turn)?;
+        if let Outcome::Fails(report) = outcome {
+            if *report < reports && is_still_there(*report, at_place(around, place)) {
+                turns.push((*report, place))?;
+            }
         }
     }
     // Mostly they are found in this order.
@@ -137,7 +113,7 @@ fn take_turns(
     context: &mut Context,
     turns: &[(usize, usize)],
     outcomes: &mut Vec<Outcome>,
-) -> Result<(), TreeFault>
+) -> Result<()>
     ensures { Gives (λ _. Makes (spec.take_turns turns.now outcomes.old.items) context.old context.new outcomes.new.items) result }
 {
     for turn in turns {
@@ -157,25 +133,10 @@ fn put_at(outcomes: &mut Vec<Outcome>, place: usize, outcome: Outcome)
     outcomes[place] = outcome;
 }
 
-/// Whether no element is inside one that becomes a problematic.
-fn do_all_remain(around: &[Option<usize>]) -> bool
-    ensures { result ≡ list_all is_none around.now }
-{
-    around.iter().all(|first| first.is_none())
-}
-
 /// What becomes of the elements that remain in the end.
-#[tactic(auto, using(crate::proofs::SettlingLemmas::all_remain))]
-fn remaining(
-    alloc: Global,
-    outcomes: Vec<Outcome>,
-    around: &[Option<usize>],
-) -> Result<Changes, TreeFault>
+fn remaining(alloc: Global, outcomes: Vec<Outcome>, around: &[Option<usize>]) -> Result<Changes>
     ensures { Gives (λ changes. changes ≡ spec.remaining around.now outcomes.items) result }
 {
-    if do_all_remain(around) {
-        return Ok(Changes::of(outcomes));
-    }
     let mut left = Vec::with_capacity(alloc, outcomes.len())?;
     for (place, outcome) in outcomes.into_iter().enumerate() {
         if at_place(around, place).is_none() {

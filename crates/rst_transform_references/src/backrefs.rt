@@ -11,8 +11,8 @@ ghost use Rattle.rst_transform_references.specs.Meanings.{refers_to_footnote_or_
 use crate::meanings::{Meaning, meaning_to, refers_to_footnote_or_citation};
 use rst_transform_links::{Holders, Linked, Outcome, found_by_order};
 use rst_transform_names::Names;
-use rst_transform_work::{at_place, first_said};
-use rst_tree::{Entry, Key, Node, Text, Texts, TreeFault, Value};
+use rst_transform_work::{Result, at_place, first_said};
+use rst_tree::{Entry, Key, Node, Text, Texts, Value};
 use std::alloc::Global;
 
 /// The place of the footnote or citation that an element refers to, by its name or by the order.
@@ -23,7 +23,7 @@ fn referent_of(
     holders: &Holders,
     element: &Node,
     found: Option<usize>,
-) -> Result<Option<usize>, TreeFault>
+) -> Result<Option<usize>>
     ensures { Gives (λ referent. referent ≡ referent_of (place_at holders.now.places.items) (map held linked.now) (held_by names.now) element.now found) result }
 {
     if !refers_to_footnote_or_citation(element) {
@@ -41,7 +41,7 @@ fn referents_of(
     linked: &[Linked<'_>],
     names: &Names,
     holders: &Holders,
-) -> Result<Vec<Option<usize>>, TreeFault>
+) -> Result<Vec<Option<usize>>>
     ensures { Gives (λ referents. referents.items ≡ referents_of (place_at holders.now.places.items) (map held linked.now) (held_by names.now)) result }
 {
     let found = found_by_order(alloc, linked)?;
@@ -55,7 +55,7 @@ fn referents_of(
 }
 
 /// No id for each of so many elements.
-fn no_ids(alloc: Global, count: usize) -> Result<Vec<Texts>, TreeFault>
+fn no_ids(alloc: Global, count: usize) -> Result<Vec<Texts>>
     ensures { Gives (λ lists. lists.items ≡ replicate count []) result }
 {
     let mut lists = Vec::with_capacity(alloc, count)?;
@@ -72,7 +72,7 @@ fn add_reference(
     lists: &mut Vec<Texts>,
     referent: Option<usize>,
     reference: &Node,
-) -> Result<(), TreeFault>
+) -> Result<()>
     ensures { Gives (λ _. lists.new.items ≡ with_reference referent reference.now lists.old.items) result }
 {
     let Some(referent) = referent else {
@@ -95,7 +95,7 @@ fn reference_ids(
     linked: &[Linked<'_>],
     referents: &[Option<usize>],
     count: usize,
-) -> Result<Vec<Texts>, TreeFault>
+) -> Result<Vec<Texts>>
     ensures { Gives (λ lists. lists.items ≡ reference_ids referents.now (map held linked.now) count) result }
 {
     let mut lists = no_ids(alloc, count)?;
@@ -123,7 +123,7 @@ fn with_backref_lists(
     alloc: Global,
     lists: Vec<Texts>,
     outcomes: Vec<Outcome>,
-) -> Result<Vec<Outcome>, TreeFault>
+) -> Result<Vec<Outcome>>
     ensures { Gives (λ changed. changed.items ≡ with_backref_lists lists.items outcomes.items) result }
 {
     let pairs = lists.into_iter().zip(outcomes);
@@ -152,7 +152,7 @@ pub fn with_backrefs(
     names: &Names,
     holders: &Holders,
     outcomes: Vec<Outcome>,
-) -> Result<Vec<Outcome>, TreeFault>
+) -> Result<Vec<Outcome>>
     ensures { let all = map held linked.now in Gives (λ changed. changed.items ≡ with_backrefs (referents_of (place_at holders.now.places.items) all (held_by names.now)) all outcomes.items) result }
 {
     if !any_refers_to_footnote_or_citation(linked) {

@@ -8,7 +8,8 @@ ghost use Rattle.rst_transform_references.specs.Meanings.{held_meaning, is_footn
 
 use rst_transform_links::{Holders, Linked, element_at, is_lost, lead_by_name};
 use rst_transform_names::{NameEntry, Names};
-use rst_tree::{Entry, Key, Node, Tag, TreeFault};
+use rst_transform_work::Result;
+use rst_tree::{Entry, Key, Node, Tag};
 use std::alloc::Global;
 
 /// What a name means to a reference (Markup Specification, 'Hyperlink References').
@@ -78,7 +79,7 @@ pub fn meaning_to(
     names: &Names,
     holders: &Holders,
     element: &Node,
-) -> Result<Option<Meaning>, TreeFault>
+) -> Result<Option<Meaning>>
     ensures { Gives (λ meaning. meaning ≡ meaning_to (place_at holders.now.places.items) (map held linked.now) (held_by names.now) element.now) result }
 {
     let Some(name) = reference_name(element) else {
@@ -99,7 +100,7 @@ fn held_meaning(
     holders: &Holders,
     needs_referent: bool,
     known: &NameEntry,
-) -> Result<Meaning, TreeFault>
+) -> Result<Meaning>
     ensures { Gives (λ meaning. meaning ≡ held_meaning (place_at holders.now.places.items) (map held linked.now) needs_referent known.now) result }
 {
     if is_lost(known) {

@@ -11,8 +11,8 @@ ghost use Rattle.rst_transform_references.specs.Resolving.{duplicate, is_gone, l
 use crate::backrefs::with_backrefs;
 use crate::meanings::{Meaning, meaning_to, refers_to_footnote_or_citation};
 use rst_transform_links::{Holders, Linked, Outcome, element_at};
-use rst_transform_work::{Context, has, line_of, text_said};
-use rst_tree::{Key, Level, Node, Text, TreeFault};
+use rst_transform_work::{Context, Result, has, line_of, text_said};
+use rst_tree::{Key, Level, Node, Text};
 use std::alloc::Global;
 
 /// Lets each reference by name refer to what the name means, and each footnote and citation tell its references (Markup
@@ -48,10 +48,7 @@ use std::alloc::Global;
 ///
 /// A name that means nothing gives an ERROR, and the reference becomes a problematic; the references inside it are gone, and
 /// give no message.
-pub fn reference_outcomes(
-    context: &mut Context,
-    linked: &[Linked<'_>],
-) -> Result<Vec<Outcome>, TreeFault>
+pub fn reference_outcomes(context: &mut Context, linked: &[Linked<'_>]) -> Result<Vec<Outcome>>
     ensures { Gives (λ outcomes. Makes (spec.reference_outcomes (map held linked.now)) context.old context.new outcomes.items) result }
 {
     let holders = Holders::of(context.alloc, linked, context.serials)?;
@@ -61,7 +58,7 @@ pub fn reference_outcomes(
 }
 
 /// The label that a footnote or a citation shows.
-fn label_of(alloc: Global, referent: &Node) -> Result<Option<Text>, TreeFault>
+fn label_of(alloc: Global, referent: &Node) -> Result<Option<Text>>
     ensures { Gives (λ label. label ≡ label_of referent.now) result }
 {
     let Node::Element { children, .. } = referent else {
@@ -86,7 +83,7 @@ fn shown_for(
     linked: &[Linked<'_>],
     reference: &Node,
     referent: Option<usize>,
-) -> Result<Option<Text>, TreeFault>
+) -> Result<Option<Text>>
     ensures { Gives (λ shown. shown ≡ shown_for (map held linked.now) reference.now referent) result }
 {
     if !shows_label(reference) {
@@ -99,7 +96,7 @@ fn shown_for(
 }
 
 /// What the ERROR says of a name that means nothing.
-fn unknown(alloc: Global, name: &str) -> Result<Text, TreeFault>
+fn unknown(alloc: Global, name: &str) -> Result<Text>
     ensures { Gives (λ text. text ≡ unknown name.now) result }
 {
     let text = Text::of_three(alloc, "Unknown target name: \"", name, "\".")?;
@@ -107,7 +104,7 @@ fn unknown(alloc: Global, name: &str) -> Result<Text, TreeFault>
 }
 
 /// What the ERROR says of a name that elements with equal names lost.
-fn duplicate(alloc: Global, name: &str) -> Result<Text, TreeFault>
+fn duplicate(alloc: Global, name: &str) -> Result<Text>
     ensures { Gives (λ text. text ≡ duplicate name.now) result }
 {
     let before = "Duplicate target name, cannot be used as a unique reference: \"";
@@ -124,7 +121,7 @@ fn name_of(reference: &Node) -> &str
 
 /// A reference that fails for an ERROR of its own.
 #[tactic(auto, using(crate::proofs::Resolves::fails_for))]
-fn failing(context: &mut Context, reference: &Node, text: Text) -> Result<Outcome, TreeFault>
+fn failing(context: &mut Context, reference: &Node, text: Text) -> Result<Outcome>
     ensures { Gives (Makes (spec.failing reference.now text) context.old context.new) result }
 {
     let line = line_of(reference);
@@ -138,7 +135,7 @@ fn outcome_of(
     linked: &[Linked<'_>],
     reference: &Node,
     meaning: Meaning,
-) -> Result<Outcome, TreeFault>
+) -> Result<Outcome>
     ensures { Gives (Makes (spec.outcome_of (map held linked.now) reference.now meaning) context.old context.new) result }
 {
     match meaning {
@@ -175,7 +172,7 @@ fn what_becomes(
     holders: &Holders,
     element: &Node,
     gone: bool,
-) -> Result<Outcome, TreeFault>
+) -> Result<Outcome>
     ensures { Gives (Makes (spec.what_becomes (place_at holders.now.places.items) (map held linked.now) gone element.now) context.old context.new) result }
 {
     if gone {
@@ -196,11 +193,7 @@ fn ends(gone: bool, outcome: &Outcome) -> bool
 }
 
 /// What becomes of all linked elements, where the messages of those that fail are made.
-fn resolved(
-    context: &mut Context,
-    linked: &[Linked<'_>],
-    holders: &Holders,
-) -> Result<Vec<Outcome>, TreeFault>
+fn resolved(context: &mut Context, linked: &[Linked<'_>], holders: &Holders) -> Result<Vec<Outcome>>
     ensures { let all = map held linked.now in Gives (λ outcomes. Makes (resolved_from (place_at holders.now.places.items) all [] all) context.old context.new outcomes.items) result }
 {
     let mut outcomes = Vec::with_capacity(context.alloc, linked.len())?;

@@ -7,8 +7,8 @@ ghost use Rattle.rst_transform_work.specs.Known.{Makes};
 ghost use Rattle.rst_transform_structure.specs.LastSection.{ids_moved, heading, is_shown, own_nodes, section_of, with_last_section};
 
 use rst_settings::Threshold;
-use rst_transform_work::{Context, Document, Report};
-use rst_tree::{Attrs, Children, Key, Node, Tag, Text, Texts, TreeFault, Value};
+use rst_transform_work::{Context, Document, Report, Result};
+use rst_tree::{Attrs, Children, Key, Node, Tag, Text, Texts, Value};
 use std::alloc::Global;
 
 /// Puts a last section with the transforms' own messages after the document's nodes, if one of them is at or above the report
@@ -22,7 +22,7 @@ pub fn last_section(
     mut document: Document,
     context: &mut Context,
     report: Threshold,
-) -> Result<Document, TreeFault>
+) -> Result<Document>
     ensures { Gives (Makes (with_last_section report document) context.old context.new) result }
 {
     if !is_any_shown(context.reports.as_slice(), report) {
@@ -48,7 +48,7 @@ fn is_shown(report: &Report, threshold: Threshold) -> bool
 }
 
 /// The section with the messages in it.
-fn section(alloc: Global, reports: &mut Vec<Report>) -> Result<Node, TreeFault>
+fn section(alloc: Global, reports: &mut Vec<Report>) -> Result<Node>
     ensures section { Gives (λ section. section ≡ section_of reports.old.items) result }
     ensures reports { Gives (λ _. reports.new.items ≡ map ids_moved reports.old.items) result }
 {
@@ -64,7 +64,7 @@ fn section(alloc: Global, reports: &mut Vec<Report>) -> Result<Node, TreeFault>
 }
 
 /// The title of the section, and the messages in it.
-fn section_nodes(alloc: Global, reports: &mut Vec<Report>) -> Result<Children, TreeFault>
+fn section_nodes(alloc: Global, reports: &mut Vec<Report>) -> Result<Children>
     ensures nodes { Gives (λ nodes. nodes ≡ forest_of (heading ∷ own_nodes reports.old.items)) result }
     ensures reports { Gives (λ _. reports.new.items ≡ map ids_moved reports.old.items) result }
 {
@@ -83,7 +83,7 @@ fn section_nodes(alloc: Global, reports: &mut Vec<Report>) -> Result<Children, T
 }
 
 /// Adds a message, if it is in the section, and hands over its ids.
-fn add_own(alloc: Global, report: &mut Report, nodes: &mut Children) -> Result<(), TreeFault>
+fn add_own(alloc: Global, report: &mut Report, nodes: &mut Children) -> Result<()>
     ensures nodes { Gives (λ _. nodes.new ≡ forest_of (nodes_of nodes.old ++ own_nodes (report.old ∷ []))) result }
     ensures report { Gives (λ _. report.new ≡ ids_moved report.old) result }
 {

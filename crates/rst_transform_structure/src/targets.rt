@@ -7,10 +7,8 @@ ghost use Rattle.rst_transform_structure.specs.Passing.{holder_of, with_number, 
 ghost use Rattle.rst_transform_structure.specs.Targets.{given, got_by, handed, handed_by, hands_on, reached, referring, takers, takes_ids, with_refid, with_targets};
 
 use rst_transform_names::{Holder, Names};
-use rst_transform_work::{Context, Document, append, take_list};
-use rst_tree::{
-    Attrs, Key, Node, Reader, Tag, Text, TreeFault, Value, Visitor, read_elements, walk,
-};
+use rst_transform_work::{Context, Document, Result, append, take_list};
+use rst_tree::{Attrs, Key, Node, Reader, Tag, Text, Value, Visitor, read_elements, walk};
 use rst_tree_index::is_internal;
 use std::alloc::Global;
 use std::collections::VecDeque;
@@ -33,7 +31,7 @@ use std::mem;
 ///     <paragraph ids="b a" names="b a">
 ///
 /// A target that no element follows, or one that takes no ids, stays as it is.
-pub fn targets(document: Document, context: &mut Context) -> Result<Document, TreeFault>
+pub fn targets(document: Document, context: &mut Context) -> Result<Document>
     ensures { Gives (Makes (with_targets document) context.old context.new) result }
 {
     let node = document.into_node();
@@ -55,7 +53,7 @@ fn takes_ids(tag: Tag) -> bool
 }
 
 /// For each element in a node, in document order, whether it takes the ids and names of a target before it.
-fn takers(alloc: Global, node: &Node) -> Result<Vec<bool>, TreeFault>
+fn takers(alloc: Global, node: &Node) -> Result<Vec<bool>>
     ensures { Gives (λ list. list.items ≡ takers (node_items node.now)) result }
 {
     let mut takers = TakerReader {
@@ -84,7 +82,7 @@ impl Reader for TakerReader {
 
     ghost next = { with_taker };
 
-    fn read(&mut self, _alloc: Global, element: &Node) -> Result<(), TreeFault> {
+    fn read(&mut self, _alloc: Global, element: &Node) -> Result<()> {
         if let Node::Element { tag, .. } = element {
             self.list.push(takes_ids(*tag))?;
         }
@@ -152,7 +150,7 @@ impl Walking {
 
     /// Takes the ids and names from a target, which refers to its first id from now on.
     #[tactic(auto, using(crate::proofs::Retargeting::reversed_behind, crate::proofs::Retargeting::listed_still))]
-    fn hand_on(&mut self, attrs: &mut Attrs) -> Result<(), TreeFault>
+    fn hand_on(&mut self, attrs: &mut Attrs) -> Result<()>
         ensures attrs { Gives (λ _. attrs.new ≡ referring attrs.old) result }
         ensures handed { Gives (λ _. self.new ≡ record self.old { handed = handed_by attrs.old self.old.handed }) result }
     {
@@ -166,7 +164,7 @@ impl Walking {
     }
 
     /// Gives the ids and names that were handed on to an element.
-    fn hand_over(&mut self, attrs: &mut Attrs) -> Result<(), TreeFault>
+    fn hand_over(&mut self, attrs: &mut Attrs) -> Result<()>
         ensures attrs { Gives (λ _. attrs.new ≡ given self.old.handed attrs.old) result }
         ensures handed { Gives (λ _. self.new ≡ reached self.old.takers (handed [] []) (self.old.got ++ got_by attrs.old self.old.handed.names)) result }
     {
@@ -191,12 +189,7 @@ impl Visitor for Walking {
 
     ghost out = { changed_at };
 
-    fn visit(
-        &mut self,
-        tag: &mut Tag,
-        attrs: &mut Attrs,
-        _line: &mut usize,
-    ) -> Result<(), TreeFault> {
+    fn visit(&mut self, tag: &mut Tag, attrs: &mut Attrs, _line: &mut usize) -> Result<()> {
         if self.is_turn(*tag, attrs) {
             return self.hand_on(attrs);
         }
@@ -205,7 +198,7 @@ impl Visitor for Walking {
 }
 
 /// Lets attributes tell a reference to the first of some ids, if there is one.
-fn refer(attrs: &mut Attrs, ids: &[Text]) -> Result<(), TreeFault>
+fn refer(attrs: &mut Attrs, ids: &[Text]) -> Result<()>
     ensures { Gives (λ _. attrs.new ≡ with_refid ids.now attrs.old) result }
 {
     match ids.first() {
@@ -215,7 +208,7 @@ fn refer(attrs: &mut Attrs, ids: &[Text]) -> Result<(), TreeFault>
 }
 
 /// Puts texts after others, the last first.
-fn add_backwards(texts: &mut Vec<Text>, more: &[Text]) -> Result<(), TreeFault>
+fn add_backwards(texts: &mut Vec<Text>, more: &[Text]) -> Result<()>
     ensures { Gives (λ _. texts.new.items ≡ texts.old.items ++ reverse more.now) result }
 {
     let mut left = more.len();
@@ -227,11 +220,7 @@ fn add_backwards(texts: &mut Vec<Text>, more: &[Text]) -> Result<(), TreeFault>
 }
 
 /// Adds names that an element with a number, or without, got.
-fn add_got(
-    got: &mut Vec<(Text, Option<u64>)>,
-    names: Vec<Text>,
-    number: Option<u64>,
-) -> Result<(), TreeFault>
+fn add_got(got: &mut Vec<(Text, Option<u64>)>, names: Vec<Text>, number: Option<u64>) -> Result<()>
     ensures { Gives (λ _. got.new.items ≡ got.old.items ++ with_number number names.items) result }
 {
     for name in names {

@@ -12,8 +12,8 @@ ghost use Rattle.rst_transform_structure.specs.Passing.{with_number, Passes};
 ghost use Rattle.rst_transform_work.specs.Reading.{may_precede};
 
 use rst_transform_names::{Holder, Names};
-use rst_transform_work::{Context, Document, append_names, may_precede};
-use rst_tree::{Attrs, Children, Key, Node, Said, Tag, Text, TreeFault, Value};
+use rst_transform_work::{Context, Document, Result, append_names, may_precede};
+use rst_tree::{Attrs, Children, Key, Node, Said, Tag, Text, Value};
 use std::alloc::Global;
 
 /// Makes the title of a document's lone section the document's, and then that of a lone subsection its subtitle (Markup
@@ -35,7 +35,7 @@ use std::alloc::Global;
 ///         <paragraph>
 ///
 /// Comments, targets, substitution definitions and messages may come before the section.
-pub fn title(mut document: Document, context: &mut Context) -> Result<Document, TreeFault>
+pub fn title(mut document: Document, context: &mut Context) -> Result<Document>
     ensures { Gives (Makes (with_title document) context.old context.new) result }
 {
     let alloc = context.alloc;
@@ -45,12 +45,7 @@ pub fn title(mut document: Document, context: &mut Context) -> Result<Document, 
 }
 
 /// The nodes of a document with these attributes, once it has a title and a subtitle, if it gets them.
-fn titled(
-    alloc: Global,
-    attrs: &mut Attrs,
-    nodes: Children,
-    names: &mut Names,
-) -> Result<Children, TreeFault>
+fn titled(alloc: Global, attrs: &mut Attrs, nodes: Children, names: &mut Names) -> Result<Children>
     ensures attrs { Gives (λ _. attrs.new ≡ title_attrs (lone_section nodes) attrs.old) result }
     ensures nodes { Gives (λ all. all ≡ titled_by (lone_section nodes) nodes) result }
     ensures names { Gives (λ _. Passes (with_number None (title_names (lone_section nodes))) names.old names.new) result }
@@ -67,7 +62,7 @@ fn titled(
 }
 
 /// The nodes after a document's title, once the subtitle is the first of them, if it gets one.
-fn subtitled(alloc: Global, nodes: Children, names: &mut Names) -> Result<Children, TreeFault>
+fn subtitled(alloc: Global, nodes: Children, names: &mut Names) -> Result<Children>
     ensures nodes { Gives (λ all. all ≡ subtitled_by (lone_section nodes) nodes) result }
     ensures names { Gives (λ _. Passes (with_number None (subtitle_names (lone_section nodes))) names.old names.new) result }
 {
@@ -82,7 +77,7 @@ fn subtitled(alloc: Global, nodes: Children, names: &mut Names) -> Result<Childr
 }
 
 /// The nodes after one more.
-fn with_first(first: Node, nodes: Children) -> Result<Children, TreeFault>
+fn with_first(first: Node, nodes: Children) -> Result<Children>
     ensures { Gives (λ all. all ≡ join_node first nodes) result }
 {
     let mut nodes = nodes.into_list();
@@ -101,7 +96,7 @@ struct Section {
 
 impl Section {
     /// A section with a title, in its parts, or the node back where it is none.
-    fn of(node: Node) -> Result<Section, Node>
+    fn of(node: Node) -> std::result::Result<Section, Node>
         ensures { IsMadeOf node (section_in node) result }
     {
         match node {
@@ -132,7 +127,7 @@ impl Section {
     }
 
     /// The section with these nodes before its body.
-    fn behind(self, before: Vec<Node>) -> Result<Section, TreeFault>
+    fn behind(self, before: Vec<Node>) -> Result<Section>
         ensures { Gives (λ section. section ≡ with_before before.items self) result }
     {
         let Section { attrs, title, body } = self;
@@ -154,7 +149,7 @@ fn all_may_precede(nodes: &[Node]) -> bool
 }
 
 /// The lone section of some nodes, or the nodes back where they have none: the last node, if all before may precede it.
-fn lone_section(nodes: Children) -> Result<Result<Section, Children>, TreeFault>
+fn lone_section(nodes: Children) -> Result<std::result::Result<Section, Children>>
     ensures { Gives (IsMadeOf nodes (lone_section nodes)) result }
 {
     let mut before = nodes.into_list();
@@ -175,12 +170,7 @@ fn lone_section(nodes: Children) -> Result<Result<Section, Children>, TreeFault>
 }
 
 /// Adds a section's ids, names and lost names to those of the element that takes its title.
-fn take_names(
-    alloc: Global,
-    attrs: &mut Attrs,
-    section: &Attrs,
-    names: &mut Names,
-) -> Result<(), TreeFault>
+fn take_names(alloc: Global, attrs: &mut Attrs, section: &Attrs, names: &mut Names) -> Result<()>
     ensures attrs { Gives (λ _. attrs.new ≡ with_names section.now attrs.old) result }
     ensures names { Gives (λ _. Passes (with_number None (listed OfNames section.now)) names.old names.new) result }
 {

@@ -9,8 +9,8 @@ ghost use Rattle.rst_transform_work.specs.Known.{Makes};
 ghost use Rattle.rst_transform_work.specs.Reading.{is_title};
 ghost use Rattle.rst_transform_structure.specs.Transitions.{ends_in_transition, fault_before, is_section, is_transition, none_yet, placed_in, put_transition, so_far, with_fault, with_message, with_transitions};
 
-use rst_transform_work::{Context, Document, is_title};
-use rst_tree::{Attrs, Children, Level, Node, Tag, Text, TreeFault};
+use rst_transform_work::{Context, Document, Result, is_title};
+use rst_tree::{Attrs, Children, Level, Node, Tag, Text};
 
 /// Looks at the places of the transitions in document order (Markup Specification, 'Transitions'): each that begins a section
 /// or follows another one gets a message before it, and each that ends a section moves after it.
@@ -33,7 +33,7 @@ use rst_tree::{Attrs, Children, Level, Node, Tag, Text, TreeFault};
 ///
 /// One that the document ends with stays, and a message follows it. No element but the document and its sections holds a
 /// transition, so nothing else is gone through.
-pub fn transitions(mut document: Document, context: &mut Context) -> Result<Document, TreeFault>
+pub fn transitions(mut document: Document, context: &mut Context) -> Result<Document>
     ensures { Gives (Makes (with_transitions document) context.old context.new) result }
 {
     let placed = place_in(document.children, true, context)?;
@@ -51,7 +51,7 @@ struct Placed {
 
 /// Gives the transitions among the nodes of the document or a section, and in its sections, their places. If the document `ends` with
 /// the nodes, a transition that they end with stays, and else it moves out.
-fn place_in(nodes: Children, ends: bool, context: &mut Context) -> Result<Placed, TreeFault>
+fn place_in(nodes: Children, ends: bool, context: &mut Context) -> Result<Placed>
     ensures placed { Gives (λ placed. so_far placed context.new ≡ placed_in context.old.first_number ends (none_yet context.old.reports.items) nodes) result }
     ensures rest { Gives (λ _. KeepsRest context.old context.new) result }
 {
@@ -100,12 +100,7 @@ fn place_in(nodes: Children, ends: bool, context: &mut Context) -> Result<Placed
 impl Placed {
     /// Puts an ERROR on a transition after the nodes. It is in the list of messages, too.
     #[tactic(auto, unfolding(crate::specs::Transitions::with_message))]
-    fn put_message(
-        &mut self,
-        line: usize,
-        words: &str,
-        context: &mut Context,
-    ) -> Result<(), TreeFault>
+    fn put_message(&mut self, line: usize, words: &str, context: &mut Context) -> Result<()>
         ensures siblings { Gives (λ _. so_far self.new context.new ≡ with_message context.old.first_number line words.now (so_far self.old context.old)) result }
         ensures rest { Gives (λ _. KeepsRest context.old context.new) result }
     {
@@ -117,7 +112,7 @@ impl Placed {
 
     /// Puts the message on what is wrong with a transition after the nodes there, if anything is.
     #[tactic(auto, unfolding(crate::specs::Transitions::with_fault))]
-    fn put_fault(&mut self, line: usize, context: &mut Context) -> Result<(), TreeFault>
+    fn put_fault(&mut self, line: usize, context: &mut Context) -> Result<()>
         ensures siblings { Gives (λ _. so_far self.new context.new ≡ with_fault context.old.first_number line (fault_before self.old.nodes.items) (so_far self.old context.old)) result }
         ensures rest { Gives (λ _. KeepsRest context.old context.new) result }
     {
@@ -137,7 +132,7 @@ impl Placed {
         last: bool,
         ends: bool,
         context: &mut Context,
-    ) -> Result<(), TreeFault>
+    ) -> Result<()>
         ensures siblings { Gives (λ _. so_far self.new context.new ≡ put_transition context.old.first_number last ends transition line (so_far self.old context.old)) result }
         ensures rest { Gives (λ _. KeepsRest context.old context.new) result }
     {
@@ -161,7 +156,7 @@ impl Placed {
         line: usize,
         inner: Placed,
         last: bool,
-    ) -> Result<(), TreeFault>
+    ) -> Result<()>
         ensures nodes { Gives (λ _. self.new.nodes.items ≡ self.old.nodes.items ++ Element tag attrs (forest_of inner.nodes.items) line ∷ (if last then [] else inner.moving.items)) result }
         ensures moving { Gives (λ _. self.new.moving.items ≡ self.old.moving.items ++ (if last then inner.moving.items else [])) result }
     {

@@ -5,10 +5,11 @@ ghost use Rattle.rst_transform_work.specs.Known.{Makes};
 ghost use Rattle.rst_transform_work.specs.Problematics as spec;
 ghost use Rattle.rst_transform_work.specs.Reports.{report_in, report_node, IsReported, KeepsRest};
 
+use crate::Result;
 use crate::problematics::ProblematicAttrs;
 use crate::report::Report;
 use rst_transform_names::{Ids, Names};
-use rst_tree::{Attrs, Children, Level, Node, Tag, Text, Texts, TreeFault};
+use rst_tree::{Attrs, Children, Level, Node, Tag, Text, Texts};
 use std::alloc::Global;
 
 /// What is known beside the document between two transforms: what registration left, and the messages of the transforms so far.
@@ -47,13 +48,7 @@ impl Context {
 
     /// Adds a message, and gives its place among the reports. It stands in the last section if it is `own`, and else where
     /// the caller puts its `node`.
-    pub fn report(
-        &mut self,
-        level: Level,
-        line: usize,
-        text: Text,
-        own: bool,
-    ) -> Result<usize, TreeFault>
+    pub fn report(&mut self, level: Level, line: usize, text: Text, own: bool) -> Result<usize>
         ensures place { Gives (λ place. (place ≡ vec_len self.old.reports) × (vec_len self.new.reports ≡ place + 1)) result }
         ensures reports { Gives (λ _. IsReported (report_in self.old level line text own) self.old self.new) result }
         ensures rest { Gives (λ _. KeepsRest self.old self.new) result }
@@ -65,12 +60,7 @@ impl Context {
     }
 
     /// Adds a message that stands in the tree itself, and gives its node, for the caller to put into its place.
-    pub fn report_in_place(
-        &mut self,
-        level: Level,
-        line: usize,
-        text: Text,
-    ) -> Result<Node, TreeFault>
+    pub fn report_in_place(&mut self, level: Level, line: usize, text: Text) -> Result<Node>
         ensures node { Gives (λ node. node ≡ report_node (report_in self.old level line text false)) result }
         ensures reports { Gives (λ _. IsReported (report_in self.old level line text false) self.old self.new) result }
         ensures rest { Gives (λ _. KeepsRest self.old self.new) result }
@@ -83,12 +73,7 @@ impl Context {
 
     /// The problematic with the source text of a reference that is at fault, as the message at a place among the reports
     /// tells.
-    pub fn problematic(
-        &mut self,
-        report: usize,
-        source: Text,
-        line: usize,
-    ) -> Result<Node, TreeFault>
+    pub fn problematic(&mut self, report: usize, source: Text, line: usize) -> Result<Node>
         ensures { Gives (Makes (spec.problematic_node report source line) self.old self.new) result }
     {
         let mut attrs = Attrs::new(self.alloc);
@@ -104,16 +89,17 @@ impl Context {
 
     /// What the next problematic tells, as the message at a place among the reports has it. It gets its id before the message
     /// gets one. A place behind the last report gives a problematic without message.
-    pub fn next_problematic(&mut self, report: usize) -> Result<ProblematicAttrs, TreeFault>
+    pub fn next_problematic(&mut self, report: usize) -> Result<ProblematicAttrs>
         ensures { Gives (Makes (spec.problematic report) self.old self.new) result }
     {
         let id = self.ids.give_kind(self.alloc, Tag::Problematic)?;
         if report >= self.reports.len() {
-            return Ok(ProblematicAttrs::alone(id));
+            return Ok(ProblematicAttrs { id, message: None });
         }
         let back = id.copy()?;
         let report = &mut self.reports[report];
         let own = report.refer_back(self.alloc, &mut self.ids, back)?;
-        Ok(ProblematicAttrs::of(id, report.number, own))
+        let message = Some((report.number, own));
+        Ok(ProblematicAttrs { id, message })
     }
 }

@@ -4,7 +4,8 @@ ghost use Rattle.rst_tree.specs.Attributes.{without_key};
 ghost use Rattle.rst_tree.specs.Faults.{Gives};
 ghost use Rattle.rst_transform_work.specs.Lists.{at_place, listed, with_listed, with_list_of, with_names};
 
-use rst_tree::{Attrs, Key, Said, Text, Texts, TreeFault, Value};
+use crate::Result;
+use rst_tree::{Attrs, Key, Said, Text, Texts, Value};
 use std::alloc::Global;
 
 /// Takes out an attribute, and gives the texts that it lists; none where it is missing or no list.
@@ -19,7 +20,7 @@ pub fn take_list(alloc: Global, attrs: &mut Attrs, key: Key) -> Texts
 }
 
 /// Puts texts behind those that an attribute lists.
-pub fn append(alloc: Global, attrs: &mut Attrs, key: Key, more: &[Text]) -> Result<(), TreeFault>
+pub fn append(alloc: Global, attrs: &mut Attrs, key: Key, more: &[Text]) -> Result<()>
     ensures { Gives (λ _. attrs.new ≡ with_listed key more.now attrs.old) result }
 {
     if more.is_empty() {
@@ -33,7 +34,7 @@ pub fn append(alloc: Global, attrs: &mut Attrs, key: Key, more: &[Text]) -> Resu
 }
 
 /// Puts the ids, names and lost names that attributes tell behind those that others tell.
-pub fn append_names(alloc: Global, attrs: &mut Attrs, from: &Attrs) -> Result<(), TreeFault>
+pub fn append_names(alloc: Global, attrs: &mut Attrs, from: &Attrs) -> Result<()>
     ensures { Gives (λ _. attrs.new ≡ with_names from.now attrs.old) result }
 {
     append_from(alloc, attrs, Key::Ids, from)?;
@@ -42,7 +43,7 @@ pub fn append_names(alloc: Global, attrs: &mut Attrs, from: &Attrs) -> Result<()
 }
 
 /// Puts the texts that an attribute lists elsewhere behind those that it lists here.
-fn append_from(alloc: Global, attrs: &mut Attrs, key: Key, from: &Attrs) -> Result<(), TreeFault>
+fn append_from(alloc: Global, attrs: &mut Attrs, key: Key, from: &Attrs) -> Result<()>
     ensures { Gives (λ _. attrs.new ≡ with_list_of key from.now attrs.old) result }
 {
     match from.get(key) {

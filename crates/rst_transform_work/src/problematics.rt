@@ -3,7 +3,8 @@ ghost use Rattle.std.specs.Prelude.{◌≡◌, ◌++◌, Some, None};
 ghost use Rattle.rst_tree.specs.Faults.{Gives};
 ghost use Rattle.rst_transform_work.specs.Problematics.{message_attrs, problematic_attrs};
 
-use rst_tree::{Attrs, Entry, Key, Text, Texts, TreeFault, Value};
+use crate::Result;
+use rst_tree::{Attrs, Entry, Key, Text, Texts, Value};
 use std::alloc::Global;
 use std::marker::Model;
 use std::mem;
@@ -12,9 +13,9 @@ use std::mem;
 /// wait for their places in the tree, and this takes no memory of its own.
 #[derive(Drop)]
 pub struct ProblematicAttrs {
-    id: Text,
+    pub(crate) id: Text,
     /// The number and the id of its message, if it has one.
-    message: Option<(u64, Text)>,
+    pub(crate) message: Option<(u64, Text)>,
 }
 
 impl Model for ProblematicAttrs {
@@ -28,25 +29,8 @@ impl Model for ProblematicAttrs {
 }
 
 impl ProblematicAttrs {
-    /// The problematic of an id, with the number and the id of its message.
-    pub fn of(id: Text, number: u64, own: Text) -> ProblematicAttrs
-        ensures { result ≡ problematic_attrs id (Some (number, own)) }
-    {
-        ProblematicAttrs {
-            id,
-            message: Some((number, own)),
-        }
-    }
-
-    /// One of an id without message.
-    pub fn alone(id: Text) -> ProblematicAttrs
-        ensures { result ≡ problematic_attrs id None }
-    {
-        ProblematicAttrs { id, message: None }
-    }
-
     /// Lets an element tell it in place of its attributes, in the room that they had.
-    pub fn tell(self, alloc: Global, attrs: &mut Attrs) -> Result<(), TreeFault>
+    pub fn tell(self, alloc: Global, attrs: &mut Attrs) -> Result<()>
         ensures { Gives (λ _. attrs.new ≡ self) result }
     {
         let mut list = mem::replace(attrs, Attrs::new(alloc)).into_list();
@@ -61,7 +45,7 @@ impl ProblematicAttrs {
 }
 
 /// Adds the number and the id of a message, if there is one.
-fn push_message(list: &mut Vec<Entry>, message: Option<(u64, Text)>) -> Result<(), TreeFault>
+fn push_message(list: &mut Vec<Entry>, message: Option<(u64, Text)>) -> Result<()>
     ensures { Gives (λ _. list.new.items ≡ list.old.items ++ message_attrs message) result }
 {
     if let Some((number, own)) = message {

@@ -5,7 +5,8 @@ ghost use Rattle.rst_tree.specs.Faults.{Gives};
 ghost use Rattle.rst_tree.specs.Paths.{node_value};
 ghost use Rattle.rst_transform_work.specs.Reading.{text_said, number_said, list_said, line_of, may_precede, is_title};
 
-use rst_tree::{Attrs, Children, Key, Node, Said, Tag, Texts, TreeFault};
+use crate::Result;
+use rst_tree::{Attrs, Children, Key, Node, Said, Tag, Texts};
 use std::alloc::Global;
 
 /// What the attribute of a name says, where it is a text.
@@ -50,16 +51,13 @@ pub fn first_said<'a>(node: &'a Node, key: Key) -> Option<&'a str>
     ensures { MatchOption result (slice_get (list_said key node.now) 0 ≡ None) (λ text. slice_get (list_said key node.now) 0 ≡ Some text.now) }
 {
     match node.value(key) {
-        Some(Said::List(list)) => match list.first() {
-            Some(text) => Some(text.as_str()),
-            None => None,
-        },
+        Some(Said::List([text, ..])) => Some(text.as_str()),
         _ => None,
     }
 }
 
 /// A copy of what an attribute says, where it is a list, or else an empty list.
-pub fn list_said(alloc: Global, node: &Node, key: Key) -> Result<Texts, TreeFault>
+pub fn list_said(alloc: Global, node: &Node, key: Key) -> Result<Texts>
     ensures { Gives (λ list. list ≡ list_said key node.now) result }
 {
     match node.value(key) {

@@ -5,8 +5,9 @@ ghost use Rattle.rst_transform_names.specs.Ids.{AreTaken};
 ghost use Rattle.rst_transform_work.specs.Problematics.{own_id, referring, with_own_id};
 ghost use Rattle.rst_transform_work.specs.Reports.{id_attrs, report_attrs, report_node, report_note, without_ids};
 
+use crate::Result;
 use rst_transform_names::Ids;
-use rst_tree::{Attrs, Entry, Key, Level, Node, Note, Tag, Text, Texts, TreeFault, Value};
+use rst_tree::{Attrs, Entry, Key, Level, Node, Note, Tag, Text, Texts, Value};
 use std::alloc::Global;
 use std::mem;
 
@@ -31,7 +32,7 @@ pub struct Report {
 
 impl Report {
     /// The message as a `system_message`, to which its id and those of its problematics move.
-    pub fn node(&mut self, alloc: Global) -> Result<Node, TreeFault>
+    pub fn node(&mut self, alloc: Global) -> Result<Node>
         ensures node { Gives (λ node. node ≡ report_node self.old) result }
         ensures left { Gives (λ _. self.new ≡ without_ids self.old) result }
     {
@@ -48,7 +49,7 @@ impl Report {
 
     /// What the `system_message` tells, in the order of the names: the ids of its problematics and its own, which move there, its level
     /// and its number.
-    fn take_attrs(&mut self, alloc: Global) -> Result<Attrs, TreeFault>
+    fn take_attrs(&mut self, alloc: Global) -> Result<Attrs>
         ensures attrs { Gives (λ attrs. attrs ≡ report_attrs self.old) result }
         ensures left { Gives (λ _. self.new ≡ without_ids self.old) result }
     {
@@ -76,12 +77,7 @@ impl Report {
     }
 
     /// Adds a problematic by its id, and gives the message's own, which it gets with the first.
-    pub(crate) fn refer_back(
-        &mut self,
-        alloc: Global,
-        ids: &mut Ids,
-        id: Text,
-    ) -> Result<Text, TreeFault>
+    pub(crate) fn refer_back(&mut self, alloc: Global, ids: &mut Ids, id: Text) -> Result<Text>
         ensures report { Gives (λ own. self.new ≡ referring own id self.old) result }
         ensures ids { (taken : List (List ℕ)) → AreTaken ids.old taken → Gives (λ own. (own ≡ own_id self.old.id taken) × AreTaken ids.new (with_own_id self.old.id taken)) result }
     {
@@ -96,7 +92,7 @@ impl Report {
 }
 
 /// Adds the id of an element, if it has one.
-fn push_id(alloc: Global, list: &mut Vec<Entry>, id: Option<Text>) -> Result<(), TreeFault>
+fn push_id(alloc: Global, list: &mut Vec<Entry>, id: Option<Text>) -> Result<()>
     ensures { Gives (λ _. list.new.items ≡ list.old.items ++ id_attrs id) result }
 {
     if let Some(id) = id {

@@ -5,6 +5,7 @@ ghost use Rattle.rst_transform_work.specs.Reading.{identifier, name_in};
 ghost use Rattle.rst_transform_work.specs.Lists.{named};
 ghost use Rattle.rst_transform_work.specs.Reading.{source_said};
 
+use crate::Result;
 use crate::lists::append_names;
 use rst_text::{id_of, name_of};
 use rst_tree::{Attrs, Children, Key, Node, Text, TreeFault, Value};
@@ -12,30 +13,24 @@ use std::alloc::Global;
 
 /// The name that a text gives, by `name_of`.
 #[tactic(auto, using(crate::proofs::Spelling::bytes_of_chars))]
-pub fn folded(alloc: Global, text: &str) -> Result<String, TreeFault>
+pub fn folded(alloc: Global, text: &str) -> Result<String>
     ensures { Gives (λ name. string_bytes name ≡ name_in text.now) result }
 {
-    match name_of(alloc, text) {
-        Ok(name) => Ok(name),
-        // The call has no other refusal than want of memory.
-        Err(_) => Err(TreeFault::NoMemory),
-    }
+    // The call has no other refusal than want of memory.
+    name_of(alloc, text).map_err(|_| TreeFault::NoMemory)
 }
 
 /// The id that a text gives, by `id_of`.
 #[tactic(auto, using(crate::proofs::Spelling::bytes_of_chars))]
-pub fn identified(alloc: Global, text: &str) -> Result<String, TreeFault>
+pub fn identified(alloc: Global, text: &str) -> Result<String>
     ensures { Gives (λ id. string_bytes id ≡ identifier text.now) result }
 {
-    match id_of(alloc, text) {
-        Ok(id) => Ok(id),
-        // The call has no other refusal than want of memory.
-        Err(_) => Err(TreeFault::NoMemory),
-    }
+    // The call has no other refusal than want of memory.
+    id_of(alloc, text).map_err(|_| TreeFault::NoMemory)
 }
 
 /// Equal nodes.
-pub fn copies(alloc: Global, nodes: &Children) -> Result<Children, TreeFault>
+pub fn copies(alloc: Global, nodes: &Children) -> Result<Children>
     ensures { Gives (λ equal. equal ≡ nodes.now) result }
 {
     let mut copied = Vec::new(alloc);
@@ -46,7 +41,7 @@ pub fn copies(alloc: Global, nodes: &Children) -> Result<Children, TreeFault>
 }
 
 /// Puts the ids, names and lost names that attributes tell behind those of a node.
-pub fn add_names(alloc: Global, node: &mut Node, from: &Attrs) -> Result<(), TreeFault>
+pub fn add_names(alloc: Global, node: &mut Node, from: &Attrs) -> Result<()>
     ensures { Gives (λ _. node.new ≡ named from.now node.old) result }
 {
     match node {
@@ -56,7 +51,7 @@ pub fn add_names(alloc: Global, node: &mut Node, from: &Attrs) -> Result<(), Tre
 }
 
 /// The source text of a reference, taken out of its attributes; the empty text where they tell none.
-pub fn take_source(alloc: Global, attrs: &mut Attrs) -> Result<Text, TreeFault>
+pub fn take_source(alloc: Global, attrs: &mut Attrs) -> Result<Text>
     ensures { Gives (λ source. source ≡ source_said attrs.old) result }
 {
     match attrs.remove(Key::Rawsource) {

@@ -11,7 +11,7 @@ returns-then-all_stay c =
 pub returns : goal.returns
 returns c =
     let around : c.in_ok-around.around.items ≡ firsts [] c.args.outcomes.items (map held c.args.linked.now) = rw (c.as_slice-2.ensures.value) at c.in_ok-around.ensures in
-    let many : c.len.result ≡ length c.args.context.now.reports.items = search rules in
+    let many : c.len-reports.result ≡ length c.args.context.now.reports.items = search rules in
     let found : c.in_ok-turns.turns.items ≡ by_message (length c.args.context.now.reports.items) (turns_of (length c.args.context.now.reports.items) (firsts [] c.args.outcomes.items (map held c.args.linked.now)) c.args.outcomes.items) =
     rw (c.as_slice-3.ensures.value, c.as_slice-4.ensures.value, around, many) at c.in_ok-turns.ensures in
     let changed : c.in_ok-changes.changes ≡ remaining (firsts [] c.args.outcomes.items (map held c.args.linked.now)) c.take_turns.new.outcomes.items = rw (c.as_slice-6.ensures.value, around) at c.in_ok-changes.ensures in

@@ -15,6 +15,6 @@ returns c =
     let some : slice_get old.reports.items c.args.report ≡ Some r = slice_get_read old.reports.items old.reports.len c.args.report r (omega arith) (omega (arith, c.if-report-len.false, c.len.ensures)) c.index_mut-report.ensures.value in
     let back = c.in_ok-back.ensures in
     let now : c.refer_back.new.self ≡ referring c.in_ok-own.own c.in_ok-id.id r = c.in_ok-own.ensures.report ∙ ap (λ b. referring c.in_ok-own.own b r) back in
-    let attrs : problematic_attrs c.in_ok-id.id (Some (r.number, c.in_ok-own.own)) ≡ c.of.result = ap (λ (r : Report). problematic_attrs c.in_ok-id.id (Some (r.number, c.in_ok-own.own))) (sym now) ∙ sym c.of.ensures in
+    let attrs : problematic_attrs c.in_ok-id.id (Some (r.number, c.in_ok-own.own)) ≡ problematic_attrs c.in_ok-id.id (Some (c.refer_back.new.self.number, c.in_ok-own.own)) = ap (λ (r : Report). problematic_attrs c.in_ok-id.id (Some (r.number, c.in_ok-own.own))) (sym now) in
     subst (λ a. Makes (problematic c.args.report) old new a) attrs
     (makes_next c.args.report old c.in_ok-id.id c.give_kind.new.self c.in_ok-id.ensures new r c.in_ok-own.own c.refer_back.new.ids refl some (ap (slice_set old.reports.items c.args.report) now) c.in_ok-own.ensures.ids)
