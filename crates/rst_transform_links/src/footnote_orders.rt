@@ -8,7 +8,7 @@ ghost use Rattle.rst_transform_links.specs.FootnoteOrders.{first_left, footnote_
 
 use crate::links::Linked;
 use rst_transform_work::Result;
-use rst_tree::{Attrs, Key, Node, Said, Tag};
+use rst_tree::{Key, Node, Said, Tag};
 use std::alloc::Global;
 
 /// The two orders by which a reference without a name finds its footnote (Markup Specification, 'Footnotes').
@@ -65,17 +65,6 @@ pub fn footnote_order(node: &Node) -> Option<Order>
     }
 }
 
-/// The order that the attributes of a reference to a footnote say.
-fn order_said(attrs: &Attrs) -> Option<Order>
-    ensures { result ≡ order_said (value_of Auto attrs.now) }
-{
-    match attrs.get(Key::Auto) {
-        Some(Said::Text(text)) if text.as_str() == "*" => Some(Order::Symbols),
-        Some(_) => Some(Order::Numbers),
-        None => None,
-    }
-}
-
 /// The order by which a reference finds its footnote, if it does.
 pub fn reference_order(node: &Node) -> Option<Order>
     ensures { result ≡ reference_order node.now }
@@ -83,7 +72,10 @@ pub fn reference_order(node: &Node) -> Option<Order>
     match node {
         Node::Element { tag, attrs, .. }
             if matches!(tag, Tag::FootnoteReference) && !attrs.has(Key::Refname) => {
-            order_said(attrs)
+            match attrs.get(Key::Auto)? {
+                Said::Text(text) if text.as_str() == "*" => Some(Order::Symbols),
+                _ => Some(Order::Numbers),
+            }
         }
         _ => None,
     }

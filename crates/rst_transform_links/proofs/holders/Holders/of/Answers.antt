@@ -1,9 +1,11 @@
-use Rattle.std.proofs.Common.{rules}
+use Rattle.std.proofs.Common.{rules, ◌≡◌, replicate, None}
 use Rattle.rst_transform_links.proofs.Holding.{Placing-init, Placing-more, Placing-end}
 use Rattle.rst_transform_links.proofs.holders.Holders.of.Goals as goal
 
 pub loop-place-init : goal.loop-place-init
-loop-place-init c = rw (c.in_ok-places.ensures) (Placing-init c.args.serials c.args.linked.now)
+loop-place-init c =
+    let none : c.in_ok-places.places.items ≡ replicate c.args.serials None = search rules in
+    rw none (Placing-init c.args.serials c.args.linked.now)
 
 pub loop-place-preserved : goal.loop-place-preserved
 loop-place-preserved c =
