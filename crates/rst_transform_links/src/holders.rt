@@ -16,22 +16,29 @@ use rst_transform_work::{Result, number_said, text_said};
 use rst_tree::{Entry, Key, Node, Tag, Text, Value};
 use std::alloc::Global;
 
-/// The places of linked elements in the list of all, by their numbers.
+/// The linked elements, and their places by their numbers.
 #[derive(Drop)]
-pub struct Holders {
+pub struct Holders<'a> {
+    pub alloc: Global,
+    pub linked: &'a [Linked<'a>],
     places: Vec<Option<usize>>,
 }
 
-impl Holders {
+impl<'a> Holders<'a> {
     /// The places of some elements, whose numbers are below `serials`.
-    pub fn of(alloc: Global, linked: &[Linked<'_>], serials: u64) -> Result<Holders>
-        ensures { Gives (λ holders. (holder : Holder) → place_at holders.places.items holder ≡ holder_place serials (map held linked.now) holder) result }
+    pub fn of(alloc: Global, linked: &'a [Linked<'a>], serials: u64) -> Result<Holders<'a>>
+        ensures linked { Gives (λ holders. holders.linked.now ≡ linked.now) result }
+        ensures places { Gives (λ holders. (holder : Holder) → place_at holders.places.items holder ≡ holder_place serials (map held linked.now) holder) result }
     {
         let mut places = vec![in alloc; None; serials as usize]?;
         for (place, one) in linked.iter().enumerate() {
             put_place(&mut places, place, one.element);
         }
-        Ok(Holders { places })
+        Ok(Holders {
+            alloc,
+            linked,
+            places,
+        })
     }
 
     /// The place of a holder, if it is a linked element.

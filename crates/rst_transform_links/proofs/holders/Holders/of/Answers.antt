@@ -11,5 +11,5 @@ pub loop-place-preserved : goal.loop-place-preserved
 loop-place-preserved c =
     rw (c.put_place.ensures) (Placing-more c.args.serials c.args.linked.now c.loop-place.places.items c.loop-place.place c.index-linked-place.result c.loop-place.invariant (search rules) (search rules))
 
-pub returns : goal.returns
-returns c = Placing-end c.args.serials c.args.linked.now c.loop-place.places.items c.loop-place.place c.loop-place.invariant (search rules)
+pub returns-clause-places : goal.returns-clause-places
+returns-clause-places c = Placing-end c.args.serials c.args.linked.now c.loop-place.places.items c.loop-place.place c.loop-place.invariant (search rules)
