@@ -47,13 +47,6 @@ fn written_numbers(alloc: Global, linked: &[Linked<'_>]) -> Result<Vec<bool>>
     Ok(written)
 }
 
-/// Whether a footnote was written with a number.
-fn was_written(written: &[bool], number: usize) -> bool
-    ensures { result ≡ get_or written.now number false }
-{
-    number < written.len() && written[number]
-}
-
 /// The numbers from 1 on, as many as there are elements, that no footnote was written with. There is one for each footnote
 /// that is to be numbered.
 fn free_numbers(alloc: Global, linked: &[Linked<'_>]) -> Result<Vec<usize>>
@@ -64,7 +57,7 @@ fn free_numbers(alloc: Global, linked: &[Linked<'_>]) -> Result<Vec<usize>>
     let mut free = Vec::new(alloc);
     for (place, _) in linked.iter().enumerate() {
         let number = place + 1;
-        if !was_written(written.as_slice(), number) {
+        if !written[number] {
             free.push(number)?;
         }
     }
@@ -84,70 +77,32 @@ fn symbol_label(alloc: Global, n: usize) -> Result<Text>
     Ok(Text::new(label))
 }
 
-/// Whether a footnote is a symbol footnote.
-fn is_symbol(node: &Node) -> bool
-    ensures { result ≡ is_symbol (mark_of node.now) }
-{
-    mark_of(node).is_some_and(|mark| mark == "*")
-}
-
-/// Whether a footnote is to be numbered.
-fn is_to_number(node: &Node) -> bool
-    ensures { result ≡ is_to_number (mark_of node.now) }
-{
-    mark_of(node).is_some_and(|mark| mark.as_bytes().starts_with(b"#"))
-}
-
-/// The label of a footnote, by the free numbers that are left and how many symbol footnotes come before it.
-fn label_of(alloc: Global, node: &Node, free: &[usize], before: usize) -> Result<Option<Text>>
-    ensures { Gives (λ label. label ≡ label_by (mark_of node.now) free.now before) result }
-{
-    let Some(mark) = mark_of(node) else {
-        return Ok(None);
-    };
-    if is_symbol(node) {
-        return Ok(Some(symbol_label(alloc, before)?));
-    }
-    if !is_to_number(node) {
-        return Ok(Some(Text::from_str(alloc, mark)?));
-    }
-    match free.first() {
-        Some(number) => Ok(Some(Text::new(number.to_string(alloc)?))),
-        None => Ok(None),
-    }
-}
-
-/// The free numbers that are left after an element.
-fn left_free<'n>(node: &Node, free: &'n [usize]) -> &'n [usize]
-    ensures { result.now ≡ (if is_to_number (mark_of node.now) then drop 1 free.now else free.now) }
-{
-    if is_to_number(node) {
-        return &free[free.len().min(1)..];
-    }
-    free
-}
-
-/// How many symbol footnotes there are with this element.
-fn with_symbol(node: &Node, before: usize) -> usize
-    requires { before < usize.MAX }
-    ensures { result ≡ (if is_symbol (mark_of node.now) then before + 1 else before) }
-{
-    if is_symbol(node) { before + 1 } else { before }
-}
-
-/// The label that each footnote shows, by its place; there is nothing for the other elements.
+/// The label that each footnote shows, by its place; there is nothing for the other elements. Each footnote that is to be numbered
+/// takes the next free number, and each symbol footnote the next symbol.
 pub fn labels(alloc: Global, linked: &[Linked<'_>]) -> Result<Vec<Option<Text>>>
     ensures { Gives (λ list. list.items ≡ labels (map held linked.now)) result }
 {
-    let numbers = free_numbers(alloc, linked)?;
-    let mut free = numbers.as_slice();
+    let mut numbers = free_numbers(alloc, linked)?.into_iter();
     let mut symbols = 0;
     let mut list = Vec::with_capacity(alloc, linked.len())?;
     for one in linked {
-        let label = label_of(alloc, one.element, free, symbols)?;
-        list.push(label)?;
-        free = left_free(one.element, free);
-        symbols = with_symbol(one.element, symbols);
+        let Some(mark) = mark_of(one.element) else {
+            list.push(None)?;
+            continue;
+        };
+        if mark == "*" {
+            list.push(Some(symbol_label(alloc, symbols)?))?;
+            symbols += 1;
+            continue;
+        }
+        if !mark.as_bytes().starts_with(b"#") {
+            list.push(Some(Text::from_str(alloc, mark)?))?;
+            continue;
+        }
+        match numbers.next() {
+            Some(number) => list.push(Some(Text::new(number.to_string(alloc)?)))?,
+            None => list.push(None)?,
+        }
     }
     Ok(list)
 }

@@ -64,14 +64,7 @@ pub fn footnote_outcomes(context: &mut Context, linked: &[Linked<'_>]) -> Result
     hold_numbers(context.alloc, &mut context.names, linked, labels.as_slice())?;
     let numbers = leftover(context, linked, found.as_slice(), Order::Numbers)?;
     let symbols = leftover(context, linked, found.as_slice(), Order::Symbols)?;
-    let outcomes = outcomes_by(
-        context.alloc,
-        linked,
-        labels.as_slice(),
-        found.as_slice(),
-        numbers,
-        symbols,
-    )?;
+    let outcomes = outcomes_by(context.alloc, linked, &labels, &found, numbers, symbols)?;
     Ok(outcomes)
 }
 
@@ -126,10 +119,11 @@ fn hold_number(
     if names.get(number).is_some() {
         return Ok(());
     }
-    let Some(serial) = number_said(element, Key::Serial) else {
-        return Ok(());
-    };
-    let Some(id) = first_said(element, Key::Ids) else {
+    let told = (
+        number_said(element, Key::Serial),
+        first_said(element, Key::Ids),
+    );
+    let (Some(serial), Some(id)) = told else {
         return Ok(());
     };
     let held = NameEntry {
@@ -153,17 +147,6 @@ fn first_left_over(linked: &[Linked<'_>], found: &[Option<usize>], order: Order)
     None
 }
 
-/// That there are too many references of an order, in words.
-fn too_many(alloc: Global, order: Order, footnotes: usize) -> Result<Text>
-    ensures { Gives (λ text. text ≡ too_many order footnotes) result }
-{
-    let text = format!(in alloc;
-        "Too many {} footnote references: only {footnotes} corresponding footnotes available.",
-        order.name()
-    )?;
-    Ok(Text::new(text))
-}
-
 /// The message on the references of an order for which no footnote is left, if there are such.
 fn leftover(
     context: &mut Context,
@@ -176,9 +159,12 @@ fn leftover(
     let Some(line) = first_left_over(linked, found, order) else {
         return Ok(None);
     };
-    let footnotes = in_order(context.alloc, linked, order)?;
-    let text = too_many(context.alloc, order, footnotes.len())?;
-    let place = context.report(Level::Error, line, text, true)?;
+    let footnotes = in_order(context.alloc, linked, order)?.len();
+    let text = format!(in context.alloc;
+        "Too many {} footnote references: only {footnotes} corresponding footnotes available.",
+        order.name()
+    )?;
+    let place = context.report(Level::Error, line, Text::new(text), true)?;
     Ok(Some(place))
 }
 
@@ -193,7 +179,8 @@ fn report_of(node: &Node, numbers: Option<usize>, symbols: Option<usize>) -> Opt
     }
 }
 
-/// What becomes of the linked elements, by their labels, what they find and the messages on the two orders.
+/// What becomes of the linked elements, by their labels, what they find and the messages on the two orders: a reference shows the label of
+/// its footnote or fails, a label shows that of the footnote that it is in, and a footnote that was to be numbered gets its number as a name.
 fn outcomes_by(
     alloc: Global,
     linked: &[Linked<'_>],
@@ -206,40 +193,25 @@ fn outcomes_by(
 {
     let mut list = Vec::with_capacity(alloc, linked.len())?;
     for (place, one) in linked.iter().enumerate() {
-        let report = report_of(one.element, numbers, symbols);
-        let outcome = outcome(
-            alloc,
-            linked,
-            labels,
-            place,
-            one,
-            at_place(found, place),
-            report,
-        )?;
-        list.push(outcome)?;
+        if let Some(footnote) = at_place(found, place) {
+            let attr = lead_to_footnote(alloc, linked, footnote)?;
+            let shown = label_in(alloc, labels, Some(footnote))?;
+            list.push(Outcome::Stays { attr, shown })?;
+            continue;
+        }
+        if let Some(report) = report_of(one.element, numbers, symbols) {
+            list.push(Outcome::Fails(report))?;
+            continue;
+        }
+        if is_label(one.element) {
+            let shown = label_in(alloc, labels, one.outer)?;
+            list.push(Outcome::Stays { attr: None, shown })?;
+            continue;
+        }
+        let names = with_number(alloc, one.element, labels, place)?;
+        list.push(Outcome::adds(names))?;
     }
     Ok(list)
-}
-
-/// What becomes of the element at a place, by the footnote that it finds and the message on it.
-fn outcome(
-    alloc: Global,
-    linked: &[Linked<'_>],
-    labels: &[Option<Text>],
-    place: usize,
-    one: &Linked<'_>,
-    found: Option<usize>,
-    report: Option<usize>,
-) -> Result<Outcome>
-    ensures { Gives (λ outcome. outcome ≡ outcome_by (map held linked.now) labels.now place (held one.now) found report) result }
-{
-    if let Some(footnote) = found {
-        return referring(alloc, linked, labels, footnote);
-    }
-    if let Some(report) = report {
-        return Ok(Outcome::Fails(report));
-    }
-    labelled(alloc, one, labels, place)
 }
 
 /// A copy of the label of a footnote, if there is one.
@@ -268,20 +240,6 @@ fn lead_to_footnote(alloc: Global, linked: &[Linked<'_>], footnote: usize) -> Re
     }
 }
 
-/// What becomes of a reference to the footnote at a place.
-fn referring(
-    alloc: Global,
-    linked: &[Linked<'_>],
-    labels: &[Option<Text>],
-    footnote: usize,
-) -> Result<Outcome>
-    ensures { Gives (λ outcome. outcome ≡ referring (map held linked.now) labels.now footnote) result }
-{
-    let attr = lead_to_footnote(alloc, linked, footnote)?;
-    let shown = label_in(alloc, labels, Some(footnote))?;
-    Ok(Outcome::Stays { attr, shown })
-}
-
 /// Whether a node is a label.
 fn is_label(node: &Node) -> bool
     ensures { result ≡ is_label node.now }
@@ -307,22 +265,4 @@ fn with_number(
     let mut names = list_said(alloc, node, Key::Names)?;
     names.push(Text::from_str(alloc, number)?)?;
     Ok(Some(Entry::new(Key::Names, Value::List(names))))
-}
-
-/// What becomes of an element that is no reference by the order: a label shows what its footnote is labelled with, and a
-/// footnote that was to be numbered gets its number as a name.
-fn labelled(
-    alloc: Global,
-    one: &Linked<'_>,
-    labels: &[Option<Text>],
-    place: usize,
-) -> Result<Outcome>
-    ensures { Gives (λ outcome. outcome ≡ labelled labels.now place (held one.now)) result }
-{
-    if is_label(one.element) {
-        let shown = label_in(alloc, labels, one.outer)?;
-        return Ok(Outcome::Stays { attr: None, shown });
-    }
-    let names = with_number(alloc, one.element, labels, place)?;
-    Ok(Outcome::adds(names))
 }

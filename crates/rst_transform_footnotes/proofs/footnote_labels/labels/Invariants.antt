@@ -5,4 +5,4 @@ use Rattle.rst_transform_footnotes.proofs.footnote_labels.labels.Given as goal
 
 abbrev pub invariant-loop-one : goal.invariant-loop-one
 invariant-loop-one l =
-    (l.list.items ++ labels_from l.free l.symbols (map held (drop l.one-index l.linked)) ≡ labels (map held l.fn.linked)) × (l.symbols ≤ l.one-index)
+    (l.list.items ++ labels_from l.numbers.rest.items l.symbols (map held (drop l.one-index l.linked)) ≡ labels (map held l.fn.linked)) × (l.symbols ≤ l.one-index)

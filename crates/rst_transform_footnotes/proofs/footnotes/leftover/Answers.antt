@@ -8,4 +8,4 @@ use Rattle.rst_transform_footnotes.proofs.footnotes.leftover.Goals as goal
 pub returns : goal.returns
 returns c =
     left_over_of (first_left_over c.args.order c.args.found.now (map held c.args.linked.now)) c.args.order c.in-Some.line (length (in_order c.args.order (map held c.args.linked.now)))
-    (length c.in_ok-footnotes.footnotes.items) c.in_ok-place.place c.in_ok-text.text c.args.context.now c.report.new.self (search rules) (search rules) (search rules) (search rules) (search rules) (search rules)
+    c.len-footnotes.result c.in_ok-place.place c.new.result c.args.context.now c.report.new.self (search rules) (search rules) (search rules) (search rules) (search rules) (search rules)
