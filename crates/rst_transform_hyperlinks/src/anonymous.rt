@@ -105,10 +105,7 @@ fn anonymous_targets<'a>(alloc: Global, linked: &[Linked<'a>]) -> Result<Vec<Lin
 fn first_line(references: &[Linked<'_>], targets: &[Linked<'_>]) -> usize
     ensures { result ≡ first_line (map held references.now) (map held targets.now) }
 {
-    if let Some(one) = references.first() {
-        return line_of(one.element);
-    }
-    match targets.first() {
+    match references.first().or(targets.first()) {
         Some(one) => line_of(one.element),
         None => 0,
     }

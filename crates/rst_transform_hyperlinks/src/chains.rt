@@ -46,10 +46,7 @@ impl Answer {
 pub fn answer_at<'a>(answers: &'a [Option<Answer>], place: usize) -> Option<&'a Answer>
     ensures { MatchOption result (at_place answers.now place ≡ None) (λ answer. at_place answers.now place ≡ Some answer.now) }
 {
-    match answers.get(place) {
-        Some(Some(answer)) => Some(answer),
-        _ => None,
-    }
+    answers.get(place)?.as_ref()
 }
 
 /// What each indirect target comes to, by its place and its first step; there is nothing for the other elements.

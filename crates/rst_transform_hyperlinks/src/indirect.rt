@@ -51,20 +51,14 @@ pub fn indirect_outcomes(context: &mut Context, linked: &[Linked<'_>]) -> Result
     ensures { Gives (λ outcomes. Makes (indirect_outcomes (map held linked.now)) context.old context.new outcomes.items) result }
 {
     let holders = Holders::of(context.alloc, linked, context.serials)?;
-    let steps = first_steps(context.alloc, &context.names, &holders, linked)?;
+    let steps = first_steps(&context.names, &holders)?;
     if are_none(steps.as_slice()) {
         return Ok(Vec::new(context.alloc));
     }
-    let targets = targets_of(context.alloc, &context.names, &holders, linked)?;
+    let targets = targets_of(&context.names, &holders)?;
     let answers = answers(context.alloc, steps.as_slice())?;
     let reports = reports(context, linked, answers.as_slice())?;
-    let outcomes = outcomes(
-        context.alloc,
-        linked,
-        answers.as_slice(),
-        reports.as_slice(),
-        targets.as_slice(),
-    )?;
+    let outcomes = outcomes(context.alloc, linked, &answers, &reports, &targets)?;
     Ok(outcomes)
 }
 
@@ -85,31 +79,9 @@ fn indirect_name<'a>(node: &'a Node) -> Option<&'a str>
     text_said(node, Key::Refname)
 }
 
-/// The first step to the holder of a name, at a place, if it is a linked element.
-fn step_to(
-    alloc: Global,
-    linked: &[Linked<'_>],
-    known: &NameEntry,
-    place: Option<usize>,
-) -> Result<Step>
-    ensures { Gives (λ step. step ≡ step_to (map held linked.now) place known.now) result }
-{
-    let holder = element_at(linked, place);
-    match (place, holder) {
-        (Some(place), Some(node)) if indirect_name(node).is_some() => Ok(Step::To(place)),
-        _ => Ok(Step::Ends(Answer::Leads(lead_by_name(alloc, known, holder)?))),
-    }
-}
-
 /// The first step from an element, if it is an indirect target.
-fn own_step(
-    alloc: Global,
-    names: &Names,
-    holders: &Holders,
-    linked: &[Linked<'_>],
-    node: &Node,
-) -> Result<Option<Step>>
-    ensures { Gives (λ step. step ≡ own_step (held_by names.now) (place_at holders.now.places.items) (map held linked.now) node.now) result }
+fn own_step(names: &Names, holders: &Holders<'_>, node: &Node) -> Result<Option<Step>>
+    ensures { Gives (λ step. step ≡ own_step (held_by names.now) (place_at holders.now.places.items) (map held holders.now.linked.now) node.now) result }
 {
     let Some(name) = indirect_name(node) else {
         return Ok(None);
@@ -117,27 +89,31 @@ fn own_step(
     match names.get(name) {
         Some(known) if !is_lost(known) => {
             let place = holders.place(known.holder);
-            Ok(Some(step_to(alloc, linked, known, place)?))
+            let holder = element_at(holders.linked, place);
+            match (place, holder) {
+                (Some(place), Some(node)) if indirect_name(node).is_some() => {
+                    Ok(Some(Step::To(place)))
+                }
+                _ => {
+                    let lead = lead_by_name(holders.alloc, known, holder)?;
+                    Ok(Some(Step::Ends(Answer::Leads(lead))))
+                }
+            }
         }
         _ => {
-            let name = Text::from_str(alloc, name)?;
+            let name = Text::from_str(holders.alloc, name)?;
             Ok(Some(Step::Ends(Answer::Missing(name))))
         }
     }
 }
 
 /// The first step from each indirect target, by its place; there is nothing for the other elements.
-fn first_steps(
-    alloc: Global,
-    names: &Names,
-    holders: &Holders,
-    linked: &[Linked<'_>],
-) -> Result<Vec<Option<Step>>>
-    ensures { Gives (λ steps. steps.items ≡ steps_of (held_by names.now) (place_at holders.now.places.items) (map held linked.now)) result }
+fn first_steps(names: &Names, holders: &Holders<'_>) -> Result<Vec<Option<Step>>>
+    ensures { Gives (λ steps. steps.items ≡ steps_of (held_by names.now) (place_at holders.now.places.items) (map held holders.now.linked.now)) result }
 {
-    let mut steps = Vec::with_capacity(alloc, linked.len())?;
-    for one in linked {
-        let step = own_step(alloc, names, holders, linked, one.element)?;
+    let mut steps = Vec::with_capacity(holders.alloc, holders.linked.len())?;
+    for one in holders.linked {
+        let step = own_step(names, holders, one.element)?;
         steps.push(step)?;
     }
     Ok(steps)
@@ -173,23 +149,6 @@ fn failure_at(
     }
 }
 
-/// Adds the message on an element, if it fails, and gives the place of the message.
-fn report_failure(
-    context: &mut Context,
-    node: &Node,
-    failure: Option<Text>,
-) -> Result<Option<usize>>
-    ensures place { Gives (λ place. place ≡ (with_report context.old.first_number context.old.reports.items node.now failure).0) result }
-    ensures reports { Gives (λ _. context.new.reports.items ≡ (with_report context.old.first_number context.old.reports.items node.now failure).1) result }
-    ensures rest { Gives (λ _. KeepsRest context.old context.new) result }
-{
-    let Some(text) = failure else {
-        return Ok(None);
-    };
-    let place = context.report(Level::Error, line_of(node), text, true)?;
-    Ok(Some(place))
-}
-
 /// The message of each target that fails, by its place.
 fn reports(
     context: &mut Context,
@@ -202,9 +161,12 @@ fn reports(
 {
     let mut reports = Vec::with_capacity(context.alloc, linked.len())?;
     for (place, one) in linked.iter().enumerate() {
-        let failure = failure_at(context.alloc, one.element, answers, place)?;
-        let report = report_failure(context, one.element, failure)?;
-        reports.push(report)?;
+        let Some(text) = failure_at(context.alloc, one.element, answers, place)? else {
+            reports.push(None)?;
+            continue;
+        };
+        let report = context.report(Level::Error, line_of(one.element), text, true)?;
+        reports.push(Some(report))?;
     }
     Ok(reports)
 }
@@ -233,7 +195,7 @@ fn is_reference(node: &Node) -> bool
 }
 
 /// The place of the element that a reference means by its name, if it does.
-fn named_place(names: &Names, holders: &Holders, node: &Node) -> Option<usize>
+fn named_place(names: &Names, holders: &Holders<'_>, node: &Node) -> Option<usize>
     ensures { result ≡ named_place (held_by names.now) (place_at holders.now.places.items) node.now }
 {
     if !is_reference(node) {
@@ -245,18 +207,13 @@ fn named_place(names: &Names, holders: &Holders, node: &Node) -> Option<usize>
 }
 
 /// For each reference the place of the target that it means, by its name or by the order.
-fn targets_of(
-    alloc: Global,
-    names: &Names,
-    holders: &Holders,
-    linked: &[Linked<'_>],
-) -> Result<Vec<Option<usize>>>
-    ensures { Gives (λ targets. targets.items ≡ targets_of (held_by names.now) (place_at holders.now.places.items) (map held linked.now)) result }
+fn targets_of(names: &Names, holders: &Holders<'_>) -> Result<Vec<Option<usize>>>
+    ensures { Gives (λ targets. targets.items ≡ targets_of (held_by names.now) (place_at holders.now.places.items) (map held holders.now.linked.now)) result }
 {
-    let anonymous = anonymous_places(alloc, linked)?;
+    let anonymous = anonymous_places(holders.alloc, holders.linked)?;
     let mut left = anonymous.as_slice();
-    let mut targets = Vec::with_capacity(alloc, linked.len())?;
-    for one in linked {
+    let mut targets = Vec::with_capacity(holders.alloc, holders.linked.len())?;
+    for one in holders.linked {
         if is_anonymous_reference(one.element) {
             targets.push(left.first().copied())?;
             left = &left[left.len().min(1)..];
@@ -277,32 +234,6 @@ fn led(alloc: Global, answer: &Answer) -> Result<Outcome>
     }
 }
 
-/// What becomes of the element at a place, with the place of the target that it means if it is a reference.
-fn outcome_at(
-    alloc: Global,
-    node: &Node,
-    answers: &[Option<Answer>],
-    reports: &[Option<usize>],
-    target: Option<usize>,
-    place: usize,
-) -> Result<Outcome>
-    ensures { Gives (λ outcome. outcome ≡ outcome_or (at_place answers.now place) (outcome_through (at_place answers.now) (at_place reports.now) node.now target)) result }
-{
-    if let Some(answer) = answer_at(answers, place) {
-        return led(alloc, answer);
-    }
-    let Some(target) = target else {
-        return Ok(Outcome::adds(None));
-    };
-    if let Some(report) = at_place(reports, target) {
-        return Ok(Outcome::Fails(report));
-    }
-    match answer_at(answers, target) {
-        Some(answer) if has(node, Key::Anonymous) => led(alloc, answer),
-        _ => Ok(Outcome::adds(None)),
-    }
-}
-
 /// What becomes of the linked elements.
 fn outcomes(
     alloc: Global,
@@ -315,9 +246,24 @@ fn outcomes(
 {
     let mut outcomes = Vec::with_capacity(alloc, linked.len())?;
     for (place, one) in linked.iter().enumerate() {
-        let target = at_place(targets, place);
-        let outcome = outcome_at(alloc, one.element, answers, reports, target, place)?;
-        outcomes.push(outcome)?;
+        if let Some(answer) = answer_at(answers, place) {
+            outcomes.push(led(alloc, answer)?)?;
+            continue;
+        }
+        let Some(target) = at_place(targets, place) else {
+            outcomes.push(Outcome::adds(None))?;
+            continue;
+        };
+        if let Some(report) = at_place(reports, target) {
+            outcomes.push(Outcome::Fails(report))?;
+            continue;
+        }
+        match answer_at(answers, target) {
+            Some(answer) if has(one.element, Key::Anonymous) => {
+                outcomes.push(led(alloc, answer)?)?;
+            }
+            _ => outcomes.push(Outcome::adds(None))?,
+        }
     }
     Ok(outcomes)
 }

@@ -7,4 +7,4 @@ use Rattle.rst_transform_hyperlinks.proofs.indirect.first_steps.Given as goal
 
 abbrev pub invariant-loop-one : goal.invariant-loop-one
 invariant-loop-one l =
-    l.steps.items ++ map (λ one. own_step (held_by l.names) (place_at l.holders.places.items) (map held l.linked) one.0) (map held (drop l.one-index l.linked)) ≡ steps_of (held_by l.fn.names) (place_at l.fn.holders.places.items) (map held l.fn.linked)
+    l.steps.items ++ map (λ one. own_step (held_by l.names) (place_at l.holders.places.items) (map held l.holders.linked.now) one.0) (map held (drop l.one-index l.holders.linked.now)) ≡ steps_of (held_by l.fn.names) (place_at l.fn.holders.places.items) (map held l.fn.holders.linked.now)

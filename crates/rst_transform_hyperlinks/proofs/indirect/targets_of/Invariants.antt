@@ -7,4 +7,4 @@ use Rattle.rst_transform_hyperlinks.proofs.indirect.targets_of.Given as goal
 
 abbrev pub invariant-loop-one : goal.invariant-loop-one
 invariant-loop-one l =
-    l.targets.items ++ targets_from (held_by l.names) (place_at l.holders.places.items) l.left (map held (drop l.one-index l.linked)) ≡ targets_of (held_by l.fn.names) (place_at l.fn.holders.places.items) (map held l.fn.linked)
+    l.targets.items ++ targets_from (held_by l.names) (place_at l.holders.places.items) l.left (map held (drop l.one-index l.holders.linked.now)) ≡ targets_of (held_by l.fn.names) (place_at l.fn.holders.places.items) (map held l.fn.holders.linked.now)
