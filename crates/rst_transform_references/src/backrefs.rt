@@ -17,38 +17,31 @@ use std::alloc::Global;
 
 /// The place of the footnote or citation that an element refers to, by its name or by the order.
 fn referent_of(
-    alloc: Global,
-    linked: &[Linked<'_>],
     names: &Names,
-    holders: &Holders,
+    holders: &Holders<'_>,
     element: &Node,
     found: Option<usize>,
 ) -> Result<Option<usize>>
-    ensures { Gives (λ referent. referent ≡ referent_of (place_at holders.now.places.items) (map held linked.now) (held_by names.now) element.now found) result }
+    ensures { Gives (λ referent. referent ≡ referent_of (place_at holders.now.places.items) (map held holders.now.linked.now) (held_by names.now) element.now found) result }
 {
     if !refers_to_footnote_or_citation(element) {
         return Ok(None);
     }
-    match meaning_to(alloc, linked, names, holders, element)? {
+    match meaning_to(names, holders, element)? {
         Some(Meaning::Leads { referent, .. }) => Ok(referent),
         Some(Meaning::Unknown | Meaning::Duplicate) | None => Ok(found),
     }
 }
 
 /// For each linked element the place of the footnote or citation that it refers to.
-fn referents_of(
-    alloc: Global,
-    linked: &[Linked<'_>],
-    names: &Names,
-    holders: &Holders,
-) -> Result<Vec<Option<usize>>>
-    ensures { Gives (λ referents. referents.items ≡ referents_of (place_at holders.now.places.items) (map held linked.now) (held_by names.now)) result }
+fn referents_of(names: &Names, holders: &Holders<'_>) -> Result<Vec<Option<usize>>>
+    ensures { Gives (λ referents. referents.items ≡ referents_of (place_at holders.now.places.items) (map held holders.now.linked.now) (held_by names.now)) result }
 {
-    let found = found_by_order(alloc, linked)?;
-    let mut referents = Vec::with_capacity(alloc, linked.len())?;
-    for (place, one) in linked.iter().enumerate() {
+    let found = found_by_order(holders.alloc, holders.linked)?;
+    let mut referents = Vec::with_capacity(holders.alloc, holders.linked.len())?;
+    for (place, one) in holders.linked.iter().enumerate() {
         let found = at_place(found.as_slice(), place);
-        let referent = referent_of(alloc, linked, names, holders, one.element, found)?;
+        let referent = referent_of(names, holders, one.element, found)?;
         referents.push(referent)?;
     }
     Ok(referents)
@@ -91,19 +84,18 @@ fn add_reference(
 
 /// For each of so many elements the ids of the references to it, in order.
 fn reference_ids(
-    alloc: Global,
-    linked: &[Linked<'_>],
+    holders: &Holders<'_>,
     referents: &[Option<usize>],
     count: usize,
 ) -> Result<Vec<Texts>>
-    ensures { Gives (λ lists. lists.items ≡ reference_ids referents.now (map held linked.now) count) result }
+    ensures { Gives (λ lists. lists.items ≡ reference_ids referents.now (map held holders.now.linked.now) count) result }
 {
-    let mut lists = no_ids(alloc, count)?;
+    let mut lists = no_ids(holders.alloc, count)?;
     for (place, referent) in referents.iter().enumerate() {
-        let Some(one) = linked.get(place) else {
+        let Some(one) = holders.linked.get(place) else {
             return Ok(lists);
         };
-        add_reference(alloc, &mut lists, *referent, one.element)?;
+        add_reference(holders.alloc, &mut lists, *referent, one.element)?;
     }
     Ok(lists)
 }
@@ -116,21 +108,6 @@ fn referred_to(ids: Texts, outcome: Outcome) -> Outcome
         return outcome;
     }
     Outcome::adds(Some(Entry::new(Key::Backrefs, Value::List(ids))))
-}
-
-/// What becomes of elements, each with the ids of the references to it.
-fn with_backref_lists(
-    alloc: Global,
-    lists: Vec<Texts>,
-    outcomes: Vec<Outcome>,
-) -> Result<Vec<Outcome>>
-    ensures { Gives (λ changed. changed.items ≡ with_backref_lists lists.items outcomes.items) result }
-{
-    let pairs = lists.into_iter().zip(outcomes);
-    let changed = pairs
-        .map(|(ids, outcome)| referred_to(ids, outcome))
-        .collect(alloc)?;
-    Ok(changed)
 }
 
 /// Whether an element refers to a footnote or a citation.
@@ -147,18 +124,18 @@ fn any_refers_to_footnote_or_citation(linked: &[Linked<'_>]) -> bool
 
 /// What becomes of the linked elements, where each footnote and citation lists the ids of the references to it, in order.
 pub fn with_backrefs(
-    alloc: Global,
-    linked: &[Linked<'_>],
     names: &Names,
-    holders: &Holders,
+    holders: &Holders<'_>,
     outcomes: Vec<Outcome>,
 ) -> Result<Vec<Outcome>>
-    ensures { let all = map held linked.now in Gives (λ changed. changed.items ≡ with_backrefs (referents_of (place_at holders.now.places.items) all (held_by names.now)) all outcomes.items) result }
+    ensures { let all = map held holders.now.linked.now in Gives (λ changed. changed.items ≡ with_backrefs (referents_of (place_at holders.now.places.items) all (held_by names.now)) all outcomes.items) result }
 {
-    if !any_refers_to_footnote_or_citation(linked) {
+    if !any_refers_to_footnote_or_citation(holders.linked) {
         return Ok(outcomes);
     }
-    let referents = referents_of(alloc, linked, names, holders)?;
-    let lists = reference_ids(alloc, linked, referents.as_slice(), outcomes.len())?;
-    with_backref_lists(alloc, lists, outcomes)
+    let referents = referents_of(names, holders)?;
+    let lists = reference_ids(holders, referents.as_slice(), outcomes.len())?;
+    let pairs = lists.into_iter().zip(outcomes);
+    let changed = pairs.map(|(ids, outcome)| referred_to(ids, outcome));
+    Ok(changed.collect(holders.alloc)?)
 }

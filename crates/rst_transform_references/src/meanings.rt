@@ -73,14 +73,8 @@ fn referent_place(element: Option<&Node>, place: Option<usize>) -> Option<usize>
 }
 
 /// What its name means to a reference by name; there is nothing for another element.
-pub fn meaning_to(
-    alloc: Global,
-    linked: &[Linked<'_>],
-    names: &Names,
-    holders: &Holders,
-    element: &Node,
-) -> Result<Option<Meaning>>
-    ensures { Gives (λ meaning. meaning ≡ meaning_to (place_at holders.now.places.items) (map held linked.now) (held_by names.now) element.now) result }
+pub fn meaning_to(names: &Names, holders: &Holders<'_>, element: &Node) -> Result<Option<Meaning>>
+    ensures { Gives (λ meaning. meaning ≡ meaning_to (place_at holders.now.places.items) (map held holders.now.linked.now) (held_by names.now) element.now) result }
 {
     let Some(name) = reference_name(element) else {
         return Ok(None);
@@ -88,30 +82,15 @@ pub fn meaning_to(
     let Some(known) = names.get(name) else {
         return Ok(Some(Meaning::Unknown));
     };
-    let needs_referent = refers_to_footnote_or_citation(element);
-    let meaning = held_meaning(alloc, linked, holders, needs_referent, known)?;
-    Ok(Some(meaning))
-}
-
-/// What a name means that some element was written with, to a reference which may be one to footnotes and citations alone.
-fn held_meaning(
-    alloc: Global,
-    linked: &[Linked<'_>],
-    holders: &Holders,
-    needs_referent: bool,
-    known: &NameEntry,
-) -> Result<Meaning>
-    ensures { Gives (λ meaning. meaning ≡ held_meaning (place_at holders.now.places.items) (map held linked.now) needs_referent known.now) result }
-{
     if is_lost(known) {
-        return Ok(Meaning::Duplicate);
+        return Ok(Some(Meaning::Duplicate));
     }
     let place = holders.place(known.holder);
-    let holder = element_at(linked, place);
+    let holder = element_at(holders.linked, place);
     let referent = referent_place(holder, place);
-    if needs_referent && referent.is_none() {
-        return Ok(Meaning::Unknown);
+    if refers_to_footnote_or_citation(element) && referent.is_none() {
+        return Ok(Some(Meaning::Unknown));
     }
-    let attr = lead_by_name(alloc, known, holder)?;
-    Ok(Meaning::Leads { attr, referent })
+    let attr = lead_by_name(holders.alloc, known, holder)?;
+    Ok(Some(Meaning::Leads { attr, referent }))
 }

@@ -1,5 +1,5 @@
 //! References by name.
-ghost use Rattle.std.specs.Prelude.{◌≡◌, ◌||◌, [], map};
+ghost use Rattle.std.specs.Prelude.{◌≡◌, ◌||◌, ◌++◌, [], codes, map};
 ghost use Rattle.rst_tree.specs.Faults.{Gives};
 ghost use Rattle.rst_transform_work.specs.Known.{Makes};
 ghost use Rattle.rst_transform_links.specs.Holders.{place_at};
@@ -52,106 +52,59 @@ pub fn reference_outcomes(context: &mut Context, linked: &[Linked<'_>]) -> Resul
     ensures { Gives (λ outcomes. Makes (spec.reference_outcomes (map held linked.now)) context.old context.new outcomes.items) result }
 {
     let holders = Holders::of(context.alloc, linked, context.serials)?;
-    let outcomes = resolved(context, linked, &holders)?;
-    let outcomes = with_backrefs(context.alloc, linked, &context.names, &holders, outcomes)?;
+    let outcomes = resolved(context, &holders)?;
+    let outcomes = with_backrefs(&context.names, &holders, outcomes)?;
     Ok(outcomes)
 }
 
-/// The label that a footnote or a citation shows.
-fn label_of(alloc: Global, referent: &Node) -> Result<Option<Text>>
-    ensures { Gives (λ label. label ≡ label_of referent.now) result }
-{
-    let Node::Element { children, .. } = referent else {
-        return Ok(None);
-    };
-    let Some(label) = children.get(0) else {
-        return Ok(None);
-    };
-    Ok(Some(label.text_of(alloc)?))
-}
-
-/// Whether a reference shows the label of the footnote that it refers to.
-fn shows_label(reference: &Node) -> bool
-    ensures { result ≡ shows_label reference.now }
-{
-    refers_to_footnote_or_citation(reference) && has(reference, Key::Auto)
-}
-
 /// What a reference shows in place of what it holds, if it shows the label of the footnote or citation at a place.
-fn shown_for(
-    alloc: Global,
-    linked: &[Linked<'_>],
-    reference: &Node,
-    referent: Option<usize>,
-) -> Result<Option<Text>>
-    ensures { Gives (λ shown. shown ≡ shown_for (map held linked.now) reference.now referent) result }
+fn shown_for(holders: &Holders<'_>, reference: &Node, place: Option<usize>) -> Result<Option<Text>>
+    ensures { Gives (λ shown. shown ≡ shown_for (map held holders.now.linked.now) reference.now place) result }
 {
-    if !shows_label(reference) {
+    if !refers_to_footnote_or_citation(reference) || !has(reference, Key::Auto) {
         return Ok(None);
     }
-    let Some(referent) = element_at(linked, referent) else {
+    let Some(Node::Element { children, .. }) = element_at(holders.linked, place) else {
         return Ok(None);
     };
-    label_of(alloc, referent)
+    match children.get(0) {
+        Some(label) => Ok(Some(label.text_of(holders.alloc)?)),
+        None => Ok(None),
+    }
 }
 
-/// What the ERROR says of a name that means nothing.
-fn unknown(alloc: Global, name: &str) -> Result<Text>
-    ensures { Gives (λ text. text ≡ unknown name.now) result }
-{
-    let text = Text::of_three(alloc, "Unknown target name: \"", name, "\".")?;
-    Ok(text)
-}
-
-/// What the ERROR says of a name that elements with equal names lost.
-fn duplicate(alloc: Global, name: &str) -> Result<Text>
-    ensures { Gives (λ text. text ≡ duplicate name.now) result }
-{
-    let before = "Duplicate target name, cannot be used as a unique reference: \"";
-    let text = Text::of_three(alloc, before, name, "\".")?;
-    Ok(text)
-}
-
-/// The name of a reference, or the empty name.
-fn name_of(reference: &Node) -> &str
-    ensures { result.now ≡ name_of reference.now }
-{
-    text_said(reference, Key::Refname).unwrap_or("")
-}
-
-/// A reference that fails for an ERROR of its own.
+/// A reference that fails for an ERROR of its own, which says these words before its name.
 #[tactic(auto, using(crate::proofs::Resolves::fails_for))]
-fn failing(context: &mut Context, reference: &Node, text: Text) -> Result<Outcome>
-    ensures { Gives (Makes (spec.failing reference.now text) context.old context.new) result }
+fn failing(context: &mut Context, reference: &Node, words: &str) -> Result<Outcome>
+    ensures { Gives (Makes (spec.failing reference.now (words.now ++ (name_of reference.now ++ codes "\"."))) context.old context.new) result }
 {
+    let name = text_said(reference, Key::Refname).unwrap_or("");
+    let text = Text::of_three(context.alloc, words, name, "\".")?;
     let line = line_of(reference);
     let report = context.report(Level::Error, line, text, true)?;
     Ok(Outcome::Fails(report))
 }
 
+/// What the ERROR says of a name that elements with equal names lost, before the name.
+const DUPLICATE: &str = "Duplicate target name, cannot be used as a unique reference: \"";
+
 /// What becomes of a reference whose name means this.
 fn outcome_of(
     context: &mut Context,
-    linked: &[Linked<'_>],
+    holders: &Holders<'_>,
     reference: &Node,
     meaning: Meaning,
 ) -> Result<Outcome>
-    ensures { Gives (Makes (spec.outcome_of (map held linked.now) reference.now meaning) context.old context.new) result }
+    ensures { Gives (Makes (spec.outcome_of (map held holders.now.linked.now) reference.now meaning) context.old context.new) result }
 {
     match meaning {
         Meaning::Leads { attr, referent } => {
-            let shown = shown_for(context.alloc, linked, reference, referent)?;
+            let shown = shown_for(holders, reference, referent)?;
             let attr = Some(attr);
             Ok(Outcome::Stays { attr, shown })
         }
-        Meaning::Unknown => {
-            let text = unknown(context.alloc, name_of(reference))?;
-            failing(context, reference, text)
-        }
-        Meaning::Duplicate => {
-            let text = duplicate(context.alloc, name_of(reference))?;
-            failing(context, reference, text)
-        }
+        Meaning::Unknown => failing(context, reference, "Unknown target name: \""),
+        Meaning::Duplicate => failing(context, reference, DUPLICATE),
     }
 }
 
@@ -168,20 +121,19 @@ fn is_gone(ended: &[bool], outer: Option<usize>) -> bool
 /// What becomes of an element that may be gone.
 fn what_becomes(
     context: &mut Context,
-    linked: &[Linked<'_>],
-    holders: &Holders,
+    holders: &Holders<'_>,
     element: &Node,
     gone: bool,
 ) -> Result<Outcome>
-    ensures { Gives (Makes (spec.what_becomes (place_at holders.now.places.items) (map held linked.now) gone element.now) context.old context.new) result }
+    ensures { Gives (Makes (spec.what_becomes (place_at holders.now.places.items) (map held holders.now.linked.now) gone element.now) context.old context.new) result }
 {
     if gone {
         return Ok(Outcome::adds(None));
     }
-    let Some(meaning) = meaning_to(context.alloc, linked, &context.names, holders, element)? else {
+    let Some(meaning) = meaning_to(&context.names, holders, element)? else {
         return Ok(Outcome::adds(None));
     };
-    let outcome = outcome_of(context, linked, element, meaning)?;
+    let outcome = outcome_of(context, holders, element, meaning)?;
     Ok(outcome)
 }
 
@@ -193,14 +145,14 @@ fn ends(gone: bool, outcome: &Outcome) -> bool
 }
 
 /// What becomes of all linked elements, where the messages of those that fail are made.
-fn resolved(context: &mut Context, linked: &[Linked<'_>], holders: &Holders) -> Result<Vec<Outcome>>
-    ensures { let all = map held linked.now in Gives (λ outcomes. Makes (resolved_from (place_at holders.now.places.items) all [] all) context.old context.new outcomes.items) result }
+fn resolved(context: &mut Context, holders: &Holders<'_>) -> Result<Vec<Outcome>>
+    ensures { let all = map held holders.now.linked.now in Gives (λ outcomes. Makes (resolved_from (place_at holders.now.places.items) all [] all) context.old context.new outcomes.items) result }
 {
-    let mut outcomes = Vec::with_capacity(context.alloc, linked.len())?;
-    let mut ended: Vec<bool> = Vec::with_capacity(context.alloc, linked.len())?;
-    for one in linked {
+    let mut outcomes = Vec::with_capacity(context.alloc, holders.linked.len())?;
+    let mut ended: Vec<bool> = Vec::with_capacity(context.alloc, holders.linked.len())?;
+    for one in holders.linked {
         let gone = is_gone(ended.as_slice(), one.outer);
-        let outcome = what_becomes(context, linked, holders, one.element, gone)?;
+        let outcome = what_becomes(context, holders, one.element, gone)?;
         ended.push(ends(gone, &outcome))?;
         outcomes.push(outcome)?;
     }

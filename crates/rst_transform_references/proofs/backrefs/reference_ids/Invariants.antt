@@ -5,4 +5,4 @@ use Rattle.rst_transform_links.specs.Linkings.{held}
 use Rattle.rst_transform_references.proofs.backrefs.reference_ids.Given as goal
 
 abbrev pub invariant-loop-place : goal.invariant-loop-place
-invariant-loop-place l = completed (drop l.place l.referents) (map held (drop l.place l.linked)) 0 l.lists.items ≡ reference_ids l.fn.referents (map held l.fn.linked) l.fn.count
+invariant-loop-place l = completed (drop l.place l.referents) (map held (drop l.place l.holders.linked.now)) 0 l.lists.items ≡ reference_ids l.fn.referents (map held l.fn.holders.linked.now) l.fn.count

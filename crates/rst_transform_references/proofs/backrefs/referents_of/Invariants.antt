@@ -8,5 +8,5 @@ use Rattle.rst_transform_references.proofs.backrefs.referents_of.Given as goal
 
 abbrev pub invariant-loop-place : goal.invariant-loop-place
 invariant-loop-place l =
-    l.referents.items ++ map (referent_at (place_at l.holders.places.items) (map held l.linked) (held_by l.names) l.found.items) (enumerate_from l.place (map held (drop l.place l.linked)))
-    ≡ referents_of (place_at l.holders.places.items) (map held l.linked) (held_by l.names)
+    l.referents.items ++ map (referent_at (place_at l.holders.places.items) (map held l.holders.linked.now) (held_by l.names) l.found.items) (enumerate_from l.place (map held (drop l.place l.holders.linked.now)))
+    ≡ referents_of (place_at l.holders.places.items) (map held l.holders.linked.now) (held_by l.names)

@@ -8,5 +8,5 @@ use Rattle.rst_transform_references.proofs.backrefs.with_backrefs.Goals as goal
 
 pub returns-then-not-any_refers_to_footnote_or_citation : goal.returns-then-not-any_refers_to_footnote_or_citation
 returns-then-not-any_refers_to_footnote_or_citation c =
-    let none : list_any (λ one. refers_to_footnote_or_citation one.0) (map held c.args.linked.now) ≡ false = search rules in
-    none_listed _ (map held c.args.linked.now) (held_by c.args.names.now) c.args.outcomes.items none
+    let none : list_any (λ one. refers_to_footnote_or_citation one.0) (map held c.args.holders.now.linked.now) ≡ false = search rules in
+    none_listed _ (map held c.args.holders.now.linked.now) (held_by c.args.names.now) c.args.outcomes.items none

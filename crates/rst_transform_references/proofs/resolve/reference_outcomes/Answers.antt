@@ -7,4 +7,4 @@ use Rattle.rst_transform_references.proofs.resolve.reference_outcomes.Goals as g
 pub returns : goal.returns
 returns c =
     decided (place_at c.in_ok-holders.holders.places.items) (map held c.args.linked.now) c.args.context.now c.resolved.new.context c.in_ok-outcomes.outcomes.items c.in_ok-outcomes-2.outcomes.items
-    c.in_ok-holders.ensures c.in_ok-outcomes.ensures c.in_ok-outcomes-2.ensures
+    c.in_ok-holders.ensures.places (rw (c.in_ok-holders.ensures.linked) at c.in_ok-outcomes.ensures) (rw (c.in_ok-holders.ensures.linked) at c.in_ok-outcomes-2.ensures)

@@ -10,5 +10,5 @@ use Rattle.rst_transform_references.proofs.resolve.resolved.Given as goal
 -- the outcomes so far, and then what becomes of the elements that are left, are what becomes of all
 abbrev pub invariant-loop-one : goal.invariant-loop-one
 invariant-loop-one l =
-    (after : Context) (rest : List Outcome) → Makes (resolved_from (place_at l.holders.places.items) (map held l.linked) l.ended.items (map held (drop l.one-index l.linked))) l.context after rest
-    → Makes (resolved_from (place_at l.holders.places.items) (map held l.linked) [] (map held l.linked)) l.fn.context after (l.outcomes.items ++ rest)
+    (after : Context) (rest : List Outcome) → Makes (resolved_from (place_at l.holders.places.items) (map held l.holders.linked.now) l.ended.items (map held (drop l.one-index l.holders.linked.now))) l.context after rest
+    → Makes (resolved_from (place_at l.holders.places.items) (map held l.holders.linked.now) [] (map held l.holders.linked.now)) l.fn.context after (l.outcomes.items ++ rest)
