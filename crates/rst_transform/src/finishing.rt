@@ -28,8 +28,8 @@ use rst_transform_structure::targets::targets;
 use rst_transform_structure::title::title;
 use rst_transform_structure::transitions::transitions;
 use rst_transform_substitutions::expand::expand;
-use rst_transform_work::{Context, Document, Report, Result};
-use rst_tree::{Node, Note};
+use rst_transform_work::{Context, Document, Report};
+use rst_tree::{Node, Note, TreeFault};
 use rst_tree_index::Marked;
 use std::alloc::Global;
 
@@ -53,7 +53,7 @@ pub fn finish(
     document: Marked,
     messages: u64,
     settings: &Settings,
-) -> Result<Finished>
+) -> Result<Finished, TreeFault>
     requires document { IsDocument document }
     ensures finishes { Finishes messages (profile_of settings.now) settings.now document result }
     ensures highest { IfOk result (λ done. done.highest ≡ highest_level done.notes.items) }
@@ -74,7 +74,12 @@ pub fn finish(
 }
 
 /// The messages in a registered document, in a list with room for so many.
-fn listed(alloc: Global, document: &Document, room: u64, settings: &Settings) -> Result<Messages>
+fn listed(
+    alloc: Global,
+    document: &Document,
+    room: u64,
+    settings: &Settings,
+) -> Result<Messages, TreeFault>
     ensures halt { Gives (λ list. list.halt ≡ settings.now.halt) result }
     ensures report { Gives (λ list. list.report ≡ settings.now.report) result }
     ensures lists { Gives (Lists (messages_among document.now.children)) result }
@@ -91,7 +96,7 @@ fn filtered(
     reports: Vec<Report>,
     list: Messages,
     report: Threshold,
-) -> Result<(Document, Messages)>
+) -> Result<(Document, Messages), TreeFault>
     ensures halt { Gives (λ done. done.1.halt ≡ list.halt) result }
     ensures lists { (all : List Numbered) → Lists all list → Gives (λ done. Lists (all ++ map report_said reports.items) done.1) result }
     ensures document { (all : List Numbered) → Lists all list → list.report ≡ report → Gives (λ done. done.0 ≡ with_filtered report (is_number_shown report (all ++ map report_said reports.items)) document) result }
@@ -120,7 +125,11 @@ fn started(alloc: Global, registered: Registered, messages: u64) -> (Document, C
 }
 
 /// A document after all transforms, in order.
-fn transformed(document: Document, context: &mut Context, settings: &Settings) -> Result<Document>
+fn transformed(
+    document: Document,
+    context: &mut Context,
+    settings: &Settings,
+) -> Result<Document, TreeFault>
     ensures { Gives (Makes (spec.transformed (profile_of settings.now) settings.now document) context.old context.new) result }
 {
     let retargeted = with_early(document, context)?;
@@ -132,7 +141,7 @@ fn transformed(document: Document, context: &mut Context, settings: &Settings) -
 }
 
 /// A document whose substitution references are replaced, and whose internal targets handed on their ids and names. Most have neither.
-fn with_early(document: Document, context: &mut Context) -> Result<Document>
+fn with_early(document: Document, context: &mut Context) -> Result<Document, TreeFault>
     ensures { Gives (Makes (λ known. let expanded = with_expansions document known in with_targets expanded.0 expanded.1) context.old context.new) result }
 {
     if !has_early(&document.children) {
@@ -144,7 +153,11 @@ fn with_early(document: Document, context: &mut Context) -> Result<Document>
 }
 
 /// A document with its title, if that is asked for.
-fn with_title(document: Document, context: &mut Context, is_asked: bool) -> Result<Document>
+fn with_title(
+    document: Document,
+    context: &mut Context,
+    is_asked: bool,
+) -> Result<Document, TreeFault>
     ensures { Gives (Makes (asked is_asked with_title document) context.old context.new) result }
 {
     if !is_asked {
@@ -154,7 +167,11 @@ fn with_title(document: Document, context: &mut Context, is_asked: bool) -> Resu
 }
 
 /// A document with its bibliography, if that is asked for.
-fn with_info(document: Document, context: &mut Context, is_asked: bool) -> Result<Document>
+fn with_info(
+    document: Document,
+    context: &mut Context,
+    is_asked: bool,
+) -> Result<Document, TreeFault>
     ensures { Gives (Makes (asked is_asked with_docinfo document) context.old context.new) result }
 {
     if !is_asked {

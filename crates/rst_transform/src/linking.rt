@@ -11,7 +11,8 @@ use rst_transform_hyperlinks::anonymous::anonymous_outcomes;
 use rst_transform_hyperlinks::indirect::indirect_outcomes;
 use rst_transform_links::{Changes, Linked, Outcome, linked_in, settle, with_changes};
 use rst_transform_references::resolve::reference_outcomes;
-use rst_transform_work::{Context, Document, Result};
+use rst_transform_work::{Context, Document};
+use rst_tree::TreeFault;
 
 /// A transform of links.
 #[derive(Clone, Copy)]
@@ -35,7 +36,7 @@ const ALL: [LinkStep; 4] = [
 ];
 
 /// A document after all transforms of links.
-pub fn resolve_links(document: Document, context: &mut Context) -> Result<Document>
+pub fn resolve_links(document: Document, context: &mut Context) -> Result<Document, TreeFault>
     ensures { Gives (Makes (with_links document) context.old context.new) result }
 {
     resolve_by(document, context, &ALL)
@@ -46,7 +47,7 @@ fn resolve_by(
     document: Document,
     context: &mut Context,
     transforms: &[LinkStep],
-) -> Result<Document>
+) -> Result<Document, TreeFault>
     ensures { Gives (Makes (linked_by transforms.now document) context.old context.new) result }
 {
     if transforms.is_empty() {
@@ -65,7 +66,7 @@ fn first_changes(
     context: &mut Context,
     linked: &[Linked<'_>],
     transforms: &[LinkStep],
-) -> Result<(Changes, usize)>
+) -> Result<(Changes, usize), TreeFault>
     ensures changes { Gives (λ done. Makes (first_changes transforms.now (map held linked.now)) context.old context.new (done.0, done.1)) result }
     ensures some { Gives (λ done. 0 < length transforms.now → 0 < done.1) result }
     ensures fits { Gives (λ done. done.1 ≤ length transforms.now) result }
@@ -82,7 +83,11 @@ fn first_changes(
 }
 
 /// What a transform makes of linked elements. Those that fail become problematics.
-fn changes_by(context: &mut Context, linked: &[Linked<'_>], transform: LinkStep) -> Result<Changes>
+fn changes_by(
+    context: &mut Context,
+    linked: &[Linked<'_>],
+    transform: LinkStep,
+) -> Result<Changes, TreeFault>
     ensures { Gives (Makes (link_changes (decision_of transform) (map held linked.now)) context.old context.new) result }
 {
     let outcomes = outcomes_by(context, linked, transform)?;
@@ -95,7 +100,7 @@ fn outcomes_by(
     context: &mut Context,
     linked: &[Linked<'_>],
     transform: LinkStep,
-) -> Result<Vec<Outcome>>
+) -> Result<Vec<Outcome>, TreeFault>
     ensures { Gives (λ outcomes. Makes (decision_of transform (map held linked.now)) context.old context.new outcomes.items) result }
 {
     match transform {

@@ -9,8 +9,8 @@ ghost use Rattle.rst_transform_work.specs.States.{document_node};
 
 use crate::messages::{level_number, reaches};
 use rst_settings::Threshold;
-use rst_transform_work::{Document, Result};
-use rst_tree::{Children, Key, Node, Tag};
+use rst_transform_work::Document;
+use rst_tree::{Children, Key, Node, Tag, TreeFault};
 use std::alloc::Global;
 use std::mem;
 
@@ -35,7 +35,7 @@ pub fn filter(
     mut document: Document,
     report: Threshold,
     shown: &[bool],
-) -> Result<Document>
+) -> Result<Document, TreeFault>
     ensures document { Gives (λ done. done ≡ with_filtered report (marked shown.now) document) result }
     ensures shown { Gives (λ done. is_shown_in report (document_node done) ≡ true) result }
 {
@@ -83,7 +83,12 @@ fn may_stay(node: &Node, report: Threshold) -> bool
 }
 
 /// Takes what isn't shown out of nodes.
-fn filter_in(alloc: Global, nodes: &mut Children, report: Threshold, shown: &[bool]) -> Result<()>
+fn filter_in(
+    alloc: Global,
+    nodes: &mut Children,
+    report: Threshold,
+    shown: &[bool],
+) -> Result<(), TreeFault>
     ensures { Gives (λ _. nodes.new ≡ filtered report (marked shown.now) nodes.old) result }
 {
     let mut leaves = false;

@@ -131,8 +131,7 @@ impl Walking {
     fn into_got(self) -> Vec<(Text, Option<u64>)>
         ensures { result.items ≡ self.got }
     {
-        let Walking { got, .. } = self;
-        got
+        self.got
     }
 
     /// Whether the element is a target that hands on its ids.
@@ -140,10 +139,7 @@ impl Walking {
         ensures turn { result ≡ hands_on self.old (item tag attrs.now 0) }
         ensures left { self.new ≡ record self.old { takers = drop 1 self.old.takers } }
     {
-        let next_takes = match self.takers.get(1) {
-            Some(takes) => *takes,
-            None => false,
-        };
+        let next_takes = matches!(self.takers.get(1), Some(true));
         self.takers.pop_front();
         is_internal(tag, attrs) && next_takes
     }
@@ -242,8 +238,5 @@ fn pass(got: Vec<(Text, Option<u64>)>, names: &mut Names)
 fn holder(number: Option<u64>) -> Holder
     ensures { result ≡ holder_of number }
 {
-    match number {
-        Some(number) => Holder::Element(number),
-        None => Holder::Unregistered,
-    }
+    number.map_or(Holder::Unregistered, |number| Holder::Element(number))
 }
