@@ -1,6 +1,6 @@
 -- What references come to, remembered for those that follow. That each comes to what the definition says is the rule; this is what makes it so.
 use Rattle.std.specs.Prelude.{◌≡◌, ℕ, ◌==◌, false, List, slice_get, Option, Some, Result, Ok, Err}
-use Rattle.std.specs.BTreeMap.{get}
+use Rattle.std.specs.BTreeMap.{get, BTreeMap}
 use Rattle.std.specs.List.{list_any}
 use Rattle.std.specs.Ordering.{nat_cmp}
 use Rattle.rst_tree.specs.declared.node.Node.{Node}
@@ -9,7 +9,6 @@ use Rattle.rst_tree.specs.Nodes.{nodes_of}
 use Rattle.rst_transform_substitutions.specs.declared.definitions.Definitions.{Definitions}
 use Rattle.rst_transform_substitutions.specs.declared.expansion.ExpansionFault.{ExpansionFault}
 use Rattle.rst_transform_substitutions.specs.declared.outcomes.Kept.{Kept}
-use Rattle.rst_transform_substitutions.specs.declared.outcomes.Memory.{Memory}
 use Rattle.rst_transform_substitutions.specs.declared.outcomes.Outcome.{Outcome}
 use Rattle.rst_transform_substitutions.specs.declared.outcomes.Outcome.TheVariants.{Nodes, Fault}
 use Rattle.rst_transform_substitutions.specs.declared.outcomes.Outcomes.{Outcomes}
@@ -34,9 +33,9 @@ pub record GoesInto (known : Definitions) (within : Option ℕ) (place : ℕ) (n
   pub other : list_any (λ entered. entered == place) (path_from within) ≡ false
 
 -- what is remembered for a place is what each reference that goes into the definition there comes to, if it stands where the last one stood
-abbrev pub HoldsTrue : Definitions → Memory → Type 0
+abbrev pub HoldsTrue : Definitions → BTreeMap ℕ Kept → Type 0
 HoldsTrue known memory =
-    (place : ℕ) (kept : Kept) (name : List ℕ) → get nat_cmp memory.kept place ≡ Some kept → GoesInto known kept.within place name
+    (place : ℕ) (kept : Kept) (name : List ℕ) → get nat_cmp memory place ≡ Some kept → GoesInto known kept.within place name
     → came kept.outcome ≡ nodes_for (found_by known) kept.within name
 
 -- so it is in definitions and outside of them, and the numbers tell which definition doesn't lead to which

@@ -63,9 +63,9 @@ impl Definitions {
         let place = self.contents.len();
         let content = copies(alloc, content)?;
         let exact = String::from_str(alloc, name)?;
-        know(&mut self.exact, exact, place)?;
+        self.exact.insert(exact, place)?;
         let normalized = folded(alloc, name)?;
-        know(&mut self.normalized, normalized, place)?;
+        self.normalized.insert(normalized, place)?;
         self.contents.push(content)?;
         Ok(())
     }
@@ -110,12 +110,4 @@ impl Definitions {
     {
         self.contents.get(place)
     }
-}
-
-/// Knows a place by a name, in place of what was known by it.
-fn know(places: &mut BTreeMap<String, usize>, name: String, place: usize) -> Result<(), TreeFault>
-    ensures { Gives (λ _. (other : List ℕ) → get_by_text places.new other ≡ (if bytes_eq other (string_bytes name) then Some place else get_by_text places.old other)) result }
-{
-    places.insert(name, place)?;
-    Ok(())
 }

@@ -89,21 +89,14 @@ fn expand_in(
     Ok(())
 }
 
-/// Whether a node is a reference.
-fn is_reference_node(node: &Node) -> bool
-    ensures { result ≡ is_reference_node node.now }
-{
-    match node {
-        Node::Element { tag, .. } => is_reference(*tag),
-        Node::Text(_) => false,
-    }
-}
-
 /// Whether there is a reference among nodes.
 fn has_reference(nodes: &[Node]) -> bool
     ensures { result ≡ list_any is_reference_node nodes.now }
 {
-    nodes.iter().any(|node| is_reference_node(node))
+    nodes.iter().any(|node| match node {
+        Node::Element { tag, .. } => is_reference(*tag),
+        Node::Text(_) => false,
+    })
 }
 
 /// Puts the nodes in each reference into its place, in a list made anew.
@@ -115,28 +108,11 @@ fn open_references(alloc: Global, nodes: &mut Children) -> Result<(), TreeFault>
     let mut done = Vec::with_capacity(alloc, list.len())?;
     for node in list {
         match node {
-            Node::Text(text) => {
-                done.push(Node::Text(text))?;
-                continue;
+            Node::Element { tag, children, .. } if is_reference(tag) => {
+                let mut inner = children.into_list();
+                done.append(&mut inner)?;
             }
-            Node::Element {
-                tag,
-                attrs,
-                children,
-                line,
-            } => {
-                if is_reference(tag) {
-                    let mut inner = children.into_list();
-                    done.append(&mut inner)?;
-                    continue;
-                }
-                done.push(Node::Element {
-                    tag,
-                    attrs,
-                    children,
-                    line,
-                })?;
-            }
+            node => done.push(node)?,
         }
     }
     *nodes = Children::of(done);
@@ -176,24 +152,11 @@ fn replaced(
     match reference_outcome(context.alloc, definitions, name, within, outcomes)? {
         Outcome::Nodes(nodes) => Ok(nodes),
         Outcome::Fault(fault) => {
-            let problematic = problematic(attrs, line, fault, context)?;
-            Children::lone(context.alloc, problematic)
+            let text = fault.text(context.alloc, name)?;
+            let report = context.report(Level::Error, line, text, true)?;
+            let source = take_source(context.alloc, attrs)?;
+            let node = context.problematic(report, source, line)?;
+            Children::lone(context.alloc, node)
         }
     }
-}
-
-/// The problematic that a reference becomes which isn't replaced, with its message.
-fn problematic(
-    attrs: &mut Attrs,
-    line: usize,
-    fault: ExpansionFault,
-    context: &mut Context,
-) -> Result<Node, TreeFault>
-    ensures { Gives (Makes (at_fault attrs.old line fault) context.old context.new) result }
-{
-    let text = fault.text(context.alloc, said(attrs, Key::Refname))?;
-    let report = context.report(Level::Error, line, text, true)?;
-    let source = take_source(context.alloc, attrs)?;
-    let node = context.problematic(report, source, line)?;
-    Ok(node)
 }

@@ -45,19 +45,18 @@ impl ExpansionFault {
     pub fn text(&self, alloc: Global, name: &str) -> Result<Text, TreeFault>
         ensures { Gives (λ text. text ≡ fault_text name.now self.now) result }
     {
-        match self {
-            ExpansionFault::Undefined(inner) => {
-                let before = "Undefined substitution referenced: \"";
-                Text::of_three(alloc, before, inner.as_str(), "\".")
-            }
-            ExpansionFault::Circular(inner) => {
-                let before = "Circular substitution definition referenced: \"";
-                Text::of_three(alloc, before, inner.as_str(), "\".")
-            }
-            ExpansionFault::TooLarge => {
-                Text::of_three(alloc, "Substitution expansion too large: \"", name, "\".")
-            }
-        }
+        let (before, name) = match self {
+            ExpansionFault::Undefined(inner) => (
+                "Undefined substitution referenced: \"",
+                inner.as_str(),
+            ),
+            ExpansionFault::Circular(inner) => (
+                "Circular substitution definition referenced: \"",
+                inner.as_str(),
+            ),
+            ExpansionFault::TooLarge => ("Substitution expansion too large: \"", name),
+        };
+        Text::of_three(alloc, before, name, "\".")
     }
 }
 
@@ -68,14 +67,6 @@ pub enum Halted {
     By(ExpansionFault),
     /// A growth was refused.
     NoMemory,
-}
-
-impl From<ExpansionFault> for Halted {
-    ghost from_gives = { λ fault halted. halted ≡ HaltedBy fault };
-
-    fn from(fault: ExpansionFault) -> Halted {
-        Halted::By(fault)
-    }
 }
 
 impl<T: Drop> From<AllocFailed<T>> for Halted {
@@ -117,24 +108,6 @@ impl Progress {
         self.left -= characters + 1;
         true
     }
-
-    /// Whether a definition at a place has been gone into.
-    fn is_inside(&self, place: usize) -> bool
-        ensures { result ≡ list_any (λ entered. entered == place) self.now.path.items }
-    {
-        self.path.iter().any(|entered| *entered == place)
-    }
-}
-
-/// The path of a reference that stands in a definition, or in none.
-fn path_from(alloc: Global, within: Option<usize>) -> Result<Vec<usize>, TreeFault>
-    ensures { Gives (λ path. path.items ≡ path_from within) result }
-{
-    let mut path = Vec::new(alloc);
-    if let Some(place) = within {
-        path.push(place)?;
-    }
-    Ok(path)
 }
 
 /// How many characters a text has; an element has none of its own.
@@ -242,7 +215,7 @@ fn entered<'a>(
     let Some(content) = definitions.content(place) else {
         return Err(undefined(alloc, name)?);
     };
-    if progress.is_inside(place) {
+    if progress.path.contains(&place) {
         let name = Text::from_str(alloc, name)?;
         return Err(Halted::By(ExpansionFault::Circular(name)));
     }
@@ -271,9 +244,12 @@ pub fn expansion(
     ensures { ComesTo (nodes_for (found_by definitions.now) within name.now) (λ nodes. nodes.items) result }
 {
     let mut progress = Progress {
-        path: path_from(alloc, within)?,
+        path: Vec::new(alloc),
         left: MOST_VISITED,
     };
+    if let Some(place) = within {
+        progress.path.push(place)?;
+    }
     let content = entered(alloc, definitions, name, &mut progress)?;
     let mut nodes = Vec::new(alloc);
     add_expanded(

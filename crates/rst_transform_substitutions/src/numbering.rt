@@ -58,24 +58,11 @@ fn places_found(
     add_listed(nodes, &mut inner, &mut names)?;
     let mut places = Vec::new(alloc);
     for name in &names {
-        add_found(alloc, definitions, name, &mut places)?;
+        if let Some(place) = definitions.find(alloc, name)? {
+            places.push(place)?;
+        }
     }
     Ok(places)
-}
-
-/// Adds the place of the definition that a name finds, if there is one.
-fn add_found(
-    alloc: Global,
-    definitions: &Definitions,
-    name: &str,
-    places: &mut Vec<usize>,
-) -> Result<(), TreeFault>
-    ensures { Gives (λ _. places.new.items ≡ places.old.items ++ option_to_list (known_found definitions.now name.now)) result }
-{
-    if let Some(place) = definitions.find(alloc, name)? {
-        places.push(place)?;
-    }
-    Ok(())
 }
 
 /// Whether no place refers to one of a lower number.
@@ -110,7 +97,8 @@ pub fn may_lead(numbers: &[usize], place: usize, other: usize) -> bool
     }
 }
 
-/// The numbers before they are checked: one for each set of places that lead to one another, lower if it was left later.
+/// The numbers before they are checked: one for each set of places that lead to one another, lower if it was left later. A place is
+/// entered if it has no number yet: its number is the count of steps.
 ///
 /// A number below the count of steps is one of a place that isn't left, or leads to one that isn't (Pearce, 'A space-efficient
 /// algorithm for finding strongly connected components').
@@ -127,7 +115,15 @@ fn component_numbers(alloc: Global, referred: &[Vec<usize>]) -> Result<Vec<usize
         match steps.pop() {
             None => break,
             Some(Step::Enter(place)) => {
-                enter(referred, place, count, &mut numbers, &mut steps)?;
+                let (Some(0), Some(places)) = (numbers.get(place).copied(), referred.get(place))
+                else {
+                    continue;
+                };
+                numbers[place] = count;
+                steps.push(Step::Leave(place))?;
+                for other in places {
+                    steps.push(Step::Enter(*other))?;
+                }
             }
             Some(Step::Leave(place)) => {
                 leave(referred, place, usize::MAX - count, &mut numbers, &mut open)?;
@@ -135,30 +131,6 @@ fn component_numbers(alloc: Global, referred: &[Vec<usize>]) -> Result<Vec<usize
         }
     }
     Ok(numbers)
-}
-
-/// Enters a place, if it has no number yet: its number is the count of steps.
-fn enter(
-    referred: &[Vec<usize>],
-    place: usize,
-    count: usize,
-    numbers: &mut [usize],
-    steps: &mut Vec<Step>,
-) -> Result<(), TreeFault> {
-    let Some(number) = numbers.get_mut(place) else {
-        return Ok(());
-    };
-    if *number != 0 {
-        return Ok(());
-    }
-    *number = count;
-    steps.push(Step::Leave(place))?;
-    if let Some(places) = referred.get(place) {
-        for other in places {
-            steps.push(Step::Enter(*other))?;
-        }
-    }
-    Ok(())
 }
 
 /// Leaves a place: it takes the least number of those that it refers to, or, if none is less than its own, closes the set of those
@@ -181,9 +153,7 @@ fn leave(
     }
     open.push(place)?;
     if least < own {
-        if let Some(number) = numbers.get_mut(place) {
-            *number = least;
-        }
+        numbers[place] = least;
         return Ok(());
     }
     while let Some(last) = open.pop() {

@@ -48,10 +48,7 @@ struct Kept {
 }
 
 /// What references came to that all stand in definitions, or all in none, by the places of the definitions that they found.
-#[derive(Drop)]
-struct Memory {
-    kept: BTreeMap<usize, Kept>,
-}
+type Memory = BTreeMap<usize, Kept>;
 
 /// What references came to.
 ///
@@ -75,12 +72,8 @@ impl Outcomes {
     {
         Ok(Outcomes {
             numbers: numbered(alloc, definitions)?,
-            outside: Memory {
-                kept: BTreeMap::new(alloc),
-            },
-            inside: Memory {
-                kept: BTreeMap::new(alloc),
-            },
+            outside: BTreeMap::new(alloc),
+            inside: BTreeMap::new(alloc),
         })
     }
 
@@ -94,19 +87,6 @@ impl Outcomes {
             return outer;
         }
         self.numbers.len()
-    }
-}
-
-/// Whether two places are the same, or both are none.
-fn is_same(one: Option<usize>, other: Option<usize>) -> bool
-    ensures { result ≡ true → one ≡ other }
-{
-    match one {
-        None => other.is_none(),
-        Some(place) => match other {
-            None => false,
-            Some(other_place) => place == other_place,
-        },
     }
 }
 
@@ -164,15 +144,15 @@ fn remembered(
     ensures came { Gives (λ outcome. came outcome ≡ nodes_for (found_by definitions.now) within name.now) result }
     ensures holds { OnOk result (HoldsTrue definitions.now memory.new) }
 {
-    if let Some(kept) = memory.kept.get(&place) {
-        if is_same(kept.within, within) {
+    if let Some(kept) = memory.get(&place) {
+        if kept.within == within {
             let known = kept.outcome.copy(alloc)?;
             return Ok(known);
         }
     }
     let new = new_outcome(alloc, definitions, name, within)?;
     let outcome = new.copy(alloc)?;
-    memory.kept.insert(place, Kept { within, outcome })?;
+    memory.insert(place, Kept { within, outcome })?;
     Ok(new)
 }
 
@@ -188,8 +168,7 @@ pub fn reference_outcome(
     ensures came { Gives (λ outcome. came outcome ≡ nodes_for (found_by definitions.now) within name.now) result }
     ensures remembers { OnOk result (Remembers definitions.now outcomes.new) }
 {
-    let entered = entered_place(alloc, definitions, name, within)?;
-    let Some(place) = entered else {
+    let Some(place) = entered_place(alloc, definitions, name, within)? else {
         return new_outcome(alloc, definitions, name, within);
     };
     match within {

@@ -1,4 +1,4 @@
-use Rattle.std.proofs.Common.{◌≡◌, List, ℕ, sym, ◌∙◌, ap, arith, Some, Err, [], ◌∷◌, ◌++◌}
+use Rattle.std.proofs.Common.{◌≡◌, List, ℕ, sym, ◌∙◌, ap, arith, rules, Some, Err, [], ◌∷◌, ◌++◌}
 use Rattle.rst_transform_substitutions.specs.declared.expansion.ExpansionFault.TheVariants.{Circular}
 use Rattle.rst_transform_substitutions.specs.Definitions.{found_by}
 use Rattle.rst_transform_substitutions.specs.Expansion.{expanded, given, Expansion}
@@ -13,20 +13,20 @@ pub returns-in_default-content-clause-content : goal.returns-in_default-content-
 returns-in_default-content-clause-content c =
     rw (c.in_ok-undefined-2.ensures) (λ left. given-undefined _ _ _ left (found-nowhere c.args.definitions.now c.args.name.now c.in-Some.place (sym c.in_ok-place.ensures ∙ c.in-Some.is) c.in_default-content.ensures))
 
-pub returns-then-is_inside-clause-content : goal.returns-then-is_inside-clause-content
-returns-then-is_inside-clause-content c = λ left.
+pub returns-then-contains-clause-content : goal.returns-then-contains-clause-content
+returns-then-contains-clause-content c = λ left.
     let found : found_by c.args.definitions.now c.args.name.now ≡ Some (c.in-Some.place, c.in-Some-content.content.now) = found-some c.args.definitions.now c.args.name.now _ _ (sym c.in_ok-place.ensures ∙ c.in-Some.is) c.in-Some-content.ensures in
     let told : List ℕ → Expansion = λ name. Err (Circular name) in
-    given-circular _ _ _ left _ found (sym c.is_inside.ensures ∙ c.if-is_inside.true) ∙ ap told (sym c.in_ok-name.ensures)
+    given-circular _ _ _ left _ found (search (rules, c.if-contains.true)) ∙ ap told (sym c.in_ok-name.ensures)
 
 pub returns-then-len-ge-MOST_NESTED-clause-content : goal.returns-then-len-ge-MOST_NESTED-clause-content
 returns-then-len-ge-MOST_NESTED-clause-content c = λ left.
     let found : found_by c.args.definitions.now c.args.name.now ≡ Some (c.in-Some.place, c.in-Some-content.content.now) = found-some c.args.definitions.now c.args.name.now _ _ (sym c.in_ok-place.ensures ∙ c.in-Some.is) c.in-Some-content.ensures in
-    given-too_deep _ _ _ left _ found (sym c.is_inside.ensures ∙ c.if-is_inside.false) (omega arith)
+    given-too_deep _ _ _ left _ found (search (rules, c.if-contains.false)) (omega arith)
 
 pub returns-clause-content : goal.returns-clause-content
 returns-clause-content c = λ left.
     let found : found_by c.args.definitions.now c.args.name.now ≡ Some (c.in-Some.place, c.in-Some-content.content.now) = found-some c.args.definitions.now c.args.name.now _ _ (sym c.in_ok-place.ensures ∙ c.in-Some.is) c.in-Some-content.ensures in
     let path : c.args.progress.now.path.items ++ c.in-Some.place ∷ [] ≡ c.push.new.self.items = sym c.in_ok-push.ensures.items in
-    given-entered _ _ _ left _ found (sym c.is_inside.ensures ∙ c.if-is_inside.false) (omega arith)
+    given-entered _ _ _ left _ found (search (rules, c.if-contains.false)) (omega arith)
     ∙ ap (λ (path : List ℕ). expanded (given (found_by c.args.definitions.now) path) c.in-Some-content.content.now left) path

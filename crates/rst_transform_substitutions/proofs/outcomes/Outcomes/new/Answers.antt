@@ -6,6 +6,6 @@ use Rattle.rst_transform_substitutions.proofs.outcomes.Outcomes.new.Goals as goa
 pub returns : goal.returns
 returns c = record {
   ordered = c.in_ok-numbered.ensures;
-  outside = remembers-none c.args.definitions.now (record { kept = c.new.result }) (λ place. grind (arith, common_steps));
-  inside = remembers-none c.args.definitions.now (record { kept = c.new-2.result }) (λ place. grind (arith, common_steps));
+  outside = remembers-none c.args.definitions.now c.new.result (λ place. grind (arith, common_steps));
+  inside = remembers-none c.args.definitions.now c.new-2.result (λ place. grind (arith, common_steps));
 }
