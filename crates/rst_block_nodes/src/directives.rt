@@ -9,7 +9,7 @@ use super::nodes::{element_of, preserving, text_nodes};
 use super::settings::{Holder, set_options};
 use super::values::identifier;
 use rst_markup_directives::{Name, Setting};
-use rst_tree::{Attrs, Key, Node, Tag, Text, Texts, TreeFault, Value};
+use rst_tree::{Attrs, Key, Node, Result, Tag, Text, Texts, Value};
 use std::alloc::Global;
 
 /// The element that a directive makes: of `replace`, which makes none of its own, the paragraph that it holds.
@@ -44,7 +44,7 @@ pub fn directive_element(
     name: Name,
     options: &[Setting],
     line: usize,
-) -> Result<Node, TreeFault>
+) -> Result<Node>
     ensures { Gives (λ node. node ≡ directive_element name (choices_in options.now) line) result }
 {
     let mut attrs = Attrs::new(alloc);
@@ -56,7 +56,7 @@ pub fn directive_element(
 /// word `admonition-` with the id of the title's text (Docutils, Directives, 'Generic Admonition').
 ///
 /// The only refusal is [`TreeFault::NoMemory`].
-pub fn with_title_class(alloc: Global, admonition: Node, title: &Node) -> Result<Node, TreeFault>
+pub fn with_title_class(alloc: Global, admonition: Node, title: &Node) -> Result<Node>
     ensures { Gives (λ node. node ≡ with_title_class admonition title.now) result }
 {
     match admonition {
@@ -79,7 +79,7 @@ pub fn with_title_class(alloc: Global, admonition: Node, title: &Node) -> Result
 }
 
 /// The attributes with the class that a title gives, unless they have some.
-fn with_class(alloc: Global, attrs: Attrs, title: &Node) -> Result<Attrs, TreeFault>
+fn with_class(alloc: Global, attrs: Attrs, title: &Node) -> Result<Attrs>
     ensures { Gives (λ classed. classed ≡ with_class (title_class title.now) attrs) result }
 {
     if attrs.has(Key::Classes) {
@@ -91,7 +91,7 @@ fn with_class(alloc: Global, attrs: Attrs, title: &Node) -> Result<Attrs, TreeFa
 }
 
 /// The class that a title gives.
-fn title_class(alloc: Global, title: &Node) -> Result<Value, TreeFault>
+fn title_class(alloc: Global, title: &Node) -> Result<Value>
     ensures { Gives (λ class. class ≡ title_class title.now) result }
 {
     let text = title.text_of(alloc)?;
@@ -113,7 +113,7 @@ pub fn code_block(
     options: &[Setting],
     text: &str,
     line: usize,
-) -> Result<Node, TreeFault>
+) -> Result<Node>
     ensures { Gives (λ node. node ≡ code_element (option_map (λ word. word.now) language.entry) (choices_in options.now) text.now line) result }
 {
     let mut attrs = preserving(alloc)?;
@@ -125,11 +125,7 @@ pub fn code_block(
 }
 
 /// The classes of program code.
-fn code_classes(
-    alloc: Global,
-    language: Option<&str>,
-    own: Option<Value>,
-) -> Result<Value, TreeFault>
+fn code_classes(alloc: Global, language: Option<&str>, own: Option<Value>) -> Result<Value>
     ensures { Gives (λ classes. classes ≡ code_classes (option_map (λ word. word.now) language.entry) own) result }
 {
     let classes = language_classes(alloc, language)?;
@@ -140,7 +136,7 @@ fn code_classes(
 }
 
 /// The classes that program code has whatever its options are.
-fn language_classes(alloc: Global, language: Option<&str>) -> Result<Texts, TreeFault>
+fn language_classes(alloc: Global, language: Option<&str>) -> Result<Texts>
     ensures { Gives (λ classes. classes ≡ language_classes (option_map (λ word. word.now) language.entry)) result }
 {
     let mut classes = Texts::new(alloc);
@@ -155,7 +151,7 @@ fn language_classes(alloc: Global, language: Option<&str>) -> Result<Texts, Tree
 }
 
 /// The classes, and then more.
-fn joined(classes: Texts, more: &Texts) -> Result<Texts, TreeFault>
+fn joined(classes: Texts, more: &Texts) -> Result<Texts>
     ensures { Gives (λ all. all ≡ classes ++ more.now) result }
 {
     let mut all = classes;

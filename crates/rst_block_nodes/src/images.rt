@@ -11,7 +11,7 @@ use super::nodes::element_of;
 use super::settings::{Holder, set_options};
 use super::values::{name_said, normalized, said};
 use rst_markup_directives::{OptionValue, Setting, Target};
-use rst_tree::{Attrs, Key, Node, Tag, Text, TreeFault, Value};
+use rst_tree::{Attrs, Key, Node, Result, Tag, Text, Value};
 use std::alloc::Global;
 
 /// An image, in a reference where its options say that it leads to a target (Docutils, Directives, 'Image'). The image of
@@ -25,7 +25,7 @@ pub fn image(
     line: usize,
     in_figure: bool,
     alt: Option<&str>,
-) -> Result<Node, TreeFault>
+) -> Result<Node>
     ensures { Gives (λ node. node ≡ image_element uri.now (choices_in options.now) line in_figure (option_map (λ text. text.now) alt.entry)) result }
 {
     let image = image_alone(alloc, uri, options, line, in_figure, alt)?;
@@ -43,7 +43,7 @@ fn image_alone(
     line: usize,
     in_figure: bool,
     alt: Option<&str>,
-) -> Result<Node, TreeFault>
+) -> Result<Node>
     ensures { Gives (λ node. node ≡ image_node uri.now (choices_in options.now) line in_figure (option_map (λ text. text.now) alt.entry)) result }
 {
     let mut attrs = uri_and_alt(alloc, uri, alt)?;
@@ -52,7 +52,7 @@ fn image_alone(
 }
 
 /// Where an image is, and the text that stands for it.
-fn uri_and_alt(alloc: Global, uri: &str, alt: Option<&str>) -> Result<Attrs, TreeFault>
+fn uri_and_alt(alloc: Global, uri: &str, alt: Option<&str>) -> Result<Attrs>
     ensures { Gives (λ attrs. attrs ≡ with_alt (option_map (λ text. text.now) alt.entry) (attr Key.Uri (Said uri.now) ∷ [])) result }
 {
     let mut attrs = Attrs::new(alloc);
@@ -89,13 +89,7 @@ fn link_of(options: &[Setting]) -> Option<(&Target, &str)>
 }
 
 /// A reference round an image.
-fn linked(
-    alloc: Global,
-    image: Node,
-    to: &Target,
-    source: &str,
-    line: usize,
-) -> Result<Node, TreeFault>
+fn linked(alloc: Global, image: Node, to: &Target, source: &str, line: usize) -> Result<Node>
     ensures { Gives (λ node. node ≡ linked_node image (destination_of to.now) source.now line) result }
 {
     let attrs = link_attrs(alloc, to, source)?;
@@ -106,7 +100,7 @@ fn linked(
 
 /// What a reference leads to, and how it is written.
 #[tactic(auto, using(crate::proofs::TextLemmas::bytes_encoded))]
-fn link_attrs(alloc: Global, to: &Target, source: &str) -> Result<Attrs, TreeFault>
+fn link_attrs(alloc: Global, to: &Target, source: &str) -> Result<Attrs>
     ensures { Gives (λ attrs. attrs ≡ link_attrs (destination_of to.now) source.now) result }
 {
     let mut attrs = Attrs::new(alloc);
@@ -128,7 +122,7 @@ fn link_attrs(alloc: Global, to: &Target, source: &str) -> Result<Attrs, TreeFau
 /// A figure, without its image, caption and legend (Docutils, Directives, 'Figure').
 ///
 /// The only refusal is [`TreeFault::NoMemory`].
-pub fn figure(alloc: Global, options: &[Setting], line: usize) -> Result<Node, TreeFault>
+pub fn figure(alloc: Global, options: &[Setting], line: usize) -> Result<Node>
     ensures { Gives (λ node. node ≡ figure_element (choices_in options.now) line) result }
 {
     let mut attrs = Attrs::new(alloc);

@@ -7,14 +7,14 @@ use super::nodes::{element_of, plain};
 use super::values::{name_said, said};
 use rst_markup_lines::{begins_with, is_blank};
 use rst_text::skip;
-use rst_tree::{Attrs, Key, Node, Tag, TreeFault, Value};
+use rst_tree::{Attrs, Key, Node, Result, Tag, Value};
 use std::alloc::Global;
 
 /// A footnote with its label, without its content (Document Tree, 'footnote'). The label is digits, which it shows and is
 /// named by; `#`, maybe with a name behind it, which numbers it; or `*`, which gives it a symbol.
 ///
 /// The only refusal is [`TreeFault::NoMemory`].
-pub fn footnote(alloc: Global, label: &str, line: usize) -> Result<Node, TreeFault>
+pub fn footnote(alloc: Global, label: &str, line: usize) -> Result<Node>
     ensures { Gives (λ node. node ≡ footnote_node label.now line) result }
 {
     if begins_with('#', label) {
@@ -30,7 +30,7 @@ pub fn footnote(alloc: Global, label: &str, line: usize) -> Result<Node, TreeFau
 }
 
 /// A footnote that is numbered, and named by what stands behind the first character of its label.
-fn numbered(alloc: Global, label: &str, line: usize) -> Result<Node, TreeFault>
+fn numbered(alloc: Global, label: &str, line: usize) -> Result<Node>
     ensures { Gives (λ node. node ≡ numbered_node label.now line) result }
 {
     let name = skip(label, 1);
@@ -44,7 +44,7 @@ fn numbered(alloc: Global, label: &str, line: usize) -> Result<Node, TreeFault>
 }
 
 /// A footnote that has a symbol.
-fn symbol(alloc: Global, label: &str, line: usize) -> Result<Node, TreeFault>
+fn symbol(alloc: Global, label: &str, line: usize) -> Result<Node>
     ensures { Gives (λ node. node ≡ symbol_node label.now line) result }
 {
     let mut attrs = Attrs::new(alloc);
@@ -56,7 +56,7 @@ fn symbol(alloc: Global, label: &str, line: usize) -> Result<Node, TreeFault>
 /// A citation with its label, which names it, without its content (Document Tree, 'citation').
 ///
 /// The only refusal is [`TreeFault::NoMemory`].
-pub fn citation(alloc: Global, label: &str, line: usize) -> Result<Node, TreeFault>
+pub fn citation(alloc: Global, label: &str, line: usize) -> Result<Node>
     ensures { Gives (λ node. node ≡ citation_node label.now line) result }
 {
     let mut attrs = Attrs::new(alloc);
@@ -65,13 +65,7 @@ pub fn citation(alloc: Global, label: &str, line: usize) -> Result<Node, TreeFau
 }
 
 /// An element that begins with a label that shows a text.
-fn labelled(
-    alloc: Global,
-    tag: Tag,
-    attrs: Attrs,
-    shown: &str,
-    line: usize,
-) -> Result<Node, TreeFault>
+fn labelled(alloc: Global, tag: Tag, attrs: Attrs, shown: &str, line: usize) -> Result<Node>
     ensures { Gives (λ node. node ≡ labelled_node tag attrs shown.now line) result }
 {
     let mut nodes = Vec::new(alloc);

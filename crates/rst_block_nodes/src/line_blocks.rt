@@ -9,7 +9,7 @@ ghost use Rattle.rst_block_nodes.specs.declared.line_blocks.LineBlockFault.TheVa
 use super::nodes::element_of;
 use super::numbers::Numbers;
 use super::texted::{Texted, with_text};
-use rst_tree::{Attrs, Tag, TreeFault};
+use rst_tree::{Attrs, Result, Tag, TreeFault};
 use std::alloc::{AllocError, AllocFailed, Global};
 use std::marker::Model;
 use thiserror::Error;
@@ -133,7 +133,7 @@ pub fn line_block(
 }
 
 /// The lines with their indentations.
-fn indented(alloc: Global, lines: Vec<BarText>) -> Result<Vec<IndentedText>, TreeFault>
+fn indented(alloc: Global, lines: Vec<BarText>) -> Result<Vec<IndentedText>>
     ensures { Gives (λ texts. texts.items ≡ indented lines.items) result }
 {
     let mut texts = Vec::new(alloc);
@@ -224,7 +224,7 @@ fn block_of(
 }
 
 /// A line, and the messages of its text.
-fn line_of(alloc: Global, line: &IndentedText, numbers: &mut Numbers) -> Result<Texted, TreeFault>
+fn line_of(alloc: Global, line: &IndentedText, numbers: &mut Numbers) -> Result<Texted>
     ensures { Gives (λ made. texted Line line.now.line line.now.text line.now.text_line numbers.old ≡ Ok ((made.element, made.notes.items), numbers.new)) result }
 {
     let text = line.text.as_str();

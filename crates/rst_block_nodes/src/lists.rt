@@ -9,13 +9,13 @@ use super::nodes::{element_of, plain};
 use super::values::said;
 use itoa::Buffer;
 use rst_markup_lines::{Delimiter, Enumerator, Format, Sequence, first_reading};
-use rst_tree::{Attrs, Key, Level, Node, Tag, Text, TreeFault, Value};
+use rst_tree::{Attrs, Key, Level, Node, Result, Tag, Text, Value};
 use std::alloc::Global;
 
 /// A bullet list whose items begin with a mark, without its items (Document Tree, 'bullet_list').
 ///
 /// The only refusal is [`TreeFault::NoMemory`].
-pub fn bullet_list(alloc: Global, mark: char, line: usize) -> Result<Node, TreeFault>
+pub fn bullet_list(alloc: Global, mark: char, line: usize) -> Result<Node>
     ensures { Gives (λ node. node ≡ bullet_list_node mark line) result }
 {
     let mut bullet = String::new(alloc);
@@ -62,11 +62,7 @@ fn suffix(format: Format) -> &'static str
 /// It says its first ordinal if that isn't 1.
 ///
 /// The only refusal is [`TreeFault::NoMemory`].
-pub fn enumerated_list(
-    alloc: Global,
-    enumerator: Enumerator,
-    line: usize,
-) -> Result<Node, TreeFault>
+pub fn enumerated_list(alloc: Global, enumerator: Enumerator, line: usize) -> Result<Node>
     ensures { Gives (λ node. node ≡ enumerated_list_node enumerator line) result }
 {
     let reading = first_reading(enumerator.written.ordinals);
@@ -83,12 +79,7 @@ pub fn enumerated_list(
 /// The message that the first ordinal of a list isn't 1. `written` is the ordinal as it stands in the source.
 ///
 /// The only refusal is [`TreeFault::NoMemory`].
-pub fn start_message(
-    alloc: Global,
-    written: &str,
-    ordinal: u64,
-    line: usize,
-) -> Result<Node, TreeFault>
+pub fn start_message(alloc: Global, written: &str, ordinal: u64, line: usize) -> Result<Node>
     ensures { Gives (λ node. node ≡ message_node Level.Info line (start_text written.now ordinal) None) result }
 {
     let mut buffer = Buffer::new();
@@ -120,7 +111,7 @@ pub fn option(
     string: &str,
     argument: Option<(Delimiter, &str)>,
     line: usize,
-) -> Result<Node, TreeFault>
+) -> Result<Node>
     ensures { Gives (λ node. node ≡ option_node string.now (option_map (λ a. (a.0, a.1.now)) argument.entry) line) result }
 {
     let mut nodes = Vec::new(alloc);
@@ -132,12 +123,7 @@ pub fn option(
 }
 
 /// The argument of an option.
-fn option_argument(
-    alloc: Global,
-    delimiter: Delimiter,
-    text: &str,
-    line: usize,
-) -> Result<Node, TreeFault>
+fn option_argument(alloc: Global, delimiter: Delimiter, text: &str, line: usize) -> Result<Node>
     ensures { Gives (λ node. node ≡ option_argument_node delimiter text.now line) result }
 {
     let mut attrs = Attrs::new(alloc);

@@ -3,7 +3,7 @@ ghost use Rattle.std.specs.Prelude.{◌≡◌, option_map};
 ghost use Rattle.rst_tree.specs.Faults.{Gives};
 ghost use Rattle.rst_block_nodes.specs.Texts.{message_node};
 
-use rst_tree::{Level, Node, Note, Text, TreeFault};
+use rst_tree::{Level, Node, Note, Result, Text};
 use std::alloc::Global;
 
 /// A message on the line of a number, with the source text that it shows, if it shows some (Document Tree,
@@ -16,7 +16,7 @@ pub fn message(
     line: usize,
     text: &str,
     block: Option<&str>,
-) -> Result<Node, TreeFault>
+) -> Result<Node>
     ensures { Gives (λ node. node ≡ message_node level line text.now (option_map (λ shown. shown.now) block.entry)) result }
 {
     let text = Text::from_str(alloc, text)?;

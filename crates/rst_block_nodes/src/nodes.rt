@@ -4,7 +4,7 @@ ghost use Rattle.rst_tree.specs.Faults.{Gives};
 ghost use Rattle.rst_block_nodes.specs.Elements.{element_of, text_nodes, plain_node, preserving, preserved_node};
 
 use super::values::said;
-use rst_tree::{Attrs, Children, Key, Node, Tag, TreeFault};
+use rst_tree::{Attrs, Children, Key, Node, Result, Tag};
 use std::alloc::Global;
 
 /// An element with these attributes, these nodes in it, and the number of its line, or 0 where it tells none.
@@ -20,7 +20,7 @@ pub fn element_of(tag: Tag, attrs: Attrs, nodes: Vec<Node>, line: usize) -> Node
 }
 
 /// The nodes of a text without markup: none where it is empty.
-pub(crate) fn text_nodes(alloc: Global, text: &str) -> Result<Vec<Node>, TreeFault>
+pub(crate) fn text_nodes(alloc: Global, text: &str) -> Result<Vec<Node>>
     ensures { Gives (λ nodes. nodes.items ≡ text_nodes text.now) result }
 {
     let mut nodes = Vec::new(alloc);
@@ -33,7 +33,7 @@ pub(crate) fn text_nodes(alloc: Global, text: &str) -> Result<Vec<Node>, TreeFau
 /// An element whose only node is a text as it stands; an empty text is no node.
 ///
 /// The only refusal is [`TreeFault::NoMemory`].
-pub fn plain(alloc: Global, tag: Tag, line: usize, text: &str) -> Result<Node, TreeFault>
+pub fn plain(alloc: Global, tag: Tag, line: usize, text: &str) -> Result<Node>
     ensures { Gives (λ node. node ≡ plain_node tag line text.now) result }
 {
     let nodes = text_nodes(alloc, text)?;
@@ -41,7 +41,7 @@ pub fn plain(alloc: Global, tag: Tag, line: usize, text: &str) -> Result<Node, T
 }
 
 /// The attribute that says that an element's white characters stay.
-pub(crate) fn preserving(alloc: Global) -> Result<Attrs, TreeFault>
+pub(crate) fn preserving(alloc: Global) -> Result<Attrs>
     ensures { Gives (λ attrs. attrs ≡ preserving) result }
 {
     let mut attrs = Attrs::new(alloc);
@@ -53,7 +53,7 @@ pub(crate) fn preserving(alloc: Global) -> Result<Attrs, TreeFault>
 /// attribute that says that its white characters stay.
 ///
 /// The only refusal is [`TreeFault::NoMemory`].
-pub fn preserved(alloc: Global, tag: Tag, line: usize, text: &str) -> Result<Node, TreeFault>
+pub fn preserved(alloc: Global, tag: Tag, line: usize, text: &str) -> Result<Node>
     ensures { Gives (λ node. node ≡ preserved_node tag line text.now) result }
 {
     let attrs = preserving(alloc)?;

@@ -7,7 +7,7 @@ ghost use Rattle.rst_block_nodes.specs.Options.{with_choices, value_meant, align
 
 use super::values::{listed, said};
 use rst_markup_directives::{Alignment, OptionName, OptionValue, Setting};
-use rst_tree::{Attrs, Key, TreeFault, Value};
+use rst_tree::{Attrs, Key, Result, Value};
 use std::alloc::Global;
 
 /// An element that gets attributes from the options of its directive.
@@ -54,7 +54,7 @@ pub(crate) fn set_options(
     attrs: &mut Attrs,
     holder: Holder,
     options: &[Setting],
-) -> Result<(), TreeFault>
+) -> Result<()>
     ensures { Gives (λ _. attrs.new ≡ with_choices holder (choices_in options.now) attrs.old) result }
 {
     for setting in options {
@@ -67,7 +67,7 @@ pub(crate) fn set_options(
 
 /// What the value of an option says as the value of an attribute: of a target, the text that it is written with.
 #[tactic(auto, using(crate::proofs::TextLemmas::bytes_encoded, crate::proofs::TextLemmas::listed_bytes))]
-fn value_of(alloc: Global, value: &OptionValue) -> Result<Value, TreeFault>
+fn value_of(alloc: Global, value: &OptionValue) -> Result<Value>
     ensures { Gives (λ said. said ≡ value_meant (meaning_of value.now)) result }
 {
     match value {

@@ -4,14 +4,14 @@ ghost use Rattle.rst_tree.specs.Faults.{Gives};
 ghost use Rattle.rst_block_nodes.specs.Elements.{tgroup_node, colspec_node, entry_node};
 
 use super::nodes::element_of;
-use rst_tree::{Attrs, Key, Node, Tag, TreeFault, Value};
+use rst_tree::{Attrs, Key, Node, Result, Tag, Value};
 use std::alloc::Global;
 
 /// The group of all rows of a table whose columns have these widths, with what it says of the columns, without its rows
 /// (Document Tree, 'tgroup').
 ///
 /// The only refusal is [`TreeFault::NoMemory`].
-pub fn tgroup(alloc: Global, widths: &[usize], line: usize) -> Result<Node, TreeFault>
+pub fn tgroup(alloc: Global, widths: &[usize], line: usize) -> Result<Node>
     ensures { Gives (λ node. node ≡ tgroup_node widths.now line) result }
 {
     let mut nodes = Vec::new(alloc);
@@ -24,7 +24,7 @@ pub fn tgroup(alloc: Global, widths: &[usize], line: usize) -> Result<Node, Tree
 }
 
 /// A column of a width.
-fn colspec(alloc: Global, width: usize, line: usize) -> Result<Node, TreeFault>
+fn colspec(alloc: Global, width: usize, line: usize) -> Result<Node>
     ensures { Gives (λ node. node ≡ colspec_node line width) result }
 {
     let mut attrs = Attrs::new(alloc);
@@ -35,12 +35,7 @@ fn colspec(alloc: Global, width: usize, line: usize) -> Result<Node, TreeFault>
 /// An entry of a table that takes so many rows and columns beside its first, without its content (Document Tree, 'entry').
 ///
 /// The only refusal is [`TreeFault::NoMemory`].
-pub fn entry(
-    alloc: Global,
-    morerows: usize,
-    morecols: usize,
-    line: usize,
-) -> Result<Node, TreeFault>
+pub fn entry(alloc: Global, morerows: usize, morecols: usize, line: usize) -> Result<Node>
     ensures { Gives (λ node. node ≡ entry_node morerows morecols line) result }
 {
     let mut attrs = Attrs::new(alloc);

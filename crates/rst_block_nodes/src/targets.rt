@@ -14,7 +14,7 @@ ghost use Rattle.rst_block_nodes.specs.Targets.{target_node, name_attrs, leading
 use super::nodes::element_of;
 use super::values::{name_said, normalized, said, unescaped};
 use rst_markup_directives::{Target, target_value};
-use rst_tree::{Attrs, Children, Key, Node, Tag, Text, TreeFault, Value};
+use rst_tree::{Attrs, Children, Key, Node, Result, Tag, Text, TreeFault, Value};
 use std::alloc::Global;
 
 /// A target that is a block: its name as it is written, still with escapes, if it has one, and its text, whose lines are
@@ -22,7 +22,7 @@ use std::alloc::Global;
 /// to a URI, or stands for its own place where nothing is left of its text. One without a name is anonymous.
 ///
 /// The only refusal is [`TreeFault::NoMemory`].
-pub fn target(alloc: Global, name: Option<&str>, text: &str, line: usize) -> Result<Node, TreeFault>
+pub fn target(alloc: Global, name: Option<&str>, text: &str, line: usize) -> Result<Node>
     ensures { Gives (λ node. node ≡ target_node (option_map (λ written. written.now) name.entry) text.now line) result }
 {
     let attrs = name_attrs(alloc, name)?;
@@ -33,7 +33,7 @@ pub fn target(alloc: Global, name: Option<&str>, text: &str, line: usize) -> Res
 }
 
 /// The attribute that says a target's name, or that it has none.
-fn name_attrs(alloc: Global, name: Option<&str>) -> Result<Attrs, TreeFault>
+fn name_attrs(alloc: Global, name: Option<&str>) -> Result<Attrs>
     ensures { Gives (λ attrs. attrs ≡ name_attrs (option_map (λ written. written.now) name.entry)) result }
 {
     let mut attrs = Attrs::new(alloc);
@@ -52,12 +52,7 @@ fn name_attrs(alloc: Global, name: Option<&str>) -> Result<Attrs, TreeFault>
 
 /// A target with what it leads to.
 #[tactic(auto, using(crate::proofs::TextLemmas::bytes_encoded))]
-fn leading(
-    alloc: Global,
-    attrs: Attrs,
-    destination: Option<Target>,
-    line: usize,
-) -> Result<Node, TreeFault>
+fn leading(alloc: Global, attrs: Attrs, destination: Option<Target>, line: usize) -> Result<Node>
     ensures { Gives (λ node. node ≡ leading_node attrs (option_map destination_of destination) line) result }
 {
     let mut attrs = attrs;
@@ -78,7 +73,7 @@ fn leading(
 /// space, and none at the ends. Case is kept.
 ///
 /// The only refusal is [`TreeFault::NoMemory`].
-pub fn substitution_name(alloc: Global, written: &str) -> Result<String, TreeFault>
+pub fn substitution_name(alloc: Global, written: &str) -> Result<String>
     ensures { Gives (λ name. string_bytes name ≡ normalized (unescaped written.now)) result }
 {
     let name = unescaped(alloc, written)?;
@@ -89,7 +84,7 @@ pub fn substitution_name(alloc: Global, written: &str) -> Result<String, TreeFau
 /// 'substitution_definition').
 ///
 /// The only refusal is [`TreeFault::NoMemory`].
-pub fn substitution_definition(alloc: Global, name: &str, line: usize) -> Result<Node, TreeFault>
+pub fn substitution_definition(alloc: Global, name: &str, line: usize) -> Result<Node>
     ensures { Gives (λ node. node ≡ substitution_definition_node name.now line) result }
 {
     let mut attrs = Attrs::new(alloc);

@@ -13,7 +13,7 @@ use super::numbers::Numbers;
 use super::texted::{Reading, counting, read};
 use rst_inline_scan::{Kind, Piece, escapes, pieces_of};
 use rst_text::{characters_of, is_white};
-use rst_tree::{Attrs, Node, Tag, Text, TreeFault};
+use rst_tree::{Attrs, Node, Result, Tag, Text};
 use std::alloc::{AllocError, Global};
 
 /// A term and its classifiers, in order, and the messages of their text.
@@ -33,7 +33,7 @@ pub fn term_and_classifiers(
     text: &str,
     line: usize,
     numbers: &mut Numbers,
-) -> Result<Heads, TreeFault>
+) -> Result<Heads>
     ensures text { Gives (HeadsText (chars text.now) line numbers.old) result }
     ensures numbers { Gives (λ made. numbers.new ≡ counted_on numbers.old (length made.notes.items)) result }
     ensures read { Gives (λ made. termed (chars text.now) line numbers.old ≡ Ok ((made.heads.items, made.notes.items), numbers.new)) result }
@@ -54,7 +54,7 @@ struct Letter {
 }
 
 /// The parts of those pieces without markup of which something is left when escapes are gone, piece after piece.
-fn plain_parts(alloc: Global, text: &[char], pieces: &[Piece]) -> Result<Vec<Vec<Text>>, TreeFault>
+fn plain_parts(alloc: Global, text: &[char], pieces: &[Piece]) -> Result<Vec<Vec<Text>>>
     ensures { Gives (λ parts. map (λ texts. texts.items) parts.items ≡ texts_of text.now pieces.now) result }
 {
     let mut parts = Vec::new(alloc);
@@ -103,7 +103,7 @@ fn letters_of(alloc: Global, text: &[char]) -> Result<Vec<Letter>, AllocError>
 }
 
 /// The texts before, between and behind the colons with spaces on both sides, without these spaces.
-fn parts_of(alloc: Global, letters: &[Letter]) -> Result<Vec<Text>, TreeFault>
+fn parts_of(alloc: Global, letters: &[Letter]) -> Result<Vec<Text>>
     ensures { Gives (λ parts. parts.items ≡ parts_of letters.now) result }
 {
     let mut parts = Vec::new(alloc);
@@ -198,7 +198,7 @@ fn heads_of(
     parts: Vec<Vec<Text>>,
     notes: usize,
     line: usize,
-) -> Result<Vec<Node>, TreeFault>
+) -> Result<Vec<Node>>
     ensures { Gives (λ heads. heads.items ≡ heads_of notes line (groups_of (map (λ texts. texts.items) parts.items) nodes.items)) result }
 {
     let mut heads = Unfinished {
@@ -226,7 +226,7 @@ fn with_parts(
     parts: Vec<Text>,
     notes: usize,
     line: usize,
-) -> Result<Unfinished, TreeFault>
+) -> Result<Unfinished>
     ensures { Gives (IsPut notes line heads parts.items) result }
 {
     let mut heads = heads;
@@ -245,12 +245,7 @@ fn with_parts(
 
 /// The nodes made an element: the first is the term, the others are classifiers.
 #[tactic(auto, using(crate::proofs::HeadLemmas::first_head, crate::proofs::HeadLemmas::further_head))]
-fn closed(
-    alloc: Global,
-    heads: Unfinished,
-    notes: usize,
-    line: usize,
-) -> Result<Unfinished, TreeFault>
+fn closed(alloc: Global, heads: Unfinished, notes: usize, line: usize) -> Result<Unfinished>
     ensures done { Gives (λ closed. closed.done.items ≡ heads_behind notes line heads.done.items (heads.nodes.items ∷ [])) result }
     ensures nodes { Gives (λ closed. closed.nodes.items ≡ []) result }
 {

@@ -9,7 +9,7 @@ ghost use Rattle.rst_block_nodes.specs.Results.{HoldsText, IsHolding, ReadsText,
 use super::nodes::element_of;
 use super::numbers::Numbers;
 use rst_inline::{Pieces, inline};
-use rst_tree::{Attrs, Key, Node, Note, Tag, TreeFault, Value};
+use rst_tree::{Attrs, Key, Node, Note, Result, Tag, TreeFault, Value};
 use std::alloc::Global;
 
 /// An element with the nodes of its text, and the messages of the text.
@@ -39,7 +39,7 @@ pub fn with_text(
     text: &str,
     text_line: usize,
     numbers: &mut Numbers,
-) -> Result<Texted, TreeFault>
+) -> Result<Texted>
     ensures text { Gives (HoldsText tag line (chars text.now) text_line numbers.old) result }
     ensures numbers { Gives (λ read. numbers.new ≡ counted_on numbers.old (length read.notes.items)) result }
     ensures read { Gives (λ made. texted tag line (chars text.now) text_line numbers.old ≡ Ok ((made.element, made.notes.items), numbers.new)) result }
@@ -50,7 +50,7 @@ pub fn with_text(
 }
 
 /// An element with the nodes that were read, and the messages.
-fn holding(alloc: Global, tag: Tag, reading: Reading, line: usize) -> Result<Texted, TreeFault>
+fn holding(alloc: Global, tag: Tag, reading: Reading, line: usize) -> Result<Texted>
     ensures { Gives (IsHolding tag line reading) result }
 {
     let Reading { nodes, notes } = reading;
@@ -62,7 +62,7 @@ fn holding(alloc: Global, tag: Tag, reading: Reading, line: usize) -> Result<Tex
 }
 
 /// The attribute that says how many messages of its text an element has, if it has some.
-pub(crate) fn counting(alloc: Global, notes: usize) -> Result<Attrs, TreeFault>
+pub(crate) fn counting(alloc: Global, notes: usize) -> Result<Attrs>
     ensures { Gives (λ attrs. attrs ≡ counting notes) result }
 {
     if notes == 0 {
@@ -73,12 +73,7 @@ pub(crate) fn counting(alloc: Global, notes: usize) -> Result<Attrs, TreeFault>
 
 /// The nodes of a text whose first line has a number, and its messages.
 #[tactic(auto, using(crate::proofs::ReadLemmas::numbered_text))]
-pub(crate) fn read(
-    alloc: Global,
-    text: &str,
-    line: usize,
-    numbers: &mut Numbers,
-) -> Result<Reading, TreeFault>
+pub(crate) fn read(alloc: Global, text: &str, line: usize, numbers: &mut Numbers) -> Result<Reading>
     ensures text { Gives (ReadsText (chars text.now) line numbers.old) result }
     ensures numbers { Gives (λ reading. numbers.new ≡ counted_on numbers.old (length reading.notes.items)) result }
 {
@@ -90,7 +85,7 @@ pub(crate) fn read(
 
 /// What was read, with the numbers of its messages.
 #[tactic(auto, using(crate::proofs::MessageLemmas::messages_from_length))]
-fn numbered(alloc: Global, pieces: Pieces, numbers: &mut Numbers) -> Result<Reading, TreeFault>
+fn numbered(alloc: Global, pieces: Pieces, numbers: &mut Numbers) -> Result<Reading>
     ensures text { Gives (IsNumbered numbers.old pieces) result }
     ensures numbers { Gives (λ reading. numbers.new ≡ counted_on numbers.old (length reading.notes.items)) result }
 {
@@ -107,7 +102,7 @@ fn numbered(alloc: Global, pieces: Pieces, numbers: &mut Numbers) -> Result<Read
 }
 
 /// The nodes with the numbers of their messages counted on from the first.
-fn numbered_on(mut nodes: Vec<Node>, first: u64) -> Result<Vec<Node>, TreeFault>
+fn numbered_on(mut nodes: Vec<Node>, first: u64) -> Result<Vec<Node>>
     ensures { Gives (λ numbered. numbered.items ≡ map (numbered_on first) nodes.items) result }
 {
     for i in 0..nodes.len() {
@@ -117,7 +112,7 @@ fn numbered_on(mut nodes: Vec<Node>, first: u64) -> Result<Vec<Node>, TreeFault>
 }
 
 /// Counts the number of a node's message on from the first, if it has one.
-fn number_on(node: &mut Node, first: u64) -> Result<(), TreeFault>
+fn number_on(node: &mut Node, first: u64) -> Result<()>
     ensures { Gives (λ _. node.new ≡ numbered_on first node.old) result }
 {
     match message_of(node) {
@@ -137,7 +132,7 @@ fn message_of(node: &Node) -> Option<u64>
 }
 
 /// Gives an element the number of a message; a text stays as it is.
-fn set_message(node: &mut Node, number: u64) -> Result<(), TreeFault>
+fn set_message(node: &mut Node, number: u64) -> Result<()>
     ensures { Gives (λ _. node.new ≡ with_message number node.old) result }
 {
     match node {
@@ -148,7 +143,7 @@ fn set_message(node: &mut Node, number: u64) -> Result<(), TreeFault>
 
 /// The messages as nodes, numbered on from the first.
 #[tactic(auto, using(crate::proofs::MessageLemmas::messages_from_append, crate::proofs::MessageLemmas::number_behind_append))]
-fn messages_of(alloc: Global, notes: Vec<Note>, first: u64) -> Result<Vec<Node>, TreeFault>
+fn messages_of(alloc: Global, notes: Vec<Note>, first: u64) -> Result<Vec<Node>>
     ensures { Gives (λ messages. messages.items ≡ messages_from first notes.items) result }
 {
     let mut messages = Vec::with_capacity(alloc, notes.len())?;

@@ -7,12 +7,12 @@ ghost use Rattle.rst_block_nodes.specs.Values.{name_in, normalized, unescaped, i
 
 use rst_inline::unescape;
 use rst_text::{id_of, name_of, normalized_white};
-use rst_tree::{Text, Texts, TreeFault, Value};
+use rst_tree::{Result, Text, Texts, TreeFault, Value};
 use std::alloc::Global;
 use std::borrow::CowStr;
 
 /// A value that says a text.
-pub(crate) fn said(alloc: Global, text: &str) -> Result<Value, TreeFault>
+pub(crate) fn said(alloc: Global, text: &str) -> Result<Value>
     ensures { Gives (λ value. value ≡ Said text.now) result }
 {
     let text = Text::from_str(alloc, text)?;
@@ -21,7 +21,7 @@ pub(crate) fn said(alloc: Global, text: &str) -> Result<Value, TreeFault>
 
 /// A value that says the name that a text gives.
 #[tactic(auto, using(crate::proofs::TextLemmas::bytes_of_chars))]
-pub(crate) fn name_said(alloc: Global, text: &str) -> Result<Value, TreeFault>
+pub(crate) fn name_said(alloc: Global, text: &str) -> Result<Value>
     ensures { Gives (λ value. value ≡ Said (name_in text.now)) result }
 {
     match name_of(alloc, text) {
@@ -32,7 +32,7 @@ pub(crate) fn name_said(alloc: Global, text: &str) -> Result<Value, TreeFault>
 
 /// A text with each run of white characters as one space, and none at its ends.
 #[tactic(auto, using(crate::proofs::TextLemmas::bytes_of_chars))]
-pub(crate) fn normalized(alloc: Global, text: &str) -> Result<String, TreeFault>
+pub(crate) fn normalized(alloc: Global, text: &str) -> Result<String>
     ensures { Gives (λ shown. string_bytes shown ≡ normalized text.now) result }
 {
     match normalized_white(alloc, text) {
@@ -43,7 +43,7 @@ pub(crate) fn normalized(alloc: Global, text: &str) -> Result<String, TreeFault>
 
 /// A text without its escapes. Most texts have none, and aren't copied for them.
 #[tactic(auto, using(crate::proofs::TextLemmas::bytes_of_chars))]
-pub(crate) fn unescaped(alloc: Global, text: &str) -> Result<CowStr<'_, Global>, TreeFault>
+pub(crate) fn unescaped(alloc: Global, text: &str) -> Result<CowStr<'_, Global>>
     ensures { Gives (λ shown. cow_str_bytes shown ≡ unescaped text.now) result }
 {
     if !text.as_bytes().contains(&b'\\') {
@@ -57,7 +57,7 @@ pub(crate) fn unescaped(alloc: Global, text: &str) -> Result<CowStr<'_, Global>,
 
 /// The id that a text gives.
 #[tactic(auto, using(crate::proofs::TextLemmas::bytes_of_chars))]
-pub(crate) fn identifier(alloc: Global, text: &str) -> Result<String, TreeFault>
+pub(crate) fn identifier(alloc: Global, text: &str) -> Result<String>
     ensures { Gives (λ id. string_bytes id ≡ identifier text.now) result }
 {
     match id_of(alloc, text) {
@@ -67,7 +67,7 @@ pub(crate) fn identifier(alloc: Global, text: &str) -> Result<String, TreeFault>
 }
 
 /// A value that lists texts.
-pub(crate) fn listed(alloc: Global, texts: &[String]) -> Result<Value, TreeFault>
+pub(crate) fn listed(alloc: Global, texts: &[String]) -> Result<Value>
     ensures { Gives (λ value. value ≡ listed texts.now) result }
 {
     let mut list = Texts::new(alloc);

@@ -3,14 +3,14 @@ ghost use Rattle.std.specs.Prelude.{◌≡◌, ◌++◌};
 ghost use Rattle.rst_tree.specs.Faults.{Gives};
 ghost use Rattle.rst_block_sections.specs.Sections.{filled};
 
-use rst_tree::{Children, Node, TreeFault};
+use rst_tree::{Children, Node, Result};
 use rst_tree_index::{Marked, MarkedNodes};
 use std::alloc::Global;
 
 /// Puts more nodes behind the last.
 ///
 /// The only refusal is [`TreeFault::NoMemory`].
-pub fn append(nodes: &mut Vec<Node>, mut more: Vec<Node>) -> Result<(), TreeFault>
+pub fn append(nodes: &mut Vec<Node>, mut more: Vec<Node>) -> Result<()>
     ensures { Gives (λ _. nodes.new.items ≡ nodes.old.items ++ more.items) result }
 {
     if nodes.is_empty() {
@@ -26,7 +26,7 @@ pub fn append(nodes: &mut Vec<Node>, mut more: Vec<Node>) -> Result<(), TreeFaul
 /// An element with more nodes in it; a text stays as it is.
 ///
 /// The only refusal is [`TreeFault::NoMemory`].
-pub fn filled(element: Node, more: Vec<Node>) -> Result<Node, TreeFault>
+pub fn filled(element: Node, more: Vec<Node>) -> Result<Node>
     ensures { Gives (λ node. node ≡ filled element more.items) result }
 {
     match element {
@@ -53,7 +53,7 @@ pub fn filled(element: Node, more: Vec<Node>) -> Result<Node, TreeFault>
 /// nodes, and nobody marked it before. Most such elements are empty, and need no pass.
 ///
 /// The only refusal is [`TreeFault::NoMemory`].
-pub fn completed(alloc: Global, element: Node, more: MarkedNodes) -> Result<Marked, TreeFault>
+pub fn completed(alloc: Global, element: Node, more: MarkedNodes) -> Result<Marked>
     ensures { Gives (λ node. node ≡ filled element more) result }
 {
     match element {

@@ -8,7 +8,7 @@ ghost use Rattle.rst_block_sections.specs.OpenSections.{goes_on, closed_with, St
 use crate::heading::{Heading, Style};
 use crate::nodes::completed;
 use rst_block_nodes::{message, section};
-use rst_tree::{Level as Gravity, Node, Tag, TreeFault};
+use rst_tree::{Level as Gravity, Node, Result, Tag};
 use rst_tree_index::{Marked, MarkedNodes};
 use std::alloc::Global;
 use std::mem;
@@ -24,11 +24,7 @@ struct OpenSection {
 /// one.
 ///
 /// The only refusal is [`TreeFault::NoMemory`].
-pub fn document(
-    alloc: Global,
-    nodes: MarkedNodes,
-    headings: Vec<Heading>,
-) -> Result<Marked, TreeFault>
+pub fn document(alloc: Global, nodes: MarkedNodes, headings: Vec<Heading>) -> Result<Marked>
     ensures { Gives (λ root. root ≡ document_of (items_of headings.items nodes)) result }
 {
     let mut sections = Sections::none(alloc);
@@ -66,7 +62,7 @@ impl Sections {
     }
 
     /// Meets a title: begins a new section, or puts the message on a title whose level is inconsistent.
-    fn title(&mut self, alloc: Global, heading: Heading) -> Result<(), TreeFault>
+    fn title(&mut self, alloc: Global, heading: Heading) -> Result<()>
         ensures { Gives (λ _. (items : List Item) → goes_on self.new items ≡ goes_on self.old (titled (title_of heading) ∷ items)) result }
     {
         let level = level_of(heading.style, self.styles.as_slice());
@@ -81,7 +77,7 @@ impl Sections {
     }
 
     /// Ends those of a level or a deeper one: each is put into the one round it.
-    fn end(&mut self, alloc: Global, level: usize) -> Result<(), TreeFault>
+    fn end(&mut self, alloc: Global, level: usize) -> Result<()>
         requires { 1 ≤ level }
         ensures closed { Gives (λ _. (ms : List Member) → StopsAt level ms → closed_with self.new ms ≡ closed_with self.old ms) result }
         ensures few { Gives (λ _. length self.new.outer.items + 1 ≤ level) result }
@@ -95,7 +91,7 @@ impl Sections {
     }
 
     /// Ends the innermost, if it isn't the document.
-    fn end_innermost(&mut self, alloc: Global) -> Result<(), TreeFault>
+    fn end_innermost(&mut self, alloc: Global) -> Result<()>
         ensures closed { Gives (λ _. (ms : List Member) → StopsAt (length self.old.outer.items) ms → closed_with self.new ms ≡ closed_with self.old ms) result }
         ensures len { Gives (λ _. length self.new.outer.items ≡ length self.old.outer.items - 1) result }
         ensures styles { Gives (λ _. self.new.styles ≡ self.old.styles) result }
@@ -108,7 +104,7 @@ impl Sections {
     }
 
     /// Begins the section of a title in the innermost one.
-    fn enter(&mut self, alloc: Global, heading: Heading) -> Result<(), TreeFault>
+    fn enter(&mut self, alloc: Global, heading: Heading) -> Result<()>
         ensures closed { let level = length self.old.outer.items + 1 in Gives (λ _. (ms : List Member) → closed_with self.new ms ≡ closed_with self.old (section_at level (section_of (title_of heading) (inside level ms)) ∷ behind level ms)) result }
         ensures len { Gives (λ _. length self.new.outer.items ≡ length self.old.outer.items + 1) result }
         ensures styles { Gives (λ _. self.new.styles ≡ self.old.styles) result }
@@ -119,7 +115,7 @@ impl Sections {
     }
 
     /// The document with all sections ended.
-    fn closed(mut self, alloc: Global) -> Result<Marked, TreeFault>
+    fn closed(mut self, alloc: Global) -> Result<Marked>
         ensures { Gives (λ root. root ≡ goes_on self []) result }
     {
         self.end(alloc, 1)?;
@@ -141,7 +137,7 @@ fn level_of(style: Style, styles: &[Style]) -> usize
 }
 
 /// Puts a style, whose level this is, behind those in use if it is new.
-fn remember(styles: &mut Vec<Style>, style: Style, level: usize) -> Result<(), TreeFault>
+fn remember(styles: &mut Vec<Style>, style: Style, level: usize) -> Result<()>
     requires { level ≡ level_of style styles.old.items }
     ensures { Gives (λ _. styles.new.items ≡ with_style style styles.old.items) result }
 {
@@ -152,7 +148,7 @@ fn remember(styles: &mut Vec<Style>, style: Style, level: usize) -> Result<(), T
 }
 
 /// The message on a title whose level is inconsistent.
-fn inconsistent(alloc: Global, heading: &Heading) -> Result<Marked, TreeFault>
+fn inconsistent(alloc: Global, heading: &Heading) -> Result<Marked>
     ensures { Gives (λ node. node ≡ inconsistent (title_of heading.now)) result }
 {
     let text = "Title level inconsistent:";
@@ -162,7 +158,7 @@ fn inconsistent(alloc: Global, heading: &Heading) -> Result<Marked, TreeFault>
 }
 
 /// The section of a title, with the messages under the title alone.
-fn begun(alloc: Global, heading: Heading) -> Result<OpenSection, TreeFault>
+fn begun(alloc: Global, heading: Heading) -> Result<OpenSection>
     ensures element { Gives (λ o. o.element ≡ section_node heading.title.element (length (title_notes (title_of heading))) heading.line) result }
     ensures nodes { Gives (λ o. o.nodes ≡ title_notes (title_of heading)) result }
 {

@@ -6,13 +6,13 @@ ghost use Rattle.rst_tree.specs.declared.node.Node.TheVariants.{Element};
 ghost use Rattle.rst_inline.specs.Elements.{text_children, text_element, inline_target_node, uri_target_node, problematic_node};
 ghost use Rattle.rst_inline.specs.Faults.{Gives};
 
-use super::fault::InlineFault;
+use super::fault::Result;
 use super::texts::{name_said, said};
 use rst_tree::{Attrs, Children, Entry, Key, Node, Tag, Text, Value};
 use std::alloc::Global;
 
 /// The nodes of a text: none where it is empty.
-pub(crate) fn text_nodes(alloc: Global, shown: &str) -> Result<Children, InlineFault>
+pub(crate) fn text_nodes(alloc: Global, shown: &str) -> Result<Children>
     ensures { Gives (λ nodes. nodes ≡ text_children (chars shown.now)) result }
 {
     if shown.is_empty() {
@@ -30,7 +30,7 @@ pub(crate) fn element(
     attrs: Vec<Entry>,
     shown: &str,
     line: usize,
-) -> Result<Node, InlineFault>
+) -> Result<Node>
     ensures { Gives (λ node. node ≡ text_element tag attrs.items (chars shown.now) line) result }
 {
     let children = text_nodes(alloc, shown)?;
@@ -43,12 +43,7 @@ pub(crate) fn element(
 }
 
 /// An element without attributes that holds a text.
-pub(crate) fn plain_element(
-    alloc: Global,
-    tag: Tag,
-    shown: &str,
-    line: usize,
-) -> Result<Node, InlineFault>
+pub(crate) fn plain_element(alloc: Global, tag: Tag, shown: &str, line: usize) -> Result<Node>
     ensures { Gives (λ node. node ≡ text_element tag [] (chars shown.now) line) result }
 {
     element(alloc, tag, Vec::new(alloc), shown, line)
@@ -67,7 +62,7 @@ pub(crate) fn bare_element(alloc: Global, tag: Tag, attrs: Vec<Entry>, line: usi
 }
 
 /// An inline target, named by its text.
-pub(crate) fn target(alloc: Global, shown: &str, line: usize) -> Result<Node, InlineFault>
+pub(crate) fn target(alloc: Global, shown: &str, line: usize) -> Result<Node>
     ensures { Gives (λ node. node ≡ inline_target_node (chars shown.now) line) result }
 {
     let name = name_said(alloc, shown)?;
@@ -79,12 +74,7 @@ pub(crate) fn target(alloc: Global, shown: &str, line: usize) -> Result<Node, In
 }
 
 /// The target that an embedded URI leaves, named by its phrase.
-pub(crate) fn uri_target(
-    alloc: Global,
-    shown: &str,
-    uri: &str,
-    line: usize,
-) -> Result<Node, InlineFault>
+pub(crate) fn uri_target(alloc: Global, shown: &str, uri: &str, line: usize) -> Result<Node>
     ensures { Gives (λ node. node ≡ uri_target_node (chars shown.now) (chars uri.now) line) result }
 {
     let name = name_said(alloc, shown)?;
@@ -98,12 +88,7 @@ pub(crate) fn uri_target(
 }
 
 /// What is wrong as it is written, with the place of its message among those of the text.
-pub(crate) fn problematic(
-    alloc: Global,
-    place: usize,
-    source: &str,
-    line: usize,
-) -> Result<Node, InlineFault>
+pub(crate) fn problematic(alloc: Global, place: usize, source: &str, line: usize) -> Result<Node>
     ensures { Gives (λ node. node ≡ problematic_node place (chars source.now) line) result }
 {
     // Registration adds two: its id and the id of its message.

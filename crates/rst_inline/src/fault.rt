@@ -15,6 +15,9 @@ pub enum InlineFault {
     NoMemory,
 }
 
+/// What reading a text gives, unless memory ran out.
+pub type Result<T, E = InlineFault> = std::result::Result<T, E>;
+
 impl From<AllocError> for InlineFault {
     ghost from_gives = { λ _ fault. fault ≡ NoMemory };
 

@@ -6,7 +6,7 @@ ghost use Rattle.rst_inline.specs.Elements.{is_digit, label_tag, manual_referenc
 ghost use Rattle.rst_inline.specs.Faults.{Gives};
 
 use super::elements::{bare_element, element};
-use super::fault::InlineFault;
+use super::fault::Result;
 use super::texts::{name_said, said, spell};
 use rst_tree::{Entry, Key, Node, Tag, Value};
 use std::alloc::Global;
@@ -39,7 +39,7 @@ fn label_tag(label: &[char]) -> Tag
     }
 }
 
-fn labelled(alloc: Global, source: &str, label: &[char], line: usize) -> Result<Node, InlineFault>
+fn labelled(alloc: Global, source: &str, label: &[char], line: usize) -> Result<Node>
     ensures { Gives (λ node. node ≡ manual_reference_node (chars source.now) label.now line) result }
 {
     let written = said(alloc, source)?;
@@ -53,7 +53,7 @@ fn labelled(alloc: Global, source: &str, label: &[char], line: usize) -> Result<
 }
 
 /// A footnote that is numbered, alone or with a name.
-fn numbered(alloc: Global, source: &str, name: &[char], line: usize) -> Result<Node, InlineFault>
+fn numbered(alloc: Global, source: &str, name: &[char], line: usize) -> Result<Node>
     ensures { Gives (λ node. node ≡ autonumbered_reference_node (chars source.now) name.now line) result }
 {
     let written = said(alloc, source)?;
@@ -80,7 +80,7 @@ fn numbered(alloc: Global, source: &str, name: &[char], line: usize) -> Result<N
 
 /// A footnote with a symbol.
 #[tactic(auto, using(crate::proofs::TextLemmas::chars_of_star))]
-fn symbol(alloc: Global, source: &str, line: usize) -> Result<Node, InlineFault>
+fn symbol(alloc: Global, source: &str, line: usize) -> Result<Node>
     ensures { Gives (λ node. node ≡ autosymbol_reference_node (chars source.now) line) result }
 {
     let written = said(alloc, source)?;
@@ -98,7 +98,7 @@ pub(crate) fn label_reference(
     source: &str,
     label: &[char],
     line: usize,
-) -> Result<Node, InlineFault>
+) -> Result<Node>
     ensures { Gives (λ node. node ≡ label_reference_node (chars source.now) label.now line) result }
 {
     match label {

@@ -7,7 +7,7 @@ ghost use Rattle.rst_inline.specs.Faults.{Gives};
 ghost use Rattle.rst_inline.specs.Results.{Reads, IsRead};
 
 use super::elements::{problematic, text_nodes};
-use super::fault::InlineFault;
+use super::fault::Result;
 use super::reading::Meaning;
 use super::written::Written;
 use rst_inline_scan::{Kind, Piece, is_quiet};
@@ -26,7 +26,7 @@ pub struct Pieces {
 /// Markup'). Every text has some.
 ///
 /// The only refusal is [`InlineFault::NoMemory`].
-pub fn inline(alloc: Global, text: &str, line: usize) -> Result<Pieces, InlineFault>
+pub fn inline(alloc: Global, text: &str, line: usize) -> Result<Pieces>
     ensures { Gives (IsRead (chars text.now) line) result }
 {
     if is_quiet(text.as_bytes()) {
@@ -38,7 +38,7 @@ pub fn inline(alloc: Global, text: &str, line: usize) -> Result<Pieces, InlineFa
 }
 
 /// The same of a quiet text, whatever its line: it is one plain piece, so it is neither made characters nor scanned.
-fn quiet(alloc: Global, text: &str) -> Result<Pieces, InlineFault>
+fn quiet(alloc: Global, text: &str) -> Result<Pieces>
     requires { quiet (chars text.now) ≡ true }
     ensures { (line : ℕ) → Gives (IsRead (chars text.now) line) result }
 {
@@ -59,7 +59,7 @@ impl Written<'_> {
     /// The nodes and the messages of the pieces of the text.
     // Its frame is large, and quiet texts need none of it.
     #[inline(never)]
-    fn read(&self, pieces: &[Piece]) -> Result<Pieces, InlineFault>
+    fn read(&self, pieces: &[Piece]) -> Result<Pieces>
         requires { All (IsWithin self.now.characters.items) pieces.now }
         ensures { Gives (Reads self.now.characters.items self.now.line pieces.now) result }
     {

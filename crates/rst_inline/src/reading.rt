@@ -14,7 +14,7 @@ ghost use Rattle.rst_inline.specs.Faults.{Gives};
 
 use super::elements::{plain_element, target, uri_target};
 use super::embedded::{dark_end, embedded_at, enclosed, has_white, is_alias};
-use super::fault::InlineFault;
+use super::fault::Result;
 use super::labels::label_reference;
 use super::references::{
     alias_reference, embedded_reference, outer_reference, reference, substitution, uri_reference,
@@ -59,7 +59,7 @@ fn unended(alloc: Global, markup: Markup) -> Meaning
     )
 }
 
-fn unknown_role(alloc: Global, name: &str) -> Result<Meaning, InlineFault>
+fn unknown_role(alloc: Global, name: &str) -> Result<Meaning>
     ensures { Gives (λ reading. reading ≡ unknown_role name.now) result }
 {
     let mut text = String::from_str(alloc, "Unknown interpreted text role \"")?;
@@ -68,7 +68,7 @@ fn unknown_role(alloc: Global, name: &str) -> Result<Meaning, InlineFault>
     Ok(Meaning::Wrong(Level::Error, Text::new(text)))
 }
 
-fn two_roles(alloc: Global) -> Result<Meaning, InlineFault>
+fn two_roles(alloc: Global) -> Result<Meaning>
     ensures { Gives (λ reading. reading ≡ two_roles) result }
 {
     let text =
@@ -76,7 +76,7 @@ fn two_roles(alloc: Global) -> Result<Meaning, InlineFault>
     Ok(Meaning::Wrong(Level::Warning, Text::from_str(alloc, text)?))
 }
 
-fn mismatch(alloc: Global) -> Result<Meaning, InlineFault>
+fn mismatch(alloc: Global) -> Result<Meaning>
     ensures { Gives (λ reading. reading ≡ mismatch) result }
 {
     let text = "Mismatch: both interpreted text role and reference suffix.";
@@ -85,7 +85,7 @@ fn mismatch(alloc: Global) -> Result<Meaning, InlineFault>
 
 impl Written<'_> {
     /// Plain text without its escapes.
-    fn plain(&self, piece: Piece) -> Result<Meaning, InlineFault>
+    fn plain(&self, piece: Piece) -> Result<Meaning>
         ensures { Gives (λ reading. reading ≡ plain_reading (unescaped (source self.now.characters.items piece))) result }
     {
         let shown = self.unescaped(piece.from, piece.to)?;
@@ -98,7 +98,7 @@ impl Written<'_> {
     }
 
     /// An element that holds what the markup of a piece encloses, without its escapes.
-    fn shown_in(&self, tag: Tag, piece: Piece) -> Result<Meaning, InlineFault>
+    fn shown_in(&self, tag: Tag, piece: Piece) -> Result<Meaning>
         ensures { Gives (λ reading. reading ≡ One (text_element tag [] (unescaped (content self.now.characters.items piece)) self.now.line)) result }
     {
         let shown = self.unescaped(piece.content_from, piece.content_to)?;
@@ -106,7 +106,7 @@ impl Written<'_> {
         Ok(Meaning::One(node))
     }
 
-    fn literal(&self, piece: Piece) -> Result<Meaning, InlineFault>
+    fn literal(&self, piece: Piece) -> Result<Meaning>
         ensures { Gives (λ reading. reading ≡ One (text_element Literal [] (content self.now.characters.items piece) self.now.line)) result }
     {
         let shown = self.part(piece.content_from, piece.content_to);
@@ -114,7 +114,7 @@ impl Written<'_> {
         Ok(Meaning::One(node))
     }
 
-    fn inline_target(&self, piece: Piece) -> Result<Meaning, InlineFault>
+    fn inline_target(&self, piece: Piece) -> Result<Meaning>
         ensures { Gives (λ reading. reading ≡ One (inline_target_node (unescaped (content self.now.characters.items piece)) self.now.line)) result }
     {
         let shown = self.unescaped(piece.content_from, piece.content_to)?;
@@ -122,7 +122,7 @@ impl Written<'_> {
         Ok(Meaning::One(node))
     }
 
-    fn substituted(&self, suffix: Suffix, piece: Piece) -> Result<Meaning, InlineFault>
+    fn substituted(&self, suffix: Suffix, piece: Piece) -> Result<Meaning>
         requires { IsWithin self.now.characters.items piece }
         ensures { Gives (λ reading. reading ≡ substitution_reading suffix (part self.now.characters.items piece.from (piece.content_to + 1)) (source self.now.characters.items piece) (unescaped (content self.now.characters.items piece)) self.now.line) result }
     {
@@ -184,7 +184,7 @@ impl Written<'_> {
         shown: &str,
         meaning: &str,
         is_alias: bool,
-    ) -> Result<Meaning, InlineFault>
+    ) -> Result<Meaning>
         ensures { Gives (λ reading. reading ≡ embedded_reading suffix (chars source.now) (chars shown.now) (chars meaning.now) is_alias self.now.line) result }
     {
         if is_alias {
@@ -202,7 +202,7 @@ impl Written<'_> {
     }
 
     /// A phrase that is a reference.
-    fn phrase(&self, suffix: Suffix, piece: Piece) -> Result<Meaning, InlineFault>
+    fn phrase(&self, suffix: Suffix, piece: Piece) -> Result<Meaning>
         requires { IsWithin self.now.characters.items piece }
         ensures { Gives (λ reading. reading ≡ phrase_reading suffix (source self.now.characters.items piece) (content self.now.characters.items piece) self.now.line) result }
     {
@@ -220,7 +220,7 @@ impl Written<'_> {
     }
 
     /// Interpreted text with a role.
-    fn with_role(&self, role: &str, piece: Piece) -> Result<Meaning, InlineFault>
+    fn with_role(&self, role: &str, piece: Piece) -> Result<Meaning>
         ensures { Gives (λ reading. reading ≡ role_reading (chars role.now) (unescaped (content self.now.characters.items piece)) self.now.line) result }
     {
         match role_tag(role) {
@@ -230,7 +230,7 @@ impl Written<'_> {
     }
 
     /// Interpreted text with a role in front of it.
-    fn prefixed(&self, suffix: Suffix, piece: Piece) -> Result<Meaning, InlineFault>
+    fn prefixed(&self, suffix: Suffix, piece: Piece) -> Result<Meaning>
         requires { piece.from + 1 < piece.content_from }
         ensures { Gives (λ reading. reading ≡ interpreted_reading true suffix self.now.characters.items piece self.now.line) result }
     {
@@ -244,7 +244,7 @@ impl Written<'_> {
     }
 
     /// Interpreted text, or a phrase that is a reference.
-    fn interpreted(&self, suffix: Suffix, piece: Piece) -> Result<Meaning, InlineFault>
+    fn interpreted(&self, suffix: Suffix, piece: Piece) -> Result<Meaning>
         requires { IsWithin self.now.characters.items piece }
         ensures { Gives (λ reading. reading ≡ interpreted_reading (has_prefix_role piece) suffix self.now.characters.items piece self.now.line) result }
     {
@@ -259,7 +259,7 @@ impl Written<'_> {
     }
 
     /// Markup with its end-string.
-    fn marked(&self, markup: Markup, suffix: Suffix, piece: Piece) -> Result<Meaning, InlineFault>
+    fn marked(&self, markup: Markup, suffix: Suffix, piece: Piece) -> Result<Meaning>
         requires { IsWithin self.now.characters.items piece }
         ensures { Gives (λ reading. reading ≡ marked_reading markup suffix self.now.characters.items piece self.now.line) result }
     {
@@ -274,7 +274,7 @@ impl Written<'_> {
     }
 
     /// A reference to a footnote or a citation.
-    fn label(&self, piece: Piece) -> Result<Meaning, InlineFault>
+    fn label(&self, piece: Piece) -> Result<Meaning>
         ensures { Gives (λ reading. reading ≡ One (label_reference_node (source self.now.characters.items piece) (content self.now.characters.items piece) self.now.line)) result }
     {
         let source = self.part(piece.from, piece.to);
@@ -284,7 +284,7 @@ impl Written<'_> {
     }
 
     /// A reference by a simple name.
-    fn named(&self, suffix: Suffix, piece: Piece) -> Result<Meaning, InlineFault>
+    fn named(&self, suffix: Suffix, piece: Piece) -> Result<Meaning>
         ensures { Gives (λ reading. reading ≡ One (reference_node suffix (source self.now.characters.items piece) (content self.now.characters.items piece) self.now.line)) result }
     {
         let source = self.part(piece.from, piece.to);
@@ -294,7 +294,7 @@ impl Written<'_> {
     }
 
     /// A standalone URI.
-    fn uri(&self, piece: Piece) -> Result<Meaning, InlineFault>
+    fn uri(&self, piece: Piece) -> Result<Meaning>
         ensures { Gives (λ reading. reading ≡ One (uri_node (source self.now.characters.items piece) self.now.line)) result }
     {
         let node = uri_reference(self.alloc, self.part(piece.from, piece.to), self.line)?;
@@ -303,7 +303,7 @@ impl Written<'_> {
 
     /// What a piece of the text means.
     #[tactic(auto, unfolding(crate::specs::Readings::reading))]
-    pub(crate) fn reading(&self, piece: Piece) -> Result<Meaning, InlineFault>
+    pub(crate) fn reading(&self, piece: Piece) -> Result<Meaning>
         requires { IsWithin self.now.characters.items piece }
         ensures { Gives (λ read. read ≡ reading self.now.characters.items self.now.line piece) result }
     {

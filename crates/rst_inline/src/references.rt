@@ -5,19 +5,14 @@ ghost use Rattle.rst_inline.specs.Elements.{reference_attrs, reference_node, uri
 ghost use Rattle.rst_inline.specs.Faults.{Gives};
 
 use super::elements::element;
-use super::fault::InlineFault;
+use super::fault::Result;
 use super::texts::{name_said, normalized_said, said};
 use rst_inline_scan::Suffix;
 use rst_tree::{Attrs, Children, Entry, Key, Node, Tag, Value};
 use std::alloc::Global;
 
 /// The attributes of a reference by the name that it shows, with room for the one that tells where it leads, once that is found.
-fn reference_attrs(
-    alloc: Global,
-    suffix: Suffix,
-    source: &str,
-    shown: &str,
-) -> Result<Vec<Entry>, InlineFault>
+fn reference_attrs(alloc: Global, suffix: Suffix, source: &str, shown: &str) -> Result<Vec<Entry>>
     ensures { Gives (λ attrs. attrs.items ≡ reference_attrs suffix (chars source.now) (chars shown.now)) result }
 {
     let name = normalized_said(alloc, shown)?;
@@ -46,7 +41,7 @@ pub(crate) fn reference(
     source: &str,
     shown: &str,
     line: usize,
-) -> Result<Node, InlineFault>
+) -> Result<Node>
     ensures { Gives (λ node. node ≡ reference_node suffix (chars source.now) (chars shown.now) line) result }
 {
     let attrs = reference_attrs(alloc, suffix, source, shown)?;
@@ -54,7 +49,7 @@ pub(crate) fn reference(
 }
 
 /// A standalone URI.
-pub(crate) fn uri_reference(alloc: Global, source: &str, line: usize) -> Result<Node, InlineFault>
+pub(crate) fn uri_reference(alloc: Global, source: &str, line: usize) -> Result<Node>
     ensures { Gives (λ node. node ≡ uri_node (chars source.now) line) result }
 {
     let written = said(alloc, source)?;
@@ -73,7 +68,7 @@ pub(crate) fn alias_reference(
     shown: &str,
     alias: &str,
     line: usize,
-) -> Result<Node, InlineFault>
+) -> Result<Node>
     ensures { Gives (λ node. node ≡ alias_node (chars source.now) (chars shown.now) (chars alias.now) line) result }
 {
     let name = normalized_said(alloc, shown)?;
@@ -93,7 +88,7 @@ pub(crate) fn embedded_reference(
     shown: &str,
     uri: &str,
     line: usize,
-) -> Result<Node, InlineFault>
+) -> Result<Node>
     ensures { Gives (λ node. node ≡ embedded_node (chars source.now) (chars shown.now) (chars uri.now) line) result }
 {
     let name = normalized_said(alloc, shown)?;
@@ -108,12 +103,7 @@ pub(crate) fn embedded_reference(
 }
 
 /// A substitution.
-pub(crate) fn substitution(
-    alloc: Global,
-    source: &str,
-    shown: &str,
-    line: usize,
-) -> Result<Node, InlineFault>
+pub(crate) fn substitution(alloc: Global, source: &str, shown: &str, line: usize) -> Result<Node>
     ensures { Gives (λ node. node ≡ substitution_node (chars source.now) (chars shown.now) line) result }
 {
     let written = said(alloc, source)?;
@@ -125,12 +115,7 @@ pub(crate) fn substitution(
     element(alloc, Tag::SubstitutionReference, attrs, shown, line)
 }
 
-fn outer_attrs(
-    alloc: Global,
-    suffix: Suffix,
-    source: &str,
-    shown: &str,
-) -> Result<Vec<Entry>, InlineFault>
+fn outer_attrs(alloc: Global, suffix: Suffix, source: &str, shown: &str) -> Result<Vec<Entry>>
     ensures { Gives (λ attrs. attrs.items ≡ outer_attrs suffix (chars source.now) (chars shown.now)) result }
 {
     let written = said(alloc, source)?;
@@ -158,7 +143,7 @@ pub(crate) fn outer_reference(
     shown: &str,
     inner: Node,
     line: usize,
-) -> Result<Node, InlineFault>
+) -> Result<Node>
     ensures { Gives (λ node. node ≡ outer_node suffix (chars source.now) (chars shown.now) inner line) result }
 {
     let attrs = outer_attrs(alloc, suffix, source, shown)?;

@@ -8,7 +8,7 @@ ghost use Rattle.rst_inline.specs.Parts.{part, spelled};
 ghost use Rattle.rst_inline.specs.Elements.{said};
 ghost use Rattle.rst_inline.specs.Faults.{Gives};
 
-use super::fault::InlineFault;
+use super::fault::Result;
 use rst_inline_scan::unescaped;
 use rst_text::{characters_of, name_borrowed, normalized_borrowed};
 use rst_tree::{Text, Value};
@@ -18,7 +18,7 @@ use std::alloc::{AllocError, Global};
 /// (Markup Specification, 'Escaping Mechanism').
 ///
 /// The only refusal is [`InlineFault::NoMemory`].
-pub fn unescape(alloc: Global, text: &str) -> Result<String, InlineFault>
+pub fn unescape(alloc: Global, text: &str) -> Result<String>
     ensures { Gives (λ out. chars_of out ≡ unescaped (chars text.now)) result }
 {
     let characters = characters_of(alloc, text)?;
@@ -40,7 +40,7 @@ pub(crate) fn spell(alloc: Global, characters: &[char]) -> Result<String, AllocE
 }
 
 /// A value that says a text.
-pub(crate) fn said(alloc: Global, text: &str) -> Result<Value, InlineFault>
+pub(crate) fn said(alloc: Global, text: &str) -> Result<Value>
     ensures { Gives (λ value. value ≡ said (chars text.now)) result }
 {
     let text = Text::from_str(alloc, text)?;
@@ -48,7 +48,7 @@ pub(crate) fn said(alloc: Global, text: &str) -> Result<Value, InlineFault>
 }
 
 /// A value that says the name that a text gives.
-pub(crate) fn name_said(alloc: Global, text: &str) -> Result<Value, InlineFault>
+pub(crate) fn name_said(alloc: Global, text: &str) -> Result<Value>
     ensures { Gives (λ value. value ≡ said (names.name_of (chars text.now))) result }
 {
     let name = name_borrowed(alloc, text)?;
@@ -56,7 +56,7 @@ pub(crate) fn name_said(alloc: Global, text: &str) -> Result<Value, InlineFault>
 }
 
 /// A value that says a text with each run of white characters as one space, and none at the ends.
-pub(crate) fn normalized_said(alloc: Global, text: &str) -> Result<Value, InlineFault>
+pub(crate) fn normalized_said(alloc: Global, text: &str) -> Result<Value>
     ensures { Gives (λ value. value ≡ said (names.normalized_white (chars text.now))) result }
 {
     let name = normalized_borrowed(alloc, text)?;

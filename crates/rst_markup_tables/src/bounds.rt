@@ -5,9 +5,10 @@ ghost use Rattle.rst_markup_tables.specs.Marks.{Marks, AreMarked};
 ghost use Rattle.rst_markup_tables.specs.Drawn.{IsTiling};
 ghost use Rattle.rst_markup_tables.specs.GridTable.{gaps, is_column, is_row};
 
+use super::Result;
 use super::drawn::Rectangle;
 use super::places::{TableLine, mark, width};
-use std::alloc::{AllocError, Global};
+use std::alloc::Global;
 
 /// Marks the columns in which a `+` of the rectangle's top or bottom side stands.
 fn mark_columns(marks: &mut [bool], lines: &[TableLine], rectangle: Rectangle)
@@ -50,7 +51,7 @@ pub(crate) struct Tiling<'a> {
 
 impl Tiling<'_> {
     /// Which places of a row are bounds of columns.
-    pub(crate) fn column_marks(&self) -> Result<Vec<bool>, AllocError>
+    pub(crate) fn column_marks(&self) -> Result<Vec<bool>>
         requires { IsTiling self.now.lines.now self.now.rectangles.now }
         ensures { IfOk result (λ marks. AreMarked (is_column self.now.lines.now self.now.rectangles.now) (width self.now.lines.now) marks.items) }
     {
@@ -62,7 +63,7 @@ impl Tiling<'_> {
     }
 
     /// Which rows are bounds of rows.
-    pub(crate) fn row_marks(&self) -> Result<Vec<bool>, AllocError>
+    pub(crate) fn row_marks(&self) -> Result<Vec<bool>>
         requires { IsTiling self.now.lines.now self.now.rectangles.now }
         ensures { IfOk result (λ marks. AreMarked (is_row self.now.lines.now self.now.rectangles.now) (length self.now.lines.now) marks.items) }
     {
@@ -75,7 +76,7 @@ impl Tiling<'_> {
 }
 
 /// How many places lie between neighbouring bounds.
-pub(crate) fn gaps(alloc: Global, bounds: &[usize]) -> Result<Vec<usize>, AllocError>
+pub(crate) fn gaps(alloc: Global, bounds: &[usize]) -> Result<Vec<usize>>
     ensures { IfOk result (λ found. found.items ≡ gaps bounds.now) }
 {
     let neighbours = bounds.iter().zip(bounds.iter().skip(1));

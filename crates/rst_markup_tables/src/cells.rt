@@ -9,11 +9,12 @@ ghost use Rattle.rst_text.specs.Source.{texts_with};
 ghost use Rattle.rst_markup_tables.specs.Cells.{as_lines, characters, cut_places, cell_text, cell_block, is_white_place, reaches, reaching, texts_among};
 ghost use Rattle.rst_markup_tables.specs.Places.{AreNumbered};
 
+use super::Result;
 use super::places::{Place, TableLine, row_at};
 use super::results::CellLines;
 use rst_markup_lines::is_blank;
 use rst_text::{indentation, skip};
-use std::alloc::{AllocError, Global};
+use std::alloc::Global;
 
 /// Whether no character begins at a place, or a white one.
 fn is_white(place: Place) -> bool
@@ -49,7 +50,7 @@ fn cut_places(row: &[Place], left: usize, right: Option<usize>) -> &[Place]
 }
 
 /// The text of the characters that begin at places.
-fn text_of(alloc: Global, places: &[Place]) -> Result<String, AllocError>
+fn text_of(alloc: Global, places: &[Place]) -> Result<String>
     requires { all_scalars (characters places.now) ≡ true }
     ensures { IfOk result (λ text. chars_of text ≡ characters places.now) }
 {
@@ -71,7 +72,7 @@ fn cell_text(
     k: usize,
     left: usize,
     right: Option<usize>,
-) -> Result<String, AllocError>
+) -> Result<String>
     ensures text { IfOk result (λ text. chars_of text ≡ cell_text left right lines.now k) }
     ensures line { IfOk result (λ text. IsTrue (is_line_text (chars_of text))) }
 {
@@ -87,7 +88,7 @@ fn cell_texts(
     among: &[usize],
     left: usize,
     right: Option<usize>,
-) -> Result<Vec<(usize, String)>, AllocError>
+) -> Result<Vec<(usize, String)>>
     ensures texts { IfOk result (λ texts. texts_with texts.items ≡ texts_among left right lines.now among.now) }
     ensures lines { IfOk result (λ texts. IsTrue (are_lines (as_lines (texts_with texts.items)))) }
 {
@@ -103,7 +104,7 @@ fn cell_texts(
 }
 
 /// The places of all lines.
-pub(crate) fn all_places(alloc: Global, lines: &[TableLine]) -> Result<Vec<usize>, AllocError>
+pub(crate) fn all_places(alloc: Global, lines: &[TableLine]) -> Result<Vec<usize>>
     ensures { IfOk result (λ places. places.items ≡ range_with_len 0 (length lines.now)) }
 {
     (0..lines.len()).collect(alloc)
@@ -115,7 +116,7 @@ pub(crate) fn reaching(
     lines: &[TableLine],
     among: &[usize],
     n: usize,
-) -> Result<Vec<usize>, AllocError>
+) -> Result<Vec<usize>>
     ensures { IfOk result (λ found. found.items ≡ filter (reaches lines.now n) among.now) }
 {
     let mut found = Vec::with_capacity(alloc, among.len())?;
@@ -144,11 +145,7 @@ fn least_indent(texts: &[(usize, String)]) -> usize
 }
 
 /// Texts without their first `n` characters.
-fn shortened(
-    alloc: Global,
-    texts: Vec<(usize, String)>,
-    n: usize,
-) -> Result<Vec<(usize, String)>, AllocError>
+fn shortened(alloc: Global, texts: Vec<(usize, String)>, n: usize) -> Result<Vec<(usize, String)>>
     ensures { IfOk result (λ short. texts_with short.items ≡ map (λ (t : ℕ × List ℕ). (t.0, drop n t.1)) (texts_with texts.items)) }
 {
     if n == 0 {
@@ -171,7 +168,7 @@ pub(crate) fn cell_lines(
     among: &[usize],
     left: usize,
     right: Option<usize>,
-) -> Result<CellLines, AllocError>
+) -> Result<CellLines>
     requires numbered { AreNumbered lines.now }
     requires among { among.now ≡ reaching lines.now left }
     ensures { IfOk result (λ cell. cell ≡ cell_block left right lines.now) }

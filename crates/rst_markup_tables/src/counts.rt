@@ -4,10 +4,11 @@ ghost use Rattle.std.specs.List.{range_with_len};
 ghost use Rattle.rst_markup_tables.specs.Counts.{below};
 ghost use Rattle.rst_markup_tables.specs.Marks.{AreRanks};
 
-use std::alloc::{AllocError, Global};
+use super::Result;
+use std::alloc::Global;
 
 /// The places of the marks that are set.
-pub(crate) fn marked(alloc: Global, marks: &[bool]) -> Result<Vec<usize>, AllocError>
+pub(crate) fn marked(alloc: Global, marks: &[bool]) -> Result<Vec<usize>>
     ensures { IfOk result (λ numbers. numbers.items ≡ filter (λ k. get_or marks.now k false) (range_with_len 0 (length marks.now))) }
 {
     let mut numbers = Vec::new(alloc);
@@ -22,7 +23,7 @@ pub(crate) fn marked(alloc: Global, marks: &[bool]) -> Result<Vec<usize>, AllocE
 
 /// For each place and the one past the end how many marks before it are set.
 #[tactic(auto, using(crate::proofs::Lists::below_yes, crate::proofs::Lists::below_no))]
-pub(crate) fn ranks(alloc: Global, marks: &[bool]) -> Result<Vec<usize>, AllocError>
+pub(crate) fn ranks(alloc: Global, marks: &[bool]) -> Result<Vec<usize>>
     ensures { IfOk result (λ ranks. AreRanks (below (λ j. get_or marks.now j false)) (length marks.now) ranks.items) }
 {
     let mut ranks = Vec::with_capacity(alloc, marks.len() + 1)?;

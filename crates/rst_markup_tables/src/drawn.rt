@@ -4,8 +4,9 @@ ghost use Rattle.rst_markup_tables.specs.Places.{Grid, width, place};
 ghost use Rattle.rst_markup_tables.specs.Drawn.{is_across, is_upright, IsAcross, Tiles};
 ghost use Rattle.rst_markup_tables.specs.Search.{are_upright, lists_of, begin_at, IsBottom, Tells, Closes, AreBegins, HasBegins, next_begin, Draws, Fills};
 
+use super::Result;
 use super::places::{Place, TableLine, mark, mark_at, width};
-use std::alloc::{AllocError, Global};
+use std::alloc::Global;
 
 /// A rectangle, by the places of its corners.
 #[derive(Clone, Copy)]
@@ -40,7 +41,7 @@ fn next_begin(c: char, begin: usize, column: usize) -> usize
 }
 
 // For each place of the row where the run of `-` and `+` that ends there begins.
-fn begins_of(alloc: Global, row: &[Place]) -> Result<Vec<usize>, AllocError>
+fn begins_of(alloc: Global, row: &[Place]) -> Result<Vec<usize>>
     ensures { IfOk result (λ begins. AreBegins row.now begins.items) }
 {
     let mut begins = Vec::with_capacity(alloc, row.len())?;
@@ -52,7 +53,7 @@ fn begins_of(alloc: Global, row: &[Place]) -> Result<Vec<usize>, AllocError>
     Ok(begins)
 }
 
-fn all_begins(alloc: Global, rows: &[TableLine]) -> Result<Vec<Vec<usize>>, AllocError>
+fn all_begins(alloc: Global, rows: &[TableLine]) -> Result<Vec<Vec<usize>>>
     ensures { IfOk result (λ all. HasBegins rows.now (lists_of all.items)) }
 {
     let mut all = Vec::with_capacity(alloc, rows.len())?;
@@ -171,10 +172,7 @@ fn fill(depths: &mut [usize], rectangle: Rectangle) -> bool
 }
 
 /// The rectangles that tile the grid, in reading order, if it is well formed.
-pub(crate) fn tiling(
-    alloc: Global,
-    rows: &[TableLine],
-) -> Result<Option<Vec<Rectangle>>, AllocError>
+pub(crate) fn tiling(alloc: Global, rows: &[TableLine]) -> Result<Option<Vec<Rectangle>>>
     ensures { IfOk result (λ found. Tiles rows.now (option_map vec_items found)) }
 {
     let begins = all_begins(alloc, rows)?;

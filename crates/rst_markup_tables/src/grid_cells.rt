@@ -7,12 +7,13 @@ ghost use Rattle.rst_markup_tables.specs.Drawn.{IsTiling};
 ghost use Rattle.rst_markup_tables.specs.GridTable as spec;
 ghost use Rattle.rst_markup_tables.specs.Results.{cells_of};
 
+use super::Result;
 use super::bounds::{Tiling, gaps};
 use super::cells::{all_places, cell_lines, reaching};
 use super::counts::{marked, ranks};
 use super::drawn::Rectangle;
 use super::results::{Cell, Rows, TableResult, Widths};
-use std::alloc::{AllocError, Global};
+use std::alloc::Global;
 
 /// How many bounds stand before each row and column.
 #[derive(Drop)]
@@ -46,7 +47,7 @@ impl Ranks {
 }
 
 /// So many rows without cells.
-fn empty_rows(alloc: Global, count: usize) -> Result<Vec<Vec<Cell>>, AllocError>
+fn empty_rows(alloc: Global, count: usize) -> Result<Vec<Vec<Cell>>>
     ensures { IfOk result (λ rows. (length rows.items ≡ count) × ((n : ℕ) → n < count → get_or (cells_of rows.items) n [] ≡ [])) }
 {
     let mut rows = Vec::with_capacity(alloc, count)?;
@@ -58,7 +59,7 @@ fn empty_rows(alloc: Global, count: usize) -> Result<Vec<Vec<Cell>>, AllocError>
 
 impl Tiling<'_> {
     /// The cell in a rectangle.
-    fn cell(&self, ranks: &Ranks, rectangle: Rectangle) -> Result<Cell, AllocError>
+    fn cell(&self, ranks: &Ranks, rectangle: Rectangle) -> Result<Cell>
         requires high { rectangle.top < rectangle.bottom }
         requires within { rectangle.bottom < length self.now.lines.now }
         requires wide { rectangle.left < rectangle.right }
@@ -82,7 +83,7 @@ impl Tiling<'_> {
     }
 
     /// Each rectangle's cell in its row.
-    fn cell_rows(&self, ranks: &Ranks, count: usize) -> Result<Vec<Vec<Cell>>, AllocError>
+    fn cell_rows(&self, ranks: &Ranks, count: usize) -> Result<Vec<Vec<Cell>>>
         requires tiling { IsTiling self.now.lines.now self.now.rectangles.now }
         requires few { (k : ℕ) → k < length self.now.rectangles.now → get_or ranks.now.rows.items (get_or self.now.rectangles.now k (record { top = 0; left = 0; bottom = 0; right = 0 })).top 0 < count }
         ensures { IfOk result (λ rows. cells_of rows.items ≡ spec.cell_rows (λ k. get_or ranks.now.rows.items k 0) (λ k. get_or ranks.now.columns.items k 0) self.now.lines.now self.now.rectangles.now count) }
@@ -96,7 +97,7 @@ impl Tiling<'_> {
     }
 
     /// The table that the tiling makes; `head` is the rule between head and body, `end` the place after the table.
-    pub(crate) fn tiled(&self, head: Option<usize>, end: usize) -> Result<TableResult, AllocError>
+    pub(crate) fn tiled(&self, head: Option<usize>, end: usize) -> Result<TableResult>
         requires tiling { IsTiling self.now.lines.now self.now.rectangles.now }
         requires head { IfSome head (λ k. k < length self.now.lines.now) }
         ensures { IfOk result (λ table. table ≡ spec.tiled_table head self.now.lines.now self.now.rectangles.now end) }

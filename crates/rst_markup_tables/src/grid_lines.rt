@@ -11,13 +11,14 @@ ghost use Rattle.rst_markup_blocks.specs.declared.lines.LineTest.TheVariants.{Dr
 ghost use Rattle.rst_markup_tables.specs.Places.{AreNumbered, rows_of};
 ghost use Rattle.rst_markup_tables.specs.GridTable as spec;
 
+use super::Result;
 use super::drawn::is_upright;
 use super::places::{Place, TableLine, line_of, mark_at, row_at, width};
 use super::results::TableDetail;
 use rst_markup_blocks::is_drawn;
 use rst_markup_lines::is_grid_border;
 use rst_text::{Looks, View};
-use std::alloc::{AllocError, Global};
+use std::alloc::Global;
 
 /// The bottom border so far, counted from the top one, where line `n` has this text: it may be one from the third line on.
 fn with_border(bottom: Option<usize>, n: usize, text: &str) -> Option<usize>
@@ -38,12 +39,7 @@ pub(crate) struct GridLines {
 }
 
 /// The lines from a place on up to the first that doesn't begin with `+` or `|`, and the bottom border among them.
-fn drawn_lines(
-    alloc: Global,
-    view: &View<'_>,
-    i: usize,
-    looks: &mut Looks,
-) -> Result<GridLines, AllocError>
+fn drawn_lines(alloc: Global, view: &View<'_>, i: usize, looks: &mut Looks) -> Result<GridLines>
     requires there { i < length (block_of view.now) }
     ensures lines { IfOk result (λ found. found.lines.items ≡ rows_of (take (lines_while Drawn (drop i (block_of view.now))) (drop i (block_of view.now)))) }
     ensures numbered { IfOk result (λ found. AreNumbered found.lines.items) }
@@ -71,7 +67,7 @@ pub(crate) fn grid_lines(
     view: &View<'_>,
     i: usize,
     looks: &mut Looks,
-) -> Result<GridLines, AllocError>
+) -> Result<GridLines>
     requires there { i < length (block_of view.now) }
     ensures fits { IfOk result (λ found. i + length found.lines.items < 2 ^ 64) }
     ensures lines { IfOk result (λ found. found.lines.items ≡ rows_of (take (grid_size (drop i (block_of view.now))) (drop i (block_of view.now)))) }
@@ -178,7 +174,7 @@ fn dash(place: Place) -> Place
 }
 
 /// A line with `-` for each `=`.
-fn dashed(alloc: Global, line: &TableLine) -> Result<TableLine, AllocError>
+fn dashed(alloc: Global, line: &TableLine) -> Result<TableLine>
     ensures { IfOk result (λ new. new ≡ spec.dashed line.now) }
 {
     let mut places = Vec::with_capacity(alloc, line.places().len())?;
@@ -193,7 +189,7 @@ pub(crate) fn put_dashes(
     alloc: Global,
     lines: &mut Vec<TableLine>,
     head: Option<usize>,
-) -> Result<(), AllocError>
+) -> Result<()>
     requires { IfSome head (λ k. k < length lines.old.items) }
     ensures { OnOk result (lines.new.items ≡ spec.with_dashes lines.old.items head) }
 {

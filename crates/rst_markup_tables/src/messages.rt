@@ -2,11 +2,12 @@
 ghost use Rattle.std.specs.Prelude.{◌≡◌, string_bytes, IfOk};
 ghost use Rattle.rst_markup_tables.specs.Messages.{detail_text, malformed_text};
 
+use super::Result;
 use super::results::TableDetail;
-use std::alloc::{AllocError, Global};
+use std::alloc::Global;
 
 /// What is wrong with a table, in words.
-fn detail_text(alloc: Global, detail: TableDetail) -> Result<String, AllocError>
+fn detail_text(alloc: Global, detail: TableDetail) -> Result<String>
     ensures { IfOk result (λ text. string_bytes text ≡ detail_text detail) }
 {
     match detail {
@@ -35,7 +36,7 @@ fn detail_text(alloc: Global, detail: TableDetail) -> Result<String, AllocError>
 /// The text of the message on a malformed table: `Malformed table.`, a line end and what is wrong.
 ///
 /// The only error is want of memory.
-pub fn malformed_text(alloc: Global, detail: TableDetail) -> Result<String, AllocError>
+pub fn malformed_text(alloc: Global, detail: TableDetail) -> Result<String>
     ensures { IfOk result (λ text. string_bytes text ≡ malformed_text detail) }
 {
     let words = detail_text(alloc, detail)?;

@@ -9,8 +9,9 @@ ghost use Rattle.rst_markup_tables.specs.declared.places.Place.TheVariants.{Char
 ghost use Rattle.rst_text.specs.Block.{first_number, front_text};
 ghost use Rattle.rst_text.specs.Shown.{block_of};
 
+use super::Result;
 use rst_text::{View, characters_of};
-use std::alloc::{AllocError, Global};
+use std::alloc::Global;
 use std::marker::Model;
 use unicode_width::UnicodeWidthChar;
 
@@ -100,7 +101,7 @@ fn is_double(c: char) -> bool
 }
 
 /// The places of a text.
-fn places_of(alloc: Global, text: &str) -> Result<Vec<Place>, AllocError>
+fn places_of(alloc: Global, text: &str) -> Result<Vec<Place>>
     ensures { IfOk result (λ places. places.items ≡ places_of (chars text.now)) }
 {
     if text.is_ascii() {
@@ -111,7 +112,7 @@ fn places_of(alloc: Global, text: &str) -> Result<Vec<Place>, AllocError>
 }
 
 /// The places of ASCII, whose bytes are characters that take one place each.
-fn ascii_places(alloc: Global, bytes: &[u8]) -> Result<Vec<Place>, AllocError>
+fn ascii_places(alloc: Global, bytes: &[u8]) -> Result<Vec<Place>>
     ensures { IfOk result (λ places. places.items ≡ map Character bytes.now) }
 {
     let mut places = Vec::with_capacity(alloc, bytes.len())?;
@@ -122,7 +123,7 @@ fn ascii_places(alloc: Global, bytes: &[u8]) -> Result<Vec<Place>, AllocError>
 }
 
 /// The places of characters.
-fn places_from(alloc: Global, characters: &[char]) -> Result<Vec<Place>, AllocError>
+fn places_from(alloc: Global, characters: &[char]) -> Result<Vec<Place>>
     ensures { IfOk result (λ places. places.items ≡ places_of characters.now) }
 {
     let mut places = Vec::with_capacity(alloc, characters.len())?;
@@ -137,12 +138,7 @@ fn places_from(alloc: Global, characters: &[char]) -> Result<Vec<Place>, AllocEr
 }
 
 /// The line at place `k` of a view, by its text.
-pub(crate) fn line_of(
-    alloc: Global,
-    view: &View<'_>,
-    k: usize,
-    text: &str,
-) -> Result<TableLine, AllocError>
+pub(crate) fn line_of(alloc: Global, view: &View<'_>, k: usize, text: &str) -> Result<TableLine>
     requires inside { k < length (block_of view.now) }
     requires text { chars text.now ≡ front_text (drop k (block_of view.now)) }
     ensures line { IfOk result (λ line. rows_of (drop k (block_of view.now)) ≡ line ∷ rows_of (drop (k + 1) (block_of view.now))) }

@@ -4,12 +4,13 @@ ghost use Rattle.rst_markup_tables.specs.Places.{AreNumbered};
 ghost use Rattle.rst_markup_tables.specs.Results.{cells_of};
 ghost use Rattle.rst_markup_tables.specs.SimpleTable as spec;
 
+use super::Result;
 use super::cells::{all_places, cell_lines, reaching};
 use super::places::TableLine;
 use super::results::{Cell, Rows, Widths};
 use super::simple_rows::{RowLines, SimpleLines};
 use super::spans::{RuleSpan, span_of};
-use std::alloc::{AllocError, Global};
+use std::alloc::Global;
 
 /// How wide a column is.
 fn width_of(columns: &[RuleSpan], longest: usize, k: usize) -> usize
@@ -38,7 +39,7 @@ fn right_of(spans: &[RuleSpan], k: usize) -> Option<usize>
 }
 
 /// The cells of a row.
-fn entries(alloc: Global, lines: &[TableLine], spans: &[RuleSpan]) -> Result<Vec<Cell>, AllocError>
+fn entries(alloc: Global, lines: &[TableLine], spans: &[RuleSpan]) -> Result<Vec<Cell>>
     requires numbered { AreNumbered lines.now }
     requires order { spec.AreInOrder 0 spans.now }
     ensures { IfOk result (λ cells. cells.items ≡ spec.entries lines.now spans.now) }
@@ -84,7 +85,7 @@ impl SimpleLines<'_> {
     }
 
     /// The widths of the columns.
-    pub(crate) fn widths(&self, rows: &[RowLines]) -> Result<Widths, AllocError>
+    pub(crate) fn widths(&self, rows: &[RowLines]) -> Result<Widths>
         requires { rows.now ≡ spec.simple_rows self.now.lines.now }
         ensures { IfOk result (λ widths. widths ≡ spec.simple_widths self.now.lines.now) }
     {
@@ -97,7 +98,7 @@ impl SimpleLines<'_> {
     }
 
     /// The cells of all rows.
-    pub(crate) fn all_entries(&self, rows: &[RowLines]) -> Result<Rows, AllocError>
+    pub(crate) fn all_entries(&self, rows: &[RowLines]) -> Result<Rows>
         ensures { IfOk result (λ all. all ≡ map (spec.row_entries self.now.lines.now) rows.now) }
     {
         let mut all = Vec::with_capacity(self.alloc, rows.len())?;

@@ -6,11 +6,12 @@ ghost use Rattle.rst_text.specs.Shown.{block_of};
 ghost use Rattle.rst_markup_tables.specs.Places.{AreNumbered, rows_of};
 ghost use Rattle.rst_markup_tables.specs.SimpleTable as spec;
 
+use super::Result;
 use super::places::{Place, TableLine, line_of, mark_at};
 use super::results::TableDetail;
 use rst_markup_blocks::is_as_long;
 use rst_text::{Looks, View};
-use std::alloc::{AllocError, Global};
+use std::alloc::Global;
 
 #[tactic(auto, unfolding(crate::specs::SimpleTable::is_stroke))]
 fn is_stroke(mark: char, place: Place) -> bool
@@ -72,7 +73,7 @@ pub(crate) fn read_lines(
     from: usize,
     to: usize,
     looks: &mut Looks,
-) -> Result<Vec<TableLine>, AllocError>
+) -> Result<Vec<TableLine>>
     requires in_order { from ≤ to }
     requires in_range { to ≤ length (block_of view.now) }
     ensures lines { IfOk result (λ lines. lines.items ≡ take (to - from) (drop from (rows_of (block_of view.now)))) }

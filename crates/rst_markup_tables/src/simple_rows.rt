@@ -5,10 +5,11 @@ ghost use Rattle.rst_markup_tables.specs.Places.{AreNumbered, row_at};
 ghost use Rattle.rst_text.specs.Places.{first_from};
 ghost use Rattle.rst_markup_tables.specs.SimpleTable as spec;
 
+use super::Result;
 use super::places::{Place, TableLine, row_at};
 use super::simple_lines::is_rule;
 use super::spans::{RuleSpan, span_of, spans_of, spread};
-use std::alloc::{AllocError, Global};
+use std::alloc::Global;
 
 /// The lines of a row: from place `from` of the table on, before place `to`. Its columns are those of the rule at place
 /// `rule`, the top border being at 0.
@@ -30,7 +31,7 @@ pub(crate) struct SimpleLines<'a> {
 }
 
 /// The rules below the top border.
-pub(crate) fn rules_of(alloc: Global, lines: &[TableLine]) -> Result<Vec<usize>, AllocError>
+pub(crate) fn rules_of(alloc: Global, lines: &[TableLine]) -> Result<Vec<usize>>
     ensures value { IfOk result (λ rules. rules.items ≡ spec.rules_of lines.now) }
     ensures within { IfOk result (λ rules. (n : ℕ) → n < length rules.items → get_or rules.items n 0 < length lines.now) }
 {
@@ -93,7 +94,7 @@ fn are_clear(row: &[Place], spans: &[RuleSpan]) -> bool
 
 impl SimpleLines<'_> {
     /// The spans of a rule, if they cover all columns.
-    fn rule_spans(&self, rule: usize) -> Result<Option<Vec<RuleSpan>>, AllocError>
+    fn rule_spans(&self, rule: usize) -> Result<Option<Vec<RuleSpan>>>
         ensures { IfOk result (λ found. option_map vec_items found ≡ spec.rule_spans self.now.lines.now rule) }
     {
         // Most rows end at no rule; the runs of the top border are the columns.
@@ -106,7 +107,7 @@ impl SimpleLines<'_> {
     }
 
     /// The first of the rules whose spans don't cover the columns.
-    pub(crate) fn first_unaligned(&self, rules: &[usize]) -> Result<Option<usize>, AllocError>
+    pub(crate) fn first_unaligned(&self, rules: &[usize]) -> Result<Option<usize>>
         requires within { (n : ℕ) → n < length rules.now → get_or rules.now n 0 < length self.now.lines.now }
         ensures value { IfOk result (λ found. found ≡ find (spec.is_unaligned self.now.lines.now) rules.now) }
         ensures within { IfOk result (λ found. IfSome found (λ k. k < length self.now.lines.now)) }
@@ -120,7 +121,7 @@ impl SimpleLines<'_> {
     }
 
     /// The spans of a row.
-    pub(crate) fn row_spans(&self, row: RowLines) -> Result<Vec<RuleSpan>, AllocError>
+    pub(crate) fn row_spans(&self, row: RowLines) -> Result<Vec<RuleSpan>>
         ensures { IfOk result (λ spans. spans.items ≡ spec.row_spans self.now.lines.now row) }
     {
         match self.rule_spans(row.rule)? {
@@ -146,12 +147,7 @@ impl SimpleLines<'_> {
     }
 
     /// The rows with those of the lines from place `low` on before a rule.
-    fn with_section(
-        &self,
-        rows: Vec<RowLines>,
-        low: usize,
-        rule: usize,
-    ) -> Result<Vec<RowLines>, AllocError>
+    fn with_section(&self, rows: Vec<RowLines>, low: usize, rule: usize) -> Result<Vec<RowLines>>
         requires { rule < length self.now.lines.now }
         ensures { IfOk result (λ all. all.items ≡ rows.items ++ spec.section self.now.lines.now low rule) }
     {
@@ -176,7 +172,7 @@ impl SimpleLines<'_> {
     }
 
     /// The rows of the table.
-    pub(crate) fn rows(&self, rules: &[usize]) -> Result<Vec<RowLines>, AllocError>
+    pub(crate) fn rows(&self, rules: &[usize]) -> Result<Vec<RowLines>>
         requires within { (n : ℕ) → n < length rules.now → get_or rules.now n 0 < length self.now.lines.now }
         ensures { IfOk result (λ rows. rows.items ≡ spec.sections self.now.lines.now rules.now) }
     {
@@ -199,7 +195,7 @@ impl SimpleLines<'_> {
     }
 
     /// The first line of a row with text between its columns, by the columns of its rule.
-    fn row_in_margin(&self, row: RowLines) -> Result<Option<usize>, AllocError>
+    fn row_in_margin(&self, row: RowLines) -> Result<Option<usize>>
         ensures value { IfOk result (λ found. found ≡ spec.text_in_margin self.now.lines.now (spec.row_spans self.now.lines.now row) row.from row.to) }
         ensures fits { IfOk result (λ found. IfSome found (λ k. k + 1 < 2 ^ 64)) }
     {
@@ -212,7 +208,7 @@ impl SimpleLines<'_> {
     }
 
     /// The first line of all rows with text between its columns.
-    pub(crate) fn first_in_margin(&self, rows: &[RowLines]) -> Result<Option<usize>, AllocError>
+    pub(crate) fn first_in_margin(&self, rows: &[RowLines]) -> Result<Option<usize>>
         ensures value { IfOk result (λ found. found ≡ spec.first_in_margin self.now.lines.now rows.now) }
         ensures fits { IfOk result (λ found. IfSome found (λ k. k + 1 < 2 ^ 64)) }
     {

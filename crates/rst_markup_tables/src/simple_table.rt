@@ -7,6 +7,7 @@ ghost use Rattle.rst_markup_tables.specs.Places.{AreNumbered};
 ghost use Rattle.rst_markup_tables.specs.SimpleTable as spec;
 ghost use Rattle.rst_markup_blocks.specs.TableRows.{simple_size, simple_scan};
 
+use super::Result;
 use super::places::{TableLine, row_at};
 use super::results::{TableDetail, TableResult};
 use super::simple_cells::head_size;
@@ -16,7 +17,7 @@ use super::spans::spans_of;
 use super::table::malformed;
 use rst_markup_blocks::simple_borders;
 use rst_text::{Looks, View};
-use std::alloc::{AllocError, Global};
+use std::alloc::Global;
 
 /// What the lines of a table are. The first has this number and stands at place `first`; the line at place `head` of the
 /// table closes its head.
@@ -26,7 +27,7 @@ fn simple_of(
     first: usize,
     head: Option<usize>,
     lines: &[TableLine],
-) -> Result<TableResult, AllocError>
+) -> Result<TableResult>
     requires fits { first + length lines.now < 2 ^ 64 }
     requires numbered { AreNumbered lines.now }
     ensures { IfOk result (λ table. table ≡ spec.simple_by line first head lines.now (spec.lines_fault lines.now)) }
@@ -62,12 +63,7 @@ fn simple_of(
 /// each line of the table below the first.
 ///
 /// The only error is want of memory, which leaves all but `looks` as it was.
-pub fn simple(
-    alloc: Global,
-    view: &View<'_>,
-    i: usize,
-    looks: &mut Looks,
-) -> Result<TableResult, AllocError>
+pub fn simple(alloc: Global, view: &View<'_>, i: usize, looks: &mut Looks) -> Result<TableResult>
     requires there { i < length (block_of view.now) }
     ensures table { IfOk result (λ table. table ≡ spec.simple_table (block_of view.now) i) }
     ensures end { IfOk result (λ table. end_of table ≡ i + simple_size (drop i (block_of view.now))) }

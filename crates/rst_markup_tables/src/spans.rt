@@ -2,8 +2,9 @@
 ghost use Rattle.std.specs.Prelude.{◌≡◌, ◌+◌, ◌^◌, ◌<◌, ◌==◌, drop, length, position, IfOk, IfSome, option_map, vec_items};
 ghost use Rattle.rst_markup_tables.specs.SimpleTable as spec;
 
+use super::Result;
 use super::places::{Place, mark_at};
-use std::alloc::{AllocError, Global};
+use std::alloc::Global;
 
 /// A run of marks in a rule: its places from `from` on, before `to`, and how many of the table's columns it joins.
 #[derive(Clone, Copy)]
@@ -41,7 +42,7 @@ fn span_end(row: &[Place], from: usize) -> usize
 }
 
 /// The runs of marks in a row, each as one column.
-pub(crate) fn spans_of(alloc: Global, row: &[Place]) -> Result<Vec<RuleSpan>, AllocError>
+pub(crate) fn spans_of(alloc: Global, row: &[Place]) -> Result<Vec<RuleSpan>>
     ensures { IfOk result (λ spans. spans.items ≡ spec.spans_of row.now) }
 {
     let mut spans = Vec::new(alloc);
@@ -96,7 +97,7 @@ pub(crate) fn spread(
     alloc: Global,
     columns: &[RuleSpan],
     spans: &[RuleSpan],
-) -> Result<Option<Vec<RuleSpan>>, AllocError>
+) -> Result<Option<Vec<RuleSpan>>>
     ensures { IfOk result (λ found. option_map vec_items found ≡ spec.spread columns.now spans.now) }
 {
     let mut wide = Vec::with_capacity(alloc, spans.len())?;

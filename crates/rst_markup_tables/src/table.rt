@@ -7,12 +7,13 @@ ghost use Rattle.rst_markup_tables.specs.Places.{AreNumbered};
 ghost use Rattle.rst_markup_tables.specs.GridTable as spec;
 ghost use Rattle.rst_markup_blocks.specs.TableRows.{grid_size, grid_scan};
 
+use super::Result;
 use super::bounds::Tiling;
 use super::drawn::tiling;
 use super::grid_lines::{GridLines, grid_fault, grid_lines, head_from, put_dashes};
 use super::results::{TableDetail, TableFault, TableResult};
 use rst_text::{Looks, View};
-use std::alloc::{AllocError, Global};
+use std::alloc::Global;
 
 /// So many lines from place `first` on that are no table; `line` is the number of the first.
 pub(crate) fn malformed(line: usize, first: usize, size: usize, detail: TableDetail) -> TableResult
@@ -32,12 +33,7 @@ pub(crate) fn malformed(line: usize, first: usize, size: usize, detail: TableDet
 }
 
 /// What the lines of a table are. The first has this number and stands at place `first`.
-fn grid_of(
-    alloc: Global,
-    line: usize,
-    first: usize,
-    found: GridLines,
-) -> Result<TableResult, AllocError>
+fn grid_of(alloc: Global, line: usize, first: usize, found: GridLines) -> Result<TableResult>
     requires fits { first + length found.lines.items < 2 ^ 64 }
     requires numbered { AreNumbered found.lines.items }
     ensures { IfOk result (spec.IsOfRows line first found.lines.items (spec.grid_fault found.bottom found.lines.items)) }
@@ -66,12 +62,7 @@ fn grid_of(
 /// tables says. It looks once at each line of the table, and at those after it through the one that stops the scan.
 ///
 /// The only error is want of memory, which leaves all but `looks` as it was.
-pub fn grid(
-    alloc: Global,
-    view: &View<'_>,
-    i: usize,
-    looks: &mut Looks,
-) -> Result<TableResult, AllocError>
+pub fn grid(alloc: Global, view: &View<'_>, i: usize, looks: &mut Looks) -> Result<TableResult>
     requires there { i < length (block_of view.now) }
     ensures table { IfOk result (spec.IsGridTable (block_of view.now) i) }
     ensures end { IfOk result (λ table. end_of table ≡ i + grid_size (drop i (block_of view.now))) }

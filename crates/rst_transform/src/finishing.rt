@@ -29,7 +29,7 @@ use rst_transform_structure::title::title;
 use rst_transform_structure::transitions::transitions;
 use rst_transform_substitutions::expand::expand;
 use rst_transform_work::{Context, Document, Report};
-use rst_tree::{Node, Note, TreeFault};
+use rst_tree::{Node, Note, Result};
 use rst_tree_index::Marked;
 use std::alloc::Global;
 
@@ -53,7 +53,7 @@ pub fn finish(
     document: Marked,
     messages: u64,
     settings: &Settings,
-) -> Result<Finished, TreeFault>
+) -> Result<Finished>
     requires document { IsDocument document }
     ensures finishes { Finishes messages (profile_of settings.now) settings.now document result }
     ensures highest { IfOk result (λ done. done.highest ≡ highest_level done.notes.items) }
@@ -74,12 +74,7 @@ pub fn finish(
 }
 
 /// The messages in a registered document, in a list with room for so many.
-fn listed(
-    alloc: Global,
-    document: &Document,
-    room: u64,
-    settings: &Settings,
-) -> Result<Messages, TreeFault>
+fn listed(alloc: Global, document: &Document, room: u64, settings: &Settings) -> Result<Messages>
     ensures halt { Gives (λ list. list.halt ≡ settings.now.halt) result }
     ensures report { Gives (λ list. list.report ≡ settings.now.report) result }
     ensures lists { Gives (Lists (messages_among document.now.children)) result }
@@ -96,7 +91,7 @@ fn filtered(
     reports: Vec<Report>,
     list: Messages,
     report: Threshold,
-) -> Result<(Document, Messages), TreeFault>
+) -> Result<(Document, Messages)>
     ensures halt { Gives (λ done. done.1.halt ≡ list.halt) result }
     ensures lists { (all : List Numbered) → Lists all list → Gives (λ done. Lists (all ++ map report_said reports.items) done.1) result }
     ensures document { (all : List Numbered) → Lists all list → list.report ≡ report → Gives (λ done. done.0 ≡ with_filtered report (is_number_shown report (all ++ map report_said reports.items)) document) result }
@@ -125,11 +120,7 @@ fn started(alloc: Global, registered: Registered, messages: u64) -> (Document, C
 }
 
 /// A document after all transforms, in order.
-fn transformed(
-    document: Document,
-    context: &mut Context,
-    settings: &Settings,
-) -> Result<Document, TreeFault>
+fn transformed(document: Document, context: &mut Context, settings: &Settings) -> Result<Document>
     ensures { Gives (Makes (spec.transformed (profile_of settings.now) settings.now document) context.old context.new) result }
 {
     let retargeted = with_early(document, context)?;
@@ -141,7 +132,7 @@ fn transformed(
 }
 
 /// A document whose substitution references are replaced, and whose internal targets handed on their ids and names. Most have neither.
-fn with_early(document: Document, context: &mut Context) -> Result<Document, TreeFault>
+fn with_early(document: Document, context: &mut Context) -> Result<Document>
     ensures { Gives (Makes (λ known. let expanded = with_expansions document known in with_targets expanded.0 expanded.1) context.old context.new) result }
 {
     if !has_early(&document.children) {
@@ -153,11 +144,7 @@ fn with_early(document: Document, context: &mut Context) -> Result<Document, Tre
 }
 
 /// A document with its title, if that is asked for.
-fn with_title(
-    document: Document,
-    context: &mut Context,
-    is_asked: bool,
-) -> Result<Document, TreeFault>
+fn with_title(document: Document, context: &mut Context, is_asked: bool) -> Result<Document>
     ensures { Gives (Makes (asked is_asked with_title document) context.old context.new) result }
 {
     if !is_asked {
@@ -167,11 +154,7 @@ fn with_title(
 }
 
 /// A document with its bibliography, if that is asked for.
-fn with_info(
-    document: Document,
-    context: &mut Context,
-    is_asked: bool,
-) -> Result<Document, TreeFault>
+fn with_info(document: Document, context: &mut Context, is_asked: bool) -> Result<Document>
     ensures { Gives (Makes (asked is_asked with_docinfo document) context.old context.new) result }
 {
     if !is_asked {

@@ -12,7 +12,7 @@ use rst_transform_hyperlinks::indirect::indirect_outcomes;
 use rst_transform_links::{Changes, Linked, Outcome, linked_in, settle, with_changes};
 use rst_transform_references::resolve::reference_outcomes;
 use rst_transform_work::{Context, Document};
-use rst_tree::TreeFault;
+use rst_tree::Result;
 
 /// A transform of links.
 #[derive(Clone, Copy)]
@@ -36,7 +36,7 @@ const ALL: [LinkStep; 4] = [
 ];
 
 /// A document after all transforms of links.
-pub fn resolve_links(document: Document, context: &mut Context) -> Result<Document, TreeFault>
+pub fn resolve_links(document: Document, context: &mut Context) -> Result<Document>
     ensures { Gives (Makes (with_links document) context.old context.new) result }
 {
     resolve_by(document, context, &ALL)
@@ -47,7 +47,7 @@ fn resolve_by(
     document: Document,
     context: &mut Context,
     transforms: &[LinkStep],
-) -> Result<Document, TreeFault>
+) -> Result<Document>
     ensures { Gives (Makes (linked_by transforms.now document) context.old context.new) result }
 {
     if transforms.is_empty() {
@@ -66,7 +66,7 @@ fn first_changes(
     context: &mut Context,
     linked: &[Linked<'_>],
     transforms: &[LinkStep],
-) -> Result<(Changes, usize), TreeFault>
+) -> Result<(Changes, usize)>
     ensures changes { Gives (λ done. Makes (first_changes transforms.now (map held linked.now)) context.old context.new (done.0, done.1)) result }
     ensures some { Gives (λ done. 0 < length transforms.now → 0 < done.1) result }
     ensures fits { Gives (λ done. done.1 ≤ length transforms.now) result }
@@ -83,11 +83,7 @@ fn first_changes(
 }
 
 /// What a transform makes of linked elements. Those that fail become problematics.
-fn changes_by(
-    context: &mut Context,
-    linked: &[Linked<'_>],
-    transform: LinkStep,
-) -> Result<Changes, TreeFault>
+fn changes_by(context: &mut Context, linked: &[Linked<'_>], transform: LinkStep) -> Result<Changes>
     ensures { Gives (Makes (link_changes (decision_of transform) (map held linked.now)) context.old context.new) result }
 {
     let outcomes = outcomes_by(context, linked, transform)?;
@@ -100,7 +96,7 @@ fn outcomes_by(
     context: &mut Context,
     linked: &[Linked<'_>],
     transform: LinkStep,
-) -> Result<Vec<Outcome>, TreeFault>
+) -> Result<Vec<Outcome>>
     ensures { Gives (λ outcomes. Makes (decision_of transform (map held linked.now)) context.old context.new outcomes.items) result }
 {
     match transform {

@@ -9,12 +9,12 @@ ghost use Rattle.rst_transform_docinfo.specs.Fields.{lone};
 
 use crate::field::{lone, lone_in, paragraph_in};
 use rst_transform_work::copies;
-use rst_tree::{Attrs, Children, Node, Tag, TreeFault};
+use rst_tree::{Attrs, Children, Node, Result, Tag};
 use std::alloc::Global;
 
 /// The authors that a body names, if it is in its form: one paragraph, or one bullet list (Markup Specification, 'Bibliographic
 /// Fields').
-pub fn authors_in(alloc: Global, body: &Node, line: usize) -> Result<Option<Vec<Node>>, TreeFault>
+pub fn authors_in(alloc: Global, body: &Node, line: usize) -> Result<Option<Vec<Node>>>
     ensures { let wanted = authors_in line body.now in Gives (λ found. MatchOption found (wanted ≡ None) (λ nodes. wanted ≡ Some nodes.items)) result }
 {
     match lone_in(body) {
@@ -43,7 +43,7 @@ pub fn authors_in(alloc: Global, body: &Node, line: usize) -> Result<Option<Vec<
 }
 
 /// The authors that the nodes of a paragraph name: those in a text, or all of it as one author.
-fn named_by(alloc: Global, paragraph: &Children, line: usize) -> Result<Vec<Node>, TreeFault>
+fn named_by(alloc: Global, paragraph: &Children, line: usize) -> Result<Vec<Node>>
     ensures { Gives (λ nodes. nodes.items ≡ named_by line paragraph.now (lone paragraph.now)) result }
 {
     if let Some(Node::Text(text)) = lone(paragraph) {
@@ -55,11 +55,7 @@ fn named_by(alloc: Global, paragraph: &Children, line: usize) -> Result<Vec<Node
 }
 
 /// The paragraphs in the items of a list as one author each, if each item holds one paragraph alone.
-fn all_paragraphs(
-    alloc: Global,
-    items: &Children,
-    line: usize,
-) -> Result<Option<Vec<Node>>, TreeFault>
+fn all_paragraphs(alloc: Global, items: &Children, line: usize) -> Result<Option<Vec<Node>>>
     ensures { let wanted = all_paragraphs line (nodes_of items.now) in Gives (λ found. MatchOption found (wanted ≡ None) (λ nodes. wanted ≡ Some nodes.items)) result }
 {
     let mut nodes = Vec::new(alloc);
@@ -73,7 +69,7 @@ fn all_paragraphs(
 }
 
 /// The authors that a text names: they are parted by semicolons, or by commas where there is no semicolon.
-fn names_in(alloc: Global, text: &str, line: usize) -> Result<Vec<Node>, TreeFault>
+fn names_in(alloc: Global, text: &str, line: usize) -> Result<Vec<Node>>
     ensures { Gives (λ nodes. nodes.items ≡ names_in line text.now) result }
 {
     if has_semicolon(text) {
@@ -90,7 +86,7 @@ fn has_semicolon(text: &str) -> bool
 }
 
 /// The texts between these characters as authors, trimmed, without the empty ones.
-fn parted(alloc: Global, text: &str, separator: char, line: usize) -> Result<Vec<Node>, TreeFault>
+fn parted(alloc: Global, text: &str, separator: char, line: usize) -> Result<Vec<Node>>
     requires { separator < 128 }
     ensures { Gives (λ nodes. nodes.items ≡ parted line separator text.now) result }
 {
@@ -102,7 +98,7 @@ fn parted(alloc: Global, text: &str, separator: char, line: usize) -> Result<Vec
 }
 
 /// Puts the author of a name after others, unless the name is empty.
-fn add_named(alloc: Global, nodes: &mut Vec<Node>, name: &str, line: usize) -> Result<(), TreeFault>
+fn add_named(alloc: Global, nodes: &mut Vec<Node>, name: &str, line: usize) -> Result<()>
     ensures { Gives (λ _. nodes.new.items ≡ nodes.old.items ++ author_named line name.now) result }
 {
     if name.is_empty() {

@@ -13,7 +13,7 @@ ghost use Rattle.rst_transform_work.specs.Reports.{report_node, IsReported, Keep
 use crate::authors::authors_in;
 use crate::field::{Field, paragraph_in};
 use rst_transform_work::{Context, copies, folded, identified};
-use rst_tree::{Attrs, Children, Key, Level, Node, Tag, Text, Texts, TreeFault, Value};
+use rst_tree::{Attrs, Children, Key, Level, Node, Result, Tag, Text, Texts, Value};
 use std::alloc::Global;
 use std::mem;
 
@@ -62,7 +62,7 @@ fn row_of(name: &str) -> Row
 }
 
 /// What a field of a row with this name becomes, if it is in its form.
-fn made(alloc: Global, row: Row, name: &str, field: &Field) -> Result<Option<Node>, TreeFault>
+fn made(alloc: Global, row: Row, name: &str, field: &Field) -> Result<Option<Node>>
     ensures { Gives (λ node. node ≡ made row name.now field.now) result }
 {
     let mut attrs = field.attrs.copy(alloc)?;
@@ -103,7 +103,7 @@ fn element_of(tag: Tag, attrs: Attrs, line: usize, nodes: Option<Children>) -> O
 }
 
 /// The nodes of the one paragraph in a field's body.
-fn paragraph(alloc: Global, field: &Field) -> Result<Option<Children>, TreeFault>
+fn paragraph(alloc: Global, field: &Field) -> Result<Option<Children>>
     ensures { Gives (λ nodes. nodes ≡ paragraph_in field.now.body) result }
 {
     match paragraph_in(&field.body) {
@@ -113,7 +113,7 @@ fn paragraph(alloc: Global, field: &Field) -> Result<Option<Children>, TreeFault
 }
 
 /// A title, and after it the nodes of a field's body, if that isn't empty.
-fn topic(alloc: Global, title: &str, field: &Field) -> Result<Option<Children>, TreeFault>
+fn topic(alloc: Global, title: &str, field: &Field) -> Result<Option<Children>>
     ensures { Gives (λ nodes. nodes ≡ titled (title_node title.now field.now.line) (nodes_of (nodes_in field.now.body))) result }
 {
     let Node::Element { children, .. } = &field.body else {
@@ -146,7 +146,7 @@ impl TopicKind {
 }
 
 /// Gives attributes one class, unless that is empty.
-fn set_class(alloc: Global, attrs: &mut Attrs, class: &str) -> Result<(), TreeFault>
+fn set_class(alloc: Global, attrs: &mut Attrs, class: &str) -> Result<()>
     ensures { Gives (λ _. attrs.new ≡ with_class class.now attrs.old) result }
 {
     if class.is_empty() {
@@ -157,7 +157,7 @@ fn set_class(alloc: Global, attrs: &mut Attrs, class: &str) -> Result<(), TreeFa
 }
 
 /// A field of this name that stays one, with a class by the name.
-fn stays(alloc: Global, name: &str, field: Field) -> Result<Node, TreeFault>
+fn stays(alloc: Global, name: &str, field: Field) -> Result<Node>
     ensures { Gives (λ node. node ≡ stays name.now field) result }
 {
     let mut attrs = field.attrs;
@@ -175,7 +175,7 @@ fn stays(alloc: Global, name: &str, field: Field) -> Result<Node, TreeFault>
 }
 
 /// A field of the table that isn't in its form: it stays, and its body ends with a WARNING.
-fn out_of_form(name: &str, mut field: Field, context: &mut Context) -> Result<Node, TreeFault>
+fn out_of_form(name: &str, mut field: Field, context: &mut Context) -> Result<Node>
     ensures node { let told = fault_report context.old.first_number context.old.reports.items name.now field.line in Gives (λ node. node ≡ fault_node name.now told field) result }
     ensures reports { Gives (λ _. IsReported (fault_report context.old.first_number context.old.reports.items name.now field.line) context.old context.new) result }
     ensures rest { Gives (λ _. KeepsRest context.old context.new) result }
@@ -187,7 +187,7 @@ fn out_of_form(name: &str, mut field: Field, context: &mut Context) -> Result<No
 }
 
 /// The WARNING on a field of this name that isn't in its form. It is in the list of messages, too.
-fn message(line: usize, name: &str, context: &mut Context) -> Result<Node, TreeFault>
+fn message(line: usize, name: &str, context: &mut Context) -> Result<Node>
     ensures node { Gives (λ node. node ≡ report_node (fault_report context.old.first_number context.old.reports.items name.now line)) result }
     ensures reports { Gives (λ _. IsReported (fault_report context.old.first_number context.old.reports.items name.now line) context.old context.new) result }
     ensures rest { Gives (λ _. KeepsRest context.old context.new) result }
@@ -202,7 +202,7 @@ fn message(line: usize, name: &str, context: &mut Context) -> Result<Node, TreeF
 }
 
 /// A body with one more node after those in it.
-fn with_child(mut body: Node, node: Node) -> Result<Node, TreeFault>
+fn with_child(mut body: Node, node: Node) -> Result<Node>
     ensures { Gives (λ all. all ≡ with_child node body) result }
 {
     if let Node::Element { children, .. } = &mut body {
@@ -239,7 +239,7 @@ impl Bibliography {
     }
 
     /// Takes in the next node of the field list. One that is no field stays as it is.
-    pub fn add_node(&mut self, node: Node, context: &mut Context) -> Result<(), TreeFault>
+    pub fn add_node(&mut self, node: Node, context: &mut Context) -> Result<()>
         ensures gathered { Gives (λ _. so_far self.new context.new.reports.items ≡ with_node context.old.first_number node (so_far self.old context.old.reports.items)) result }
         ensures rest { Gives (λ _. KeepsRest context.old context.new) result }
     {
@@ -253,7 +253,7 @@ impl Bibliography {
     }
 
     /// Takes in the next field.
-    fn add(&mut self, field: Field, context: &mut Context) -> Result<(), TreeFault>
+    fn add(&mut self, field: Field, context: &mut Context) -> Result<()>
         ensures gathered { Gives (λ _. so_far self.new context.new.reports.items ≡ with_field context.old.first_number field (so_far self.old context.old.reports.items)) result }
         ensures rest { Gives (λ _. KeepsRest context.old context.new) result }
     {
@@ -284,7 +284,7 @@ impl Bibliography {
     }
 
     /// Puts what a field of a row became to its place.
-    fn put(&mut self, row: Row, node: Node) -> Result<(), TreeFault>
+    fn put(&mut self, row: Row, node: Node) -> Result<()>
         ensures { Gives (λ _. (reports : List Report) → so_far self.new reports ≡ with_element row node (so_far self.old reports)) result }
     {
         match row {
@@ -296,13 +296,7 @@ impl Bibliography {
     }
 
     /// Puts a field of a row with this name that stays one after the elements of the `docinfo`.
-    fn put_field(
-        &mut self,
-        row: Row,
-        name: &str,
-        field: Field,
-        context: &mut Context,
-    ) -> Result<(), TreeFault>
+    fn put_field(&mut self, row: Row, name: &str, field: Field, context: &mut Context) -> Result<()>
         ensures gathered { Gives (λ _. so_far self.new context.new.reports.items ≡ by_form context.old.first_number row name.now field None (so_far self.old context.old.reports.items)) result }
         ensures rest { Gives (λ _. KeepsRest context.old context.new) result }
     {
@@ -314,7 +308,7 @@ impl Bibliography {
     }
 
     /// The `docinfo`, if it isn't empty, the dedication and the abstract; `line` is that of the field list.
-    pub fn into_nodes(self, alloc: Global, line: usize) -> Result<Vec<Node>, TreeFault>
+    pub fn into_nodes(self, alloc: Global, line: usize) -> Result<Vec<Node>>
         ensures { Gives (λ nodes. nodes.items ≡ docinfo_nodes line (so_far self [])) result }
     {
         let nodes = info_nodes(alloc, self.info, line)?;
@@ -324,7 +318,7 @@ impl Bibliography {
 }
 
 /// The `docinfo` with these elements, if there are some.
-fn info_nodes(alloc: Global, info: Vec<Node>, line: usize) -> Result<Vec<Node>, TreeFault>
+fn info_nodes(alloc: Global, info: Vec<Node>, line: usize) -> Result<Vec<Node>>
     ensures { Gives (λ nodes. nodes.items ≡ info_nodes line info.items) result }
 {
     let mut nodes = Vec::new(alloc);
@@ -341,7 +335,7 @@ fn info_nodes(alloc: Global, info: Vec<Node>, line: usize) -> Result<Vec<Node>, 
 }
 
 /// Nodes, and a topic after them, if there is one.
-fn with_topic(mut nodes: Vec<Node>, topic: Option<Node>) -> Result<Vec<Node>, TreeFault>
+fn with_topic(mut nodes: Vec<Node>, topic: Option<Node>) -> Result<Vec<Node>>
     ensures { Gives (λ all. all.items ≡ nodes.items ++ option_to_list topic) result }
 {
     if let Some(topic) = topic {

@@ -10,7 +10,7 @@ ghost use Rattle.rst_transform_work.specs.Reading.{is_title};
 
 use crate::bibliography::Bibliography;
 use rst_transform_work::{Context, Document, add_names, is_title, may_precede};
-use rst_tree::{Attrs, Children, Node, Tag, TreeFault};
+use rst_tree::{Attrs, Children, Node, Result, Tag};
 use std::alloc::Global;
 
 /// Whether a node may come before the field list.
@@ -58,7 +58,7 @@ fn is_list_at(nodes: &[Node], place: usize) -> bool
 }
 
 /// The nodes, the first of them with more ids and names.
-fn with_names(alloc: Global, mut nodes: Vec<Node>, attrs: &Attrs) -> Result<Vec<Node>, TreeFault>
+fn with_names(alloc: Global, mut nodes: Vec<Node>, attrs: &Attrs) -> Result<Vec<Node>>
     ensures { Gives (λ all. all.items ≡ first_named attrs.now nodes.items) result }
 {
     if let Some(first) = nodes.get_mut(0) {
@@ -68,7 +68,7 @@ fn with_names(alloc: Global, mut nodes: Vec<Node>, attrs: &Attrs) -> Result<Vec<
 }
 
 /// What the fields of a field list become, the first of it with the list's ids and names, too.
-fn replaced(list: Node, context: &mut Context) -> Result<Vec<Node>, TreeFault>
+fn replaced(list: Node, context: &mut Context) -> Result<Vec<Node>>
     ensures nodes { Gives (λ nodes. nodes.items ≡ (replaced context.old.first_number context.old.reports.items list).0) result }
     ensures reports { Gives (λ _. context.new.reports.items ≡ (replaced context.old.first_number context.old.reports.items list).1) result }
     ensures rest { Gives (λ _. KeepsRest context.old context.new) result }
@@ -91,11 +91,7 @@ fn replaced(list: Node, context: &mut Context) -> Result<Vec<Node>, TreeFault>
 }
 
 /// The nodes with more of them from a place on.
-fn with_nodes_at(
-    mut nodes: Vec<Node>,
-    place: usize,
-    mut more: Vec<Node>,
-) -> Result<Vec<Node>, TreeFault>
+fn with_nodes_at(mut nodes: Vec<Node>, place: usize, mut more: Vec<Node>) -> Result<Vec<Node>>
     requires { place ≤ vec_len nodes }
     ensures { Gives (λ all. all.items ≡ take place nodes.items ++ (more.items ++ drop place nodes.items)) result }
 {
@@ -106,7 +102,7 @@ fn with_nodes_at(
 }
 
 /// The document's nodes with the bibliography in the place of a leading field list.
-fn with_bibliography(children: Children, context: &mut Context) -> Result<Children, TreeFault>
+fn with_bibliography(children: Children, context: &mut Context) -> Result<Children>
     ensures nodes { let list = leading_list (nodes_of children) in Gives (λ all. all ≡ forest_of (nodes_with context.old.first_number context.old.reports.items list (nodes_of children)).0) result }
     ensures reports { let list = leading_list (nodes_of children) in Gives (λ _. context.new.reports.items ≡ (nodes_with context.old.first_number context.old.reports.items list (nodes_of children)).1) result }
     ensures rest { Gives (λ _. KeepsRest context.old context.new) result }
@@ -151,7 +147,7 @@ fn with_bibliography(children: Children, context: &mut Context) -> Result<Childr
 /// ```
 ///
 /// The only refusal is [`TreeFault::NoMemory`].
-pub fn docinfo(mut document: Document, context: &mut Context) -> Result<Document, TreeFault>
+pub fn docinfo(mut document: Document, context: &mut Context) -> Result<Document>
     ensures { Gives (Makes (with_docinfo document) context.old context.new) result }
 {
     document.children = with_bibliography(document.children, context)?;

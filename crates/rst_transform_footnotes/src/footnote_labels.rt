@@ -7,8 +7,7 @@ ghost use Rattle.rst_transform_links.specs.FootnoteOrders.{mark_of};
 
 use rst_transform_links::{Linked, mark_of};
 use rst_transform_names::number_in;
-use rst_transform_work::Result;
-use rst_tree::{Node, Text};
+use rst_tree::{Node, Result, Text};
 use std::alloc::Global;
 
 /// The labels of symbol footnotes; the further ones are these doubled, tripled and so on (Markup Specification, 'Auto-Symbol

@@ -14,8 +14,8 @@ use rst_transform_links::{
     Linked, Order, Outcome, footnote_order, found_by_order, in_order, reference_order, text_attr,
 };
 use rst_transform_names::{Holder, NameEntry, Names, Strength};
-use rst_transform_work::{Context, Result, at_place, first_said, line_of, list_said, number_said};
-use rst_tree::{Entry, Key, Level, Node, Tag, Text, Value};
+use rst_transform_work::{Context, at_place, first_said, line_of, list_said, number_said};
+use rst_tree::{Entry, Key, Level, Node, Result, Tag, Text, Value};
 use std::alloc::Global;
 
 /// Numbers the footnotes, and lets the references find those that they find by the order (Markup Specification,

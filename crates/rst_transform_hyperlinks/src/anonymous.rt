@@ -8,8 +8,8 @@ ghost use Rattle.rst_transform_work.specs.Known.{Makes};
 ghost use Rattle.rst_transform_work.specs.Reports.{report_in, IsReported, KeepsRest};
 
 use rst_transform_links::{Linked, Outcome, lead_of, text_attr};
-use rst_transform_work::{Context, Result, first_said, has, line_of};
-use rst_tree::{Entry, Key, Level, Node, Tag, Text};
+use rst_transform_work::{Context, first_said, has, line_of};
+use rst_tree::{Entry, Key, Level, Node, Result, Tag, Text};
 use std::alloc::Global;
 
 /// Lets the n-th anonymous reference refer to the n-th anonymous target (Markup Specification, 'Anonymous Hyperlinks').

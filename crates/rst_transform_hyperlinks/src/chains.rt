@@ -5,8 +5,7 @@ ghost use Rattle.rst_transform_hyperlinks.specs.declared.chains.Answer.TheVarian
 ghost use Rattle.rst_transform_hyperlinks.specs.Chains.{answers_of, at_once, filled, next_on, KnownBelow};
 ghost use Rattle.rst_transform_work.specs.Lists.{at_place};
 
-use rst_transform_work::Result;
-use rst_tree::{Entry, Text};
+use rst_tree::{Entry, Result, Text};
 use std::alloc::Global;
 
 /// What an indirect target comes to, through further ones.

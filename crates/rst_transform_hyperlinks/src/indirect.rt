@@ -15,8 +15,8 @@ use crate::anonymous::{is_anonymous_reference, is_anonymous_target};
 use crate::chains::{Answer, Step, answer_at, answers};
 use rst_transform_links::{Holders, Linked, Outcome, element_at, is_lost, is_target, lead_by_name};
 use rst_transform_names::{NameEntry, Names};
-use rst_transform_work::{Context, Result, at_place, has, line_of, text_said};
-use rst_tree::{Key, Level, Node, Tag, Text};
+use rst_transform_work::{Context, at_place, has, line_of, text_said};
+use rst_tree::{Key, Level, Node, Result, Tag, Text};
 use std::alloc::Global;
 
 /// Lets each target that refers to a name lead where that name leads, through further such targets (Markup Specification,

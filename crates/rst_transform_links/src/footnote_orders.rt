@@ -7,8 +7,7 @@ ghost use Rattle.rst_transform_links.specs.Linkings.{held};
 ghost use Rattle.rst_transform_links.specs.FootnoteOrders.{first_left, footnote_order, found_by_order, in_order, is_order, mark_of, order_name, order_said, places_left, reference_order, take_in_order};
 
 use crate::links::Linked;
-use rst_transform_work::Result;
-use rst_tree::{Key, Node, Said, Tag};
+use rst_tree::{Key, Node, Result, Said, Tag};
 use std::alloc::Global;
 
 /// The two orders by which a reference without a name finds its footnote (Markup Specification, 'Footnotes').

@@ -12,8 +12,8 @@ ghost use Rattle.rst_transform_work.specs.Reading.{number_said};
 
 use crate::links::Linked;
 use rst_transform_names::{Holder, NameEntry};
-use rst_transform_work::{Result, number_said, text_said};
-use rst_tree::{Entry, Key, Node, Tag, Text, Value};
+use rst_transform_work::{number_said, text_said};
+use rst_tree::{Entry, Key, Node, Result, Tag, Text, Value};
 use std::alloc::Global;
 
 /// The linked elements, and their places by their numbers.

@@ -6,8 +6,8 @@ ghost use Rattle.rst_transform_links.specs.Linkings.{held, inner_of, linked_amon
 ghost use Rattle.rst_transform_links.specs.Links.{changed_document, is_idle};
 ghost use Rattle.rst_transform_links.specs.Outcomes.{adds, fails, stays};
 
-use rst_transform_work::{Document, ProblematicAttrs, Result, take_source};
-use rst_tree::{Attrs, Children, Entry, Node, Rewriter, Tag, Text, rewrite_in};
+use rst_transform_work::{Document, ProblematicAttrs, take_source};
+use rst_tree::{Attrs, Children, Entry, Node, Result, Rewriter, Tag, Text, rewrite_in};
 use rst_tree_index::is_linked_tag;
 use std::alloc::Global;
 use std::collections::VecDeque;

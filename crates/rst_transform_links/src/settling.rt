@@ -9,7 +9,8 @@ ghost use Rattle.rst_transform_links.specs.Settling.{by_message, earlier, first_
 ghost use Rattle.rst_transform_work.specs.Known.{Makes};
 
 use crate::links::{Changes, Linked, Outcome};
-use rst_transform_work::{Context, Result, at_place};
+use rst_transform_work::{Context, at_place};
+use rst_tree::Result;
 use std::alloc::Global;
 
 /// Settles the outcomes of linked elements: what becomes of each that remains, in preorder.

@@ -10,7 +10,7 @@ ghost use Rattle.rst_transform_work.specs.States.{document_node};
 use crate::messages::{level_number, reaches};
 use rst_settings::Threshold;
 use rst_transform_work::Document;
-use rst_tree::{Children, Key, Node, Tag, TreeFault};
+use rst_tree::{Children, Key, Node, Result, Tag};
 use std::alloc::Global;
 use std::mem;
 
@@ -35,7 +35,7 @@ pub fn filter(
     mut document: Document,
     report: Threshold,
     shown: &[bool],
-) -> Result<Document, TreeFault>
+) -> Result<Document>
     ensures document { Gives (λ done. done ≡ with_filtered report (marked shown.now) document) result }
     ensures shown { Gives (λ done. is_shown_in report (document_node done) ≡ true) result }
 {
@@ -83,12 +83,7 @@ fn may_stay(node: &Node, report: Threshold) -> bool
 }
 
 /// Takes what isn't shown out of nodes.
-fn filter_in(
-    alloc: Global,
-    nodes: &mut Children,
-    report: Threshold,
-    shown: &[bool],
-) -> Result<(), TreeFault>
+fn filter_in(alloc: Global, nodes: &mut Children, report: Threshold, shown: &[bool]) -> Result<()>
     ensures { Gives (λ _. nodes.new ≡ filtered report (marked shown.now) nodes.old) result }
 {
     let mut leaves = false;

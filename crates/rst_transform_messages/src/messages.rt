@@ -9,7 +9,7 @@ ghost use Rattle.rst_transform_messages.specs.MessagesIn.{note_said};
 
 use rst_settings::Threshold;
 use rst_transform_work::Report;
-use rst_tree::{Attrs, Children, Key, Level, Node, Note, Tag, Text, TreeFault};
+use rst_tree::{Attrs, Children, Key, Level, Node, Note, Result, Tag, Text};
 use std::alloc::Global;
 
 /// Whether a level of that number is at or above a threshold; a number above 4 counts as 4.
@@ -55,7 +55,7 @@ impl Messages {
         room: u64,
         halt: Threshold,
         report: Threshold,
-    ) -> Result<Messages, TreeFault>
+    ) -> Result<Messages>
         ensures halt { Gives (λ messages. messages.halt ≡ halt) result }
         ensures report { Gives (λ messages. messages.report ≡ report) result }
         ensures none { Gives (λ messages. Lists [] messages) result }
@@ -70,7 +70,7 @@ impl Messages {
     }
 
     /// Adds a message with a number, if it has one: to the list only if no earlier one halts the run.
-    fn push(&mut self, note: Note, number: Option<u64>) -> Result<(), TreeFault>
+    fn push(&mut self, note: Note, number: Option<u64>) -> Result<()>
         ensures levels { KeepsLevels self.old self.new }
         ensures adds { Gives (λ _. Adds ((note, number) ∷ []) self.old self.new) result }
     {
@@ -86,7 +86,7 @@ impl Messages {
     }
 
     /// Adds the messages among nodes and in them, in preorder. A message holds no other.
-    pub fn add_all(&mut self, alloc: Global, nodes: &Children) -> Result<(), TreeFault>
+    pub fn add_all(&mut self, alloc: Global, nodes: &Children) -> Result<()>
         ensures levels { KeepsLevels self.old self.new }
         ensures adds { Gives (λ _. Adds (messages_among nodes.now) self.old self.new) result }
     {
@@ -115,7 +115,7 @@ impl Messages {
     }
 
     /// Adds the messages of the transforms, which are the last.
-    pub fn add_reports(&mut self, reports: Vec<Report>) -> Result<(), TreeFault>
+    pub fn add_reports(&mut self, reports: Vec<Report>) -> Result<()>
         ensures levels { KeepsLevels self.old self.new }
         ensures adds { Gives (λ _. Adds (map report_said reports.items) self.old self.new) result }
     {
@@ -160,7 +160,7 @@ fn is_message(tag: Tag) -> bool
 }
 
 /// Marks the number of a message that is shown, if it has one.
-fn mark_shown(marks: &mut Vec<bool>, is_shown: bool, number: Option<u64>) -> Result<(), TreeFault>
+fn mark_shown(marks: &mut Vec<bool>, is_shown: bool, number: Option<u64>) -> Result<()>
     ensures { Gives (λ _. (n : ℕ) → marked marks.new.items n ≡ (marked marks.old.items n || (is_shown && has_number n number))) result }
 {
     if !is_shown {
@@ -173,7 +173,7 @@ fn mark_shown(marks: &mut Vec<bool>, is_shown: bool, number: Option<u64>) -> Res
 }
 
 /// Marks a number among those up to it or more.
-fn mark(marks: &mut Vec<bool>, number: usize) -> Result<(), TreeFault>
+fn mark(marks: &mut Vec<bool>, number: usize) -> Result<()>
     ensures { Gives (λ _. (n : ℕ) → marked marks.new.items n ≡ (marked marks.old.items n || (n == number))) result }
 {
     for _ in marks.len()..number {
@@ -188,12 +188,7 @@ fn mark(marks: &mut Vec<bool>, number: usize) -> Result<(), TreeFault>
 }
 
 /// What a `system_message` with these attributes and nodes on a line tells.
-fn note_of(
-    alloc: Global,
-    attrs: &Attrs,
-    children: &Children,
-    line: usize,
-) -> Result<Note, TreeFault>
+fn note_of(alloc: Global, attrs: &Attrs, children: &Children, line: usize) -> Result<Note>
     ensures { Gives (λ note. note ≡ note_said attrs.now children.now line) result }
 {
     let text = match children.get(0) {
@@ -214,7 +209,7 @@ fn note_of(
 }
 
 /// The texts in an element, joined; mostly there is one.
-fn words_of(alloc: Global, element: &Node) -> Result<Text, TreeFault>
+fn words_of(alloc: Global, element: &Node) -> Result<Text>
     ensures { Gives (λ text. text ≡ text_in element.now) result }
 {
     if let Node::Element { children, .. } = element {

@@ -7,7 +7,7 @@ ghost use Rattle.rst_transform_names.specs.DuplicateMessages as spec;
 use super::names::Strength;
 use super::registrants::own_name;
 use super::rulings::DuplicateMessage;
-use rst_tree::{Key, Level, Node, Note, Text, Texts, TreeFault, Value};
+use rst_tree::{Key, Level, Node, Note, Result, Text, Texts, Value};
 use rst_tree_index::Element;
 use std::alloc::Global;
 use std::marker::Model;
@@ -40,7 +40,7 @@ impl Model for NameMessage {
 
 impl NameMessage {
     /// The message as a node.
-    pub fn node(&self, alloc: Global) -> Result<Node, TreeFault>
+    pub fn node(&self, alloc: Global) -> Result<Node>
         ensures { Gives (λ node. node ≡ self.now) result }
     {
         let note = Note {
@@ -64,7 +64,7 @@ pub fn duplicate_name(
     message: DuplicateMessage,
     new: Element<'_>,
     id: &Text,
-) -> Result<NameMessage, TreeFault>
+) -> Result<NameMessage>
     ensures { Gives (λ made. made ≡ spec.duplicate_name message (item_of new.entry) id.now) result }
 {
     Ok(NameMessage {
@@ -86,7 +86,7 @@ fn duplicate_words(strength: Strength) -> &'static str
 }
 
 /// The message on the name of a substitution definition.
-pub fn duplicate_definition(alloc: Global, new: Element<'_>) -> Result<NameMessage, TreeFault>
+pub fn duplicate_definition(alloc: Global, new: Element<'_>) -> Result<NameMessage>
     ensures { Gives (λ made. made ≡ spec.duplicate_definition (item_of new.entry)) result }
 {
     Ok(NameMessage {
@@ -98,7 +98,7 @@ pub fn duplicate_definition(alloc: Global, new: Element<'_>) -> Result<NameMessa
 }
 
 /// Some words and an element's name.
-fn name_words(alloc: Global, words: &str, new: Element<'_>) -> Result<Text, TreeFault>
+fn name_words(alloc: Global, words: &str, new: Element<'_>) -> Result<Text>
     ensures { Gives (λ text. text ≡ spec.name_words words.now (item_of new.entry)) result }
 {
     let mut text = Text::from_str(alloc, words)?;

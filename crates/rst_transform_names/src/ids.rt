@@ -8,7 +8,7 @@ ghost use Rattle.rst_transform_names.specs.Ids as spec;
 ghost use Rattle.rst_transform_names.specs.Written as written;
 
 use rst_text::id_of;
-use rst_tree::{Tag, Text, TreeFault};
+use rst_tree::{Result, Tag, Text, TreeFault};
 use std::alloc::Global;
 use std::collections::{BTreeMap, BTreeSet};
 
@@ -42,7 +42,7 @@ impl Ids {
     /// there is none: the kind's name with hyphens, a hyphen and the least such number.
     ///
     /// The only refusal is want of memory; then the same ids are taken as before.
-    pub fn give(&mut self, alloc: Global, tag: Tag, name: &str) -> Result<Text, TreeFault>
+    pub fn give(&mut self, alloc: Global, tag: Tag, name: &str) -> Result<Text>
         ensures { GivesId tag name.now self.old self.new result }
     {
         let wanted = id_text(alloc, name)?;
@@ -60,7 +60,7 @@ impl Ids {
     /// makes it free. It is taken from now on.
     ///
     /// The only refusal is want of memory; then the same ids are taken as before.
-    pub fn give_kind(&mut self, alloc: Global, tag: Tag) -> Result<Text, TreeFault>
+    pub fn give_kind(&mut self, alloc: Global, tag: Tag) -> Result<Text>
         ensures { GivesNumbered (hyphenated (tag_name tag)) self.old self.new result }
     {
         self.give_numbered(alloc, tag.hyphenated())
@@ -69,7 +69,7 @@ impl Ids {
     /// Takes the first free id of a kind's name, a hyphen and a number from 1, and gives that number.
     ///
     /// The only refusal is want of memory; then the same ids are taken as before.
-    pub fn give_number(&mut self, alloc: Global, tag: Tag) -> Result<u64, TreeFault>
+    pub fn give_number(&mut self, alloc: Global, tag: Tag) -> Result<u64>
         ensures { GivesNumber (hyphenated (tag_name tag)) self.old self.new result }
     {
         let base = tag.hyphenated();
@@ -79,7 +79,7 @@ impl Ids {
     }
 
     /// Takes an id that a name gave, unless it is taken, and tells whether it was free.
-    fn take(&mut self, id: String) -> Result<bool, TreeFault>
+    fn take(&mut self, id: String) -> Result<bool>
         ensures { Tries (string_bytes id) self.old self.new result }
     {
         match number_of(id.as_str()) {
@@ -94,7 +94,7 @@ impl Ids {
     }
 
     /// Takes the first free id of a text, a hyphen and a number from 1.
-    fn give_numbered(&mut self, alloc: Global, base: &str) -> Result<Text, TreeFault>
+    fn give_numbered(&mut self, alloc: Global, base: &str) -> Result<Text>
         ensures { GivesNumbered base.now self.old self.new result }
     {
         let number = self.free_number(alloc, base)?;
@@ -117,7 +117,7 @@ impl Ids {
     ///
     /// Each hindering id hinders one number at most, so no more numbers are passed over than there are of these ids. Ids stay taken,
     /// so a number that was passed over need never be looked at again.
-    fn free_number(&self, alloc: Global, base: &str) -> Result<u64, TreeFault>
+    fn free_number(&self, alloc: Global, base: &str) -> Result<u64>
         ensures { Gives (λ number. IsLeastFree (is_taken self.now) base.now number) result }
     {
         let first = u64::from(self.last_of(base)) + 1;
@@ -131,7 +131,7 @@ impl Ids {
     }
 
     /// Whether the id of a text and a number is one of those that hinder.
-    fn hinders(&self, alloc: Global, base: &str, number: u64) -> Result<bool, TreeFault>
+    fn hinders(&self, alloc: Global, base: &str, number: u64) -> Result<bool>
         ensures { Gives (λ hinders. hinders ≡ contains_text self.now.hindering (spec.numbered base.now number)) result }
     {
         if self.hindering.is_empty() {
@@ -142,7 +142,7 @@ impl Ids {
     }
 
     /// Takes the id of a text and the least number that makes it free.
-    fn use_up(&mut self, alloc: Global, base: &str, number: u64) -> Result<(), TreeFault>
+    fn use_up(&mut self, alloc: Global, base: &str, number: u64) -> Result<()>
         requires { IsLeastFree (is_taken self.now) base.now number }
         ensures { TakesOrFails (spec.numbered base.now number) self.old self.new result }
     {
@@ -190,7 +190,7 @@ fn begins_from_one(digits: &str) -> bool
 
 /// The id that a name gives; it may be empty, as that of the empty name is.
 #[tactic(auto, using(crate::proofs::IdLemmas::bytes_of_chars))]
-fn id_text(alloc: Global, name: &str) -> Result<String, TreeFault>
+fn id_text(alloc: Global, name: &str) -> Result<String>
     ensures { Gives (λ id. string_bytes id ≡ wanted_id name.now) result }
 {
     match id_of(alloc, name) {
@@ -201,7 +201,7 @@ fn id_text(alloc: Global, name: &str) -> Result<String, TreeFault>
 }
 
 /// The id of a text and a number.
-fn numbered(alloc: Global, base: &str, number: u64) -> Result<Text, TreeFault>
+fn numbered(alloc: Global, base: &str, number: u64) -> Result<Text>
     ensures { Gives (λ id. id ≡ spec.numbered base.now number) result }
 {
     let mut buffer = itoa::Buffer::new();
@@ -209,14 +209,14 @@ fn numbered(alloc: Global, base: &str, number: u64) -> Result<Text, TreeFault>
 }
 
 /// The id of a problematic by its number.
-pub fn problematic_id(alloc: Global, number: u64) -> Result<Text, TreeFault>
+pub fn problematic_id(alloc: Global, number: u64) -> Result<Text>
     ensures { Gives (λ id. id ≡ written.problematic_id number) result }
 {
     numbered(alloc, "problematic", number)
 }
 
 /// The id of a message by its number.
-pub fn message_id(alloc: Global, number: u64) -> Result<Text, TreeFault>
+pub fn message_id(alloc: Global, number: u64) -> Result<Text>
     ensures { Gives (λ id. id ≡ written.message_id number) result }
 {
     numbered(alloc, "system-message", number)

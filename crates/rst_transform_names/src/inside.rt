@@ -6,7 +6,7 @@ ghost use Rattle.rst_transform_names.specs.NameMessages as spec;
 ghost use Rattle.rst_transform_names.specs.PlacingMessages.{seen, texts_in};
 
 use super::weaving::{Placed, TextMessages, put_from, weave};
-use rst_tree::{Attrs, Children, Key, Tag, TreeFault};
+use rst_tree::{Attrs, Children, Key, Result, Tag};
 use std::alloc::Global;
 use std::mem;
 
@@ -126,7 +126,7 @@ impl Inside {
         attrs: &Attrs,
         nodes: &mut Children,
         own: Placed,
-    ) -> Result<Outside, TreeFault>
+    ) -> Result<Outside>
         ensures nodes { Gives (λ _. nodes.new ≡ forest_of (spec.nodes_with tag attrs.now own.items (seen (nodes_of nodes.old) self))) result }
         ensures ahead { Gives (λ outside. outside.ahead.items ≡ (if spec.is_passed_over tag then self.before.items else [])) result }
         ensures own { Gives (λ outside. outside.own.items ≡ (if spec.is_section tag then [] else own.items)) result }
@@ -166,7 +166,7 @@ impl Inside {
         tag: Tag,
         attrs: &Attrs,
         outside: Outside,
-    ) -> Result<(), TreeFault>
+    ) -> Result<()>
         requires { place + 1 < 2 ^ 64 }
         ensures inline { Gives (λ _. self.new.inline.items ≡ self.old.inline.items ++ (if spec.is_inline attrs.now then outside.own.items else [])) result }
         ensures before { Gives (λ _. self.new.before.items ≡ self.old.before.items ++ spec.from (if spec.is_passed_over parent then 0 else place) (outside.ahead.items ++ (if spec.is_inline attrs.now then [] else outside.own.items))) result }

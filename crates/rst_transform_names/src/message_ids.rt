@@ -7,7 +7,7 @@ ghost use Rattle.rst_transform_names.specs.Gathered.{number_at};
 ghost use Rattle.rst_transform_names.specs.Registering.{with_member, with_message_changed};
 
 use super::ids::problematic_id;
-use rst_tree::{Key, Tag, Texts, TreeFault};
+use rst_tree::{Key, Result, Tag, Texts};
 use rst_tree_index::Element;
 use std::alloc::Global;
 
@@ -31,7 +31,7 @@ pub struct KnownMessages {
 
 impl KnownMessages {
     /// What is known before the first of so many messages and problematics; so many numbers were given to messages.
-    pub fn new(alloc: Global, room: usize, messages: u64) -> Result<KnownMessages, TreeFault>
+    pub fn new(alloc: Global, room: usize, messages: u64) -> Result<KnownMessages>
         ensures numbers { Gives (λ known_messages. known_messages.numbers.items ≡ []) result }
         ensures messages { Gives (λ known_messages. known_messages.messages.items ≡ replicate messages (record { id = None; problematics = [] })) result }
     {
@@ -49,7 +49,7 @@ impl KnownMessages {
     }
 
     /// Adds one more message or problematic, whose id has a number.
-    pub fn add(&mut self, alloc: Global, new: Element<'_>, number: u64) -> Result<(), TreeFault>
+    pub fn add(&mut self, alloc: Global, new: Element<'_>, number: u64) -> Result<()>
         ensures numbers { Gives (λ _. self.new.numbers.items ≡ self.old.numbers.items ++ number ∷ []) result }
         ensures messages { Gives (λ _. self.new.messages.items ≡ with_message_changed (number_at Message (item_of new.entry).attrs) (with_member (item_of new.entry).tag number) self.old.messages.items) result }
     {
@@ -67,7 +67,7 @@ impl KnownMessages {
 
 impl MessageIds {
     /// Adds a problematic of the message, or the message itself, whose id has a number.
-    fn add(&mut self, alloc: Global, tag: Tag, number: u64) -> Result<(), TreeFault>
+    fn add(&mut self, alloc: Global, tag: Tag, number: u64) -> Result<()>
         ensures { Gives (λ _. self.new ≡ with_member tag number self.old) result }
     {
         if matches!(tag, Tag::Problematic) {

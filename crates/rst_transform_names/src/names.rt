@@ -2,7 +2,7 @@
 ghost use Rattle.std.specs.Prelude.{◌≡◌, ℕ, List, MatchOption, Some, None};
 ghost use Rattle.rst_transform_names.specs.Names.{held_by, moved, Knows, Holds};
 
-use rst_tree::{Text, TreeFault};
+use rst_tree::{Result, Text};
 use std::alloc::Global;
 use std::collections::BTreeMap;
 
@@ -72,7 +72,7 @@ impl Names {
     /// Says what is known of a name, in place of what was known.
     ///
     /// The only refusal is want of memory; then what is known is as before.
-    pub fn hold(&mut self, alloc: Global, name: &str, held: NameEntry) -> Result<(), TreeFault>
+    pub fn hold(&mut self, alloc: Global, name: &str, held: NameEntry) -> Result<()>
         ensures { Holds name.now held self.old self.new result }
     {
         let name = String::from_str(alloc, name)?;

@@ -8,7 +8,7 @@ ghost use Rattle.rst_transform_names.specs.PlacingMessages.{message_on, seen, te
 use super::duplicate_messages::NameMessage;
 use super::inside::Inside;
 use super::weaving::{Placed, TextMessages, put_from, weave};
-use rst_tree::{Attrs, Children, Key, Node, Tag, TreeFault};
+use rst_tree::{Attrs, Children, Key, Node, Result, Tag};
 use std::alloc::Global;
 use std::collections::BTreeMap;
 
@@ -29,7 +29,7 @@ impl NameMessages {
     }
 
     /// Puts a message on the name of the element with a number.
-    pub fn put(&mut self, serial: u64, message: NameMessage) -> Result<(), TreeFault>
+    pub fn put(&mut self, serial: u64, message: NameMessage) -> Result<()>
         ensures { Gives (λ _. (other : ℕ) → message_on self.new other ≡ spec.with_message_on serial message (message_on self.old) other) result }
     {
         self.messages.insert(serial, message)?;
@@ -44,7 +44,7 @@ impl NameMessages {
     }
 
     /// The message on the name of an element with these attributes, if there is one.
-    fn message(&self, alloc: Global, attrs: &Attrs) -> Result<Placed, TreeFault>
+    fn message(&self, alloc: Global, attrs: &Attrs) -> Result<Placed>
         ensures { Gives (λ own. own.items ≡ spec.own_message (message_on self.now) attrs.now) result }
     {
         let mut own = Vec::new(alloc);
@@ -65,7 +65,7 @@ fn fill(
     nodes: &mut Children,
     given: TextMessages,
     messages: &NameMessages,
-) -> Result<Inside, TreeFault>
+) -> Result<Inside>
     ensures { Gives (λ made. seen (nodes_of nodes.new) made ≡ spec.filled (spec.own_message (message_on messages.now)) tag (spec.beginning (texts_in given)) nodes.old) result }
 {
     let parent = tag;
@@ -95,11 +95,7 @@ fn fill(
 /// A message on the name of a section comes after its title, the title's messages and the warning on its adornment; that on the
 /// name of a target in a text after the messages of this text; and any other before its element, for an image in a reference or
 /// in a substitution definition before the outermost of these.
-pub fn place_name_messages(
-    alloc: Global,
-    document: Node,
-    messages: &NameMessages,
-) -> Result<Node, TreeFault>
+pub fn place_name_messages(alloc: Global, document: Node, messages: &NameMessages) -> Result<Node>
     ensures { Gives (λ placed. placed ≡ spec.with_name_messages (message_on messages.now) document) result }
 {
     if messages.is_empty() {

@@ -7,7 +7,7 @@ use super::names::Names;
 use super::placing::place_name_messages;
 use super::registry::{Registry, registry_of};
 use super::writing::Writing;
-use rst_tree::{Node, TreeFault};
+use rst_tree::{Node, Result};
 use rst_tree_index::Marked;
 use std::alloc::Global;
 
@@ -45,7 +45,7 @@ pub struct Registered {
 /// `messages` numbers were given to its messages, from 0 on.
 ///
 /// The only refusal is want of memory.
-pub fn register(alloc: Global, document: Marked, messages: u64) -> Result<Registered, TreeFault>
+pub fn register(alloc: Global, document: Marked, messages: u64) -> Result<Registered>
     ensures { Gives (IsRegistered (registration messages document)) result }
 {
     let elements = document.elements(alloc)?;

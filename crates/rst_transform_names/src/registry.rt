@@ -16,7 +16,7 @@ use super::names::{Holder, NameEntry, Names, Strength};
 use super::placing::NameMessages;
 use super::registrants::own_name;
 use super::rulings::{DuplicateMessage, NO_RULING, Now, Ruling, ruling_for};
-use rst_tree::{Key, Tag, Text, TreeFault};
+use rst_tree::{Key, Result, Tag, Text};
 use rst_tree_index::Element;
 use std::alloc::Global;
 use std::collections::BTreeMap;
@@ -50,12 +50,7 @@ pub struct Registry {
 impl Registry {
     /// What is known before the first element, with room for so many that may have names, and so many messages and
     /// problematics; so many numbers were given to messages.
-    fn new(
-        alloc: Global,
-        named: usize,
-        unnamed: usize,
-        messages: u64,
-    ) -> Result<Registry, TreeFault>
+    fn new(alloc: Global, named: usize, unnamed: usize, messages: u64) -> Result<Registry>
         ensures { Gives (λ first. Holds first (nothing_known messages)) result }
     {
         Ok(Registry {
@@ -69,7 +64,7 @@ impl Registry {
     }
 
     /// Registers one more element.
-    fn register(&mut self, alloc: Global, new: Element<'_>) -> Result<(), TreeFault>
+    fn register(&mut self, alloc: Global, new: Element<'_>) -> Result<()>
         ensures { Gives (λ _. Makes (with_element (item_of new.entry)) self.old self.new) result }
     {
         match new.tag {
@@ -80,7 +75,7 @@ impl Registry {
     }
 
     /// Registers one more message or problematic.
-    fn add_message(&mut self, alloc: Global, new: Element<'_>) -> Result<(), TreeFault>
+    fn add_message(&mut self, alloc: Global, new: Element<'_>) -> Result<()>
         ensures { Gives (λ _. Makes (with_message (item_of new.entry)) self.old self.new) result }
     {
         let number = self.ids.give_number(alloc, new.tag)?;
@@ -96,7 +91,7 @@ impl Registry {
     }
 
     /// Gives an element its id, and its name if it has one.
-    fn name(&mut self, alloc: Global, new: Element<'_>) -> Result<(), TreeFault>
+    fn name(&mut self, alloc: Global, new: Element<'_>) -> Result<()>
         ensures { Gives (λ _. Makes (with_named (item_of new.entry)) self.old self.new) result }
     {
         let serial = self.serial();
@@ -122,7 +117,7 @@ impl Registry {
     }
 
     /// Registers a substitution definition: of those with equal names the last has it.
-    fn define(&mut self, alloc: Global, new: Element<'_>) -> Result<(), TreeFault>
+    fn define(&mut self, alloc: Global, new: Element<'_>) -> Result<()>
         ensures { Gives (λ _. Makes (with_definition (item_of new.entry)) self.old self.new) result }
     {
         let serial = self.serial();
@@ -156,7 +151,7 @@ fn add_definition_message(
     before: Option<u64>,
     serial: u64,
     new: Element<'_>,
-) -> Result<(), TreeFault>
+) -> Result<()>
     ensures { Gives (λ _. (other : ℕ) → message_on name_messages.new other ≡ definition_messages before serial (item_of new.entry) (message_on name_messages.old) other) result }
 {
     match before {
@@ -190,7 +185,7 @@ fn add_name_message(
     serial: u64,
     new: Element<'_>,
     id: &Text,
-) -> Result<(), TreeFault>
+) -> Result<()>
     ensures { Gives (λ _. (other : ℕ) → message_on name_messages.new other ≡ name_messages_by message serial (item_of new.entry) id.now (message_on name_messages.old) other) result }
 {
     match message {
@@ -207,7 +202,7 @@ fn follow(
     new: Element<'_>,
     serial: u64,
     id: &Text,
-) -> Result<(), TreeFault>
+) -> Result<()>
     ensures { Gives (λ _. Knows (spec.own_name (item_of new.entry)) (known_by now serial (item_of new.entry) id.now (held_by names.old (spec.own_name (item_of new.entry)))) names.old names.new) result }
 {
     match now {
@@ -281,7 +276,7 @@ fn target_uri<'a>(element: Element<'a>) -> Option<&'a Text>
 }
 
 /// A copy of a text, if there is one.
-pub fn copied(text: Option<&Text>) -> Result<Option<Text>, TreeFault>
+pub fn copied(text: Option<&Text>) -> Result<Option<Text>>
     ensures { Gives (λ copy. copy ≡ given text.entry) result }
 {
     match text {
@@ -301,11 +296,7 @@ fn is_same_uri(old: Option<&Text>, new: Option<&Text>) -> bool
 }
 
 /// Registers elements, in preorder, among which `messages` numbers were given to messages.
-pub fn registry_of(
-    alloc: Global,
-    elements: &[Element<'_>],
-    messages: u64,
-) -> Result<Registry, TreeFault>
+pub fn registry_of(alloc: Global, elements: &[Element<'_>], messages: u64) -> Result<Registry>
     ensures { Gives (λ registry. Holds registry (all_registered (map item_of elements.entry.now) (nothing_known messages))) result }
 {
     let of_messages = elements.iter().filter(|new| is_of_message(new.tag)).count();

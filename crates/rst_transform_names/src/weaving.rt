@@ -5,7 +5,7 @@ ghost use Rattle.rst_tree.specs.Nodes.{forest_of, nodes_of};
 ghost use Rattle.rst_transform_names.specs.NameMessages as spec;
 ghost use Rattle.rst_transform_names.specs.PlacingMessages.{gap_nodes, texts_in};
 
-use rst_tree::{Children, Node, TreeFault};
+use rst_tree::{Children, Node, Result};
 use std::alloc::Global;
 use std::mem;
 
@@ -13,7 +13,7 @@ use std::mem;
 pub type Placed = Vec<(u64, Node)>;
 
 /// Puts messages behind others, with their places counted from a place on.
-pub fn put_from(placed: &mut Placed, place: u64, messages: Placed) -> Result<(), TreeFault>
+pub fn put_from(placed: &mut Placed, place: u64, messages: Placed) -> Result<()>
     ensures { Gives (λ _. placed.new.items ≡ placed.old.items ++ spec.from place messages.items) result }
 {
     for (here, message) in messages {
@@ -43,7 +43,7 @@ impl TextMessages {
     }
 
     /// Puts those of other texts behind.
-    pub fn append(&mut self, more: TextMessages) -> Result<(), TreeFault>
+    pub fn append(&mut self, more: TextMessages) -> Result<()>
         ensures { Gives (λ _. texts_in self.new ≡ spec.then_texts (texts_in self.old) (texts_in more)) result }
     {
         put_from(&mut self.placed, self.own, more.placed)?;
@@ -53,7 +53,7 @@ impl TextMessages {
 }
 
 /// Puts messages among nodes; those with a place further than after all nodes come after all nodes.
-pub fn weave(alloc: Global, nodes: &mut Children, placed: Placed) -> Result<(), TreeFault>
+pub fn weave(alloc: Global, nodes: &mut Children, placed: Placed) -> Result<()>
     ensures { Gives (λ _. nodes.new ≡ forest_of (spec.woven placed.items (nodes_of nodes.old))) result }
 {
     if placed.is_empty() {
@@ -66,7 +66,7 @@ pub fn weave(alloc: Global, nodes: &mut Children, placed: Placed) -> Result<(), 
 }
 
 /// The messages in each gap of so many nodes: before each node, and after all.
-fn gaps_of(alloc: Global, count: usize, placed: Placed) -> Result<Vec<Vec<Node>>, TreeFault>
+fn gaps_of(alloc: Global, count: usize, placed: Placed) -> Result<Vec<Vec<Node>>>
     ensures { Gives (λ all. gap_nodes all.items ≡ spec.in_gaps count placed.items (replicate (count + 1) [])) result }
 {
     let mut gaps = Vec::new(alloc);
@@ -82,7 +82,7 @@ fn gaps_of(alloc: Global, count: usize, placed: Placed) -> Result<Vec<Vec<Node>>
 }
 
 /// The nodes of the first gap, the first node, and so on, as far as there are gaps.
-fn with_gaps(alloc: Global, nodes: Vec<Node>, gaps: Vec<Vec<Node>>) -> Result<Vec<Node>, TreeFault>
+fn with_gaps(alloc: Global, nodes: Vec<Node>, gaps: Vec<Vec<Node>>) -> Result<Vec<Node>>
     ensures { Gives (λ all. all.items ≡ spec.with_gaps (gap_nodes gaps.items) nodes.items) result }
 {
     let mut all = Vec::new(alloc);

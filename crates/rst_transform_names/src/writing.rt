@@ -6,13 +6,13 @@ ghost use Rattle.rst_transform_names.specs.Written.{given, with_id, with_name, w
 use super::ids::{message_id, problematic_id};
 use super::message_ids::{KnownMessages, MessageIds};
 use super::registry::{Standing, copied};
-use rst_tree::{Attrs, Key, Tag, Text, Texts, TreeFault, Value, Visitor};
+use rst_tree::{Attrs, Key, Result, Tag, Text, Texts, Value, Visitor};
 use std::alloc::Global;
 use std::collections::VecDeque;
 use std::marker::Model;
 
 /// Lets attributes tell an element's id, if it has one.
-fn write_id(alloc: Global, attrs: &mut Attrs, id: Option<Text>) -> Result<(), TreeFault>
+fn write_id(alloc: Global, attrs: &mut Attrs, id: Option<Text>) -> Result<()>
     ensures { Gives (λ _. attrs.new ≡ with_id id attrs.old) result }
 {
     match id {
@@ -22,12 +22,7 @@ fn write_id(alloc: Global, attrs: &mut Attrs, id: Option<Text>) -> Result<(), Tr
 }
 
 /// Lets attributes tell an element's name, if it has one, as a duplicate one where it lost it.
-fn write_name(
-    alloc: Global,
-    attrs: &mut Attrs,
-    lost: bool,
-    name: Option<Text>,
-) -> Result<(), TreeFault>
+fn write_name(alloc: Global, attrs: &mut Attrs, lost: bool, name: Option<Text>) -> Result<()>
     ensures { Gives (λ _. attrs.new ≡ with_name lost name attrs.old) result }
 {
     match name {
@@ -46,7 +41,7 @@ fn count_of(standing: &Standing, name: &Option<Text>) -> usize {
 }
 
 /// Lets the attributes of an element tell what registration gave it.
-fn write(alloc: Global, attrs: &mut Attrs, standing: Standing) -> Result<(), TreeFault>
+fn write(alloc: Global, attrs: &mut Attrs, standing: Standing) -> Result<()>
     ensures { Gives (λ _. attrs.new ≡ with_standing standing attrs.old) result }
 {
     let name = copied(attrs.text(Key::OwnName))?;
@@ -73,7 +68,7 @@ fn write_problematic(
     attrs: &mut Attrs,
     number: u64,
     messages: &[MessageIds],
-) -> Result<(), TreeFault>
+) -> Result<()>
     ensures { Gives (λ _. attrs.new ≡ with_problematic messages.now number attrs.old) result }
 {
     attrs.reserve(2)?;
@@ -84,7 +79,7 @@ fn write_problematic(
 }
 
 /// Lets the attributes of a problematic tell the id of its message, which has a number, if there is that.
-fn write_refid(alloc: Global, attrs: &mut Attrs, message: Option<u64>) -> Result<(), TreeFault>
+fn write_refid(alloc: Global, attrs: &mut Attrs, message: Option<u64>) -> Result<()>
     ensures { Gives (λ _. attrs.new ≡ with_refid message attrs.old) result }
 {
     match message {
@@ -99,7 +94,7 @@ fn write_message(
     attrs: &mut Attrs,
     number: u64,
     messages: &[MessageIds],
-) -> Result<(), TreeFault>
+) -> Result<()>
     ensures { Gives (λ _. attrs.new ≡ with_message messages.now number attrs.old) result }
 {
     attrs.reserve(2)?;
@@ -110,7 +105,7 @@ fn write_message(
 }
 
 /// Lets the attributes of a message tell the ids of its problematics, if it has some.
-fn write_backrefs(alloc: Global, attrs: &mut Attrs, ids: &Texts) -> Result<(), TreeFault>
+fn write_backrefs(alloc: Global, attrs: &mut Attrs, ids: &Texts) -> Result<()>
     ensures { Gives (λ _. attrs.new ≡ with_backrefs ids.now attrs.old) result }
 {
     if ids.as_slice().is_empty() {
@@ -159,12 +154,7 @@ impl Visitor for Writing {
 
     ghost out = { with_given };
 
-    fn visit(
-        &mut self,
-        tag: &mut Tag,
-        attrs: &mut Attrs,
-        _line: &mut usize,
-    ) -> Result<(), TreeFault> {
+    fn visit(&mut self, tag: &mut Tag, attrs: &mut Attrs, _line: &mut usize) -> Result<()> {
         match *tag {
             Tag::Problematic => match self.numbers.pop_front() {
                 Some(number) => write_problematic(self.alloc, attrs, number, &self.messages),

@@ -11,8 +11,8 @@ ghost use Rattle.rst_transform_references.specs.Meanings.{refers_to_footnote_or_
 use crate::meanings::{Meaning, meaning_to, refers_to_footnote_or_citation};
 use rst_transform_links::{Holders, Linked, Outcome, found_by_order};
 use rst_transform_names::Names;
-use rst_transform_work::{Result, at_place, first_said};
-use rst_tree::{Entry, Key, Node, Text, Texts, Value};
+use rst_transform_work::{at_place, first_said};
+use rst_tree::{Entry, Key, Node, Result, Text, Texts, Value};
 use std::alloc::Global;
 
 /// The place of the footnote or citation that an element refers to, by its name or by the order.

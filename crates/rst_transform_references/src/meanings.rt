@@ -8,8 +8,7 @@ ghost use Rattle.rst_transform_references.specs.Meanings.{held_meaning, is_footn
 
 use rst_transform_links::{Holders, Linked, element_at, is_lost, lead_by_name};
 use rst_transform_names::{NameEntry, Names};
-use rst_transform_work::Result;
-use rst_tree::{Entry, Key, Node, Tag};
+use rst_tree::{Entry, Key, Node, Result, Tag};
 use std::alloc::Global;
 
 /// What a name means to a reference (Markup Specification, 'Hyperlink References').

@@ -11,8 +11,8 @@ ghost use Rattle.rst_transform_references.specs.Resolving.{duplicate, is_gone, l
 use crate::backrefs::with_backrefs;
 use crate::meanings::{Meaning, meaning_to, refers_to_footnote_or_citation};
 use rst_transform_links::{Holders, Linked, Outcome, element_at};
-use rst_transform_work::{Context, Result, has, line_of, text_said};
-use rst_tree::{Key, Level, Node, Text};
+use rst_transform_work::{Context, has, line_of, text_said};
+use rst_tree::{Key, Level, Node, Result, Text};
 use std::alloc::Global;
 
 /// Lets each reference by name refer to what the name means, and each footnote and citation tell its references (Markup

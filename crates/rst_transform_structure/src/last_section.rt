@@ -7,8 +7,8 @@ ghost use Rattle.rst_transform_work.specs.Known.{Makes};
 ghost use Rattle.rst_transform_structure.specs.LastSection.{ids_moved, heading, is_shown, own_nodes, section_of, with_last_section};
 
 use rst_settings::Threshold;
-use rst_transform_work::{Context, Document, Report, Result};
-use rst_tree::{Attrs, Children, Key, Node, Tag, Text, Texts, Value};
+use rst_transform_work::{Context, Document, Report};
+use rst_tree::{Attrs, Children, Key, Node, Result, Tag, Text, Texts, Value};
 use std::alloc::Global;
 
 /// Puts a last section with the transforms' own messages after the document's nodes, if one of them is at or above the report

@@ -7,8 +7,8 @@ ghost use Rattle.rst_transform_structure.specs.Passing.{holder_of, with_number, 
 ghost use Rattle.rst_transform_structure.specs.Targets.{given, got_by, handed, handed_by, hands_on, reached, referring, takers, takes_ids, with_refid, with_targets};
 
 use rst_transform_names::{Holder, Names};
-use rst_transform_work::{Context, Document, Result, append, take_list};
-use rst_tree::{Attrs, Key, Node, Reader, Tag, Text, Value, Visitor, read_elements, walk};
+use rst_transform_work::{Context, Document, append, take_list};
+use rst_tree::{Attrs, Key, Node, Reader, Result, Tag, Text, Value, Visitor, read_elements, walk};
 use rst_tree_index::is_internal;
 use std::alloc::Global;
 use std::collections::VecDeque;

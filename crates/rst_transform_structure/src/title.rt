@@ -12,8 +12,8 @@ ghost use Rattle.rst_transform_structure.specs.Passing.{with_number, Passes};
 ghost use Rattle.rst_transform_work.specs.Reading.{may_precede};
 
 use rst_transform_names::{Holder, Names};
-use rst_transform_work::{Context, Document, Result, append_names, may_precede};
-use rst_tree::{Attrs, Children, Key, Node, Said, Tag, Text, Value};
+use rst_transform_work::{Context, Document, append_names, may_precede};
+use rst_tree::{Attrs, Children, Key, Node, Result, Said, Tag, Text, Value};
 use std::alloc::Global;
 
 /// Makes the title of a document's lone section the document's, and then that of a lone subsection its subtitle (Markup

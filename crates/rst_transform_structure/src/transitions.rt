@@ -9,8 +9,8 @@ ghost use Rattle.rst_transform_work.specs.Known.{Makes};
 ghost use Rattle.rst_transform_work.specs.Reading.{is_title};
 ghost use Rattle.rst_transform_structure.specs.Transitions.{ends_in_transition, fault_before, is_section, is_transition, none_yet, placed_in, put_transition, so_far, with_fault, with_message, with_transitions};
 
-use rst_transform_work::{Context, Document, Result, is_title};
-use rst_tree::{Attrs, Children, Level, Node, Tag, Text};
+use rst_transform_work::{Context, Document, is_title};
+use rst_tree::{Attrs, Children, Level, Node, Result, Tag, Text};
 
 /// Looks at the places of the transitions in document order (Markup Specification, 'Transitions'): each that begins a section
 /// or follows another one gets a message before it, and each that ends a section moves after it.

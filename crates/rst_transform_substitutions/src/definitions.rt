@@ -8,7 +8,7 @@ ghost use Rattle.rst_transform_work.specs.Reading.{name_in};
 
 use crate::listing::add_listed;
 use rst_transform_work::{copies, folded};
-use rst_tree::{Children, TreeFault};
+use rst_tree::{Children, Result};
 use std::alloc::Global;
 use std::collections::BTreeMap;
 
@@ -34,7 +34,7 @@ impl Definitions {
     ghost use Rattle.rst_transform_substitutions.specs.Definitions.{definitions_among, known_found, known_place, AreKnown, Definition};
 
     /// The definitions among the nodes of a document, and in them.
-    pub fn of(alloc: Global, nodes: &Children) -> Result<Definitions, TreeFault>
+    pub fn of(alloc: Global, nodes: &Children) -> Result<Definitions>
         ensures { Gives (AreKnown (definitions_among nodes.now)) result }
     {
         let mut list = Vec::new(alloc);
@@ -56,7 +56,7 @@ impl Definitions {
     }
 
     /// Adds a definition behind the last, and forgets what names find.
-    fn add(&mut self, alloc: Global, name: &str, content: &Children) -> Result<(), TreeFault>
+    fn add(&mut self, alloc: Global, name: &str, content: &Children) -> Result<()>
         ensures { Gives (λ _. (all : List Definition) → AreKnown all self.old → AreKnown (all ++ (name.now, content.now) ∷ []) self.new) result }
     {
         self.remembered.clear();
@@ -71,7 +71,7 @@ impl Definitions {
     }
 
     /// Remembers what a name finds, if there is no definition of it as it is written.
-    fn remember(&mut self, alloc: Global, name: &str) -> Result<(), TreeFault>
+    fn remember(&mut self, alloc: Global, name: &str) -> Result<()>
         ensures { Gives (λ _. (all : List Definition) → AreKnown all self.old → AreKnown all self.new) result }
     {
         if self.place(name).is_some() {
@@ -91,7 +91,7 @@ impl Definitions {
     }
 
     /// The place of the definition that a name finds: the name as it is written comes first, and then the name by `name_of`.
-    pub fn find(&self, alloc: Global, name: &str) -> Result<Option<usize>, TreeFault>
+    pub fn find(&self, alloc: Global, name: &str) -> Result<Option<usize>>
         ensures { Gives (λ place. place ≡ known_found self.now name.now) result }
     {
         if let Some(place) = self.exact.get(name) {

@@ -12,7 +12,7 @@ use crate::definitions::Definitions;
 use crate::expansion::{ExpansionFault, is_reference};
 use crate::outcomes::{Outcome, Outcomes, reference_outcome};
 use rst_transform_work::{Context, Document, said, take_source};
-use rst_tree::{Attrs, Children, Key, Level, Node, Tag, TreeFault};
+use rst_tree::{Attrs, Children, Key, Level, Node, Result, Tag};
 use std::alloc::Global;
 use std::mem;
 
@@ -39,7 +39,7 @@ use std::mem;
 /// ```
 ///
 /// The only refusal is [`TreeFault::NoMemory`].
-pub fn expand(mut document: Document, context: &mut Context) -> Result<Document, TreeFault>
+pub fn expand(mut document: Document, context: &mut Context) -> Result<Document>
     ensures { Gives (Makes (with_expansions document) context.old context.new) result }
 {
     let definitions = Definitions::of(context.alloc, &document.children)?;
@@ -57,7 +57,7 @@ fn expand_in(
     within: Option<usize>,
     outcomes: &mut Outcomes,
     context: &mut Context,
-) -> Result<(), TreeFault>
+) -> Result<()>
     requires { Remembers definitions.now outcomes.old }
     ensures expanded { Gives (λ _. Makes (expanded_in (found_by definitions.now) (known_place definitions.now) within nodes.old) context.old context.new (nodes_of nodes.new)) result }
     ensures remembers { OnOk result (Remembers definitions.now outcomes.new) }
@@ -101,7 +101,7 @@ fn has_reference(nodes: &[Node]) -> bool
 
 /// Puts the nodes in each reference into its place, in a list made anew.
 #[inline(never)]
-fn open_references(alloc: Global, nodes: &mut Children) -> Result<(), TreeFault>
+fn open_references(alloc: Global, nodes: &mut Children) -> Result<()>
     ensures { Gives (λ _. nodes_of nodes.new ≡ flat_map opened (nodes_of nodes.old)) result }
 {
     let list = mem::replace(nodes, Children::new(alloc)).into_list();
@@ -143,7 +143,7 @@ fn replaced(
     within: Option<usize>,
     outcomes: &mut Outcomes,
     context: &mut Context,
-) -> Result<Children, TreeFault>
+) -> Result<Children>
     requires { Remembers definitions.now outcomes.old }
     ensures replaced { Gives (λ nodes. Makes (replaced (found_by definitions.now) within attrs.old line) context.old context.new (nodes_of nodes)) result }
     ensures remembers { OnOk result (Remembers definitions.now outcomes.new) }

@@ -9,7 +9,7 @@ ghost use Rattle.rst_transform_substitutions.specs.Expansion.{behind, copied, ex
 
 use crate::definitions::Definitions;
 use rst_transform_work::said;
-use rst_tree::{Attrs, Children, Key, Node, Tag, Text, TreeFault};
+use rst_tree::{Attrs, Children, Key, Node, Result, Tag, Text, TreeFault};
 use std::alloc::{AllocFailed, Global};
 
 /// The most definitions that are gone into for one reference, each found in the one before.
@@ -31,7 +31,7 @@ pub enum ExpansionFault {
 
 impl ExpansionFault {
     /// An equal fault.
-    pub fn copy(&self) -> Result<ExpansionFault, TreeFault>
+    pub fn copy(&self) -> Result<ExpansionFault>
         ensures { Gives (λ equal. equal ≡ self.now) result }
     {
         match self {
@@ -42,7 +42,7 @@ impl ExpansionFault {
     }
 
     /// What the message says of a reference to a name that isn't replaced.
-    pub fn text(&self, alloc: Global, name: &str) -> Result<Text, TreeFault>
+    pub fn text(&self, alloc: Global, name: &str) -> Result<Text>
         ensures { Gives (λ text. text ≡ fault_text name.now self.now) result }
     {
         let (before, name) = match self {
@@ -179,13 +179,7 @@ fn add_expanded(
 }
 
 /// A copy of an element around other nodes: the registered element stays the one that was copied.
-fn copied(
-    alloc: Global,
-    tag: Tag,
-    attrs: &Attrs,
-    children: Vec<Node>,
-    line: usize,
-) -> Result<Node, TreeFault>
+fn copied(alloc: Global, tag: Tag, attrs: &Attrs, children: Vec<Node>, line: usize) -> Result<Node>
     ensures { Gives (λ node. node ≡ copied tag attrs.now children.items line) result }
 {
     let mut attrs = attrs.copy(alloc)?;
@@ -227,7 +221,7 @@ fn entered<'a>(
 }
 
 /// The end of an expansion at a name without definition.
-fn undefined(alloc: Global, name: &str) -> Result<Halted, TreeFault>
+fn undefined(alloc: Global, name: &str) -> Result<Halted>
     ensures { Gives (λ halted. halted ≡ HaltedBy (Undefined name.now)) result }
 {
     let name = Text::from_str(alloc, name)?;

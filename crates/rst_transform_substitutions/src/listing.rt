@@ -6,7 +6,7 @@ ghost use Rattle.rst_transform_substitutions.specs.Numbering.{names_said, own_na
 
 use crate::expansion::is_reference;
 use rst_transform_work::said;
-use rst_tree::{Attrs, Children, Key, Node, Tag, TreeFault};
+use rst_tree::{Attrs, Children, Key, Node, Result, Tag};
 
 /// A substitution definition as it stands in a document.
 #[derive(Clone, Copy)]
@@ -22,7 +22,7 @@ pub fn add_listed<'a>(
     nodes: &'a Children,
     list: &mut Vec<Defined<'a>>,
     names: &mut Vec<&'a str>,
-) -> Result<(), TreeFault>
+) -> Result<()>
     ensures definitions { Gives (λ _. map defined list.new.items ≡ map defined list.old.items ++ definitions_among nodes.now) result }
     ensures names { Gives (λ _. map (λ name. name.now) names.new.items ≡ map (λ name. name.now) names.old.items ++ names_said nodes.now) result }
 {
@@ -53,7 +53,7 @@ fn add_own<'a>(
     content: &'a Children,
     list: &mut Vec<Defined<'a>>,
     names: &mut Vec<&'a str>,
-) -> Result<(), TreeFault>
+) -> Result<()>
     ensures definition { Gives (λ _. map defined list.new.items ≡ map defined list.old.items ++ own_definition tag attrs.now content.now) result }
     ensures name { Gives (λ _. map (λ name. name.now) names.new.items ≡ map (λ name. name.now) names.old.items ++ own_name tag attrs.now) result }
 {

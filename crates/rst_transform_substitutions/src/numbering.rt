@@ -8,7 +8,7 @@ ghost use Rattle.rst_transform_substitutions.specs.Numbering.{may_lead, places_f
 
 use crate::definitions::Definitions;
 use crate::listing::add_listed;
-use rst_tree::{Children, TreeFault};
+use rst_tree::{Children, Result};
 use std::alloc::Global;
 
 /// What a search over the definitions does next with one of them.
@@ -23,7 +23,7 @@ enum Step {
 /// A number for each definition: none refers to one of a lower number, and two have equal numbers only if each leads to the other.
 ///
 /// The first half is checked in the end, since what is remembered rests on it.
-pub fn numbered(alloc: Global, definitions: &Definitions) -> Result<Vec<usize>, TreeFault>
+pub fn numbered(alloc: Global, definitions: &Definitions) -> Result<Vec<usize>>
     ensures { Gives (λ numbers. AreOrdered definitions.now numbers.items) result }
 {
     let referred = referred(alloc, definitions)?;
@@ -35,7 +35,7 @@ pub fn numbered(alloc: Global, definitions: &Definitions) -> Result<Vec<usize>, 
 }
 
 /// The places that each definition refers to.
-fn referred(alloc: Global, definitions: &Definitions) -> Result<Vec<Vec<usize>>, TreeFault>
+fn referred(alloc: Global, definitions: &Definitions) -> Result<Vec<Vec<usize>>>
     ensures { Gives (λ referred. map (λ places. places.items) referred.items ≡ map (places_found definitions.now) definitions.now.contents.items) result }
 {
     let mut referred = Vec::with_capacity(alloc, definitions.contents.len())?;
@@ -46,11 +46,7 @@ fn referred(alloc: Global, definitions: &Definitions) -> Result<Vec<Vec<usize>>,
 }
 
 /// The places of the definitions that the references among nodes find, and those in them.
-fn places_found(
-    alloc: Global,
-    definitions: &Definitions,
-    nodes: &Children,
-) -> Result<Vec<usize>, TreeFault>
+fn places_found(alloc: Global, definitions: &Definitions, nodes: &Children) -> Result<Vec<usize>>
     ensures { Gives (λ places. places.items ≡ places_found definitions.now nodes.now) result }
 {
     let mut inner = Vec::new(alloc);
@@ -102,7 +98,7 @@ pub fn may_lead(numbers: &[usize], place: usize, other: usize) -> bool
 ///
 /// A number below the count of steps is one of a place that isn't left, or leads to one that isn't (Pearce, 'A space-efficient
 /// algorithm for finding strongly connected components').
-fn component_numbers(alloc: Global, referred: &[Vec<usize>]) -> Result<Vec<usize>, TreeFault> {
+fn component_numbers(alloc: Global, referred: &[Vec<usize>]) -> Result<Vec<usize>> {
     let mut numbers = vec![in alloc; 0; referred.len()]?;
     let mut open = Vec::new(alloc);
     let mut steps = Vec::new(alloc);
@@ -141,7 +137,7 @@ fn leave(
     closed: usize,
     numbers: &mut [usize],
     open: &mut Vec<usize>,
-) -> Result<(), TreeFault> {
+) -> Result<()> {
     let (Some(own), Some(places)) = (numbers.get(place).copied(), referred.get(place)) else {
         return Ok(());
     };

@@ -13,7 +13,7 @@ use crate::definitions::Definitions;
 use crate::expansion::{ExpansionFault, Halted, expansion};
 use crate::numbering::{may_lead, numbered};
 use rst_transform_work::copies;
-use rst_tree::{Children, TreeFault};
+use rst_tree::{Children, Result, TreeFault};
 use std::alloc::Global;
 use std::collections::BTreeMap;
 
@@ -28,7 +28,7 @@ pub enum Outcome {
 
 impl Outcome {
     /// An equal outcome.
-    fn copy(&self, alloc: Global) -> Result<Outcome, TreeFault>
+    fn copy(&self, alloc: Global) -> Result<Outcome>
         ensures { Gives (λ equal. equal ≡ self.now) result }
     {
         match self {
@@ -67,7 +67,7 @@ pub struct Outcomes {
 
 impl Outcomes {
     /// Nothing is remembered yet.
-    pub fn new(alloc: Global, definitions: &Definitions) -> Result<Outcomes, TreeFault>
+    pub fn new(alloc: Global, definitions: &Definitions) -> Result<Outcomes>
         ensures { Gives (Remembers definitions.now) result }
     {
         Ok(Outcomes {
@@ -96,7 +96,7 @@ fn entered_place(
     definitions: &Definitions,
     name: &str,
     within: Option<usize>,
-) -> Result<Option<usize>, TreeFault>
+) -> Result<Option<usize>>
     ensures { Gives (λ place. MatchOption place (Unit {0}) (λ place. GoesInto definitions.now within place name.now)) result }
 {
     let Some(place) = definitions.find(alloc, name)? else {
@@ -119,7 +119,7 @@ fn new_outcome(
     definitions: &Definitions,
     name: &str,
     within: Option<usize>,
-) -> Result<Outcome, TreeFault>
+) -> Result<Outcome>
     ensures { Gives (λ outcome. came outcome ≡ nodes_for (found_by definitions.now) within name.now) result }
 {
     match expansion(alloc, definitions, name, within) {
@@ -138,7 +138,7 @@ fn remembered(
     place: usize,
     within: Option<usize>,
     memory: &mut Memory,
-) -> Result<Outcome, TreeFault>
+) -> Result<Outcome>
     requires goes { GoesInto definitions.now within place name.now }
     requires holds { HoldsTrue definitions.now memory.old }
     ensures came { Gives (λ outcome. came outcome ≡ nodes_for (found_by definitions.now) within name.now) result }
@@ -163,7 +163,7 @@ pub fn reference_outcome(
     name: &str,
     within: Option<usize>,
     outcomes: &mut Outcomes,
-) -> Result<Outcome, TreeFault>
+) -> Result<Outcome>
     requires { Remembers definitions.now outcomes.old }
     ensures came { Gives (λ outcome. came outcome ≡ nodes_for (found_by definitions.now) within name.now) result }
     ensures remembers { OnOk result (Remembers definitions.now outcomes.new) }

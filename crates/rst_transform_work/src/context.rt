@@ -5,11 +5,10 @@ ghost use Rattle.rst_transform_work.specs.Known.{Makes};
 ghost use Rattle.rst_transform_work.specs.Problematics as spec;
 ghost use Rattle.rst_transform_work.specs.Reports.{report_in, report_node, IsReported, KeepsRest};
 
-use crate::Result;
 use crate::problematics::ProblematicAttrs;
 use crate::report::Report;
 use rst_transform_names::{Ids, Names};
-use rst_tree::{Attrs, Children, Level, Node, Tag, Text, Texts};
+use rst_tree::{Attrs, Children, Level, Node, Result, Tag, Text, Texts};
 use std::alloc::Global;
 
 /// What is known beside the document between two transforms: what registration left, and the messages of the transforms so far.

@@ -19,6 +19,3 @@ pub use reading::{
 };
 pub use report::Report;
 pub use texts::{add_names, copies, folded, identified, take_source};
-
-/// What a transform gives, unless memory ran out.
-pub type Result<T> = std::result::Result<T, rst_tree::TreeFault>;

@@ -4,8 +4,7 @@ ghost use Rattle.rst_tree.specs.Attributes.{without_key};
 ghost use Rattle.rst_tree.specs.Faults.{Gives};
 ghost use Rattle.rst_transform_work.specs.Lists.{at_place, listed, with_listed, with_list_of, with_names};
 
-use crate::Result;
-use rst_tree::{Attrs, Key, Said, Text, Texts, Value};
+use rst_tree::{Attrs, Key, Result, Said, Text, Texts, Value};
 use std::alloc::Global;
 
 /// Takes out an attribute, and gives the texts that it lists; none where it is missing or no list.

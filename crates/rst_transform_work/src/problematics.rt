@@ -3,8 +3,7 @@ ghost use Rattle.std.specs.Prelude.{◌≡◌, ◌++◌, Some, None};
 ghost use Rattle.rst_tree.specs.Faults.{Gives};
 ghost use Rattle.rst_transform_work.specs.Problematics.{message_attrs, problematic_attrs};
 
-use crate::Result;
-use rst_tree::{Attrs, Entry, Key, Text, Texts, Value};
+use rst_tree::{Attrs, Entry, Key, Result, Text, Texts, Value};
 use std::alloc::Global;
 use std::marker::Model;
 use std::mem;

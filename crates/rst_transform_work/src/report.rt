@@ -5,9 +5,8 @@ ghost use Rattle.rst_transform_names.specs.Ids.{AreTaken};
 ghost use Rattle.rst_transform_work.specs.Problematics.{own_id, referring, with_own_id};
 ghost use Rattle.rst_transform_work.specs.Reports.{id_attrs, report_attrs, report_node, report_note, without_ids};
 
-use crate::Result;
 use rst_transform_names::Ids;
-use rst_tree::{Attrs, Entry, Key, Level, Node, Note, Tag, Text, Texts, Value};
+use rst_tree::{Attrs, Entry, Key, Level, Node, Note, Result, Tag, Text, Texts, Value};
 use std::alloc::Global;
 use std::mem;
 

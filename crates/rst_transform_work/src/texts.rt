@@ -5,10 +5,9 @@ ghost use Rattle.rst_transform_work.specs.Reading.{identifier, name_in};
 ghost use Rattle.rst_transform_work.specs.Lists.{named};
 ghost use Rattle.rst_transform_work.specs.Reading.{source_said};
 
-use crate::Result;
 use crate::lists::append_names;
 use rst_text::{id_of, name_of};
-use rst_tree::{Attrs, Children, Key, Node, Text, TreeFault, Value};
+use rst_tree::{Attrs, Children, Key, Node, Result, Text, TreeFault, Value};
 use std::alloc::Global;
 
 /// The name that a text gives, by `name_of`.

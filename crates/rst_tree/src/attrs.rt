@@ -6,7 +6,7 @@ ghost use Rattle.rst_tree.specs.Entries.{said};
 ghost use Rattle.rst_tree.specs.Tree.{in_order};
 
 use crate::entry::{Entry, Said};
-use crate::fault::TreeFault;
+use crate::fault::Result;
 use crate::key::Key;
 use crate::text::{Text, Texts};
 use std::alloc::Global;
@@ -53,7 +53,7 @@ impl Attrs {
     }
 
     /// One attribute, in a list with room for it alone.
-    pub fn lone(alloc: Global, key: Key, value: Value) -> Result<Attrs, TreeFault>
+    pub fn lone(alloc: Global, key: Key, value: Value) -> Result<Attrs>
         ensures { Gives (λ attrs. attrs ≡ attr key value ∷ []) result }
     {
         let mut list = Vec::with_capacity(alloc, 1)?;
@@ -136,7 +136,7 @@ impl Attrs {
     }
 
     /// Lets the attribute of a name say a value: in place of what it said, or as a new one at its place among the names.
-    pub fn set(&mut self, key: Key, value: Value) -> Result<(), TreeFault>
+    pub fn set(&mut self, key: Key, value: Value) -> Result<()>
         ensures { Becomes self.old self.new (with_attr key value self.old) result }
     {
         let attrs = self.list.as_slice();
@@ -152,7 +152,7 @@ impl Attrs {
     }
 
     /// Makes room for so many attributes more, so that setting them doesn't make the list grow.
-    pub fn reserve(&mut self, more: usize) -> Result<(), TreeFault>
+    pub fn reserve(&mut self, more: usize) -> Result<()>
         ensures { self.new ≡ self.old }
     {
         self.list.reserve_exact(more)?;
@@ -173,7 +173,7 @@ impl Attrs {
     }
 
     /// An equal list of attributes.
-    pub fn copy(&self, alloc: Global) -> Result<Attrs, TreeFault>
+    pub fn copy(&self, alloc: Global) -> Result<Attrs>
         ensures { Gives (λ a. a ≡ self.now) result }
     {
         let mut list = Vec::with_capacity(alloc, self.list.len())?;
@@ -185,7 +185,7 @@ impl Attrs {
 }
 
 /// Makes room for two attributes where there is none: most elements that have some have no more.
-fn make_room(list: &mut Vec<Entry>) -> Result<(), TreeFault>
+fn make_room(list: &mut Vec<Entry>) -> Result<()>
     ensures items { list.new.items ≡ list.old.items }
     ensures len { vec_len list.new ≡ vec_len list.old }
 {

@@ -5,7 +5,7 @@ ghost use Rattle.rst_tree.specs.Entries.{said};
 ghost use Rattle.rst_tree.specs.Faults.{Gives};
 
 use crate::attrs::Value;
-use crate::fault::TreeFault;
+use crate::fault::Result;
 use crate::key::Key;
 use crate::text::{Text, TextListStorage, Texts, copied};
 use std::alloc::Global;
@@ -102,7 +102,7 @@ impl Entry {
     }
 
     /// An equal attribute.
-    pub fn copy(&self, alloc: Global) -> Result<Entry, TreeFault>
+    pub fn copy(&self, alloc: Global) -> Result<Entry>
         ensures { Gives (λ e. e ≡ self.now) result }
     {
         let storage = match &self.storage {

@@ -13,6 +13,9 @@ pub enum TreeFault {
     NoMemory,
 }
 
+/// What a call gives, unless memory ran out.
+pub type Result<T, E = TreeFault> = std::result::Result<T, E>;
+
 impl From<AllocError> for TreeFault {
     ghost from_gives = { λ _ fault. fault ≡ NoMemory };
 

@@ -7,7 +7,7 @@ ghost use Rattle.rst_tree.specs.Tree.{text_in};
 
 use crate::attrs::{Attrs, Value};
 use crate::entry::Said;
-use crate::fault::TreeFault;
+use crate::fault::{Result, TreeFault};
 use crate::key::Key;
 use crate::tag::Tag;
 use crate::text::Text;
@@ -71,7 +71,7 @@ impl Children {
     }
 
     /// No node, in a list with room for so many.
-    pub fn with_room(alloc: Global, room: usize) -> Result<Children, TreeFault>
+    pub fn with_room(alloc: Global, room: usize) -> Result<Children>
         ensures { Gives (λ nodes. nodes ≡ bare) result }
     {
         let list = Vec::with_capacity(alloc, room)?;
@@ -79,7 +79,7 @@ impl Children {
     }
 
     /// One node, in a list with room for it alone.
-    pub fn lone(alloc: Global, node: Node) -> Result<Children, TreeFault>
+    pub fn lone(alloc: Global, node: Node) -> Result<Children>
         ensures { Gives (λ nodes. nodes ≡ forest_of (node ∷ [])) result }
     {
         let mut list = Vec::with_capacity(alloc, 1)?;
@@ -150,7 +150,7 @@ impl Children {
     }
 
     /// Puts a node behind the last; it is dropped at want of memory.
-    pub fn push(&mut self, node: Node) -> Result<(), TreeFault>
+    pub fn push(&mut self, node: Node) -> Result<()>
         ensures { Becomes self.old self.new (forest_of (nodes_of self.old ++ node ∷ [])) result }
     {
         make_room(&mut self.list)?;
@@ -159,7 +159,7 @@ impl Children {
     }
 
     /// Lets a node stand in the place of all; it is dropped at want of memory. The list keeps its room.
-    pub fn set_lone(&mut self, node: Node) -> Result<(), TreeFault>
+    pub fn set_lone(&mut self, node: Node) -> Result<()>
         ensures { Becomes self.old self.new (forest_of (node ∷ [])) result }
     {
         if self.list.is_empty() {
@@ -182,7 +182,7 @@ impl Children {
 }
 
 /// Makes room for one node where there is none: most elements hold a single one.
-fn make_room(list: &mut Vec<Node>) -> Result<(), TreeFault>
+fn make_room(list: &mut Vec<Node>) -> Result<()>
     ensures { list.new.items ≡ list.old.items }
 {
     if list.is_empty() {
@@ -197,7 +197,7 @@ impl Node {
     ghost use Rattle.rst_tree.specs.declared.node.Node.TheVariants.{Element, Text as Words};
 
     /// A text.
-    pub fn text(alloc: Global, text: &str) -> Result<Node, TreeFault>
+    pub fn text(alloc: Global, text: &str) -> Result<Node>
         ensures { Gives (λ n. n ≡ Words text.now) result }
     {
         let text = Text::from_str(alloc, text)?;
@@ -250,7 +250,7 @@ impl Node {
     }
 
     /// Lets the attribute of a name say a value at the element at a path.
-    pub fn set_at(&mut self, at: &[usize], key: Key, value: Value) -> Result<(), TreeFault>
+    pub fn set_at(&mut self, at: &[usize], key: Key, value: Value) -> Result<()>
         requires path { IsSomeAnd (node_at at.now self.old) IsElement }
         ensures { Becomes self.old self.new (changed_at (with_value key value) at.now self.old) result }
     {
@@ -275,7 +275,7 @@ impl Node {
     }
 
     /// The texts in the node in order, joined.
-    pub fn text_of(&self, alloc: Global) -> Result<Text, TreeFault>
+    pub fn text_of(&self, alloc: Global) -> Result<Text>
         ensures { Gives (λ t. t ≡ text_in self.now) result }
     {
         let string = self.string_of(alloc)?;
@@ -283,7 +283,7 @@ impl Node {
     }
 
     /// The same as a `String`.
-    pub(crate) fn string_of(&self, alloc: Global) -> Result<String, TreeFault>
+    pub(crate) fn string_of(&self, alloc: Global) -> Result<String>
         ensures { Gives (λ s. string_bytes s ≡ text_in self.now) result }
     {
         let mut string = String::new(alloc);
@@ -292,7 +292,7 @@ impl Node {
     }
 
     /// A node equal to this one.
-    pub fn copy(&self, alloc: Global) -> Result<Node, TreeFault>
+    pub fn copy(&self, alloc: Global) -> Result<Node>
         ensures { Gives (λ n. n ≡ self.now) result }
     {
         match self {
@@ -320,7 +320,7 @@ impl Node {
 }
 
 /// Puts the texts in a node behind a text.
-fn add_text(node: &Node, text: &mut String) -> Result<(), TreeFault>
+fn add_text(node: &Node, text: &mut String) -> Result<()>
     ensures { Gives (λ _. string_bytes text.new ≡ string_bytes text.old ++ text_in node.now) result }
 {
     match node {

@@ -6,7 +6,7 @@ ghost use Rattle.rst_tree.specs.Faults.{Gives};
 ghost use Rattle.rst_tree.specs.Rewritten.{rewritten, Turned};
 
 use crate::attrs::Attrs;
-use crate::fault::TreeFault;
+use crate::fault::Result;
 use crate::node::{Children, Node};
 use crate::tag::Tag;
 use std::alloc::Global;
@@ -29,17 +29,13 @@ pub trait Rewriter {
     ghost becomes: { Self → Node → Rewrite };
 
     /// Turns an element that is met into what becomes of it, and tells whether it stays.
-    fn turn(&mut self, alloc: Global, element: &mut Node) -> Result<bool, TreeFault>
+    fn turn(&mut self, alloc: Global, element: &mut Node) -> Result<bool>
         ensures state { Gives (λ _. self.new ≡ entered self.old element.old) result }
         ensures outcome { Gives (λ stays. Turned (becomes self.old element.old) element.old element.new stays) result };
 }
 
 /// Rewrites nodes and what stands in them, in preorder. At want of memory some of them are rewritten.
-pub fn rewrite_in<R: Rewriter>(
-    alloc: Global,
-    nodes: &mut Children,
-    rewriter: &mut R,
-) -> Result<(), TreeFault>
+pub fn rewrite_in<R: Rewriter>(alloc: Global, nodes: &mut Children, rewriter: &mut R) -> Result<()>
     ensures nodes { Gives (λ _. nodes.new ≡ (rewritten R.entered R.becomes rewriter.old nodes.old).0) result }
     ensures state { Gives (λ _. rewriter.new ≡ (rewritten R.entered R.becomes rewriter.old nodes.old).1) result }
 {

@@ -5,7 +5,7 @@ ghost use Rattle.rst_tree.specs.Faults.{Gives, Becomes};
 ghost use Rattle.rst_tree.specs.Phrases.{phrase_text};
 ghost use Rattle.rst_tree.specs.Tree.{is_lines, is_plain_byte};
 
-use crate::fault::TreeFault;
+use crate::fault::Result;
 use crate::phrase::Phrase;
 use arrayvec::{ArrayString, CapacityError};
 use rst_text::is_line_end;
@@ -63,7 +63,7 @@ impl Text {
     }
 
     /// A text of its own.
-    pub fn from_str(alloc: Global, text: &str) -> Result<Text, TreeFault>
+    pub fn from_str(alloc: Global, text: &str) -> Result<Text>
         ensures { Gives (λ t. t ≡ text.now) result }
     {
         let storage = match ArrayString::from(text) {
@@ -74,7 +74,7 @@ impl Text {
     }
 
     /// Three texts, one behind the other, as one.
-    pub fn of_three(alloc: Global, front: &str, middle: &str, back: &str) -> Result<Text, TreeFault>
+    pub fn of_three(alloc: Global, front: &str, middle: &str, back: &str) -> Result<Text>
         ensures { Gives (λ t. t ≡ front.now ++ (middle.now ++ back.now)) result }
     {
         let storage = match short_joined(front, middle, back) {
@@ -110,7 +110,7 @@ impl Text {
     }
 
     /// An equal text.
-    pub fn copy(&self) -> Result<Text, TreeFault>
+    pub fn copy(&self) -> Result<Text>
         ensures { Gives (λ t. t ≡ self.now) result }
     {
         match &self.storage {
@@ -123,7 +123,7 @@ impl Text {
     }
 
     /// Puts a text behind this one.
-    pub fn push_str(&mut self, text: &str) -> Result<(), TreeFault>
+    pub fn push_str(&mut self, text: &str) -> Result<()>
         ensures { Becomes self.old self.new (self.old ++ text.now) result }
     {
         match &mut self.storage {
@@ -175,7 +175,7 @@ fn short_joined<'a>(
 }
 
 /// Three texts, one behind the other, in room for them alone.
-fn joined(alloc: Global, front: &str, middle: &str, back: &str) -> Result<String, TreeFault>
+fn joined(alloc: Global, front: &str, middle: &str, back: &str) -> Result<String>
     ensures { Gives (λ s. string_bytes s ≡ front.now ++ (middle.now ++ back.now)) result }
 {
     let room = front
@@ -249,7 +249,7 @@ impl Texts {
     }
 
     /// Puts a text behind the last.
-    pub fn push(&mut self, text: Text) -> Result<(), TreeFault>
+    pub fn push(&mut self, text: Text) -> Result<()>
         ensures { Becomes self.old self.new (self.old ++ text ∷ []) result }
     {
         match &mut self.storage {
@@ -275,7 +275,7 @@ impl Texts {
     }
 
     /// A list of equal texts.
-    pub fn copy_of(alloc: Global, texts: &[Text]) -> Result<Texts, TreeFault>
+    pub fn copy_of(alloc: Global, texts: &[Text]) -> Result<Texts>
         ensures { Gives (λ t. t ≡ texts.now) result }
     {
         match texts {
@@ -285,7 +285,7 @@ impl Texts {
     }
 
     /// An equal list.
-    pub fn copy(&self, alloc: Global) -> Result<Texts, TreeFault>
+    pub fn copy(&self, alloc: Global) -> Result<Texts>
         ensures { Gives (λ t. t ≡ self.now) result }
     {
         Texts::copy_of(alloc, self.as_slice())
@@ -293,7 +293,7 @@ impl Texts {
 }
 
 /// Equal texts.
-pub(crate) fn copied(alloc: Global, texts: &[Text]) -> Result<Vec<Text>, TreeFault>
+pub(crate) fn copied(alloc: Global, texts: &[Text]) -> Result<Vec<Text>>
     ensures { Gives (λ list. list.items ≡ texts.now) result }
 {
     let mut list = Vec::with_capacity(alloc, texts.len())?;

@@ -8,7 +8,7 @@ ghost use Rattle.rst_tree.specs.Tree.{IsTreeOf, is_tree, is_tree_within, fits, i
 
 use crate::attrs::Value;
 use crate::entry::Said;
-use crate::fault::TreeFault;
+use crate::fault::{Result, TreeFault};
 use crate::key::Key;
 use crate::node::Node;
 use std::alloc::Global;
@@ -121,13 +121,7 @@ impl Tree {
 
     /// Lets the attribute of a name say a value at the element at a path, which `has_element` tells; the value is dropped
     /// at want of memory.
-    pub fn set(
-        &mut self,
-        _alloc: Global,
-        at: &[usize],
-        name: Key,
-        value: Value,
-    ) -> Result<(), TreeFault>
+    pub fn set(&mut self, _alloc: Global, at: &[usize], name: Key, value: Value) -> Result<()>
         requires { IsTrue (is_element (node_at at.now self.old)) }
         ensures { Becomes self.old self.new (changed_at (with_value name value) at.now self.old) result }
     {
@@ -136,7 +130,7 @@ impl Tree {
     }
 
     /// The text of the node at a path: the texts below it in order, joined.
-    pub fn text_of(&self, alloc: Global, at: &[usize]) -> Result<String, TreeFault>
+    pub fn text_of(&self, alloc: Global, at: &[usize]) -> Result<String>
         requires { IsTrue (is_some (node_at at.now self.now)) }
         ensures { Gives (λ s. string_bytes s ≡ text_at at.now self.now) result }
     {

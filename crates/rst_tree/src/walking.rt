@@ -4,7 +4,7 @@ ghost use Rattle.rst_tree.specs.Faults.{Gives};
 ghost use Rattle.rst_tree.specs.Walk.{Item, item, node_items, after, walked_node};
 
 use crate::attrs::Attrs;
-use crate::fault::TreeFault;
+use crate::fault::Result;
 use crate::node::Node;
 use crate::tag::Tag;
 
@@ -17,13 +17,13 @@ pub trait Visitor {
     ghost out: { Self → Item → Item };
 
     /// Changes an element, but for the nodes in it, and the state.
-    fn visit(&mut self, tag: &mut Tag, attrs: &mut Attrs, line: &mut usize) -> Result<(), TreeFault>
+    fn visit(&mut self, tag: &mut Tag, attrs: &mut Attrs, line: &mut usize) -> Result<()>
         ensures state { Gives (λ _. self.new ≡ next self.old (item tag.old attrs.old line.old)) result }
         ensures element { Gives (λ _. item tag.new attrs.new line.new ≡ out self.old (item tag.old attrs.old line.old)) result };
 }
 
 /// Visits a node's elements in preorder. At want of memory the node is given up.
-pub fn walk<V: Visitor>(mut node: Node, visitor: &mut V) -> Result<Node, TreeFault>
+pub fn walk<V: Visitor>(mut node: Node, visitor: &mut V) -> Result<Node>
     ensures node { Gives (λ n. n ≡ walked_node V.next V.out visitor.old node) result }
     ensures state { Gives (λ _. visitor.new ≡ after V.next V.out visitor.old (node_items node)) result }
 {
@@ -32,7 +32,7 @@ pub fn walk<V: Visitor>(mut node: Node, visitor: &mut V) -> Result<Node, TreeFau
 }
 
 /// Visits a node's elements in preorder, in place.
-fn walk_in<V: Visitor>(node: &mut Node, visitor: &mut V) -> Result<(), TreeFault>
+fn walk_in<V: Visitor>(node: &mut Node, visitor: &mut V) -> Result<()>
     ensures node { Gives (λ _. node.new ≡ walked_node V.next V.out visitor.old node.old) result }
     ensures state { Gives (λ _. visitor.new ≡ after V.next V.out visitor.old (node_items node.old)) result }
 {

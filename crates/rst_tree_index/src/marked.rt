@@ -9,7 +9,7 @@ ghost use Rattle.rst_tree_index.specs.Registered.{is_registered, item_of};
 
 use crate::marks::Marks;
 use crate::registered::is_registered;
-use rst_tree::{Attrs, Children, Node, Tag, TreeFault, Visitor};
+use rst_tree::{Attrs, Children, Node, Result, Tag, Visitor};
 use std::alloc::Global;
 use std::marker::Model;
 
@@ -28,7 +28,7 @@ fn add_elements<'a>(
     own: bool,
     inner: &Marks,
     list: &mut Vec<Element<'a>>,
-) -> Result<(), TreeFault>
+) -> Result<()>
     ensures { Gives (λ _. map item_of list.new.items ≡ with_all (node_paths own inner.now) node.now (map item_of list.old.items)) result }
 {
     let Node::Element {
@@ -66,7 +66,7 @@ fn visit_own<V: Visitor>(
     attrs: &mut Attrs,
     line: &mut usize,
     visitor: &mut V,
-) -> Result<(), TreeFault>
+) -> Result<()>
     ensures state { Gives (λ _. visitor.new ≡ (if own then V.next visitor.old (item tag.old attrs.old line.old) else visitor.old)) result }
     ensures element { Gives (λ _. item tag.new attrs.new line.new ≡ (if own then V.out visitor.old (item tag.old attrs.old line.old) else item tag.old attrs.old line.old)) result }
 {
@@ -77,12 +77,7 @@ fn visit_own<V: Visitor>(
 }
 
 /// Visits the marked ones of a node's elements, in preorder.
-fn visit_in<V: Visitor>(
-    node: &mut Node,
-    own: bool,
-    inner: &Marks,
-    visitor: &mut V,
-) -> Result<(), TreeFault>
+fn visit_in<V: Visitor>(node: &mut Node, own: bool, inner: &Marks, visitor: &mut V) -> Result<()>
     ensures node { Gives (λ _. node.new ≡ (visited_all V.next V.out (node_paths own inner.now) (visitor.old, node.old)).1) result }
     ensures state { Gives (λ _. visitor.new ≡ (visited_all V.next V.out (node_paths own inner.now) (visitor.old, node.old)).0) result }
 {
@@ -110,7 +105,7 @@ fn visit_in<V: Visitor>(
 /// Puts the marks of nodes that were made elsewhere behind others, seen from the element that holds them.
 ///
 /// Most of these nodes are texts or hold texts alone: those cost no list of marks.
-fn add_marks(alloc: Global, nodes: &Children, marks: &mut Marks) -> Result<(), TreeFault>
+fn add_marks(alloc: Global, nodes: &Children, marks: &mut Marks) -> Result<()>
     ensures { Gives (λ _. marks.new ≡ marks.old ++ map path_of (places is_registered nodes.now)) result }
 {
     let list = nodes.as_slice();
@@ -133,7 +128,7 @@ fn add_marks(alloc: Global, nodes: &Children, marks: &mut Marks) -> Result<(), T
 
 /// The marks of a node that was made elsewhere, by a pass over it: whether it is marked itself, and those in it.
 #[inline(always)]
-pub(crate) fn marks_of(alloc: Global, node: &Node) -> Result<(bool, Marks), TreeFault>
+pub(crate) fn marks_of(alloc: Global, node: &Node) -> Result<(bool, Marks)>
     ensures { Gives (λ marks. node_paths marks.0 marks.1 ≡ marks_of is_registered node.now) result }
 {
     let mut inner = Marks::none(alloc);
@@ -184,7 +179,7 @@ impl Marked {
 
     /// A node that was made elsewhere.
     #[inline(always)]
-    pub fn of(alloc: Global, root: Node) -> Result<Marked, TreeFault>
+    pub fn of(alloc: Global, root: Node) -> Result<Marked>
         ensures { Gives (λ m. m ≡ root) result }
     {
         let (own, inner) = marks_of(alloc, &root)?;
@@ -226,7 +221,7 @@ impl Marked {
     }
 
     /// The elements that registration needs, in preorder, found by their marks.
-    pub fn elements(&self, alloc: Global) -> Result<Vec<Element<'_>>, TreeFault>
+    pub fn elements(&self, alloc: Global) -> Result<Vec<Element<'_>>>
         ensures { Gives (λ list. map item_of list.items ≡ filter is_registered (node_items self.now)) result }
     {
         let mut list = Vec::new(alloc);
@@ -235,7 +230,7 @@ impl Marked {
     }
 
     /// Visits the marked elements, in preorder, by their marks.
-    pub fn visit<V: Visitor>(self, visitor: &mut V) -> Result<Node, TreeFault>
+    pub fn visit<V: Visitor>(self, visitor: &mut V) -> Result<Node>
         ensures node { Gives (λ n. n ≡ walked_node (heeded_next is_registered V.next) (heeded_out is_registered V.out) visitor.old self) result }
         ensures state { Gives (λ _. visitor.new ≡ after (heeded_next is_registered V.next) (heeded_out is_registered V.out) visitor.old (node_items self)) result }
     {

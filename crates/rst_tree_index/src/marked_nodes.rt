@@ -11,7 +11,7 @@ ghost use Rattle.rst_tree_index.specs.Registered.{is_registered};
 use crate::marked::{Marked, marks_of};
 use crate::marks::{Marks, is_used};
 use crate::registered::is_registered;
-use rst_tree::{Attrs, Children, Node, Tag, TreeFault};
+use rst_tree::{Attrs, Children, Node, Result, Tag};
 use std::alloc::Global;
 use std::marker::Model;
 use std::vec::IntoIter;
@@ -29,7 +29,7 @@ struct Known {
 
 /// Puts what is known of the node at a place behind the rest, if anything is known.
 #[inline(always)]
-fn note(known: &mut Vec<Known>, place: usize, own: bool, inner: Marks) -> Result<(), TreeFault>
+fn note(known: &mut Vec<Known>, place: usize, own: bool, inner: Marks) -> Result<()>
     ensures noted { Gives (λ _. map entry_of known.new.items ≡ map entry_of known.old.items ++ known_at place (node_paths own inner)) result }
     ensures kept { OnErr result (known.new.items ≡ known.old.items) }
 {
@@ -40,7 +40,7 @@ fn note(known: &mut Vec<Known>, place: usize, own: bool, inner: Marks) -> Result
 }
 
 /// What is known of some nodes, when they follow so many others.
-fn behind(known: Vec<Known>, before: usize) -> Result<Vec<Known>, TreeFault>
+fn behind(known: Vec<Known>, before: usize) -> Result<Vec<Known>>
     ensures { Gives (λ moved. map entry_of moved.items ≡ map (entry_behind before) (map entry_of known.items)) result }
 {
     let mut moved = Vec::with_capacity(*known.allocator(), known.len())?;
@@ -56,7 +56,7 @@ fn behind(known: Vec<Known>, before: usize) -> Result<Vec<Known>, TreeFault>
 
 /// Makes room for one node more. The first gets room for itself alone: most elements hold one.
 #[inline(always)]
-fn make_room(nodes: &mut Vec<Node>) -> Result<(), TreeFault>
+fn make_room(nodes: &mut Vec<Node>) -> Result<()>
     ensures items { nodes.new.items ≡ nodes.old.items }
     ensures len { vec_len nodes.new ≡ vec_len nodes.old }
     ensures room { Gives (λ _. vec_len nodes.new < vec_capacity nodes.new) result }
@@ -110,7 +110,7 @@ impl MarkedNodes {
     }
 
     /// Nodes that were made elsewhere. They are marked by a pass over them, and stay in their list.
-    pub fn of(alloc: Global, nodes: Vec<Node>) -> Result<MarkedNodes, TreeFault>
+    pub fn of(alloc: Global, nodes: Vec<Node>) -> Result<MarkedNodes>
         ensures { Gives (λ made. made ≡ nodes.items) result }
     {
         let mut known = Vec::new(alloc);
@@ -123,7 +123,7 @@ impl MarkedNodes {
 
     /// One node.
     #[inline(always)]
-    pub fn alone(alloc: Global, node: Marked) -> Result<MarkedNodes, TreeFault>
+    pub fn alone(alloc: Global, node: Marked) -> Result<MarkedNodes>
         ensures { Gives (λ made. made ≡ node ∷ []) result }
     {
         let mut made = MarkedNodes::none(alloc);
@@ -133,7 +133,7 @@ impl MarkedNodes {
 
     /// Makes room for so many nodes more and no others.
     #[inline(always)]
-    pub fn reserve(&mut self, more: usize) -> Result<(), TreeFault>
+    pub fn reserve(&mut self, more: usize) -> Result<()>
         ensures { self.new ≡ self.old }
     {
         self.nodes.reserve_exact(more)?;
@@ -158,7 +158,7 @@ impl MarkedNodes {
 
     /// Puts a node behind the others whose marks are known.
     #[inline(always)]
-    fn put(&mut self, root: Node, own: bool, inner: Marks) -> Result<(), TreeFault>
+    fn put(&mut self, root: Node, own: bool, inner: Marks) -> Result<()>
         requires { node_paths own inner ≡ marks_of is_registered root }
         ensures { Gives (λ _. self.new ≡ self.old ++ root ∷ []) result }
     {
@@ -171,7 +171,7 @@ impl MarkedNodes {
 
     /// Puts a node behind the others.
     #[inline(always)]
-    pub fn push(&mut self, node: Marked) -> Result<(), TreeFault>
+    pub fn push(&mut self, node: Marked) -> Result<()>
         ensures { Gives (λ _. self.new ≡ self.old ++ node ∷ []) result }
     {
         let (root, own, inner) = node.into_parts();
@@ -179,7 +179,7 @@ impl MarkedNodes {
     }
 
     /// Puts a node behind the others that was made elsewhere. It is marked by a pass over it.
-    pub fn push_new(&mut self, root: Node) -> Result<(), TreeFault>
+    pub fn push_new(&mut self, root: Node) -> Result<()>
         ensures { Gives (λ _. self.new ≡ self.old ++ root ∷ []) result }
     {
         let alloc = *self.nodes.allocator();
@@ -189,7 +189,7 @@ impl MarkedNodes {
 
     /// Puts nodes behind the others that were made elsewhere.
     #[inline(always)]
-    pub fn append_new(&mut self, more: Vec<Node>) -> Result<(), TreeFault>
+    pub fn append_new(&mut self, more: Vec<Node>) -> Result<()>
         ensures { Gives (λ _. self.new ≡ self.old ++ more.items) result }
     {
         // Most often there are none, and then nothing is called.
@@ -201,7 +201,7 @@ impl MarkedNodes {
 
     /// The same where there are some.
     #[inline(never)]
-    fn append_some(&mut self, more: Vec<Node>) -> Result<(), TreeFault>
+    fn append_some(&mut self, more: Vec<Node>) -> Result<()>
         ensures { Gives (λ _. self.new ≡ self.old ++ more.items) result }
     {
         for root in more {
@@ -211,7 +211,7 @@ impl MarkedNodes {
     }
 
     /// Puts nodes behind the others. Nobody goes through them: they are moved at once, and what is known of them follows.
-    pub fn append(&mut self, more: MarkedNodes) -> Result<(), TreeFault>
+    pub fn append(&mut self, more: MarkedNodes) -> Result<()>
         ensures { Gives (λ _. self.new ≡ self.old ++ more) result }
     {
         if self.is_empty() {
@@ -228,7 +228,7 @@ impl MarkedNodes {
     }
 
     /// An element with these nodes in it. Their marks are known, so nobody goes through them.
-    pub fn into_element(self, tag: Tag, attrs: Attrs, line: usize) -> Result<Marked, TreeFault>
+    pub fn into_element(self, tag: Tag, attrs: Attrs, line: usize) -> Result<Marked>
         ensures { Gives (λ m. m ≡ Tagged tag attrs (forest_of self) line) result }
     {
         let own = is_registered(tag, &attrs, line);

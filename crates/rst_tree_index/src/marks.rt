@@ -3,7 +3,7 @@ ghost use Rattle.std.specs.Prelude.{◌≡◌, ◌≢◌, ◌∷◌, ◌++◌, [
 ghost use Rattle.rst_tree.specs.Faults.{Gives};
 ghost use Rattle.rst_tree_index.specs.MarkPaths.{AreUsed, node_paths, paths_in};
 
-use rst_tree::TreeFault;
+use rst_tree::Result;
 use std::alloc::Global;
 use std::marker::Model;
 
@@ -78,7 +78,7 @@ impl Marks {
 
     /// Puts the marks of the node at a place behind the others: its own, if it is marked, and those in it.
     #[inline(always)]
-    pub fn push(&mut self, place: usize, own: bool, inner: Marks) -> Result<(), TreeFault>
+    pub fn push(&mut self, place: usize, own: bool, inner: Marks) -> Result<()>
         ensures { Gives (λ _. self.new ≡ self.old ++ map (λ p. place ∷ p) (node_paths own inner)) result }
     {
         if is_used(own, &inner) {
