@@ -163,3 +163,9 @@ def prose(size, words=None):
         for _ in range(made.rng.randint(2, 8)):
             made.block()
     return "".join(made.parts)
+
+
+def references(size):
+    """Short paragraphs with a phrase reference each, about `size` bytes, and the target that they all have."""
+    paragraph = "A text with `a name`_ in it.\n\n"
+    return paragraph * (size // len(paragraph)) + ".. _a name: http://example.org/\n"

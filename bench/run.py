@@ -31,7 +31,7 @@ import tempfile
 import time
 
 from families import FAMILIES, mixed
-from prose import CHINESE, FRENCH, RUSSIAN, plain, prose
+from prose import CHINESE, FRENCH, RUSSIAN, plain, prose, references
 
 TOP = pathlib.Path(__file__).resolve().parent.parent
 PROGRAMS = [TOP / "crates/rst2pseudoxml/out/rst2pseudoxml", TOP / "dist/rst2pseudoxml"]
@@ -44,6 +44,7 @@ DOCUMENTS = {
     "plain Russian": lambda size: plain(size // 2, RUSSIAN),
     "French prose": lambda size: prose(size, FRENCH),
     "Chinese prose": lambda size: prose(size // 3, CHINESE),
+    "phrase references": references,
 }
 # Nothing halts a run, and lines may be as long as inputs.
 WORDS = ["--halt=5", "--line-length-limit=16777216"]
