@@ -144,13 +144,13 @@ fn simples(rt: HostRuntime) -> Result<(), Fail> {
     Ok(())
 }
 
-/// The end of the construct that a row begins at the first line of a text.
-fn end_by<C: Construct>(alloc: Global, row: C, text: &str) -> Result<Option<usize>, TextFault> {
+/// The end of the construct of a kind that begins at the first line of a text.
+fn end_by(alloc: Global, kind: Kind, text: &str) -> Result<Option<usize>, TextFault> {
     let lines = Lines::of(alloc, text, 8)?;
     let view = View::whole(&lines);
     let mut looks = Looks::none();
-    if 0 < view.len() && row.starts(&view, 0, true, &mut looks) {
-        Ok(Some(row.end(&view, 0, true, &mut looks)))
+    if 0 < view.len() && kind.starts(&view, 0, true, &mut looks) {
+        Ok(Some(kind.end(&view, 0, true, &mut looks)))
     } else {
         Ok(None)
     }
