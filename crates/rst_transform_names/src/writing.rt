@@ -34,18 +34,12 @@ fn write_name(alloc: Global, attrs: &mut Attrs, lost: bool, name: Option<Text>) 
     }
 }
 
-/// How many attributes tell what an element got that has a name or none.
-fn count_of(standing: &Standing, name: &Option<Text>) -> usize {
-    let parts = [true, standing.id.is_some(), name.is_some()];
-    parts.iter().filter(|part| **part).count()
-}
-
 /// Lets the attributes of an element tell what registration gave it.
 fn write(alloc: Global, attrs: &mut Attrs, standing: Standing) -> Result<()>
     ensures { Gives (λ _. attrs.new ≡ with_standing standing attrs.old) result }
 {
     let name = copied(attrs.text(Key::OwnName))?;
-    attrs.reserve(count_of(&standing, &name))?;
+    attrs.reserve(if name.is_some() { 3 } else { 2 })?;
     let Standing { serial, id, lost } = standing;
     attrs.set(Key::Serial, Value::Number(serial))?;
     write_name(alloc, attrs, lost, name)?;
@@ -62,22 +56,6 @@ fn message_of<'a>(messages: &'a [MessageIds], attrs: &Attrs) -> Option<&'a Messa
     }
 }
 
-/// Lets the attributes of a problematic tell its id, which has a number, and its message.
-fn write_problematic(
-    alloc: Global,
-    attrs: &mut Attrs,
-    number: u64,
-    messages: &[MessageIds],
-) -> Result<()>
-    ensures { Gives (λ _. attrs.new ≡ with_problematic messages.now number attrs.old) result }
-{
-    attrs.reserve(2)?;
-    if let Some(message) = message_of(messages, attrs) {
-        write_refid(alloc, attrs, message.id)?;
-    }
-    write_id(alloc, attrs, Some(problematic_id(alloc, number)?))
-}
-
 /// Lets the attributes of a problematic tell the id of its message, which has a number, if there is that.
 fn write_refid(alloc: Global, attrs: &mut Attrs, message: Option<u64>) -> Result<()>
     ensures { Gives (λ _. attrs.new ≡ with_refid message attrs.old) result }
@@ -86,22 +64,6 @@ fn write_refid(alloc: Global, attrs: &mut Attrs, message: Option<u64>) -> Result
         Some(number) => attrs.set(Key::Refid, Value::Text(message_id(alloc, number)?)),
         None => Ok(()),
     }
-}
-
-/// Lets the attributes of a message tell its id, which has a number, and its problematics.
-fn write_message(
-    alloc: Global,
-    attrs: &mut Attrs,
-    number: u64,
-    messages: &[MessageIds],
-) -> Result<()>
-    ensures { Gives (λ _. attrs.new ≡ with_message messages.now number attrs.old) result }
-{
-    attrs.reserve(2)?;
-    if let Some(message) = message_of(messages, attrs) {
-        write_backrefs(alloc, attrs, &message.problematics)?;
-    }
-    write_id(alloc, attrs, Some(message_id(alloc, number)?))
 }
 
 /// Lets the attributes of a message tell the ids of its problematics, if it has some.
@@ -147,6 +109,28 @@ impl Writing {
             messages,
         }
     }
+
+    /// Lets the attributes of a problematic tell its id, which has a number, and that of its message, if that is in the document.
+    fn write_problematic(&self, attrs: &mut Attrs, number: u64) -> Result<()>
+        ensures { Gives (λ _. attrs.new ≡ with_problematic self.now.messages number attrs.old) result }
+    {
+        attrs.reserve(2)?;
+        if let Some(message) = message_of(&self.messages, attrs) {
+            write_refid(self.alloc, attrs, message.id)?;
+        }
+        write_id(self.alloc, attrs, Some(problematic_id(self.alloc, number)?))
+    }
+
+    /// Lets the attributes of a message tell its id, which has a number, and the ids of its problematics, if it has some.
+    fn write_message(&self, attrs: &mut Attrs, number: u64) -> Result<()>
+        ensures { Gives (λ _. attrs.new ≡ with_message self.now.messages number attrs.old) result }
+    {
+        attrs.reserve(2)?;
+        if let Some(message) = message_of(&self.messages, attrs) {
+            write_backrefs(self.alloc, attrs, &message.problematics)?;
+        }
+        write_id(self.alloc, attrs, Some(message_id(self.alloc, number)?))
+    }
 }
 
 impl Visitor for Writing {
@@ -157,11 +141,11 @@ impl Visitor for Writing {
     fn visit(&mut self, tag: &mut Tag, attrs: &mut Attrs, _line: &mut usize) -> Result<()> {
         match *tag {
             Tag::Problematic => match self.numbers.pop_front() {
-                Some(number) => write_problematic(self.alloc, attrs, number, &self.messages),
+                Some(number) => self.write_problematic(attrs, number),
                 None => Ok(()),
             },
             Tag::SystemMessage => match self.numbers.pop_front() {
-                Some(number) => write_message(self.alloc, attrs, number, &self.messages),
+                Some(number) => self.write_message(attrs, number),
                 None => Ok(()),
             },
             _ => match self.standings.pop_front() {
