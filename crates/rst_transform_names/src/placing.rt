@@ -5,7 +5,6 @@ ghost use Rattle.rst_tree.specs.Nodes.{nodes_of};
 ghost use Rattle.rst_transform_names.specs.NameMessages as spec;
 ghost use Rattle.rst_transform_names.specs.PlacingMessages.{message_on, seen, texts_in};
 
-use super::duplicate_messages::NameMessage;
 use super::inside::Inside;
 use super::weaving::{Placed, TextMessages, put_from, weave};
 use rst_tree::{Attrs, Children, Key, Node, Result, Tag};
@@ -15,7 +14,7 @@ use std::collections::BTreeMap;
 /// Messages on names that have no place yet, by the numbers of their elements.
 #[derive(Drop)]
 pub struct NameMessages {
-    messages: BTreeMap<u64, NameMessage>,
+    messages: BTreeMap<u64, Node>,
 }
 
 impl NameMessages {
@@ -29,7 +28,7 @@ impl NameMessages {
     }
 
     /// Puts a message on the name of the element with a number.
-    pub fn put(&mut self, serial: u64, message: NameMessage) -> Result<()>
+    pub fn put(&mut self, serial: u64, message: Node) -> Result<()>
         ensures { Gives (λ _. (other : ℕ) → message_on self.new other ≡ spec.with_message_on serial message (message_on self.old) other) result }
     {
         self.messages.insert(serial, message)?;
@@ -50,7 +49,7 @@ impl NameMessages {
         let mut own = Vec::new(alloc);
         if let Some(serial) = attrs.number(Key::Serial) {
             if let Some(message) = self.messages.get(&serial) {
-                own.push((0, message.node(alloc)?))?;
+                own.push((0, message.copy(alloc)?))?;
             }
         }
         Ok(own)
