@@ -107,10 +107,7 @@ impl Ids {
     fn last_of(&self, base: &str) -> u32
         ensures { result ≡ last_of self.now base.now }
     {
-        match self.last.get(base) {
-            Some(last) => *last,
-            None => 0,
-        }
+        self.last.get(base).copied().unwrap_or(0)
     }
 
     /// The least number from 1 with which the id of a text is free.

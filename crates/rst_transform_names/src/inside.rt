@@ -132,15 +132,8 @@ impl Inside {
         ensures own { Gives (λ outside. outside.own.items ≡ (if spec.is_section tag then [] else own.items)) result }
         ensures texts { Gives (λ outside. texts_in outside.texts ≡ spec.texts tag attrs.now (seen [] self)) result }
     {
-        let Inside {
-            inline,
-            before,
-            after,
-            texts_out,
-            waiting,
-        } = self;
-        let mut among = after;
-        let mut ahead = before;
+        let mut among = self.after;
+        let mut ahead = self.before;
         let mut own = own;
         if is_section(tag) {
             let section = mem::replace(&mut own, Vec::new(alloc));
@@ -149,12 +142,12 @@ impl Inside {
         if !is_passed_over(tag) {
             among.append(&mut ahead)?;
         }
-        put_from(&mut among, nodes.len() as u64, waiting.placed)?;
+        put_from(&mut among, nodes.len() as u64, self.waiting.placed)?;
         weave(alloc, nodes, among)?;
         let mut texts = TextMessages::none(alloc);
         texts.own = own_messages(tag, attrs);
-        put_from(&mut texts.placed, texts.own, inline)?;
-        texts.append(texts_out)?;
+        put_from(&mut texts.placed, texts.own, self.inline)?;
+        texts.append(self.texts_out)?;
         Ok(Outside { ahead, own, texts })
     }
 
@@ -174,11 +167,8 @@ impl Inside {
         ensures texts_out { Gives (λ _. texts_in self.new.texts_out ≡ (if spec.goes_out parent tag then spec.then_texts (texts_in self.old.texts_out) (texts_in outside.texts) else texts_in self.old.texts_out)) result }
         ensures waiting { Gives (λ _. texts_in self.new.waiting ≡ (if spec.goes_in tag && not (spec.goes_out parent tag) then spec.then_texts (texts_in self.old.waiting) (texts_in outside.texts) else texts_in self.old.waiting)) result }
     {
-        let Outside {
-            mut ahead,
-            mut own,
-            texts,
-        } = outside;
+        let mut ahead = outside.ahead;
+        let mut own = outside.own;
         if attrs.has(Key::Inline) {
             self.inline.append(&mut own)?;
         }
@@ -190,11 +180,11 @@ impl Inside {
         };
         put_from(&mut self.before, first, ahead)?;
         if goes_out(parent, tag) {
-            return self.texts_out.append(texts);
+            return self.texts_out.append(outside.texts);
         }
         if goes_in(tag) {
-            return self.waiting.append(texts);
+            return self.waiting.append(outside.texts);
         }
-        put_from(&mut self.after, place as u64 + 1, texts.placed)
+        put_from(&mut self.after, place as u64 + 1, outside.texts.placed)
     }
 }

@@ -5,7 +5,7 @@ ghost use Rattle.rst_transform_names.specs.Registering.{registration, IsRegister
 use super::ids::Ids;
 use super::names::Names;
 use super::placing::place_name_messages;
-use super::registry::{Registry, registry_of};
+use super::registry::registry_of;
 use super::writing::Writing;
 use rst_tree::{Node, Result};
 use rst_tree_index::Marked;
@@ -49,22 +49,15 @@ pub fn register(alloc: Global, document: Marked, messages: u64) -> Result<Regist
     ensures { Gives (IsRegistered (registration messages document)) result }
 {
     let elements = document.elements(alloc)?;
-    let Registry {
-        ids,
-        names,
-        standings,
-        known_messages,
-        name_messages,
-        ..
-    } = registry_of(alloc, &elements, messages)?;
+    let registry = registry_of(alloc, &elements, messages)?;
     drop(elements);
-    let serials = standings.len() as u64;
-    let mut writing = Writing::of(alloc, standings, known_messages);
+    let serials = registry.standings.len() as u64;
+    let mut writing = Writing::of(alloc, registry.standings, registry.known_messages);
     let written = document.visit(&mut writing)?;
     Ok(Registered {
-        root: place_name_messages(alloc, written, &name_messages)?,
-        ids,
-        names,
+        root: place_name_messages(alloc, written, &registry.name_messages)?,
+        ids: registry.ids,
+        names: registry.names,
         serials,
     })
 }

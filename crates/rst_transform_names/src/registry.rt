@@ -48,11 +48,15 @@ pub struct Registry {
 }
 
 impl Registry {
-    /// What is known before the first element, with room for so many that may have names, and so many messages and
-    /// problematics; so many numbers were given to messages.
-    fn new(alloc: Global, named: usize, unnamed: usize, messages: u64) -> Result<Registry>
+    /// What is known before the first of some elements, with room for all; so many numbers were given to messages.
+    fn new(alloc: Global, elements: &[Element<'_>], messages: u64) -> Result<Registry>
         ensures { Gives (λ first. Holds first (nothing_known messages)) result }
     {
+        let unnamed = elements
+            .iter()
+            .filter(|new| matches!(new.tag, Tag::Problematic | Tag::SystemMessage))
+            .count();
+        let named = elements.len().saturating_sub(unnamed);
         Ok(Registry {
             ids: Ids::new(alloc),
             names: Names::new(alloc),
@@ -299,16 +303,9 @@ fn is_same_uri(old: Option<&Text>, new: Option<&Text>) -> bool
 pub fn registry_of(alloc: Global, elements: &[Element<'_>], messages: u64) -> Result<Registry>
     ensures { Gives (λ registry. Holds registry (all_registered (map item_of elements.entry.now) (nothing_known messages))) result }
 {
-    let of_messages = elements.iter().filter(|new| is_of_message(new.tag)).count();
-    let named = elements.len().saturating_sub(of_messages);
-    let mut registry = Registry::new(alloc, named, of_messages, messages)?;
+    let mut registry = Registry::new(alloc, elements, messages)?;
     for new in elements {
         registry.register(alloc, *new)?;
     }
     Ok(registry)
-}
-
-/// Whether elements of a kind are messages or problematics.
-fn is_of_message(tag: Tag) -> bool {
-    matches!(tag, Tag::Problematic | Tag::SystemMessage)
 }

@@ -11,10 +11,10 @@ use Rattle.rst_transform_names.proofs.registration.register.Goals as goal
 
 pub returns : goal.returns
 returns c =
-    let held = c.in_ok-ids.field-0 in
+    let held = c.in_ok-registry.registry in
     let r = registered c.args.messages c.args.document in
     let elements = ap (map item_of) c.deref.ensures.value ∙ c.in_ok-elements.ensures in
-    let h = subst (λ es. Holds held (all_registered es (nothing_known c.args.messages))) elements c.in_ok-ids.ensures in
+    let h = subst (λ es. Holds held (all_registered es (nothing_known c.args.messages))) elements c.in_ok-registry.ensures in
     let wrote : c.in_ok-written.written ≡ written r c.args.document = c.in_ok-written.ensures.node ∙ ap (λ g. walked_node (heeded_next is_registered left_behind) (heeded_out is_registered with_given) g c.args.document) (c.of-writing.ensures ∙ written_as_held held r h) in
     record {
       root = c.in_ok-place_name_messages.ensures ∙ ap₂ (λ ms n. with_name_messages ms n) (fun_ext h.name_messages) wrote;
