@@ -10,10 +10,10 @@ use Rattle.rst_tree.specs.declared.node.Node.{Node}
 use Rattle.rst_tree.specs.declared.node.Node.TheVariants.{Element, Text}
 use Rattle.rst_tree.specs.declared.tag.Tag.{Tag}
 use Rattle.rst_tree.specs.Forest.{Forest, bare, element, words}
-use Rattle.rst_tree.specs.Nodes.{forest_of, nodes_of}
+use Rattle.rst_tree.specs.Nodes.{nodes_of}
 use Rattle.rst_tree.proofs.Changes.{forest_of-nodes_of}
 use Rattle.rst_transform_names.specs.Gathered.{number_at}
-use Rattle.rst_transform_names.specs.NameMessages.{beginning, filled, given, goes_in, goes_out, no_texts, nodes_with, taken, takes_in, texts, then_texts, with_element, with_messages, with_name_messages, Filled, Placed, Texts}
+use Rattle.rst_transform_names.specs.NameMessages.{beginning, filled, given, goes_out, no_texts, nodes_with, taken, takes_in, texts, then_texts, with_element, with_messages, with_name_messages, Filled, Placed, Texts}
 use Rattle.rst_transform_names.proofs.MessageGaps.{woven-none}
 
 either_none : {X : Type 0} (b : Bool) → ◌≡◌ {A = List X} (if b then [] else []) []

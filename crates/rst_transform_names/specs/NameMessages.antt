@@ -1,6 +1,6 @@
 -- The document with the messages on equal names, each in its place (reStructuredText Markup Specification, 'Implicit Hyperlink
 -- Targets'; Document Tree, 'system_message').
-use Rattle.std.specs.Prelude.{ℕ, ◌+◌, ◌-◌, ◌^◌, min, ◌&&◌, ◌||◌, not, Bool, true, false, if◌then◌else◌, List, [], ◌∷◌, ◌++◌, map, length, replicate, nat_eq, Option, Some, None, option_and_then, unwrap_or, is_some}
+use Rattle.std.specs.Prelude.{ℕ, ◌+◌, ◌-◌, ◌^◌, min, ◌&&◌, ◌||◌, not, Bool, true, false, if◌then◌else◌, List, [], ◌∷◌, ◌++◌, map, length, replicate, nat_eq, Option, Some, option_and_then, unwrap_or, is_some}
 use Rattle.std.specs.Option.{option_to_list}
 use Rattle.rst_tree.specs.declared.attrs.Attr.{Attr}
 use Rattle.rst_tree.specs.declared.key.Key.TheVariants.{Inline, Serial, TextMessages}

@@ -1,8 +1,6 @@
-use Rattle.std.proofs.Common.{◌≡◌, ◌+◌, [], ◌∷◌, ◌++◌, length, Vec, Global, ap, ◌∙◌, arith}
+use Rattle.std.proofs.Common.{[], ◌∷◌, ◌++◌, Vec, Global, ap, ◌∙◌, arith}
 use Rattle.std.proofs.lemmas.List.{length-set}
 use Rattle.rst_tree.specs.declared.node.Node.{Node}
-use Rattle.rst_transform_names.specs.NameMessages.{in_gaps}
-use Rattle.rst_transform_names.specs.PlacingMessages.{gap_nodes}
 use Rattle.rst_transform_names.proofs.MessageGaps.{gap_pushed}
 use Rattle.rst_transform_names.proofs.weaving.gaps_of.Goals as goal
 
