@@ -1,5 +1,5 @@
 //! A leading field list becomes the bibliography of the document.
-ghost use Rattle.std.specs.Prelude.{◌≡◌, ◌≤◌, ◌++◌, take, drop, vec_len, slice_get};
+ghost use Rattle.std.specs.Prelude.{◌≡◌, slice_get};
 ghost use Rattle.std.specs.List.{prefix_len};
 ghost use Rattle.rst_tree.specs.Faults.{Gives};
 ghost use Rattle.rst_tree.specs.Nodes.{forest_of, nodes_of};
@@ -90,17 +90,6 @@ fn replaced(list: Node, context: &mut Context) -> Result<Vec<Node>>
     with_names(context.alloc, nodes, &attrs)
 }
 
-/// The nodes with more of them from a place on.
-fn with_nodes_at(mut nodes: Vec<Node>, place: usize, mut more: Vec<Node>) -> Result<Vec<Node>>
-    requires { place ≤ vec_len nodes }
-    ensures { Gives (λ all. all.items ≡ take place nodes.items ++ (more.items ++ drop place nodes.items)) result }
-{
-    while let Some(node) = more.pop() {
-        nodes.insert(place, node)?;
-    }
-    Ok(nodes)
-}
-
 /// The document's nodes with the bibliography in the place of a leading field list.
 fn with_bibliography(children: Children, context: &mut Context) -> Result<Children>
     ensures nodes { let list = leading_list (nodes_of children) in Gives (λ all. all ≡ forest_of (nodes_with context.old.first_number context.old.reports.items list (nodes_of children)).0) result }
@@ -112,9 +101,12 @@ fn with_bibliography(children: Children, context: &mut Context) -> Result<Childr
     if !is_list_at(&nodes, place) {
         return Ok(Children::of(nodes));
     }
-    let made = replaced(nodes.remove(place), context)?;
+    let mut made = replaced(nodes.remove(place), context)?;
     let first = title_count(&nodes);
-    Ok(Children::of(with_nodes_at(nodes, first, made)?))
+    let mut rest = nodes.split_off(first)?;
+    nodes.append(&mut made)?;
+    nodes.append(&mut rest)?;
+    Ok(Children::of(nodes))
 }
 
 /// Takes a field list out that is the first node of the document but for titles, comments, targets, substitution definitions
