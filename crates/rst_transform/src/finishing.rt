@@ -1,34 +1,30 @@
 //! All transforms, in order.
-ghost use Rattle.std.specs.Prelude.{◌≡◌, ◌≤◌, ◌++◌, map, IfOk, List};
+ghost use Rattle.std.specs.Prelude.{◌≡◌, ◌≤◌, IfOk};
 ghost use Rattle.rst_settings.specs.Profile.{profile_of};
 ghost use Rattle.rst_tree.specs.Faults.{Gives};
-ghost use Rattle.rst_transform_names.specs.Registering.{IsRegistered, Registration};
-ghost use Rattle.rst_transform_work.specs.Known.{Holds, Makes};
+ghost use Rattle.rst_transform_work.specs.Known.{Makes};
 ghost use Rattle.rst_transform_work.specs.States.{IsDocument};
 ghost use Rattle.rst_transform_docinfo.specs.Docinfo.{with_docinfo};
-ghost use Rattle.rst_transform_messages.specs.Filtered.{with_filtered};
-ghost use Rattle.rst_transform_messages.specs.Listed.{report_said, Lists};
-ghost use Rattle.rst_transform_messages.specs.Messages.{highest_level, is_number_shown, Numbered};
-ghost use Rattle.rst_transform_messages.specs.MessagesIn.{messages_among};
+ghost use Rattle.rst_transform_messages.specs.Messages.{highest_level};
 ghost use Rattle.rst_transform_structure.specs.Targets.{with_targets};
 ghost use Rattle.rst_transform_structure.specs.Title.{with_title};
 ghost use Rattle.rst_transform_substitutions.specs.Expanded.{with_expansions};
-ghost use Rattle.rst_transform.specs.Finishing.{asked, document_in, known_at_first, Finishes};
+ghost use Rattle.rst_transform.specs.Finishing.{asked, Finishes};
 ghost use Rattle.rst_transform.specs.Finishing as spec;
 
 use crate::linking::resolve_links;
 use crate::look::has_early;
-use rst_settings::{Settings, Threshold};
+use rst_settings::Settings;
 use rst_transform_docinfo::docinfo::docinfo;
 use rst_transform_messages::Messages;
 use rst_transform_messages::filter::filter;
-use rst_transform_names::{Registered, register};
+use rst_transform_names::register;
 use rst_transform_structure::last_section::last_section;
 use rst_transform_structure::targets::targets;
 use rst_transform_structure::title::title;
 use rst_transform_structure::transitions::transitions;
 use rst_transform_substitutions::expand::expand;
-use rst_transform_work::{Context, Document, Report};
+use rst_transform_work::{Context, Document};
 use rst_tree::{Node, Note, Result};
 use rst_tree_index::Marked;
 use std::alloc::Global;
@@ -60,55 +56,7 @@ pub fn finish(
     ensures few { IfOk result (λ done. done.highest ≤ 4) }
 {
     let registered = register(alloc, document, messages)?;
-    let (start, mut context) = started(alloc, registered, messages);
-    let list = listed(alloc, &start, messages, settings)?;
-    let after = transformed(start, &mut context, settings)?;
-    let sectioned = last_section(after, &mut context, settings.report)?;
-    let (shown, list) = filtered(alloc, sectioned, context.reports, list, settings.report)?;
-    let (notes, highest) = list.end();
-    Ok(Finished {
-        document: shown.into_node(),
-        notes,
-        highest,
-    })
-}
-
-/// The messages in a registered document, in a list with room for so many.
-fn listed(alloc: Global, document: &Document, room: u64, settings: &Settings) -> Result<Messages>
-    ensures halt { Gives (λ list. list.halt ≡ settings.now.halt) result }
-    ensures report { Gives (λ list. list.report ≡ settings.now.report) result }
-    ensures lists { Gives (Lists (messages_among document.now.children)) result }
-{
-    let mut list = Messages::with_room(alloc, room, settings.halt, settings.report)?;
-    list.add_all(alloc, &document.children)?;
-    Ok(list)
-}
-
-/// A document with its last section, filtered, and the list of messages with those of the transforms.
-fn filtered(
-    alloc: Global,
-    document: Document,
-    reports: Vec<Report>,
-    list: Messages,
-    report: Threshold,
-) -> Result<(Document, Messages)>
-    ensures halt { Gives (λ done. done.1.halt ≡ list.halt) result }
-    ensures lists { (all : List Numbered) → Lists all list → Gives (λ done. Lists (all ++ map report_said reports.items) done.1) result }
-    ensures document { (all : List Numbered) → Lists all list → list.report ≡ report → Gives (λ done. done.0 ≡ with_filtered report (is_number_shown report (all ++ map report_said reports.items)) document) result }
-{
-    let mut list = list;
-    list.add_reports(reports)?;
-    let document = filter(alloc, document, report, list.shown())?;
-    Ok((document, list))
-}
-
-/// A registered document before the transforms, where so many numbers were given to messages, and what is known beside it.
-fn started(alloc: Global, registered: Registered, messages: u64) -> (Document, Context)
-    requires document { IsDocument registered.root }
-    ensures document { result.0 ≡ document_in registered.root }
-    ensures known { (r : Registration) → IsRegistered r registered → Holds result.1 (known_at_first messages r) }
-{
-    let context = Context {
+    let mut context = Context {
         alloc,
         ids: registered.ids,
         names: registered.names,
@@ -116,7 +64,19 @@ fn started(alloc: Global, registered: Registered, messages: u64) -> (Document, C
         first_number: messages,
         serials: registered.serials,
     };
-    (Document::of(registered.root), context)
+    let start = Document::of(registered.root);
+    let mut list = Messages::with_room(alloc, messages, settings.halt, settings.report)?;
+    list.add_all(alloc, &start.children)?;
+    let after = transformed(start, &mut context, settings)?;
+    let sectioned = last_section(after, &mut context, settings.report)?;
+    list.add_reports(context.reports)?;
+    let shown = filter(alloc, sectioned, settings.report, list.shown())?;
+    let (notes, highest) = list.end();
+    Ok(Finished {
+        document: shown.into_node(),
+        notes,
+        highest,
+    })
 }
 
 /// A document after all transforms, in order.

@@ -2,7 +2,6 @@
 ghost use Rattle.std.specs.Prelude.{◌<◌, ◌≤◌, length, map};
 ghost use Rattle.rst_tree.specs.Faults.{Gives};
 ghost use Rattle.rst_transform_links.specs.Linkings.{held};
-ghost use Rattle.rst_transform_links.specs.Settling.{link_changes};
 ghost use Rattle.rst_transform_work.specs.Known.{Makes};
 ghost use Rattle.rst_transform.specs.Linking.{decision_of, first_changes, linked_by, with_links};
 
@@ -61,7 +60,8 @@ fn resolve_by(
     Ok(after)
 }
 
-/// What the first of some transforms makes of linked elements that doesn't leave all as they are, and how many are done then.
+/// What the first of some transforms makes of linked elements that doesn't leave all as they are, where those that fail become
+/// problematics, and how many are done then.
 fn first_changes(
     context: &mut Context,
     linked: &[Linked<'_>],
@@ -74,21 +74,13 @@ fn first_changes(
     let Some((first, more)) = transforms.split_first() else {
         return Ok((Changes::of(Vec::new(context.alloc)), 0));
     };
-    let changes = changes_by(context, linked, *first)?;
+    let outcomes = outcomes_by(context, linked, *first)?;
+    let changes = settle(context, linked, outcomes)?;
     if !changes.are_idle() {
         return Ok((changes, 1));
     }
     let (changes, done) = first_changes(context, linked, more)?;
     Ok((changes, done + 1))
-}
-
-/// What a transform makes of linked elements. Those that fail become problematics.
-fn changes_by(context: &mut Context, linked: &[Linked<'_>], transform: LinkStep) -> Result<Changes>
-    ensures { Gives (Makes (link_changes (decision_of transform) (map held linked.now)) context.old context.new) result }
-{
-    let outcomes = outcomes_by(context, linked, transform)?;
-    let changes = settle(context, linked, outcomes)?;
-    Ok(changes)
 }
 
 /// What becomes of linked elements, as a transform decides.

@@ -1,12 +1,11 @@
-use Rattle.std.proofs.Common.{◌≡◌, ◌∙◌, ◌++◌, List, map, ap, ap₂, subst, sym}
+use Rattle.std.proofs.Common.{◌≡◌, ◌∙◌, ◌++◌, List, [], map, ap, ap₂, rules, subst, sym}
+use Rattle.std.proofs.Math.Path.{fun_ext}
 use Rattle.rst_settings.specs.Profile.{profile_of}
-use Rattle.rst_tree.specs.declared.node.Node.{Node}
-use Rattle.rst_tree.specs.declared.node.Node.TheVariants.{Element, Text}
 use Rattle.rst_transform_names.proofs.RegisteredRoot.{registered_kind}
 use Rattle.rst_transform_names.specs.Registering.{registration}
 use Rattle.rst_transform_work.specs.declared.document.Document.{Document}
 use Rattle.rst_transform_work.specs.Known.{Holds, Known}
-use Rattle.rst_transform_work.specs.States.{document_node, node_tag}
+use Rattle.rst_transform_work.specs.States.{document_node}
 use Rattle.rst_transform_structure.specs.LastSection.{with_last_section}
 use Rattle.rst_transform_messages.specs.Filtered.{with_filtered}
 use Rattle.rst_transform_messages.specs.Listed.{report_said, Lists}
@@ -16,11 +15,10 @@ use Rattle.rst_transform.specs.Finishing.{all_messages, document_in, known_at_fi
 use Rattle.rst_transform.proofs.Sequence.{makes_then, same_kind}
 use Rattle.rst_transform.proofs.finishing.finish.Goals as goal
 
-pub started-start-requires : goal.started-start-requires
-started-start-requires c = record {
-  document = same_kind c.in_ok-registered.registered.root (registration c.args.messages c.args.document).root c.args.document c.in_ok-registered.ensures.root
-      (registered_kind c.args.messages c.args.document) c.requires.document;
-}
+pub of-start-requires : goal.of-start-requires
+of-start-requires c =
+    same_kind c.in_ok-registered.registered.root (registration c.args.messages c.args.document).root c.args.document c.in_ok-registered.ensures.root
+    (registered_kind c.args.messages c.args.document) c.requires.document
 
 pub returns-clause-finishes : goal.returns-clause-finishes
 returns-clause-finishes c =
@@ -28,19 +26,21 @@ returns-clause-finishes c =
     let profile = profile_of settings in
     let r = registration c.args.messages c.args.document in
     let known = known_at_first c.args.messages r in
-    let start : c.started-start.result.0 ≡ document_in r.root = c.started-start.ensures.document ∙ ap document_in c.in_ok-registered.ensures.root in
+    let start : c.of-start.result ≡ document_in r.root = ap document_in c.of-start.ensures ∙ ap document_in c.in_ok-registered.ensures.root in
     let after : Document → Document × Known = λ d. let done = transformed profile settings d known in with_last_section settings.report done.0 done.1 in
-    let made = makes_then (transformed profile settings c.started-start.result.0) (with_last_section settings.report) c.started-start.result.1 c.transformed.new.context
-    c.last_section.new.context _ c.in_ok-sectioned.sectioned c.in_ok-after.ensures c.in_ok-sectioned.ensures known (c.started-start.ensures.known r c.in_ok-registered.ensures) in
+    let made = makes_then (transformed profile settings c.of-start.result) (with_last_section settings.report) _ c.transformed.new.context
+    c.last_section.new.context _ c.in_ok-sectioned.sectioned c.in_ok-after.ensures c.in_ok-sectioned.ensures known (search rules) in
     let done = subst (λ d. (c.in_ok-sectioned.sectioned ≡ (after d).0) × Holds c.last_section.new.context (after d).1) start made in
     let first : List Numbered = messages_among (document_in r.root).children in
-    let listed : Lists first c.in_ok-list.list = subst (λ (d : Document). Lists (messages_among d.children) c.in_ok-list.list) start c.in_ok-list.ensures.lists in
-    let all : first ++ map report_said c.last_section.new.context.reports.items ≡ all_messages r (after (document_in r.root)).1.reports =
-    ap (λ reports. first ++ map report_said reports) done.1.reports in (
+    let listed : Lists first c.add_all.new.self = subst (λ (d : Document). Lists (messages_among d.children) c.add_all.new.self) start (c.in_ok-add_all.ensures.adds [] c.in_ok-list.ensures.none) in
+    let told : List Numbered = first ++ map report_said c.last_section.new.context.reports.items in
+    let all : told ≡ all_messages r (after (document_in r.root)).1.reports = ap (λ reports. first ++ map report_said reports) done.1.reports in
+    let lists : Lists told c.add_reports.new.self = c.in_ok-add_reports.ensures.adds first listed in
+    let report = c.in_ok-add_reports.ensures.levels.1 ∙ c.in_ok-add_all.ensures.levels.1 ∙ c.in_ok-list.ensures.report in
+    let halt = c.in_ok-add_reports.ensures.levels.0 ∙ c.in_ok-add_all.ensures.levels.0 ∙ c.in_ok-list.ensures.halt in (
       c.into_node.ensures
-          ∙ ap document_node (c.in_ok-shown.ensures.document first listed c.in_ok-list.ensures.report)
+          ∙ ap document_node (c.in_ok-shown.ensures.document
+          ∙ ap (λ shown. with_filtered settings.report shown c.in_ok-sectioned.sectioned) (fun_ext (λ n. c.shown.ensures told lists n ∙ ap (λ from. is_number_shown from told n) report)))
           ∙ ap₂ (λ (all : List Numbered) (d : Document). document_node (with_filtered settings.report (is_number_shown settings.report all) d)) all done.0,
-      c.end-notes.ensures.notes _ (c.in_ok-shown.ensures.lists first listed)
-          ∙ ap (λ halt. until_halt halt (notes_of (first ++ map report_said c.last_section.new.context.reports.items))) (c.in_ok-shown.ensures.halt ∙ c.in_ok-list.ensures.halt)
-          ∙ ap (λ all. until_halt settings.halt (notes_of all)) all,
+      c.end-notes.ensures.notes told lists ∙ ap (λ halt. until_halt halt (notes_of told)) halt ∙ ap (λ all. until_halt settings.halt (notes_of all)) all,
     )
