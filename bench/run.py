@@ -3,6 +3,7 @@
 
     bench/run.py [--n N] [--only WORD] [--limit SECONDS] [--rounds R] [--no-others] [PROGRAM]
     bench/run.py --counts [--n N] [--only WORD] [PROGRAM]
+    bench/run.py --plot FOLDER ..
 
 It makes its inputs: documents of ordinary prose (1 MB and 10 MB), and families of documents at n, 2n and 4n. For each input and
 each program it prints CPU seconds (user and system, the least of three runs for PROGRAM, one run for the others), megabytes a
@@ -15,6 +16,9 @@ PROGRAM is by default the one that was built here, or else the one in dist/.
 
 With --counts it counts instructions under valgrind's callgrind, which is the same in each run on any machine: for each document, and for each
 family at n, those for each byte of the input, and for each byte of the input and the output. What an empty document costs is left out.
+
+With --plot it also writes pictures into a folder: speed.svg (megabytes a second for each document) and families.svg (CPU seconds over size), or
+counts.svg with --counts.
 """
 
 import argparse
@@ -30,6 +34,7 @@ import sys
 import tempfile
 import time
 
+import plot
 from families import FAMILIES, mixed
 from prose import CHINESE, FRENCH, RUSSIAN, plain, prose, references
 
@@ -146,6 +151,7 @@ class Bench:
         self.path, self.programs, self.limit = os.path.join(folder, "input.rst"), {**programs, **markdown}, limit
         self.markdown = markdown
         self.least = {}
+        self.sizes = {}
         self.write("")
         self.start = {name: self.measured("", name).seconds for name in programs}
 
@@ -156,6 +162,7 @@ class Bench:
 
     def measured(self, title, name):
         """What a program needs for the input that was written last, with this title: the least of all rounds so far."""
+        self.sizes[title] = os.path.getsize(self.path)
         quick = name == "rst2pseudoxml" or name in self.markdown
         done = best(self.programs[name], self.path, self.limit, 3 if quick else 1)
         least = self.least.setdefault((title, name), done)
@@ -204,6 +211,29 @@ class Bench:
                 self.family(title, made, n)
 
 
+def written(folder, name, picture):
+    """Writes a picture into a folder."""
+    pathlib.Path(folder).mkdir(parents=True, exist_ok=True)
+    (pathlib.Path(folder) / name).write_text(picture, encoding="utf-8")
+
+
+def pictures(bench, folder):
+    """Writes the pictures of what was measured: of the documents the speed, of the families the time over the size."""
+    speeds, growth = {}, {}
+    for (title, name), done in bench.least.items():
+        size, (family, _, count) = bench.sizes[title], title.rpartition(", ")
+        if done.failed() or done.seconds <= 0 or not title:
+            continue
+        if not count.isdigit():
+            speeds.setdefault(title, {})[name] = size / 1e6 / done.seconds
+        elif name == "rst2pseudoxml":
+            growth.setdefault(family, []).append((size, done.seconds))
+    if speeds:
+        written(folder, "speed.svg", plot.bars("Megabytes a second", [*speeds.items()]))
+    if growth:
+        written(folder, "families.svg", plot.lines("CPU seconds of each family over the size of the input", "bytes", "CPU seconds", growth))
+
+
 def counted(program, text):
     """The instructions that a program takes for a text, and the bytes that it prints."""
     words = ["valgrind", "--tool=callgrind", "--callgrind-out-file=/dev/null", program, *WORDS]
@@ -217,17 +247,21 @@ def counted(program, text):
         return int(count[1]), printed.tell()
 
 
-def counts(program, word, n):
-    """Prints the instructions for each byte of each input whose title holds a word."""
+def counts(program, word, n, folder):
+    """Prints the instructions for each byte of each input whose title holds a word, and writes their picture into a folder, if one is given."""
     empty, _ = counted(program, "")
     print(f"{'':<52}{'MB':>8}{'millions':>10}{'a byte':>9}{'with output':>13}")
     inputs = {title: made(1_000_000) for title, made in DOCUMENTS.items() if word in title}
     inputs.update({title: made(n) for title, made in FAMILIES.items() if word in title})
+    groups = []
     for title, text in inputs.items():
         size = len(text.encode())
         taken, printed = counted(program, text)
         each = taken - empty
         print(f"{title:<52}{size / 1e6:8.3f}{taken / 1e6:10.1f}{each / size:9.1f}{each / (size + printed):13.1f}", flush=True)
+        groups.append((title, {"of the input": each / size, "of the input and the output": each / (size + printed)}))
+    if folder:
+        written(folder, "counts.svg", plot.bars("Instructions for each byte", groups))
 
 
 def show(name, size, measured, note=""):
@@ -249,10 +283,11 @@ def main():
     parser.add_argument("--rounds", type=int, default=1, help="how often everything is measured; the least counts")
     parser.add_argument("--counts", action="store_true", help="count instructions instead")
     parser.add_argument("--no-others", action="store_true", help="no other programs")
+    parser.add_argument("--plot", metavar="FOLDER", help="write pictures into a folder")
     given = parser.parse_args()
     program = given.program or str(next((path for path in PROGRAMS if path.exists()), PROGRAMS[-1]))
     if given.counts:
-        return counts(os.path.abspath(program), given.only, given.n)
+        return counts(os.path.abspath(program), given.only, given.n, given.plot)
     programs = {"rst2pseudoxml": [os.path.abspath(program), *WORDS], **({} if given.no_others else others())}
     print(f"{time.strftime('%Y-%m-%d')}, {processor()}, {os.cpu_count()} processors, {platform.system()} {platform.release()}")
     print(f"{program}; beside it: {', '.join(list(programs)[1:]) or 'none'}")
@@ -262,6 +297,8 @@ def main():
             if given.rounds > 1:
                 print(f"round {number} of {given.rounds}")
             bench.all(given.only, given.n)
+        if given.plot:
+            pictures(bench, given.plot)
     return 0
 
 
