@@ -115,8 +115,8 @@ fn pieces_by(alloc: Global, text: &[char], bytes: &[u8]) -> Result<Vec<Piece>, A
     requires { AreBytesOf text.now bytes.now }
     ensures { IfOk result (λ pieces. IsPieces text.now 0 pieces.items) }
 {
-    // Prose has less than a piece for each 32 characters.
-    let mut pieces = Vec::with_capacity(alloc, text.len() / 32 + 2)?;
+    // Prose has less than a piece for each 32 characters, and a short text with markup mostly three or four.
+    let mut pieces = Vec::with_capacity(alloc, text.len() / 32 + 4)?;
     let mut from = 0;
     let mut place = 0;
     let mut escaped = false;

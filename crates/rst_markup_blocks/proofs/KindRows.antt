@@ -19,6 +19,7 @@ use Rattle.rst_markup_blocks.specs.Conditions.{next_text, after_text, item_enume
 use Rattle.rst_markup_blocks.specs.Kinds.{later_kinds, first_kind, kind_at}
 use Rattle.rst_markup_blocks.specs.Begun.{kind_in, IsMarked, IsBegun}
 use Rattle.rst_markup_blocks.specs.declared.begun.Begun.{Begun}
+use Rattle.rst_markup_blocks.specs.declared.begun.Begun.TheVariants as begun
 use Rattle.rst_markup_blocks.specs.declared.kind.Kind.{Kind}
 use Rattle.rst_markup_blocks.specs.declared.kind.Kind.TheVariants.{Blank, Quote, Bullet, Enumerator, Field, OptionItem, Doctest, Line, Grid, Simple, Explicit, Anonymous, Adornment, Text}
 
@@ -57,6 +58,11 @@ begun_of X t next after begun a b d kind mark = record {
   kind = kind;
   mark = subst (λ u. IsMarked u (next_text X) (after_text X) begun) (sym a) (subst (λ u. IsMarked t u (after_text X) begun) (sym b) (subst (λ u. IsMarked t next u begun) (sym d) mark));
 }
+
+-- a blank line is blank, whatever is below it
+pub blank_at : (X : Block) (t : List ℕ) → front_text X ≡ t → is_blank t ≡ true → IsBegun X begun.Blank
+blank_at X [] e h = record { kind = sym (kind_at_is X [] (next_text X) (after_text X) e refl refl); mark = tt }
+blank_at X (c ∷ cs) e h = absurd (true≢false (sym h))
 
 pub bullet_is : (t : List ℕ) → bullet t ≡ bullet_by (first t) t
 unfolding bullet

@@ -1,8 +1,8 @@
 //! What begins at a line, with what its mark says.
-ghost use Rattle.std.specs.Prelude.{◌≡◌, ℕ, List, ◌+◌, ◌<◌, ◌≤◌, length, drop};
+ghost use Rattle.std.specs.Prelude.{◌≡◌, ℕ, List, ◌+◌, ◌<◌, ◌≤◌, false, length, drop};
 ghost use Rattle.std.specs.Char.{is_ascii_alphabetic};
 ghost use Rattle.std.specs.Str.{chars};
-ghost use Rattle.rst_text.specs.Block.{Block, front_text};
+ghost use Rattle.rst_text.specs.Block.{Block, front_text, is_blank};
 ghost use Rattle.rst_text.specs.Looked.{capped};
 ghost use Rattle.rst_text.specs.Shown.{block_of};
 ghost use Rattle.rst_markup_lines.specs.Front.{begins_by};
@@ -72,7 +72,7 @@ pub fn kind_of(view: &View<'_>, i: usize, looks: &mut Looks) -> Kind
     begun_at(view, i, looks).kind()
 }
 
-/// What begins at the line at place `at`, in three looks.
+/// What begins at the line at place `at`, in at most three looks.
 pub fn begun_at(view: &View<'_>, at: usize, looks: &mut Looks) -> Begun
     requires inside { at < length (block_of view.now) }
     ensures begun { spec.IsBegun (drop at (block_of view.now)) result }
@@ -80,6 +80,9 @@ pub fn begun_at(view: &View<'_>, at: usize, looks: &mut Looks) -> Begun
     ensures low { capped (looks.old + 1) ≤ looks.new }
 {
     let text = view.line(at, looks);
+    if is_blank(text) {
+        return Begun::Blank;
+    }
     let next = below_text(view, at, 1, looks);
     let after = below_text(view, at, 2, looks);
     begun_by(text, next, after)
@@ -95,9 +98,10 @@ fn begins_with_letter(text: &str) -> bool
     }
 }
 
-/// What begins at a line before the next two: the first row of the table of constructs whose condition holds.
+/// What begins at a line that isn't blank before the next two: the first row of the table of constructs whose condition holds.
 #[tactic(auto, using(crate::proofs::KindRows::bullet_is))]
 fn begun_by(text: &str, next: &str, after: &str) -> Begun
+    requires { is_blank (chars text.now) ≡ false }
     ensures kind { (X : Block) → front_text X ≡ chars text.now → next_text X ≡ chars next.now → after_text X ≡ chars after.now → spec.kind_in result ≡ kind_at X }
     ensures mark { spec.IsMarked (chars text.now) (chars next.now) (chars after.now) result }
 {
@@ -107,9 +111,6 @@ fn begun_by(text: &str, next: &str, after: &str) -> Begun
             Some(enumerator) => Begun::Enumerator(enumerator),
             None => Begun::Text,
         };
-    }
-    if is_blank(text) {
-        return Begun::Blank;
     }
     if begins_with(' ', text) {
         return Begun::Quote;

@@ -5,7 +5,7 @@ use Rattle.std.specs.Str.{chars}
 use Rattle.rst_markup_lines.specs.Front.{begins_by}
 use Rattle.rst_markup_blocks.specs.Conditions.{item_enumerator}
 use Rattle.rst_markup_blocks.specs.Kinds.{first_kind, later_kinds}
-use Rattle.rst_markup_blocks.specs.declared.kind.Kind.TheVariants.{Blank, Quote, Bullet, Enumerator, Field, OptionItem, Text}
+use Rattle.rst_markup_blocks.specs.declared.kind.Kind.TheVariants.{Quote, Bullet, Enumerator, Field, OptionItem, Text}
 use Rattle.rst_markup_blocks.proofs.KindRows.{kind_by, kind_at_is, letter_kind}
 use Rattle.rst_markup_blocks.proofs.begun.begun_by.Goals as goal
 
@@ -20,11 +20,6 @@ returns-in-None-clause-kind c = λ X a b d.
     let letter : begins_by is_ascii_alphabetic (chars c.args.text.now) ≡ true = search rules in
     let row : Text ≡ (if is_some (item_enumerator (chars c.args.text.now) (chars c.args.next.now)) then Enumerator else Text) = search rules in
     row ∙ sym (letter_kind X _ _ _ letter a b d)
-
-pub returns-then-is_blank-clause-kind : goal.returns-then-is_blank-clause-kind
-returns-then-is_blank-clause-kind c = λ X a b d.
-    let row : Blank ≡ kind_by (chars c.args.text.now) (chars c.args.next.now) (chars c.args.after.now) (first_kind later_kinds X) = search rules in
-    row ∙ sym (kind_at_is X _ _ _ a b d)
 
 pub returns-then-begins_with-clause-kind : goal.returns-then-begins_with-clause-kind
 returns-then-begins_with-clause-kind c = λ X a b d.
