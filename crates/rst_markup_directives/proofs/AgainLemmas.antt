@@ -1,6 +1,6 @@
 -- The first field that one before it has, looked for from the front.
-use Rattle.std.proofs.Common.{◌≡◌, ℕ, ◌+◌, Bool, true, false, cond, if◌then◌else◌, List, [], ◌∷◌, ◌++◌, take, drop, length, length-append, Option, Some, None, option_map, refl, sym, ap, ◌∙◌}
-use Rattle.std.proofs.lemmas.List.{append_assoc}
+use Rattle.std.proofs.Common.{◌≡◌, ℕ, ◌+◌, Bool, true, false, cond, if◌then◌else◌, List, [], ◌∷◌, ◌++◌, drop, length, length-append, Option, Some, None, option_map, refl, sym, ap, ◌∙◌}
+use Rattle.std.proofs.lemmas.List.{append_assoc, drop_at, take_at}
 use Rattle.rst_text.specs.Places.{first_from}
 use Rattle.rst_markup_directives.specs.Characters.{Text}
 use Rattle.rst_markup_directives.specs.Options.{FieldText, is_field_name, front_name, is_again, first_again}
@@ -10,14 +10,6 @@ abbrev pub again_from : List FieldText → List FieldText → Option Text
 again_from before [] = None
 again_from before (f ∷ fs) = if is_field_name f.0 before then Some f.0 else again_from (before ++ f ∷ []) fs
 
-drop-front : (xs ys : List FieldText) → drop (length xs) (xs ++ ys) ≡ ys
-drop-front [] ys = refl
-drop-front (x ∷ xs) ys = drop-front xs ys
-
-take-front : (xs ys : List FieldText) → take (length xs) (xs ++ ys) ≡ xs
-take-front [] ys = refl
-take-front (x ∷ xs) ys = ap (λ l. x ∷ l) (take-front xs ys)
-
 -- the name at the place found, if one is
 abbrev named_at : List FieldText → Option ℕ → Option Text
 named_at fs r = option_map (λ i. front_name (drop i fs)) r
@@ -25,8 +17,8 @@ named_at fs r = option_map (λ i. front_name (drop i fs)) r
 again-is : (before rest : List FieldText) → again_from before rest ≡ named_at (before ++ rest) (first_from (is_again (before ++ rest)) (length before) (length rest))
 again-is before [] = refl
 again-is before (f ∷ fs) =
-    let here : is_again (before ++ f ∷ fs) (length before) ≡ is_field_name f.0 before = rw (drop-front before (f ∷ fs), take-front before (f ∷ fs)) refl in
-    let name : front_name (drop (length before) (before ++ f ∷ fs)) ≡ f.0 = ap front_name (drop-front before (f ∷ fs)) in
+    let here : is_again (before ++ f ∷ fs) (length before) ≡ is_field_name f.0 before = rw (drop_at before (f ∷ fs) _ refl, take_at before (f ∷ fs) _ refl) refl in
+    let name : front_name (drop (length before) (before ++ f ∷ fs)) ≡ f.0 = ap front_name (drop_at before (f ∷ fs) _ refl) in
     let whole : (before ++ f ∷ []) ++ fs ≡ before ++ f ∷ fs = append_assoc before (f ∷ []) fs in
     let more : length (before ++ f ∷ []) ≡ length before + 1 = length-append before (f ∷ []) in
     rw here (by (is_field_name f.0 before) (sym (ap Some name)) (again-is (before ++ f ∷ []) fs ∙ ap (λ X. named_at X (first_from (is_again X) (length (before ++ f ∷ [])) (length fs))) whole

@@ -1,5 +1,6 @@
 -- Settings that are made one after the other.
 use Rattle.std.proofs.Common.{◌≡◌, ℕ, suc, zero, ◌+◌, ◌<◌, List, [], ◌∷◌, ◌++◌, drop, length, get_or, Some, Result, Ok, Err, refl, sym, ap, arith}
+use Rattle.std.proofs.lemmas.List.{append_assoc}
 use Rattle.rst_markup_directives.specs.Options.{Choice, onto_choices, field_text, field_texts}
 use Rattle.rst_markup_directives.specs.Wrong.{Wrong}
 use Rattle.rst_markup_directives.specs.declared.options.Field.{Field}
@@ -11,11 +12,7 @@ behind_choices done (Err wrong) = Err wrong
 
 behind-onto : (done : List Choice) (choice : Choice) (name : List ℕ) (more : Result (List Choice) Wrong) → behind_choices done (onto_choices (Some choice) name more) ≡ behind_choices (done ++ choice ∷ []) more
 behind-onto done choice name (Err wrong) = refl
-behind-onto done choice name (Ok more) = ap Ok (sym (one done))
-  where
-    one : (xs : List Choice) → (xs ++ choice ∷ []) ++ more ≡ xs ++ (choice ∷ more)
-    one [] = refl
-    one (x ∷ xs) = ap (λ l. x ∷ l) (one xs)
+behind-onto done choice name (Ok more) = ap Ok (sym (append_assoc done (choice ∷ []) more))
 
 -- the field at a place, and those behind it
 pub fields-at : (fields : List Field) (i : ℕ) (f : Field) → i < length fields → f ≡ get_or fields i f → field_texts (drop i fields) ≡ field_text f ∷ field_texts (drop (i + 1) fields)

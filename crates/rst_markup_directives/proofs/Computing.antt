@@ -10,12 +10,11 @@ unfolding
     Rattle.rst_markup_directives.specs.Directive.read_block Rattle.rst_markup_directives.specs.Directive.directive_of
     Rattle.rst_markup_directives.specs.Judgement.permitted Rattle.rst_markup_directives.specs.Judgement.content_fault
     Rattle.rst_markup_directives.specs.Layout.begins_field Rattle.rst_markup_directives.specs.Layout.layout_at
-    Rattle.rst_markup_directives.specs.Measure.number_len Rattle.rst_markup_directives.specs.Measure.is_unit
-    Rattle.rst_markup_directives.specs.Measure.measure_parts Rattle.rst_markup_directives.specs.Measure.measure_of
-    Rattle.rst_markup_directives.specs.Measure.scale_of Rattle.rst_markup_directives.specs.Measure.vertical_alignment
-    Rattle.rst_markup_directives.specs.Measure.alignment_of Rattle.rst_markup_directives.specs.Name.admonition_of
-    Rattle.rst_markup_directives.specs.Name.is_code Rattle.rst_markup_directives.specs.Name.directive_named
-    Rattle.rst_markup_directives.specs.OptionName.option_named Rattle.rst_markup_directives.specs.Options.joined
+    Rattle.rst_markup_directives.specs.Lines.joined Rattle.rst_markup_directives.specs.Measure.number_len
+    Rattle.rst_markup_directives.specs.Measure.is_unit Rattle.rst_markup_directives.specs.Measure.measure_of
+    Rattle.rst_markup_directives.specs.Measure.scale_of Rattle.rst_markup_directives.specs.Measure.alignment_of
+    Rattle.rst_markup_directives.specs.Name.admonition_of Rattle.rst_markup_directives.specs.Name.is_code
+    Rattle.rst_markup_directives.specs.Name.directive_named Rattle.rst_markup_directives.specs.OptionName.option_named
     Rattle.rst_markup_directives.specs.Options.field_in Rattle.rst_markup_directives.specs.Options.settings_in
     Rattle.rst_markup_directives.specs.Target.target_text Rattle.rst_markup_directives.specs.Target.is_simple_reference
     Rattle.rst_markup_directives.specs.Target.is_phrase Rattle.rst_markup_directives.specs.Target.phrase_in

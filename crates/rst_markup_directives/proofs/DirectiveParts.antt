@@ -1,7 +1,8 @@
 -- The parts of a directive are blocks of what its block is a part of.
-use Rattle.std.proofs.Common.{◌≡◌, ℕ, zero, suc, ◌+◌, ◌-◌, ◌≤◌, ◌==◌, Bool, true, false, not, cond, ◌&&◌, List, [], ◌∷◌, map, length, take, drop, length-drop, Option, None, Some, option_map, Result, Ok, Err, arith, refl, sym, ap, ◌∙◌, subst}
+use Rattle.std.proofs.Common.{◌≡◌, ℕ, zero, suc, ◌+◌, ◌-◌, ◌≤◌, ◌==◌, Bool, true, false, not, cond, ◌&&◌, List, [], ◌∷◌, length, take, drop, length-drop, Option, None, Some, option_map, Result, Ok, Err, arith, refl, sym, ap, ◌∙◌, subst}
 use Rattle.std.specs.List.{prefix_len}
-use Rattle.std.proofs.lemmas.List.{drop-drop}
+use Rattle.std.proofs.lemmas.List.{drop-drop, length-map, length-take}
+use Rattle.std.proofs.lemmas.List.Folds.{length-prefix_len}
 use Rattle.rst_text.specs.Block.{Line, Block, cut, is_blank}
 use Rattle.rst_text.specs.MayCut.{is_indented}
 use Rattle.rst_text.specs.Names.{normalized_white}
@@ -75,24 +76,12 @@ content_block B block layout all b inside within = (
 -- ---- places in a block
 
 before_field-le : (run : List Text) → before_field run ≤ length run
-before_field-le [] = omega arith
-before_field-le (t ∷ ts) = by (begins_field t) (before_field-le ts)
-  where
-    by : (b : Bool) → before_field ts ≤ length ts → cond (not b) (1 + before_field ts) 0 ≤ suc (length ts)
-    by true h = omega arith
-    by false h = omega arith
+before_field-le run = omega (arith, length-prefix_len (λ t. not (begins_field t)) run, length-take (before_field run) run)
 
 first_run-le : (B : Block) → length (first_run B) ≤ length B
-first_run-le [] = omega arith
-first_run-le (l ∷ ls) = by (is_blank l.text) (first_run-le ls)
-  where
-    by : (b : Bool) → length (first_run ls) ≤ length ls → length (map (λ (m : Line). m.text) (take (cond (not b) (1 + prefix_len (λ m. not (is_blank m.text)) ls) 0) (l ∷ ls))) ≤ suc (length ls)
-    by true h = omega arith
-    by false h =
-        let n : ℕ = prefix_len (λ (m : Line). not (is_blank m.text)) ls in
-        let one : suc n ≡ 1 + n = omega arith in
-        let more : suc (length (first_run ls)) ≤ suc (length ls) = omega arith in
-        subst (λ k. length (map (λ (m : Line). m.text) (take k (l ∷ ls))) ≤ suc (length ls)) one more
+first_run-le B =
+    let n : ℕ = prefix_len (λ (l : Line). not (is_blank l.text)) B in
+    omega (arith, length-map (take n B) (λ (l : Line). l.text), length-take n B)
 
 blank_len-le : (B : Block) → blank_len B ≤ length B
 blank_len-le B = while_le Blank B

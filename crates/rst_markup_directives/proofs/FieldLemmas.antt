@@ -1,5 +1,6 @@
 -- Fields that are read one after the other.
-use Rattle.std.proofs.Common.{◌≡◌, ℕ, suc, zero, ◌+◌, ◌-◌, ◌<◌, ◌≤◌, length-drop, true, false, List, [], ◌∷◌, ◌++◌, take, drop, length, Option, Some, None, refl, sym, ap, ◌∙◌, inl, inr, arith}
+use Rattle.std.proofs.Common.{◌≡◌, ℕ, suc, zero, ◌+◌, ◌-◌, ◌<◌, ◌≤◌, true, false, List, [], ◌∷◌, ◌++◌, take, drop, length, Option, Some, None, refl, sym, ap, ◌∙◌, inl, inr, arith}
+use Rattle.std.proofs.lemmas.List.{append-nil, append_assoc, drop_all, length-map, length-take-le, take-map, take_rest}
 use Rattle.std.specs.Borrow.{Bor}
 use Rattle.std.specs.List.{prefix_len}
 use Rattle.std.specs.Prelude.{slice_index_or}
@@ -48,11 +49,7 @@ first_field t ts = ap fields_of (first_group t ts)
 
 behind-onto : (done : List FieldText) (f : FieldText) (more : Option (List FieldText)) → behind_fields done (onto_fields (Some f) more) ≡ behind_fields (done ++ f ∷ []) more
 behind-onto done f None = refl
-behind-onto done f (Some more) = ap Some (sym (one done))
-  where
-    one : (xs : List FieldText) → (xs ++ f ∷ []) ++ more ≡ xs ++ (f ∷ more)
-    one [] = refl
-    one (x ∷ xs) = ap (λ l. x ∷ l) (one xs)
+behind-onto done f (Some more) = ap Some (sym (append_assoc done (f ∷ []) more))
 
 -- one field more
 pub fields-more : (X : List Text) (t : Text) (ts : List Text) (done : List FieldText) (f : FieldText) (whole : Option (List FieldText)) → X ≡ t ∷ ts
@@ -74,14 +71,8 @@ texts-drop run zero = refl
 texts-drop [] (suc i) = refl
 texts-drop (v ∷ vs) (suc i) = texts-drop vs i
 
-pub texts-take : (run : List (Bor (List ℕ))) (n : ℕ) → texts_of (take n run) ≡ take n (texts_of run)
-texts-take run zero = refl
-texts-take [] (suc n) = refl
-texts-take (v ∷ vs) (suc n) = ap (λ l. chars v.now ∷ l) (texts-take vs n)
-
 pub length_texts : (run : List (Bor (List ℕ))) → length (texts_of run) ≡ length run
-length_texts [] = refl
-length_texts (v ∷ vs) = ap suc (length_texts vs)
+length_texts run = length-map run (λ line. chars line.now)
 
 -- the characters of the line at a place; past the end there are none
 abbrev pub line_at : List (Bor (List ℕ)) → ℕ → Text
@@ -93,54 +84,19 @@ texts-at [] i h = absurd (omega arith)
 texts-at (x ∷ xs) zero h = refl
 texts-at (x ∷ xs) (suc i) h = let s : suc i + 1 ≡ suc (i + 1) = omega arith in rw s (texts-at xs i (omega arith))
 
-past-nil : {X : Type 0} (n : ℕ) (xs : List X) → xs ≡ [] → drop n xs ≡ []
-past-nil zero xs e = e
-past-nil (suc n) [] e = refl
-past-nil (suc n) (x ∷ xs) e = absurd (cc)
-
--- a place behind a place
-pub drop-behind : (ts : List Text) (a b c : ℕ) → c ≡ a + b → drop c ts ≡ drop b (drop a ts)
-drop-behind ts zero b c e = let same : c ≡ b = omega arith in ap (λ n. drop n ts) same
-drop-behind [] (suc a) b c e = past-nil c [] refl ∙ sym (past-nil b [] refl)
-drop-behind (t ∷ ts) (suc a) b zero e = absurd (omega arith)
-drop-behind (t ∷ ts) (suc a) b (suc c) e = drop-behind ts a b c (omega arith)
-
-append-none : (xs : List FieldText) → xs ++ [] ≡ xs
-append-none [] = refl
-append-none (x ∷ xs) = ap (λ l. x ∷ l) (append-none xs)
-
-past-texts : (ts : List Text) (i : ℕ) → length ts ≤ i → drop i ts ≡ []
-past-texts [] i h = past-nil i [] refl
-past-texts (t ∷ ts) zero h = absurd (omega arith)
-past-texts (t ∷ ts) (suc i) h = past-texts ts i (omega arith)
-
 -- where no line is left
 pub fields-end : (ts : List Text) (i : ℕ) (done : List FieldText) (whole : Option (List FieldText)) → length ts ≤ i → behind_fields done (fields_in (drop i ts)) ≡ whole → Some done ≡ whole
-fields-end ts i done whole h e = ap Some (sym (append-none done)) ∙ ap (λ rest. behind_fields done (fields_in rest)) (sym (past-texts ts i h)) ∙ e
+fields-end ts i done whole h e = ap Some (sym (append-nil done)) ∙ ap (λ rest. behind_fields done (fields_in rest)) (sym (drop_all i ts h)) ∙ e
 
 -- ---- slices
-
-take-whole : {X : Type 0} (n : ℕ) (xs : List X) → length xs ≤ n → take n xs ≡ xs
-take-whole zero [] h = refl
-take-whole zero (x ∷ xs) h = absurd (omega arith)
-take-whole (suc n) [] h = refl
-take-whole (suc n) (x ∷ xs) h = ap (λ l. x ∷ l) (take-whole n xs (omega arith))
-
-pub rest-whole : {X : Type 0} (xs : List X) (a : ℕ) → take (length xs - a) (drop a xs) ≡ drop a xs
-rest-whole xs a = take-whole (length xs - a) (drop a xs) (omega (arith, length-drop a xs))
-
-length-front : {X : Type 0} (n : ℕ) (xs : List X) → n ≤ length xs → length (take n xs) ≡ n
-length-front zero xs h = refl
-length-front (suc n) [] h = absurd (omega arith)
-length-front (suc n) (x ∷ xs) h = ap suc (length-front n xs (omega arith))
 
 -- the indented lines behind a place
 pub below-texts : (run : List (Bor (List ℕ))) (a n : ℕ) → n ≡ deep_len (texts_of (take (length run - a) (drop a run)))
     → texts_of (take n (take (length run - a) (drop a run))) ≡ take (deep_len (drop a (texts_of run))) (drop a (texts_of run))
 below-texts run a n e =
-    let texts : texts_of (take (length run - a) (drop a run)) ≡ drop a (texts_of run) = ap texts_of (rest-whole run a) ∙ texts-drop run a in
-    texts-take (take (length run - a) (drop a run)) n ∙ ap (take n) texts ∙ ap (λ m. take m (drop a (texts_of run))) (e ∙ ap deep_len texts)
+    let texts : texts_of (take (length run - a) (drop a run)) ≡ drop a (texts_of run) = ap texts_of (take_rest run a) ∙ texts-drop run a in
+    sym (take-map (λ line. chars line.now) n (take (length run - a) (drop a run))) ∙ ap (take n) texts ∙ ap (λ m. take m (drop a (texts_of run))) (e ∙ ap deep_len texts)
 
 pub below-len : (run : List (Bor (List ℕ))) (a n : ℕ) → n ≡ deep_len (texts_of (take (length run - a) (drop a run))) → n ≤ length (take (length run - a) (drop a run))
     → length (take n (take (length run - a) (drop a run))) ≡ deep_len (drop a (texts_of run))
-below-len run a n e h = length-front n (take (length run - a) (drop a run)) h ∙ e ∙ ap deep_len (ap texts_of (rest-whole run a) ∙ texts-drop run a)
+below-len run a n e h = length-take-le n (take (length run - a) (drop a run)) h ∙ e ∙ ap deep_len (ap texts_of (take_rest run a) ∙ texts-drop run a)

@@ -1,30 +1,28 @@
 -- Lines that are joined one after the other.
-use Rattle.std.proofs.Common.{◌≡◌, ℕ, Bool, true, false, not, List, [], ◌∷◌, ◌++◌, map, drop, refl, sym, ap}
-use Rattle.std.specs.List.{join_with_byte}
+use Rattle.std.proofs.Common.{◌≡◌, ℕ, not, List, [], ◌∷◌, ◌++◌, map, drop, filter, refl, ap, ◌∙◌}
+use Rattle.std.specs.List.{join_with_byte, fold}
+use Rattle.std.proofs.lemmas.List.{append_assoc, map-id}
 use Rattle.rst_text.specs.Block.{is_blank}
-use Rattle.rst_markup_directives.specs.Options.{joined}
-use Rattle.rst_markup_directives.proofs.Words.{append-none}
+use Rattle.rst_markup_directives.specs.Lines.{joined, with_line}
 
--- lines, each behind a line feed
-abbrev pub behind_feeds : List (List ℕ) → List ℕ
-behind_feeds [] = []
-behind_feeds (t ∷ ts) = 10 ∷ (t ++ behind_feeds ts)
+behind : (d : ℕ) (ds : List ℕ) (ts : List (List ℕ)) → fold with_line (d ∷ ds) ts ≡ join_with_byte 10 ((d ∷ ds) ∷ filter (λ (t : List ℕ). not (is_blank t)) ts)
+behind d ds [] = refl
+behind d ds ([] ∷ ts) = behind d ds ts
+behind d ds ((c ∷ cs) ∷ ts) = behind d (ds ++ 10 ∷ c ∷ cs) ts ∙ by (filter (λ (t : List ℕ). not (is_blank t)) ts)
+  where
+    by : (ls : List (List ℕ)) → join_with_byte 10 ((d ∷ (ds ++ 10 ∷ c ∷ cs)) ∷ ls) ≡ join_with_byte 10 ((d ∷ ds) ∷ (c ∷ cs) ∷ ls)
+    by [] = refl
+    by (l ∷ ls) = append_assoc (d ∷ ds) (10 ∷ c ∷ cs) (10 ∷ join_with_byte 10 (l ∷ ls))
 
--- what lines add behind a text that is there, or at the start
-abbrev pub joined_on : Bool → List (List ℕ) → List ℕ
-joined_on true ts = behind_feeds ts
-joined_on false [] = []
-joined_on false (t ∷ ts) = t ++ behind_feeds ts
-
-join-first : (t : List ℕ) (ts : List (List ℕ)) → join_with_byte 10 (t ∷ ts) ≡ t ++ behind_feeds ts
-join-first t [] = sym (append-none t)
-join-first t (u ∷ us) = ap (λ l. t ++ (10 ∷ l)) (join-first u us)
-
-joined-empty : (ts : List (List ℕ)) → joined_on false ts ≡ join_with_byte 10 ts
-joined-empty [] = refl
-joined-empty (t ∷ ts) = sym (join-first t ts)
-
-pub joined-start : (first : List ℕ) (ts : List (List ℕ)) (cut : ℕ) (due : Bool) → due ≡ not (is_blank first) → first ++ joined_on due (map (drop cut) ts) ≡ joined first ts cut
+-- lines that are added to a text one after the other are joined with it
+pub joined_onto : (text : List ℕ) (ts : List (List ℕ)) → fold with_line text ts ≡ joined (text ∷ ts)
 unfolding joined
-joined-start [] ts cut due e = rw e (joined-empty (map (drop cut) ts))
-joined-start (c ∷ cs) ts cut due e = rw e (sym (join-first (c ∷ cs) (map (drop cut) ts)))
+joined_onto [] [] = refl
+joined_onto [] ([] ∷ ts) = joined_onto [] ts
+joined_onto [] ((c ∷ cs) ∷ ts) = behind c cs ts
+joined_onto (c ∷ cs) ts = behind c cs ts
+
+-- an empty text before whole lines is left out
+pub joined_alone : (ts : List (List ℕ)) → joined ([] ∷ map (drop 0) ts) ≡ joined ts
+unfolding joined
+joined_alone ts = ap joined (map-id ts)

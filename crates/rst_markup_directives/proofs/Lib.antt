@@ -1,11 +1,7 @@
 pub mod Computing
-pub mod Powers
-pub mod Numbers
 pub mod Words
-pub mod TargetTexts
 pub mod PlainUris
 pub mod Joins
-pub mod ClassLemmas
 pub mod Runs
 pub mod FieldLemmas
 pub mod Parts
@@ -16,5 +12,4 @@ pub mod Bare
 pub mod Indentations
 pub mod AgainLemmas
 pub mod Tables
-pub mod Measures
 pub mod MessageLemmas

@@ -1,5 +1,5 @@
 -- A text that means the URI that it is.
-use Rattle.std.proofs.Common.{◌≡◌, ℕ, ◌-◌, ◌<◌, Bool, true, false, not, ◌&&◌, ◌==◌, List, [], ◌∷◌, length, get_or, Some, refl, sym, ap, ◌∙◌, arith}
+use Rattle.std.proofs.Common.{◌≡◌, ℕ, ◌-◌, ◌<◌, Bool, true, false, not, ◌&&◌, ◌==◌, List, [], ◌∷◌, length, get_or, Some, refl, ap, ◌∙◌, arith}
 use Rattle.std.specs.Char.{is_ascii_graphic}
 use Rattle.std.specs.List.{list_all}
 use Rattle.std.specs.Str.{chars}
@@ -7,14 +7,15 @@ use Rattle.std.proofs.lemmas.Bool.{and_parts, and_right, ne_eqb}
 use Rattle.std.proofs.lemmas.Bool.Decides.{nat_tests}
 use Rattle.std.proofs.lemmas.List.Elements.{All-weaker}
 use Rattle.std.proofs.lemmas.List.Folds.{list_any_none}
+use Rattle.std.proofs.lemmas.List.Splits.{slice_split_none}
 use Rattle.std.proofs.lemmas.List.Sums.{AllPass-from_list_all}
 use Rattle.std.proofs.lemmas.Str.{chars-IsAscii}
 use Rattle.std.proofs.lemmas.Str.Ascii.{IsAscii-from_all}
 use Rattle.rst_text.specs.Characters.{is_white}
 use Rattle.rst_inline_scan.specs.Characters.{has, without_white}
 use Rattle.rst_inline_scan.proofs.EscapeLemmas.{unescaped-plain}
+use Rattle.rst_markup_directives.specs.Lines.{joined}
 use Rattle.rst_markup_directives.specs.Target.{located, located_if, is_simple_reference, is_phrase_reference, destination_in, target_text, target_value}
-use Rattle.rst_markup_directives.proofs.TargetTexts.{text_from, text-first, text-more, text_from-start}
 
 -- ASCII that is neither white nor a backslash
 abbrev pub is_plain : ℕ → Bool
@@ -29,15 +30,12 @@ other c h = (grind (arith, nat_tests), grind (arith, nat_tests), grind (arith, n
 
 -- ---- it is its own text as a target, of which nothing is left out
 
-text-plain : (t : List ℕ) → Plain t → text_from true false t ≡ t
-text-plain [] h = refl
-text-plain (c ∷ cs) h = let p = and_parts (is_plain c) (list_all is_plain cs) h in text-more c cs (other c p.0).0 ∙ ap (λ l. c ∷ l) (text-plain cs p.1)
-
 target_text-plain : (t : List ℕ) → Plain t → target_text t ≡ t
-target_text-plain [] h = sym (text_from-start [])
+unfolding target_text joined
+target_text-plain [] h = refl
 target_text-plain (c ∷ cs) h =
-    let p = and_parts (is_plain c) (list_all is_plain cs) h in
-    sym (text_from-start (c ∷ cs)) ∙ text-first c cs (other c p.0).0 (other c p.0).1 ∙ ap (λ l. c ∷ l) (text-plain cs p.1)
+    let one = slice_split_none (λ x. x == 10) (c ∷ cs) (All-weaker _ _ (λ x p. (other x p).0) (c ∷ cs) (AllPass-from_list_all is_plain (c ∷ cs) h)) in
+    rw (one, (other c (and_parts (is_plain c) (list_all is_plain cs) h).0).1) refl
 
 white-plain : (t : List ℕ) → Plain t → without_white t ≡ t
 white-plain [] h = refl

@@ -5,7 +5,7 @@ use Rattle.rst_text.specs.Text.{chars_of}
 use Rattle.rst_inline_scan.specs.Characters.{is_among, without_white}
 use Rattle.rst_markup_directives.specs.Characters.{Text}
 use Rattle.rst_markup_directives.specs.Name.{takes}
-use Rattle.rst_markup_directives.specs.Options.{joined}
+use Rattle.rst_markup_directives.specs.Lines.{joined}
 use Rattle.rst_markup_directives.specs.Wrong.{Wrong, no_argument, many_arguments, wrong_in}
 use Rattle.rst_markup_directives.specs.declared.argument.Argument.{Argument}
 use Rattle.rst_markup_directives.specs.declared.argument.Argument.TheVariants.{Absent, Title, Uri, Language}
@@ -24,7 +24,7 @@ pub data Given : Type 0 where
 
 -- lines joined by line feeds
 abbrev pub joined_lines : List Text → Text
-joined_lines ts = joined [] ts 0
+joined_lines ts = joined ts
 
 -- a title, some lines
 abbrev pub title_of : List Text → Part → Result Given Wrong

@@ -1,6 +1,7 @@
 -- Characters and words, the words without regard to case where directives and options are named (Markup Specification,
 -- 'Directives').
 use Rattle.std.specs.Prelude.{ℕ, Bool, List, map, find, Option, option_map}
+use Rattle.std.specs.Borrow.{Bor}
 use Rattle.std.specs.Char.{to_ascii_lowercase}
 use Rattle.std.specs.Str.{bytes_eq}
 -- a text: the list of its characters
@@ -29,3 +30,7 @@ is_same_word t other = bytes_eq (map to_ascii_lowercase t) (map to_ascii_lowerca
 -- what a table has for the first of its words that passes
 abbrev pub lookup : {A : Type 0} → (Text → Bool) → List (Text × A) → Option A
 lookup passes table = option_map (λ entry. entry.1) (find (λ entry. passes entry.0) table)
+
+-- the entries of a table, by the characters of their words, which are ASCII
+abbrev pub table_of : {A : Type 0} → List (Bor (List ℕ) × A) → List (Text × A)
+table_of entries = map (λ entry. (entry.0.now, entry.1)) entries

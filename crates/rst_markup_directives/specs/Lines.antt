@@ -1,6 +1,7 @@
 -- The lines of a directive's block (Markup Specification, 'Directives').
-use Rattle.std.specs.Prelude.{ℕ, ◌+◌, not, List, map, drop, take_while}
+use Rattle.std.specs.Prelude.{ℕ, ◌+◌, not, List, [], ◌∷◌, ◌++◌, map, drop, filter, take_while}
 use Rattle.std.specs.Borrow.{Bor}
+use Rattle.std.specs.List.{join_with_byte}
 use Rattle.std.specs.Str.{chars}
 use Rattle.rst_text.specs.Block.{Block, is_blank}
 use Rattle.rst_markup_blocks.specs.Lines.{lines_while}
@@ -22,3 +23,13 @@ blank_len X = lines_while Blank X
 -- the place of the first line from this one on that isn't blank
 abbrev pub behind_blank : Block → ℕ → ℕ
 behind_blank H from = from + blank_len (drop from H)
+
+-- Lines joined by line feeds, empty ones left out. What `join_with_byte` of the standard library joins here are lists of characters.
+unfoldable pub joined : List Text → Text
+joined ts = join_with_byte 10 (filter (λ t. not (is_blank t)) ts)
+
+-- a text with one line more, unless that is empty
+abbrev pub with_line : Text → Text → Text
+with_line text [] = text
+with_line [] (c ∷ cs) = c ∷ cs
+with_line (d ∷ ds) (c ∷ cs) = (d ∷ ds) ++ 10 ∷ c ∷ cs

@@ -1,21 +1,20 @@
 -- Measures, scales and alignments (Markup Specification, 'Length Units', 'Percentage Units'; Directives, 'Image', 'Figure').
-use Rattle.std.specs.Prelude.{ℕ, ◌+◌, Bool, not, ◌&&◌, ◌||◌, ◌==◌, nat_lt, List, [], ◌∷◌, ◌++◌, take, drop, codes, Option, Some, None, option_map, if◌then◌else◌}
+use Rattle.std.specs.Prelude.{ℕ, ◌+◌, Bool, not, ◌&&◌, ◌||◌, ◌==◌, nat_lt, List, [], ◌∷◌, ◌++◌, take, drop, codes, Option, Some, None, if◌then◌else◌}
 use Rattle.std.specs.List.{list_any}
-use Rattle.rst_text.specs.Block.{indentation, is_blank}
+use Rattle.rst_text.specs.Block.{is_blank}
+use Rattle.rst_inline_scan.specs.Characters.{has}
 use Rattle.rst_markup_lines.specs.Decimal.{number_of}
 use Rattle.rst_markup_directives.specs.Characters.{Text, digits, unindented, is_exactly, lookup}
-use Rattle.rst_markup_directives.specs.declared.measure.Measure.{Measure}
 use Rattle.rst_markup_directives.specs.declared.measure.Alignment.{Alignment}
 use Rattle.rst_markup_directives.specs.declared.measure.Alignment.TheVariants.{Top, Middle, Bottom, Left, Center, Right}
 
--- how many characters of a number stand behind its first digits: a point and digits, or none
-abbrev pub part_len : Text → ℕ
-part_len [] = 0
-part_len (c ∷ cs) = if c == 46 && not (digits cs == 0) then 1 + digits cs else 0
+-- how many digits stand behind a point at the place, 0 where none stands there
+abbrev pub digits_behind : Text → ℕ → ℕ
+digits_behind t i = if has t i 46 then digits (drop (i + 1) t) else 0
 
 -- how many characters the number at the front has: digits, and a point and digits where these follow; 0 where there is none
 unfoldable pub number_len : Text → ℕ
-number_len t = if digits t == 0 then 0 else digits t + part_len (drop (digits t) t)
+number_len t = if digits t == 0 || digits_behind t (digits t) == 0 then digits t else digits t + 1 + digits_behind t (digits t)
 
 -- the units of lengths
 abbrev pub length_units : List Text
@@ -29,28 +28,19 @@ units percent = length_units ++ (if percent then codes "%" ∷ [] else [])
 unfoldable pub is_unit : Text → Bool → Bool
 is_unit t percent = list_any (is_exactly t) (units percent)
 
--- where the unit of a measure stands: behind the number and the spaces after it
-abbrev pub unit_place : Text → ℕ
-unit_place t = number_len t + indentation (drop (number_len t) t)
-
--- the text is a unit, or there is none
-abbrev pub may_be_unit : Text → Bool → Bool
-may_be_unit t percent = is_blank t || is_unit t percent
-
--- where the number of a measure ends and its unit begins: a measure is a number, maybe spaces, and a unit or nothing
-unfoldable pub measure_parts : Text → Bool → Option Measure
-measure_parts t percent =
-    if not (number_len t == 0) && may_be_unit (drop (unit_place t) t) percent
-    then Some (record { number = number_len t; unit = unit_place t })
-    else None
+-- the unit of a measure: what stands behind the number and the spaces after it
+abbrev pub unit_in : Text → Text
+unit_in t = unindented (drop (number_len t) t)
 
 -- the unit, or `px` where there is none and one is wanted
 abbrev pub unit_or : Bool → Text → Text
 unit_or wanted unit = if wanted && is_blank unit then codes "px" else unit
 
--- the number and the unit of a measure, without the spaces between them
+-- a measure, without the spaces in it: a number, and a unit or nothing
 unfoldable pub measure_of : Text → Bool → Bool → Option Text
-measure_of t percent wanted = option_map (λ parts. take parts.number t ++ unit_or wanted (drop parts.unit t)) (measure_parts t percent)
+measure_of t percent wanted =
+    if number_len t == 0 || not (is_blank (unit_in t) || is_unit (unit_in t) percent) then None
+    else Some (take (number_len t) t ++ unit_or wanted (unit_in t))
 
 -- a scale: one to nine digits, maybe a percent sign with or without spaces before it
 unfoldable pub scale_of : Text → Option ℕ
@@ -71,10 +61,6 @@ vertical_alignments = (codes "top", Top) ∷ (codes "middle", Middle) ∷ (codes
 -- the alignments by their words, the vertical ones only where they may stand
 abbrev pub alignments : Bool → List (Text × Alignment)
 alignments vertical = horizontal_alignments ++ (if vertical then vertical_alignments else [])
-
--- the vertical alignment that a word names
-unfoldable pub vertical_alignment : Text → Option Alignment
-vertical_alignment t = lookup (is_exactly t) vertical_alignments
 
 -- the alignment that a word names
 unfoldable pub alignment_of : Text → Bool → Option Alignment

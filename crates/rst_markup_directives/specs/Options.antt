@@ -1,6 +1,6 @@
 -- The options of a directive's block (Markup Specification, 'Directives', 'Field Lists').
 use Rattle.std.specs.Prelude.{ℕ, min, Bool, false, not, List, [], ◌∷◌, map, take, drop, length, slice_range, Option, Some, option_map, option_and_then, unwrap_or, ok_or, find, Result, Ok, Err, if◌then◌else◌}
-use Rattle.std.specs.List.{join_with_byte, list_any, reduce}
+use Rattle.std.specs.List.{list_any, reduce}
 use Rattle.std.specs.Option.{option_or, option_map_or}
 use Rattle.std.specs.declared.vec.Vec.{Vec}
 use Rattle.rst_text.specs.Block.{indentation}
@@ -8,6 +8,7 @@ use Rattle.rst_text.specs.Places.{first_from}
 use Rattle.rst_markup_lines.specs.Field.{field_of}
 use Rattle.rst_markup_lines.specs.Front.{begins_with}
 use Rattle.rst_markup_directives.specs.Characters.{Text, is_same_word}
+use Rattle.rst_markup_directives.specs.Lines.{joined}
 use Rattle.rst_markup_directives.specs.Name.{has_option}
 use Rattle.rst_markup_directives.specs.OptionName.{option_named}
 use Rattle.rst_markup_directives.specs.Value.{Meaning, meaning_of, value_of}
@@ -22,16 +23,6 @@ use Rattle.rst_markup_directives.specs.declared.options.Setting.{Setting}
 abbrev pub least_indentation : List Text → ℕ
 least_indentation ts = unwrap_or (reduce min (map indentation ts)) 0
 
--- a text before lines, unless it is empty
-abbrev pub with_first : Text → List Text → List Text
-with_first [] ts = ts
-with_first (c ∷ cs) ts = (c ∷ cs) ∷ ts
-
--- A text, unless it is empty, and lines without their first characters, as many as `cut`, joined by line feeds. What
--- `join_with_byte` of the standard library joins here are lists of characters.
-unfoldable pub joined : Text → List Text → ℕ → Text
-joined first ts cut = join_with_byte 10 (with_first first (map (drop cut) ts))
-
 -- ---- fields
 
 -- a field among the options: its name as it is written, and its value
@@ -41,7 +32,7 @@ FieldText = Text × Text
 -- the field that a line begins, with the indented lines below it: the name between its colons, and the text behind its mark
 -- with these lines, their least indentation taken off
 unfoldable pub field_in : Text → List Text → Option FieldText
-field_in t below = option_map (λ mark. (slice_range t mark.name.from mark.name.to, joined (drop mark.marker.cut t) below (least_indentation below))) (field_of t)
+field_in t below = option_map (λ mark. (slice_range t mark.name.from mark.name.to, joined (drop mark.marker.cut t ∷ map (drop (least_indentation below)) below))) (field_of t)
 
 -- a line, and the indented lines directly below it
 abbrev pub Group : Type 0

@@ -1,6 +1,6 @@
 -- What the text of a target means (Markup Specification, 'Hyperlink Targets').
-use Rattle.std.specs.Prelude.{◌-◌, Bool, not, ◌&&◌, ◌==◌, nat_lt, nat_le, List, [], ◌∷◌, map, filter, take, slice_range, length, Option, Some, None, if◌then◌else◌}
-use Rattle.std.specs.List.{join_with_byte, onto_first}
+use Rattle.std.specs.Prelude.{◌-◌, Bool, not, ◌&&◌, ◌==◌, nat_lt, nat_le, map, take, slice_range, length, Option, Some, None, if◌then◌else◌}
+use Rattle.std.specs.List.{slice_split}
 use Rattle.rst_text.specs.Block.{is_blank}
 use Rattle.rst_text.specs.Text.{chars_of}
 use Rattle.rst_inline_scan.specs.Characters.{has, without_white, is_dark}
@@ -8,24 +8,15 @@ use Rattle.rst_inline_scan.specs.Escapes.{unescaped}
 use Rattle.rst_inline_scan.specs.Names.{is_simple_name}
 use Rattle.rst_markup_directives.specs.Characters.{Text, unindented}
 use Rattle.rst_markup_directives.specs.Escapes.{ends_escaping, has_bare_backquote}
+use Rattle.rst_markup_directives.specs.Lines.{joined}
 use Rattle.rst_markup_directives.specs.declared.target.Target.{Target}
 use Rattle.rst_markup_directives.specs.declared.target.Target.TheVariants.{Name, Uri}
 
 -- ---- the text
 
--- the lines of a text, which line feeds part
-abbrev pub lines_in : Text → List Text
-lines_in [] = [] ∷ []
-lines_in (c ∷ cs) = if c == 10 then [] ∷ lines_in cs else onto_first c (lines_in cs)
-
--- the lines that aren't empty
-abbrev pub filled : List Text → List Text
-filled ts = filter (λ t. not (is_blank t)) ts
-
--- The lines without their indentation, joined by line feeds, empty ones left out. What `join_with_byte` of the standard
--- library joins here are lists of characters.
+-- the lines of a text without their indentation, joined by line feeds, empty ones left out
 unfoldable pub target_text : Text → Text
-target_text t = join_with_byte 10 (filled (map unindented (lines_in t)))
+target_text t = joined (map unindented (slice_split (λ c. c == 10) t))
 
 -- ---- references
 

@@ -1,9 +1,8 @@
 -- What the values of options mean (Directives, 'Common Options', 'Image', 'Figure').
-use Rattle.std.specs.Prelude.{ℕ, true, false, not, List, [], ◌∷◌, map, Option, Some, None, option_map, if◌then◌else◌}
-use Rattle.std.specs.List.{prefix_len}
+use Rattle.std.specs.Prelude.{ℕ, true, false, List, [], ◌∷◌, map, Option, Some, None, option_map, if◌then◌else◌}
+use Rattle.std.specs.List.{list_any}
 use Rattle.std.specs.declared.string.String.{String}
 use Rattle.rst_text.specs.Block.{is_blank}
-use Rattle.rst_text.specs.Characters.{is_white}
 use Rattle.rst_text.specs.Names.{words_of, id_of, name_of}
 use Rattle.rst_text.specs.Text.{chars_of}
 use Rattle.rst_markup_directives.specs.Characters.{Text}
@@ -29,23 +28,14 @@ pub data Meaning : Type 0 where
 
 -- ---- classes
 
--- how many characters stand before the first white one
-abbrev pub word_len : Text → ℕ
-word_len t = prefix_len (λ c. not (is_white c)) t
-
--- the ids of all words, where none is empty
-abbrev pub all_ids : List Text → Option (List Text)
-all_ids [] = Some []
-all_ids (w ∷ ws) = if is_blank (id_of w) then None else option_map (λ ids. id_of w ∷ ids) (all_ids ws)
-
--- the same, where there are some
-abbrev pub some_ids : List Text → Option (List Text)
-some_ids [] = None
-some_ids (w ∷ ws) = all_ids (w ∷ ws)
+-- texts, where there are some and none is empty
+abbrev pub all_filled : List Text → Option (List Text)
+all_filled [] = None
+all_filled (t ∷ ts) = if list_any is_blank (t ∷ ts) then None else Some (t ∷ ts)
 
 -- the ids of the words of a text, where there are some and none is empty
 unfoldable pub ids_of : Text → Option (List Text)
-ids_of t = some_ids (words_of t)
+ids_of t = all_filled (map id_of (words_of t))
 
 -- ---- values
 

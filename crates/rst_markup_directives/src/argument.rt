@@ -1,7 +1,7 @@
 //! The arguments of directives.
-ghost use Rattle.std.specs.Prelude.{◌≡◌};
-ghost use Rattle.std.specs.Str.{chars};
-ghost use Rattle.rst_text.specs.Text.{chars_of};
+ghost use Rattle.std.specs.Prelude.{◌≡◌, Ok};
+ghost use Rattle.rst_inline_scan.specs.Characters.{without_white};
+ghost use Rattle.rst_text.specs.Names.{normalized_white};
 ghost use Rattle.rst_markup_directives.specs.Argument as spec;
 ghost use Rattle.rst_markup_directives.specs.Faults.{Gives};
 ghost use Rattle.rst_markup_directives.specs.Lines.{texts_of};
@@ -37,52 +37,34 @@ pub(crate) fn argument_of(
 ) -> Result<Result<Argument, Detail>, MarkupFault>
     ensures { Gives (λ argument. spec.argument_in argument ≡ spec.argument_of name (texts_of lines.now) part) result }
 {
-    match name.takes() {
-        Takes::Nothing => Ok(Ok(Argument::Absent)),
-        Takes::Title => Ok(title_of(lines, part)),
-        Takes::Uri => uri_of(alloc, lines),
-        Takes::Language => language_of(alloc, lines),
+    match (name.takes(), lines) {
+        (Takes::Nothing, _) | (Takes::Language, []) => Ok(Ok(Argument::Absent)),
+        (Takes::Title | Takes::Uri, []) => Ok(Err(Detail::NoArgument)),
+        (Takes::Title, _) => Ok(Ok(Argument::Title(part))),
+        (Takes::Uri, _) => uri_of(alloc, lines),
+        (Takes::Language, _) => language_of(alloc, lines),
     }
 }
 
-fn title_of(lines: &[&str], part: Part) -> Result<Argument, Detail>
-    ensures { spec.argument_in result ≡ spec.title_of (texts_of lines.now) part }
-{
-    match lines {
-        [] => Err(Detail::NoArgument),
-        _ => Ok(Argument::Title(part)),
-    }
-}
-
+/// A URI, without white characters.
+#[tactic(auto, using(crate::proofs::Joins::joined_alone))]
 fn uri_of(alloc: Global, lines: &[&str]) -> Result<Result<Argument, Detail>, MarkupFault>
-    ensures { Gives (λ argument. spec.argument_in argument ≡ spec.uri_of (texts_of lines.now)) result }
+    ensures { Gives (λ argument. spec.argument_in argument ≡ Ok (spec.uri (without_white (spec.joined_lines (texts_of lines.now))))) result }
 {
-    if lines.is_empty() {
-        return Ok(Err(Detail::NoArgument));
-    }
     let text = joined(alloc, Vec::new(alloc), lines, 0)?;
     let uri = without_white(alloc, &text)?;
     let uri = text_from(alloc, &uri)?;
     Ok(Ok(Argument::Uri(uri)))
 }
 
+/// A language, if the lines hold a single word: one space is left between two words.
+#[tactic(auto, using(crate::proofs::Joins::joined_alone), unfolding(crate::specs::Argument::word_of))]
 fn language_of(alloc: Global, lines: &[&str]) -> Result<Result<Argument, Detail>, MarkupFault>
-    ensures { Gives (λ argument. spec.argument_in argument ≡ spec.language_of (texts_of lines.now)) result }
+    ensures { Gives (λ argument. spec.argument_in argument ≡ spec.word_of (normalized_white (spec.joined_lines (texts_of lines.now)))) result }
 {
-    if lines.is_empty() {
-        return Ok(Ok(Argument::Absent));
-    }
     let text = joined(alloc, Vec::new(alloc), lines, 0)?;
     let text = text_from(alloc, &text)?;
     let words = normalized_white(alloc, text.as_str())?;
-    word_of(alloc, words)
-}
-
-/// A text as a language, if one word is all that it is: one space is left between two words.
-#[tactic(auto, unfolding(crate::specs::Argument::word_of))]
-fn word_of(alloc: Global, words: String) -> Result<Result<Argument, Detail>, MarkupFault>
-    ensures { Gives (λ argument. spec.argument_in argument ≡ spec.word_of (chars_of words)) result }
-{
     let characters = characters_of(alloc, words.as_str())?;
     if has_character(&characters, ' ') {
         return Ok(Err(Detail::ManyArguments));

@@ -1,5 +1,5 @@
 //! Directives as they are called.
-ghost use Rattle.std.specs.Prelude.{◌≡◌, true, ◌+◌, ◌-◌, ◌≤◌, length, take, drop, IfOk};
+ghost use Rattle.std.specs.Prelude.{◌≡◌, true, ◌+◌, ◌-◌, ◌≤◌, ◌&&◌, length, take, drop};
 ghost use Rattle.rst_text.specs.Block.{cut};
 ghost use Rattle.rst_text.specs.Looked.{capped};
 ghost use Rattle.rst_text.specs.Shown.{block_of};
@@ -23,7 +23,7 @@ use super::name::Name;
 use super::options::{Field, Setting, excerpt, fields_of, settings_of};
 use rst_markup_blocks::{Invocation, LineTest, Part, lines_end};
 use rst_text::{Looks, View};
-use std::alloc::{AllocError, Global};
+use std::alloc::Global;
 
 /// The directive that is called at line `at` of a view, if there is one of that name.
 ///
@@ -40,7 +40,7 @@ pub fn called(
     ensures looks { looks.new ≡ capped (looks.old + 1) }
 {
     let name = excerpt(alloc, view.line(at, looks), invocation.name)?;
-    Ok(Name::of(&name, true))
+    Ok(Name::of(&name))
 }
 
 /// What the directive of a name is that is called at line `at` of a view with this block, or what is wrong with it. `paragraph`
@@ -65,27 +65,18 @@ pub fn directive(
     ensures looks { looks.new ≤ looks.old + 1 + (block.to - block.from) }
     ensures low { capped looks.old ≤ looks.new }
 {
-    match permitted(name, place) {
-        Ok(name) => {
-            let reading = read(alloc, name, is_late(at, block), view, block, looks)?;
-            Ok(judged(reading, place, paragraph, source_of(at, block)))
-        }
-        Err(fault) => Ok(Directive::Wrong {
-            fault,
-            source: source_of(at, block),
-        }),
-    }
-}
-
-/// The lines that a directive at line `at` stands in.
-fn source_of(at: usize, block: Part) -> Part
-    ensures { result ≡ directives.lines_at at block }
-{
-    Part {
+    let source = Part {
         from: at,
         to: block.to,
         first_cut: 0,
         rest_cut: 0,
+    };
+    match permitted(name, place) {
+        Ok(name) => {
+            let reading = read(alloc, name, is_late(at, block), view, block, looks)?;
+            Ok(judged(reading, place, paragraph, source))
+        }
+        Err(fault) => Ok(Directive::Wrong { fault, source }),
     }
 }
 
@@ -105,34 +96,15 @@ struct Reading {
     content: Content,
 }
 
-/// Whether a directive of this name holds program code.
-fn is_code(name: Name) -> bool
-    ensures { result ≡ directives.is_code_name name }
+/// Whether a block has no lines for an argument and options: that of program code where it begins late, not in the line after
+/// the directive's.
+fn is_content(name: Name, late: bool) -> bool
+    ensures { result ≡ (late && directives.is_code_name name) }
 {
-    matches!(name, Name::Code)
-}
-
-/// The first lines of a directive's block, up to the first blank one. Where the block of program code begins late, not in
-/// the line after the directive's, it is content.
-#[tactic(auto, unfolding(crate::specs::Directive::run_in))]
-fn first_run<'a>(
-    alloc: Global,
-    name: Name,
-    late: bool,
-    lines: &View<'a>,
-    looks: &mut Looks,
-) -> Result<Vec<&'a str>, AllocError>
-    ensures texts { IfOk result (λ run. texts_of run.items ≡ directives.run_in name late (block_of lines.now)) }
-    ensures within { IfOk result (λ run. length run.items ≤ length (block_of lines.now)) }
-    ensures looks { looks.new ≤ looks.old + length (block_of lines.now) }
-    ensures through { IfOk result (λ run. looks.new ≤ looks.old + length run.items + 1) }
-    ensures low { capped looks.old ≤ looks.new }
-    ensures each { IfOk result (λ run. capped (looks.old + length run.items) ≤ looks.new) }
-{
-    if late && is_code(name) {
-        return Ok(Vec::new(alloc));
+    match name {
+        Name::Code => late,
+        _ => false,
     }
-    run_of(alloc, lines, looks)
 }
 
 /// The lines of a block.
@@ -159,7 +131,7 @@ fn read(
     ensures low { capped looks.old ≤ looks.new }
 {
     let lines = lines_of(view, block);
-    let run = first_run(alloc, name, late, &lines, looks)?;
+    let run = run_of(alloc, is_content(name, late), &lines, looks)?;
     let rest = lines_end(&lines, run.len(), LineTest::Blank, looks);
     read_run(alloc, name, block, &run, rest)
 }
@@ -215,29 +187,15 @@ fn read_fields(
     ensures { Gives (λ reading. directives.reading_in reading ≡ directives.read_parts name content (arguments.argument_of name (texts_of lines.now) part) (choices.settings_in name (choices.field_texts fields.now))) result }
 {
     match settings_of(alloc, name, fields)? {
-        Ok(options) => read_argument(alloc, name, content, lines, part, options),
-        Err(detail) => Ok(Err(detail)),
-    }
-}
-
-/// Reads the argument of a directive from some lines, which stand at `part`.
-fn read_argument(
-    alloc: Global,
-    name: Name,
-    content: Content,
-    lines: &[&str],
-    part: Part,
-    options: Vec<Setting>,
-) -> Result<Result<Reading, Detail>, MarkupFault>
-    ensures { Gives (λ reading. directives.reading_in reading ≡ directives.with_argument name content (choices.choices_in options.items) (arguments.argument_of name (texts_of lines.now) part)) result }
-{
-    match argument_of(alloc, name, lines, part)? {
-        Ok(argument) => Ok(Ok(Reading {
-            name,
-            argument,
-            options,
-            content,
-        })),
+        Ok(options) => match argument_of(alloc, name, lines, part)? {
+            Ok(argument) => Ok(Ok(Reading {
+                name,
+                argument,
+                options,
+                content,
+            })),
+            Err(detail) => Ok(Err(detail)),
+        },
         Err(detail) => Ok(Err(detail)),
     }
 }
@@ -251,19 +209,12 @@ fn part_of(block: Part, from: usize, to: usize) -> Part
     Part {
         from: block.from + from,
         to: block.from + to,
-        first_cut: first_cut(block, from),
+        first_cut: if from == 0 {
+            block.first_cut
+        } else {
+            block.rest_cut
+        },
         rest_cut: block.rest_cut,
-    }
-}
-
-/// How many characters the line at place `from` of a block loses.
-fn first_cut(block: Part, from: usize) -> usize
-    ensures { result ≡ spec.first_cut block from }
-{
-    if from == 0 {
-        block.first_cut
-    } else {
-        block.rest_cut
     }
 }
 
@@ -295,38 +246,25 @@ fn judged(
 ) -> Directive
     ensures { directives.outcome_of result ≡ directives.outcome_at source (and_then (directives.judged place paragraph) (directives.of_block (directives.reading_in reading))) }
 {
-    match reading {
-        Ok(reading) => by_content(reading, place, paragraph, source),
-        Err(detail) => Directive::Wrong {
-            fault: DirectiveFault::Inside(detail),
-            source,
-        },
-    }
-}
-
-/// A directive whose options and argument are right, judged by its content.
-fn by_content(reading: Reading, place: Place, paragraph: bool, source: Part) -> Directive
-    ensures { directives.outcome_of result ≡ directives.outcome_at source (directives.judged place paragraph (directives.read_in reading)) }
-{
-    match content_fault(reading.name, is_empty(reading.content), place, paragraph) {
-        Some(fault) => Directive::Wrong { fault, source },
-        None => found(reading),
-    }
-}
-
-fn found(reading: Reading) -> Directive
-    ensures { directives.outcome_of result ≡ directives.found (directives.read_in reading) }
-{
     let Reading {
         name,
         argument,
         options,
         content,
-    } = reading;
-    Directive::Found {
-        name,
-        argument,
-        options,
-        content,
+    } = match reading {
+        Ok(reading) => reading,
+        Err(detail) => {
+            let fault = DirectiveFault::Inside(detail);
+            return Directive::Wrong { fault, source };
+        }
+    };
+    match content_fault(name, is_empty(content), place, paragraph) {
+        Some(fault) => Directive::Wrong { fault, source },
+        None => Directive::Found {
+            name,
+            argument,
+            options,
+            content,
+        },
     }
 }

@@ -1,32 +1,21 @@
-//! Characters of texts that are given as slices.
+//! Characters of texts that are given as slices, and tables of words.
 ghost use Rattle.std.specs.Prelude.{◌≡◌, ◌≤◌, IfOk, length};
-ghost use Rattle.std.specs.Str.{chars};
 ghost use Rattle.rst_text.specs.Block.{indentation, is_blank};
 ghost use Rattle.rst_text.specs.Text.{chars_of};
 ghost use Rattle.rst_inline_scan.specs.Characters.{is_among};
-ghost use Rattle.rst_markup_lines.specs.Class.{is_in};
-ghost use Rattle.rst_markup_lines.specs.declared.class.Class.TheVariants.{Digit};
 ghost use Rattle.rst_markup_directives.specs.Characters as spec;
 
 use std::alloc::{AllocError, Global};
 
-/// Whether a character is one of the digits 0 to 9.
-#[tactic(auto, unfolding(rst_markup_lines::specs::Class::is_in))]
-fn is_digit(c: char) -> bool
-    ensures { result ≡ is_in Digit c }
-{
-    c.is_ascii_digit()
-}
-
 /// How many digits a text begins with.
-#[tactic(auto, unfolding(rst_markup_lines::specs::Class::run))]
+#[tactic(auto, unfolding(rst_markup_lines::specs::Class::is_in, rst_markup_lines::specs::Class::run))]
 pub(crate) fn digits(text: &[char]) -> usize
     ensures value { result ≡ spec.digits text.now }
     ensures within { result ≤ length text.now }
 {
     let mut n = 0;
     for c in text {
-        if !is_digit(*c) {
+        if !c.is_ascii_digit() {
             break;
         }
         n += 1;
@@ -50,49 +39,65 @@ pub(crate) fn spaces(text: &[char]) -> usize
 }
 
 /// Whether a text is empty.
+#[tactic(auto, using(crate::proofs::Runs::length_blank))]
 pub(crate) fn is_blank(text: &[char]) -> bool
     ensures { result ≡ is_blank text.now }
 {
     text.is_empty()
 }
 
-/// Whether a text is empty.
-pub(crate) fn is_blank_text(text: &str) -> bool
-    ensures { result ≡ is_blank (chars text.now) }
+/// Whether a text has a character.
+pub(crate) fn has_character(text: &[char], character: char) -> bool
+    ensures { result ≡ is_among text.now character }
 {
-    text.is_empty()
+    text.iter().any(|c| character == *c)
 }
 
 /// Whether a text is a word of ASCII, which is in lower case, without regard to the case of letters of ASCII.
+#[tactic(auto, unfolding(crate::specs::Characters::is_word))]
 pub(crate) fn is_word(text: &[char], word: &str) -> bool
     ensures { result ≡ spec.is_word text.now word.now }
 {
-    let bytes = word.as_bytes();
-    if text.len() != bytes.len() {
-        return false;
-    }
-    for i in 0..text.len() {
-        if text[i].to_ascii_lowercase() as u32 != u32::from(bytes[i]) {
-            return false;
-        }
-    }
-    true
+    text.len() == word.len()
+        && text
+            .iter()
+            .zip(word.as_bytes())
+            .all(|(c, b)| c.to_ascii_lowercase() == char::from(*b))
 }
 
 /// Whether a text is exactly a word of ASCII.
+#[tactic(auto, unfolding(crate::specs::Characters::is_exactly))]
 pub(crate) fn is_exactly(text: &[char], word: &str) -> bool
     ensures { result ≡ spec.is_exactly text.now word.now }
 {
-    let bytes = word.as_bytes();
-    if text.len() != bytes.len() {
-        return false;
-    }
-    for i in 0..text.len() {
-        if text[i] as u32 != u32::from(bytes[i]) {
-            return false;
+    text.len() == word.len()
+        && text
+            .iter()
+            .zip(word.as_bytes())
+            .all(|(c, b)| *c == char::from(*b))
+}
+
+/// Whether two texts are the same without regard to the case of letters of ASCII.
+pub(crate) fn is_same_word(text: &[char], other: &[char]) -> bool
+    ensures { result ≡ spec.is_same_word text.now other.now }
+{
+    text.len() == other.len()
+        && text
+            .iter()
+            .zip(other)
+            .all(|(c, d)| c.to_ascii_lowercase() == d.to_ascii_lowercase())
+}
+
+/// What a table has for a text, without regard to the case of letters of ASCII.
+pub(crate) fn lookup<T: Copy>(text: &[char], table: &[(&str, T)]) -> Option<T>
+    ensures { result ≡ spec.lookup (spec.is_word text.now) (spec.table_of table.now) }
+{
+    for (word, value) in table {
+        if is_word(text, word) {
+            return Some(*value);
         }
     }
-    true
+    None
 }
 
 /// The characters as a text.
@@ -104,31 +109,4 @@ pub(crate) fn text_from(alloc: Global, characters: &[char]) -> Result<String, Al
         text.push(*c)?;
     }
     Ok(text)
-}
-
-/// Whether a text has a character.
-pub(crate) fn has_character(text: &[char], character: char) -> bool
-    ensures { result ≡ is_among text.now character }
-{
-    for c in text {
-        if character == *c {
-            return true;
-        }
-    }
-    false
-}
-
-/// Whether two texts are the same without regard to the case of letters of ASCII.
-pub(crate) fn is_same_word(text: &[char], other: &[char]) -> bool
-    ensures { result ≡ spec.is_same_word text.now other.now }
-{
-    if text.len() != other.len() {
-        return false;
-    }
-    for i in 0..text.len() {
-        if text[i].to_ascii_lowercase() != other[i].to_ascii_lowercase() {
-            return false;
-        }
-    }
-    true
 }

@@ -6,51 +6,17 @@ use super::fault::{Detail, DirectiveFault};
 use super::found::Place;
 use super::name::{Holds, Name};
 
-fn is_substitution(place: Place) -> bool
-    ensures { result ≡ spec.is_substitution place }
-{
-    matches!(place, Place::Substitution)
-}
-
-fn is_top(place: Place) -> bool
-    ensures { result ≡ spec.is_top place }
-{
-    matches!(place, Place::Top)
-}
-
-fn is_topic(name: Name) -> bool
-    ensures { result ≡ spec.is_topic name }
-{
-    matches!(name, Name::Topic)
-}
-
-/// Whether a directive may stand in a substitution definition.
-fn is_substitutable(name: Name) -> bool
-    ensures { result ≡ spec.is_substitutable name }
-{
-    matches!(name, Name::Image | Name::Replace)
-}
-
 /// The directive of a name, if there is one, where it may stand at a place; or the fault.
 #[tactic(auto, unfolding(crate::specs::Judgement::permitted))]
 pub(crate) fn permitted(name: Option<Name>, place: Place) -> Result<Name, DirectiveFault>
     ensures { result ≡ spec.permitted name place }
 {
-    match name {
-        Some(name) => {
-            if is_substitution(place) && !is_substitutable(name) {
-                Err(DirectiveFault::NotInSubstitution)
-            } else {
-                Ok(name)
-            }
-        }
-        None => {
-            if is_substitution(place) {
-                Err(DirectiveFault::NotInSubstitution)
-            } else {
-                Err(DirectiveFault::Unknown)
-            }
-        }
+    match (name, place) {
+        (Some(Name::Image), Place::Substitution) => Ok(Name::Image),
+        (Some(Name::Replace), Place::Substitution) => Ok(Name::Replace),
+        (_, Place::Substitution) => Err(DirectiveFault::NotInSubstitution),
+        (Some(name), _) => Ok(name),
+        (None, _) => Err(DirectiveFault::Unknown),
     }
 }
 
@@ -64,34 +30,18 @@ pub(crate) fn content_fault(
 ) -> Option<DirectiveFault>
     ensures { result ≡ spec.content_fault name empty place paragraph }
 {
-    match name.holds() {
-        Holds::Figure => None,
-        Holds::Nothing => {
-            if empty {
-                None
-            } else {
-                Some(DirectiveFault::Inside(Detail::ContentNotPermitted))
-            }
-        }
-        Holds::Required => {
-            if empty {
-                Some(DirectiveFault::NoContent)
-            } else if is_topic(name) && !is_top(place) {
-                Some(DirectiveFault::TopicNotHere)
-            } else {
-                None
-            }
-        }
-        Holds::Paragraph => {
-            if empty {
-                Some(DirectiveFault::NoContent)
-            } else if !paragraph {
-                Some(DirectiveFault::Inside(Detail::NotOneParagraph))
-            } else if is_substitution(place) {
-                None
-            } else {
-                Some(DirectiveFault::ReplaceNotHere)
-            }
-        }
+    match (name.holds(), empty) {
+        (Holds::Figure, _) | (Holds::Nothing, true) => None,
+        (Holds::Nothing, false) => Some(DirectiveFault::Inside(Detail::ContentNotPermitted)),
+        (Holds::Required | Holds::Paragraph, true) => Some(DirectiveFault::NoContent),
+        (Holds::Required, false) => match (name, place) {
+            (Name::Topic, Place::Body | Place::Substitution) => Some(DirectiveFault::TopicNotHere),
+            _ => None,
+        },
+        (Holds::Paragraph, false) => match place {
+            _ if !paragraph => Some(DirectiveFault::Inside(Detail::NotOneParagraph)),
+            Place::Substitution => None,
+            _ => Some(DirectiveFault::ReplaceNotHere),
+        },
     }
 }

@@ -1,11 +1,10 @@
 //! Measures, scales and alignments.
-ghost use Rattle.std.specs.Prelude.{◌≡◌, ◌+◌, ◌*◌, ◌<◌, ◌≤◌, ◌^◌, length, IfSome, IfOk, option_map};
-ghost use Rattle.rst_markup_lines.specs.Decimal.{decimal};
+ghost use Rattle.std.specs.Prelude.{◌≡◌, ◌≤◌, length, IfOk, option_map};
 ghost use Rattle.rst_markup_directives.specs.Measure as spec;
 
-use super::characters::{digits, is_exactly, spaces};
+use super::characters::{digits, is_blank, is_exactly, spaces, text_from};
 use rst_inline_scan::has;
-use rst_markup_lines::digit;
+use rst_markup_lines::number_of;
 use std::alloc::{AllocError, Global};
 
 /// Where an image or a figure stands.
@@ -21,7 +20,7 @@ pub enum Alignment {
 
 /// How many characters the number has that a measure begins with: digits, maybe a point and digits; 0 if there is
 /// none.
-#[tactic(auto, using(crate::proofs::Measures::part_none, crate::proofs::Measures::part_bare, crate::proofs::Measures::part_some), unfolding(crate::specs::Measure::number_len))]
+#[tactic(auto, unfolding(crate::specs::Measure::number_len))]
 fn number_len(text: &[char]) -> usize
     ensures value { result ≡ spec.number_len text.now }
     ensures within { result ≤ length text.now }
@@ -50,33 +49,6 @@ fn is_unit(text: &[char], percent: bool) -> bool
                                     || (percent && is_exactly(text, "%")))))))))
 }
 
-/// Where a measure is right: how many characters its number has, and the place of its unit.
-#[derive(Clone, Copy)]
-struct Measure {
-    number: usize,
-    unit: usize,
-}
-
-/// The parts of a measure.
-#[tactic(auto, using(crate::proofs::Measures::blank_behind), unfolding(crate::specs::Measure::measure_parts))]
-fn measure_parts(text: &[char], percent: bool) -> Option<Measure>
-    ensures exact { result ≡ spec.measure_parts text.now percent }
-    ensures number { IfSome result (λ parts. parts.number ≤ length text.now) }
-    ensures unit { IfSome result (λ parts. parts.unit ≤ length text.now) }
-{
-    let number = number_len(text);
-    if number == 0 {
-        return None;
-    }
-    let behind = &text[number..];
-    let unit = number + spaces(behind);
-    if unit == text.len() || is_unit(&text[unit..], percent) {
-        Some(Measure { number, unit })
-    } else {
-        None
-    }
-}
-
 /// A measure without its spaces, where it is right: a number and maybe a unit, which is `px` if there is none and one
 /// is wanted.
 #[tactic(auto, unfolding(crate::specs::Measure::measure_of))]
@@ -88,12 +60,14 @@ pub(crate) fn measure_of(
 ) -> Result<Option<Vec<char>>, AllocError>
     ensures { IfOk result (λ measure. option_map (λ v. v.items) measure ≡ spec.measure_of text.now percent wanted) }
 {
-    let Some(parts) = measure_parts(text, percent) else {
+    let n = number_len(text);
+    let behind = &text[n..];
+    let unit = &behind[spaces(behind)..];
+    if n == 0 || !(is_blank(unit) || is_unit(unit, percent)) {
         return Ok(None);
-    };
-    let mut measure = Vec::from_slice(alloc, &text[..parts.number])?;
-    let unit = &text[parts.unit..];
-    if wanted && unit.is_empty() {
+    }
+    let mut measure = Vec::from_slice(alloc, &text[..n])?;
+    if wanted && is_blank(unit) {
         measure.extend_from_slice(&['p', 'x'])?;
     } else {
         measure.extend_from_slice(unit)?;
@@ -101,38 +75,25 @@ pub(crate) fn measure_of(
     Ok(Some(measure))
 }
 
-/// The number that digits spell, of which there are at most nine.
-#[tactic(auto, using(crate::proofs::Numbers::number_is))]
-fn number_of(text: &[char]) -> u64
-    requires { length text.now ≤ 9 }
-    ensures { result ≡ decimal text.now }
-{
-    let mut number = 0;
-    for c in text {
-        number = number * 10 + digit(*c);
-    }
-    number
-}
-
 /// The number of a scale: one to nine digits, maybe a percent sign with or without spaces before it.
 #[tactic(auto, unfolding(crate::specs::Measure::scale_of))]
-pub(crate) fn scale_of(text: &[char]) -> Option<u64>
-    ensures { result ≡ spec.scale_of text.now }
+pub(crate) fn scale_of(alloc: Global, text: &[char]) -> Result<Option<u64>, AllocError>
+    ensures { IfOk result (λ number. number ≡ spec.scale_of text.now) }
 {
     let n = digits(text);
     if n == 0 || 9 < n {
-        return None;
+        return Ok(None);
     }
     let behind = &text[n..];
-    if behind.is_empty() || is_exactly(&behind[spaces(behind)..], "%") {
-        Some(number_of(&text[..n]))
-    } else {
-        None
+    if !is_blank(behind) && !is_exactly(&behind[spaces(behind)..], "%") {
+        return Ok(None);
     }
+    let text = text_from(alloc, text)?;
+    Ok(Some(number_of(n, text.as_str())))
 }
 
 /// The alignment that a word names; a figure has none of the vertical ones.
-#[tactic(auto, unfolding(crate::specs::Measure::alignment_of, crate::specs::Measure::vertical_alignment))]
+#[tactic(auto, unfolding(crate::specs::Measure::alignment_of))]
 pub(crate) fn alignment_of(text: &[char], vertical: bool) -> Option<Alignment>
     ensures { result ≡ spec.alignment_of text.now vertical }
 {
@@ -142,18 +103,9 @@ pub(crate) fn alignment_of(text: &[char], vertical: bool) -> Option<Alignment>
         Some(Alignment::Center)
     } else if is_exactly(text, "right") {
         Some(Alignment::Right)
-    } else if vertical {
-        vertical_alignment(text)
-    } else {
+    } else if !vertical {
         None
-    }
-}
-
-#[tactic(auto, unfolding(crate::specs::Measure::vertical_alignment))]
-fn vertical_alignment(text: &[char]) -> Option<Alignment>
-    ensures { result ≡ spec.vertical_alignment text.now }
-{
-    if is_exactly(text, "top") {
+    } else if is_exactly(text, "top") {
         Some(Alignment::Top)
     } else if is_exactly(text, "middle") {
         Some(Alignment::Middle)

@@ -1,8 +1,8 @@
 //! The directives, and what each of them takes.
-ghost use Rattle.std.specs.Prelude.{◌≡◌};
+ghost use Rattle.std.specs.Prelude.{◌≡◌, true};
 ghost use Rattle.rst_markup_directives.specs.Name as spec;
 
-use super::characters::is_word;
+use super::characters::lookup;
 use super::option::OptionName;
 
 /// A directive. `code`, `code-block` and `sourcecode` are one.
@@ -47,28 +47,34 @@ pub(crate) enum Holds {
     Paragraph,
 }
 
+/// The directives by their names.
+const DIRECTIVES: [(&str, Name); 17] = [
+    ("admonition", Name::Admonition),
+    ("topic", Name::Topic),
+    ("image", Name::Image),
+    ("figure", Name::Figure),
+    ("replace", Name::Replace),
+    ("code", Name::Code),
+    ("code-block", Name::Code),
+    ("sourcecode", Name::Code),
+    ("attention", Name::Attention),
+    ("caution", Name::Caution),
+    ("danger", Name::Danger),
+    ("error", Name::Error),
+    ("hint", Name::Hint),
+    ("important", Name::Important),
+    ("note", Name::Note),
+    ("tip", Name::Tip),
+    ("warning", Name::Warning),
+];
+
 impl Name {
-    /// The directive that a text names, without regard to the case of letters of ASCII. Where `code` is false, those
-    /// for program code are none.
-    #[tactic(auto, using(crate::proofs::Tables::code_or_admonition), unfolding(crate::specs::Name::directive_named))]
-    pub fn of(text: &[char], code: bool) -> Option<Name>
-        ensures { result ≡ spec.directive_named text.now code }
+    /// The directive that a text names, without regard to the case of letters of ASCII.
+    #[tactic(auto, unfolding(crate::specs::Name::directive_named))]
+    pub(crate) fn of(text: &[char]) -> Option<Name>
+        ensures { result ≡ spec.directive_named text.now true }
     {
-        if is_word(text, "admonition") {
-            Some(Name::Admonition)
-        } else if is_word(text, "topic") {
-            Some(Name::Topic)
-        } else if is_word(text, "image") {
-            Some(Name::Image)
-        } else if is_word(text, "figure") {
-            Some(Name::Figure)
-        } else if is_word(text, "replace") {
-            Some(Name::Replace)
-        } else if code && is_code(text) {
-            Some(Name::Code)
-        } else {
-            admonition_of(text)
-        }
+        lookup(text, &DIRECTIVES)
     }
 
     /// What the directive takes as its argument.
@@ -114,40 +120,5 @@ impl Name {
             (Name::Image, _) => true,
             _ => false,
         }
-    }
-}
-
-#[tactic(auto, unfolding(crate::specs::Name::is_code))]
-fn is_code(text: &[char]) -> bool
-    ensures { result ≡ spec.is_code text.now }
-{
-    is_word(text, "code") || (is_word(text, "code-block") || is_word(text, "sourcecode"))
-}
-
-/// The admonition without a title that a text names.
-#[tactic(auto, unfolding(crate::specs::Name::admonition_of))]
-fn admonition_of(text: &[char]) -> Option<Name>
-    ensures { result ≡ spec.admonition_of text.now }
-{
-    if is_word(text, "attention") {
-        Some(Name::Attention)
-    } else if is_word(text, "caution") {
-        Some(Name::Caution)
-    } else if is_word(text, "danger") {
-        Some(Name::Danger)
-    } else if is_word(text, "error") {
-        Some(Name::Error)
-    } else if is_word(text, "hint") {
-        Some(Name::Hint)
-    } else if is_word(text, "important") {
-        Some(Name::Important)
-    } else if is_word(text, "note") {
-        Some(Name::Note)
-    } else if is_word(text, "tip") {
-        Some(Name::Tip)
-    } else if is_word(text, "warning") {
-        Some(Name::Warning)
-    } else {
-        None
     }
 }

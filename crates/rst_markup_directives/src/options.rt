@@ -1,14 +1,15 @@
 //! The options of a directive's block.
-ghost use Rattle.std.specs.Prelude.{◌≡◌, ◌+◌, ◌≤◌, ◌<◌, length, drop, slice_range, take_while, IfOk, option_map};
+ghost use Rattle.std.specs.Prelude.{◌≡◌, ◌+◌, ◌≤◌, ◌<◌, ◌∷◌, length, map, drop, slice_range, take_while, IfOk, option_map};
 ghost use Rattle.std.specs.List.{prefix_len};
 ghost use Rattle.std.specs.Str.{chars};
 ghost use Rattle.rst_markup_lines.specs.Front as fronts;
 ghost use Rattle.rst_markup_directives.specs.Faults.{Gives};
-ghost use Rattle.rst_markup_directives.specs.Lines.{texts_of};
+ghost use Rattle.rst_markup_directives.specs.Lines.{joined, texts_of};
 ghost use Rattle.rst_markup_directives.specs.Options as spec;
 
-use super::characters::{is_blank, is_same_word, text_from};
+use super::characters::{is_same_word, text_from};
 use super::fault::{Detail, MarkupFault};
+use super::lines::add_line;
 use super::name::Name;
 use super::option::OptionName;
 use super::value::{OptionValue, option_value};
@@ -57,24 +58,20 @@ fn least_indentation(lines: &[&str]) -> usize
     least
 }
 
-/// A text, unless it is empty, and some lines without their first characters, as many as `cut`, joined by line feeds.
+/// A text and some lines without their first characters, as many as `cut`, joined by line feeds, empty ones left out.
+#[tactic(auto, using(crate::proofs::Joins::joined_onto))]
 pub(crate) fn joined(
     alloc: Global,
     first: Vec<char>,
     lines: &[&str],
     cut: usize,
 ) -> Result<Vec<char>, AllocError>
-    ensures { IfOk result (λ text. text.items ≡ spec.joined first.items (texts_of lines.now) cut) }
+    ensures { IfOk result (λ text. text.items ≡ joined (first.items ∷ map (drop cut) (texts_of lines.now))) }
 {
     let mut text = first;
-    let mut due = !is_blank(&text);
     for line in lines {
-        if due {
-            text.push('\n')?;
-        }
         let rest = characters_of(alloc, skip(line, cut))?;
-        text.extend_from_slice(&rest)?;
-        due = true;
+        add_line(&mut text, &rest)?;
     }
     Ok(text)
 }

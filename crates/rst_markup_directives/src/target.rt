@@ -7,8 +7,9 @@ ghost use Rattle.rst_inline_scan.specs.Escapes.{unescaped};
 ghost use Rattle.rst_markup_directives.specs.Escapes as escapes;
 ghost use Rattle.rst_markup_directives.specs.Target as spec;
 
-use super::characters::{is_blank, text_from};
+use super::characters::{is_blank, spaces, text_from};
 use super::fault::MarkupFault;
+use super::lines::add_line;
 use rst_inline_scan::{escapes, has, is_dark, is_simple_name, unescaped, without_white};
 use rst_text::characters_of;
 use std::alloc::{AllocError, Global};
@@ -97,22 +98,8 @@ fn target_text(alloc: Global, text: &[char]) -> Result<Vec<char>, AllocError>
     ensures { IfOk result (λ joined. joined.items ≡ spec.target_text text.now) }
 {
     let mut joined = Vec::with_capacity(alloc, text.len())?;
-    let mut begun = false;
-    let mut fresh = true;
-    for c in text {
-        if *c == '\n' {
-            fresh = true;
-            continue;
-        }
-        if fresh && *c == ' ' {
-            continue;
-        }
-        if fresh && begun {
-            joined.push('\n')?;
-        }
-        joined.push(*c)?;
-        begun = true;
-        fresh = false;
+    for line in text.split(|c| *c == '\n') {
+        add_line(&mut joined, &line[spaces(line)..])?;
     }
     Ok(joined)
 }

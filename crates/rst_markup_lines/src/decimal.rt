@@ -7,7 +7,7 @@ use super::text::{after_first, front};
 
 /// The value of an ASCII digit; of another character it is 0.
 #[tactic(auto, unfolding(crate::specs::Class::is_in))]
-pub fn digit(c: char) -> u64
+fn digit(c: char) -> u64
     ensures value { result ≡ spec.digit c }
     ensures small { result ≤ 9 }
 {
@@ -18,7 +18,7 @@ pub fn digit(c: char) -> u64
 }
 
 /// The number that the first `n` characters of a text are in decimal.
-pub(crate) fn decimal(n: usize, text: &str) -> u64
+pub fn number_of(n: usize, text: &str) -> u64
     requires { n ≤ 9 }
     ensures { result ≡ spec.number_of n (chars text.now) }
 {

@@ -4,7 +4,7 @@ ghost use Rattle.std.specs.Str.{chars};
 ghost use Rattle.rst_markup_lines.specs.Enumerator as spec;
 
 use super::class::{Class, run};
-use super::decimal::decimal;
+use super::decimal::number_of;
 use super::marker::{Marker, marker_of};
 use super::roman::{is_numeral_letter, roman};
 use super::text::{after_first, begins_with, front};
@@ -91,7 +91,7 @@ fn digits(text: &str) -> Option<Written>
         return None;
     }
     Some(Written {
-        ordinals: Ordinals::Arabic(decimal(len, text)),
+        ordinals: Ordinals::Arabic(number_of(len, text)),
         len,
     })
 }

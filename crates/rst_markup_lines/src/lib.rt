@@ -23,7 +23,7 @@ pub use attribution::attribution_of;
 pub use border::{is_grid_border, is_simple_border};
 pub use class::{Class, run};
 pub use closing::ends_in_colons;
-pub use decimal::digit;
+pub use decimal::number_of;
 pub use enumerator::{
     Case, Enumerator, Format, Ordinals, Reading, Sequence, Written, begins_next, enumerator_of,
     first_reading, is_same_format, ordinal_in,

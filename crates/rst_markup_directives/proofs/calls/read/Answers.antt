@@ -1,13 +1,13 @@
-use Rattle.std.proofs.Common.{◌≡◌, ◌-◌, Result, length, length-drop, drop, arith, sym, ap, ◌∙◌, subst}
+use Rattle.std.proofs.Common.{◌≡◌, ◌-◌, Result, length, length-drop, drop, arith, cond, [], sym, ap, ◌∙◌, subst}
 use Rattle.rst_text.specs.Block.{Block, cut}
 use Rattle.rst_text.specs.Shown.{block_of}
 use Rattle.rst_markup_blocks.specs.Lines.{lines_while}
 use Rattle.rst_markup_blocks.proofs.ReachLaws.{reach_within}
 use Rattle.rst_markup_blocks.proofs.RowLaws.{while_le}
 use Rattle.rst_markup_blocks.specs.declared.lines.LineTest.TheVariants.{Blank}
-use Rattle.rst_markup_directives.specs.Directive.{Read, reading_in}
+use Rattle.rst_markup_directives.specs.Directive.{Read, reading_in, run_in}
 use Rattle.rst_markup_directives.specs.Faults.{Gives}
-use Rattle.rst_markup_directives.specs.Lines.{texts_of}
+use Rattle.rst_markup_directives.specs.Lines.{first_run, texts_of}
 use Rattle.rst_markup_directives.specs.Wrong.{Wrong}
 use Rattle.rst_markup_directives.proofs.FieldLemmas.{length_texts}
 use Rattle.rst_markup_directives.proofs.BlockReads.{read-is}
@@ -18,13 +18,14 @@ returns-clause-looks c =
     let H : Block = block_of c.lines_of-lines.result in
     let Y : Block = drop c.len.result H in
     let far = reach_within (lines_while Blank Y) Y (while_le Blank Y) in
-    omega (arith, c.lines_end-rest.ensures.looks, far.1, length-drop c.len.result H, c.first_run.ensures.looks, c.in_ok-run.ensures.through, c.in_ok-run.ensures.within, c.lines_of-lines.ensures.len)
+    omega (arith, c.lines_end-rest.ensures.looks, far.1, length-drop c.len.result H, c.run_of.ensures.looks, c.in_ok-run.ensures.through, c.in_ok-run.ensures.within, c.lines_of-lines.ensures.len)
 
 pub returns-clause-reading : goal.returns-clause-reading
+unfolding run_in
 returns-clause-reading c =
     let count : length c.deref.result.now ≡ length (texts_of c.deref.result.now) = sym (length_texts c.deref.result.now) in
     let same = read-is c.args.name c.args.late c.args.block (cut (block_of c.args.view.now) c.args.block.from c.args.block.to c.args.block.first_cut c.args.block.rest_cut)
     (block_of c.lines_of-lines.result) (texts_of c.deref.result.now) (c.args.block.to - c.args.block.from) c.len.result c.lines_end-rest.result
-    c.lines_of-lines.ensures.lines c.lines_of-lines.ensures.len (ap texts_of c.deref.ensures.value ∙ c.in_ok-run.ensures.texts) (c.len.ensures ∙ sym c.deref.ensures.len ∙ count) c.lines_end-rest.ensures.end in
+    c.lines_of-lines.ensures.lines c.lines_of-lines.ensures.len (ap texts_of c.deref.ensures.value ∙ c.in_ok-run.ensures.texts ∙ ap (λ none. cond none [] (first_run (block_of c.lines_of-lines.result))) c.is_content.ensures) (c.len.ensures ∙ sym c.deref.ensures.len ∙ count) c.lines_end-rest.ensures.end in
     let P : Result Read Wrong → Type 0 = λ r. Gives (λ reading. reading_in reading ≡ r) c.read_run.result in
     subst P same c.read_run.ensures

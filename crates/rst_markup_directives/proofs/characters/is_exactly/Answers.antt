@@ -1,23 +1,15 @@
-use Rattle.std.proofs.Common.{length, sym, ap, ◌∙◌, arith}
-use Rattle.std.proofs.lemmas.List.{get_or_read}
+use Rattle.std.proofs.Common.{rules, tests, eqb, ◌∙◌, ap₂}
+use Rattle.std.proofs.lemmas.Iterator.{YieldsList-from_slice, YieldsList-from_zip}
+use Rattle.std.proofs.lemmas.Iterator.Search.{all_from_yields_List}
+use Rattle.std.proofs.lemmas.List.{map-id}
+use Rattle.std.specs.Str.{bytes_eq}
 use Rattle.rst_markup_directives.specs.Characters.{is_exactly}
-use Rattle.rst_markup_directives.proofs.Words.{is_exactly-lengths, is_exactly-differs, is_exactly-same, is_exactly-end}
+use Rattle.rst_markup_directives.proofs.Words.{pairs-same}
 use Rattle.rst_markup_directives.proofs.characters.is_exactly.Goals as goal
 
-pub returns-then-text-bytes : goal.returns-then-text-bytes
-returns-then-text-bytes c = sym (is_exactly-lengths c.args.text.now c.args.word.now (λ e. c.if-text-bytes.true (e ∙ sym (ap length c.as_bytes-bytes.ensures.value))))
-
-pub returns-then-text-i : goal.returns-then-text-i
-returns-then-text-i c =
-    let read = get_or_read c.args.text.now _ _ (omega arith) c.index-text-i.is 0 in
-    sym (is_exactly-differs c.args.text.now c.as_bytes-bytes.result.now c.loop-i.i (omega arith) (omega arith) (λ e. c.if-text-i.true (read ∙ e ∙ sym c.from.ensures)))
-    ∙ c.loop-i.invariant ∙ ap (is_exactly c.args.text.now) c.as_bytes-bytes.ensures.value
-
-pub loop-i-preserved : goal.loop-i-preserved
-loop-i-preserved c =
-    let read = get_or_read c.args.text.now _ _ (omega arith) c.index-text-i.is 0 in
-    sym (is_exactly-same c.args.text.now c.as_bytes-bytes.result.now c.loop-i.i (omega arith) (omega arith) (sym read ∙ c.if-text-i.false ∙ c.from.ensures)) ∙ c.loop-i.invariant
-
-pub returns : goal.returns
-returns c =
-    sym (is_exactly-end c.args.text.now c.as_bytes-bytes.result.now c.loop-i.i (omega arith) (omega arith)) ∙ c.loop-i.invariant ∙ ap (is_exactly c.args.text.now) c.as_bytes-bytes.ensures.value
+pub returns-then-text-word : goal.returns-then-text-word
+unfolding is_exactly
+returns-then-text-word c =
+    all_from_yields_List (λ p. eqb p.0 p.1) c.all.new.self _ c.all.result c.all.ensures.ran
+    (YieldsList-from_zip (YieldsList-from_slice c.args.text.now cc) (YieldsList-from_slice c.args.word.now cc)) (λ x b q k. search (rules, tests))
+    ∙ pairs-same (λ c. c) (λ d. d) c.args.text.now c.args.word.now c.if-text-word.true ∙ ap₂ bytes_eq (map-id c.args.text.now) (map-id c.args.word.now)

@@ -1,24 +1,17 @@
-use Rattle.std.proofs.Common.{length, sym, ap, ◌∙◌, arith}
+use Rattle.std.proofs.Common.{rules, tests, eqb, ◌∙◌, ap}
+use Rattle.std.proofs.lemmas.Iterator.{YieldsList-from_slice, YieldsList-from_zip}
+use Rattle.std.proofs.lemmas.Iterator.Search.{all_from_yields_List}
+use Rattle.std.proofs.lemmas.List.{map-id}
+use Rattle.std.specs.Prelude.{map}
 use Rattle.std.specs.Char.{to_ascii_lowercase}
-use Rattle.std.proofs.lemmas.List.{get_or_read}
+use Rattle.std.specs.Str.{bytes_eq}
 use Rattle.rst_markup_directives.specs.Characters.{is_word}
-use Rattle.rst_markup_directives.proofs.Words.{is_word-lengths, is_word-differs, is_word-same, is_word-end}
+use Rattle.rst_markup_directives.proofs.Words.{pairs-same}
 use Rattle.rst_markup_directives.proofs.characters.is_word.Goals as goal
 
-pub returns-then-text-bytes : goal.returns-then-text-bytes
-returns-then-text-bytes c = sym (is_word-lengths c.args.text.now c.args.word.now (λ e. c.if-text-bytes.true (e ∙ sym (ap length c.as_bytes-bytes.ensures.value))))
-
-pub returns-then-to_ascii_lowercase-from : goal.returns-then-to_ascii_lowercase-from
-returns-then-to_ascii_lowercase-from c =
-    let read = get_or_read c.args.text.now _ _ (omega arith) c.index-text-i.is 0 in
-    sym (is_word-differs c.args.text.now c.as_bytes-bytes.result.now c.loop-i.i (omega arith) (omega arith) (λ e. c.if-to_ascii_lowercase-from.true ((c.to_ascii_lowercase.ensures.value ∙ ap to_ascii_lowercase read) ∙ e ∙ sym c.from.ensures)))
-    ∙ c.loop-i.invariant ∙ ap (is_word c.args.text.now) c.as_bytes-bytes.ensures.value
-
-pub loop-i-preserved : goal.loop-i-preserved
-loop-i-preserved c =
-    let read = get_or_read c.args.text.now _ _ (omega arith) c.index-text-i.is 0 in
-    sym (is_word-same c.args.text.now c.as_bytes-bytes.result.now c.loop-i.i (omega arith) (omega arith) (sym (c.to_ascii_lowercase.ensures.value ∙ ap to_ascii_lowercase read) ∙ c.if-to_ascii_lowercase-from.false ∙ c.from.ensures)) ∙ c.loop-i.invariant
-
-pub returns : goal.returns
-returns c =
-    sym (is_word-end c.args.text.now c.as_bytes-bytes.result.now c.loop-i.i (omega arith) (omega arith)) ∙ c.loop-i.invariant ∙ ap (is_word c.args.text.now) c.as_bytes-bytes.ensures.value
+pub returns-then-text-word : goal.returns-then-text-word
+unfolding is_word
+returns-then-text-word c =
+    all_from_yields_List (λ p. eqb (to_ascii_lowercase p.0) p.1) c.all.new.self _ c.all.result c.all.ensures.ran
+    (YieldsList-from_zip (YieldsList-from_slice c.args.text.now cc) (YieldsList-from_slice c.args.word.now cc)) (λ x b q k. search (rules, tests))
+    ∙ pairs-same to_ascii_lowercase (λ d. d) c.args.text.now c.args.word.now c.if-text-word.true ∙ ap (bytes_eq (map to_ascii_lowercase c.args.text.now)) (map-id c.args.word.now)

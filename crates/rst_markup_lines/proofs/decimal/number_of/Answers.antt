@@ -1,7 +1,7 @@
 use Rattle.std.proofs.Common.{◌∙◌, arith, rules}
 use Rattle.std.specs.Str.{chars}
 use Rattle.rst_markup_lines.proofs.Steps.{decimal_is, decimal_more, decimal_none, decimal_over, below_more}
-use Rattle.rst_markup_lines.proofs.decimal.decimal.Goals as goal
+use Rattle.rst_markup_lines.proofs.decimal.number_of.Goals as goal
 
 pub loop-k-preserved : goal.loop-k-preserved
 loop-k-preserved c =

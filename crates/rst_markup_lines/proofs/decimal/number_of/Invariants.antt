@@ -3,7 +3,7 @@ use denote.Shadow.{shadow}
 use denote.Text.{Utf8}
 use Rattle.std.specs.Str.{chars}
 use Rattle.rst_markup_lines.proofs.Steps.{decimal_from}
-use Rattle.rst_markup_lines.proofs.decimal.decimal.Given as goal
+use Rattle.rst_markup_lines.proofs.decimal.number_of.Given as goal
 
 abbrev pub invariant-loop-k : goal.invariant-loop-k
 invariant-loop-k l = record {
