@@ -1,7 +1,7 @@
 //! Admonitions, topics and program code.
 ghost use Rattle.std.specs.Prelude.{◌≡◌, ◌++◌, option_map};
 ghost use Rattle.rst_tree.specs.Faults.{Gives};
-ghost use Rattle.rst_block_nodes.specs.Admonitions.{title_class, with_class, with_title_class};
+ghost use Rattle.rst_block_nodes.specs.Admonitions.{title_class, with_title_class};
 ghost use Rattle.rst_markup_directives.specs.Options.{choices_in};
 ghost use Rattle.rst_block_nodes.specs.Options.{tag_of, directive_element, code_element, code_classes, language_classes};
 
@@ -59,35 +59,13 @@ pub fn directive_element(
 pub fn with_title_class(alloc: Global, admonition: Node, title: &Node) -> Result<Node>
     ensures { Gives (λ node. node ≡ with_title_class admonition title.now) result }
 {
-    match admonition {
-        Node::Element {
-            tag,
-            attrs,
-            children,
-            line,
-        } => {
-            let attrs = with_class(alloc, attrs, title)?;
-            Ok(Node::Element {
-                tag,
-                attrs,
-                children,
-                line,
-            })
+    let mut admonition = admonition;
+    if let Node::Element { attrs, .. } = &mut admonition {
+        if !attrs.has(Key::Classes) {
+            attrs.set(Key::Classes, title_class(alloc, title)?)?;
         }
-        Node::Text(text) => Ok(Node::Text(text)),
     }
-}
-
-/// The attributes with the class that a title gives, unless they have some.
-fn with_class(alloc: Global, attrs: Attrs, title: &Node) -> Result<Attrs>
-    ensures { Gives (λ classed. classed ≡ with_class (title_class title.now) attrs) result }
-{
-    if attrs.has(Key::Classes) {
-        return Ok(attrs);
-    }
-    let mut attrs = attrs;
-    attrs.set(Key::Classes, title_class(alloc, title)?)?;
-    Ok(attrs)
+    Ok(admonition)
 }
 
 /// The class that a title gives.

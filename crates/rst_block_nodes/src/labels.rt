@@ -59,8 +59,7 @@ fn symbol(alloc: Global, label: &str, line: usize) -> Result<Node>
 pub fn citation(alloc: Global, label: &str, line: usize) -> Result<Node>
     ensures { Gives (λ node. node ≡ citation_node label.now line) result }
 {
-    let mut attrs = Attrs::new(alloc);
-    attrs.set(Key::OwnName, name_said(alloc, label)?)?;
+    let attrs = Attrs::lone(alloc, Key::OwnName, name_said(alloc, label)?)?;
     labelled(alloc, Tag::Citation, attrs, label, line)
 }
 

@@ -5,7 +5,7 @@ ghost use Rattle.rst_block_nodes.specs.Elements.{bullet_list_node, sequence_name
 ghost use Rattle.rst_block_nodes.specs.Texts.{message_node};
 
 use super::messages::message;
-use super::nodes::{element_of, plain};
+use super::nodes::{element_of, plain, text_nodes};
 use super::values::said;
 use itoa::Buffer;
 use rst_markup_lines::{Delimiter, Enumerator, Format, Sequence, first_reading};
@@ -20,8 +20,7 @@ pub fn bullet_list(alloc: Global, mark: char, line: usize) -> Result<Node>
 {
     let mut bullet = String::new(alloc);
     bullet.push(mark)?;
-    let mut attrs = Attrs::new(alloc);
-    attrs.set(Key::Bullet, Value::Text(Text::new(bullet)))?;
+    let attrs = Attrs::lone(alloc, Key::Bullet, Value::Text(Text::new(bullet)))?;
     Ok(element_of(Tag::BulletList, attrs, Vec::new(alloc), line))
 }
 
@@ -126,8 +125,8 @@ pub fn option(
 fn option_argument(alloc: Global, delimiter: Delimiter, text: &str, line: usize) -> Result<Node>
     ensures { Gives (λ node. node ≡ option_argument_node delimiter text.now line) result }
 {
-    let mut attrs = Attrs::new(alloc);
-    attrs.set(Key::Delimiter, said(alloc, delimiter_text(delimiter))?)?;
-    let nodes = super::nodes::text_nodes(alloc, text)?;
+    let value = said(alloc, delimiter_text(delimiter))?;
+    let attrs = Attrs::lone(alloc, Key::Delimiter, value)?;
+    let nodes = text_nodes(alloc, text)?;
     Ok(element_of(Tag::OptionArgument, attrs, nodes, line))
 }

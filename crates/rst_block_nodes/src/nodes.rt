@@ -44,9 +44,7 @@ pub fn plain(alloc: Global, tag: Tag, line: usize, text: &str) -> Result<Node>
 pub(crate) fn preserving(alloc: Global) -> Result<Attrs>
     ensures { Gives (λ attrs. attrs ≡ preserving) result }
 {
-    let mut attrs = Attrs::new(alloc);
-    attrs.set(Key::XmlSpace, said(alloc, "preserve")?)?;
-    Ok(attrs)
+    Attrs::lone(alloc, Key::XmlSpace, said(alloc, "preserve")?)
 }
 
 /// A literal block, a doctest block or a comment (Document Tree, 'literal_block'): the same as [`plain`], with the

@@ -18,8 +18,7 @@ pub fn tgroup(alloc: Global, widths: &[usize], line: usize) -> Result<Node>
     for width in widths {
         nodes.push(colspec(alloc, *width, line)?)?;
     }
-    let mut attrs = Attrs::new(alloc);
-    attrs.set(Key::Cols, Value::Number(widths.len() as u64))?;
+    let attrs = Attrs::lone(alloc, Key::Cols, Value::Number(widths.len() as u64))?;
     Ok(element_of(Tag::Tgroup, attrs, nodes, line))
 }
 
@@ -27,8 +26,7 @@ pub fn tgroup(alloc: Global, widths: &[usize], line: usize) -> Result<Node>
 fn colspec(alloc: Global, width: usize, line: usize) -> Result<Node>
     ensures { Gives (λ node. node ≡ colspec_node line width) result }
 {
-    let mut attrs = Attrs::new(alloc);
-    attrs.set(Key::Colwidth, Value::Number(width as u64))?;
+    let attrs = Attrs::lone(alloc, Key::Colwidth, Value::Number(width as u64))?;
     Ok(element_of(Tag::Colspec, attrs, Vec::new(alloc), line))
 }
 

@@ -1,10 +1,7 @@
 //! Targets and substitution definitions.
 ghost use Rattle.std.specs.Prelude.{◌≡◌, string_bytes, option_map};
 ghost use Rattle.std.specs.List.{list_any};
-ghost use Rattle.std.specs.Option.{is_some};
-ghost use Rattle.rst_tree.specs.Attributes.{value_of};
 ghost use Rattle.rst_tree.specs.Nodes.{nodes_of};
-ghost use Rattle.rst_tree.specs.declared.key.Key.TheVariants.{Anonymous};
 ghost use Rattle.rst_tree.specs.Faults.{Gives};
 ghost use Rattle.rst_markup_directives.specs.Target.{destination_of};
 ghost use Rattle.rst_block_nodes.specs.Values.{normalized, unescaped};
@@ -26,28 +23,19 @@ pub fn target(alloc: Global, name: Option<&str>, text: &str, line: usize) -> Res
     ensures { Gives (λ node. node ≡ target_node (option_map (λ written. written.now) name.entry) text.now line) result }
 {
     let attrs = name_attrs(alloc, name)?;
-    match target_value(alloc, text) {
-        Ok(destination) => leading(alloc, attrs, destination, line),
-        Err(_) => Err(TreeFault::NoMemory),
-    }
+    let destination = target_value(alloc, text).map_err(|_| TreeFault::NoMemory)?;
+    leading(alloc, attrs, destination, line)
 }
 
 /// The attribute that says a target's name, or that it has none.
 fn name_attrs(alloc: Global, name: Option<&str>) -> Result<Attrs>
     ensures { Gives (λ attrs. attrs ≡ name_attrs (option_map (λ written. written.now) name.entry)) result }
 {
-    let mut attrs = Attrs::new(alloc);
-    match name {
-        Some(written) => {
-            let name = unescaped(alloc, written)?;
-            attrs.set(Key::OwnName, name_said(alloc, name.as_str())?)?;
-            Ok(attrs)
-        }
-        None => {
-            attrs.set(Key::Anonymous, Value::Number(1))?;
-            Ok(attrs)
-        }
-    }
+    let Some(written) = name else {
+        return Attrs::lone(alloc, Key::Anonymous, Value::Number(1));
+    };
+    let name = unescaped(alloc, written)?;
+    Attrs::lone(alloc, Key::OwnName, name_said(alloc, name.as_str())?)
 }
 
 /// A target with what it leads to.
@@ -87,8 +75,7 @@ pub fn substitution_name(alloc: Global, written: &str) -> Result<String>
 pub fn substitution_definition(alloc: Global, name: &str, line: usize) -> Result<Node>
     ensures { Gives (λ node. node ≡ substitution_definition_node name.now line) result }
 {
-    let mut attrs = Attrs::new(alloc);
-    attrs.set(Key::OwnName, said(alloc, name)?)?;
+    let attrs = Attrs::lone(alloc, Key::OwnName, said(alloc, name)?)?;
     Ok(element_of(Tag::SubstitutionDefinition, attrs, Vec::new(alloc), line))
 }
 
@@ -98,12 +85,7 @@ pub fn substitution_definition(alloc: Global, name: &str, line: usize) -> Result
 pub fn may_replace(nodes: &[Node]) -> bool
     ensures { result ≡ may_replace nodes.now }
 {
-    for node in nodes {
-        if !may_stand(node) {
-            return false;
-        }
-    }
-    true
+    nodes.iter().all(|node| may_stand(node))
 }
 
 /// Whether a node may stand in a replacement text.
@@ -126,19 +108,13 @@ fn may_stand(node: &Node) -> bool
 fn may_refer(attrs: &Attrs, children: &Children) -> bool
     ensures { result ≡ may_refer attrs.now children.now }
 {
-    !is_anonymous(attrs) && !holds_substitution(children)
+    !attrs.has(Key::Anonymous) && !holds_substitution(children)
 }
 
 fn holds_substitution(children: &Children) -> bool
     ensures { result ≡ list_any is_substitution (nodes_of children.now) }
 {
     has_substitution(children.as_slice())
-}
-
-fn is_anonymous(attrs: &Attrs) -> bool
-    ensures { result ≡ is_some (value_of Anonymous attrs.now) }
-{
-    attrs.has(Key::Anonymous)
 }
 
 /// Whether elements of this kind may stand in a replacement text, whatever they hold.
@@ -161,16 +137,13 @@ fn is_plain_role(tag: Tag) -> bool
 fn has_substitution(nodes: &[Node]) -> bool
     ensures { result ≡ list_any is_substitution nodes.now }
 {
-    for node in nodes {
-        if matches!(
+    nodes.iter().any(|node| {
+        matches!(
             node,
             Node::Element {
                 tag: Tag::SubstitutionReference,
                 ..
             }
-        ) {
-            return true;
-        }
-    }
-    false
+        )
+    })
 }

@@ -24,10 +24,8 @@ pub(crate) fn said(alloc: Global, text: &str) -> Result<Value>
 pub(crate) fn name_said(alloc: Global, text: &str) -> Result<Value>
     ensures { Gives (λ value. value ≡ Said (name_in text.now)) result }
 {
-    match name_of(alloc, text) {
-        Ok(name) => Ok(Value::Text(Text::new(name))),
-        Err(_) => Err(TreeFault::NoMemory),
-    }
+    let name = name_of(alloc, text).map_err(|_| TreeFault::NoMemory)?;
+    Ok(Value::Text(Text::new(name)))
 }
 
 /// A text with each run of white characters as one space, and none at its ends.
@@ -35,10 +33,7 @@ pub(crate) fn name_said(alloc: Global, text: &str) -> Result<Value>
 pub(crate) fn normalized(alloc: Global, text: &str) -> Result<String>
     ensures { Gives (λ shown. string_bytes shown ≡ normalized text.now) result }
 {
-    match normalized_white(alloc, text) {
-        Ok(normalized) => Ok(normalized),
-        Err(_) => Err(TreeFault::NoMemory),
-    }
+    normalized_white(alloc, text).map_err(|_| TreeFault::NoMemory)
 }
 
 /// A text without its escapes. Most texts have none, and aren't copied for them.
@@ -49,10 +44,8 @@ pub(crate) fn unescaped(alloc: Global, text: &str) -> Result<CowStr<'_, Global>>
     if !text.as_bytes().contains(&b'\\') {
         return Ok(CowStr::Borrowed(text));
     }
-    match unescape(alloc, text) {
-        Ok(shown) => Ok(CowStr::Owned(shown)),
-        Err(_) => Err(TreeFault::NoMemory),
-    }
+    let shown = unescape(alloc, text).map_err(|_| TreeFault::NoMemory)?;
+    Ok(CowStr::Owned(shown))
 }
 
 /// The id that a text gives.
@@ -60,10 +53,7 @@ pub(crate) fn unescaped(alloc: Global, text: &str) -> Result<CowStr<'_, Global>>
 pub(crate) fn identifier(alloc: Global, text: &str) -> Result<String>
     ensures { Gives (λ id. string_bytes id ≡ identifier text.now) result }
 {
-    match id_of(alloc, text) {
-        Ok(id) => Ok(id),
-        Err(_) => Err(TreeFault::NoMemory),
-    }
+    id_of(alloc, text).map_err(|_| TreeFault::NoMemory)
 }
 
 /// A value that lists texts.
