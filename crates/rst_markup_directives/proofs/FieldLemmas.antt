@@ -1,15 +1,14 @@
 -- Fields that are read one after the other.
-use Rattle.std.proofs.Common.{◌≡◌, ℕ, suc, zero, ◌+◌, ◌-◌, ◌<◌, ◌≤◌, true, false, List, [], ◌∷◌, ◌++◌, take, drop, length, Option, Some, None, refl, sym, ap, ◌∙◌, inl, inr, arith}
+use Rattle.std.proofs.Common.{◌≡◌, ℕ, suc, zero, ◌+◌, ◌-◌, ◌<◌, ◌≤◌, Bool, true, false, List, [], ◌∷◌, ◌++◌, take, drop, length, Option, Some, None, cond, refl, sym, ap, ◌∙◌, arith}
 use Rattle.std.proofs.lemmas.List.{append-nil, append_assoc, drop_all, length-map, length-take-le, take-map, take_rest}
 use Rattle.std.specs.Borrow.{Bor}
 use Rattle.std.specs.List.{prefix_len}
 use Rattle.std.specs.Prelude.{slice_index_or}
 use Rattle.std.specs.Str.{chars}
-use Rattle.rst_text.proofs.PlacesLemmas.{cases_bool}
 use Rattle.rst_markup_lines.specs.Front.{begins_with}
 use Rattle.rst_markup_directives.specs.Characters.{Text}
 use Rattle.rst_markup_directives.specs.Lines.{texts_of}
-use Rattle.rst_markup_directives.specs.Options.{FieldText, field_in, Group, onto_groups, groups, onto_fields, fields_of, fields_in}
+use Rattle.rst_markup_directives.specs.Options.{FieldText, field_in, onto_groups, groups, onto_fields, fields_of, fields_in}
 
 -- how many lines at the front begin with a space
 abbrev pub deep_len : List Text → ℕ
@@ -20,29 +19,15 @@ abbrev pub behind_fields : List FieldText → Option (List FieldText) → Option
 behind_fields done (Some more) = Some (done ++ more)
 behind_fields done None = None
 
-deep-here : (t : Text) (ts : List Text) → begins_with 32 t ≡ true → deep_len (t ∷ ts) ≡ suc (deep_len ts)
-deep-here t ts h = let one : 1 + deep_len ts ≡ suc (deep_len ts) = omega arith in rw h one
-
-deep-none : (t : Text) (ts : List Text) → begins_with 32 t ≡ false → deep_len (t ∷ ts) ≡ 0
-deep-none t ts h = rw h refl
-
-onto-deep : (t : Text) (g : Group) (gs : List Group) → begins_with 32 g.0 ≡ true → onto_groups t (g ∷ gs) ≡ (t, g.0 ∷ g.1) ∷ gs
-onto-deep t g gs h = rw h refl
-
-onto-flat : (t : Text) (g : Group) (gs : List Group) → begins_with 32 g.0 ≡ false → onto_groups t (g ∷ gs) ≡ (t, []) ∷ g ∷ gs
-onto-flat t g gs h = rw h refl
-
 -- the first group of lines: the indented lines behind the first belong to it
 first_group : (t : Text) (ts : List Text) → groups (t ∷ ts) ≡ (t, take (deep_len ts) ts) ∷ groups (drop (deep_len ts) ts)
 first_group t [] = refl
-first_group t (u ∷ us) =
-    let rest : groups (u ∷ us) ≡ (u, take (deep_len us) us) ∷ groups (drop (deep_len us) us) = first_group u us in
-    elim (cases_bool (begins_with 32 u)) [
-      | inl h ↦ ap (onto_groups t) rest ∙ onto-deep t (u, take (deep_len us) us) (groups (drop (deep_len us) us)) h
-          ∙ sym (ap (λ n. (t, take n (u ∷ us)) ∷ groups (drop n (u ∷ us))) (deep-here u us h))
-      | inr h ↦ ap (onto_groups t) rest ∙ onto-flat t (u, take (deep_len us) us) (groups (drop (deep_len us) us)) h ∙ ap (λ gs. (t, []) ∷ gs) (sym rest)
-          ∙ sym (ap (λ n. (t, take n (u ∷ us)) ∷ groups (drop n (u ∷ us))) (deep-none u us h))
-    ]
+first_group t (u ∷ us) = ap (onto_groups t) (first_group u us) ∙ by (deep_len us) (begins_with 32 u) (first_group u us)
+  where
+    by : (n : ℕ) (b : Bool) → groups (u ∷ us) ≡ (u, take n us) ∷ groups (drop n us)
+        → cond b ((t, u ∷ take n us) ∷ groups (drop n us)) ((t, []) ∷ (u, take n us) ∷ groups (drop n us)) ≡ (t, take (cond b (1 + n) 0) (u ∷ us)) ∷ groups (drop (cond b (1 + n) 0) (u ∷ us))
+    by n true rest = let one : 1 + n ≡ suc n = omega arith in rw one refl
+    by n false rest = ap (λ gs. (t, []) ∷ gs) (sym rest)
 
 first_field : (t : Text) (ts : List Text) → fields_in (t ∷ ts) ≡ onto_fields (field_in t (take (deep_len ts) ts)) (fields_in (drop (deep_len ts) ts))
 first_field t ts = ap fields_of (first_group t ts)

@@ -10,6 +10,5 @@ pub mod ChoiceLemmas
 pub mod DirectiveParts
 pub mod Bare
 pub mod Indentations
-pub mod AgainLemmas
 pub mod Tables
 pub mod MessageLemmas

@@ -1,10 +1,9 @@
 -- The options of a directive's block (Markup Specification, 'Directives', 'Field Lists').
-use Rattle.std.specs.Prelude.{ℕ, min, Bool, false, not, List, [], ◌∷◌, map, take, drop, length, slice_range, Option, Some, option_map, option_and_then, unwrap_or, ok_or, find, Result, Ok, Err, if◌then◌else◌}
+use Rattle.std.specs.Prelude.{ℕ, min, Bool, false, not, List, [], ◌∷◌, map, drop, slice_range, Option, Some, option_map, option_and_then, unwrap_or, ok_or, find, Result, Ok, Err, ◌++◌, None, if◌then◌else◌}
 use Rattle.std.specs.List.{list_any, reduce}
 use Rattle.std.specs.Option.{option_or, option_map_or}
 use Rattle.std.specs.declared.vec.Vec.{Vec}
 use Rattle.rst_text.specs.Block.{indentation}
-use Rattle.rst_text.specs.Places.{first_from}
 use Rattle.rst_markup_lines.specs.Field.{field_of}
 use Rattle.rst_markup_lines.specs.Front.{begins_with}
 use Rattle.rst_markup_directives.specs.Characters.{Text, is_same_word}
@@ -75,18 +74,10 @@ first_unknown directive fs = option_map (λ f. f.0) (find (λ f. is_unknown dire
 abbrev pub is_field_name : Text → List FieldText → Bool
 is_field_name name fs = list_any (λ f. is_same_word f.0 name) fs
 
--- the name of the first of some fields; where there is none it is empty
-abbrev pub front_name : List FieldText → Text
-front_name [] = []
-front_name (f ∷ fs) = f.0
-
--- the field at the place has the name of one before it
-abbrev pub is_again : List FieldText → ℕ → Bool
-is_again fs i = is_field_name (front_name (drop i fs)) (take i fs)
-
--- the name of the first field that one before it has
-abbrev pub first_again : List FieldText → Option Text
-first_again fs = option_map (λ i. front_name (drop i fs)) (first_from (is_again fs) 0 (length fs))
+-- the name of the first of some fields that has the name of one before it; before all of them are others
+abbrev pub first_again : List FieldText → List FieldText → Option Text
+first_again before [] = None
+first_again before (f ∷ fs) = if is_field_name f.0 before then Some f.0 else first_again (before ++ f ∷ []) fs
 
 -- an option and the meaning of its value
 abbrev pub Choice : Type 0
@@ -107,7 +98,7 @@ choices_of directive (f ∷ fs) = onto_choices (choice_of directive f) f.0 (choi
 
 -- what is wrong with the names of fields: of all of them an unknown one, then a duplicate one
 abbrev pub wrong_name : Name → List FieldText → Option Wrong
-wrong_name directive fs = option_or (option_map unknown (first_unknown directive fs)) (option_map duplicate (first_again fs))
+wrong_name directive fs = option_or (option_map unknown (first_unknown directive fs)) (option_map duplicate (first_again [] fs))
 
 -- What the fields of a directive choose, or what is wrong: of all fields an unknown option, then a duplicate one, then a
 -- value that an option can't have.

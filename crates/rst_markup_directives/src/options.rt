@@ -1,5 +1,5 @@
 //! The options of a directive's block.
-ghost use Rattle.std.specs.Prelude.{◌≡◌, ◌+◌, ◌≤◌, ◌<◌, ◌∷◌, length, map, drop, slice_range, take_while, IfOk, option_map};
+ghost use Rattle.std.specs.Prelude.{◌≡◌, ◌+◌, ◌≤◌, ◌<◌, ◌∷◌, [], length, map, drop, slice_range, take_while, IfOk, option_map};
 ghost use Rattle.std.specs.List.{prefix_len};
 ghost use Rattle.std.specs.Str.{chars};
 ghost use Rattle.rst_markup_lines.specs.Front as fronts;
@@ -168,7 +168,7 @@ fn first_unknown(directive: Name, fields: &[Field]) -> Option<&[char]>
 
 /// The name of the first field that one before it has.
 fn first_again(fields: &[Field]) -> Option<&[char]>
-    ensures { option_map (λ name. name.now) result ≡ spec.first_again (spec.field_texts fields.now) }
+    ensures { option_map (λ name. name.now) result ≡ spec.first_again [] (spec.field_texts fields.now) }
 {
     for i in 0..fields.len() {
         if is_field_name(&fields[i].name, &fields[..i]) {
