@@ -59,31 +59,13 @@ fn destination_in(alloc: Global, text: &[char]) -> Result<Option<Target>, Markup
     ensures { Gives (λ target. option_map spec.destination_of target ≡ spec.destination_in text.now) result }
 {
     if is_simple_reference(text) {
-        return named(alloc, &text[..text.len() - 1]);
+        let name = text_from(alloc, &text[..text.len() - 1])?;
+        return Ok(Some(Target::Name(name)));
     }
     if is_phrase_reference(text) {
-        return named_by_phrase(alloc, &text[1..text.len() - 2]);
+        let name = unescaped(alloc, &text[1..text.len() - 2])?;
+        return Ok(Some(Target::Name(text_from(alloc, &name)?)));
     }
-    located(alloc, text)
-}
-
-fn named(alloc: Global, name: &[char]) -> Result<Option<Target>, MarkupFault>
-    ensures { Gives (λ target. option_map spec.destination_of target ≡ Some (spec.named name.now)) result }
-{
-    let name = text_from(alloc, name)?;
-    Ok(Some(Target::Name(name)))
-}
-
-fn named_by_phrase(alloc: Global, phrase: &[char]) -> Result<Option<Target>, MarkupFault>
-    ensures { Gives (λ target. option_map spec.destination_of target ≡ Some (spec.named (unescaped phrase.now))) result }
-{
-    let bare = unescaped(alloc, phrase)?;
-    named(alloc, &bare)
-}
-
-fn located(alloc: Global, text: &[char]) -> Result<Option<Target>, MarkupFault>
-    ensures { Gives (λ target. option_map spec.destination_of target ≡ spec.located_if (without_white (unescaped text.now))) result }
-{
     let bare = unescaped(alloc, text)?;
     let uri = without_white(alloc, &bare)?;
     if is_blank(&uri) {

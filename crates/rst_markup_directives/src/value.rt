@@ -1,5 +1,5 @@
 //! The values of options.
-ghost use Rattle.std.specs.Prelude.{◌≡◌, Some, option_map};
+ghost use Rattle.std.specs.Prelude.{◌≡◌, option_map};
 ghost use Rattle.rst_markup_directives.specs.Faults.{Gives};
 ghost use Rattle.rst_markup_directives.specs.Measure as measures;
 ghost use Rattle.rst_markup_directives.specs.Target as targets;
@@ -44,7 +44,7 @@ pub(crate) fn option_value(
     ensures { Gives (λ shown. option_map spec.meaning_of shown ≡ spec.value_of directive option value.now) result }
 {
     match option {
-        OptionName::Alt => text(alloc, value),
+        OptionName::Alt => Ok(Some(OptionValue::Text(text_from(alloc, value)?))),
         OptionName::Height => measure(alloc, value, false, false),
         OptionName::Width => measure(alloc, value, true, false),
         OptionName::FigureWidth => measure(alloc, value, true, true),
@@ -57,15 +57,11 @@ pub(crate) fn option_value(
             Ok(ids_of(alloc, value)?.map(|ids| OptionValue::Classes(ids)))
         }
         OptionName::Target => link(alloc, value),
-        OptionName::Name => name(alloc, value),
+        OptionName::Name => {
+            let text = text_from(alloc, value)?;
+            Ok(Some(OptionValue::Name(name_of(alloc, text.as_str())?)))
+        }
     }
-}
-
-fn text(alloc: Global, value: &[char]) -> Result<Option<OptionValue>, MarkupFault>
-    ensures { Gives (λ shown. option_map spec.meaning_of shown ≡ Some (spec.plain value.now)) result }
-{
-    let text = text_from(alloc, value)?;
-    Ok(Some(OptionValue::Text(text)))
 }
 
 fn measure(
@@ -83,14 +79,6 @@ fn measure(
         }
         None => Ok(None),
     }
-}
-
-fn name(alloc: Global, value: &[char]) -> Result<Option<OptionValue>, MarkupFault>
-    ensures { Gives (λ shown. option_map spec.meaning_of shown ≡ Some (spec.called_by value.now)) result }
-{
-    let text = text_from(alloc, value)?;
-    let name = name_of(alloc, text.as_str())?;
-    Ok(Some(OptionValue::Name(name)))
 }
 
 fn link(alloc: Global, value: &[char]) -> Result<Option<OptionValue>, MarkupFault>
