@@ -1,6 +1,7 @@
 -- Without messages on equal names the document is the same.
-use Rattle.std.proofs.Common.{◌≡◌, ℕ, List, [], ◌∷◌, ◌++◌, Bool, true, false, Option, Some, None, refl, ap, ◌∙◌, append_assoc}
-use Rattle.std.specs.Prelude.{if◌then◌else◌, map, option_and_then}
+use Rattle.std.proofs.Common.{◌≡◌, ℕ, zero, suc, true≢false, List, [], ◌∷◌, ◌++◌, Bool, true, false, Option, Some, None, refl, ap, ◌∙◌, append_assoc}
+use Rattle.std.specs.Prelude.{if◌then◌else◌, is_some, map, option_and_then}
+use Rattle.std.specs.List.{list_any}
 use Rattle.std.specs.Option.{option_to_list}
 use Rattle.std.proofs.Math.Path.{fun_ext}
 use Rattle.std.proofs.lemmas.List.{append-nil}
@@ -13,7 +14,7 @@ use Rattle.rst_tree.specs.Forest.{Forest, bare, element, words}
 use Rattle.rst_tree.specs.Nodes.{nodes_of}
 use Rattle.rst_tree.proofs.Changes.{forest_of-nodes_of}
 use Rattle.rst_transform_names.specs.Gathered.{number_at}
-use Rattle.rst_transform_names.specs.NameMessages.{beginning, filled, given, goes_out, no_texts, nodes_with, taken, takes_in, texts, then_texts, with_element, with_messages, with_name_messages, Filled, Placed, Texts}
+use Rattle.rst_transform_names.specs.NameMessages.{beginning, filled, given, goes_out, message_on, no_texts, nodes_with, taken, takes_in, texts, then_texts, with_element, with_messages, with_name_messages, Filled, Placed, Texts}
 use Rattle.rst_transform_names.proofs.MessageGaps.{woven-none}
 
 either_none : {X : Type 0} (b : Bool) → ◌≡◌ {A = List X} (if b then [] else []) []
@@ -77,6 +78,13 @@ with_none (Element t a c l) =
     let f = filled none t (beginning no_texts) c in
     let q = filled-none t [] (beginning no_texts) c (begun-none no_texts refl) in
     rw (nodes-none t a (nodes_of c) f q, texts-none t a (nodes_of c) f q, q.before, either_none, woven-none (nodes_of c), forest_of-nodes_of c) refl
+
+-- no message is that on the name of an element
+pub none_there : (messages : List (Option Node)) → list_any is_some messages ≡ false → (number : ℕ) → message_on messages number ≡ None
+none_there [] none number = refl
+none_there (None ∷ more) none zero = refl
+none_there (None ∷ more) none (suc number) = none_there more none number
+none_there (Some message ∷ more) none number = absurd (true≢false none)
 
 none_numbered : (number : Option ℕ) → ◌≡◌ {A = Placed} (map (λ message. (0, message)) (option_to_list (option_and_then (λ (n : ℕ). None) number))) []
 none_numbered None = refl

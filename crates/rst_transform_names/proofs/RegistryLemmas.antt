@@ -1,6 +1,6 @@
 -- Standings and what becomes of them.
-use Rattle.std.proofs.Common.{◌≡◌, ℕ, zero, suc, ◌<◌, ◌≤◌, true, List, [], ◌∷◌, length, Option, refl, sym, ap, arith, slice_set}
-use Rattle.std.proofs.Common.{◌∙◌, Bool, false, Vec, String, BTreeMap, bytes_eq, string_bytes, string_cmp, nat_cmp}
+use Rattle.std.proofs.Common.{◌≡◌, ℕ, zero, suc, ◌<◌, ◌≤◌, List, [], ◌∷◌, length, Option, refl, sym, ap, arith, slice_set}
+use Rattle.std.proofs.Common.{◌∙◌, Vec, String, BTreeMap, bytes_eq, string_bytes, string_cmp, nat_cmp}
 use Rattle.std.specs.BTreeMap.{get_by_text, UpdatesBy}
 use Rattle.std.specs.Cmp.Lexicographic.{slice_cmp, nat_list_eq_equiv}
 use Rattle.std.proofs.lemmas.Map.Text.{btree_map_updates_text}
@@ -41,11 +41,6 @@ losing-length Unregistered ss = refl
 -- the standings of which one lost its name, put in place of those before
 pub put_lost : {Z : Type 0} (v : Vec Standing Z) (now : List Standing) (h : Holder) → now ≡ losing h v.items → (with_items v now).items ≡ losing h v.items
 put_lost v now h is = with_items_is v now (ap length is ∙ losing-length h v.items ∙ sym v.ok.0) ∙ is
-
-pub put_lost_if : {Z : Type 0} (v : Vec Standing Z) (now : List Standing) (loses : Bool) (h : Holder) → now ≡ (if loses then losing h v.items else v.items)
-    → (with_items v now).items ≡ (if loses then losing h v.items else v.items)
-put_lost_if v now true h is = put_lost v now h is
-put_lost_if v now false h is = put_lost v now Unregistered is
 
 -- what a map tells of texts once one of them tells something else
 pub entered : {X Y : Type 0} (old new : BTreeMap (String Y) X) (name : List ℕ) (w : Option X) → UpdatesBy string_cmp (λ k. slice_cmp nat_cmp name (string_bytes k)) old new w

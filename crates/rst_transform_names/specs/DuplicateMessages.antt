@@ -1,5 +1,5 @@
 -- Messages on equal names.
-use Rattle.std.specs.Prelude.{ℕ, List, [], ◌∷◌, ◌++◌, codes, Option, None, Some}
+use Rattle.std.specs.Prelude.{ℕ, List, [], ◌∷◌, ◌++◌, codes, None}
 use Rattle.rst_tree.specs.declared.attrs.Value.TheVariants.{List as Listed}
 use Rattle.rst_tree.specs.declared.key.Key.TheVariants.{Backrefs}
 use Rattle.rst_tree.specs.declared.node.Node.{Node}
@@ -13,18 +13,9 @@ use Rattle.rst_transform_names.specs.declared.names.Strength.TheVariants.{Implic
 use Rattle.rst_transform_names.specs.declared.rulings.DuplicateMessage.{DuplicateMessage}
 use Rattle.rst_transform_names.specs.Gathered.{own_name}
 
--- some words and an element's name
-abbrev pub name_words : List ℕ → Item → List ℕ
-name_words words new = (words ++ own_name new) ++ codes "\"."
-
--- the message that says that
+-- the message that says some words and an element's name
 abbrev pub name_message : Level → List ℕ → Item → Node
-name_message level words new = note_node (record { level = level; line = new.line; text = name_words words new; block = None })
-
--- a message that refers back to an id, if there is one
-abbrev pub referring : Option (List ℕ) → Node → Node
-referring None message = message
-referring (Some id) message = with_value Backrefs (Listed (id ∷ [])) message
+name_message level words new = note_node (record { level = level; line = new.line; text = (words ++ own_name new) ++ codes "\"."; block = None })
 
 abbrev pub duplicate_words : Strength → List ℕ
 duplicate_words Implicit = codes "Duplicate implicit target name: \""
@@ -32,7 +23,7 @@ duplicate_words Explicit = codes "Duplicate explicit target name: \""
 
 -- the message on an element's name, which refers back to the element's id
 abbrev pub duplicate_name : DuplicateMessage → Item → List ℕ → Node
-duplicate_name message new id = referring (Some id) (name_message message.level (duplicate_words message.strength) new)
+duplicate_name message new id = with_value Backrefs (Listed (id ∷ [])) (name_message message.level (duplicate_words message.strength) new)
 
 -- the message on the name of a substitution definition
 abbrev pub duplicate_definition : Item → Node

@@ -1,5 +1,5 @@
 -- What registration takes from each element; it has no rule of markup.
-use Rattle.std.specs.Prelude.{ℕ, List, [], Option, Some, None}
+use Rattle.std.specs.Prelude.{ℕ, List, [], Option, unwrap_or}
 use Rattle.rst_tree.specs.declared.attrs.Attr.{Attr}
 use Rattle.rst_tree.specs.declared.key.Key.{Key}
 use Rattle.rst_tree.specs.declared.key.Key.TheVariants.{OwnName}
@@ -12,11 +12,6 @@ text_at k attrs = said_text (value_of k attrs)
 abbrev pub number_at : Key → List Attr → Option ℕ
 number_at k attrs = said_number (value_of k attrs)
 
--- a name, of which none is the empty one
-abbrev pub name_in : Option (List ℕ) → List ℕ
-name_in None = []
-name_in (Some name) = name
-
--- the name that an element was written with
+-- the name that an element was written with; the empty name is none
 abbrev pub own_name : Item → List ℕ
-own_name x = name_in (text_at OwnName x.attrs)
+own_name x = unwrap_or (text_at OwnName x.attrs) []

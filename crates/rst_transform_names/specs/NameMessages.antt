@@ -1,6 +1,6 @@
 -- The document with the messages on equal names, each in its place (reStructuredText Markup Specification, 'Implicit Hyperlink
 -- Targets'; Document Tree, 'system_message').
-use Rattle.std.specs.Prelude.{ℕ, ◌+◌, ◌-◌, ◌^◌, min, ◌&&◌, ◌||◌, not, Bool, true, false, if◌then◌else◌, List, [], ◌∷◌, ◌++◌, map, length, replicate, nat_eq, Option, Some, option_and_then, unwrap_or, is_some}
+use Rattle.std.specs.Prelude.{ℕ, ◌+◌, ◌-◌, ◌^◌, min, ◌&&◌, ◌||◌, not, Bool, true, false, if◌then◌else◌, List, [], ◌∷◌, ◌++◌, map, length, replicate, slice_index_or, Option, None, option_and_then, unwrap_or, is_some}
 use Rattle.std.specs.Option.{option_to_list}
 use Rattle.rst_tree.specs.declared.attrs.Attr.{Attr}
 use Rattle.rst_tree.specs.declared.key.Key.TheVariants.{Inline, Serial, TextMessages}
@@ -68,10 +68,6 @@ abbrev pub is_section : Tag → Bool
 is_section Section = true
 is_section _ = false
 
--- how many messages of its own an element's text has after the element; the nodes that a section counts are in it
-abbrev pub own_messages : Tag → List Attr → ℕ
-own_messages t a = if is_section t then 0 else counted a
-
 -- In an element of the first kind, the text of one of the second has its messages where the text of the outer element has them: after the
 -- outermost line block, the quote or the figure.
 abbrev pub goes_out : Tag → Tag → Bool
@@ -122,24 +118,21 @@ pub record Filled : Type 0 where
 abbrev pub beginning : Texts → Filled
 beginning given = record { nodes = []; inline = []; before = []; after = given.placed; texts_out = no_texts; waiting = no_texts }
 
--- All messages among the nodes of an element, with that on its own name if it is a section: after its title, the title's messages and the message
+-- The nodes of an element with all messages among them, with that on its own name if it is a section: after its title, the title's messages and the message
 -- on its adornment. At one place those on the names in texts come first, then that on the name of the section, then those on the names of the
 -- element that follows.
-abbrev pub among : Tag → List Attr → Placed → Filled → Placed
-among t a own f =
-    (f.after ++ (if is_section t then from (further (counted a) 1) own else [])) ++ ((if is_passed_over t then [] else f.before) ++ from (length f.nodes) f.waiting.placed)
-
--- the nodes of an element with all messages among them
 abbrev pub nodes_with : Tag → List Attr → Placed → Filled → List Node
-nodes_with t a own f = woven (among t a own f) f.nodes
+nodes_with t a own f =
+    let among = (f.after ++ (if is_section t then from (further (counted a) 1) own else [])) ++ ((if is_passed_over t then [] else f.before) ++ from (length f.nodes) f.waiting.placed) in
+    woven among f.nodes
 
 -- the messages on the names of the elements in a reference or a substitution definition, which come before it
 abbrev pub ahead : Tag → Filled → Placed
 ahead t f = if is_passed_over t then f.before else []
 
--- the messages in an element's text and in all texts that have their messages where it has them
+-- the messages in an element's text and in all texts that have their messages where it has them; the nodes that a section counts are in it
 abbrev pub texts : Tag → List Attr → Filled → Texts
-texts t a f = then_texts (record { own = own_messages t a; placed = from (own_messages t a) f.inline }) f.texts_out
+texts t a f = let own = if is_section t then 0 else counted a in then_texts (record { own = own; placed = from own f.inline }) f.texts_out
 
 -- the message on an element's own name, unless that is in it
 abbrev pub own_outside : Tag → Placed → Placed
@@ -179,11 +172,11 @@ module _ (own : List Attr → Placed) where
       let nodes = nodes_with t a (own a) f in
       Element t a (forest_of (woven (from (length nodes) (ahead t f) ++ from (length nodes) (texts t a f).placed) nodes)) l
 
--- ---- the messages by the numbers of their elements
+-- ---- the messages, by the numbers of their elements
 
--- with one more, on the name of the element with a number
-abbrev pub with_message_on : ℕ → Node → (ℕ → Option Node) → ℕ → Option Node
-with_message_on number message messages other = if nat_eq number other then Some message else messages other
+-- the message on the name of the element with a number, if there is one
+abbrev pub message_on : List (Option Node) → ℕ → Option Node
+message_on messages number = slice_index_or messages number None
 
 -- the message on the name of an element with some attributes, if there is one
 abbrev pub own_message : (ℕ → Option Node) → List Attr → Placed

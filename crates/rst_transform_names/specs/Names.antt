@@ -24,14 +24,10 @@ with_held name held names other = if bytes_eq other name then held else names ot
 abbrev pub AreHeld : Names → (List ℕ → Option NameEntry) → Type 0
 AreHeld names known = (name : List ℕ) → held_by names name ≡ known name
 
--- of each name the same is known as before
-abbrev pub KnowsTheSame : Names → Names → Type 0
-KnowsTheSame old new = (other : List ℕ) → held_by new other ≡ held_by old other
-
 -- what is known of a name was said, or memory ran out and nothing changed
 abbrev pub Holds : {A : Type 0} → List ℕ → NameEntry → Names → Names → Result A TreeFault → Type 0
 Holds name held old new (Ok done) = Knows name (Some held) old new
-Holds name held old new (Err NoMemory) = KnowsTheSame old new
+Holds name held old new (Err NoMemory) = (other : List ℕ) → held_by new other ≡ held_by old other
 
 -- the same with another holder
 abbrev pub moved : Holder → Option NameEntry → Option NameEntry

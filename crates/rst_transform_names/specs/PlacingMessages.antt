@@ -1,16 +1,9 @@
 -- The messages on equal names in the code that places them. No rule of markup.
-use Rattle.std.specs.Prelude.{ℕ, List, map, Option, Vec}
-use Rattle.std.specs.BTreeMap.{get}
-use Rattle.std.specs.Ordering.{nat_cmp}
+use Rattle.std.specs.Prelude.{List, map, Vec}
 use Rattle.rst_tree.specs.declared.node.Node.{Node}
 use Rattle.rst_transform_names.specs.declared.inside.Inside.{Inside}
-use Rattle.rst_transform_names.specs.declared.placing.NameMessages.{NameMessages}
 use Rattle.rst_transform_names.specs.declared.weaving.TextMessages.{TextMessages}
 use Rattle.rst_transform_names.specs.NameMessages.{Filled, Texts}
-
--- the message on the name of the element with a number
-abbrev pub message_on : NameMessages → ℕ → Option Node
-message_on messages serial = get nat_cmp messages.messages serial
 
 -- the nodes in gaps
 abbrev pub gap_nodes : {Z : Type 0} → List (Vec Node Z) → List (List Node)

@@ -1,6 +1,6 @@
 -- The registration of all elements, one after the other, in preorder (Document Tree, attributes `ids`, `names`, `dupnames`,
 -- `refid` and `backrefs`; reStructuredText Markup Specification, 'Implicit Hyperlink Targets').
-use Rattle.std.specs.Prelude.{◌≡◌, ℕ, false, if◌then◌else◌, List, [], ◌∷◌, ◌++◌, Option, Some, None, length, filter, replicate}
+use Rattle.std.specs.Prelude.{◌≡◌, ℕ, false, if◌then◌else◌, List, [], ◌∷◌, ◌++◌, Option, Some, None, option_map, length, filter, replicate}
 use Rattle.std.specs.BTreeMap.{get_by_text}
 use Rattle.std.specs.Str.{bytes_eq}
 use Rattle.rst_tree.specs.declared.key.Key.TheVariants.{Message}
@@ -19,15 +19,15 @@ use Rattle.rst_transform_names.specs.declared.registry.Registry.{Registry}
 use Rattle.rst_transform_names.specs.declared.registry.Standing.{Standing}
 use Rattle.rst_transform_names.specs.Gathered.{number_at, own_name}
 use Rattle.rst_transform_names.specs.Ids.{id_for, least_free, numbered, AreTaken}
-use Rattle.rst_transform_names.specs.NameMessages.{with_name_messages}
+use Rattle.rst_transform_names.specs.DuplicateMessages.{duplicate_definition, duplicate_name}
+use Rattle.rst_transform_names.specs.NameMessages.{message_on, with_name_messages}
 use Rattle.rst_transform_names.specs.Names.{with_held, AreHeld}
-use Rattle.rst_transform_names.specs.PlacingMessages.{message_on}
-use Rattle.rst_transform_names.specs.Registry.{definer, definition_messages, holder_in, known_by, losing, name_messages_by, rule_named, standing}
+use Rattle.rst_transform_names.specs.Registry.{definer, known_by, losing, rule_named, standing}
 use Rattle.rst_transform_names.specs.Written.{given, left_behind, problematic_id, with_given}
 
 -- What is known after some elements: the ids that are taken, what is known of each name, and the number of the last substitution definition that
 -- has it; what each element got that may have a name; the numbers in the ids of messages and problematics, and what is known of each message;
--- and the messages on names, by the numbers of their elements.
+-- and the message on the name of each that may have one.
 pub record Register : Type 0 where
   pub ids : List (List ℕ)
   pub names : List ℕ → Option NameEntry
@@ -35,7 +35,7 @@ pub record Register : Type 0 where
   pub standings : List Standing
   pub numbers : List ℕ
   pub messages : List MessageIds
-  pub name_messages : ℕ → Option Node
+  pub name_messages : List (Option Node)
 
 -- before the first element; so many numbers were given to messages
 abbrev pub nothing_known : ℕ → Register
@@ -46,7 +46,7 @@ nothing_known messages = record {
   standings = [];
   numbers = [];
   messages = replicate messages (record { id = None; problematics = [] });
-  name_messages = λ number. None;
+  name_messages = [];
 }
 
 -- what is known of a message once one of its problematics has come, or the message itself, with the number in its id
@@ -78,7 +78,7 @@ with_definition new r =
     record r {
       definitions = λ name. if bytes_eq name (own_name new) then Some number else r.definitions name;
       standings = losing (definer earlier) r.standings ++ standing number None false ∷ [];
-      name_messages = definition_messages earlier number new r.name_messages;
+      name_messages = r.name_messages ++ option_map (λ (n : ℕ). duplicate_definition new) earlier ∷ [];
     }
 
 -- any other element gets its id, and its name by the rule for it, if it has one
@@ -91,8 +91,8 @@ with_named new r =
     record r {
       ids = id ∷ r.ids;
       names = with_held (own_name new) (known_by rule.now number new id held) r.names;
-      standings = (if rule.old_loses then losing (holder_in held) r.standings else r.standings) ++ standing number (Some id) rule.new_loses ∷ [];
-      name_messages = name_messages_by rule.message number new id r.name_messages;
+      standings = losing rule.loser r.standings ++ standing number (Some id) rule.new_loses ∷ [];
+      name_messages = r.name_messages ++ option_map (λ message. duplicate_name message new id) rule.message ∷ [];
     }
 
 -- an element, by its kind
@@ -130,7 +130,7 @@ registered messages document = all_registered (filter is_registered (node_items 
 abbrev pub registration : ℕ → Node → Registration
 registration messages document =
     let r = registered messages document in
-    record { root = with_name_messages r.name_messages (written r document); ids = r.ids; names = r.names; serials = length r.standings }
+    record { root = with_name_messages (message_on r.name_messages) (written r document); ids = r.ids; names = r.names; serials = length r.standings }
 
 -- ---- the same in the program
 
@@ -142,7 +142,7 @@ pub record Holds (registry : Registry) (r : Register) : Type 0 where
   pub standings : registry.standings.items ≡ r.standings
   pub numbers : registry.known_messages.numbers.items ≡ r.numbers
   pub messages : registry.known_messages.messages.items ≡ r.messages
-  pub name_messages : (number : ℕ) → message_on registry.name_messages number ≡ r.name_messages number
+  pub name_messages : registry.name_messages.items ≡ r.name_messages
 
 -- what a registry holds becomes what a function makes of it
 abbrev pub Makes : (Register → Register) → Registry → Registry → Type 0

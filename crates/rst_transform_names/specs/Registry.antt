@@ -3,25 +3,22 @@
 use Rattle.std.specs.Prelude.{ℕ, Bool, true, false, if◌then◌else◌, List, [], ◌∷◌, Option, Some, None}
 use Rattle.std.specs.Str.{bytes_eq}
 use Rattle.rst_tree.specs.declared.key.Key.TheVariants.{Refuri}
-use Rattle.rst_tree.specs.declared.node.Node.{Node}
 use Rattle.rst_tree.specs.declared.tag.Tag.{Tag}
-use Rattle.rst_tree.specs.declared.tag.Tag.TheVariants.{Section, Target}
+use Rattle.rst_tree.specs.declared.tag.Tag.TheVariants.{Section}
 use Rattle.rst_tree.specs.Paths.{map_at}
 use Rattle.rst_tree.specs.Walk.{Item}
+use Rattle.rst_tree_index.specs.Kinds.{is_target}
 use Rattle.rst_transform_names.specs.declared.names.NameEntry.{NameEntry}
 use Rattle.rst_transform_names.specs.declared.names.Holder.{Holder}
 use Rattle.rst_transform_names.specs.declared.names.Holder.TheVariants.{Nobody as Lost, Element, Unregistered}
 use Rattle.rst_transform_names.specs.declared.names.Strength.{Strength}
 use Rattle.rst_transform_names.specs.declared.names.Strength.TheVariants.{Implicit, Explicit}
 use Rattle.rst_transform_names.specs.declared.registry.Standing.{Standing}
-use Rattle.rst_transform_names.specs.declared.rulings.DuplicateMessage.{DuplicateMessage}
 use Rattle.rst_transform_names.specs.declared.rulings.Now.{Now}
 use Rattle.rst_transform_names.specs.declared.rulings.Now.TheVariants.{Old, New, Nobody}
 use Rattle.rst_transform_names.specs.declared.rulings.Ruling.{Ruling}
 use Rattle.rst_transform_names.specs.Gathered.{text_at}
 use Rattle.rst_transform_names.specs.Names.{moved}
-use Rattle.rst_transform_names.specs.NameMessages.{with_message_on}
-use Rattle.rst_transform_names.specs.DuplicateMessages.{duplicate_definition, duplicate_name}
 use Rattle.rst_transform_names.specs.Rulings.{ruling_for}
 
 -- how elements of a kind give their names
@@ -34,10 +31,6 @@ abbrev pub is_same_text : Option (List ℕ) → Option (List ℕ) → Bool
 is_same_text None b = false
 is_same_text (Some a) None = false
 is_same_text (Some a) (Some b) = bytes_eq a b
-
-abbrev pub is_target : Tag → Bool
-is_target Target = true
-is_target _ = false
 
 -- where a target leads that has a URI
 abbrev pub target_uri : Item → Option (List ℕ)
@@ -64,18 +57,9 @@ losing (Element n) standings = map_at without_name n standings
 losing Lost standings = standings
 losing Unregistered standings = standings
 
-abbrev pub holder_in : Option NameEntry → Holder
-holder_in None = Lost
-holder_in (Some held) = held.holder
-
--- the messages with that on the name of an element, which has a number, if the rule asks for one
-abbrev pub name_messages_by : Option DuplicateMessage → ℕ → Item → List ℕ → (ℕ → Option Node) → ℕ → Option Node
-name_messages_by None number new id messages = messages
-name_messages_by (Some message) number new id messages = with_message_on number (duplicate_name message new id) messages
-
 -- nothing becomes of a name
 abbrev pub no_rule : Ruling
-no_rule = record { now = Old; old_loses = false; new_loses = false; message = None }
+no_rule = record { now = Old; loser = Lost; new_loses = false; message = None }
 
 -- the rule for a new element by the name it was written with; the empty name is none
 abbrev pub rule_named : List ℕ → Option NameEntry → Item → Ruling
@@ -89,7 +73,3 @@ standing number id lost = record { serial = number; id = id; lost = lost }
 abbrev pub definer : Option ℕ → Holder
 definer None = Lost
 definer (Some number) = Element number
-
-abbrev pub definition_messages : Option ℕ → ℕ → Item → (ℕ → Option Node) → ℕ → Option Node
-definition_messages None number new messages = messages
-definition_messages (Some earlier) number new messages = with_message_on number (duplicate_definition new) messages

@@ -3,7 +3,7 @@
 use Rattle.std.specs.Prelude.{Bool, true, false, if◌then◌else◌, Option, Some, None}
 use Rattle.rst_tree.specs.declared.note.Level.TheVariants.{Info, Warning}
 use Rattle.rst_transform_names.specs.declared.names.Holder.{Holder}
-use Rattle.rst_transform_names.specs.declared.names.Holder.TheVariants.{Nobody as Lost, Element, Unregistered}
+use Rattle.rst_transform_names.specs.declared.names.Holder.TheVariants.{Nobody as Lost}
 use Rattle.rst_transform_names.specs.declared.names.Strength.{Strength}
 use Rattle.rst_transform_names.specs.declared.names.Strength.TheVariants.{Implicit, Explicit}
 use Rattle.rst_transform_names.specs.declared.rulings.Now.TheVariants.{Old, New, Nobody}
@@ -18,38 +18,29 @@ warning = Some (record { level = Warning; strength = Explicit })
 
 -- no element had the name before, or all that had it were sections that lost it: the new one has it
 abbrev pub new_has_it : Ruling
-new_has_it = record { now = New; old_loses = false; new_loses = false; message = None }
+new_has_it = record { now = New; loser = Lost; new_loses = false; message = None }
 
 -- a section has the name, and another element takes it
-abbrev pub new_takes_it : Ruling
-new_takes_it = record { now = New; old_loses = true; new_loses = false; message = info Implicit }
+abbrev pub new_takes_it : Holder → Ruling
+new_takes_it section = record { now = New; loser = section; new_loses = false; message = info Implicit }
 
 -- the element that has the name keeps it
 abbrev pub old_keeps_it : Strength → Ruling
-old_keeps_it strength = record { now = Old; old_loses = false; new_loses = true; message = info strength }
+old_keeps_it strength = record { now = Old; loser = Lost; new_loses = true; message = info strength }
 
--- neither has the name
-abbrev pub both_lose_it : Option DuplicateMessage → Ruling
-both_lose_it message = record { now = Nobody; old_loses = true; new_loses = true; message = message }
-
--- it stays that no element has the name
-abbrev pub nobody_has_it : Option DuplicateMessage → Ruling
-nobody_has_it message = record { now = Nobody; old_loses = false; new_loses = true; message = message }
+-- neither the element that had the name, if there is one, nor the new one has it
+abbrev pub nobody_has_it : Holder → Option DuplicateMessage → Ruling
+nobody_has_it loser message = record { now = Nobody; loser = loser; new_loses = true; message = message }
 
 -- by who holds the name and how it was given, and how it is given now; `same`: two targets with the same URI
-abbrev pub held_ruling : Strength → Holder → Strength → Bool → Ruling
+unfoldable pub held_ruling : Strength → Holder → Strength → Bool → Ruling
 held_ruling Implicit Lost Explicit same = new_has_it
-held_ruling Implicit (Element n) Explicit same = new_takes_it
-held_ruling Implicit Unregistered Explicit same = new_takes_it
-held_ruling Explicit Lost Explicit same = nobody_has_it warning
-held_ruling Explicit (Element n) Explicit same = if same then old_keeps_it Explicit else both_lose_it warning
-held_ruling Explicit Unregistered Explicit same = if same then old_keeps_it Explicit else both_lose_it warning
-held_ruling Implicit Lost Implicit same = nobody_has_it (info Implicit)
-held_ruling Implicit (Element n) Implicit same = both_lose_it (info Implicit)
-held_ruling Implicit Unregistered Implicit same = both_lose_it (info Implicit)
-held_ruling Explicit Lost Implicit same = nobody_has_it (info Implicit)
-held_ruling Explicit (Element n) Implicit same = old_keeps_it Implicit
-held_ruling Explicit Unregistered Implicit same = old_keeps_it Implicit
+held_ruling Implicit holder Explicit same = new_takes_it holder
+held_ruling Explicit Lost Explicit same = nobody_has_it Lost warning
+held_ruling Explicit holder Explicit same = if same then old_keeps_it Explicit else nobody_has_it holder warning
+held_ruling Implicit holder Implicit same = nobody_has_it holder (info Implicit)
+held_ruling Explicit Lost Implicit same = nobody_has_it Lost (info Implicit)
+held_ruling Explicit holder Implicit same = old_keeps_it Implicit
 
 abbrev pub ruling_for : Option (Strength × Holder) → Strength → Bool → Ruling
 ruling_for None new same = new_has_it

@@ -1,6 +1,6 @@
 -- Trees that are written out, and what is printed of them, for worked examples. No rule of markup.
 use Prim.Native.String.{String}
-use Rattle.std.specs.Prelude.{◌≡◌, ℕ, List, [], ◌∷◌, map, codes, Option, None}
+use Rattle.std.specs.Prelude.{◌≡◌, ℕ, List, [], ◌∷◌, map, codes, None}
 use Rattle.rst_text.specs.Written.{written}
 use Rattle.rst_tree.specs.declared.attrs.Attr.{Attr}
 use Rattle.rst_tree.specs.declared.attrs.Value.TheVariants.{Text as Says, Number as Counts, List as Listed}
@@ -13,7 +13,6 @@ use Rattle.rst_tree.specs.Attributes.{attr}
 use Rattle.rst_tree.specs.Nodes.{forest_of}
 use Rattle.rst_tree.specs.Print.{print_of}
 use Rattle.rst_tree.specs.PrintedAttributes.{with_printed_attrs}
-use Rattle.rst_transform_names.specs.NameMessages.{with_message_on}
 use Rattle.rst_transform_names.specs.Registering.{registration}
 
 -- attributes: of a text, a number and a list
@@ -38,11 +37,6 @@ paragraph words = element Paragraph [] (text words ∷ [])
 
 abbrev pub document : List Node → Node
 document nodes = element Document [] nodes
-
--- messages on the names of the elements with some numbers
-abbrev pub numbered_messages : List (ℕ × Node) → ℕ → Option Node
-numbered_messages [] number = None
-numbered_messages (one ∷ more) number = with_message_on one.0 one.1 (numbered_messages more) number
 
 -- a node is printed in these lines, without a source
 abbrev pub Prints : Node → List String → Type 0

@@ -1,5 +1,5 @@
 -- What registration writes at each element (Document Tree, attributes `ids`, `names`, `dupnames`, `refid` and `backrefs`).
-use Rattle.std.specs.Prelude.{ℕ, Bool, List, [], ◌∷◌, ◌++◌, if◌then◌else◌, Option, Some, None, drop, codes, decimal, slice_get, option_and_then}
+use Rattle.std.specs.Prelude.{ℕ, Bool, List, [], ◌∷◌, ◌++◌, if◌then◌else◌, Option, Some, None, drop, codes, decimal, slice_get, option_and_then, option_map, unwrap_or}
 use Rattle.rst_tree.specs.declared.attrs.Attr.{Attr}
 use Rattle.rst_tree.specs.declared.attrs.Value.TheVariants.{Number, Text as Words, List as Listed}
 use Rattle.rst_tree.specs.declared.key.Key.TheVariants.{Backrefs, Ids, Message, Names, Dupnames, OwnName, Refid, Serial}
@@ -47,22 +47,14 @@ abbrev pub with_backrefs : List (List ℕ) → List Attr → List Attr
 with_backrefs [] attrs = attrs
 with_backrefs (id ∷ more) attrs = with_attr Backrefs (Listed (id ∷ more)) attrs
 
--- the same by what is known of the message, if anything is
-abbrev pub with_message_id : Option MessageIds → List Attr → List Attr
-with_message_id None attrs = attrs
-with_message_id (Some message) attrs = with_refid message.id attrs
-
-abbrev pub with_problematic_ids : Option MessageIds → List Attr → List Attr
-with_problematic_ids None attrs = attrs
-with_problematic_ids (Some message) attrs = with_backrefs message.problematics attrs
-
 -- the attributes of a problematic with all that registration gave it: its message, and its id
 abbrev pub with_problematic : List MessageIds → ℕ → List Attr → List Attr
-with_problematic messages number attrs = with_id (Some (problematic_id number)) (with_message_id (message_of messages attrs) attrs)
+with_problematic messages number attrs = with_id (Some (problematic_id number)) (with_refid (option_and_then (λ (m : MessageIds). m.id) (message_of messages attrs)) attrs)
 
 -- those of a message: its problematics, and its id
 abbrev pub with_message : List MessageIds → ℕ → List Attr → List Attr
-with_message messages number attrs = with_id (Some (message_id number)) (with_problematic_ids (message_of messages attrs) attrs)
+with_message messages number attrs =
+    with_id (Some (message_id number)) (with_backrefs (unwrap_or (option_map (λ (m : MessageIds). m.problematics) (message_of messages attrs)) []) attrs)
 
 -- what registration gives the elements from one on: those that may have names their standings; messages and problematics the
 -- numbers in their ids, and what is known of each message, by the number that it and its problematics carry

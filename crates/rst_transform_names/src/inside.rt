@@ -58,13 +58,6 @@ fn counted(attrs: &Attrs) -> u64
     attrs.number(Key::TextMessages).unwrap_or(0)
 }
 
-/// How many messages an element's text has of its own.
-fn own_messages(tag: Tag, attrs: &Attrs) -> u64
-    ensures { result ≡ spec.own_messages tag attrs.now }
-{
-    if is_section(tag) { 0 } else { counted(attrs) }
-}
-
 /// The messages on names among the nodes of an element that get their places with the element.
 #[derive(Drop)]
 pub struct Inside {
@@ -125,7 +118,7 @@ impl Inside {
         tag: Tag,
         attrs: &Attrs,
         nodes: &mut Children,
-        own: Placed,
+        mut own: Placed,
     ) -> Result<Outside>
         ensures nodes { Gives (λ _. nodes.new ≡ forest_of (spec.nodes_with tag attrs.now own.items (seen (nodes_of nodes.old) self))) result }
         ensures ahead { Gives (λ outside. outside.ahead.items ≡ (if spec.is_passed_over tag then self.before.items else [])) result }
@@ -134,7 +127,6 @@ impl Inside {
     {
         let mut among = self.after;
         let mut ahead = self.before;
-        let mut own = own;
         if is_section(tag) {
             let section = mem::replace(&mut own, Vec::new(alloc));
             put_from(&mut among, counted(attrs).saturating_add(1), section)?;
@@ -145,7 +137,7 @@ impl Inside {
         put_from(&mut among, nodes.len() as u64, self.waiting.placed)?;
         weave(alloc, nodes, among)?;
         let mut texts = TextMessages::none(alloc);
-        texts.own = own_messages(tag, attrs);
+        texts.own = if is_section(tag) { 0 } else { counted(attrs) };
         put_from(&mut texts.placed, texts.own, self.inline)?;
         texts.append(self.texts_out)?;
         Ok(Outside { ahead, own, texts })

@@ -55,7 +55,7 @@ pub fn register(alloc: Global, document: Marked, messages: u64) -> Result<Regist
     let mut writing = Writing::of(alloc, registry.standings, registry.known_messages);
     let written = document.visit(&mut writing)?;
     Ok(Registered {
-        root: place_name_messages(alloc, written, &registry.name_messages)?,
+        root: place_name_messages(alloc, written, registry.name_messages.as_slice())?,
         ids: registry.ids,
         names: registry.names,
         serials,

@@ -1,22 +1,21 @@
 //! Names and ids, given one element after the other.
-ghost use Rattle.std.specs.Prelude.{◌≡◌, ℕ, if◌then◌else◌, length, map};
+ghost use Rattle.std.specs.Prelude.{◌≡◌, ℕ, length, map, option_map};
 ghost use Rattle.rst_tree.specs.Faults.{Gives};
 ghost use Rattle.rst_tree.specs.PrintedAttributes.{given};
 ghost use Rattle.rst_tree_index.specs.Registered.{item_of};
+ghost use Rattle.rst_transform_names.specs.DuplicateMessages.{duplicate_definition, duplicate_name};
 ghost use Rattle.rst_transform_names.specs.Gathered as spec;
 ghost use Rattle.rst_transform_names.specs.Names.{held_by, Knows};
-ghost use Rattle.rst_transform_names.specs.PlacingMessages.{message_on};
 ghost use Rattle.rst_transform_names.specs.Registering.{all_registered, nothing_known, with_definition, with_element, with_message, with_named, Holds, Makes};
-ghost use Rattle.rst_transform_names.specs.Registry.{strength_of, is_same_text, target_uri, known_by, losing, holder_in, name_messages_by, rule_named, definer, definition_messages};
+ghost use Rattle.rst_transform_names.specs.Registry.{strength_of, is_same_text, target_uri, known_by, losing, rule_named, definer};
 
 use super::duplicate_messages::{duplicate_definition, duplicate_name};
 use super::ids::Ids;
 use super::message_ids::KnownMessages;
 use super::names::{Holder, NameEntry, Names, Strength};
-use super::placing::NameMessages;
 use super::registrants::own_name;
 use super::rulings::{DuplicateMessage, NO_RULING, Now, Ruling, ruling_for};
-use rst_tree::{Key, Result, Tag, Text};
+use rst_tree::{Key, Node, Result, Tag, Text};
 use rst_tree_index::Element;
 use std::alloc::Global;
 use std::collections::BTreeMap;
@@ -43,8 +42,8 @@ pub struct Registry {
     pub standings: Vec<Standing>,
     /// What is known of messages and problematics.
     pub known_messages: KnownMessages,
-    /// The messages on the elements' names.
-    pub name_messages: NameMessages,
+    /// The message on the name of each of these elements, by its number, if there is one.
+    pub name_messages: Vec<Option<Node>>,
 }
 
 impl Registry {
@@ -63,7 +62,7 @@ impl Registry {
             definitions: BTreeMap::new(alloc),
             standings: Vec::with_capacity(alloc, named)?,
             known_messages: KnownMessages::new(alloc, unnamed, messages)?,
-            name_messages: NameMessages::new(alloc),
+            name_messages: Vec::with_capacity(alloc, named)?,
         })
     }
 
@@ -102,15 +101,9 @@ impl Registry {
         let name = own_name(new);
         let id = self.ids.give(alloc, new.tag, name)?;
         let ruling = ruling_on(&self.names, name, new);
-        add_name_message(
-            alloc,
-            &mut self.name_messages,
-            ruling.message,
-            serial,
-            new,
-            &id,
-        )?;
-        lose_if(&mut self.standings, ruling.old_loses, &self.names, name);
+        let message = ruled_message(alloc, ruling.message, new, &id)?;
+        self.name_messages.push(message)?;
+        lose(&mut self.standings, ruling.loser);
         follow(alloc, &mut self.names, ruling.now, new, serial, &id)?;
         self.standings.push(Standing {
             serial,
@@ -128,7 +121,8 @@ impl Registry {
         let name = String::from_str(alloc, own_name(new))?;
         let before = self.definitions.insert(name, serial)?;
         lose(&mut self.standings, definer(before));
-        add_definition_message(alloc, &mut self.name_messages, before, serial, new)?;
+        let message = definition_message(alloc, before, new)?;
+        self.name_messages.push(message)?;
         self.standings.push(Standing {
             serial,
             id: None,
@@ -148,19 +142,13 @@ fn definer(before: Option<u64>) -> Holder
     }
 }
 
-/// Keeps the message on a substitution definition, which has a number, if another one had its name.
-fn add_definition_message(
-    alloc: Global,
-    name_messages: &mut NameMessages,
-    before: Option<u64>,
-    serial: u64,
-    new: Element<'_>,
-) -> Result<()>
-    ensures { Gives (λ _. (other : ℕ) → message_on name_messages.new other ≡ definition_messages before serial (item_of new.entry) (message_on name_messages.old) other) result }
+/// The message on a substitution definition, if another one had its name.
+fn definition_message(alloc: Global, before: Option<u64>, new: Element<'_>) -> Result<Option<Node>>
+    ensures { Gives (λ made. made ≡ option_map (λ (earlier : ℕ). duplicate_definition (item_of new.entry)) before) result }
 {
     match before {
-        Some(_) => name_messages.put(serial, duplicate_definition(alloc, new)?),
-        None => Ok(()),
+        Some(_) => Ok(Some(duplicate_definition(alloc, new)?)),
+        None => Ok(None),
     }
 }
 
@@ -181,20 +169,18 @@ fn ruling_on(names: &Names, name: &str, new: Element<'_>) -> Ruling
     }
 }
 
-/// Keeps the message on the name of a new element, which has a number and an id, if a rule asks for one.
-fn add_name_message(
+/// The message on the name of a new element, which has an id, if its rule asks for one.
+fn ruled_message(
     alloc: Global,
-    name_messages: &mut NameMessages,
-    message: Option<DuplicateMessage>,
-    serial: u64,
+    asked: Option<DuplicateMessage>,
     new: Element<'_>,
     id: &Text,
-) -> Result<()>
-    ensures { Gives (λ _. (other : ℕ) → message_on name_messages.new other ≡ name_messages_by message serial (item_of new.entry) id.now (message_on name_messages.old) other) result }
+) -> Result<Option<Node>>
+    ensures { Gives (λ made. made ≡ option_map (λ message. duplicate_name message (item_of new.entry) id.now) asked) result }
 {
-    match message {
-        Some(message) => name_messages.put(serial, duplicate_name(alloc, message, new, id)?),
-        None => Ok(()),
+    match asked {
+        Some(message) => Ok(Some(duplicate_name(alloc, message, new, id)?)),
+        None => Ok(None),
     }
 }
 
@@ -224,25 +210,6 @@ fn follow(
             };
             names.hold(alloc, own_name(new), held)
         }
-    }
-}
-
-/// Who holds a name.
-fn holder_of(names: &Names, name: &str) -> Holder
-    ensures { result ≡ holder_in (held_by names.now name.now) }
-{
-    match names.get(name) {
-        Some(held) => held.holder,
-        None => Holder::Nobody,
-    }
-}
-
-/// Lets the holder of a name have it as a duplicate one only, if it loses it.
-fn lose_if(standings: &mut [Standing], loses: bool, names: &Names, name: &str)
-    ensures { standings.new ≡ (if loses then losing (holder_in (held_by names.now name.now)) standings.old else standings.old) }
-{
-    if loses {
-        lose(standings, holder_of(names, name));
     }
 }
 

@@ -15,11 +15,11 @@ ghost use Rattle.rst_transform_names.specs.declared.names.Strength.TheVariants.{
 ghost use Rattle.rst_transform_names.specs.declared.rulings.Now.TheVariants.{Old, New, Nobody as NobodyNow};
 ghost use Rattle.rst_transform_names.specs.DuplicateMessages.{duplicate_definition, duplicate_name};
 ghost use Rattle.rst_transform_names.specs.Ids.{number_in, number_of, numbered, wanted_id};
-ghost use Rattle.rst_transform_names.specs.NameMessages.{with_name_messages};
+ghost use Rattle.rst_transform_names.specs.NameMessages.{message_on, with_name_messages};
 ghost use Rattle.rst_transform_names.specs.Registering.{registration};
 ghost use Rattle.rst_transform_names.specs.Registry.{rule_by, standing};
 ghost use Rattle.rst_transform_names.specs.Rulings.{ruling_for};
-ghost use Rattle.rst_transform_names.specs.Trees.{counts, document, element, lists, numbered_messages, paragraph, says, text, Prints, PrintsRegistered};
+ghost use Rattle.rst_transform_names.specs.Trees.{counts, document, element, lists, paragraph, says, text, Prints, PrintsRegistered};
 ghost use Rattle.rst_transform_names.specs.Written.{given, left_behind, with_given};
 
 /// What a name gives as an id, and the numbers at the end of ids (Directives, 'Identifier Normalization').
@@ -41,58 +41,58 @@ pub fn ids()
 
 /// What becomes of equal names: those of sections are implicit, all others explicit (Markup Specification, 'Implicit Hyperlink Targets').
 pub fn equal_names()
-    ensures first { ruling_for None Implicit false ≡ record { now = New; old_loses = false; new_loses = false; message = None } }
+    ensures first { ruling_for None Implicit false ≡ record { now = New; loser = Nobody; new_loses = false; message = None } }
     ensures section_then_target { ruling_for (Some (Implicit, By 0)) Explicit false ≡ record {
       now = New;
-      old_loses = true;
+      loser = By 0;
       new_loses = false;
       message = Some (record { level = Info; strength = Implicit });
     } }
     ensures lost_sections_then_target { ruling_for (Some (Implicit, Nobody)) Explicit false ≡ record {
       now = New;
-      old_loses = false;
+      loser = Nobody;
       new_loses = false;
       message = None;
     } }
     ensures target_then_same_uri { ruling_for (Some (Explicit, By 0)) Explicit true ≡ record {
       now = Old;
-      old_loses = false;
+      loser = Nobody;
       new_loses = true;
       message = Some (record { level = Info; strength = Explicit });
     } }
     ensures target_then_target { ruling_for (Some (Explicit, By 0)) Explicit false ≡ record {
       now = NobodyNow;
-      old_loses = true;
+      loser = By 0;
       new_loses = true;
       message = Some (record { level = Warning; strength = Explicit });
     } }
     ensures lost_targets_then_target { ruling_for (Some (Explicit, Nobody)) Explicit true ≡ record {
       now = NobodyNow;
-      old_loses = false;
+      loser = Nobody;
       new_loses = true;
       message = Some (record { level = Warning; strength = Explicit });
     } }
     ensures section_then_section { ruling_for (Some (Implicit, By 0)) Implicit false ≡ record {
       now = NobodyNow;
-      old_loses = true;
+      loser = By 0;
       new_loses = true;
       message = Some (record { level = Info; strength = Implicit });
     } }
     ensures lost_sections_then_section { ruling_for (Some (Implicit, Nobody)) Implicit false ≡ record {
       now = NobodyNow;
-      old_loses = false;
+      loser = Nobody;
       new_loses = true;
       message = Some (record { level = Info; strength = Implicit });
     } }
     ensures target_then_section { ruling_for (Some (Explicit, By 0)) Implicit false ≡ record {
       now = Old;
-      old_loses = false;
+      loser = Nobody;
       new_loses = true;
       message = Some (record { level = Info; strength = Implicit });
     } }
     ensures lost_targets_then_section { ruling_for (Some (Explicit, Nobody)) Implicit false ≡ record {
       now = NobodyNow;
-      old_loses = false;
+      loser = Nobody;
       new_loses = true;
       message = Some (record { level = Info; strength = Implicit });
     } }
@@ -102,7 +102,7 @@ pub fn equal_names()
 pub fn names_of_elements()
     ensures of_a_section { rule_by (Some (record { holder = By 0; strength = Explicit; id = codes "a"; uri = None })) (item Section [] 1) ≡ record {
       now = Old;
-      old_loses = false;
+      loser = Nobody;
       new_loses = true;
       message = Some (record { level = Info; strength = Implicit });
     } }
@@ -135,60 +135,51 @@ pub fn messages()
 
 /// Where the message on an element's name comes (Markup Specification, 'Implicit Hyperlink Targets').
 pub fn places()
-    ensures in_a_section { Prints (with_name_messages (numbered_messages ((0, text "here") ∷ [])) (document (element Section (counts Serial 0 ∷ []) (element Title [] []
+    ensures in_a_section { Prints (with_name_messages (message_on (Some (text "here") ∷ [])) (document (element Section (counts Serial 0 ∷ []) (element Title [] []
         ∷ paragraph "b" ∷ []) ∷ [])))
         ("<document>" ∷ "    <section>" ∷ "        <title>" ∷ "        here" ∷ "        <paragraph>" ∷ "            b" ∷ []) }
-    ensures after_messages_of_a_title { Prints (with_name_messages (numbered_messages ((0, text "here") ∷ [])) (document (element Section (counts Serial 0
+    ensures after_messages_of_a_title { Prints (with_name_messages (message_on (Some (text "here") ∷ [])) (document (element Section (counts Serial 0
         ∷ counts TextMessages 1 ∷ []) (element Title [] [] ∷ element SystemMessage [] [] ∷ paragraph "b" ∷ []) ∷ [])))
         ("<document>" ∷ "    <section>" ∷ "        <title>" ∷ "        <system_message line=\"1\">" ∷ "        here" ∷ "        <paragraph>"
         ∷ "            b" ∷ []) }
-    ensures before_a_target { Prints (with_name_messages (numbered_messages ((0, text "here") ∷ [])) (document (paragraph "a" ∷ element Target (counts Serial 0 ∷ []) []
+    ensures before_a_target { Prints (with_name_messages (message_on (Some (text "here") ∷ [])) (document (paragraph "a" ∷ element Target (counts Serial 0 ∷ []) []
         ∷ [])))
         ("<document>" ∷ "    <paragraph>" ∷ "        a" ∷ "    here" ∷ "    <target>" ∷ []) }
-    ensures of_another_element { Prints (with_name_messages (numbered_messages ((1, text "here") ∷ [])) (document (element Target (counts Serial 0 ∷ []) [] ∷ [])))
+    ensures of_another_element { Prints (with_name_messages (message_on (None ∷ Some (text "here") ∷ [])) (document (element Target (counts Serial 0 ∷ []) [] ∷ [])))
         ("<document>" ∷ "    <target>" ∷ []) }
-    ensures in_a_text { Prints (with_name_messages (numbered_messages ((0, text "here") ∷ [])) (document (element Paragraph (counts TextMessages 1
+    ensures in_a_text { Prints (with_name_messages (message_on (Some (text "here") ∷ [])) (document (element Paragraph (counts TextMessages 1
         ∷ []) (element Target (counts Inline 1 ∷ counts Serial 0 ∷ []) [] ∷ []) ∷ element SystemMessage [] [] ∷ paragraph "b" ∷ [])))
         ("<document>" ∷ "    <paragraph>" ∷ "        <target>" ∷ "    <system_message line=\"1\">" ∷ "    here" ∷ "    <paragraph>" ∷ "        b"
         ∷ []) }
-    ensures texts_before_elements { Prints (with_name_messages (numbered_messages ((0, text "first") ∷ (1, text "second")
-        ∷ [])) (document (element Paragraph [] (element Target (counts Inline 1 ∷ counts Serial 0 ∷ []) [] ∷ []) ∷ element Target (counts Serial 1
+    ensures texts_before_elements { Prints (with_name_messages (message_on (Some (text "first") ∷ Some (text "second") ∷ [])) (document (element Paragraph [] (element Target (counts Inline 1 ∷ counts Serial 0 ∷ []) [] ∷ []) ∷ element Target (counts Serial 1
         ∷ []) [] ∷ [])))
         ("<document>" ∷ "    <paragraph>" ∷ "        <target>" ∷ "    first" ∷ "    second" ∷ "    <target>" ∷ []) }
-    ensures of_a_term { Prints (with_name_messages (numbered_messages ((0, text "here")
-        ∷ [])) (element DefinitionListItem [] (element Term [] (element Target (counts Inline 1 ∷ counts Serial 0 ∷ []) [] ∷ [])
+    ensures of_a_term { Prints (with_name_messages (message_on (Some (text "here") ∷ [])) (element DefinitionListItem [] (element Term [] (element Target (counts Inline 1 ∷ counts Serial 0 ∷ []) [] ∷ [])
         ∷ element Definition [] (paragraph "d" ∷ []) ∷ [])))
         ("<definition_list_item>" ∷ "    <term>" ∷ "        <target>" ∷ "    <definition>" ∷ "        here" ∷ "        <paragraph>"
         ∷ "            d" ∷ []) }
-    ensures of_a_classifier { Prints (with_name_messages (numbered_messages ((0, text "here") ∷ [])) (element DefinitionListItem [] (element Term (counts TextMessages 1
+    ensures of_a_classifier { Prints (with_name_messages (message_on (Some (text "here") ∷ [])) (element DefinitionListItem [] (element Term (counts TextMessages 1
         ∷ []) [] ∷ element Classifier [] (element Target (counts Inline 1 ∷ counts Serial 0 ∷ []) [] ∷ [])
         ∷ element Definition [] (element SystemMessage [] [] ∷ paragraph "d" ∷ []) ∷ [])))
         ("<definition_list_item>" ∷ "    <term>" ∷ "    <classifier>" ∷ "        <target>" ∷ "    <definition>"
         ∷ "        <system_message line=\"1\">" ∷ "        here" ∷ "        <paragraph>" ∷ "            d" ∷ []) }
-    ensures of_a_field_name { Prints (with_name_messages (numbered_messages ((0, text "here")
-        ∷ [])) (element Field [] (element FieldName [] (element Target (counts Inline 1 ∷ counts Serial 0 ∷ []) [] ∷ []) ∷ element FieldBody [] []
+    ensures of_a_field_name { Prints (with_name_messages (message_on (Some (text "here") ∷ [])) (element Field [] (element FieldName [] (element Target (counts Inline 1 ∷ counts Serial 0 ∷ []) [] ∷ []) ∷ element FieldBody [] []
         ∷ [])))
         ("<field>" ∷ "    <field_name>" ∷ "        <target>" ∷ "    <field_body>" ∷ "        here" ∷ []) }
-    ensures of_a_nested_line { Prints (with_name_messages (numbered_messages ((0, text "here")
-        ∷ [])) (document (element LineBlock [] (element LineBlock [] (element Line [] (element Target (counts Inline 1 ∷ counts Serial 0 ∷ []) []
+    ensures of_a_nested_line { Prints (with_name_messages (message_on (Some (text "here") ∷ [])) (document (element LineBlock [] (element LineBlock [] (element Line [] (element Target (counts Inline 1 ∷ counts Serial 0 ∷ []) []
         ∷ []) ∷ []) ∷ []) ∷ paragraph "b" ∷ [])))
         ("<document>" ∷ "    <line_block>" ∷ "        <line_block>" ∷ "            <line>" ∷ "                <target>" ∷ "    here"
         ∷ "    <paragraph>" ∷ "        b" ∷ []) }
-    ensures of_an_attribution { Prints (with_name_messages (numbered_messages ((0, text "here")
-        ∷ [])) (document (element BlockQuote [] (element Attribution [] (element Target (counts Inline 1 ∷ counts Serial 0 ∷ []) [] ∷ []) ∷ [])
+    ensures of_an_attribution { Prints (with_name_messages (message_on (Some (text "here") ∷ [])) (document (element BlockQuote [] (element Attribution [] (element Target (counts Inline 1 ∷ counts Serial 0 ∷ []) [] ∷ []) ∷ [])
         ∷ [])))
         ("<document>" ∷ "    <block_quote>" ∷ "        <attribution>" ∷ "            <target>" ∷ "    here" ∷ []) }
-    ensures of_a_caption { Prints (with_name_messages (numbered_messages ((0, text "here")
-        ∷ [])) (document (element Figure [] (element Caption [] (element Target (counts Inline 1 ∷ counts Serial 0 ∷ []) [] ∷ []) ∷ []) ∷ [])))
+    ensures of_a_caption { Prints (with_name_messages (message_on (Some (text "here") ∷ [])) (document (element Figure [] (element Caption [] (element Target (counts Inline 1 ∷ counts Serial 0 ∷ []) [] ∷ []) ∷ []) ∷ [])))
         ("<document>" ∷ "    <figure>" ∷ "        <caption>" ∷ "            <target>" ∷ "    here" ∷ []) }
-    ensures of_an_image_in_a_reference { Prints (with_name_messages (numbered_messages ((0, text "here")
-        ∷ [])) (document (element Reference [] (element Image (counts Serial 0 ∷ []) [] ∷ []) ∷ [])))
+    ensures of_an_image_in_a_reference { Prints (with_name_messages (message_on (Some (text "here") ∷ [])) (document (element Reference [] (element Image (counts Serial 0 ∷ []) [] ∷ []) ∷ [])))
         ("<document>" ∷ "    here" ∷ "    <reference>" ∷ "        <image>" ∷ []) }
-    ensures of_an_image_in_a_definition { Prints (with_name_messages (numbered_messages ((0, text "here")
-        ∷ [])) (document (element SubstitutionDefinition [] (element Reference [] (element Image (counts Serial 0 ∷ []) [] ∷ []) ∷ []) ∷ [])))
+    ensures of_an_image_in_a_definition { Prints (with_name_messages (message_on (Some (text "here") ∷ [])) (document (element SubstitutionDefinition [] (element Reference [] (element Image (counts Serial 0 ∷ []) [] ∷ []) ∷ []) ∷ [])))
         ("<document>" ∷ "    here" ∷ "    <substitution_definition>" ∷ "        <reference>" ∷ "            <image>" ∷ []) }
-    ensures of_an_image_in_a_figure { Prints (with_name_messages (numbered_messages ((0, text "here")
-        ∷ [])) (document (element Figure [] (element Image (counts Serial 0 ∷ []) [] ∷ []) ∷ [])))
+    ensures of_an_image_in_a_figure { Prints (with_name_messages (message_on (Some (text "here") ∷ [])) (document (element Figure [] (element Image (counts Serial 0 ∷ []) [] ∷ []) ∷ [])))
         ("<document>" ∷ "    <figure>" ∷ "        here" ∷ "        <image>" ∷ []) }
 {}
 

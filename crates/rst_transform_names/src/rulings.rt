@@ -26,8 +26,8 @@ pub struct DuplicateMessage {
 #[derive(Clone, Copy)]
 pub struct Ruling {
     pub now: Now,
-    /// Whether the element that held the name keeps it as a duplicate one only.
-    pub old_loses: bool,
+    /// The element that held the name and has it as a duplicate one only, if there is one.
+    pub loser: Holder,
     /// Whether the new element has the name as a duplicate one only.
     pub new_loses: bool,
     pub message: Option<DuplicateMessage>,
@@ -48,7 +48,7 @@ const WARNING: Option<DuplicateMessage> = Some(DuplicateMessage {
 /// Nothing becomes of a name.
 pub const NO_RULING: Ruling = Ruling {
     now: Now::Old,
-    old_loses: false,
+    loser: Holder::Nobody,
     new_loses: false,
     message: None,
 };
@@ -56,18 +56,22 @@ pub const NO_RULING: Ruling = Ruling {
 /// No element had the name, or all that had it were sections that lost it: the new one has it.
 const NEW_HAS_IT: Ruling = Ruling {
     now: Now::New,
-    old_loses: false,
+    loser: Holder::Nobody,
     new_loses: false,
     message: None,
 };
 
 /// A section has the name, and another element takes it.
-const NEW_TAKES_IT: Ruling = Ruling {
-    now: Now::New,
-    old_loses: true,
-    new_loses: false,
-    message: INFO,
-};
+fn new_takes_it(section: Holder) -> Ruling
+    ensures { result ≡ spec.new_takes_it section }
+{
+    Ruling {
+        now: Now::New,
+        loser: section,
+        new_loses: false,
+        message: INFO,
+    }
+}
 
 /// The element that has the name keeps it; an INFO says so.
 fn old_keeps_it(strength: Strength) -> Ruling
@@ -75,7 +79,7 @@ fn old_keeps_it(strength: Strength) -> Ruling
 {
     Ruling {
         now: Now::Old,
-        old_loses: false,
+        loser: Holder::Nobody,
         new_loses: true,
         message: Some(DuplicateMessage {
             level: Level::Info,
@@ -84,31 +88,20 @@ fn old_keeps_it(strength: Strength) -> Ruling
     }
 }
 
-/// Neither has the name.
-fn both_lose_it(message: Option<DuplicateMessage>) -> Ruling
-    ensures { result ≡ spec.both_lose_it message }
+/// Neither the element that had the name, if there is one, nor the new one has it.
+fn nobody_has_it(loser: Holder, message: Option<DuplicateMessage>) -> Ruling
+    ensures { result ≡ spec.nobody_has_it loser message }
 {
     Ruling {
         now: Now::Nobody,
-        old_loses: true,
-        new_loses: true,
-        message,
-    }
-}
-
-/// It stays that no element has the name.
-fn nobody_has_it(message: Option<DuplicateMessage>) -> Ruling
-    ensures { result ≡ spec.nobody_has_it message }
-{
-    Ruling {
-        now: Now::Nobody,
-        old_loses: false,
+        loser,
         new_loses: true,
         message,
     }
 }
 
 /// The rule for a name, by how it was held and is given.
+#[tactic(auto, unfolding(crate::specs::Rulings::held_ruling))]
 pub fn ruling_for(old: Option<(Strength, Holder)>, new: Strength, same_uri: bool) -> Ruling
     ensures { result ≡ spec.ruling_for old new same_uri }
 {
@@ -117,12 +110,12 @@ pub fn ruling_for(old: Option<(Strength, Holder)>, new: Strength, same_uri: bool
     };
     match (old, holder, new) {
         (Strength::Implicit, Holder::Nobody, Strength::Explicit) => NEW_HAS_IT,
-        (Strength::Implicit, _, Strength::Explicit) => NEW_TAKES_IT,
-        (Strength::Explicit, Holder::Nobody, Strength::Explicit) => nobody_has_it(WARNING),
+        (Strength::Implicit, _, Strength::Explicit) => new_takes_it(holder),
+        (Strength::Explicit, Holder::Nobody, Strength::Explicit) => nobody_has_it(holder, WARNING),
         (Strength::Explicit, _, Strength::Explicit) if same_uri => old_keeps_it(Strength::Explicit),
-        (Strength::Explicit, _, Strength::Explicit) => both_lose_it(WARNING),
-        (_, Holder::Nobody, Strength::Implicit) => nobody_has_it(INFO),
-        (Strength::Implicit, _, Strength::Implicit) => both_lose_it(INFO),
+        (Strength::Explicit, _, Strength::Explicit) => nobody_has_it(holder, WARNING),
+        (_, Holder::Nobody, Strength::Implicit) => nobody_has_it(holder, INFO),
+        (Strength::Implicit, _, Strength::Implicit) => nobody_has_it(holder, INFO),
         (Strength::Explicit, _, Strength::Implicit) => old_keeps_it(Strength::Implicit),
     }
 }

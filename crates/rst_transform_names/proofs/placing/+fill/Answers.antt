@@ -4,8 +4,8 @@ use Rattle.rst_tree.specs.Nodes.{node_height, nodes_of}
 use Rattle.rst_tree.specs.declared.node.Node.{Node}
 use Rattle.rst_tree.specs.declared.node.Node.TheVariants.{Element}
 use Rattle.rst_tree.proofs.Rewrites.{Same-child}
-use Rattle.rst_transform_names.specs.NameMessages.{beginning, filled, given, own_message, taken, with_element, Texts}
-use Rattle.rst_transform_names.specs.PlacingMessages.{message_on, seen, texts_in}
+use Rattle.rst_transform_names.specs.NameMessages.{beginning, filled, given, message_on, own_message, taken, with_element, Texts}
+use Rattle.rst_transform_names.specs.PlacingMessages.{seen, texts_in}
 use Rattle.rst_transform_names.proofs.MessagePlaces.{Filling-all, Filling-init, Filling-more}
 use Rattle.rst_transform_names.proofs.placing.+fill.Goals as goal
 

@@ -1,6 +1,6 @@
 use Rattle.rst_tree.specs.Forest.{height}
-use Rattle.rst_transform_names.specs.NameMessages.{beginning, own_message}
-use Rattle.rst_transform_names.specs.PlacingMessages.{message_on, texts_in}
+use Rattle.rst_transform_names.specs.NameMessages.{beginning, message_on, own_message}
+use Rattle.rst_transform_names.specs.PlacingMessages.{texts_in}
 use Rattle.rst_transform_names.proofs.MessagePlaces.{Filling}
 use Rattle.rst_transform_names.proofs.placing.+fill.Given as goal
 

@@ -3,14 +3,15 @@ use Rattle.std.proofs.Math.Path.{fun_ext}
 use Rattle.rst_tree.specs.declared.node.Node.TheVariants.{Element}
 use Rattle.rst_tree.specs.Nodes.{nodes_of}
 use Rattle.rst_tree.proofs.Changes.{nodes_of-forest_of}
-use Rattle.rst_transform_names.specs.NameMessages.{beginning, filled, nodes_with, no_texts, own_message, with_messages, with_name_messages, Texts}
-use Rattle.rst_transform_names.specs.PlacingMessages.{message_on, seen}
-use Rattle.rst_transform_names.proofs.NoNameMessages.{without_name_messages}
+use Rattle.rst_transform_names.specs.NameMessages.{beginning, filled, message_on, nodes_with, no_texts, own_message, with_messages, with_name_messages, Texts}
+use Rattle.rst_transform_names.specs.PlacingMessages.{seen}
+use Rattle.rst_transform_names.proofs.NoNameMessages.{none_there, without_name_messages}
 use Rattle.rst_transform_names.proofs.placing.place_name_messages.Goals as goal
 
-pub returns-then-is_empty : goal.returns-then-is_empty
-returns-then-is_empty c =
-    sym (ap (λ messages. with_name_messages messages c.args.document) (fun_ext (c.is_empty.ensures c.if-is_empty.true)) ∙ without_name_messages c.args.document)
+pub returns-then-not-is_any : goal.returns-then-not-is_any
+returns-then-not-is_any c =
+    let none = fun_ext (none_there c.args.messages.now (sym c.is_any.ensures ∙ c.if-not-is_any.true)) in
+    sym (ap (λ messages. with_name_messages messages c.args.document) none ∙ without_name_messages c.args.document)
 
 pub returns-in_default : goal.returns-in_default
 returns-in_default c = rw c.in_default.is refl

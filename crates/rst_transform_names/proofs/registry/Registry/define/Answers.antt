@@ -1,9 +1,8 @@
-use Rattle.std.proofs.Common.{◌≡◌, ◌++◌, ◌∷◌, [], Some, None, false, length, ap, ap₂, ◌∙◌, string_bytes}
+use Rattle.std.proofs.Common.{◌≡◌, ℕ, option_map, ◌++◌, ◌∷◌, [], Some, None, false, length, ap, ap₂, ◌∙◌, string_bytes}
 use Rattle.std.specs.BTreeMap.{get_by_text}
-use Rattle.std.proofs.Math.Path.{fun_ext}
 use Rattle.rst_tree_index.specs.Registered.{item_of}
 use Rattle.rst_transform_names.specs.Gathered.{own_name}
-use Rattle.rst_transform_names.specs.PlacingMessages.{message_on}
+use Rattle.rst_transform_names.specs.DuplicateMessages.{duplicate_definition}
 use Rattle.rst_transform_names.specs.Registry.{definer, losing, standing}
 use Rattle.rst_transform_names.proofs.RegistryLemmas.{put_lost, entered}
 use Rattle.rst_transform_names.proofs.registry.Registry.define.Goals as goal
@@ -23,11 +22,8 @@ returns c = λ r h.
           let is = entered old.definitions c.insert.new.self (string_bytes c.in_ok-name.name) (Some c.serial-serial.result) c.in_ok-before.ensures.updates other in
           let was = h.definitions other in
           cc;
-      standings = c.in_ok-push.ensures.items ∙ ap₂ (λ ss n. ss ++ standing n None false ∷ []) lost number;
+      standings = c.in_ok-push-2.ensures.items ∙ ap₂ (λ ss n. ss ++ standing n None false ∷ []) lost number;
       numbers = h.numbers;
       messages = h.messages;
-      name_messages = λ other.
-          let kept = c.in_ok-add_definition_message.ensures other in
-          let was : message_on old.name_messages ≡ r.name_messages = fun_ext h.name_messages in
-          cc;
+      name_messages = c.in_ok-push.ensures.items ∙ ap₂ (λ ms m. ms ++ m ∷ []) h.name_messages (c.in_ok-message.ensures ∙ ap (option_map (λ (n : ℕ). duplicate_definition new)) before);
     }

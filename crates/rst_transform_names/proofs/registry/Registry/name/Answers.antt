@@ -1,13 +1,12 @@
-use Rattle.std.proofs.Common.{◌≡◌, ◌∷◌, length, ap, ap₂, subst, ◌∙◌}
-use Rattle.std.specs.Prelude.{if◌then◌else◌}
-use Rattle.std.proofs.Math.Path.{fun_ext}
+use Rattle.std.proofs.Common.{◌≡◌, [], ◌∷◌, ◌++◌, option_map, length, ap, ap₂, subst, ◌∙◌}
 use Rattle.rst_tree_index.specs.Registered.{item_of}
 use Rattle.rst_transform_names.specs.Gathered.{own_name}
 use Rattle.rst_transform_names.specs.Ids.{id_for, AreTaken}
 use Rattle.rst_transform_names.specs.Names.{held_by}
-use Rattle.rst_transform_names.specs.PlacingMessages.{message_on}
-use Rattle.rst_transform_names.specs.Registry.{holder_in, losing, rule_named}
-use Rattle.rst_transform_names.proofs.RegistryLemmas.{put_lost_if}
+use Rattle.rst_transform_names.specs.declared.rulings.Ruling.{Ruling}
+use Rattle.rst_transform_names.specs.DuplicateMessages.{duplicate_name}
+use Rattle.rst_transform_names.specs.Registry.{losing, rule_named}
+use Rattle.rst_transform_names.proofs.RegistryLemmas.{put_lost}
 use Rattle.rst_transform_names.proofs.registry.Registry.name.Goals as goal
 
 pub returns : goal.returns
@@ -20,8 +19,8 @@ returns c = λ r h.
     let id : c.in_ok-id.id ≡ id_for r.ids new.tag (own_name new) = given.0 ∙ ap (id_for r.ids new.tag) named in
     let held : held_by old.names (own_name new) ≡ r.names (own_name new) = h.names (own_name new) in
     let rule : c.ruling_on-ruling.result ≡ rule_named (own_name new) (r.names (own_name new)) new = c.ruling_on-ruling.ensures ∙ ap (λ n. rule_named n (held_by old.names n) new) named ∙ ap (λ k. rule_named (own_name new) k new) held in
-    let loses = c.ruling_on-ruling.result.old_loses in
-    let lost = put_lost_if old.standings c.lose_if.new.standings loses (holder_in (r.names (own_name new))) (c.lose_if.ensures ∙ ap₂ (λ k l. if loses then losing (holder_in k) l else l) (ap (held_by old.names) named ∙ held) c.deref_mut.ensures.value) in
+    let loser = c.ruling_on-ruling.result.loser in
+    let lost = put_lost old.standings c.lose.new.standings loser (c.lose.ensures ∙ ap (losing loser) c.deref_mut.ensures.value) in
     record {
       ids = subst (λ i. AreTaken c.give.new.self (i ∷ r.ids)) id given.1;
       names = λ other.
@@ -29,11 +28,9 @@ returns c = λ r h.
           let was = h.names other in
           cc;
       definitions = h.definitions;
-      standings = let put = c.in_ok-push.ensures.items in cc;
+      standings = let put = c.in_ok-push-2.ensures.items in cc;
       numbers = h.numbers;
       messages = h.messages;
-      name_messages = λ other.
-          let kept = c.in_ok-add_name_message.ensures other in
-          let was : message_on old.name_messages ≡ r.name_messages = fun_ext h.name_messages in
-          cc;
+      name_messages = c.in_ok-push.ensures.items ∙ ap₂ (λ ms m. ms ++ m ∷ []) h.name_messages
+          (c.in_ok-message.ensures ∙ ap₂ (λ (ruled : Ruling) i. option_map (λ message. duplicate_name message new i) ruled.message) rule id);
     }
