@@ -118,9 +118,9 @@ pub record Filled : Type 0 where
 abbrev pub beginning : Texts → Filled
 beginning given = record { nodes = []; inline = []; before = []; after = given.placed; texts_out = no_texts; waiting = no_texts }
 
--- The nodes of an element with all messages among them, with that on its own name if it is a section: after its title, the title's messages and the message
--- on its adornment. At one place those on the names in texts come first, then that on the name of the section, then those on the names of the
--- element that follows.
+-- The nodes of an element with all messages among them, with that on its own name if it is a section: after its title, the title's messages and
+-- the message on its adornment. At one place those on the names in texts come first, then that on the name of the section, then those on the
+-- names of the element that follows.
 abbrev pub nodes_with : Tag → List Attr → Placed → Filled → List Node
 nodes_with t a own f =
     let among = (f.after ++ (if is_section t then from (further (counted a) 1) own else [])) ++ ((if is_passed_over t then [] else f.before) ++ from (length f.nodes) f.waiting.placed) in
