@@ -12,7 +12,9 @@ use Rattle.rst_tree.specs.Forest.{Forest, bare, element, words}
 use Rattle.rst_tree.specs.Nodes.{forest_of, join_node}
 use Rattle.rst_tree.specs.Walk.{Item, item, items, node_items}
 use Rattle.rst_transform_structure.specs.Law.{KeepsTransitions}
-use Rattle.rst_transform_structure.specs.Transitions.{fault_before, is_last, is_section, is_transition, none_yet, placed_in, at_end, put_section, put_transition, transitions_in, with_fault, with_message, with_node, Siblings}
+use Rattle.rst_tree_index.specs.Kinds.{is_transition}
+use Rattle.rst_transform_names.specs.NameMessages.{is_section}
+use Rattle.rst_transform_structure.specs.Transitions.{fault_before, is_last, none_yet, placed_in, at_end, put_section, put_transition, transitions_in, with_fault, with_message, with_node, Siblings}
 
 in_both : (xs ys : List Item) → transitions_in (xs ++ ys) ≡ transitions_in xs ++ transitions_in ys
 in_both xs ys = filter-append (λ x. is_transition x.tag) xs ys

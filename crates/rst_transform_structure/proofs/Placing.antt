@@ -10,7 +10,9 @@ use Rattle.rst_tree.specs.Nodes.{forest_of, nodes_of, join_node}
 use Rattle.rst_transform_structure.specs.declared.transitions.Placed.{Placed}
 use Rattle.rst_transform_work.specs.declared.context.Context.{Context}
 use Rattle.rst_transform_work.specs.Reports.{KeepsRest}
-use Rattle.rst_transform_structure.specs.Transitions.{is_last, is_section, is_transition, none_yet, placed_in, put_section, put_transition, so_far, with_node, Siblings}
+use Rattle.rst_tree_index.specs.Kinds.{is_transition}
+use Rattle.rst_transform_names.specs.NameMessages.{is_section}
+use Rattle.rst_transform_structure.specs.Transitions.{is_last, none_yet, placed_in, put_section, put_transition, so_far, with_node, Siblings}
 
 -- what is the same in its parts is the same
 siblings : (s u : Siblings) → s.placed ≡ u.placed → s.moving ≡ u.moving → s.reports ≡ u.reports → s ≡ u

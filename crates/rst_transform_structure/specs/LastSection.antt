@@ -37,12 +37,9 @@ section_of reports = Element Section (attr Classes (Listed (codes "system-messag
 abbrev pub ids_moved : Report → Report
 ids_moved one = if one.own then without_ids one else one
 
--- the document with one more node after the others
-abbrev pub with_last : Node → Document → Document
-with_last n d = record d { children = forest_of (nodes_of d.children ++ n ∷ []) }
-
 -- the document with the section, if one of the messages is shown, and what is known then
 abbrev pub with_last_section : Threshold → Document → Known → Document × Known
 with_last_section report document known =
-    if list_any (is_shown report) known.reports then (with_last (section_of known.reports) document, record known { reports = map ids_moved known.reports })
+    if list_any (is_shown report) known.reports
+    then (record document { children = forest_of (nodes_of document.children ++ section_of known.reports ∷ []) }, record known { reports = map ids_moved known.reports })
     else (document, known)

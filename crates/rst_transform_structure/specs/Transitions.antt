@@ -7,10 +7,11 @@ use Rattle.rst_tree.specs.declared.node.Node.{Node}
 use Rattle.rst_tree.specs.declared.node.Node.TheVariants.{Element, Text}
 use Rattle.rst_tree.specs.declared.note.Level.TheVariants.{Error}
 use Rattle.rst_tree.specs.declared.tag.Tag.{Tag}
-use Rattle.rst_tree.specs.declared.tag.Tag.TheVariants.{Section, Transition}
 use Rattle.rst_tree.specs.Forest.{Forest, bare, element, words}
 use Rattle.rst_tree.specs.Nodes.{forest_of}
 use Rattle.rst_tree.specs.Walk.{Item}
+use Rattle.rst_tree_index.specs.Kinds.{is_transition}
+use Rattle.rst_transform_names.specs.NameMessages.{is_section}
 use Rattle.rst_transform_work.specs.declared.report.Report.{Report}
 use Rattle.rst_transform_work.specs.declared.context.Context.{Context}
 use Rattle.rst_transform_work.specs.declared.document.Document.{Document}
@@ -18,14 +19,6 @@ use Rattle.rst_transform_work.specs.Known.{Known}
 use Rattle.rst_transform_work.specs.Reports.{next_report, report_node}
 use Rattle.rst_transform_work.specs.Reading.{is_title}
 use Rattle.rst_transform_structure.specs.declared.transitions.Placed.{Placed}
-
-abbrev pub is_transition : Tag → Bool
-is_transition Transition = true
-is_transition _ = false
-
-abbrev pub is_section : Tag → Bool
-is_section Section = true
-is_section _ = false
 
 -- there is a node, a transition
 abbrev pub is_one : Option Node → Bool
@@ -37,18 +30,14 @@ is_one (Some (Text t)) = false
 abbrev pub ends_in_transition : List Node → Bool
 ends_in_transition nodes = is_one (slice_get nodes (length nodes - 1))
 
-abbrev pub at_beginning : List ℕ
-at_beginning = codes "Document or section may not begin with a transition."
-
-abbrev pub adjacent : List ℕ
-adjacent = codes "At least one body element must separate transitions; adjacent transitions are not allowed."
-
 abbrev pub at_end : List ℕ
 at_end = codes "Document may not end with a transition."
 
 -- A document or a section may not begin with a transition, and two may not be adjacent: what is wrong with one after these nodes, if anything is.
 unfoldable pub fault_before : List Node → Option (List ℕ)
-fault_before before = if list_all is_title before then Some at_beginning else (if ends_in_transition before then Some adjacent else None)
+fault_before before =
+    if list_all is_title before then Some (codes "Document or section may not begin with a transition.")
+    else (if ends_in_transition before then Some (codes "At least one body element must separate transitions; adjacent transitions are not allowed.") else None)
 
 -- the nodes of the document or of a section that have their places, the transition that moves out of its end, if one does, and the messages so far
 pub record Siblings : Type 0 where

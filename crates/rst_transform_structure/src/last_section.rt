@@ -4,7 +4,7 @@ ghost use Rattle.std.specs.List.{list_any};
 ghost use Rattle.rst_tree.specs.Faults.{Gives};
 ghost use Rattle.rst_tree.specs.Nodes.{forest_of, nodes_of};
 ghost use Rattle.rst_transform_work.specs.Known.{Makes};
-ghost use Rattle.rst_transform_structure.specs.LastSection.{ids_moved, heading, is_shown, own_nodes, section_of, with_last_section};
+ghost use Rattle.rst_transform_structure.specs.LastSection.{ids_moved, is_shown, own_nodes, section_of, with_last_section};
 
 use rst_settings::Threshold;
 use rst_transform_work::{Context, Document, Report};
@@ -47,39 +47,30 @@ fn is_shown(report: &Report, threshold: Threshold) -> bool
     report.own && threshold.is_reached(report.level.number())
 }
 
-/// The section with the messages in it.
+/// The section with its title and the messages in it.
 fn section(alloc: Global, reports: &mut Vec<Report>) -> Result<Node>
     ensures section { Gives (λ section. section ≡ section_of reports.old.items) result }
     ensures reports { Gives (λ _. reports.new.items ≡ map ids_moved reports.old.items) result }
 {
-    let children = section_nodes(alloc, reports)?;
     let classes = Texts::lone(alloc, Text::from_str(alloc, "system-messages")?);
     let attrs = Attrs::lone(alloc, Key::Classes, Value::List(classes))?;
-    Ok(Node::Element {
-        tag: Tag::Section,
-        attrs,
-        children,
-        line: 0,
-    })
-}
-
-/// The title of the section, and the messages in it.
-fn section_nodes(alloc: Global, reports: &mut Vec<Report>) -> Result<Children>
-    ensures nodes { Gives (λ nodes. nodes ≡ forest_of (heading ∷ own_nodes reports.old.items)) result }
-    ensures reports { Gives (λ _. reports.new.items ≡ map ids_moved reports.old.items) result }
-{
-    let mut nodes = Children::with_room(alloc, reports.len().saturating_add(1))?;
+    let mut children = Children::with_room(alloc, reports.len().saturating_add(1))?;
     let title = Node::text(alloc, "Docutils System Messages")?;
-    nodes.push(Node::Element {
+    children.push(Node::Element {
         tag: Tag::Title,
         attrs: Attrs::new(alloc),
         children: Children::lone(alloc, title)?,
         line: 0,
     })?;
     for i in 0..reports.len() {
-        add_own(alloc, &mut reports[i], &mut nodes)?;
+        add_own(alloc, &mut reports[i], &mut children)?;
     }
-    Ok(nodes)
+    Ok(Node::Element {
+        tag: Tag::Section,
+        attrs,
+        children,
+        line: 0,
+    })
 }
 
 /// Adds a message, if it is in the section, and hands over its ids.

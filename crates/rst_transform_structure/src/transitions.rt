@@ -7,7 +7,9 @@ ghost use Rattle.rst_tree.specs.declared.node.Node.TheVariants.{Element};
 ghost use Rattle.rst_transform_work.specs.Reports.{KeepsRest};
 ghost use Rattle.rst_transform_work.specs.Known.{Makes};
 ghost use Rattle.rst_transform_work.specs.Reading.{is_title};
-ghost use Rattle.rst_transform_structure.specs.Transitions.{ends_in_transition, fault_before, is_section, is_transition, none_yet, placed_in, put_transition, so_far, with_fault, with_message, with_transitions};
+ghost use Rattle.rst_tree_index.specs.Kinds.{is_transition};
+ghost use Rattle.rst_transform_names.specs.NameMessages.{is_section};
+ghost use Rattle.rst_transform_structure.specs.Transitions.{ends_in_transition, fault_before, none_yet, placed_in, put_transition, so_far, with_fault, with_message, with_transitions};
 
 use rst_transform_work::{Context, Document, is_title};
 use rst_tree::{Attrs, Children, Level, Node, Result, Tag, Text};
