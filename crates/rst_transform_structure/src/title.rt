@@ -7,7 +7,7 @@ ghost use Rattle.rst_tree.specs.Nodes.{join_node};
 ghost use Rattle.rst_transform_work.specs.Known.{Makes};
 ghost use Rattle.rst_transform_work.specs.Lists.{with_names, listed};
 ghost use Rattle.rst_transform_work.specs.Made.{IsMadeOf};
-ghost use Rattle.rst_transform_structure.specs.Title.{lone_section, section_in, subtitle, subtitle_names, subtitled_by, title_attrs, title_names, titled_by, with_before, with_title};
+ghost use Rattle.rst_transform_structure.specs.Title.{lone_section, section_in, subtitle, subtitle_names, subtitled_by, title_attrs, title_names, titled_by, with_title};
 ghost use Rattle.rst_transform_structure.specs.Passing.{with_number, Passes};
 ghost use Rattle.rst_transform_work.specs.Reading.{may_precede};
 
@@ -125,20 +125,6 @@ impl Section {
             node => Err(node),
         }
     }
-
-    /// The section with these nodes before its body.
-    fn behind(self, before: Vec<Node>) -> Result<Section>
-        ensures { Gives (λ section. section ≡ with_before before.items self) result }
-    {
-        let Section { attrs, title, body } = self;
-        let mut nodes = before;
-        nodes.append(&mut body.into_list())?;
-        Ok(Section {
-            attrs,
-            title,
-            body: Children::of(nodes),
-        })
-    }
 }
 
 /// Whether all of these nodes may.
@@ -161,7 +147,15 @@ fn lone_section(nodes: Children) -> Result<std::result::Result<Section, Children
         return Ok(Err(Children::of(before)));
     }
     match Section::of(last) {
-        Ok(section) => Ok(Ok(section.behind(before)?)),
+        Ok(section) => {
+            let Section { attrs, title, body } = section;
+            before.append(&mut body.into_list())?;
+            Ok(Ok(Section {
+                attrs,
+                title,
+                body: Children::of(before),
+            }))
+        }
         Err(last) => {
             before.push(last)?;
             Ok(Err(Children::of(before)))

@@ -1,4 +1,4 @@
-use Rattle.std.proofs.Common.{◌∙◌, ap, refl, sym}
+use Rattle.std.proofs.Common.{rules, ◌∙◌, ap, refl, sym}
 use Rattle.std.specs.List.{list_all}
 use Rattle.rst_transform_work.specs.Reading.{may_precede}
 use Rattle.rst_transform_structure.proofs.Titles.{passed, not_passed, no_section, put_back}
@@ -12,10 +12,10 @@ returns-then-not-all_may_precede c = (
       (ap (list_all may_precede) (sym c.as_slice.ensures.value) ∙ sym c.all_may_precede.ensures ∙ c.if-not-all_may_precede.true),
 )
 
-pub returns-in_ok-behind-in-Ok : goal.returns-in_ok-behind-in-Ok
-returns-in_ok-behind-in-Ok c =
-    passed c.args.nodes c.into_list-before.result.items c.pop.new.self.items c.in-Some.last c.in-Ok.section c.in_ok-behind-in-Ok.field-0 c.into_list-before.ensures.forest c.in-Some.ensures.items
-    (ap (list_all may_precede) (sym c.as_slice.ensures.value) ∙ sym c.all_may_precede.ensures ∙ c.if-not-all_may_precede.false) c.in-Ok.ensures c.in_ok-behind-in-Ok.ensures
+pub returns-in_ok-append-in-Ok : goal.returns-in_ok-append-in-Ok
+returns-in_ok-append-in-Ok c =
+    passed c.args.nodes c.into_list-before.result.items c.pop.new.self.items c.in-Some.last c.in-Ok.section _ c.into_list-before.ensures.forest c.in-Some.ensures.items
+    (ap (list_all may_precede) (sym c.as_slice.ensures.value) ∙ sym c.all_may_precede.ensures ∙ c.if-not-all_may_precede.false) c.in-Ok.ensures (search rules)
 
 pub returns-in_ok-push-in-Err : goal.returns-in_ok-push-in-Err
 returns-in_ok-push-in-Err c = (
