@@ -1,5 +1,5 @@
 -- What is left of a document where it is shown (Configuration, `report_level`).
-use Rattle.std.specs.Prelude.{ℕ, Bool, true, false, not, if◌then◌else◌, Option, Some, None}
+use Rattle.std.specs.Prelude.{ℕ, Bool, true, false, not, if◌then◌else◌, option_map, unwrap_or}
 use Rattle.rst_settings.specs.declared.Threshold.{Threshold}
 use Rattle.rst_tree.specs.declared.key.Key.TheVariants.{Message}
 use Rattle.rst_tree.specs.declared.node.Node.{Node}
@@ -11,14 +11,9 @@ use Rattle.rst_tree.specs.Tree.{text_all}
 use Rattle.rst_transform_messages.specs.Shown.{is_below}
 use Rattle.rst_transform_work.specs.declared.document.Document.{Document}
 
--- whether the message of a number is shown; where there is no number, there is no message
-abbrev pub is_message_shown : (ℕ → Bool) → Option ℕ → Bool
-is_message_shown shown None = false
-is_message_shown shown (Some number) = shown number
-
--- whether a node is a problematic whose message isn't shown
+-- whether a node is a problematic whose message isn't shown; where it tells no number, there is no message
 abbrev pub is_unexplained : (ℕ → Bool) → Node → Bool
-is_unexplained shown (Element Problematic a c l) = not (is_message_shown shown (said_number (value_of Message a)))
+is_unexplained shown (Element Problematic a c l) = not (unwrap_or (option_map shown (said_number (value_of Message a))) false)
 is_unexplained shown _ = false
 
 -- The nodes without the messages below the report level, and with the text of each problematic whose message isn't shown in its place. `shown` tells

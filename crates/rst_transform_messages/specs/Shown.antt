@@ -1,22 +1,18 @@
 -- What of a finished document is shown (Configuration, `report_level`).
-use Rattle.std.specs.Prelude.{ℕ, min, List, Bool, true, false, not, ◌&&◌}
+use Rattle.std.specs.Prelude.{min, List, Bool, true, not, ◌&&◌}
 use Rattle.rst_settings.specs.declared.Threshold.{Threshold}
 use Rattle.rst_settings.specs.Threshold.{is_reached}
 use Rattle.rst_tree.specs.declared.attrs.Attr.{Attr}
 use Rattle.rst_tree.specs.declared.node.Node.{Node}
 use Rattle.rst_tree.specs.declared.node.Node.TheVariants.{Element, Text}
 use Rattle.rst_tree.specs.declared.tag.Tag.{Tag}
-use Rattle.rst_tree.specs.declared.tag.Tag.TheVariants.{SystemMessage}
 use Rattle.rst_tree.specs.Forest.{Forest, bare, element, words}
+use Rattle.rst_tree_index.specs.Kinds.{is_message}
 use Rattle.rst_transform_messages.specs.Messages.{level_said}
 
--- whether an element that tells this number of a level is a message below the report level
-abbrev pub is_low : Threshold → Tag → ℕ → Bool
-is_low report SystemMessage level = not (is_reached report (min level 4))
-is_low report _ level = false
-
+-- whether an element is a message below the report level
 abbrev pub is_below : Threshold → Tag → List Attr → Bool
-is_below report tag attrs = is_low report tag (level_said attrs)
+is_below report tag attrs = is_message tag && not (is_reached report (min (level_said attrs) 4))
 
 -- whether a node isn't such a message
 abbrev pub may_stay : Threshold → Node → Bool

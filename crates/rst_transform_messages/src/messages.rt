@@ -163,12 +163,9 @@ fn is_message(tag: Tag) -> bool
 fn mark_shown(marks: &mut Vec<bool>, is_shown: bool, number: Option<u64>) -> Result<()>
     ensures { Gives (λ _. (n : ℕ) → marked marks.new.items n ≡ (marked marks.old.items n || (is_shown && has_number n number))) result }
 {
-    if !is_shown {
-        return Ok(());
-    }
     match number {
-        Some(number) => mark(marks, number as usize),
-        None => Ok(()),
+        Some(number) if is_shown => mark(marks, number as usize),
+        _ => Ok(()),
     }
 }
 
