@@ -1,5 +1,5 @@
 -- Problematics and the messages that they belong to (Document Tree, 'problematic', 'system_message').
-use Rattle.std.specs.Prelude.{ℕ, List, [], ◌∷◌, ◌++◌, slice_get, slice_set, Option, Some, None}
+use Rattle.std.specs.Prelude.{ℕ, List, [], ◌∷◌, ◌++◌, slice_get, slice_set, unwrap_or, Option, Some, None}
 use Rattle.rst_tree.specs.declared.attrs.Attr.{Attr}
 use Rattle.rst_tree.specs.declared.attrs.Value.TheVariants.{Text as Words, Number, List as Listed}
 use Rattle.rst_tree.specs.declared.key.Key.TheVariants.{Ids as IdsKey, Message, Refid}
@@ -14,8 +14,7 @@ use Rattle.rst_transform_work.specs.Known.{Known}
 
 -- the id of a message: its own, or a new one if it has none; and the ids that are taken then
 abbrev pub own_id : Option (List ℕ) → List (List ℕ) → List ℕ
-own_id (Some own) taken = own
-own_id None taken = kind_id taken SystemMessage
+own_id own taken = unwrap_or own (kind_id taken SystemMessage)
 
 abbrev pub with_own_id : Option (List ℕ) → List (List ℕ) → List (List ℕ)
 with_own_id (Some own) taken = taken

@@ -17,10 +17,8 @@ use Rattle.rst_tree.specs.Paths.{node_value}
 
 -- the members of the list that a value is, or none
 abbrev pub members_in : Option Value → List (List ℕ)
-members_in None = []
-members_in (Some (Text text)) = []
-members_in (Some (Number number)) = []
 members_in (Some (Listed texts)) = texts
+members_in _ = []
 
 abbrev pub text_said : Key → Node → Option (List ℕ)
 text_said k n = said_text (node_value k n)
@@ -40,15 +38,11 @@ line_of (Words t) = 0
 abbrev pub source_said : List Attr → List ℕ
 source_said attrs = unwrap_or (said_text (value_of Rawsource attrs)) []
 
-abbrev pub is_heading : Tag → Bool
-is_heading Title = true
-is_heading Subtitle = true
-is_heading _ = false
-
 -- a title or a subtitle
 abbrev pub is_title : Node → Bool
-is_title (Element t a c l) = is_heading t
-is_title (Words t) = false
+is_title (Element Title a c l) = true
+is_title (Element Subtitle a c l) = true
+is_title _ = false
 
 -- what may stand before a lone section: a comment, a target, a substitution definition or a message
 abbrev pub may_precede : Node → Bool
@@ -56,8 +50,7 @@ may_precede (Element Comment a c l) = true
 may_precede (Element Target a c l) = true
 may_precede (Element SubstitutionDefinition a c l) = true
 may_precede (Element SystemMessage a c l) = true
-may_precede (Element _ a c l) = false
-may_precede (Words t) = false
+may_precede _ = false
 
 -- the name that a text gives
 abbrev pub name_in : List ℕ → List ℕ

@@ -7,6 +7,7 @@ ghost use Rattle.rst_transform_work.specs.Reports.{report_in, report_node, IsRep
 
 use crate::problematics::ProblematicAttrs;
 use crate::report::Report;
+use crate::texts::element;
 use rst_transform_names::{Ids, Names};
 use rst_tree::{Attrs, Children, Level, Node, Result, Tag, Text, Texts};
 use std::alloc::Global;
@@ -78,12 +79,7 @@ impl Context {
         let mut attrs = Attrs::new(self.alloc);
         self.next_problematic(report)?.tell(self.alloc, &mut attrs)?;
         let children = Children::lone(self.alloc, Node::Text(source))?;
-        Ok(Node::Element {
-            tag: Tag::Problematic,
-            attrs,
-            children,
-            line,
-        })
+        Ok(element(Tag::Problematic, attrs, children, line))
     }
 
     /// What the next problematic tells, as the message at a place among the reports has it. It gets its id before the message

@@ -2,6 +2,7 @@
 ghost use Rattle.std.specs.Prelude.{◌≡◌};
 ghost use Rattle.rst_transform_work.specs.States.{document_node, IsDocument};
 
+use crate::texts::element;
 use rst_tree::{Attrs, Children, Node, Tag};
 
 /// The document: the element that all others stand in (Document Tree, 'document'). Its tag is always `Tag::Document`.
@@ -40,11 +41,6 @@ impl Document {
     pub fn into_node(self) -> Node
         ensures { result ≡ document_node self }
     {
-        Node::Element {
-            tag: Tag::Document,
-            attrs: self.attrs,
-            children: self.children,
-            line: self.line,
-        }
+        element(Tag::Document, self.attrs, self.children, self.line)
     }
 }

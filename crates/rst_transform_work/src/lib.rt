@@ -12,10 +12,10 @@ mod texts;
 
 pub use context::Context;
 pub use document::Document;
-pub use lists::{append, append_names, at_place, take_list};
+pub use lists::{append, append_names, at_place, item_at, put_at, take_list};
 pub use problematics::ProblematicAttrs;
 pub use reading::{
     first_said, has, is_title, line_of, list_said, may_precede, number_said, said, text_said,
 };
 pub use report::Report;
-pub use texts::{add_names, copies, folded, identified, take_source};
+pub use texts::{add_names, copies, element, folded, identified, take_source};

@@ -1,5 +1,5 @@
 //! Lists of texts among the attributes, and lists of places.
-ghost use Rattle.std.specs.Prelude.{◌≡◌};
+ghost use Rattle.std.specs.Prelude.{◌≡◌, slice_set, MatchOption, None, Some};
 ghost use Rattle.rst_tree.specs.Attributes.{without_key};
 ghost use Rattle.rst_tree.specs.Faults.{Gives};
 ghost use Rattle.rst_transform_work.specs.Lists.{at_place, listed, with_listed, with_list_of, with_names};
@@ -48,6 +48,22 @@ fn append_from(alloc: Global, attrs: &mut Attrs, key: Key, from: &Attrs) -> Resu
     match from.get(key) {
         Some(Said::List(more)) => append(alloc, attrs, key, more),
         _ => Ok(()),
+    }
+}
+
+/// What a list has for a place, if it has something there.
+pub fn item_at<T>(list: &[Option<T>], place: usize) -> Option<&T>
+    ensures { MatchOption result (at_place list.now place ≡ None) (λ item. at_place list.now place ≡ Some item.now) }
+{
+    list.get(place)?.as_ref()
+}
+
+/// Puts an item in the place of another one, if there is that.
+pub fn put_at<T: Drop>(list: &mut Vec<T>, place: usize, item: T)
+    ensures { list.new.items ≡ slice_set list.old.items place item }
+{
+    if place < list.len() {
+        list[place] = item;
     }
 }
 

@@ -12,10 +12,7 @@ use std::alloc::Global;
 fn text<'a>(attrs: &'a Attrs, key: Key) -> Option<&'a str>
     ensures { MatchOption result (said_text (value_of key attrs.now) ≡ None) (λ text. said_text (value_of key attrs.now) ≡ Some text.now) }
 {
-    match attrs.text(key) {
-        Some(text) => Some(text.as_str()),
-        None => None,
-    }
+    Some(attrs.text(key)?.as_str())
 }
 
 /// The same; the empty text where there is none.

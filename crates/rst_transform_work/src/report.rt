@@ -42,8 +42,7 @@ impl Report {
             block: None,
         };
         let attrs = self.take_attrs(alloc)?;
-        let node = note.into_node_with(alloc, attrs)?;
-        Ok(node)
+        note.into_node_with(alloc, attrs)
     }
 
     /// What the `system_message` tells, in the order of the names: the ids of its problematics and its own, which move there, its level

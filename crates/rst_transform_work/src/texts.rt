@@ -1,5 +1,6 @@
 //! What several transforms ask of attributes, names and nodes.
 ghost use Rattle.std.specs.Prelude.{◌≡◌, string_bytes};
+ghost use Rattle.rst_tree.specs.declared.node.Node.TheVariants.{Element};
 ghost use Rattle.rst_tree.specs.Faults.{Gives};
 ghost use Rattle.rst_transform_work.specs.Reading.{identifier, name_in};
 ghost use Rattle.rst_transform_work.specs.Lists.{named};
@@ -7,7 +8,7 @@ ghost use Rattle.rst_transform_work.specs.Reading.{source_said};
 
 use crate::lists::append_names;
 use rst_text::{id_of, name_of};
-use rst_tree::{Attrs, Children, Key, Node, Result, Text, TreeFault, Value};
+use rst_tree::{Attrs, Children, Key, Node, Result, Tag, Text, TreeFault, Value};
 use std::alloc::Global;
 
 /// The name that a text gives, by `name_of`.
@@ -26,6 +27,18 @@ pub fn identified(alloc: Global, text: &str) -> Result<String>
 {
     // The call has no other refusal than want of memory.
     id_of(alloc, text).map_err(|_| TreeFault::NoMemory)
+}
+
+/// An element with attributes and nodes, on a line.
+pub fn element(tag: Tag, attrs: Attrs, children: Children, line: usize) -> Node
+    ensures { result ≡ Element tag attrs children line }
+{
+    Node::Element {
+        tag,
+        attrs,
+        children,
+        line,
+    }
 }
 
 /// Equal nodes.
