@@ -20,7 +20,7 @@ use Rattle.rst_tree.specs.Forest.{Forest, bare, element, words}
 use Rattle.rst_transform_substitutions.specs.declared.definitions.Definitions.{Definitions}
 use Rattle.rst_transform_substitutions.specs.declared.expansion.ExpansionFault.TheVariants.{Circular, TooLarge}
 use Rattle.rst_transform_substitutions.specs.declared.outcomes.Outcome.{Outcome}
-use Rattle.rst_transform_substitutions.specs.Definitions.{found_by, known_found, placed, with_place}
+use Rattle.rst_transform_substitutions.specs.Definitions.{found_by, known_found, placed}
 use Rattle.rst_transform_substitutions.specs.Expansion.{and_then, behind, entering, expanded, given_within, inside, is_reference, most_nested, most_visited, name_said, nodes_for, nodes_in, size_of, visiting, Expansion}
 use Rattle.rst_transform_substitutions.specs.Numbering.{is_at_least, may_lead, names_said, own_name, places_found, places_of, AreOrdered}
 use Rattle.rst_transform_substitutions.specs.Outcomes.{came}
@@ -56,7 +56,7 @@ module _ (known : Definitions) (led : ℕ → Bool) (closed : (place : ℕ) (con
   IsLed None = Unit {0}
   IsLed (Some one) = (led one.0 ≡ true) × (slice_get known.contents.items one.0 ≡ Some one.1)
 
-  led_there : (place : ℕ) (there : Option Forest) → slice_get known.contents.items place ≡ there → led place ≡ true → IsLed (with_place place there)
+  led_there : (place : ℕ) (there : Option Forest) → slice_get known.contents.items place ≡ there → led place ≡ true → IsLed (option_map (λ content. (place, content)) there)
   led_there place None is passes = tt
   led_there place (Some content) is passes = (passes, is)
 

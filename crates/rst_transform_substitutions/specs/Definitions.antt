@@ -1,6 +1,7 @@
 -- Substitution definitions (Markup Specification, 'Substitution Definitions').
-use Rattle.std.specs.Prelude.{◌≡◌, ℕ, ◌+◌, Bool, List, [], ◌∷◌, ◌++◌, if◌then◌else◌, map, slice_get, unwrap_or, Option, Some, None}
+use Rattle.std.specs.Prelude.{◌≡◌, ℕ, ◌+◌, Bool, List, [], ◌∷◌, ◌++◌, if◌then◌else◌, map, option_and_then, option_map, slice_get, unwrap_or, Option, Some, None}
 use Rattle.std.specs.BTreeMap.{get_by_text}
+use Rattle.std.specs.Option.{option_or}
 use Rattle.std.specs.Str.{bytes_eq}
 use Rattle.rst_tree.specs.declared.attrs.Attr.{Attr}
 use Rattle.rst_tree.specs.declared.key.Key.TheVariants.{OwnName}
@@ -44,23 +45,13 @@ place_of_name all name = last_place (λ other. bytes_eq name other) 0 None all
 abbrev pub place_of_normalized : List Definition → List ℕ → Option ℕ
 place_of_normalized all name = last_place (λ other. bytes_eq name (name_in other)) 0 None all
 
--- the first place, or else the other
-abbrev pub or_else : Option ℕ → Option ℕ → Option ℕ
-or_else (Some place) other = Some place
-or_else None other = other
-
 -- the place of the definition that a name finds: that of the name as it is written, or else of the normalized one
 abbrev pub place_found : List Definition → List ℕ → Option ℕ
-place_found all name = or_else (place_of_name all name) (place_of_normalized all (name_in name))
+place_found all name = option_or (place_of_name all name) (place_of_normalized all (name_in name))
 
 -- a place with the nodes there, if there are such
-abbrev pub with_place : ℕ → Option Forest → Option (ℕ × Forest)
-with_place place None = None
-with_place place (Some content) = Some (place, content)
-
 abbrev pub placed : List Forest → Option ℕ → Option (ℕ × Forest)
-placed contents None = None
-placed contents (Some place) = with_place place (slice_get contents place)
+placed contents = option_and_then (λ place. option_map (λ content. (place, content)) (slice_get contents place))
 
 -- the definition that a name finds: its place, and the nodes that stand for a reference
 abbrev pub found_among : List Definition → List ℕ → Option (ℕ × Forest)
@@ -77,7 +68,7 @@ abbrev pub known_place : Definitions → List ℕ → Option ℕ
 known_place known name = get_by_text known.exact name
 
 abbrev pub known_found : Definitions → List ℕ → Option ℕ
-known_found known name = or_else (get_by_text known.exact name) (get_by_text known.normalized (name_in name))
+known_found known name = option_or (get_by_text known.exact name) (get_by_text known.normalized (name_in name))
 
 -- the definition that a name finds among them
 abbrev pub found_by : Definitions → List ℕ → Option (ℕ × Forest)

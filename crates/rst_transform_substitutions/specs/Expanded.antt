@@ -49,13 +49,10 @@ given_way a l (Err fault) known = lone (at_fault a l fault known)
 abbrev pub replaced : (List ℕ → Option (ℕ × Forest)) → Option ℕ → List Attr → ℕ → Known → Nodes
 replaced found within a l = given_way a l (nodes_for found within (name_said a))
 
-abbrev pub is_definition : Tag → Bool
-is_definition SubstitutionDefinition = true
-is_definition _ = false
-
 -- the place of the definition that the nodes in an element stand in, if there is one: that of its own name if it is a definition
 abbrev pub within_element : (List ℕ → Option ℕ) → Tag → List Attr → Option ℕ → Option ℕ
-within_element place t a within = if is_definition t then place (unwrap_or (said_text (value_of OwnName a)) []) else within
+within_element place SubstitutionDefinition a within = place (unwrap_or (said_text (value_of OwnName a)) [])
+within_element place _ a within = within
 
 -- given which definition a name finds, and at which place the definition of a name stands
 module _ (found : List ℕ → Option (ℕ × Forest)) (place : List ℕ → Option ℕ) where

@@ -9,6 +9,7 @@ use Rattle.rst_transform_names.specs.Trees.{element, says, text}
 use Rattle.rst_transform_work.specs.declared.document.Document.{Document}
 use Rattle.rst_transform_work.specs.Known.{Known}
 use Rattle.rst_transform_work.specs.Problematics.{problematic_attrs}
+use Rattle.rst_transform_work.specs.Written.{document_of, knowing}
 use Rattle.rst_transform_substitutions.specs.declared.expansion.ExpansionFault.{ExpansionFault}
 use Rattle.rst_transform_substitutions.specs.Definitions.{definitions_among, found_among}
 use Rattle.rst_transform_substitutions.specs.Expanded.{with_expansions}
@@ -39,8 +40,7 @@ problem id number own source = element Problematic (problematic_attrs (codes id)
 
 -- the document of some nodes with its references replaced, and what is known then, where nothing was known before
 abbrev pub expands : List Node → Document × Known
-expands nodes =
-    with_expansions (record { attrs = []; children = forest_of nodes; line = 1 }) (record { ids = []; names = λ name. None; reports = []; first_number = 0; serials = 0 })
+expands nodes = with_expansions (document_of nodes) (knowing [])
 
 -- the nodes of that document, and what the messages say
 abbrev pub leaves : List Node → List Node

@@ -7,8 +7,8 @@ ghost use Rattle.rst_tree.specs.Faults.{Gives};
 ghost use Rattle.rst_transform_work.specs.Reading.{name_in};
 
 use crate::listing::add_listed;
-use rst_transform_work::{copies, folded};
-use rst_tree::{Children, Result};
+use rst_transform_work::{copies, folded, said};
+use rst_tree::{Attrs, Children, Key, Result, Tag};
 use std::alloc::Global;
 use std::collections::BTreeMap;
 
@@ -32,6 +32,7 @@ pub struct Definitions {
 impl Definitions {
     ghost use Rattle.std.specs.Prelude.{◌∷◌, ◌++◌, [], slice_get, MatchOption, None};
     ghost use Rattle.rst_transform_substitutions.specs.Definitions.{definitions_among, known_found, known_place, AreKnown, Definition};
+    ghost use Rattle.rst_transform_substitutions.specs.Expanded.{within_element};
 
     /// The definitions among the nodes of a document, and in them.
     pub fn of(alloc: Global, nodes: &Children) -> Result<Definitions>
@@ -74,7 +75,7 @@ impl Definitions {
     fn remember(&mut self, alloc: Global, name: &str) -> Result<()>
         ensures { Gives (λ _. (all : List Definition) → AreKnown all self.old → AreKnown all self.new) result }
     {
-        if self.place(name).is_some() {
+        if self.exact.get(name).is_some() {
             return Ok(());
         }
         let found = self.find(alloc, name)?;
@@ -83,11 +84,14 @@ impl Definitions {
         Ok(())
     }
 
-    /// The place of the definition of a name as it was written, if there is one.
-    pub fn place(&self, name: &str) -> Option<usize>
-        ensures { result ≡ known_place self.now name.now }
+    /// The place of the definition that the nodes in an element stand in, which stands in the one at the place `within`.
+    pub fn within_element(&self, tag: Tag, attrs: &Attrs, within: Option<usize>) -> Option<usize>
+        ensures { result ≡ within_element (known_place self.now) tag attrs.now within }
     {
-        self.exact.get(name).copied()
+        match tag {
+            Tag::SubstitutionDefinition => self.exact.get(said(attrs, Key::OwnName)).copied(),
+            _ => within,
+        }
     }
 
     /// The place of the definition that a name finds: the name as it is written comes first, and then the name by `name_of`.

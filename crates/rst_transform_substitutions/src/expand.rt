@@ -78,7 +78,7 @@ fn expand_in(
                 if children.are_plain() {
                     continue;
                 }
-                let within = within_element(definitions, *tag, attrs, within);
+                let within = definitions.within_element(*tag, attrs, within);
                 expand_in(definitions, children, within, outcomes, context)?;
             }
         }
@@ -117,21 +117,6 @@ fn open_references(alloc: Global, nodes: &mut Children) -> Result<()>
     }
     *nodes = Children::of(done);
     Ok(())
-}
-
-/// The definition that the nodes in an element stand in.
-fn within_element(
-    definitions: &Definitions,
-    tag: Tag,
-    attrs: &Attrs,
-    within: Option<usize>,
-) -> Option<usize>
-    ensures { result ≡ within_element (known_place definitions.now) tag attrs.now within }
-{
-    if matches!(tag, Tag::SubstitutionDefinition) {
-        return definitions.place(said(attrs, Key::OwnName));
-    }
-    within
 }
 
 /// What becomes of a reference: the nodes for it, or a problematic.

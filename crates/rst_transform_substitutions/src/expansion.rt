@@ -8,7 +8,7 @@ ghost use Rattle.rst_transform_substitutions.specs.Definitions.{found_by};
 ghost use Rattle.rst_transform_substitutions.specs.Expansion.{behind, copied, expanded, fault_text, given, is_reference, left_of, most_visited, nodes_for, path_from, size_of, ComesTo, Enters};
 
 use crate::definitions::Definitions;
-use rst_transform_work::said;
+use rst_transform_work::{element, said};
 use rst_tree::{Attrs, Children, Key, Node, Result, Tag, Text, TreeFault};
 use std::alloc::{AllocFailed, Global};
 
@@ -17,6 +17,12 @@ const MOST_NESTED: usize = 100;
 
 /// The most nodes and characters that are visited for one reference.
 const MOST_VISITED: usize = 10_000;
+
+/// What the message says of a name without definition, before the name.
+const UNDEFINED: &str = "Undefined substitution referenced: \"";
+
+/// What it says of the name of a definition that leads back to itself.
+const CIRCULAR: &str = "Circular substitution definition referenced: \"";
 
 /// Why a reference isn't replaced.
 #[derive(Drop)]
@@ -46,14 +52,8 @@ impl ExpansionFault {
         ensures { Gives (λ text. text ≡ fault_text name.now self.now) result }
     {
         let (before, name) = match self {
-            ExpansionFault::Undefined(inner) => (
-                "Undefined substitution referenced: \"",
-                inner.as_str(),
-            ),
-            ExpansionFault::Circular(inner) => (
-                "Circular substitution definition referenced: \"",
-                inner.as_str(),
-            ),
+            ExpansionFault::Undefined(inner) => (UNDEFINED, inner.as_str()),
+            ExpansionFault::Circular(inner) => (CIRCULAR, inner.as_str()),
             ExpansionFault::TooLarge => ("Substitution expansion too large: \"", name),
         };
         Text::of_three(alloc, before, name, "\".")
@@ -184,12 +184,7 @@ fn copied(alloc: Global, tag: Tag, attrs: &Attrs, children: Vec<Node>, line: usi
 {
     let mut attrs = attrs.copy(alloc)?;
     attrs.remove(Key::Serial);
-    Ok(Node::Element {
-        tag,
-        attrs,
-        children: Children::of(children),
-        line,
-    })
+    Ok(element(tag, attrs, Children::of(children), line))
 }
 
 /// The content of the definition that a name finds, which is gone into.

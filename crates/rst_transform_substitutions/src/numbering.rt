@@ -84,13 +84,7 @@ fn may_lead_to_all(numbers: &[usize], place: usize, others: &[usize]) -> bool
 pub fn may_lead(numbers: &[usize], place: usize, other: usize) -> bool
     ensures { result ≡ may_lead numbers.now place other }
 {
-    match numbers.get(place) {
-        None => true,
-        Some(least) => match numbers.get(other) {
-            None => false,
-            Some(number) => *least <= *number,
-        },
-    }
+    numbers.get(place) <= numbers.get(other)
 }
 
 /// The numbers before they are checked: one for each set of places that lead to one another, lower if it was left later. A place is
