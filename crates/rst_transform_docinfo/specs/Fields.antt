@@ -22,8 +22,7 @@ field_of a _ l = None
 -- a node as a field, if it is one
 abbrev pub field_in : Node → Option Field
 field_in (Element IsField a c l) = field_of a (nodes_of c) l
-field_in (Element _ a c l) = None
-field_in (Text t) = None
+field_in _ = None
 
 -- the name of a field, which says what it is for
 abbrev pub name_of : Field → List ℕ

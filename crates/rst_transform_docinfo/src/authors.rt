@@ -8,7 +8,7 @@ ghost use Rattle.rst_transform_docinfo.specs.Authors.{all_paragraphs, author, au
 ghost use Rattle.rst_transform_docinfo.specs.Fields.{lone};
 
 use crate::field::{lone, lone_in, paragraph_in};
-use rst_transform_work::copies;
+use rst_transform_work::{copies, element};
 use rst_tree::{Attrs, Children, Node, Result, Tag};
 use std::alloc::Global;
 
@@ -17,27 +17,18 @@ use std::alloc::Global;
 pub fn authors_in(alloc: Global, body: &Node, line: usize) -> Result<Option<Vec<Node>>>
     ensures { let wanted = authors_in line body.now in Gives (λ found. MatchOption found (wanted ≡ None) (λ nodes. wanted ≡ Some nodes.items)) result }
 {
-    match lone_in(body) {
-        Some(
-            Node::Element {
-                tag: Tag::Paragraph,
-                children,
-                ..
-            },
-        ) => {
+    let Some(Node::Element { tag, children, .. }) = lone_in(body) else {
+        return Ok(None);
+    };
+    match tag {
+        Tag::Paragraph => {
             let nodes = named_by(alloc, children, line)?;
             if nodes.is_empty() {
                 return Ok(None);
             }
             Ok(Some(nodes))
         }
-        Some(
-            Node::Element {
-                tag: Tag::BulletList,
-                children,
-                ..
-            },
-        ) => all_paragraphs(alloc, children, line),
+        Tag::BulletList => all_paragraphs(alloc, children, line),
         _ => Ok(None),
     }
 }
@@ -113,10 +104,5 @@ fn add_named(alloc: Global, nodes: &mut Vec<Node>, name: &str, line: usize) -> R
 fn author(alloc: Global, name: Children, line: usize) -> Node
     ensures { result ≡ author line name }
 {
-    Node::Element {
-        tag: Tag::Author,
-        attrs: Attrs::new(alloc),
-        children: name,
-        line,
-    }
+    element(Tag::Author, Attrs::new(alloc), name, line)
 }

@@ -12,7 +12,7 @@ ghost use Rattle.rst_transform_work.specs.Reports.{report_node, IsReported, Keep
 
 use crate::authors::authors_in;
 use crate::field::{Field, paragraph_in};
-use rst_transform_work::{Context, copies, folded, identified};
+use rst_transform_work::{Context, copies, element, folded, identified};
 use rst_tree::{Attrs, Children, Key, Level, Node, Result, Tag, Text, Texts, Value};
 use std::alloc::Global;
 use std::mem;
@@ -94,22 +94,15 @@ fn made(alloc: Global, row: Row, name: &str, field: &Field) -> Result<Option<Nod
 fn element_of(tag: Tag, attrs: Attrs, line: usize, nodes: Option<Children>) -> Option<Node>
     ensures { result ≡ element_of tag attrs line nodes }
 {
-    nodes.map(|children| Node::Element {
-        tag,
-        attrs,
-        children,
-        line,
-    })
+    nodes.map(|children| element(tag, attrs, children, line))
 }
 
 /// The nodes of the one paragraph in a field's body.
 fn paragraph(alloc: Global, field: &Field) -> Result<Option<Children>>
     ensures { Gives (λ nodes. nodes ≡ paragraph_in field.now.body) result }
 {
-    match paragraph_in(&field.body) {
-        Some(nodes) => Ok(Some(copies(alloc, nodes)?)),
-        None => Ok(None),
-    }
+    let nodes = paragraph_in(&field.body);
+    nodes.map(|nodes| copies(alloc, nodes)).transpose()
 }
 
 /// A title, and after it the nodes of a field's body, if that isn't empty.
@@ -123,12 +116,8 @@ fn topic(alloc: Global, title: &str, field: &Field) -> Result<Option<Children>>
     if nodes.is_empty() {
         return Ok(None);
     }
-    let title = Node::Element {
-        tag: Tag::Title,
-        attrs: Attrs::new(alloc),
-        children: Children::lone(alloc, Node::text(alloc, title)?)?,
-        line: field.line,
-    };
+    let title = Children::lone(alloc, Node::text(alloc, title)?)?;
+    let title = element(Tag::Title, Attrs::new(alloc), title, field.line);
     nodes.insert(0, title)?;
     Ok(Some(Children::of(nodes)))
 }
@@ -166,12 +155,7 @@ fn stays(alloc: Global, name: &str, field: Field) -> Result<Node>
     let mut parts = Vec::with_capacity(alloc, 2)?;
     parts.push(field.name)?;
     parts.push(field.body)?;
-    Ok(Node::Element {
-        tag: Tag::Field,
-        attrs,
-        children: Children::of(parts),
-        line: field.line,
-    })
+    Ok(element(Tag::Field, attrs, Children::of(parts), field.line))
 }
 
 /// A field of the table that isn't in its form: it stays, and its body ends with a WARNING.
@@ -325,12 +309,8 @@ fn info_nodes(alloc: Global, info: Vec<Node>, line: usize) -> Result<Vec<Node>>
     if info.is_empty() {
         return Ok(nodes);
     }
-    nodes.push(Node::Element {
-        tag: Tag::Docinfo,
-        attrs: Attrs::new(alloc),
-        children: Children::of(info),
-        line,
-    })?;
+    let attrs = Attrs::new(alloc);
+    nodes.push(element(Tag::Docinfo, attrs, Children::of(info), line))?;
     Ok(nodes)
 }
 

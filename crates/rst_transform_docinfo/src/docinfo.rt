@@ -13,19 +13,12 @@ use rst_transform_work::{Context, Document, add_names, is_title, may_precede};
 use rst_tree::{Attrs, Children, Node, Result, Tag};
 use std::alloc::Global;
 
-/// Whether a node may come before the field list.
-fn may_lead(node: &Node) -> bool
-    ensures { result ≡ may_lead node.now }
-{
-    is_title(node) || may_precede(node)
-}
-
 /// How many nodes come before the first that may not precede the field list.
 fn list_place(nodes: &[Node]) -> usize
     ensures { result ≡ list_place nodes.now }
 {
     for (i, node) in nodes.iter().enumerate() {
-        if !may_lead(node) {
+        if !is_title(node) && !may_precede(node) {
             return i;
         }
     }
@@ -48,13 +41,10 @@ fn title_count(nodes: &[Node]) -> usize
 fn is_list_at(nodes: &[Node], place: usize) -> bool
     ensures { result ≡ is_list (slice_get nodes.now place) }
 {
-    matches!(
-        nodes.get(place),
-        Some(Node::Element {
-            tag: Tag::FieldList,
-            ..
-        })
-    )
+    match nodes.get(place) {
+        Some(Node::Element { tag, .. }) => matches!(tag, Tag::FieldList),
+        _ => false,
+    }
 }
 
 /// The nodes, the first of them with more ids and names.

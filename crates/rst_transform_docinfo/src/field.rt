@@ -3,6 +3,7 @@ ghost use Rattle.std.specs.Prelude.{◌≡◌, Some, None, MatchOption};
 ghost use Rattle.rst_transform_work.specs.Made.{IsMadeOf};
 ghost use Rattle.rst_transform_docinfo.specs.Fields.{field_in, lone, lone_in, paragraph_in};
 
+use rst_transform_work::element;
 use rst_tree::{Attrs, Children, Node, Tag};
 
 /// A field of a field list (Document Tree, 'field'): a name, and after it a body.
@@ -29,12 +30,7 @@ impl Field {
             } => {
                 let mut parts = children.into_list();
                 if parts.len() != 2 {
-                    return Err(Node::Element {
-                        tag: Tag::Field,
-                        attrs,
-                        children: Children::of(parts),
-                        line,
-                    });
+                    return Err(element(Tag::Field, attrs, Children::of(parts), line));
                 }
                 let body = parts.remove(1);
                 let name = parts.remove(0);
@@ -54,14 +50,8 @@ impl Field {
 pub fn paragraph_in(node: &Node) -> Option<&Children>
     ensures { MatchOption result (paragraph_in node.now ≡ None) (λ nodes. paragraph_in node.now ≡ Some nodes.now) }
 {
-    match lone_in(node) {
-        Some(
-            Node::Element {
-                tag: Tag::Paragraph,
-                children,
-                ..
-            },
-        ) => Some(children),
+    match lone_in(node)? {
+        Node::Element { tag, children, .. } if matches!(tag, Tag::Paragraph) => Some(children),
         _ => None,
     }
 }
