@@ -1,6 +1,6 @@
 -- Turns that a stable sort by their messages puts in order come message by message.
 use Rattle.std.proofs.Common.{◌≡◌, ◌⊎◌, inl, inr, ◌∙◌, ℕ, zero, suc, ◌+◌, ◌<◌, ◌≤◌, Bool, true, false, cond, List, [], ◌∷◌, ◌++◌, length, get_or, drop, filter, nat_cmp, is_lt, append-nil, refl, sym, ap, ap₂, arith}
-use Rattle.std.specs.Prelude.{◌&&◌, if◌then◌else◌, nat_eq, nat_lt, Option, Some, None}
+use Rattle.std.specs.Prelude.{◌&&◌, if◌then◌else◌, nat_eq, nat_lt, Option, Some, None, unwrap_or}
 use Rattle.std.specs.List.{cons_option, enumerate_from, filter_map, All}
 use Rattle.std.specs.List.Sorted.{ties, IsNonDecreasingBy, IsPermutation, IsSortedByKey, IsStableByKey}
 use Rattle.std.proofs.lemmas.Bool.{cases_lt}
@@ -9,7 +9,7 @@ use Rattle.std.proofs.lemmas.List.{drop_all}
 use Rattle.std.proofs.lemmas.List.Sorted.{All-permutation, IsNonDecreasingBy-from_sort}
 use Rattle.rst_transform_links.specs.declared.links.Outcome.{Outcome}
 use Rattle.rst_transform_links.specs.declared.links.Outcome.TheVariants.{Stays, Fails, Failed}
-use Rattle.rst_transform_links.specs.Settling.{by_message, is_still_there, turn_of, turns_of}
+use Rattle.rst_transform_links.specs.Settling.{by_message, turn_of, turns_of}
 use Rattle.rst_transform_work.specs.Lists.{at_place}
 
 -- ---- turns in order
@@ -78,7 +78,7 @@ found_below : (reports : ℕ) (around : List (Option ℕ)) (place : ℕ) (outcom
 found_below reports around place [] = λ k d within. absurd (omega (arith, within))
 found_below reports around place (Stays attr shown ∷ rest) = found_below reports around (place + 1) rest
 found_below reports around place (Failed attrs ∷ rest) = found_below reports around (place + 1) rest
-found_below reports around place (Fails report ∷ rest) = own_below reports report place (is_still_there report (at_place around place)) (nat_lt report reports) _ refl (found_below reports around (place + 1) rest)
+found_below reports around place (Fails report ∷ rest) = own_below reports report place (nat_lt report (unwrap_or (at_place around place) reports)) (nat_lt report reports) _ refl (found_below reports around (place + 1) rest)
 
 same_message : (report other : ℕ) → ties (λ x y. is_lt (nat_cmp x y)) report other ≡ nat_eq other report
 same_message report other = grind (arith, nat_tests)

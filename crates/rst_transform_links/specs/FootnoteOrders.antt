@@ -1,5 +1,5 @@
 -- The orders by which references without a name find their footnotes (Markup Specification, 'Footnotes').
-use Rattle.std.specs.Prelude.{ℕ, ◌+◌, ◌&&◌, Bool, true, false, not, List, [], ◌∷◌, ◌++◌, codes, drop, if◌then◌else◌, is_some, slice_get, Option, Some, None}
+use Rattle.std.specs.Prelude.{ℕ, ◌+◌, ◌&&◌, Bool, true, false, not, List, [], ◌∷◌, ◌++◌, codes, drop, if◌then◌else◌, is_some, option_and_then, slice_get, Option, Some, None}
 use Rattle.std.specs.Str.{bytes_eq}
 use Rattle.rst_tree.specs.declared.attrs.Value.{Value}
 use Rattle.rst_tree.specs.declared.attrs.Value.TheVariants.{Text, Number, List as Listed}
@@ -18,27 +18,18 @@ abbrev pub order_name : Order → List ℕ
 order_name Numbers = codes "autonumbered"
 order_name Symbols = codes "symbol"
 
-abbrev pub is_footnote : Tag → Bool
-is_footnote Footnote = true
-is_footnote _ = false
-
-abbrev pub is_footnote_reference : Tag → Bool
-is_footnote_reference FootnoteReference = true
-is_footnote_reference _ = false
-
 -- the label that a footnote was written with
 abbrev pub mark_of : Node → Option (List ℕ)
-mark_of (Element t a c l) = if is_footnote t then said_text (value_of Mark a) else None
-mark_of (Words t) = None
+mark_of (Element Footnote a c l) = said_text (value_of Mark a)
+mark_of _ = None
 
 -- a footnote that is to be numbered was written with `#` alone, a symbol footnote with `*`
-abbrev pub order_of : Option (List ℕ) → Option Order
-order_of None = None
-order_of (Some mark) = if bytes_eq mark (codes "#") then Some Numbers else (if bytes_eq mark (codes "*") then Some Symbols else None)
+abbrev pub order_of : List ℕ → Option Order
+order_of mark = if bytes_eq mark (codes "#") then Some Numbers else (if bytes_eq mark (codes "*") then Some Symbols else None)
 
 -- the order by which references find a footnote
 abbrev pub footnote_order : Node → Option Order
-footnote_order node = order_of (mark_of node)
+footnote_order node = option_and_then order_of (mark_of node)
 
 -- a reference to a symbol footnote says so
 abbrev pub order_said : Option Value → Option Order
@@ -48,22 +39,18 @@ order_said (Some _) = Some Numbers
 
 -- the order by which a reference without a name finds its footnote
 abbrev pub reference_order : Node → Option Order
-reference_order (Element t a c l) = if is_footnote_reference t && not (is_some (value_of Refname a)) then order_said (value_of Auto a) else None
-reference_order (Words t) = None
+reference_order (Element FootnoteReference a c l) = if is_some (value_of Refname a) then None else order_said (value_of Auto a)
+reference_order _ = None
 
 abbrev pub is_order : Order → Option Order → Bool
 is_order Numbers (Some Numbers) = true
 is_order Symbols (Some Symbols) = true
 is_order _ _ = false
 
--- the place of a footnote of an order
-abbrev pub own_place : Order → ℕ → Node → List ℕ
-own_place order place node = if is_order order (footnote_order node) then place ∷ [] else []
-
 -- the places of those among linked elements, of which the first is at a place
 abbrev pub in_order_from : ℕ → Order → List Held → List ℕ
 in_order_from place order [] = []
-in_order_from place order (one ∷ more) = own_place order place one.0 ++ in_order_from (place + 1) order more
+in_order_from place order (one ∷ more) = (if is_order order (footnote_order one.0) then place ∷ [] else []) ++ in_order_from (place + 1) order more
 
 abbrev pub in_order : Order → List Held → List ℕ
 in_order = in_order_from 0

@@ -1,5 +1,5 @@
 -- The elements that hold names, among those that references join (Markup Specification, 'Hyperlink References').
-use Rattle.std.specs.Prelude.{ℕ, ◌+◌, Bool, true, false, nat_eq, nat_lt, List, [], ◌∷◌, if◌then◌else◌, option_map, slice_get, slice_set, unwrap_or, Option, Some, None}
+use Rattle.std.specs.Prelude.{ℕ, ◌+◌, Bool, true, false, nat_eq, nat_lt, List, [], ◌∷◌, if◌then◌else◌, option_and_then, option_map, slice_get, slice_set, unwrap_or, Option, Some, None}
 use Rattle.std.specs.Borrow.{Bor}
 use Rattle.std.specs.Option.{option_flatten}
 use Rattle.rst_transform_names.specs.declared.names.Holder.{Holder}
@@ -14,19 +14,17 @@ use Rattle.rst_tree_index.specs.Kinds.{is_target}
 use Rattle.rst_transform_links.specs.Linkings.{Held}
 use Rattle.rst_transform_work.specs.Reading.{number_said, text_said}
 
+-- to an id, if there is one
+abbrev pub lead_to_id : Option (List ℕ) → Option Attr
+lead_to_id = option_map (λ id. attr Refid (Text id))
+
 -- where a target leads that isn't a place of its own: to its URI, or else to the id that it refers to
 abbrev pub lead_by : Option (List ℕ) → Option (List ℕ) → Option Attr
 lead_by (Some uri) id = Some (attr Refuri (Text uri))
-lead_by None (Some id) = Some (attr Refid (Text id))
-lead_by None None = None
+lead_by None id = lead_to_id id
 
 abbrev pub lead_of : Node → Option Attr
 lead_of target = lead_by (text_said Refuri target) (text_said Refid target)
-
--- to an id, if there is one
-abbrev pub lead_to_id : Option (List ℕ) → Option Attr
-lead_to_id (Some id) = Some (attr Refid (Text id))
-lead_to_id None = None
 
 -- an element that says a number has it
 abbrev pub is_it : ℕ → Option ℕ → Bool
@@ -41,14 +39,12 @@ last_numbered serial place before (one ∷ more) = last_numbered serial (place +
 -- the place of a holder among linked elements, whose numbers are below so many
 abbrev pub holder_place : ℕ → List Held → Holder → Option ℕ
 holder_place serials linked (Element serial) = if nat_lt serial serials then last_numbered serial 0 None linked else None
-holder_place serials linked Nobody = None
-holder_place serials linked Unregistered = None
+holder_place serials linked _ = None
 
 -- the place of a holder, where there is one for each number
 abbrev pub place_at : List (Option ℕ) → Holder → Option ℕ
 place_at places (Element serial) = option_flatten (slice_get places serial)
-place_at places Nobody = None
-place_at places Unregistered = None
+place_at places _ = None
 
 -- the places, with another one at the number that an element says
 abbrev pub with_place : ℕ → Option ℕ → List (Option ℕ) → List (Option ℕ)
@@ -67,8 +63,7 @@ is_nobody _ = false
 
 -- the element that holds a name, if there is one
 abbrev pub holding : Option (Bor Node) → Option Node
-holding None = None
-holding (Some node) = Some node.now
+holding = option_map (λ node. node.now)
 
 abbrev pub is_target_node : Node → Bool
 is_target_node (Tagged t a c l) = is_target t
@@ -76,8 +71,7 @@ is_target_node (Words t) = false
 
 -- where it leads if it is a target that leads somewhere
 abbrev pub target_lead : Option Node → Option Attr
-target_lead None = None
-target_lead (Some node) = if is_target_node node then lead_of node else None
+target_lead = option_and_then (λ node. if is_target_node node then lead_of node else None)
 
 -- to the URI of the target that brought a name, or else to an id
 abbrev pub kept_lead : Option (List ℕ) → List ℕ → Attr

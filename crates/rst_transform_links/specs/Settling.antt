@@ -1,6 +1,6 @@
 -- What failing elements come to, message by message (Document Tree, 'problematic'): an element inside one that became a problematic is
 -- gone from then on.
-use Rattle.std.specs.Prelude.{◌&&◌, ℕ, zero, suc, Bool, true, min, nat_eq, nat_lt, List, [], ◌∷◌, ◌++◌, length, if◌then◌else◌, is_none, slice_get, slice_set, Option, Some, None}
+use Rattle.std.specs.Prelude.{◌&&◌, ℕ, zero, suc, Bool, true, min, nat_eq, nat_lt, List, [], ◌∷◌, ◌++◌, length, if◌then◌else◌, is_none, slice_get, slice_set, unwrap_or, Option, Some, None}
 use Rattle.std.specs.List.{enumerate_from, filter, filter_map}
 use Rattle.rst_tree.specs.declared.attrs.Attr.{Attr}
 use Rattle.rst_transform_work.specs.Known.{Known}
@@ -30,14 +30,10 @@ abbrev pub firsts : List (Option ℕ) → List Outcome → List Held → List (O
 firsts before outcomes [] = before
 firsts before outcomes (one ∷ more) = firsts (before ++ first_in before outcomes one.1 ∷ []) outcomes more
 
--- an element is still there when a message comes
-abbrev pub is_still_there : ℕ → Option ℕ → Bool
-is_still_there report None = true
-is_still_there report (Some first) = nat_lt report first
-
--- the turn of the element at a place, if it becomes a problematic of one of so many messages: the message, and the place
+-- the turn of the element at a place, if it becomes a problematic of one of so many messages, and is still there when that comes: the message, and
+-- the place
 abbrev pub turn_of : ℕ → List (Option ℕ) → ℕ × Outcome → Option (ℕ × ℕ)
-turn_of reports around (place, Fails report) = if nat_lt report reports && is_still_there report (at_place around place) then Some (report, place) else None
+turn_of reports around (place, Fails report) = if nat_lt report reports && nat_lt report (unwrap_or (at_place around place) reports) then Some (report, place) else None
 turn_of reports around (place, _) = None
 
 -- all turns, in document order

@@ -12,7 +12,7 @@ ghost use Rattle.rst_transform_work.specs.Reading.{number_said};
 
 use crate::links::Linked;
 use rst_transform_names::{Holder, NameEntry};
-use rst_transform_work::{number_said, text_said};
+use rst_transform_work::{number_said, put_at, text_said};
 use rst_tree::{Entry, Key, Node, Result, Tag, Text, Value};
 use std::alloc::Global;
 
@@ -56,14 +56,9 @@ impl<'a> Holders<'a> {
 fn put_place(places: &mut Vec<Option<usize>>, place: usize, element: &Node)
     ensures { places.new.items ≡ with_place place (number_said Serial element.now) places.old.items }
 {
-    let Some(serial) = number_said(element, Key::Serial) else {
-        return;
-    };
-    let serial = serial as usize;
-    if serial >= places.len() {
-        return;
+    if let Some(serial) = number_said(element, Key::Serial) {
+        put_at(places, serial as usize, Some(place));
     }
-    places[serial] = Some(place);
 }
 
 /// The linked element at a place, if there is one.
@@ -97,10 +92,8 @@ pub fn lead_of(alloc: Global, target: &Node) -> Result<Option<Entry>>
     if let Some(uri) = text_said(target, Key::Refuri) {
         return Ok(Some(text_attr(alloc, Key::Refuri, uri)?));
     }
-    match text_said(target, Key::Refid) {
-        Some(id) => Ok(Some(text_attr(alloc, Key::Refid, id)?)),
-        None => Ok(None),
-    }
+    let id = text_said(target, Key::Refid);
+    id.map(|id| text_attr(alloc, Key::Refid, id)).transpose()
 }
 
 /// Whether a node is a target.

@@ -5,11 +5,11 @@ ghost use Rattle.rst_tree.specs.Faults.{Gives};
 ghost use Rattle.rst_transform_links.specs.Linkings.{held};
 ghost use Rattle.rst_transform_links.specs.Outcomes.{stays};
 ghost use Rattle.rst_transform_links.specs.Settling as spec;
-ghost use Rattle.rst_transform_links.specs.Settling.{by_message, earlier, first_in, firsts, is_still_there, turn_of, turns_of};
+ghost use Rattle.rst_transform_links.specs.Settling.{by_message, earlier, first_in, firsts, turn_of, turns_of};
 ghost use Rattle.rst_transform_work.specs.Known.{Makes};
 
 use crate::links::{Changes, Linked, Outcome};
-use rst_transform_work::{Context, at_place};
+use rst_transform_work::{Context, at_place, put_at};
 use rst_tree::Result;
 use std::alloc::Global;
 
@@ -76,18 +76,8 @@ fn first_in(around: &[Option<usize>], outcomes: &[Outcome], outer: Option<usize>
     }
 }
 
-/// Whether an element is still there when the turn of a report comes: one inside another is gone once that one became a
-/// problematic.
-fn is_still_there(report: usize, around: Option<usize>) -> bool
-    ensures { result ≡ is_still_there report around }
-{
-    match around {
-        Some(first) => report < first,
-        None => true,
-    }
-}
-
-/// The turns of the elements that become problematics: report by report, under each in preorder.
+/// The turns of the elements that become problematics: report by report, under each in preorder. An element inside another is gone
+/// once that one became a problematic.
 fn turns(
     alloc: Global,
     reports: usize,
@@ -99,7 +89,8 @@ fn turns(
     let mut turns = Vec::with_capacity(alloc, outcomes.len())?;
     for (place, outcome) in outcomes.iter().enumerate() {
         if let Outcome::Fails(report) = outcome {
-            if *report < reports && is_still_there(*report, at_place(around, place)) {
+            let gone = at_place(around, place).unwrap_or(reports);
+            if *report < reports && *report < gone {
                 turns.push((*report, place))?;
             }
         }
@@ -122,16 +113,6 @@ fn take_turns(
         put_at(outcomes, turn.1, Outcome::Failed(problematic));
     }
     Ok(())
-}
-
-/// Puts an outcome in the place of another one, if there is that.
-fn put_at(outcomes: &mut Vec<Outcome>, place: usize, outcome: Outcome)
-    ensures { outcomes.new.items ≡ slice_set outcomes.old.items place outcome }
-{
-    if place >= outcomes.len() {
-        return;
-    }
-    outcomes[place] = outcome;
 }
 
 /// What becomes of the elements that remain in the end.
