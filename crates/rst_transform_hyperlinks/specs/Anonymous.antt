@@ -1,5 +1,6 @@
 -- Anonymous references and the targets that they refer to (Markup Specification, 'Anonymous Hyperlinks').
 use Rattle.std.specs.Prelude.{◌&&◌, ℕ, Bool, true, false, List, [], ◌∷◌, ◌++◌, codes, decimal, drop, filter, length, map, nat_eq, if◌then◌else◌, is_some, slice_get, Option, Some, None}
+use Rattle.std.specs.Option.{option_or}
 use Rattle.rst_tree.specs.declared.attrs.Attr.{Attr}
 use Rattle.rst_tree.specs.declared.key.Key.TheVariants.{Anonymous, Ids, Refname}
 use Rattle.rst_tree.specs.declared.node.Node.{Node}
@@ -19,30 +20,18 @@ use Rattle.rst_transform_work.specs.Known.{Known}
 use Rattle.rst_transform_work.specs.Reports.{reported}
 use Rattle.rst_transform_links.specs.Holders.{lead_of, lead_to_id}
 
-abbrev pub is_reference : Tag → Bool
-is_reference Reference = true
-is_reference _ = false
-
 abbrev pub is_anonymous_reference : Node → Bool
-is_anonymous_reference (Element t a c l) = is_reference t && is_some (value_of Anonymous a)
-is_anonymous_reference (Text t) = false
+is_anonymous_reference (Element Reference a c l) = is_some (value_of Anonymous a)
+is_anonymous_reference _ = false
 
 abbrev pub is_anonymous_target : Node → Bool
 is_anonymous_target (Element t a c l) = is_target t && is_some (value_of Anonymous a)
 is_anonymous_target (Text t) = false
 
--- the first lead, or else the second
-abbrev pub lead_or : Option Attr → Option Attr → Option Attr
-lead_or (Some lead) other = Some lead
-lead_or None other = other
-
--- to the target itself, unless it is an indirect one
-abbrev pub lead_to_itself : Node → Option Attr
-lead_to_itself target = if is_some (node_value Refname target) then None else lead_to_id (slice_get (list_said Ids target) 0)
-
--- what a reference says of its target
+-- what a reference says of its target: where that leads, or else its id, unless it is an indirect one
 abbrev pub lead_to : Node → Option Attr
-lead_to target = lead_or (lead_of target) (lead_to_itself target)
+lead_to target =
+    option_or (lead_of target) (if is_some (node_value Refname target) then None else lead_to_id (slice_get (list_said Ids target) 0))
 
 -- the lead to the first of some targets, if there is one
 abbrev pub first_lead : List Held → Option Attr

@@ -1,6 +1,6 @@
 -- The chains of indirect targets, each of which refers to the name of the next, and what they come to (Markup Specification, 'Hyperlink
 -- Targets').
-use Rattle.std.specs.Prelude.{◌≡◌, ◌⊎◌, ℕ, zero, suc, ◌<◌, Bool, true, false, List, [], ◌∷◌, length, map, if◌then◌else◌, is_some, option_map, slice_get, slice_set, unwrap_or, Option, Some, None}
+use Rattle.std.specs.Prelude.{◌≡◌, ◌⊎◌, ℕ, zero, suc, ◌<◌, Bool, true, false, List, [], ◌∷◌, length, map, if◌then◌else◌, is_some, option_and_then, option_map, slice_get, slice_set, unwrap_or, Option, Some, None}
 use Rattle.rst_tree.specs.declared.attrs.Attr.{Attr}
 use Rattle.rst_tree.specs.declared.key.Key.TheVariants.{Refname}
 use Rattle.rst_tree.specs.declared.node.Node.{Node}
@@ -21,21 +21,15 @@ use Rattle.rst_transform_work.specs.Reading.{text_said}
 abbrev pub indirect_name : Node → Option (List ℕ)
 indirect_name node = if is_target_node node then text_said Refname node else None
 
--- an element is an indirect target
-abbrev pub is_indirect : Option Node → Bool
-is_indirect None = false
-is_indirect (Some node) = is_some (indirect_name node)
-
 -- on to another indirect target, if one holds the name, or else to where the name leads
 abbrev pub step_on : Bool → Option ℕ → Attr → Step
 step_on true (Some place) lead = To place
-step_on true None lead = Ends (Leads lead)
-step_on false place lead = Ends (Leads lead)
+step_on _ _ lead = Ends (Leads lead)
 
 -- the step to a name, by the place of its holder and by what is known of it
 abbrev pub step_to : List Held → Option ℕ → NameEntry → Step
 step_to linked place entry =
-    let holder : Option Node = element_at linked place in step_on (is_indirect holder) place (name_lead holder entry.uri entry.id)
+    let holder : Option Node = element_at linked place in step_on (is_some (option_and_then indirect_name holder)) place (name_lead holder entry.uri entry.id)
 
 -- the same by the places of the holders of names; nowhere, if no element holds the name
 abbrev pub step_by : List Held → (Holder → Option ℕ) → List ℕ → Option NameEntry → Step
@@ -72,14 +66,12 @@ answers_of steps = map (answer_of steps) steps
 
 -- the end of a chain that ends with its first step
 abbrev pub at_once : Option Step → Option Answer
-at_once None = None
 at_once (Some (Ends answer)) = Some answer
-at_once (Some (To next)) = None
+at_once _ = None
 
 abbrev pub next_of : Option Step → Option ℕ
-next_of None = None
-next_of (Some (Ends answer)) = None
 next_of (Some (To next)) = Some next
+next_of _ = None
 
 -- the next place in the chain from one whose answer isn't known
 abbrev pub next_on : List (Option Step) → List (Option Answer) → ℕ → Option ℕ

@@ -1,5 +1,5 @@
 -- Indirect targets, which lead where the names that they refer to lead (Markup Specification, 'Hyperlink Targets').
-use Rattle.std.specs.Prelude.{ℕ, ◌+◌, Bool, true, false, List, [], ◌∷◌, ◌++◌, codes, drop, length, map, if◌then◌else◌, is_none, is_some, option_and_then, slice_get, unwrap_or, Option, Some, None}
+use Rattle.std.specs.Prelude.{ℕ, ◌+◌, Bool, true, false, List, [], ◌∷◌, ◌++◌, codes, drop, length, map, if◌then◌else◌, is_none, is_some, option_and_then, option_map, slice_get, unwrap_or, Option, Some, None}
 use Rattle.std.specs.List.{enumerate_from, list_all}
 use Rattle.rst_transform_names.specs.declared.names.NameEntry.{NameEntry}
 use Rattle.rst_transform_names.specs.declared.names.Holder.{Holder}
@@ -7,6 +7,7 @@ use Rattle.rst_tree.specs.declared.key.Key.TheVariants.{Anonymous, OwnName, Refn
 use Rattle.rst_tree.specs.declared.node.Node.{Node}
 use Rattle.rst_tree.specs.declared.node.Node.TheVariants.{Element, Text}
 use Rattle.rst_tree.specs.declared.note.Level.TheVariants.{Error}
+use Rattle.rst_tree.specs.declared.tag.Tag.TheVariants.{Reference}
 use Rattle.rst_tree.specs.Paths.{node_value}
 use Rattle.rst_transform_links.specs.declared.links.Outcome.{Outcome}
 use Rattle.rst_transform_links.specs.declared.links.Outcome.TheVariants.{Fails}
@@ -14,7 +15,7 @@ use Rattle.rst_transform_hyperlinks.specs.declared.chains.Answer.{Answer}
 use Rattle.rst_transform_hyperlinks.specs.declared.chains.Step.{Step}
 use Rattle.rst_transform_hyperlinks.specs.declared.chains.Answer.TheVariants.{Leads, Missing, Circular}
 use Rattle.rst_transform_work.specs.declared.report.Report.{Report}
-use Rattle.rst_transform_hyperlinks.specs.Anonymous.{is_anonymous_reference, is_anonymous_target, is_reference}
+use Rattle.rst_transform_hyperlinks.specs.Anonymous.{is_anonymous_reference, is_anonymous_target}
 use Rattle.rst_transform_hyperlinks.specs.Chains.{answers_of, steps_of}
 use Rattle.rst_transform_links.specs.Holders.{holder_place}
 use Rattle.rst_transform_links.specs.Linkings.{Held}
@@ -28,16 +29,11 @@ use Rattle.rst_transform_work.specs.Reports.{next_report}
 abbrev pub missing_text : List ℕ → List ℕ → List ℕ
 missing_text name missing = codes "Indirect hyperlink target \"" ++ (name ++ (codes "\" refers to target \"" ++ (missing ++ codes "\", which does not exist.")))
 
--- what the message says of a target whose chain runs into a circle
-abbrev pub circle_text : List ℕ → List ℕ
-circle_text name = codes "Indirect hyperlink target \"" ++ (name ++ codes "\" is circular.")
-
 -- what the message says of a target of some name, by what it comes to
 abbrev pub failure : List ℕ → Option Answer → Option (List ℕ)
-failure name None = None
-failure name (Some (Leads attr)) = None
 failure name (Some (Missing missing)) = Some (missing_text name missing)
-failure name (Some Circular) = Some (circle_text name)
+failure name (Some Circular) = Some (codes "Indirect hyperlink target \"" ++ (name ++ codes "\" is circular."))
+failure name _ = None
 
 abbrev pub failure_of : Node → Option Answer → Option (List ℕ)
 failure_of node answer = failure (unwrap_or (text_said OwnName node) []) answer
@@ -61,8 +57,8 @@ anonymous_from place [] = []
 anonymous_from place (one ∷ more) = if is_anonymous_target one.0 then place ∷ anonymous_from (place + 1) more else anonymous_from (place + 1) more
 
 abbrev pub is_reference_node : Node → Bool
-is_reference_node (Element t a c l) = is_reference t
-is_reference_node (Text t) = false
+is_reference_node (Element Reference a c l) = true
+is_reference_node _ = false
 
 -- the place of the element that a reference means by its name
 abbrev pub named_place : (List ℕ → Option NameEntry) → (Holder → Option ℕ) → Node → Option ℕ
@@ -95,14 +91,9 @@ abbrev pub outcome_through : (ℕ → Option Answer) → (ℕ → Option ℕ) �
 outcome_through answers reports node None = adds None
 outcome_through answers reports node (Some target) = outcome_by node (reports target) (answers target)
 
--- an indirect target leads where its answer says
-abbrev pub outcome_or : Option Answer → Outcome → Outcome
-outcome_or (Some answer) other = led answer
-outcome_or None other = other
-
--- what becomes of the element at a place
+-- what becomes of the element at a place: an indirect target leads where its answer says
 abbrev pub outcome_at : (ℕ → Option Answer) → (ℕ → Option ℕ) → (ℕ → Option ℕ) → ℕ × Held → Outcome
-outcome_at answers reports targets (place, one) = outcome_or (answers place) (outcome_through answers reports one.0 (targets place))
+outcome_at answers reports targets (place, one) = unwrap_or (option_map led (answers place)) (outcome_through answers reports one.0 (targets place))
 
 abbrev pub outcomes_by : (ℕ → Option Answer) → (ℕ → Option ℕ) → (ℕ → Option ℕ) → List Held → List Outcome
 outcomes_by answers reports targets linked = map (outcome_at answers reports targets) (enumerate_from 0 linked)

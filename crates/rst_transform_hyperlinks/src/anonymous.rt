@@ -46,7 +46,9 @@ pub fn anonymous_outcomes(context: &mut Context, linked: &[Linked<'_>]) -> Resul
         let outcomes = paired(context.alloc, linked, targets.as_slice())?;
         return Ok(outcomes);
     }
-    let report = report_mismatch(context, references.as_slice(), targets.as_slice())?;
+    let line = first_line(&references, &targets);
+    let text = mismatch(context.alloc, references.len(), targets.len())?;
+    let report = context.report(Level::Error, line, text, true)?;
     let outcomes = mismatched(context.alloc, linked, report)?;
     Ok(outcomes)
 }
@@ -121,23 +123,6 @@ fn mismatch(alloc: Global, references: usize, targets: usize) -> Result<Text>
     Ok(Text::new(text))
 }
 
-/// Adds the ERROR that there are, and gives its place.
-fn report_mismatch(
-    context: &mut Context,
-    references: &[Linked<'_>],
-    targets: &[Linked<'_>],
-) -> Result<usize>
-    ensures place { Gives (λ place. place ≡ length context.old.reports.items) result }
-    ensures reports { let line = first_line (map held references.now) (map held targets.now) in
-        Gives (λ _. IsReported (report_in context.old Error line (mismatch (length references.now) (length targets.now)) true) context.old context.new) result }
-    ensures rest { Gives (λ _. KeepsRest context.old context.new) result }
-{
-    let line = first_line(references, targets);
-    let text = mismatch(context.alloc, references.len(), targets.len())?;
-    let place = context.report(Level::Error, line, text, true)?;
-    Ok(place)
-}
-
 /// What becomes of the elements: each anonymous reference takes the next target.
 fn paired(alloc: Global, linked: &[Linked<'_>], targets: &[Linked<'_>]) -> Result<Vec<Outcome>>
     ensures { Gives (λ outcomes. outcomes.items ≡ paired (map held linked.entry.now) (map held targets.entry.now)) result }
@@ -190,13 +175,10 @@ fn lead_to(alloc: Global, target: &Node) -> Result<Option<Entry>>
 
 /// Where all anonymous references fail for a report, what becomes of the elements.
 fn mismatched(alloc: Global, linked: &[Linked<'_>], report: usize) -> Result<Vec<Outcome>>
-    ensures { Gives (λ outcomes. outcomes.items ≡ map (λ one. failing report one.0) (map held linked.now)) result }
+    ensures { Gives (λ outcomes. outcomes.items ≡ map (λ one. failing report one.element.now) linked.now) result }
 {
-    let mut outcomes = Vec::with_capacity(alloc, linked.len())?;
-    for one in linked {
-        outcomes.push(failing(report, one.element))?;
-    }
-    Ok(outcomes)
+    let outcomes = linked.iter().map(|one| failing(report, one.element));
+    Ok(outcomes.collect(alloc)?)
 }
 
 /// What becomes of an element where all anonymous references fail for a report.

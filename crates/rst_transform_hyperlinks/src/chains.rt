@@ -1,10 +1,11 @@
 //! The chains of indirect targets: where each ends.
-ghost use Rattle.std.specs.Prelude.{◌≡◌, ◌+◌, MatchOption, None, Some, map, slice_set, unwrap_or};
+ghost use Rattle.std.specs.Prelude.{◌≡◌, ◌+◌, map, unwrap_or};
 ghost use Rattle.rst_tree.specs.Faults.{Gives};
 ghost use Rattle.rst_transform_hyperlinks.specs.declared.chains.Answer.TheVariants.{Circular};
 ghost use Rattle.rst_transform_hyperlinks.specs.Chains.{answers_of, at_once, filled, next_on, KnownBelow};
 ghost use Rattle.rst_transform_work.specs.Lists.{at_place};
 
+use rst_transform_work::{item_at, put_at};
 use rst_tree::{Entry, Result, Text};
 use std::alloc::Global;
 
@@ -39,13 +40,6 @@ impl Answer {
             Answer::Circular => Ok(Answer::Circular),
         }
     }
-}
-
-/// The answer at a place, if there is one.
-pub fn answer_at<'a>(answers: &'a [Option<Answer>], place: usize) -> Option<&'a Answer>
-    ensures { MatchOption result (at_place answers.now place ≡ None) (λ answer. at_place answers.now place ≡ Some answer.now) }
-{
-    answers.get(place)?.as_ref()
 }
 
 /// What each indirect target comes to, by its place and its first step; there is nothing for the other elements.
@@ -89,7 +83,7 @@ fn follow(
     let mut chain = Vec::new(alloc);
     let mut place = start;
     while let Some(next) = next_on(steps, answers.as_slice(), place) {
-        put(answers, place, Answer::Circular);
+        put_at(answers, place, Some(Answer::Circular));
         chain.push(place)?;
         place = next;
     }
@@ -102,7 +96,7 @@ fn follow(
 fn next_on(steps: &[Option<Step>], answers: &[Option<Answer>], place: usize) -> Option<usize>
     ensures { result ≡ next_on steps.now answers.now place }
 {
-    if answer_at(answers, place).is_some() {
+    if item_at(answers, place).is_some() {
         return None;
     }
     match steps.get(place) {
@@ -115,7 +109,7 @@ fn next_on(steps: &[Option<Step>], answers: &[Option<Answer>], place: usize) -> 
 fn found_at(alloc: Global, answers: &[Option<Answer>], place: usize) -> Result<Answer>
     ensures { Gives (λ found. found ≡ unwrap_or (at_place answers.now place) Circular) result }
 {
-    match answer_at(answers, place) {
+    match item_at(answers, place) {
         Some(answer) => answer.copy(alloc),
         None => Ok(Answer::Circular),
     }
@@ -131,17 +125,7 @@ fn fill(
     ensures { Gives (λ _. answers.new.items ≡ filled found.now chain.now answers.old.items) result }
 {
     for place in chain {
-        put(answers, *place, found.copy(alloc)?);
+        put_at(answers, *place, Some(found.copy(alloc)?));
     }
     Ok(())
-}
-
-/// Sets an answer for a place, if there is that.
-fn put(answers: &mut Vec<Option<Answer>>, place: usize, answer: Answer)
-    ensures { answers.new.items ≡ slice_set answers.old.items place (Some answer) }
-{
-    if place >= answers.len() {
-        return;
-    }
-    answers[place] = Some(answer);
 }

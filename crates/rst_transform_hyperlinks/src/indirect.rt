@@ -4,7 +4,7 @@ ghost use Rattle.std.specs.List.{list_all};
 ghost use Rattle.rst_tree.specs.Faults.{Gives};
 ghost use Rattle.rst_transform_names.specs.Names.{held_by};
 ghost use Rattle.rst_transform_links.specs.Holders.{place_at};
-ghost use Rattle.rst_transform_hyperlinks.specs.Indirect.{anonymous_from, failure_of, indirect_outcomes, is_reference_node, led, missing_text, named_place, outcome_or, outcome_through, outcomes_by, targets_of, with_report, with_reports};
+ghost use Rattle.rst_transform_hyperlinks.specs.Indirect.{anonymous_from, failure_of, indirect_outcomes, is_reference_node, led, missing_text, named_place, outcome_through, outcomes_by, targets_of, with_report, with_reports};
 ghost use Rattle.rst_transform_hyperlinks.specs.Chains.{indirect_name, own_step, step_to, steps_of};
 ghost use Rattle.rst_transform_links.specs.Linkings.{held};
 ghost use Rattle.rst_transform_work.specs.Known.{Makes};
@@ -12,10 +12,10 @@ ghost use Rattle.rst_transform_work.specs.Reports.{KeepsRest};
 ghost use Rattle.rst_transform_work.specs.Lists.{at_place};
 
 use crate::anonymous::{is_anonymous_reference, is_anonymous_target};
-use crate::chains::{Answer, Step, answer_at, answers};
+use crate::chains::{Answer, Step, answers};
 use rst_transform_links::{Holders, Linked, Outcome, element_at, is_lost, is_target, lead_by_name};
 use rst_transform_names::{NameEntry, Names};
-use rst_transform_work::{Context, at_place, has, line_of, text_said};
+use rst_transform_work::{Context, at_place, has, item_at, line_of, text_said};
 use rst_tree::{Key, Level, Node, Result, Tag, Text};
 use std::alloc::Global;
 
@@ -139,7 +139,7 @@ fn failure_at(
     ensures { Gives (λ text. text ≡ failure_of node.now (at_place answers.now place)) result }
 {
     let name = text_said(node, Key::OwnName).unwrap_or("");
-    match answer_at(answers, place) {
+    match item_at(answers, place) {
         Some(Answer::Missing(missing)) => { Ok(Some(missing_text(alloc, name, missing.as_str())?)) }
         Some(Answer::Circular) => {
             let text = format!(in alloc; "Indirect hyperlink target \"{name}\" is circular.")?;
@@ -246,7 +246,7 @@ fn outcomes(
 {
     let mut outcomes = Vec::with_capacity(alloc, linked.len())?;
     for (place, one) in linked.iter().enumerate() {
-        if let Some(answer) = answer_at(answers, place) {
+        if let Some(answer) = item_at(answers, place) {
             outcomes.push(led(alloc, answer)?)?;
             continue;
         }
@@ -258,7 +258,7 @@ fn outcomes(
             outcomes.push(Outcome::Fails(report))?;
             continue;
         }
-        match answer_at(answers, target) {
+        match item_at(answers, target) {
             Some(answer) if has(one.element, Key::Anonymous) => {
                 outcomes.push(led(alloc, answer)?)?;
             }

@@ -1,5 +1,7 @@
-use Rattle.std.proofs.Common.{rules, map}
-use Rattle.rst_transform_links.specs.Linkings.{held}
+use Rattle.std.proofs.Common.{◌∙◌, rules, map, sym}
+use Rattle.std.proofs.lemmas.Simd.{map-map}
+use Rattle.rst_transform_links.specs.Linkings.{Held, held}
+use Rattle.rst_transform_hyperlinks.specs.Anonymous.{failing}
 use Rattle.rst_transform_hyperlinks.proofs.Agreeing.{failed_all, none_paired, paired_all}
 use Rattle.rst_transform_hyperlinks.proofs.anonymous.anonymous_outcomes.Goals as goal
 
@@ -14,5 +16,6 @@ returns-then-len c =
 
 pub returns : goal.returns
 returns c =
-    failed_all (map held c.args.linked.now) c.in_ok-references.references.items c.in_ok-targets.targets.items c.args.context.now c.report_mismatch.new.context c.in_ok-outcomes-2.outcomes.items c.in_ok-report.report
-    (search rules) (search rules) (search rules) (search rules) (search rules) (search rules) (search rules)
+    failed_all (map held c.args.linked.now) c.in_ok-references.references.items c.in_ok-targets.targets.items c.args.context.now c.report.new.self c.in_ok-outcomes-2.outcomes.items c.in_ok-report.report
+    (search rules) (search rules) (search rules) (search rules) (search rules) (search rules)
+    (c.in_ok-outcomes-2.ensures ∙ sym (map-map (λ (one : Held). failing c.in_ok-report.report one.0) held c.args.linked.now))

@@ -8,12 +8,12 @@ use Rattle.rst_transform_work.specs.Lists.{at_place}
 pub loop-next-smaller : goal.loop-next-smaller
 loop-next-smaller c =
     let goes : next_on c.args.steps.now c.loop-next.answers.items c.loop-next.place ≡ Some c.in-Some.next = search rules in
-    rw (c.put.ensures) (Following-less c.args.steps.now c.args.start c.loop-next.answers.items c.loop-next.chain.items c.loop-next.place c.loop-next.invariant c.in-Some.next goes)
+    rw (c.put_at.ensures) (Following-less c.args.steps.now c.args.start c.loop-next.answers.items c.loop-next.chain.items c.loop-next.place c.loop-next.invariant c.in-Some.next goes)
 
 pub loop-next-preserved : goal.loop-next-preserved
 loop-next-preserved c =
     let goes : next_on c.args.steps.now c.loop-next.answers.items c.loop-next.place ≡ Some c.in-Some.next = search rules in
-    rw (c.put.ensures, c.in_ok-push.ensures.items) (Following-more c.args.steps.now c.args.start c.loop-next.answers.items c.loop-next.chain.items c.loop-next.place c.loop-next.invariant c.in-Some.next goes)
+    rw (c.put_at.ensures, c.in_ok-push.ensures.items) (Following-more c.args.steps.now c.args.start c.loop-next.answers.items c.loop-next.chain.items c.loop-next.place c.loop-next.invariant c.in-Some.next goes)
 
 pub returns : goal.returns
 returns c =
