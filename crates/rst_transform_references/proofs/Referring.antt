@@ -3,14 +3,14 @@ use Rattle.std.proofs.Common.{◌≡◌, ℕ, zero, suc, ◌+◌, ◌≤◌, ◌
 use Rattle.std.proofs.lemmas.Bool.{eqb-true}
 use Rattle.std.proofs.lemmas.List.{append-nil, drop_all, drop_more}
 use Rattle.std.specs.Prelude.{◌||◌, if◌then◌else◌, nat_eq, slice_get, slice_set, slice_index_or, Option, Some, None}
-use Rattle.std.specs.List.{cons_option, enumerate_from, list_any, range_with_len}
+use Rattle.std.specs.List.{cons_option, enumerate_from, list_any, range_with_len, zip}
 use Rattle.rst_transform_names.specs.declared.names.Holder.{Holder}
 use Rattle.rst_transform_names.specs.declared.names.NameEntry.{NameEntry}
 use Rattle.rst_tree.specs.declared.key.Key.TheVariants.{Ids}
 use Rattle.rst_tree.specs.declared.node.Node.{Node}
 use Rattle.rst_transform_links.specs.declared.links.Linked.{Linked}
 use Rattle.rst_transform_links.specs.declared.links.Outcome.{Outcome}
-use Rattle.rst_transform_references.specs.Backrefs.{id_of_reference, ids_of_references, is_at, reference_ids, referent_at, referents_of, with_backref_lists, with_backrefs, with_reference}
+use Rattle.rst_transform_references.specs.Backrefs.{id_of_reference, ids_of_references, is_at, reference_ids, referent_at, referents_of, referred_to, with_backrefs, with_reference}
 use Rattle.rst_transform_links.specs.Linkings.{Held, held}
 use Rattle.rst_transform_references.specs.Meanings.{refers_to_footnote_or_citation}
 use Rattle.rst_transform_links.specs.FootnoteOrders.{found_by_order}
@@ -138,9 +138,13 @@ none_meant places all names found i place (one ∷ more) none =
     let parts = neither (refers_to_footnote_or_citation one.0) _ none in
     rw (parts.0) (none_meant places all names found i (place + 1) more parts.1)
 
-unreferred : (ids : ℕ → List (List ℕ)) (place : ℕ) (outcomes : List Outcome) → ((i : ℕ) → ids i ≡ []) → with_backref_lists (map ids (range_with_len place (length outcomes))) outcomes ≡ outcomes
+unreferred : (ids : ℕ → List (List ℕ)) (place : ℕ) (outcomes : List Outcome) → ((i : ℕ) → ids i ≡ []) → map (λ p. referred_to p.0 p.1) (zip (map ids (range_with_len place (length outcomes))) outcomes) ≡ outcomes
 unreferred ids place [] none = refl
 unreferred ids place (outcome ∷ more) none = rw (none place) (ap (λ rest. outcome ∷ rest) (unreferred ids (place + 1) more none))
+
+pub any_held : (p : Held → Bool) (linked : List Linked) → list_any p (map held linked) ≡ list_any (λ one. p (held one)) linked
+any_held p [] = refl
+any_held p (one ∷ more) = ap (λ others. p (held one) || others) (any_held p more)
 
 -- no element lists something
 pub none_listed : (places : Holder → Option ℕ) (all : List Held) (names : List ℕ → Option NameEntry) (outcomes : List Outcome) → list_any (λ (one : Held). refers_to_footnote_or_citation one.0) all ≡ false → outcomes ≡ with_backrefs (referents_of places all names) all outcomes

@@ -20,9 +20,7 @@ use Rattle.rst_transform_work.specs.Reading.{list_said}
 -- the footnote or citation that a name means, or else that which is found by the order
 abbrev pub referent_meant : Option Meaning → Option ℕ → Option ℕ
 referent_meant (Some (Leads attr place)) found = place
-referent_meant (Some Unknown) found = found
-referent_meant (Some Duplicate) found = found
-referent_meant None found = found
+referent_meant _ found = found
 
 -- the places of holders among the linked elements of a document, these, and what is known of names
 module _ (places : Holder → Option ℕ) (all : List Held) (names : List ℕ → Option NameEntry) where
@@ -47,13 +45,9 @@ is_at place None = false
 abbrev pub id_of_reference : ℕ → Option ℕ → Node → Option (List ℕ)
 id_of_reference place referent node = if is_at place referent then slice_get (list_said Ids node) 0 else None
 
--- the same of an element beside what it refers to
-abbrev pub id_of_pair : ℕ → Option ℕ × Held → Option (List ℕ)
-id_of_pair place (referent, one) = id_of_reference place referent one.0
-
 -- the ids of the references to the footnote or citation at a place, in order
 abbrev pub ids_of_references : List (Option ℕ) → List Held → ℕ → List (List ℕ)
-ids_of_references referents linked place = filter_map (id_of_pair place) (zip referents linked)
+ids_of_references referents linked place = filter_map (λ p. id_of_reference place p.0 p.1.0) (zip referents linked)
 
 -- what becomes of an element that these references refer to
 abbrev pub referred_to : List (List ℕ) → Outcome → Outcome
@@ -64,18 +58,10 @@ referred_to (id ∷ more) outcome = adds (Some (attr Backrefs (Listed (id ∷ mo
 abbrev pub reference_ids : List (Option ℕ) → List Held → ℕ → List (List (List ℕ))
 reference_ids referents linked count = map (ids_of_references referents linked) (range_with_len 0 count)
 
--- what becomes of elements, each with its ids
-abbrev pub with_backref_lists : List (List (List ℕ)) → List Outcome → List Outcome
-with_backref_lists lists outcomes = map (λ p. referred_to p.0 p.1) (zip lists outcomes)
-
 -- What becomes of linked elements. No other element than a footnote or a citation is referred to so.
 abbrev pub with_backrefs : List (Option ℕ) → List Held → List Outcome → List Outcome
-with_backrefs referents linked outcomes = with_backref_lists (reference_ids referents linked (length outcomes)) outcomes
+with_backrefs referents linked outcomes = map (λ p. referred_to p.0 p.1) (zip (reference_ids referents linked (length outcomes)) outcomes)
 
--- the ids for a place, and that of one element more, if it refers there
-abbrev pub with_id : Option ℕ → Node → ℕ × List (List ℕ) → List (List ℕ)
-with_id referent node (place, ids) = ids ++ cons_option (id_of_reference place referent node) []
-
--- the ids for all places, and that of one element more
+-- the ids for all places, and that of one element more for the place that it refers to, if there is one
 abbrev pub with_reference : Option ℕ → Node → List (List (List ℕ)) → List (List (List ℕ))
-with_reference referent node lists = map (with_id referent node) (enumerate_from 0 lists)
+with_reference referent node lists = map (λ p. p.1 ++ cons_option (id_of_reference p.0 referent node) []) (enumerate_from 0 lists)

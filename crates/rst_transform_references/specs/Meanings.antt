@@ -14,35 +14,22 @@ use Rattle.rst_transform_references.specs.declared.meanings.Meaning.TheVariants.
 use Rattle.rst_transform_links.specs.Holders.{element_at, is_nobody, name_lead}
 use Rattle.rst_transform_links.specs.Linkings.{Held}
 
--- a footnote or a citation
-abbrev pub is_footnote_or_citation_tag : Tag → Bool
-is_footnote_or_citation_tag Footnote = true
-is_footnote_or_citation_tag Citation = true
-is_footnote_or_citation_tag _ = false
-
--- a reference to a footnote or a citation
-abbrev pub is_footnote_or_citation_reference : Tag → Bool
-is_footnote_or_citation_reference FootnoteReference = true
-is_footnote_or_citation_reference CitationReference = true
-is_footnote_or_citation_reference _ = false
-
--- a reference that may have a name
-abbrev pub refers_by_name : Tag → Bool
-refers_by_name Reference = true
-refers_by_name tag = is_footnote_or_citation_reference tag
-
 abbrev pub is_footnote_or_citation : Node → Bool
-is_footnote_or_citation (Element t a c l) = is_footnote_or_citation_tag t
-is_footnote_or_citation (Text t) = false
+is_footnote_or_citation (Element Footnote a c l) = true
+is_footnote_or_citation (Element Citation a c l) = true
+is_footnote_or_citation _ = false
 
 abbrev pub refers_to_footnote_or_citation : Node → Bool
-refers_to_footnote_or_citation (Element t a c l) = is_footnote_or_citation_reference t
-refers_to_footnote_or_citation (Text t) = false
+refers_to_footnote_or_citation (Element FootnoteReference a c l) = true
+refers_to_footnote_or_citation (Element CitationReference a c l) = true
+refers_to_footnote_or_citation _ = false
 
 -- the name of a reference by name
 abbrev pub reference_name : Node → Option (List ℕ)
-reference_name (Element t a c l) = if refers_by_name t then said_text (value_of Refname a) else None
-reference_name (Text t) = None
+reference_name (Element Reference a c l) = said_text (value_of Refname a)
+reference_name (Element FootnoteReference a c l) = said_text (value_of Refname a)
+reference_name (Element CitationReference a c l) = said_text (value_of Refname a)
+reference_name _ = None
 
 -- the place of an element, if there is one and it is a footnote or a citation
 abbrev pub referent_place : Option Node → Option ℕ → Option ℕ

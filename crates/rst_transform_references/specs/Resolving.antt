@@ -1,5 +1,5 @@
 -- References by name (Markup Specification, 'Hyperlink References'): each leads where its name leads, or else fails.
-use Rattle.std.specs.Prelude.{ℕ, ◌&&◌, ◌||◌, Bool, true, false, List, [], ◌∷◌, ◌++◌, codes, length, if◌then◌else◌, is_some, slice_get, unwrap_or, Option, Some, None}
+use Rattle.std.specs.Prelude.{ℕ, ◌&&◌, ◌||◌, Bool, true, false, List, [], ◌∷◌, ◌++◌, codes, length, if◌then◌else◌, is_some, option_and_then, option_map, slice_get, unwrap_or, Option, Some, None}
 use Rattle.rst_transform_names.specs.declared.names.Holder.{Holder}
 use Rattle.rst_tree.specs.declared.key.Key.TheVariants.{Auto, Refname}
 use Rattle.rst_tree.specs.declared.node.Node.{Node}
@@ -21,18 +21,10 @@ use Rattle.rst_transform_links.specs.Outcomes.{adds, fails}
 use Rattle.rst_transform_work.specs.Reading.{line_of, text_said}
 use Rattle.rst_transform_work.specs.Reports.{reported}
 
-abbrev pub first_text : List Node → Option (List ℕ)
-first_text [] = None
-first_text (node ∷ more) = Some (text_in node)
-
 -- the label that a footnote or a citation shows: the text of its first node
 abbrev pub label_of : Node → Option (List ℕ)
-label_of (Element t a c l) = first_text (nodes_of c)
+label_of (Element t a c l) = option_map text_in (slice_get (nodes_of c) 0)
 label_of (Text t) = None
-
-abbrev pub label_in : Option Node → Option (List ℕ)
-label_in None = None
-label_in (Some node) = label_of node
 
 -- a reference to a footnote that shows the footnote's label
 abbrev pub shows_label : Node → Bool
@@ -40,7 +32,7 @@ shows_label node = refers_to_footnote_or_citation node && is_some (node_value Au
 
 -- what a reference shows that leads to an element: the label of that, or what it holds
 abbrev pub shown_for : List Held → Node → Option ℕ → Option (List ℕ)
-shown_for linked node place = if shows_label node then label_in (element_at linked place) else None
+shown_for linked node place = if shows_label node then option_and_then label_of (element_at linked place) else None
 
 -- what the ERROR says of a name that means nothing
 abbrev pub unknown : List ℕ → List ℕ

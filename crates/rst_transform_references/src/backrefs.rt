@@ -2,7 +2,7 @@
 ghost use Rattle.std.specs.Prelude.{◌≡◌, [], map, replicate};
 ghost use Rattle.std.specs.List.{list_any};
 ghost use Rattle.rst_tree.specs.Faults.{Gives};
-ghost use Rattle.rst_transform_references.specs.Backrefs.{reference_ids, referent_of, referents_of, referred_to, with_backref_lists, with_backrefs, with_reference};
+ghost use Rattle.rst_transform_references.specs.Backrefs.{reference_ids, referent_of, referents_of, referred_to, with_backrefs, with_reference};
 ghost use Rattle.rst_transform_links.specs.Holders.{place_at};
 ghost use Rattle.rst_transform_links.specs.Linkings.{held};
 ghost use Rattle.rst_transform_names.specs.Names.{held_by};
@@ -112,14 +112,11 @@ fn referred_to(ids: Texts, outcome: Outcome) -> Outcome
 
 /// Whether an element refers to a footnote or a citation.
 fn any_refers_to_footnote_or_citation(linked: &[Linked<'_>]) -> bool
-    ensures { result ≡ list_any (λ one. refers_to_footnote_or_citation one.0) (map held linked.now) }
+    ensures { result ≡ list_any (λ one. refers_to_footnote_or_citation one.element.now) linked.now }
 {
-    for one in linked {
-        if refers_to_footnote_or_citation(one.element) {
-            return true;
-        }
-    }
-    false
+    linked
+        .iter()
+        .any(|one| refers_to_footnote_or_citation(one.element))
 }
 
 /// What becomes of the linked elements, where each footnote and citation lists the ids of the references to it, in order.

@@ -112,10 +112,7 @@ fn outcome_of(
 fn is_gone(ended: &[bool], outer: Option<usize>) -> bool
     ensures { result ≡ is_gone ended.now outer }
 {
-    match outer {
-        Some(outer) => ended.get(outer).copied().unwrap_or(false),
-        None => false,
-    }
+    outer.is_some_and(|outer| ended.get(outer).copied().unwrap_or(false))
 }
 
 /// What becomes of an element that may be gone.
