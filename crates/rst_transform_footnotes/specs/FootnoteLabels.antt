@@ -1,5 +1,5 @@
 -- The labels of footnotes (Markup Specification, 'Auto-Numbered Footnotes' and 'Auto-Symbol Footnotes').
-use Rattle.std.specs.Prelude.{◌≡◌, ℕ, ◌<◌, ◌+◌, ◌/◌, ◌%◌, Bool, true, false, not, get_or, length, nat_eq, List, [], ◌∷◌, codes, decimal, drop, encode_utf8, filter, if◌then◌else◌, slice_get, slice_index, slice_set, Option, Some, None, option_map}
+use Rattle.std.specs.Prelude.{◌≡◌, ℕ, ◌<◌, ◌+◌, ◌/◌, ◌%◌, Bool, true, false, not, get_or, length, nat_eq, List, [], ◌∷◌, codes, decimal, drop, encode_utf8, filter, if◌then◌else◌, slice_get, slice_index, slice_set, Option, Some, None, option_and_then, option_map}
 use Rattle.std.specs.List.{filter_map, list_any, range_with_len, repeat, starts_with}
 use Rattle.std.specs.Str.{bytes_eq}
 use Rattle.rst_transform_names.specs.Ids.{number_in}
@@ -8,8 +8,7 @@ use Rattle.rst_transform_links.specs.FootnoteOrders.{mark_of}
 
 -- the number that a label spells
 abbrev pub number_of : Option (List ℕ) → Option ℕ
-number_of None = None
-number_of (Some label) = number_in label
+number_of = option_and_then number_in
 
 -- the numbers that footnotes were written with
 abbrev pub numbers_in : List Held → List ℕ

@@ -7,6 +7,7 @@ ghost use Rattle.rst_transform_links.specs.FootnoteOrders.{mark_of};
 
 use rst_transform_links::{Linked, mark_of};
 use rst_transform_names::number_in;
+use rst_transform_work::put_at;
 use rst_tree::{Node, Result, Text};
 use std::alloc::Global;
 
@@ -25,14 +26,9 @@ fn written_number(node: &Node) -> Option<u64>
 fn set_written(written: &mut Vec<bool>, number: Option<u64>)
     ensures { written.new.items ≡ with_written number written.old.items }
 {
-    let Some(number) = number else {
-        return;
-    };
-    let number = number as usize;
-    if number >= written.len() {
-        return;
+    if let Some(number) = number {
+        put_at(written, number as usize, true);
     }
-    written[number] = true;
 }
 
 /// For each number up to that of all linked elements whether a footnote was written with it.

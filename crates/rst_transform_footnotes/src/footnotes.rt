@@ -14,7 +14,7 @@ use rst_transform_links::{
     Linked, Order, Outcome, footnote_order, found_by_order, in_order, reference_order, text_attr,
 };
 use rst_transform_names::{Holder, NameEntry, Names, Strength};
-use rst_transform_work::{Context, at_place, first_said, line_of, list_said, number_said};
+use rst_transform_work::{Context, at_place, first_said, item_at, line_of, list_said, number_said};
 use rst_tree::{Entry, Key, Level, Node, Result, Tag, Text, Value};
 use std::alloc::Global;
 
@@ -68,24 +68,14 @@ pub fn footnote_outcomes(context: &mut Context, linked: &[Linked<'_>]) -> Result
     Ok(outcomes)
 }
 
-/// The label of the footnote at a place, if there is one.
-fn label_at<'l>(labels: &'l [Option<Text>], place: usize) -> Option<&'l str>
-    ensures { MatchOption result (at_place labels.now place ≡ None) (λ label. at_place labels.now place ≡ Some label.now) }
-{
-    match labels.get(place) {
-        Some(Some(label)) => Some(label.as_str()),
-        _ => None,
-    }
-}
-
 /// The number that the element at a place gets as a name: its label, if it is a footnote that was written with `#` alone.
-fn own_number<'l>(node: &Node, labels: &'l [Option<Text>], place: usize) -> Option<&'l str>
+fn own_number<'l>(node: &Node, labels: &'l [Option<Text>], place: usize) -> Option<&'l Text>
     ensures { let own = own_number node.now (at_place labels.now place) in MatchOption result (own ≡ None) (λ number. own ≡ Some number.now) }
 {
     if !Order::Numbers.is(footnote_order(node)) {
         return None;
     }
-    label_at(labels, place)
+    item_at(labels, place)
 }
 
 /// Lets the footnotes that were to be numbered and not named hold their numbers as names.
@@ -116,7 +106,7 @@ fn hold_number(
     let Some(number) = own_number(element, labels, place) else {
         return Ok(());
     };
-    if names.get(number).is_some() {
+    if names.get(number.as_str()).is_some() {
         return Ok(());
     }
     let told = (
@@ -132,7 +122,7 @@ fn hold_number(
         id: Text::from_str(alloc, id)?,
         uri: None,
     };
-    names.hold(alloc, number, held)
+    names.hold(alloc, number.as_str(), held)
 }
 
 /// The line of the first reference of an order that finds no footnote, if there is such.
@@ -195,7 +185,7 @@ fn outcomes_by(
     for (place, one) in linked.iter().enumerate() {
         if let Some(footnote) = at_place(found, place) {
             let attr = lead_to_footnote(alloc, linked, footnote)?;
-            let shown = label_in(alloc, labels, Some(footnote))?;
+            let shown = label_in(labels, Some(footnote))?;
             list.push(Outcome::Stays { attr, shown })?;
             continue;
         }
@@ -204,7 +194,7 @@ fn outcomes_by(
             continue;
         }
         if is_label(one.element) {
-            let shown = label_in(alloc, labels, one.outer)?;
+            let shown = label_in(labels, one.outer)?;
             list.push(Outcome::Stays { attr: None, shown })?;
             continue;
         }
@@ -215,12 +205,12 @@ fn outcomes_by(
 }
 
 /// A copy of the label of a footnote, if there is one.
-fn label_in(alloc: Global, labels: &[Option<Text>], footnote: Option<usize>) -> Result<Option<Text>>
+fn label_in(labels: &[Option<Text>], footnote: Option<usize>) -> Result<Option<Text>>
     ensures { Gives (λ shown. shown ≡ label_in labels.now footnote) result }
 {
     match footnote {
-        Some(footnote) => match label_at(labels, footnote) {
-            Some(label) => Ok(Some(Text::from_str(alloc, label)?)),
+        Some(footnote) => match item_at(labels, footnote) {
+            Some(label) => Ok(Some(label.copy()?)),
             None => Ok(None),
         },
         None => Ok(None),
@@ -263,6 +253,6 @@ fn with_number(
         return Ok(None);
     };
     let mut names = list_said(alloc, node, Key::Names)?;
-    names.push(Text::from_str(alloc, number)?)?;
+    names.push(number.copy()?)?;
     Ok(Some(Entry::new(Key::Names, Value::List(names))))
 }
