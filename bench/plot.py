@@ -53,14 +53,14 @@ def bars(title, groups):
 
 
 def ticks(least, most):
-    """The powers of ten from below one number to above another."""
-    return range(math.floor(math.log10(least)), math.ceil(math.log10(most)) + 1)
+    """The powers of ten from below one number to above another, at least two."""
+    return range(math.floor(math.log10(least)), math.floor(math.log10(most)) + 2)
 
 
 def lines(title, across, up, series):
     """Lines over two logarithmic axes: a dictionary from a line's name to its points. A dashed line shows growth with the input."""
     points = [point for made in series.values() for point in made]
-    columns, rows = ticks(*(pick(x for x, _ in points) for pick in (min, max))), ticks(*(pick(y for _, y in points) for pick in (min, max)))
+    columns, rows = (ticks(min(numbers), max(numbers)) for numbers in zip(*points))
     low, high, bottom = 70, WIDTH - 20, 480
 
     def place(x, y):
@@ -76,8 +76,8 @@ def lines(title, across, up, series):
     for power in rows:
         _, y = place(10.0 ** columns[0], 10.0**power)
         parts += [f'<path d="M{low} {y:.1f}H{high}" stroke="#dddddd"/>', text(low - 6, y + 4, f"{10.0 ** power:g}", "end")]
-    start = place(10.0 ** columns[0], 10.0 ** rows[0])
-    end = place(10.0 ** (columns[0] + min(len(columns), len(rows)) - 1), 10.0 ** (rows[0] + min(len(columns), len(rows)) - 1))
+    shared = min(len(columns), len(rows)) - 1
+    start, end = (place(10.0 ** (columns[0] + step), 10.0 ** (rows[0] + step)) for step in (0, shared))
     parts.append(f'<path d="M{start[0]:.1f} {start[1]:.1f}L{end[0]:.1f} {end[1]:.1f}" stroke="#000000" stroke-dasharray="4 4"/>')
     for name, made in series.items():
         path = "L".join(f"{x:.1f} {y:.1f}" for x, y in (place(*point) for point in made))
