@@ -1,5 +1,5 @@
 -- An identifier in one pass is the identifier in steps.
-use Rattle.std.proofs.Common.{not, ◌≡◌, ◌<◌, ℕ, Bool, true, false, if◌then◌else◌, List, [], ◌∷◌, ◌++◌, filter, length, refl, sym, ap, ◌∙◌, subst, append_assoc, append-nil, arith, ⊎_elim, chars, encode_utf8_all}
+use Rattle.std.proofs.Common.{not, ◌≡◌, ◌<◌, ℕ, Bool, true, false, if◌then◌else◌, List, [], ◌∷◌, ◌++◌, filter, length, All, refl, sym, ap, ◌∙◌, subst, append_assoc, append-nil, arith, ⊎_elim, chars, encode_utf8_all}
 use Rattle.std.proofs.Math.Utf8.{encode, encodes}
 use Rattle.rst_text.proofs.Scanning.{past_char}
 use Rattle.std.specs.Str.{IsUtf8, IsAscii}
@@ -9,7 +9,10 @@ use Rattle.unicode_normalization.proofs.FormsLemmas.{normalize-ascii}
 use Rattle.std.proofs.lemmas.Str.{chars_from_encodes, chars_past_char, chars-nil, chars-IsAscii}
 use Rattle.std.proofs.lemmas.Bool.Decides.{nat_tests}
 use Rattle.std.specs.Char.{is_ascii, is_ascii_lowercase}
-use Rattle.rst_text.specs.Names.{is_id_char, is_no_start, skip_while, identifier_of}
+use Rattle.std.specs.List.{list_all}
+use Rattle.std.proofs.lemmas.List.Sums.{AllPass-from_list_all}
+use Rattle.rst_text.specs.Laws.{IdsAreDecomposed}
+use Rattle.rst_text.specs.Names.{id_of, is_id_char, is_no_start, skip_while, identifier_of, name_of}
 use Rattle.rst_text.proofs.Parts.{skip-next, skip-stop, joined_from, joined_from-over, joined_from-due, joined_from-char, joined_from-start}
 use Rattle.rst_text.proofs.PlacesLemmas.{cases_bool}
 
@@ -123,6 +126,16 @@ pub nfkd-ascii : (bs : List ℕ) → IsAscii bs → nfkd (chars bs) ≡ chars bs
 nfkd-ascii bs h =
     let same : chars bs ≡ bs = chars-IsAscii bs h in
     ap nfkd same ∙ normalize-ascii Nfkd bs (All-from_get_or (λ c. c < 128) bs 0 (λ i less. h i)) ∙ sym same
+
+pub id_of-decomposed : IdsAreDecomposed
+unfolding id_of
+id_of-decomposed text =
+    let name : List ℕ = name_of text in ⊎_elim
+    (λ (e : list_all is_ascii name ≡ true).
+    let ascii : All (λ c. c < 128) name = λ k d less. let passes = AllPass-from_list_all is_ascii name e k d less in grind (arith, nat_tests) in
+    ap (λ b. identifier_of (if b then name else nfkd name)) e ∙ sym (ap identifier_of (normalize-ascii Nfkd name ascii)))
+    (λ (e : list_all is_ascii name ≡ false). ap (λ b. identifier_of (if b then name else nfkd name)) e)
+    (cases_bool (list_all is_ascii name))
 
 -- the characters of a text that was made of scalars
 pub chars-made : (bs cs : List ℕ) → IsUtf8 bs → bs ≡ encode_utf8_all cs → chars bs ≡ cs

@@ -55,12 +55,6 @@ parts-char separates c cs h =
     by (d ∷ f) true e = refl
     by (d ∷ f) false e = absurd (let t : false ≡ true = e in cc)
 
-pub parts-more : (separates : ℕ → Bool) (c : ℕ) (cs : List ℕ) → separates c ≡ false → begins_part separates cs ≡ true → parts_between separates (c ∷ cs) ≡ onto_first c (parts_between separates cs)
-parts-more separates c cs h b = parts-char separates c cs h ∙ ap (λ x. cond x (onto_first c (parts_between separates cs)) ((c ∷ []) ∷ parts_between separates cs)) b
-
-pub parts-new : (separates : ℕ → Bool) (c : ℕ) (cs : List ℕ) → separates c ≡ false → begins_part separates cs ≡ false → parts_between separates (c ∷ cs) ≡ (c ∷ []) ∷ parts_between separates cs
-parts-new separates c cs h b = parts-char separates c cs h ∙ ap (λ x. cond x (onto_first c (parts_between separates cs)) ((c ∷ []) ∷ parts_between separates cs)) b
-
 -- a text that begins with a part has one
 some_part : (separates : ℕ → Bool) (cs : List ℕ) → begins_part separates cs ≡ true → (w : List ℕ) × (ws : List (List ℕ)) × (parts_between separates cs ≡ w ∷ ws)
 some_part separates cs h = let x = first_part separates cs in by x.0 x.1 x.2 (x.3 ∙ ap not h)

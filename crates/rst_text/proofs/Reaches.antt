@@ -16,10 +16,6 @@ pub through_some : (l : Line) (ls : Block) → is_blank l.text ≡ false → thr
 unfolding through_text
 through_some l ls e = rw e refl
 
-pub through_none : through_text [] ≡ 0
-unfolding through_text
-through_none = refl
-
 looked_none : (least : ℕ) → looked least [] ≡ extent least [] + through_text (drop (extent least []) [])
 unfolding looked extent through_text
 looked_none least = refl

@@ -1,8 +1,8 @@
 -- Names and ids of texts (Markup Specification, 'Reference Names'; Directives, 'Identifier Normalization'; Document Tree,
 -- attributes `names` and `ids`).
-use Rattle.std.specs.Prelude.{ℕ, Bool, not, ◌||◌, ◌==◌, List, drop, map, filter}
+use Rattle.std.specs.Prelude.{ℕ, Bool, not, ◌||◌, ◌==◌, if◌then◌else◌, List, drop, map, filter}
 use Rattle.std.specs.Char.{is_ascii, is_ascii_digit, is_ascii_lowercase}
-use Rattle.std.specs.List.{join_with_byte, prefix_len, slice_split}
+use Rattle.std.specs.List.{join_with_byte, list_all, prefix_len, slice_split}
 use Rattle.unicode.specs.CaseFolding.{simple_fold}
 use Rattle.unicode_normalization.specs.Forms.{nfkd}
 use Rattle.rst_text.specs.Block.{is_blank}
@@ -41,6 +41,6 @@ skip_while passes text = drop (prefix_len passes text) text
 unfoldable pub identifier_of : List ℕ → List ℕ
 identifier_of cs = skip_while is_no_start (join_with_byte 45 (parts_between (λ c. not (is_id_char c)) (filter is_ascii cs)))
 
--- The id that a text gives: its name, decomposed (NFKD), as an identifier.
+-- The id that a text gives: its name, decomposed (NFKD), as an identifier. A name in ASCII is decomposed.
 unfoldable pub id_of : List ℕ → List ℕ
-id_of text = identifier_of (nfkd (name_of text))
+id_of text = let name = name_of text in identifier_of (if list_all is_ascii name then name else nfkd name)

@@ -24,7 +24,7 @@ pub fn normalized_white(alloc: Global, text: &str) -> Result<String, TextFault>
     Ok(normalized_borrowed(alloc, text)?.into_owned(alloc)?)
 }
 
-/// The same, without a copy where the text stays as it is.
+/// What [`normalized_white`] gives, without a copy where the text stays as it is.
 ///
 /// The only refusal is [`TextFault::NoMemory`].
 pub fn normalized_borrowed(alloc: Global, text: &str) -> Result<CowStr<'_, Global>, TextFault>
@@ -43,7 +43,7 @@ pub fn name_of(alloc: Global, text: &str) -> Result<String, TextFault>
     Ok(name_borrowed(alloc, text)?.into_owned(alloc)?)
 }
 
-/// The same, without a copy where the text stays as it is.
+/// What [`name_of`] gives, without a copy where the text stays as it is.
 ///
 /// The only refusal is [`TextFault::NoMemory`].
 pub fn name_borrowed(alloc: Global, text: &str) -> Result<CowStr<'_, Global>, TextFault>
