@@ -1,5 +1,5 @@
 -- Lemmas on lists of messages.
-use Rattle.std.proofs.Common.{◌≡◌, ◌-◌, suc, List, ◌∷◌, [], length, None, Some, Option, ap, ◌∙◌, refl, Bool, arith, slice_get}
+use Rattle.std.proofs.Common.{◌≡◌, ◌-◌, suc, List, ◌∷◌, [], length, None, Some, Option, ap, ◌∙◌, Bool, arith, slice_get}
 use Rattle.rst_tree.specs.declared.note.Note.{Note}
 use Rattle.std.specs.Prelude.{if◌then◌else◌}
 use Rattle.rst_settings.specs.declared.Settings.{Settings}
@@ -13,13 +13,6 @@ last_level_some (n ∷ []) note e = ap (λ (m : Option Note). last_level (n ∷ 
 last_level_some (n ∷ m ∷ ns) note e =
     let place : length (n ∷ m ∷ ns) - 1 ≡ suc (length (m ∷ ns) - 1) = omega arith in
     last_level_some (m ∷ ns) note (rw place at e)
-
-pub last_level_none : (notes : List Note) → slice_get notes (length notes - 1) ≡ None → last_level notes ≡ None
-last_level_none [] e = refl
-last_level_none (n ∷ []) e = cc
-last_level_none (n ∷ m ∷ ns) e =
-    let place : length (n ∷ m ∷ ns) - 1 ≡ suc (length (m ∷ ns) - 1) = omega arith in
-    last_level_none (m ∷ ns) (rw place at e)
 
 -- the last message halts the run, or it doesn't
 pub halting_last : (settings : Settings) (notes : List Note) (note : Note) (reached : Bool) → slice_get notes (length notes - 1) ≡ Some note

@@ -1,21 +1,15 @@
 -- The nodes and the messages of pieces, one piece after another.
-use Rattle.std.proofs.Common.{◌≡◌, ℕ, ◌+◌, ◌++◌, [], ◌∷◌, List, length, refl, sym, ap, ◌∙◌, subst, arith}
-use Rattle.std.specs.Prelude.{Result, Ok, Err}
+use Rattle.std.proofs.Common.{◌≡◌, ℕ, ◌+◌, ◌++◌, [], ◌∷◌, List, length, refl, sym, ap, ◌∙◌, arith}
 use Rattle.std.proofs.lemmas.Grind.{flat_map-append}
 use Rattle.std.proofs.lemmas.List.{length-append}
 use Rattle.rst_tree.specs.declared.node.Node.{Node}
 use Rattle.rst_inline_scan.specs.Characters.{Text}
-use Rattle.rst_inline_scan.specs.Pieces.{IsPieces}
 use Rattle.rst_inline_scan.specs.declared.piece.Piece.{Piece}
-use Rattle.rst_inline.specs.declared.nodes.Pieces.{Pieces}
-use Rattle.rst_inline.specs.declared.fault.InlineFault.{InlineFault}
-use Rattle.rst_inline.specs.declared.fault.InlineFault.TheVariants.{NoMemory}
 use Rattle.rst_inline.specs.declared.reading.Meaning.{Meaning}
 use Rattle.rst_inline.specs.declared.reading.Meaning.TheVariants.{Nothing, One, Two, Wrong}
-use Rattle.rst_inline.specs.Faults.{Gives}
 use Rattle.rst_inline.specs.Parts.{source}
 use Rattle.rst_inline.specs.Readings.{reading}
-use Rattle.rst_inline.specs.Results.{nodes_by, notes_by, notes_of, nodes_behind, Reads, IsRead}
+use Rattle.rst_inline.specs.Results.{nodes_by, notes_by, notes_of, nodes_behind}
 
 -- how many messages there are behind a piece
 abbrev pub count_by : Meaning → ℕ → ℕ
@@ -46,8 +40,3 @@ nodes-counted t line before [] = refl
 nodes-counted t line before (p ∷ ps) =
     let own = nodes_by (reading t line p) (length (notes_of t line before)) (source t p) line in
     ap (λ n. own ++ nodes_from t line n ps) (count-behind t line before p) ∙ ap (λ ns. own ++ ns) (nodes-counted t line (before ++ p ∷ []) ps)
-
--- the pieces that were read are those of the text
-pub read-pieces : (t text : Text) (line : ℕ) (given pieces : List Piece) → t ≡ text → given ≡ pieces → IsPieces text 0 pieces → (r : Result Pieces InlineFault) → Gives (Reads t line given) r → Gives (IsRead text line) r
-read-pieces t text line given pieces same list cut (Ok read) h = (pieces, cut, subst (λ t. Reads t line pieces read) same (subst (λ ps. Reads t line ps read) list h))
-read-pieces t text line given pieces same list cut (Err NoMemory) h = tt

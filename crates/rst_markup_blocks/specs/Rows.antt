@@ -55,10 +55,6 @@ is_anonymous_row X = is_some (underscores (front_text X))
 abbrev pub own_reach : (Bool → Block → ℕ) → Bool → Block → ℕ
 own_reach size titles X = reach (size titles X) X
 
--- the size of a row whose construct has the same lines whether titles may stand in the block or not
-abbrev pub anywhere : (Block → ℕ) → Bool → Block → ℕ
-anywhere size titles X = size X
-
 -- a blank line is alone
 abbrev pub blank_size : Block → ℕ
 blank_size X = 1

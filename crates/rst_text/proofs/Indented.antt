@@ -1,12 +1,12 @@
 -- Lines that are indented enough for two cuts.
-use Rattle.std.proofs.Common.{◌≡◌, ⊎_elim, ℕ, zero, suc, ◌+◌, ◌-◌, ◌<◌, ◌≤◌, ◌==◌, Bool, true, false, cond, ◌&&◌, ◌||◌, List, [], ◌∷◌, length, take, drop, map, refl, sym, ap, ◌∙◌, arith, leb}
+use Rattle.std.proofs.Common.{◌≡◌, ⊎_elim, ℕ, zero, suc, ◌+◌, ◌-◌, ◌<◌, ◌≤◌, ◌==◌, Bool, true, false, cond, ◌&&◌, ◌||◌, List, [], ◌∷◌, length, take, drop, refl, sym, ap, ◌∙◌, arith, leb}
 use Rattle.std.specs.Prelude.{unwrap_or}
 use Rattle.std.specs.Char.{is_whitespace}
 use Rattle.std.proofs.Common.{min, Some, None}
 use Rattle.std.proofs.lemmas.Bool.{eqb-true, le-leb, leb-true}
 use Rattle.std.proofs.lemmas.List.{drop-drop}
-use Rattle.rst_text.specs.Block.{Block, is_blank, indentation, shorten}
-use Rattle.rst_text.specs.Lines.{is_line_text, are_lines, ends_white}
+use Rattle.rst_text.specs.Block.{Block, is_blank, indentation}
+use Rattle.rst_text.specs.Lines.{is_line_text, ends_white}
 use Rattle.rst_text.specs.MayCut.{is_indented}
 use Rattle.rst_text.specs.Extent.{extent, extent_of, least_indent}
 use Rattle.rst_text.proofs.Least.{least_from, least_from-all}
@@ -63,15 +63,6 @@ line-both r s (c ∷ cs) text h k = by (drop r (c ∷ cs)) refl k
     by (d ∷ ds) e k =
         let more : s ≤ indentation (d ∷ ds) = leb-true s (indentation (d ∷ ds)) k in
         le-leb (r + s) (indentation (c ∷ cs)) (omega (arith, indentation-drop r (c ∷ cs) deep, ap indentation e))
-
--- Lines that are indented by r, and by s without that, are indented by both.
-pub is_indented-both : (r s : ℕ) (B : Block) → are_lines B ≡ true → is_indented r B ≡ true → is_indented s (map (shorten r) B) ≡ true → is_indented (r + s) B ≡ true
-is_indented-both r s [] lines h k = refl
-is_indented-both r s (l ∷ ls) lines h k =
-    let t = and_true (is_line_text l.text) (are_lines ls) lines in
-    let p = and_true (is_blank l.text || leb r (indentation l.text)) (is_indented r ls) h in
-    let q = and_true (is_blank (drop r l.text) || leb s (indentation (drop r l.text))) (is_indented s (map (shorten r) ls)) k in
-    rw (line-both r s l.text t.0 p.0 q.0, is_indented-both r s ls t.1 p.1 q.1) refl
 
 pub is_indented-drop : (r n : ℕ) (B : Block) → is_indented r B ≡ true → is_indented r (drop n B) ≡ true
 is_indented-drop r zero B h = h

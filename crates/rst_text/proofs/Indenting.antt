@@ -1,5 +1,5 @@
 -- The characters at the front of a text, counted or skipped one at a time.
-use Rattle.std.proofs.Common.{◌≡◌, ℕ, suc, ◌+◌, ◌≤◌, ◌==◌, false, List, [], ◌∷◌, ◌++◌, append_assoc, length, drop, refl, sym, ap, ◌∙◌, subst, arith, length-append}
+use Rattle.std.proofs.Common.{◌≡◌, ℕ, suc, ◌+◌, ◌≤◌, ◌==◌, false, List, [], ◌∷◌, ◌++◌, append_assoc, length, drop, refl, sym, ap, ◌∙◌, arith, length-append}
 use Rattle.std.specs.Str.{IsUtf8, chars}
 use Rattle.std.proofs.Math.Utf8.{encode, encodes}
 use Rattle.std.proofs.lemmas.Str.{encodes-chars, chars_past_char, length-encode, len_utf8_bounds}
@@ -18,9 +18,6 @@ pub record Counts (text rest : List ℕ) (n : ℕ) : Type 0 where
   pub value : n + indentation (chars rest) ≡ indentation (chars text)
   pub utf8 : IsUtf8 rest
   pub within : n + length rest ≤ length text
-
-pub Counts-start : (text rest : List ℕ) → IsUtf8 text → rest ≡ text → Counts text rest 0
-Counts-start text rest good e = record { value = omega (arith, ap (λ t. indentation (chars t)) e); utf8 = subst IsUtf8 (sym e) good; within = omega (arith, ap length e) }
 
 indentation_space : (c : ℕ) (cs : List ℕ) → c ≡ 32 → indentation (c ∷ cs) ≡ suc (indentation cs)
 indentation_space c cs e = rw e refl

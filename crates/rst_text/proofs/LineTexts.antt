@@ -5,7 +5,7 @@ use Rattle.std.specs.Char.{is_whitespace}
 use Rattle.std.specs.List.{list_any}
 use Rattle.std.specs.Str.{drop_trailing_whitespace}
 use Rattle.std.proofs.lemmas.List.Folds.{list_any-append}
-use Rattle.rst_text.specs.Block.{Block, front_text, is_blank, shorten}
+use Rattle.rst_text.specs.Block.{Block, front_text, is_blank}
 use Rattle.std.specs.List.{onto_first}
 use Rattle.rst_text.proofs.Tabs.{expanded_from, expanded_from-start}
 use Rattle.rst_text.specs.Lines.{is_line_end, pieces, begins_with, shown, expanded, tidied, numbered_from, lines_of, ends_white, is_line_text, are_lines}
@@ -42,12 +42,6 @@ pub is_line_text-drop : (n : ℕ) (cs : List ℕ) → is_line_text cs ≡ true �
 is_line_text-drop zero cs h = h
 is_line_text-drop (suc n) [] h = h
 is_line_text-drop (suc n) (c ∷ cs) h = is_line_text-drop n cs (is_line_text-suffix (c ∷ []) cs h)
-
-are_lines-shortened : (r : ℕ) (B : Block) → are_lines B ≡ true → are_lines (map (shorten r) B) ≡ true
-are_lines-shortened r [] h = refl
-are_lines-shortened r (l ∷ ls) h =
-    let t = and_parts (is_line_text l.text) (are_lines ls) h in
-    and_from (is_line_text (drop r l.text)) (are_lines (map (shorten r) ls)) (is_line_text-drop r l.text t.0) (are_lines-shortened r ls t.1)
 
 pub are_lines-drop : (n : ℕ) (B : Block) → are_lines B ≡ true → are_lines (drop n B) ≡ true
 are_lines-drop zero B h = h

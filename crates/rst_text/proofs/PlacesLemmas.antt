@@ -77,13 +77,6 @@ first_from-is p low high r a = ⊎_elim
     (λ empty. let e : high - low ≡ 0 = omega arith in IsFirst-nothing p low high r empty a ∙ ap (first_from p low) (sym e))
     (cases_lt low high)
 
--- tests that agree there have the same least place
-pub first_from-same : (p q : ℕ → Bool) (low n : ℕ) → ((k : ℕ) → low ≤ k → k < low + n → p k ≡ q k) → first_from p low n ≡ first_from q low n
-first_from-same p q low zero h = refl
-first_from-same p q low (suc n) h =
-    ap (λ b. cond b (Some low) (first_from p (low + 1) n)) (h low (omega arith) (omega arith))
-    ∙ ap (λ r. cond (q low) (Some low) r) (first_from-same p q (low + 1) n (λ k above below. h k (omega arith) (omega arith)))
-
 -- ---- the greatest place
 
 pub IsLast-unique : (p : ℕ → Bool) (low high : ℕ) (r s : Option ℕ) → IsLast p low high r → IsLast p low high s → r ≡ s

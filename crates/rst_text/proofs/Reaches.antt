@@ -48,20 +48,6 @@ extent_indented least (l ∷ ls) = by (is_blank l.text) (leb least (indentation 
     by false true e k n h = rw (e, k) h
     by false false e k n h = refl
 
-pub extent_le : (least : ℕ) (X : Block) → extent least X ≤ length X
-unfolding extent
-extent_le least [] = omega arith
-extent_le least (l ∷ ls) = two (is_blank l.text) (leb least (indentation l.text)) (extent least ls) (length ls) (extent_le least ls)
-  where
-    past : (n m : ℕ) → n ≤ m → past_blank n ≤ suc m
-    past zero m h = omega arith
-    past (suc n) m h = omega arith
-
-    two : (a b : Bool) (n m : ℕ) → n ≤ m → cond a (past_blank n) (cond b (suc n) 0) ≤ suc m
-    two true b n m h = past n m h
-    two false true n m h = omega arith
-    two false false n m h = omega arith
-
 -- ---- blank lines
 
 -- what is counted of blank lines from i on is what is left from j on, and the lines between

@@ -27,7 +27,3 @@ pub record Holds (context : Context) (known : Known) : Type 0 where
 abbrev pub Makes : {A : Type 0} → (Known → A × Known) → Context → Context → A → Type 0
 Makes made before after result =
     (known : Known) → Holds before known → let done = made known in (result ≡ done.0) × Holds after done.1
-
--- one function after another
-abbrev pub then : {A B : Type 0} → A × Known → (A → Known → B × Known) → B × Known
-then done next = next done.0 done.1

@@ -128,9 +128,6 @@ IsElsewhere i es = (e : Entry) (more : List Entry) → es ≡ e ∷ more → e.0
 pub nothing_here : (i : ℕ) (es : List Entry) → es ≡ [] → IsElsewhere i es
 nothing_here i es none e more is at = absurd (cc)
 
-pub other_here : (i : ℕ) (e : Entry) (es : List Entry) → (e.0 ≡ i → ⊥) → IsElsewhere i (e ∷ es)
-other_here i e es other x more is at = other (ap first_place is ∙ at)
-
 -- a node is none of which anything is known
 abbrev pub Passed : ℕ → Node → List Node → List Entry → Type 0
 Passed i n ns es = (marks_of is_registered n ≡ []) × (es ≡ known_of i ns)

@@ -4,17 +4,13 @@ use Rattle.std.specs.Prelude.{◌&&◌, not, Bool, true, false, is_some}
 use Rattle.rst_tree.specs.declared.key.Key.{Key}
 use Rattle.rst_tree.specs.declared.key.Key.TheVariants.{Inline, Refname, Refuri}
 use Rattle.rst_tree.specs.declared.tag.Tag.{Tag}
-use Rattle.rst_tree.specs.declared.tag.Tag.TheVariants.{SubstitutionReference, SystemMessage, Target, Transition}
+use Rattle.rst_tree.specs.declared.tag.Tag.TheVariants.{SystemMessage, Target, Transition}
 use Rattle.rst_tree.specs.Attributes.{value_of}
 use Rattle.rst_tree.specs.Walk.{Item}
 
 abbrev pub is_message : Tag → Bool
 is_message SystemMessage = true
 is_message _ = false
-
-abbrev pub is_substitution : Tag → Bool
-is_substitution SubstitutionReference = true
-is_substitution _ = false
 
 abbrev pub is_transition : Tag → Bool
 is_transition Transition = true
