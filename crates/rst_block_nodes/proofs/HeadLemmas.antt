@@ -4,7 +4,9 @@ use Rattle.std.specs.Prelude.{map}
 use Rattle.std.proofs.lemmas.List.{nil_from_length}
 use Rattle.rst_tree.specs.declared.node.Node.{Node}
 use Rattle.rst_tree.specs.declared.node.Node.TheVariants.{Element, Text as Words}
-use Rattle.rst_block_nodes.specs.Elements.{text_nodes}
+use Rattle.rst_tree.specs.declared.tag.Tag.TheVariants.{Term}
+use Rattle.rst_block_nodes.specs.Elements.{element_of, text_nodes}
+use Rattle.rst_block_nodes.specs.Texts.{counting}
 use Rattle.rst_block_nodes.specs.Terms.{in_front, joined, groups_of, classifier_node, heads_of, heads_behind, heads_with, IsPut}
 use Rattle.rst_block_nodes.specs.declared.terms.Unfinished.{Unfinished}
 
@@ -17,6 +19,16 @@ append_more [] ys zs = refl
 append_more (x ∷ xs) ys zs = ap (λ ws. x ∷ ws) (append_more xs ys zs)
 
 -- ---- elements
+
+-- the first head is a term
+pub first_head : (notes line : ℕ) (done heads nodes : List Node) → done ≡ [] → heads ≡ done ++ element_of Term (counting notes) nodes line ∷ [] → heads ≡ heads_behind notes line done (nodes ∷ [])
+first_head notes line [] heads nodes none same = same
+first_head notes line (d ∷ ds) heads nodes none same = absurd (cc)
+
+-- and any other a classifier
+pub further_head : (notes line : ℕ) (done heads nodes : List Node) → (length done == 0) ≡ false → heads ≡ done ++ classifier_node line nodes ∷ [] → heads ≡ heads_behind notes line done (nodes ∷ [])
+further_head notes line [] heads nodes some same = absurd (cc)
+further_head notes line (d ∷ ds) heads nodes some same = same
 
 -- what stands behind a head that was made of nodes
 behind_closed : (notes line : ℕ) (done closed nodes : List Node) (groups : List (List Node)) → closed ≡ heads_behind notes line done (nodes ∷ []) → heads_behind notes line closed groups ≡ heads_behind notes line done (nodes ∷ groups)

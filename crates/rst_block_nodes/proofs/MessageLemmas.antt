@@ -1,13 +1,26 @@
 -- Messages numbered on.
-use Rattle.std.proofs.Common.{◌≡◌, ℕ, ◌+◌, ◌<◌, ◌≤◌, List, [], ◌∷◌, length, map, get_or, set, arith, add-one, zero, suc, refl, ◌∙◌, ap}
+use Rattle.std.proofs.Common.{◌≡◌, ℕ, ◌+◌, ◌<◌, ◌≤◌, List, [], ◌∷◌, ◌++◌, length, map, get_or, set, arith, add-one, zero, suc, refl, ◌∙◌, ap}
+use Rattle.rst_tree.specs.Messages.{note_node}
 use Rattle.rst_tree.specs.declared.note.Note.{Note}
 use Rattle.rst_tree.specs.declared.node.Node.{Node}
-use Rattle.rst_block_nodes.specs.Texts.{counted_on, numbered_on}
+use Rattle.rst_block_nodes.specs.Texts.{counted_on, with_message, messages_from, numbered_on}
 
 -- the number behind those of some messages
 abbrev pub number_behind : ℕ → List Note → ℕ
 number_behind first [] = first
 number_behind first (note ∷ notes) = number_behind (counted_on first 1) notes
+
+pub messages_from_append : (first : ℕ) (notes : List Note) (note : Note) → messages_from first (notes ++ note ∷ []) ≡ messages_from first notes ++ with_message (number_behind first notes) (note_node note) ∷ []
+messages_from_append first [] note = refl
+messages_from_append first (m ∷ notes) note = ap (λ ms. with_message first (note_node m) ∷ ms) (messages_from_append (counted_on first 1) notes note)
+
+pub number_behind_append : (first : ℕ) (notes : List Note) (note : Note) → number_behind first (notes ++ note ∷ []) ≡ counted_on (number_behind first notes) 1
+number_behind_append first [] note = refl
+number_behind_append first (m ∷ notes) note = number_behind_append (counted_on first 1) notes note
+
+pub messages_from_length : (first : ℕ) (notes : List Note) → length (messages_from first notes) ≡ length notes
+messages_from_length first [] = refl
+messages_from_length first (note ∷ notes) = ap suc (messages_from_length (counted_on first 1) notes)
 
 -- the nodes, from a place on with the numbers of their messages counted on
 abbrev pub numbered_from : ℕ → ℕ → List Node → List Node

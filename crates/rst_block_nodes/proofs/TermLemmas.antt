@@ -6,12 +6,20 @@ use Rattle.rst_inline_scan.specs.declared.piece.Piece.{Piece}
 use Rattle.rst_inline.specs.Parts.{source}
 use Rattle.rst_block_nodes.proofs.HeadLemmas.{lists_of}
 use Rattle.rst_block_nodes.specs.declared.terms.Letter.{Letter}
-use Rattle.rst_block_nodes.specs.Terms.{letters_from, parts_of, parts_by, texts_of}
+use Rattle.rst_block_nodes.specs.Terms.{is_bare, ends_behind, ends_in_space, letters_from, parts_of, parts_by, texts_of}
 
 -- how many letters stand before the spaces at the end, where of the first i these are `len`, and behind them n
 abbrev pub dark_behind : ℕ → ℕ → ℕ → ℕ
 dark_behind len i zero = len
 dark_behind len i (suc n) = i + suc n
+
+pub ends_behind_append : (l : Letter) (ls : List Letter) (m : Letter) → ends_behind l (ls ++ m ∷ []) ≡ is_bare m 32
+ends_behind_append l [] m = refl
+ends_behind_append l (k ∷ ls) m = ends_behind_append k ls m
+
+pub ends_in_space_append : (ls : List Letter) (m : Letter) → ends_in_space (ls ++ m ∷ []) ≡ is_bare m 32
+ends_in_space_append [] m = refl
+ends_in_space_append (l ∷ ls) m = ends_behind_append l ls m
 
 -- ---- the parts of pieces
 

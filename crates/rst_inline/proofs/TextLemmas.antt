@@ -34,6 +34,11 @@ chars-spelled s cs e = sym (chars_from_encodes cs (string_bytes s) (IsUtf8-strin
 pub all-written : (out : List ℕ) (cs : Text) (i : ℕ) → length cs ≤ i → out ++ encode_utf8_all (drop i cs) ≡ spelled cs → out ≡ spelled cs
 all-written out cs i past e = sym (append-nil out) ∙ ap (λ t. out ++ encode_utf8_all t) (sym (drop_all i cs past)) ∙ e
 
+-- a star has one character
+pub chars_of_star : chars (42 ∷ []) ≡ 42 ∷ []
+unfolding chars
+chars_of_star = refl
+
 -- the bytes of a text are those that its characters spell
 pub spelled-again : (bs : List ℕ) → IsUtf8 bs → bs ≡ spelled (chars bs)
 spelled-again bs utf8 = sym (encodes-chars bs utf8)

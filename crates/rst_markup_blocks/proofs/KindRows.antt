@@ -6,9 +6,9 @@ use Rattle.std.specs.List.{list_all}
 use Rattle.std.proofs.lemmas.Bool.{eqb-true}
 use Rattle.std.proofs.lemmas.Bool.Decides.{nat_tests}
 use Rattle.rst_text.specs.Block.{Block, front_text, is_blank}
-use Rattle.rst_markup_lines.specs.Front.{begins_by, begins_with}
+use Rattle.rst_markup_lines.specs.Front.{begins_by, begins_with, first}
 use Rattle.rst_markup_lines.specs.OptionMarker.{option_at, options_from}
-use Rattle.rst_markup_lines.specs.Marker.{bullet, doctest, line_bar}
+use Rattle.rst_markup_lines.specs.Marker.{bullet, bullet_by, doctest, line_bar}
 use Rattle.rst_markup_lines.specs.Field.{field_of}
 use Rattle.rst_markup_lines.specs.Border.{is_grid_border, is_simple_border}
 use Rattle.rst_markup_lines.specs.ExplicitMarks.{dots, underscores}
@@ -63,6 +63,10 @@ begun_of X t next after begun a b d kind mark = record {
 pub blank_at : (X : Block) (t : List ℕ) → front_text X ≡ t → is_blank t ≡ true → IsBegun X begun.Blank
 blank_at X [] e h = record { kind = sym (kind_at_is X [] (next_text X) (after_text X) e refl refl); mark = tt }
 blank_at X (c ∷ cs) e h = absurd (true≢false (sym h))
+
+pub bullet_is : (t : List ℕ) → bullet t ≡ bullet_by (first t) t
+unfolding bullet
+bullet_is t = refl
 
 -- ---- a text that begins with a letter
 

@@ -1,7 +1,7 @@
 -- Lines that are joined one after the other.
-use Rattle.std.proofs.Common.{◌≡◌, ℕ, not, List, [], ◌∷◌, ◌++◌, filter, refl, ◌∙◌}
+use Rattle.std.proofs.Common.{◌≡◌, ℕ, not, List, [], ◌∷◌, ◌++◌, map, drop, filter, refl, ap, ◌∙◌}
 use Rattle.std.specs.List.{join_with_byte, fold}
-use Rattle.std.proofs.lemmas.List.{append_assoc}
+use Rattle.std.proofs.lemmas.List.{append_assoc, map-id}
 use Rattle.rst_text.specs.Block.{is_blank}
 use Rattle.rst_markup_directives.specs.Lines.{joined, with_line}
 
@@ -21,3 +21,8 @@ joined_onto [] [] = refl
 joined_onto [] ([] ∷ ts) = joined_onto [] ts
 joined_onto [] ((c ∷ cs) ∷ ts) = behind c cs ts
 joined_onto (c ∷ cs) ts = behind c cs ts
+
+-- an empty text before whole lines is left out
+pub joined_alone : (ts : List (List ℕ)) → joined ([] ∷ map (drop 0) ts) ≡ joined ts
+unfolding joined
+joined_alone ts = ap joined (map-id ts)

@@ -11,3 +11,4 @@ pub mod DirectiveParts
 pub mod Bare
 pub mod Indentations
 pub mod Tables
+pub mod MessageLemmas

@@ -1,6 +1,7 @@
 -- Lines before the first blank one, at a place of a block.
-use Rattle.std.proofs.Common.{◌≡◌, ℕ, suc, zero, ◌+◌, ◌<◌, false, not, List, [], ◌∷◌, ◌++◌, length, take, drop, sym, ap, ◌∙◌, arith, map}
+use Rattle.std.proofs.Common.{◌≡◌, ℕ, suc, zero, ◌+◌, ◌<◌, false, not, List, [], ◌∷◌, ◌++◌, length, take, drop, refl, sym, ap, ◌∙◌, arith, eqb, map}
 use Rattle.std.specs.List.{prefix_len}
+use Rattle.std.proofs.lemmas.Bool.{ne_eqb}
 use Rattle.std.proofs.lemmas.List.{append_assoc, map-append}
 use Rattle.rst_text.specs.Block.{Line, Block, front_text, is_blank}
 use Rattle.rst_markup_directives.specs.Lines.{first_run}
@@ -11,6 +12,11 @@ first_run-more (l ∷ ls) zero below h =
     let one : 1 + prefix_len (λ (m : Line). not (is_blank m.text)) ls ≡ suc (prefix_len (λ (m : Line). not (is_blank m.text)) ls) = omega arith in
     rw h (ap (λ n. map (λ (m : Line). m.text) (take n (l ∷ ls))) one)
 first_run-more (l ∷ ls) (suc i) below h = let e : suc i + 1 ≡ suc (i + 1) = omega arith in rw e (first_run-more ls i (omega arith) h)
+
+-- a text is empty exactly where it has no character
+pub length_blank : (t : List ℕ) → eqb (length t) 0 ≡ is_blank t
+length_blank [] = refl
+length_blank (c ∷ cs) = ne_eqb _ _ (omega arith)
 
 pub map-one : {X Y : Type 0} (f : X → Y) (xs : List X) (x : X) → map f (xs ++ x ∷ []) ≡ map f xs ++ f x ∷ []
 map-one f xs x = map-append f xs (x ∷ [])

@@ -1,8 +1,12 @@
 pub mod Computing
 pub mod TextLemmas
 pub mod Runs
+pub mod BorderLemmas
+pub mod AdornmentLemmas
 pub mod SimpleNames
+pub mod LabelLemmas
 pub mod RomanLemmas
+pub mod NumeralLetters
 pub mod Steps
 pub mod OptionLemmas
 pub mod PlacedLemmas

@@ -1,5 +1,8 @@
 -- A run of characters is counted one at a time.
-use Rattle.std.proofs.Common.{◌≡◌, ℕ, suc, ◌+◌, true, false, cond, List, [], ◌∷◌, drop, None, Some, arith, refl, ap, ◌∙◌}
+use Rattle.std.proofs.Common.{◌≡◌, ℕ, suc, ◌+◌, ◌&&◌, Bool, true, false, cond, List, [], ◌∷◌, length, drop, None, Some, arith, refl, ap, ◌∙◌}
+use Rattle.std.specs.List.{list_all}
+use Rattle.std.proofs.lemmas.Bool.{and_parts}
+use Rattle.rst_text.specs.Block.{is_blank}
 use Rattle.rst_markup_lines.specs.Front.{first}
 use Rattle.rst_markup_lines.specs.declared.class.Class.{Class}
 use Rattle.rst_markup_lines.specs.Class.{is_in, run}
@@ -26,3 +29,23 @@ pub run_end : (class : Class) (cs : List ℕ) (n total : ℕ) → first cs ≡ N
 unfolding run
 run_end class [] n total e t = omega arith
 run_end class (d ∷ ds) n total e t = cc
+
+-- the run of a class is the whole text just where each character of it is in the class
+pub whole_run : (class : Class) (t : List ℕ) → is_blank (drop (run class t) t) ≡ list_all (is_in class) t
+unfolding run
+whole_run class [] = refl
+whole_run class (c ∷ cs) = ap (λ n. is_blank (drop n (c ∷ cs))) (run_cons class c cs) ∙ by (is_in class c) (whole_run class cs)
+  where
+    by : (b : Bool) → is_blank (drop (run class cs) cs) ≡ list_all (is_in class) cs
+        → is_blank (drop (cond b (suc (run class cs)) 0) (c ∷ cs)) ≡ (b && list_all (is_in class) cs)
+    by true h = h
+    by false h = refl
+
+-- it has then as many characters
+pub run_whole : (class : Class) (t : List ℕ) → list_all (is_in class) t ≡ true → run class t ≡ length t
+unfolding run
+run_whole class [] h = refl
+run_whole class (c ∷ cs) h =
+    let parts = and_parts (is_in class c) (list_all (is_in class) cs) h in
+    let one : is_in class c ≡ true = parts.0 in
+    run_cons class c cs ∙ ap (λ b. cond b (suc (run class cs)) 0) one ∙ ap suc (run_whole class cs parts.1)

@@ -46,6 +46,9 @@ below_more p k = ap (count_by p) (range_more 0 k k (omega arith)) ∙ sum_by_pus
 pub below_yes : (p : ℕ → Bool) (k : ℕ) → p k ≡ true → below p (k + 1) ≡ below p k + 1
 below_yes p k e = ap (below p) (add-one k) ∙ below_more p k ∙ ap (λ b. below p k + cond b 1 0) e
 
+pub below_no : (p : ℕ → Bool) (k : ℕ) → p k ≡ false → below p (k + 1) ≡ below p k
+below_no p k e = let none : below p k + 0 ≡ below p k = omega arith in ap (below p) (add-one k) ∙ below_more p k ∙ ap (λ b. below p k + cond b 1 0) e ∙ none
+
 -- tests that agree on the numbers that are looked at
 pub all_from-same : (p q : ℕ → Bool) (low n : ℕ) → ((k : ℕ) → low ≤ k → k < low + n → p k ≡ q k) → filter p (range_with_len low n) ≡ filter q (range_with_len low n)
 all_from-same p q low zero same = refl

@@ -1,20 +1,52 @@
 -- The fields of a bibliography, taken in one after another.
 use Rattle.std.proofs.Common.{◌≡◌, ◌∙◌, ℕ, suc, ◌<◌, ◌≤◌, List, [], ◌∷◌, ◌++◌, length, get_or, take, drop, Option, Some, None, refl, ap, sym, drop-cons, arith}
-use Rattle.std.specs.Prelude.{slice_get, unwrap_or, true, option_map}
+use Rattle.std.specs.Prelude.{slice_index_or, slice_get, unwrap_or, true, if◌then◌else◌, option_map}
 use Rattle.std.specs.List.{prefix_len, remove}
 use Rattle.std.proofs.lemmas.Grind.{common_steps}
 use Rattle.std.proofs.lemmas.List.{append-nil}
 use Rattle.std.proofs.lemmas.Option.{unwrap_or-slice_get}
 use Rattle.rst_tree.proofs.Changes.{nodes_of-forest_of}
+use Rattle.rst_tree.specs.declared.attrs.Attr.{Attr}
 use Rattle.rst_tree.specs.declared.node.Node.{Node}
+use Rattle.rst_tree.specs.declared.node.Node.TheVariants.{Element, Text}
 use Rattle.rst_tree.specs.Forest.{Forest}
 use Rattle.rst_tree.specs.Nodes.{forest_of, nodes_of}
 use Rattle.rst_transform_docinfo.specs.Authors.{all_paragraphs, and_author}
 use Rattle.rst_transform_docinfo.specs.Docinfo.{behind_titles, is_list, leading_list, list_place, nodes_with, replaced}
 use Rattle.rst_transform_docinfo.specs.Gathered.{Gathered, gathered, with_node}
-use Rattle.rst_transform_docinfo.specs.Fields.{paragraph_in}
+use Rattle.rst_transform_docinfo.specs.Fields.{field, field_of, lone, paragraph_in}
 use Rattle.rst_transform_work.specs.Reading.{is_title}
 use Rattle.rst_transform_work.specs.declared.report.Report.{Report}
+
+-- two nodes are the name and the body of a field
+pub two_parts : (a : List Attr) (xs : List Node) (l : ℕ) (name body : Node) → length xs ≡ 2 → body ≡ slice_index_or xs 1 body → name ≡ slice_index_or (remove xs 1) 0 name
+    → field_of a xs l ≡ Some (field a name body l)
+two_parts a [] l name body two b n = absurd (omega arith)
+two_parts a (x ∷ []) l name body two b n = absurd (omega arith)
+two_parts a (x ∷ y ∷ []) l name body two b n = rw (n, b) refl
+two_parts a (x ∷ y ∷ z ∷ zs) l name body two b n = absurd (omega arith)
+
+-- any other number of nodes is no field
+pub no_parts : (a : List Attr) (xs : List Node) (l : ℕ) → (length xs ≡ 2 → ⊥) → field_of a xs l ≡ None
+no_parts a [] l other = refl
+no_parts a (x ∷ []) l other = refl
+no_parts a (x ∷ y ∷ []) l other = absurd (other refl)
+no_parts a (x ∷ y ∷ z ∷ zs) l other = refl
+
+-- the only one of some nodes
+pub lone_one : (f : Forest) (xs : List Node) (n : Node) → f ≡ forest_of xs → length xs ≡ 1 → n ≡ slice_index_or xs 0 n → lone f ≡ Some n
+lone_one f [] n e one at = absurd (omega arith)
+lone_one f (Element t a c l ∷ []) n e one at = rw (e, at) refl
+lone_one f (Text t ∷ []) n e one at = rw (e, at) refl
+lone_one f (x ∷ y ∷ zs) n e one at = absurd (omega arith)
+
+pub lone_none : (f : Forest) (xs : List Node) → f ≡ forest_of xs → (length xs ≡ 1 → ⊥) → lone f ≡ None
+lone_none f [] e other = ap lone e
+lone_none f (x ∷ []) e other = absurd (other refl)
+lone_none f (Element t a c l ∷ Element u b d m ∷ zs) e other = ap lone e
+lone_none f (Element t a c l ∷ Text u ∷ zs) e other = ap lone e
+lone_none f (Text t ∷ Element u b d m ∷ zs) e other = ap lone e
+lone_none f (Text t ∷ Text u ∷ zs) e other = ap lone e
 
 -- ---- the authors that a field names
 

@@ -1,9 +1,9 @@
 -- The numbers that footnotes were written with, found one after the other.
-use Rattle.std.proofs.Common.{◌≡◌, ℕ, ◌+◌, ◌<◌, ◌≤◌, List, length, map, drop, get_or, replicate, refl, sym, ◌∙◌, ap, arith, Bool, true, false, inl, inr}
+use Rattle.std.proofs.Common.{◌≡◌, ℕ, zero, suc, ◌+◌, ◌<◌, ◌≤◌, List, ◌++◌, length, map, drop, get_or, replicate, refl, sym, ◌∙◌, ap, arith, Bool, true, false, inl, inr}
 use Rattle.std.specs.Prelude.{nat_eq, ◌||◌, Option, Some, None}
-use Rattle.std.specs.List.{cons_option, list_any}
+use Rattle.std.specs.List.{cons_option, list_any, repeat}
 use Rattle.std.proofs.lemmas.Bool.{cases_Bool, eqb-false, eqb-true}
-use Rattle.std.proofs.lemmas.List.{drop_more, drop_all, get_or-replicate, get_or-set_other, get_or-set_same, length-map, length-replicate, length-set}
+use Rattle.std.proofs.lemmas.List.{append-nil, append_assoc, drop_more, drop_all, get_or-replicate, get_or-set_other, get_or-set_same, length-map, length-replicate, length-set}
 use Rattle.rst_transform_links.specs.declared.links.Linked.{Linked}
 use Rattle.rst_transform_links.specs.Linkings.{held}
 use Rattle.rst_transform_links.specs.FootnoteOrders.{mark_of}
@@ -60,3 +60,8 @@ Writing-end linked written place w past = record {
   all = w.all ∙ ap (λ n. n + 1) (sym (length-map linked held));
   tells = λ number low. rw (drop_all place linked past) at (w.become number (omega (arith, w.all, low)));
 }
+
+-- a text once more, before or after
+pub repeat_more : {A : Type 0} (n : ℕ) (xs : List A) → repeat n xs ++ xs ≡ xs ++ repeat n xs
+repeat_more zero xs = sym (append-nil xs)
+repeat_more (suc n) xs = append_assoc xs (repeat n xs) xs ∙ ap (λ more. xs ++ more) (repeat_more n xs)

@@ -1,5 +1,5 @@
 -- Ids, as they are given and taken.
-use Rattle.std.proofs.Common.{◌≡◌, ◌≢◌, ℕ, zero, suc, ◌+◌, ◌^◌, ◌<◌, Bool, true, false, not, ◌||◌, List, [], ◌∷◌, length, Option, Some, None, option_map, unwrap_or, nat_eq, nat_le, nat_lt, map, ◌-◌, bytes_eq, Result, Ok, Err, ◌≤◌, refl, sym, ap, ap₂, subst, ◌∙◌, arith, string_bytes, string_cmp, nat_cmp, ⊎_elim, ltb-true, le-leb, leb-true, leb-false, ltb-false, true≢false, Global}
+use Rattle.std.proofs.Common.{◌≡◌, ◌≢◌, ℕ, zero, suc, ◌+◌, ◌^◌, ◌<◌, Bool, true, false, not, ◌||◌, List, [], ◌∷◌, length, Option, Some, None, option_map, unwrap_or, nat_eq, nat_le, nat_lt, map, ◌-◌, bytes_eq, Result, Ok, Err, ◌≤◌, refl, sym, ap, ap₂, subst, ◌∙◌, arith, string_bytes, string_cmp, nat_cmp, encode_utf8_all, ⊎_elim, ltb-true, le-leb, leb-true, leb-false, ltb-false, true≢false, Global}
 use Rattle.std.specs.Prelude.{if◌then◌else◌}
 use Rattle.std.specs.declared.string.String.{String}
 use Rattle.std.specs.BTreeMap.{BTreeMap, get_by_text, is_at}
@@ -10,7 +10,9 @@ use Rattle.std.proofs.lemmas.List.{length-map}
 use Rattle.std.proofs.lemmas.Map.Steps.{le-length_from_below}
 use Rattle.std.proofs.lemmas.Map.Text.{btree_set_updates_text, is_eq-slice_cmp}
 use Rattle.std.proofs.lemmas.Bool.{lt-leb, eq-eqb, cases_Bool, cond-true, cond-false}
+use Rattle.std.proofs.lemmas.Str.{encodes-chars, IsUtf8-string_bytes}
 use Rattle.std.specs.Cmp.Lexicographic.{bytes_decides}
+use Rattle.rst_text.specs.Text.{chars_of}
 use Rattle.rst_tree.specs.declared.fault.TreeFault.{TreeFault}
 use Rattle.rst_tree.specs.declared.fault.TreeFault.TheVariants.{NoMemory}
 use Rattle.rst_tree.specs.declared.tag.Tag.{Tag}
@@ -18,6 +20,10 @@ use Rattle.rst_transform_names.specs.declared.ids.Ids.{Ids}
 use Rattle.rst_tree.specs.TagNames.{hyphenated, tag_name}
 use Rattle.rst_transform_names.specs.Ids.{numbered, number_of, last_of, taken_by, is_among, is_taken, id_by, kind_id, least_free, least_from, numbered_id, wanted_id, AreTaken, IsLeastFree, Takes, TakesNone, GivesId, GivesNumber, GivesNumbered}
 use Rattle.rst_transform_names.proofs.IdNumbers.{number_of-numbered, some_same, number_of-is}
+
+-- the bytes of a text with some characters
+pub bytes_of_chars : {A : Type 0} (s : String A) (cs : List ℕ) → chars_of s ≡ cs → string_bytes s ≡ encode_utf8_all cs
+bytes_of_chars s cs e = sym (encodes-chars (string_bytes s) (IsUtf8-string_bytes s)) ∙ ap encode_utf8_all e
 
 -- ---- ids taken
 

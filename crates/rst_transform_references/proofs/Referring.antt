@@ -1,22 +1,75 @@
 -- The ids of references, gathered one after another.
-use Rattle.std.proofs.Common.{◌≡◌, ℕ, zero, suc, ◌+◌, ◌≤◌, ◌<◌, List, [], ◌∷◌, ◌++◌, length, map, drop, get_or, replicate, refl, sym, ◌∙◌, ap, Bool, true, false, append_assoc}
+use Rattle.std.proofs.Common.{◌≡◌, ℕ, zero, suc, ◌+◌, ◌≤◌, ◌<◌, List, [], ◌∷◌, ◌++◌, length, map, drop, get_or, replicate, refl, sym, ◌∙◌, ap, arith, Bool, true, false, append_assoc, eq-eqb}
+use Rattle.std.proofs.lemmas.Bool.{eqb-true}
 use Rattle.std.proofs.lemmas.List.{append-nil, drop_all, drop_more}
-use Rattle.std.specs.Prelude.{◌||◌, Option, Some, None}
+use Rattle.std.specs.Prelude.{◌||◌, if◌then◌else◌, nat_eq, slice_get, slice_set, slice_index_or, Option, Some, None}
 use Rattle.std.specs.List.{cons_option, enumerate_from, list_any, range_with_len, zip}
 use Rattle.rst_transform_names.specs.declared.names.Holder.{Holder}
 use Rattle.rst_transform_names.specs.declared.names.NameEntry.{NameEntry}
+use Rattle.rst_tree.specs.declared.key.Key.TheVariants.{Ids}
+use Rattle.rst_tree.specs.declared.node.Node.{Node}
 use Rattle.rst_transform_links.specs.declared.links.Linked.{Linked}
 use Rattle.rst_transform_links.specs.declared.links.Outcome.{Outcome}
-use Rattle.rst_transform_references.specs.Backrefs.{id_of_reference, ids_of_references, reference_ids, referent_at, referents_of, referred_to, with_backrefs, with_reference}
+use Rattle.rst_transform_references.specs.Backrefs.{id_of_reference, ids_of_references, is_at, reference_ids, referent_at, referents_of, referred_to, with_backrefs, with_reference}
 use Rattle.rst_transform_links.specs.Linkings.{Held, held}
 use Rattle.rst_transform_references.specs.Meanings.{refers_to_footnote_or_citation}
 use Rattle.rst_transform_links.specs.FootnoteOrders.{found_by_order}
+use Rattle.rst_transform_work.specs.Reading.{list_said}
 
 -- ---- one id more
 
 -- some lists, each with what it gets
 abbrev gained : (ℕ → Option (List ℕ)) → ℕ → List (List (List ℕ)) → List (List (List ℕ))
 gained more place lists = map (λ p. p.1 ++ cons_option (more p.0) []) (enumerate_from place lists)
+
+-- no list gets one
+none_gained : (more : ℕ → Option (List ℕ)) (place : ℕ) (lists : List (List (List ℕ))) → ((i : ℕ) → place ≤ i → i < place + length lists → more i ≡ None) → lists ≡ gained more place lists
+none_gained more place [] none = refl
+none_gained more place (list ∷ rest) none =
+    rw (none place (omega arith) (omega arith), append-nil list) (ap (λ others. list ∷ others) (none_gained more (place + 1) rest (λ i low high. none i (omega (arith, low)) (omega (arith, high)))))
+
+-- that at a place gets one
+one_gained : (more : ℕ → Option (List ℕ)) (i : ℕ) (place : ℕ) (lists : List (List (List ℕ))) (d : List (List ℕ)) (id : List ℕ) → i < length lists → more (place + i) ≡ Some id → ((j : ℕ) → (j ≡ place + i → ⊥) → more j ≡ None)
+    → slice_set lists i (slice_index_or lists i d ++ id ∷ []) ≡ gained more place lists
+one_gained more i place [] d id within is others = absurd (omega (arith, within))
+one_gained more zero place (list ∷ rest) d id within is others =
+    let first : more place ≡ Some id = ap more (omega arith) ∙ is in
+    rw first (ap (λ left. (list ++ id ∷ []) ∷ left) (none_gained more (place + 1) rest (λ j low high. others j (λ same. omega (arith, low, same)))))
+one_gained more (suc i) place (list ∷ rest) d id within is others =
+    rw (others place (λ same. omega (arith, same)), append-nil list)
+    (ap (λ left. list ∷ left)
+    (one_gained more i (place + 1) rest d id (omega (arith, within)) (ap more (omega arith) ∙ is) (λ j differs. others j (λ same. differs (omega (arith, same))))))
+
+elsewhere : (place i : ℕ) (id : Option (List ℕ)) → (i ≡ place → ⊥) → (if nat_eq place i then id else None) ≡ None
+elsewhere place i id differs = elim (nat_eq place i) as (λ b. nat_eq place i ≡ b → (if b then id else None) ≡ None) [ true ↦ λ same. absurd (differs (sym (eqb-true place i same))) | false ↦ λ h. refl ] refl
+
+either_way : {A : Type 0} (b : Bool) (x : A) → (if b then x else x) ≡ x
+either_way true x = refl
+either_way false x = refl
+
+-- the element refers to nothing
+pub refers_to_none : (node : Node) (lists : List (List (List ℕ))) → lists ≡ with_reference None node lists
+refers_to_none node lists = none_gained (λ i. id_of_reference i None node) 0 lists (λ i low high. refl)
+
+-- it has no id
+pub refers_without_id : (referent : Option ℕ) (node : Node) (lists : List (List (List ℕ))) → slice_get (list_said Ids node) 0 ≡ None → lists ≡ with_reference referent node lists
+refers_without_id referent node lists none = none_gained (λ i. id_of_reference i referent node) 0 lists (λ i low high. rw none (either_way (is_at i referent) None))
+
+-- it refers to a place without list
+pub refers_past : (place : ℕ) (node : Node) (lists : List (List (List ℕ))) → length lists ≤ place → lists ≡ with_reference (Some place) node lists
+refers_past place node lists past =
+    none_gained (λ i. id_of_reference i (Some place) node) 0 lists (λ i low high. elsewhere place i (slice_get (list_said Ids node) 0) (λ same. omega (arith, past, high, same)))
+
+-- it refers to a place with a list
+pub refers_within : (place : ℕ) (node : Node) (lists : List (List (List ℕ))) (d : List (List ℕ)) (id : List ℕ) → place < length lists → slice_get (list_said Ids node) 0 ≡ Some id
+    → slice_set lists place (slice_index_or lists place d ++ id ∷ []) ≡ with_reference (Some place) node lists
+refers_within place node lists d id within has =
+    one_gained (λ i. id_of_reference i (Some place) node) place 0 lists d id within
+    (rw (sym (zero_behind place), eq-eqb place place refl) has)
+    (λ j differs. elsewhere place j (slice_get (list_said Ids node) 0) (λ same. differs (omega (arith, same))))
+  where
+    zero_behind : (n : ℕ) → n ≡ 0 + n
+    zero_behind n = omega arith
 
 -- ---- all ids
 

@@ -1,22 +1,39 @@
 -- What becomes of linked elements: of one that fails, of one more, and in the end.
-use Rattle.std.proofs.Common.{◌≡◌, ◌∙◌, ℕ, ◌+◌, ◌<◌, List, [], ◌∷◌, ◌++◌, length, map, drop, get_or, sym, ap, ap₂, subst}
+use Rattle.std.proofs.Common.{◌≡◌, ◌∙◌, ℕ, ◌+◌, ◌<◌, List, [], ◌∷◌, ◌++◌, length, map, drop, get_or, refl, sym, ap, ap₂, subst}
 use Rattle.std.proofs.Math.Path.{fun_ext}
 use Rattle.std.proofs.lemmas.List.{drop_more}
-use Rattle.std.specs.Prelude.{◌||◌, Bool, false, Option, Some}
+use Rattle.std.specs.Prelude.{◌||◌, Bool, true, false, vec_len, Option, Some, None}
 use Rattle.rst_tree.specs.declared.node.Node.{Node}
+use Rattle.rst_tree.specs.declared.note.Level.TheVariants.{Error}
 use Rattle.rst_transform_names.specs.declared.names.Holder.{Holder}
+use Rattle.rst_transform_names.specs.declared.names.NameEntry.{NameEntry}
+use Rattle.rst_transform_names.specs.declared.names.Names.{Names}
 use Rattle.rst_transform_names.specs.Names.{held_by}
 use Rattle.rst_transform_work.specs.declared.context.Context.{Context}
 use Rattle.rst_transform_work.specs.Known.{Holds, Known, Makes}
+use Rattle.rst_transform_work.specs.Reading.{line_of}
+use Rattle.rst_transform_work.specs.declared.report.Report.{Report}
+use Rattle.rst_transform_work.specs.Reports.{next_report, report_in, IsReported, KeepsRest}
+use Rattle.rst_transform_work.proofs.Holding.{holds_reports}
 use Rattle.rst_transform_links.specs.declared.links.Linked.{Linked}
 use Rattle.rst_transform_links.specs.declared.links.Outcome.{Outcome}
-use Rattle.rst_transform_links.specs.Holders.{holder_place}
+use Rattle.rst_transform_links.specs.declared.links.Outcome.TheVariants.{Fails}
+use Rattle.rst_transform_links.specs.Holders.{holder_place, place_at}
 use Rattle.rst_transform_links.specs.Linkings.{Held, held}
 use Rattle.rst_transform_links.specs.Outcomes.{fails}
 use Rattle.rst_transform_references.specs.declared.meanings.Meaning.{Meaning}
 use Rattle.rst_transform_references.specs.Backrefs.{referents_of, with_backrefs}
 use Rattle.rst_transform_references.specs.Meanings.{meaning_to}
-use Rattle.rst_transform_references.specs.Resolving.{is_gone, outcome_of, outcome_unless, reference_outcomes, resolved_from, what_becomes}
+use Rattle.rst_transform_references.specs.Resolving.{failing, is_gone, outcome_of, outcome_unless, reference_outcomes, resolved_from, what_becomes}
+
+-- a reference that fails
+pub fails_for : (old new : Context) (node : Node) (text : List ℕ) (place : ℕ) → place ≡ length old.reports.items → IsReported (report_in old Error (line_of node) text true) old new → KeepsRest old new
+    → Makes (failing node text) old new (Fails place)
+fails_for old new node text place at is rest known h =
+    (ap Fails (at ∙ ap length h.reports), holds_reports old new known _ h rest (is ∙ ap₂ (λ first reports. (report_of first reports)) h.first_number h.reports))
+  where
+    report_of : ℕ → List Report → List Report
+    report_of first reports = reports ++ next_report first reports Error (line_of node) text true ∷ []
 
 -- a reference whose name means something
 pub with_meaning : (places : Holder → Option ℕ) (linked : List Held) (node : Node) (old new : Context) (meaning : Meaning) (outcome : Outcome) → meaning_to places linked (held_by old.names) node ≡ Some meaning

@@ -1,12 +1,19 @@
 -- Internal targets that hand on their ids and names, one element after another.
-use Rattle.std.proofs.Common.{◌≡◌, ◌∙◌, ℕ, List, [], ◌∷◌, ◌++◌, drop, Bool, false, Option, refl, ap, sym, subst, append_assoc}
+use Rattle.std.proofs.Common.{◌≡◌, ◌∙◌, ℕ, List, [], ◌∷◌, ◌++◌, drop, Bool, true, false, Option, Some, refl, ap, sym, subst, append_assoc, arith}
+use Rattle.std.specs.Prelude.{if◌then◌else◌, reverse}
 use Rattle.std.specs.List.{list_any}
 use Rattle.std.proofs.lemmas.Bool.{or_parts as or_none}
 use Rattle.std.proofs.lemmas.List.Folds.{list_any-append}
-use Rattle.std.proofs.lemmas.List.{append-nil, map-append}
+use Rattle.std.proofs.lemmas.Bool.Decides.{nat_tests}
+use Rattle.std.proofs.lemmas.List.{append-nil, map-append, reverse-append, reverse-reverse}
 use Rattle.rst_tree.proofs.Folds.{folded-append}
+use Rattle.rst_tree.specs.declared.attrs.Attr.{Attr}
+use Rattle.rst_tree.specs.declared.key.Key.{Key}
+use Rattle.rst_tree.specs.declared.key.Key.TheVariants.{Ids, Names as OfNames}
 use Rattle.rst_tree.specs.declared.node.Node.{Node}
 use Rattle.rst_tree.specs.declared.node.Node.TheVariants.{Element, Text}
+use Rattle.rst_tree.specs.Attributes.{value_of, without_key}
+use Rattle.rst_tree.specs.KeyNames.{is_same}
 use Rattle.rst_tree.specs.Forest.{Forest, bare, element, words}
 use Rattle.rst_tree.specs.Read.{elements, elements_of as nodes_in, folded}
 use Rattle.rst_tree.specs.Walk.{after, item, items, node_items, walked, walked_node, Item}
@@ -14,6 +21,8 @@ use Rattle.rst_tree_index.specs.Kinds.{is_internal}
 use Rattle.rst_transform_work.specs.declared.context.Context.{Context}
 use Rattle.rst_transform_work.specs.declared.document.Document.{Document}
 use Rattle.rst_transform_work.specs.Known.{Makes}
+use Rattle.rst_transform_work.specs.Lists.{listed}
+use Rattle.rst_transform_work.specs.Reading.{members_in}
 use Rattle.rst_transform_work.specs.States.{document_node, elements_of, node_tag, IsDocument}
 use Rattle.rst_transform_work.proofs.Holding.{makes_names}
 use Rattle.rst_transform_structure.specs.Passing.{passed, Passes}
@@ -107,3 +116,22 @@ without_targets d context none =
     let got : (after next_reached changed_at (idle ts) (items d.children)).got ≡ [] = ap (λ s. s.got) (none_after ts (items d.children) none) in
     makes_names _ (passed (after next_reached changed_at (idle ts) (items d.children)).got) context context d (ap (λ f. record d { children = f }) (sym (none_changed ts d.children none)))
     (subst (λ g. Passes g context.names context.names) (sym got) (λ held are. are)) refl
+
+-- texts put after others whose last comes first
+pub reversed_behind : (xs ys : List (List ℕ)) → reverse (xs ++ reverse ys) ≡ ys ++ reverse xs
+reversed_behind xs ys = reverse-append xs (reverse ys) ∙ ap (λ zs. zs ++ reverse xs) (reverse-reverse ys)
+
+-- the names that a target lists are those that it lists once its ids are taken
+differ : (k : Key) → is_same k Ids ≡ true → is_same k OfNames ≡ false
+differ k same = grind (arith, nat_tests)
+
+names_kept : (attrs : List Attr) → value_of OfNames (without_key Ids attrs) ≡ value_of OfNames attrs
+names_kept [] = refl
+names_kept (a ∷ more) =
+    elim (is_same a.key Ids) as (λ b. (is_same a.key Ids ≡ b) → value_of OfNames (if b then more else a ∷ without_key Ids more) ≡ (if is_same a.key OfNames then Some a.value else value_of OfNames more)) [
+      | true ↦ λ e. ap (λ (b : Bool). if b then Some a.value else value_of OfNames more) (sym (differ a.key e))
+      | false ↦ λ e. ap (λ v. if is_same a.key OfNames then Some a.value else v) (names_kept more)
+    ] refl
+
+pub listed_still : (attrs : List Attr) → listed OfNames (without_key Ids attrs) ≡ listed OfNames attrs
+listed_still attrs = ap members_in (names_kept attrs)
