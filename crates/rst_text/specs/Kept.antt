@@ -1,29 +1,17 @@
 -- Texts as they are kept. No rule of markup: they are one after another, in UTF-8.
-use Rattle.std.specs.Prelude.{◌≡◌, ℕ, ◌<◌, ◌≤◌, List, [], ◌∷◌, drop, map, slice_range}
+use Rattle.std.specs.Prelude.{◌≡◌, ℕ, ◌<◌, ◌≤◌, List, [], ◌∷◌, drop, length, slice_index_or, slice_range}
 use Rattle.std.specs.Str.{chars, IsCharBoundary}
 use Rattle.rst_text.specs.Block.{Block, front_text}
-use Rattle.rst_text.specs.declared.kept.TextSpan.{TextSpan}
 
--- a span in some bytes: it begins and ends where characters do
-abbrev pub IsSpanOf : List ℕ → TextSpan → Type 0
-IsSpanOf bytes s = (s.start ≤ s.end) × IsCharBoundary bytes s.start × IsCharBoundary bytes s.end
+-- places in the bytes where characters begin, in order, the first from a place on
+abbrev pub AreStarts : ℕ → List ℕ → List ℕ → Type 0
+AreStarts from bytes [] = from ≤ length bytes
+AreStarts from bytes (s ∷ ss) = (from ≤ s) × IsCharBoundary bytes s × AreStarts s bytes ss
 
--- spans in the bytes, the first from a place on, and each other from where the one before it ends
-abbrev pub AreSpansFrom : ℕ → List ℕ → List TextSpan → Type 0
-AreSpansFrom from bytes [] = Unit {0}
-AreSpansFrom from bytes (s ∷ ss) = (from ≤ s.start) × IsSpanOf bytes s × AreSpansFrom s.end bytes ss
-
--- spans in the bytes, one after another
-abbrev pub AreSpansOf : List ℕ → List TextSpan → Type 0
-AreSpansOf bytes spans = AreSpansFrom 0 bytes spans
-
--- the text in a span
-abbrev pub text_in : List ℕ → TextSpan → List ℕ
-text_in bytes s = chars (slice_range bytes s.start s.end)
-
--- the texts in such spans
-abbrev pub texts_in : List ℕ → List TextSpan → List (List ℕ)
-texts_in bytes spans = map (text_in bytes) spans
+-- the texts that begin at these places, each up to the next or to the end
+abbrev pub texts_in : List ℕ → List ℕ → List (List ℕ)
+texts_in bytes [] = []
+texts_in bytes (s ∷ ss) = chars (slice_range bytes s (slice_index_or ss 0 (length bytes))) ∷ texts_in bytes ss
 
 -- the lines from one place up to another are empty
 abbrev pub AreEmpty : Block → ℕ → ℕ → Type 0

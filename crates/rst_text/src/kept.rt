@@ -13,14 +13,8 @@ use std::marker::Model;
 #[derive(Debug, Drop)]
 pub(crate) struct Kept {
     text: String,
-    spans: Vec<TextSpan>,
-}
-
-/// The place of a text's first byte, and the place past its last.
-#[derive(Clone, Copy, Debug)]
-struct TextSpan {
-    start: usize,
-    end: usize,
+    /// The place of each text's first byte: a text ends where the next begins.
+    starts: Vec<usize>,
 }
 
 impl Model for Kept {
@@ -29,11 +23,11 @@ impl Model for Kept {
     ghost Value = { List (List ℕ) };
 
     ghost use Rattle.std.specs.Prelude.{string_bytes};
-    ghost use Rattle.rst_text.specs.Kept.{texts_in, AreSpansOf};
+    ghost use Rattle.rst_text.specs.Kept.{texts_in, AreStarts};
 
-    ghost view = { λ k. texts_in (string_bytes k.text) k.spans.items };
+    ghost view = { λ k. texts_in (string_bytes k.text) k.starts.items };
 
-    ghost invariant = { λ k. AreSpansOf (string_bytes k.text) k.spans.items };
+    ghost invariant = { λ k. AreStarts 0 (string_bytes k.text) k.starts.items };
 }
 
 impl Kept {
@@ -42,28 +36,27 @@ impl Kept {
         ensures { IfOk result (λ kept. kept ≡ []) }
     {
         let text = String::with_capacity(alloc, bytes)?;
-        let spans = Vec::new(alloc);
-        Ok(Kept { text, spans })
+        let starts = Vec::new(alloc);
+        Ok(Kept { text, starts })
     }
 
     /// One text more, the last.
     pub(crate) fn push(&mut self, text: &str) -> Result<(), AllocError>
         ensures { IfOk result (λ _. self.new ≡ self.old ++ chars text.now ∷ []) }
     {
-        let start = self.text.len();
+        self.starts.push(self.text.len())?;
         self.text.push_str(text)?;
-        let end = self.text.len();
-        self.spans.push(TextSpan { start, end })?;
         Ok(())
     }
 
     /// How many texts there are.
+    #[tactic(auto, using(crate::proofs::KeptLemmas::length_texts))]
     pub(crate) fn len(&self) -> usize
         ensures value { result ≡ length self.now }
         ensures few { length self.now < 2 ^ 63 }
         ensures texts { IsTrue (list_all is_text self.now) }
     {
-        self.spans.len()
+        self.starts.len()
     }
 
     /// The text at place `i`, counted from 0.
@@ -71,8 +64,8 @@ impl Kept {
         requires { i < length self.now }
         ensures { result.now ≡ encode_utf8_all (slice_index_or self.now i []) }
     {
-        let span = self.spans[i];
-        &self.text.as_str()[span.start..span.end]
+        let text = self.text.as_str();
+        &text[start_of(i, &self.starts, text)..start_of(i + 1, &self.starts, text)]
     }
 
     /// Whether the texts from place `i` up to place `end` are empty. `false` tells nothing.
@@ -82,9 +75,8 @@ impl Kept {
         ensures { IsTrue result → AreEmpty (numbered_from 0 self.now) i end }
     {
         // The texts are in order, so all are empty if the last ends where the first begins.
-        let first = self.spans[i];
-        let last = self.spans[end - 1];
-        first.start == last.end
+        let text = self.text.as_str();
+        start_of(i, &self.starts, text) == start_of(end, &self.starts, text)
     }
 
     /// The place after some empty texts from place `i` on, `to` at most. A long run of them takes few steps: each is
@@ -108,5 +100,15 @@ impl Kept {
             }
         }
         end
+    }
+}
+
+/// Where the text at place `i` begins, or would begin: behind all bytes.
+fn start_of(i: usize, starts: &[usize], text: &str) -> usize
+    ensures { result ≡ slice_index_or starts.now i (length text.now) }
+{
+    match starts.get(i) {
+        Some(start) => *start,
+        None => text.len(),
     }
 }

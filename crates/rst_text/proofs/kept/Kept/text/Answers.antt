@@ -1,42 +1,37 @@
-use Rattle.std.proofs.Common.{◌∙◌, ◌<◌, ℕ, List, [], length, get_or, sym, ap, subst, arith, string_bytes, slice_range}
+use Rattle.std.proofs.Common.{◌∙◌, ◌+◌, ◌≡◌, suc, ℕ, List, [], length, get_or, sym, ap, subst, arith, string_bytes}
 use Rattle.std.proofs.Math.Utf8.{encodes}
-use Rattle.std.proofs.lemmas.List.{length-map}
-use Rattle.std.proofs.lemmas.Str.{IsUtf8-string_bytes}
+use Rattle.std.proofs.lemmas.Str.{IsUtf8-string_bytes, IsUtf8-between, encodes-chars}
 use Rattle.std.specs.Str.{IsCharBoundary}
-use Rattle.rst_text.specs.Kept.{text_in}
-use Rattle.rst_text.proofs.KeptLemmas.{span-at, text-at, text-of_span}
+use Rattle.rst_text.proofs.KeptLemmas.{length_texts, start-boundary, start-is, starts-rise, text-at}
 use Rattle.rst_text.proofs.kept.Kept.text.Goals as goal
+
+pub overflow_add-i : goal.overflow_add-i
+overflow_add-i c = omega (arith, c.requires, ap length c.self.view_is, length_texts (string_bytes c.self.inside.text) c.self.inside.starts.items, c.self.inside.starts.ok, c.self.inside.starts.small)
 
 pub range-requires-clause-start_le_end : goal.range-requires-clause-start_le_end
 range-requires-clause-start_le_end c =
-    let bytes = string_bytes c.self.inside.text in
-    let spans = c.self.inside.spans.items in
-    let within : c.args.i < length spans = omega (arith, c.requires, ap length c.self.view_is, length-map spans (text_in bytes)) in
-    let span = span-at 0 bytes spans c.args.i c.index-span.result.now c.self.invariant within c.index-span.ensures in
-    span.0
+    let from = start-is c.args.i _ _ _ _ _ c.start_of.ensures c.deref.ensures.value c.as_str-text.ensures.value in
+    let to = start-is (c.args.i + 1) _ _ _ _ _ c.start_of-2.ensures c.deref-2.ensures.value c.as_str-text.ensures.value in
+    omega (arith, from, to, starts-rise 0 (string_bytes c.self.inside.text) c.self.inside.starts.items c.args.i (c.args.i + 1) c.self.invariant (omega arith))
 
 pub range-requires-clause-start_boundary : goal.range-requires-clause-start_boundary
 range-requires-clause-start_boundary c = λ some.
-    let bytes = string_bytes c.self.inside.text in
-    let spans = c.self.inside.spans.items in
-    let within : c.args.i < length spans = omega (arith, c.requires, ap length c.self.view_is, length-map spans (text_in bytes)) in
-    let span = span-at 0 bytes spans c.args.i c.index-span.result.now c.self.invariant within c.index-span.ensures in
-    subst (λ bs. IsCharBoundary bs c.index-span.result.now.start) (sym c.as_str.ensures.value) span.1
+    let from = start-is c.args.i _ _ _ _ _ c.start_of.ensures c.deref.ensures.value c.as_str-text.ensures.value in
+    subst (λ bs. IsCharBoundary bs c.start_of.result) (sym c.as_str-text.ensures.value) (subst (IsCharBoundary (string_bytes c.self.inside.text)) (sym from) (start-boundary 0 _ _ c.args.i c.self.invariant))
 
 pub range-requires-clause-end_boundary : goal.range-requires-clause-end_boundary
 range-requires-clause-end_boundary c =
-    let bytes = string_bytes c.self.inside.text in
-    let spans = c.self.inside.spans.items in
-    let within : c.args.i < length spans = omega (arith, c.requires, ap length c.self.view_is, length-map spans (text_in bytes)) in
-    let span = span-at 0 bytes spans c.args.i c.index-span.result.now c.self.invariant within c.index-span.ensures in
-    subst (λ bs. IsCharBoundary bs c.index-span.result.now.end) (sym c.as_str.ensures.value) span.2
+    let to = start-is (c.args.i + 1) _ _ _ _ _ c.start_of-2.ensures c.deref-2.ensures.value c.as_str-text.ensures.value in
+    subst (λ bs. IsCharBoundary bs c.start_of-2.result) (sym c.as_str-text.ensures.value) (subst (IsCharBoundary (string_bytes c.self.inside.text)) (sym to) (start-boundary 0 _ _ (c.args.i + 1) c.self.invariant))
 
 pub returns : goal.returns
 returns c =
-    let bytes = string_bytes c.self.inside.text in
-    let spans = c.self.inside.spans.items in
-    let s = c.index-span.result.now in
-    let within : c.args.i < length spans = omega (arith, c.requires, ap length c.self.view_is, length-map spans (text_in bytes)) in
-    let span = span-at 0 bytes spans c.args.i s c.self.invariant within c.index-span.ensures in
-    c.range.ensures.value ∙ ap (λ bs. slice_range bs s.start s.end) c.as_str.ensures.value ∙ sym (text-of_span bytes s (IsUtf8-string_bytes c.self.inside.text) span)
-    ∙ ap encodes (sym (text-at bytes spans c.args.i s within c.index-span.ensures) ∙ ap (λ (ts : List (List ℕ)). get_or ts c.args.i []) c.self.view_is)
+    let bytes : List ℕ = string_bytes c.self.inside.text in
+    let starts : List ℕ = c.self.inside.starts.items in
+    let next : c.args.i + 1 ≡ suc c.args.i = omega arith in
+    let from = start-is c.args.i _ _ _ _ _ c.start_of.ensures c.deref.ensures.value c.as_str-text.ensures.value in
+    let to = start-is (c.args.i + 1) _ _ _ _ _ c.start_of-2.ensures c.deref-2.ensures.value c.as_str-text.ensures.value ∙ ap (λ k. get_or starts k (length bytes)) next in
+    let part = IsUtf8-between bytes (get_or starts c.args.i (length bytes)) (get_or starts (suc c.args.i) (length bytes)) (IsUtf8-string_bytes c.self.inside.text) (starts-rise 0 bytes starts c.args.i (suc c.args.i) c.self.invariant (omega arith))
+    (start-boundary 0 bytes starts c.args.i c.self.invariant) (start-boundary 0 bytes starts (suc c.args.i) c.self.invariant) in
+    c.range.ensures.value ∙ rw (c.as_str-text.ensures.value, from, to) (sym (encodes-chars _ part))
+    ∙ ap encodes (sym (text-at bytes starts c.args.i (omega (arith, c.requires, ap length c.self.view_is, length_texts bytes starts))) ∙ ap (λ ts. get_or ts c.args.i []) c.self.view_is)
