@@ -7,13 +7,13 @@ use Rattle.rst_text.specs.Names.{normalized_white}
 use Rattle.rst_inline_scan.specs.Characters.{is_among}
 use Rattle.rst_markup_blocks.specs.declared.forms.Invocation.{Invocation}
 use Rattle.rst_markup_blocks.specs.declared.part.Part.{Part}
-use Rattle.rst_markup_directives.specs.Argument.{Given, nothing, title, uri, language, joined_lines, title_of, uri_of, word_of, language_of, argument_of}
+use Rattle.rst_markup_directives.specs.Argument.{Given, nothing, title, uri, language, title_of, uri_of, word_of, language_of, argument_of}
 use Rattle.rst_markup_directives.specs.Call.{called_at, part_of, content_of, is_empty}
 use Rattle.rst_markup_directives.specs.Characters.{Text}
 use Rattle.rst_markup_directives.specs.Directive.{Read, Outcome, found, wrong, run_in, is_code_name, options_of, outcome_of, read_parts, read_by, read_block, read_at, outcome_at, of_block, judged, named, lines_at, is_late, directive_of}
 use Rattle.rst_markup_directives.specs.Judgement.{content_fault}
 use Rattle.rst_markup_directives.specs.Layout.{begins_field, before_field, layout_at, layout_of}
-use Rattle.rst_markup_directives.specs.Lines.{behind_blank}
+use Rattle.rst_markup_directives.specs.Lines.{behind_blank, joined}
 use Rattle.rst_markup_directives.specs.Options.{Choice}
 use Rattle.rst_markup_directives.specs.Wrong.{Wrong, Fault, many_arguments, and_then, unless, fault_in}
 use Rattle.rst_markup_directives.specs.declared.argument.Argument.TheVariants.{Absent, Title, Uri, Language}
@@ -125,7 +125,7 @@ language_short n [] = tt
 language_short n (t ∷ ts) = by (is_among words 32)
   where
     words : Text
-    words = normalized_white (joined_lines (t ∷ ts))
+    words = normalized_white (joined (t ∷ ts))
 
     by : (b : Bool) → MayBeShort n (cond b (Err many_arguments) (Ok (language words)))
     by true = tt

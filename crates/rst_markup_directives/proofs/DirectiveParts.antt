@@ -13,13 +13,13 @@ use Rattle.rst_markup_blocks.specs.Parts.{IsBlock}
 use Rattle.rst_markup_blocks.specs.declared.part.Part.{Part}
 use Rattle.rst_markup_blocks.proofs.RowLaws.{while_le}
 use Rattle.rst_markup_blocks.specs.declared.lines.LineTest.TheVariants.{Blank}
-use Rattle.rst_markup_directives.specs.Argument.{Given, title, language, joined_lines, word_of, argument_by, argument_of}
+use Rattle.rst_markup_directives.specs.Argument.{Given, title, language, word_of, argument_by, argument_of}
 use Rattle.rst_markup_directives.specs.Call.{part_of, content_of, is_empty, IsContentIn, IsDirectiveIn}
 use Rattle.rst_markup_directives.specs.Characters.{Text}
 use Rattle.rst_markup_directives.specs.Directive.{Read, Outcome, found, wrong, run_in, is_code_name, options_of, read_parts, read_by, read_block, outcome_at, of_block, judged, outcome_of}
 use Rattle.rst_markup_directives.specs.Judgement.{content_fault}
 use Rattle.rst_markup_directives.specs.Layout.{begins_field, before_field, content_alone, parts_with_argument, parts_without_argument, layout_by, layout_at, layout_of}
-use Rattle.rst_markup_directives.specs.Lines.{first_run, blank_len, behind_blank}
+use Rattle.rst_markup_directives.specs.Lines.{first_run, blank_len, behind_blank, joined}
 use Rattle.rst_markup_directives.specs.Name.{takes, holds}
 use Rattle.rst_markup_directives.specs.Options.{Choice}
 use Rattle.rst_markup_directives.specs.Wrong.{Wrong as WrongInside, and_then, unless, many_arguments, fault_in}
@@ -159,7 +159,7 @@ argument_in B TakesTitle (t ∷ ts) part b = b
 argument_in B TakesUri [] part b = tt
 argument_in B TakesUri (t ∷ ts) part b = tt
 argument_in B TakesLanguage [] part b = tt
-argument_in B TakesLanguage (t ∷ ts) part b = word_in B (normalized_white (joined_lines (t ∷ ts)))
+argument_in B TakesLanguage (t ∷ ts) part b = word_in B (normalized_white (joined (t ∷ ts)))
 
 parts_in_block : (B : Block) (name : Name) (content : Content) (given : Result Given WrongInside) (choices : Result (List Choice) WrongInside)
     → IsContentIn B content → MayBeGivenIn B given → MayBeReadIn B (read_parts name content given choices)

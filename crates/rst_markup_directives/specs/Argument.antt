@@ -22,10 +22,6 @@ pub data Given : Type 0 where
   uri : Text → Given
   language : Text → Given
 
--- lines joined by line feeds
-abbrev pub joined_lines : List Text → Text
-joined_lines ts = joined ts
-
 -- a title, some lines
 abbrev pub title_of : List Text → Part → Result Given Wrong
 title_of [] part = Err no_argument
@@ -34,7 +30,7 @@ title_of (t ∷ ts) part = Ok (title part)
 -- a URI, without white characters
 abbrev pub uri_of : List Text → Result Given Wrong
 uri_of [] = Err no_argument
-uri_of (t ∷ ts) = Ok (uri (without_white (joined_lines (t ∷ ts))))
+uri_of (t ∷ ts) = Ok (uri (without_white (joined (t ∷ ts))))
 
 -- one word, of a text whose runs of white are one space each: a space in it parts two words
 unfoldable pub word_of : Text → Result Given Wrong
@@ -43,7 +39,7 @@ word_of words = if is_among words 32 then Err many_arguments else Ok (language w
 -- a language, one word, or none
 abbrev pub language_of : List Text → Result Given Wrong
 language_of [] = Ok nothing
-language_of (t ∷ ts) = word_of (normalized_white (joined_lines (t ∷ ts)))
+language_of (t ∷ ts) = word_of (normalized_white (joined (t ∷ ts)))
 
 -- the argument of a directive that takes nothing, a title, a URI or a language
 abbrev pub argument_by : Takes → List Text → Part → Result Given Wrong

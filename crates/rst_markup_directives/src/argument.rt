@@ -4,7 +4,7 @@ ghost use Rattle.rst_inline_scan.specs.Characters.{without_white};
 ghost use Rattle.rst_text.specs.Names.{normalized_white};
 ghost use Rattle.rst_markup_directives.specs.Argument as spec;
 ghost use Rattle.rst_markup_directives.specs.Faults.{Gives};
-ghost use Rattle.rst_markup_directives.specs.Lines.{texts_of};
+ghost use Rattle.rst_markup_directives.specs.Lines.{joined, texts_of};
 
 use super::characters::{has_character, text_from};
 use super::fault::{Detail, MarkupFault};
@@ -49,7 +49,7 @@ pub(crate) fn argument_of(
 /// A URI, without white characters.
 #[tactic(auto, using(crate::proofs::Joins::joined_alone))]
 fn uri_of(alloc: Global, lines: &[&str]) -> Result<Result<Argument, Detail>, MarkupFault>
-    ensures { Gives (λ argument. spec.argument_in argument ≡ Ok (spec.uri (without_white (spec.joined_lines (texts_of lines.now))))) result }
+    ensures { Gives (λ argument. spec.argument_in argument ≡ Ok (spec.uri (without_white (joined (texts_of lines.now))))) result }
 {
     let text = joined(alloc, Vec::new(alloc), lines, 0)?;
     let uri = without_white(alloc, &text)?;
@@ -60,7 +60,7 @@ fn uri_of(alloc: Global, lines: &[&str]) -> Result<Result<Argument, Detail>, Mar
 /// A language, if the lines hold a single word: one space is left between two words.
 #[tactic(auto, using(crate::proofs::Joins::joined_alone), unfolding(crate::specs::Argument::word_of))]
 fn language_of(alloc: Global, lines: &[&str]) -> Result<Result<Argument, Detail>, MarkupFault>
-    ensures { Gives (λ argument. spec.argument_in argument ≡ spec.word_of (normalized_white (spec.joined_lines (texts_of lines.now)))) result }
+    ensures { Gives (λ argument. spec.argument_in argument ≡ spec.word_of (normalized_white (joined (texts_of lines.now)))) result }
 {
     let text = joined(alloc, Vec::new(alloc), lines, 0)?;
     let text = text_from(alloc, &text)?;
