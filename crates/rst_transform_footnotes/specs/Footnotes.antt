@@ -1,6 +1,6 @@
 -- Footnotes, and the references that find them by the order (Markup Specification, 'Footnotes').
-use Rattle.std.specs.Prelude.{ℕ, ◌&&◌, Bool, true, false, List, [], ◌∷◌, ◌++◌, codes, decimal, find, length, map, option_and_then, option_map, if◌then◌else◌, is_none, slice_get, Option, Some, None}
-use Rattle.std.specs.List.{enumerate_from, filter_map}
+use Rattle.std.specs.Prelude.{ℕ, ◌&&◌, Bool, true, false, List, [], ◌∷◌, ◌++◌, codes, decimal, find, length, map, option_and_then, option_map, if◌then◌else◌, is_none, not, slice_get, Option, Some, None}
+use Rattle.std.specs.List.{enumerate_from, filter_map, list_all}
 use Rattle.std.specs.Option.{option_or}
 use Rattle.std.specs.Str.{bytes_eq}
 use Rattle.rst_transform_names.specs.declared.names.NameEntry.{NameEntry}
@@ -12,7 +12,7 @@ use Rattle.rst_tree.specs.declared.key.Key.TheVariants.{Ids, Names, Serial}
 use Rattle.rst_tree.specs.declared.node.Node.{Node}
 use Rattle.rst_tree.specs.declared.node.Node.TheVariants.{Element}
 use Rattle.rst_tree.specs.declared.note.Level.TheVariants.{Error}
-use Rattle.rst_tree.specs.declared.tag.Tag.TheVariants.{Label}
+use Rattle.rst_tree.specs.declared.tag.Tag.TheVariants.{Footnote, FootnoteReference, Label}
 use Rattle.rst_tree.specs.Attributes.{attr}
 use Rattle.rst_transform_links.specs.declared.links.Outcome.{Outcome}
 use Rattle.rst_transform_links.specs.declared.links.Outcome.TheVariants.{Stays, Fails}
@@ -133,10 +133,20 @@ outcome_at linked labels found numbers symbols (place, one) = outcome_by linked 
 abbrev pub outcomes_by : List Held → List (Option (List ℕ)) → List (Option ℕ) → Option ℕ → Option ℕ → List Outcome
 outcomes_by linked labels found numbers symbols = map (outcome_at linked labels found numbers symbols) (enumerate_from 0 linked)
 
--- What becomes of linked elements. The numbers are held as names, and then come the messages on the references left over, those to numbered
--- footnotes first.
+abbrev pub is_of_footnotes : Node → Bool
+is_of_footnotes (Element Footnote a c l) = true
+is_of_footnotes (Element FootnoteReference a c l) = true
+is_of_footnotes _ = false
+
+-- an element is no footnote and no reference to one
+abbrev pub is_apart : Held → Bool
+is_apart one = not (is_of_footnotes one.0)
+
+-- What becomes of linked elements: nothing if none of them is a footnote or a reference to one. The numbers are held as names, and then come
+-- the messages on the references left over, those to numbered footnotes first.
 abbrev pub footnote_outcomes : List Held → Known → List Outcome × Known
 footnote_outcomes linked known =
     let numbers : Option ℕ × Known = leftover_of Numbers linked (record known { names = with_numbers (labels linked) linked known.names }) in
     let symbols : Option ℕ × Known = leftover_of Symbols linked numbers.1 in
-    (outcomes_by linked (labels linked) (found_by_order linked) numbers.0 symbols.0, symbols.1)
+    if list_all is_apart linked then ([], known)
+    else (outcomes_by linked (labels linked) (found_by_order linked) numbers.0 symbols.0, symbols.1)

@@ -15,18 +15,14 @@ use std::alloc::Global;
 /// Footnotes').
 const SYMBOLS: [char; 10] = ['*', '†', '‡', '§', '¶', '#', '♠', '♥', '♦', '♣'];
 
-/// The number that a footnote was written with.
-fn written_number(node: &Node) -> Option<u64>
-    ensures { result ≡ number_of (mark_of node.now) }
-{
-    number_in(mark_of(node)?)
-}
-
 /// Says that a footnote was written with a number, if it was and the number is among those that the list is about.
-fn set_written(written: &mut Vec<bool>, number: Option<u64>)
-    ensures { written.new.items ≡ with_written number written.old.items }
+fn set_written(written: &mut Vec<bool>, node: &Node)
+    ensures { written.new.items ≡ with_written (number_of (mark_of node.now)) written.old.items }
 {
-    if let Some(number) = number {
+    let Some(mark) = mark_of(node) else {
+        return;
+    };
+    if let Some(number) = number_in(mark) {
         put_at(written, number as usize, true);
     }
 }
@@ -37,7 +33,7 @@ fn written_numbers(alloc: Global, linked: &[Linked<'_>]) -> Result<Vec<bool>>
 {
     let mut written = vec![in alloc; false; linked.len() + 1]?;
     for one in linked {
-        set_written(&mut written, written_number(one.element));
+        set_written(&mut written, one.element);
     }
     Ok(written)
 }

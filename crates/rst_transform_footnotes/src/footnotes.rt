@@ -1,9 +1,10 @@
 //! Footnotes.
 ghost use Rattle.std.specs.Prelude.{◌≡◌, ℕ, List, MatchOption, None, Some, length, map, slice_get};
+ghost use Rattle.std.specs.List.{list_all};
 ghost use Rattle.std.specs.Option.{option_or};
 ghost use Rattle.rst_tree.specs.Faults.{Gives};
 ghost use Rattle.rst_transform_names.specs.Names.{held_by};
-ghost use Rattle.rst_transform_footnotes.specs.Footnotes.{entry_of, first_left_over, footnote_outcomes, is_label, label_in, labelled, lead_to_footnote, outcome_by, outcomes_by, own_number, referring, report_of, leftover, too_many, with_number, with_numbers};
+ghost use Rattle.rst_transform_footnotes.specs.Footnotes.{entry_of, first_left_over, footnote_outcomes, is_apart, is_label, is_of_footnotes, label_in, labelled, lead_to_footnote, outcome_by, outcomes_by, own_number, referring, report_of, leftover, too_many, with_number, with_numbers};
 ghost use Rattle.rst_transform_links.specs.Linkings.{held};
 ghost use Rattle.rst_transform_links.specs.FootnoteOrders.{in_order, reference_order};
 ghost use Rattle.rst_transform_work.specs.Known.{Makes};
@@ -59,6 +60,9 @@ use std::alloc::Global;
 pub fn footnote_outcomes(context: &mut Context, linked: &[Linked<'_>]) -> Result<Vec<Outcome>>
     ensures { Gives (λ outcomes. Makes (footnote_outcomes (map held linked.now)) context.old context.new outcomes.items) result }
 {
+    if none_is_of_footnotes(linked) {
+        return Ok(Vec::new(context.alloc));
+    }
     let labels = labels(context.alloc, linked)?;
     let found = found_by_order(context.alloc, linked)?;
     hold_numbers(context.alloc, &mut context.names, linked, labels.as_slice())?;
@@ -66,6 +70,23 @@ pub fn footnote_outcomes(context: &mut Context, linked: &[Linked<'_>]) -> Result
     let symbols = leftover(context, linked, found.as_slice(), Order::Symbols)?;
     let outcomes = outcomes_by(context.alloc, linked, &labels, &found, numbers, symbols)?;
     Ok(outcomes)
+}
+
+/// Whether no element is a footnote or a reference to one.
+fn none_is_of_footnotes(linked: &[Linked<'_>]) -> bool
+    ensures { result ≡ list_all (λ one. is_apart (held one)) linked.now }
+{
+    linked.iter().all(|one| !is_of_footnotes(one.element))
+}
+
+/// Whether a node is a footnote or a reference to one.
+fn is_of_footnotes(node: &Node) -> bool
+    ensures { result ≡ is_of_footnotes node.now }
+{
+    match node {
+        Node::Element { tag, .. } => matches!(tag, Tag::Footnote | Tag::FootnoteReference),
+        Node::Text(_) => false,
+    }
 }
 
 /// The number that the element at a place gets as a name: its label, if it is a footnote that was written with `#` alone.
@@ -109,11 +130,11 @@ fn hold_number(
     if names.get(number.as_str()).is_some() {
         return Ok(());
     }
-    let told = (
+    let serial_and_id = (
         number_said(element, Key::Serial),
         first_said(element, Key::Ids),
     );
-    let (Some(serial), Some(id)) = told else {
+    let (Some(serial), Some(id)) = serial_and_id else {
         return Ok(());
     };
     let held = NameEntry {

@@ -9,7 +9,7 @@ loop-one-init c =
 
 pub loop-one-preserved : goal.loop-one-preserved
 loop-one-preserved c =
-    rw (c.set_written.ensures, c.written_number.ensures) (Writing-more c.args.linked.now c.loop-one.written.items c.loop-one.one-index c.one-item.result c.loop-one.invariant (omega arith) c.one-item.is)
+    rw (c.set_written.ensures) (Writing-more c.args.linked.now c.loop-one.written.items c.loop-one.one-index c.one-item.result c.loop-one.invariant (omega arith) c.one-item.is)
 
 pub returns : goal.returns
 returns c = Writing-end c.args.linked.now c.loop-one.written.items c.loop-one.one-index c.loop-one.invariant (search rules)
