@@ -1,5 +1,5 @@
 -- Indirect targets, which lead where the names that they refer to lead (Markup Specification, 'Hyperlink Targets').
-use Rattle.std.specs.Prelude.{ℕ, ◌+◌, Bool, true, false, List, [], ◌∷◌, ◌++◌, codes, drop, length, map, if◌then◌else◌, is_none, is_some, option_and_then, option_map, slice_get, unwrap_or, Option, Some, None}
+use Rattle.std.specs.Prelude.{ℕ, ◌+◌, Bool, true, false, List, [], ◌∷◌, ◌++◌, codes, drop, length, map, if◌then◌else◌, is_some, not, option_and_then, option_map, slice_get, unwrap_or, Option, Some, None}
 use Rattle.std.specs.List.{enumerate_from, list_all}
 use Rattle.rst_transform_names.specs.declared.names.NameEntry.{NameEntry}
 use Rattle.rst_transform_names.specs.declared.names.Holder.{Holder}
@@ -16,7 +16,7 @@ use Rattle.rst_transform_hyperlinks.specs.declared.chains.Step.{Step}
 use Rattle.rst_transform_hyperlinks.specs.declared.chains.Answer.TheVariants.{Leads, Missing, Circular}
 use Rattle.rst_transform_work.specs.declared.report.Report.{Report}
 use Rattle.rst_transform_hyperlinks.specs.Anonymous.{is_anonymous_reference, is_anonymous_target}
-use Rattle.rst_transform_hyperlinks.specs.Chains.{answers_of, steps_of}
+use Rattle.rst_transform_hyperlinks.specs.Chains.{answers_of, indirect_name, steps_of}
 use Rattle.rst_transform_links.specs.Holders.{holder_place}
 use Rattle.rst_transform_links.specs.Linkings.{Held}
 use Rattle.rst_transform_links.specs.Outcomes.{adds}
@@ -55,6 +55,10 @@ with_reports answers first reports place (one ∷ more) =
 abbrev pub anonymous_from : ℕ → List Held → List ℕ
 anonymous_from place [] = []
 anonymous_from place (one ∷ more) = if is_anonymous_target one.0 then place ∷ anonymous_from (place + 1) more else anonymous_from (place + 1) more
+
+-- an element is no indirect target
+abbrev pub is_direct : Held → Bool
+is_direct one = not (is_some (indirect_name one.0))
 
 abbrev pub is_reference_node : Node → Bool
 is_reference_node (Element Reference a c l) = true
@@ -106,7 +110,7 @@ indirect_outcomes linked known =
     let steps : List (Option Step) = steps_of known.names places linked in
     let answers : ℕ → Option Answer = at_place (answers_of steps) in
     let reports : List (Option ℕ) × List Report = with_reports answers known.first_number known.reports 0 linked in
-    if list_all is_none steps then ([], known)
+    if list_all is_direct linked then ([], known)
     else (
       outcomes_by answers (at_place reports.0) (at_place (targets_of known.names places linked)) linked,
       record known { reports = reports.1 },

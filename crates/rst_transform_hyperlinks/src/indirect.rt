@@ -1,10 +1,10 @@
 //! Indirect targets.
-ghost use Rattle.std.specs.Prelude.{◌≡◌, is_none, map, MatchOption, None, Some};
+ghost use Rattle.std.specs.Prelude.{◌≡◌, is_some, map, MatchOption, None, Some};
 ghost use Rattle.std.specs.List.{list_all};
 ghost use Rattle.rst_tree.specs.Faults.{Gives};
 ghost use Rattle.rst_transform_names.specs.Names.{held_by};
 ghost use Rattle.rst_transform_links.specs.Holders.{place_at};
-ghost use Rattle.rst_transform_hyperlinks.specs.Indirect.{anonymous_from, failure_of, indirect_outcomes, is_reference_node, led, missing_text, named_place, outcome_through, outcomes_by, targets_of, with_report, with_reports};
+ghost use Rattle.rst_transform_hyperlinks.specs.Indirect.{anonymous_from, failure_of, indirect_outcomes, is_direct, is_reference_node, led, missing_text, named_place, outcome_through, outcomes_by, targets_of, with_report, with_reports};
 ghost use Rattle.rst_transform_hyperlinks.specs.Chains.{indirect_name, own_step, step_to, steps_of};
 ghost use Rattle.rst_transform_links.specs.Linkings.{held};
 ghost use Rattle.rst_transform_work.specs.Known.{Makes};
@@ -50,11 +50,11 @@ use std::alloc::Global;
 pub fn indirect_outcomes(context: &mut Context, linked: &[Linked<'_>]) -> Result<Vec<Outcome>>
     ensures { Gives (λ outcomes. Makes (indirect_outcomes (map held linked.now)) context.old context.new outcomes.items) result }
 {
-    let holders = Holders::of(context.alloc, linked, context.serials)?;
-    let steps = first_steps(&context.names, &holders)?;
-    if are_none(steps.as_slice()) {
+    if none_is_indirect(linked) {
         return Ok(Vec::new(context.alloc));
     }
+    let holders = Holders::of(context.alloc, linked, context.serials)?;
+    let steps = first_steps(&context.names, &holders)?;
     let targets = targets_of(&context.names, &holders)?;
     let answers = answers(context.alloc, steps.as_slice())?;
     let reports = reports(context, linked, answers.as_slice())?;
@@ -63,10 +63,17 @@ pub fn indirect_outcomes(context: &mut Context, linked: &[Linked<'_>]) -> Result
 }
 
 /// Whether no element is an indirect target.
-fn are_none(steps: &[Option<Step>]) -> bool
-    ensures { result ≡ list_all is_none steps.now }
+fn none_is_indirect(linked: &[Linked<'_>]) -> bool
+    ensures { result ≡ list_all (λ one. is_direct (held one)) linked.now }
 {
-    steps.iter().all(|step| step.is_none())
+    linked.iter().all(|one| !is_indirect(one.element))
+}
+
+/// Whether a node is an indirect target.
+fn is_indirect(node: &Node) -> bool
+    ensures { result ≡ is_some (indirect_name node.now) }
+{
+    indirect_name(node).is_some()
 }
 
 /// The name that an indirect target refers to.
@@ -91,9 +98,7 @@ fn own_step(names: &Names, holders: &Holders<'_>, node: &Node) -> Result<Option<
             let place = holders.place(known.holder);
             let holder = element_at(holders.linked, place);
             match (place, holder) {
-                (Some(place), Some(node)) if indirect_name(node).is_some() => {
-                    Ok(Some(Step::To(place)))
-                }
+                (Some(place), Some(node)) if is_indirect(node) => { Ok(Some(Step::To(place))) }
                 _ => {
                     let lead = lead_by_name(holders.alloc, known, holder)?;
                     Ok(Some(Step::Ends(Answer::Leads(lead))))
