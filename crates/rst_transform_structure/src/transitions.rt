@@ -1,5 +1,5 @@
 //! The places of transitions.
-ghost use Rattle.std.specs.Prelude.{◌≡◌, ◌++◌, ◌∷◌, [], if◌then◌else◌, false, None, Some, MatchOption};
+ghost use Rattle.std.specs.Prelude.{◌≡◌, ◌++◌, ◌∷◌, [], if◌then◌else◌, false, option_map};
 ghost use Rattle.std.specs.List.{list_all};
 ghost use Rattle.rst_tree.specs.Faults.{Gives};
 ghost use Rattle.rst_tree.specs.Nodes.{forest_of};
@@ -100,33 +100,24 @@ fn place_in(nodes: Children, ends: bool, context: &mut Context) -> Result<Placed
 }
 
 impl Placed {
-    /// Puts an ERROR on a transition after the nodes. It is in the list of messages, too.
-    #[tactic(auto, unfolding(crate::specs::Transitions::with_message))]
-    fn put_message(&mut self, line: usize, words: &str, context: &mut Context) -> Result<()>
-        ensures siblings { Gives (λ _. so_far self.new context.new ≡ with_message context.old.first_number line words.now (so_far self.old context.old)) result }
+    /// Puts an ERROR on a transition after the nodes, if there are words for one. It is in the list of messages, too.
+    #[tactic(auto, unfolding(crate::specs::Transitions::with_fault, crate::specs::Transitions::with_message))]
+    fn put_message(&mut self, line: usize, words: Option<&str>, context: &mut Context) -> Result<()>
+        ensures siblings { Gives (λ _. so_far self.new context.new ≡ with_fault context.old.first_number line (option_map (λ w. w.now) words.entry) (so_far self.old context.old)) result }
         ensures rest { Gives (λ _. KeepsRest context.old context.new) result }
     {
+        let Some(words) = words else {
+            return Ok(());
+        };
         let text = Text::from_str(context.alloc, words)?;
         let message = context.report_in_place(Level::Error, line, text)?;
         self.nodes.push(message)?;
         Ok(())
     }
 
-    /// Puts the message on what is wrong with a transition after the nodes there, if anything is.
-    #[tactic(auto, unfolding(crate::specs::Transitions::with_fault))]
-    fn put_fault(&mut self, line: usize, context: &mut Context) -> Result<()>
-        ensures siblings { Gives (λ _. so_far self.new context.new ≡ with_fault context.old.first_number line (fault_before self.old.nodes.items) (so_far self.old context.old)) result }
-        ensures rest { Gives (λ _. KeepsRest context.old context.new) result }
-    {
-        match fault_before(self.nodes.as_slice()) {
-            Some(words) => self.put_message(line, words, context),
-            None => Ok(()),
-        }
-    }
-
     /// Puts a transition, which is the last node or not, to its place, after the message on what is wrong with it. It moves out if it is
     /// the last, unless the document ends with it: then a message follows it.
-    #[tactic(auto, unfolding(crate::specs::Transitions::put_transition))]
+    #[tactic(auto, unfolding(crate::specs::Transitions::put_transition, crate::specs::Transitions::with_fault))]
     fn put_transition(
         &mut self,
         transition: Node,
@@ -138,14 +129,15 @@ impl Placed {
         ensures siblings { Gives (λ _. so_far self.new context.new ≡ put_transition context.old.first_number last ends transition line (so_far self.old context.old)) result }
         ensures rest { Gives (λ _. KeepsRest context.old context.new) result }
     {
-        self.put_fault(line, context)?;
+        let fault = fault_before(self.nodes.as_slice());
+        self.put_message(line, fault, context)?;
         if last && !ends {
             self.moving.push(transition)?;
             return Ok(());
         }
         self.nodes.push(transition)?;
         if last {
-            return self.put_message(line, AT_END, context);
+            return self.put_message(line, Some(AT_END), context);
         }
         Ok(())
     }
@@ -189,7 +181,7 @@ const AT_END: &str = "Document may not end with a transition.";
 /// What is wrong with a transition after these siblings, if anything is.
 #[tactic(auto, unfolding(crate::specs::Transitions::fault_before))]
 fn fault_before(before: &[Node]) -> Option<&'static str>
-    ensures { MatchOption result (fault_before before.now ≡ None) (λ words. fault_before before.now ≡ Some words.now) }
+    ensures { option_map (λ words. words.now) result ≡ fault_before before.now }
 {
     if only_titles(before) {
         return Some(AT_BEGINNING);
