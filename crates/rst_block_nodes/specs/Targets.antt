@@ -31,13 +31,9 @@ leading_attrs attrs (Some (named name)) = with_attr Refname (Said (encode_utf8_a
 leading_attrs attrs (Some (located uri)) = with_attr Refuri (Said (encode_utf8_all uri)) attrs
 leading_attrs attrs None = attrs
 
--- a target with attributes, and with what it leads to, if it leads anywhere
-abbrev pub leading_node : List Attr → Option Destination → ℕ → Node
-leading_node attrs destination line = Element Target (leading_attrs attrs destination) bare line
-
 -- the target of a name, or an anonymous one, with what its text leads to
 abbrev pub target_node : Option (List ℕ) → List ℕ → ℕ → Node
-target_node name text line = leading_node (name_attrs name) (target_value (chars text)) line
+target_node name text line = Element Target (leading_attrs (name_attrs name) (target_value (chars text))) bare line
 
 -- ---- replacement texts
 

@@ -1,17 +1,17 @@
 //! Targets and substitution definitions.
-ghost use Rattle.std.specs.Prelude.{◌≡◌, string_bytes, option_map};
+ghost use Rattle.std.specs.Prelude.{◌≡◌, ◌∷◌, [], string_bytes, option_map};
 ghost use Rattle.std.specs.List.{list_any};
 ghost use Rattle.rst_tree.specs.Nodes.{nodes_of};
 ghost use Rattle.rst_tree.specs.Faults.{Gives};
 ghost use Rattle.rst_markup_directives.specs.Target.{destination_of};
 ghost use Rattle.rst_block_nodes.specs.Values.{normalized, unescaped};
 ghost use Rattle.rst_block_nodes.specs.Elements.{substitution_definition_node};
-ghost use Rattle.rst_block_nodes.specs.Targets.{target_node, name_attrs, leading_node, may_replace, may_stand, may_refer, is_plain_role, is_substitution};
+ghost use Rattle.rst_block_nodes.specs.Targets.{target_node, name_attrs, leading_attrs, may_replace, may_stand, may_refer, is_plain_role, is_substitution};
 
 use super::nodes::element_of;
 use super::values::{name_said, normalized, said, unescaped};
 use rst_markup_directives::{Target, target_value};
-use rst_tree::{Attrs, Children, Key, Node, Result, Tag, Text, TreeFault, Value};
+use rst_tree::{Attrs, Children, Entry, Key, Node, Result, Tag, Text, TreeFault, Value};
 use std::alloc::Global;
 
 /// A target that is a block: its name as it is written, still with escapes, if it has one, and its text, whose lines are
@@ -22,38 +22,35 @@ use std::alloc::Global;
 pub fn target(alloc: Global, name: Option<&str>, text: &str, line: usize) -> Result<Node>
     ensures { Gives (λ node. node ≡ target_node (option_map (λ written. written.now) name.entry) text.now line) result }
 {
-    let attrs = name_attrs(alloc, name)?;
     let destination = target_value(alloc, text).map_err(|_| TreeFault::NoMemory)?;
-    leading(alloc, attrs, destination, line)
+    // Registration gives it up to three attributes more.
+    let mut list = Vec::with_capacity(alloc, 5)?;
+    list.push(name_attr(alloc, name)?)?;
+    let mut attrs = Attrs::of(list);
+    add_lead(alloc, &mut attrs, destination)?;
+    Ok(element_of(Tag::Target, attrs, Vec::new(alloc), line))
 }
 
 /// The attribute that says a target's name, or that it has none.
-fn name_attrs(alloc: Global, name: Option<&str>) -> Result<Attrs>
-    ensures { Gives (λ attrs. attrs ≡ name_attrs (option_map (λ written. written.now) name.entry)) result }
+fn name_attr(alloc: Global, name: Option<&str>) -> Result<Entry>
+    ensures { Gives (λ attr. attr ∷ [] ≡ name_attrs (option_map (λ written. written.now) name.entry)) result }
 {
     let Some(written) = name else {
-        return Attrs::lone(alloc, Key::Anonymous, Value::Number(1));
+        return Ok(Entry::new(Key::Anonymous, Value::Number(1)));
     };
     let name = unescaped(alloc, written)?;
-    Attrs::lone(alloc, Key::OwnName, name_said(alloc, name.as_str())?)
+    Ok(Entry::new(Key::OwnName, name_said(alloc, name.as_str())?))
 }
 
-/// A target with what it leads to.
+/// Lets a target's attributes say what it leads to.
 #[tactic(auto, using(crate::proofs::TextLemmas::bytes_encoded))]
-fn leading(alloc: Global, attrs: Attrs, destination: Option<Target>, line: usize) -> Result<Node>
-    ensures { Gives (λ node. node ≡ leading_node attrs (option_map destination_of destination) line) result }
+fn add_lead(alloc: Global, attrs: &mut Attrs, destination: Option<Target>) -> Result<()>
+    ensures { Gives (λ _. attrs.new ≡ leading_attrs attrs.old (option_map destination_of destination)) result }
 {
-    let mut attrs = attrs;
     match destination {
-        Some(Target::Name(name)) => {
-            attrs.set(Key::Refname, name_said(alloc, name.as_str())?)?;
-            Ok(element_of(Tag::Target, attrs, Vec::new(alloc), line))
-        }
-        Some(Target::Uri(uri)) => {
-            attrs.set(Key::Refuri, Value::Text(Text::new(uri)))?;
-            Ok(element_of(Tag::Target, attrs, Vec::new(alloc), line))
-        }
-        None => Ok(element_of(Tag::Target, attrs, Vec::new(alloc), line)),
+        Some(Target::Name(name)) => attrs.set(Key::Refname, name_said(alloc, name.as_str())?),
+        Some(Target::Uri(uri)) => attrs.set(Key::Refuri, Value::Text(Text::new(uri))),
+        None => Ok(()),
     }
 }
 
