@@ -1,29 +1,15 @@
--- What was read, with the numbers of its messages.
+-- The heads of a text that was read.
 use Rattle.std.proofs.Common.{◌≡◌, ℕ, List, length, ap, subst, ◌∙◌}
-use Rattle.std.specs.Prelude.{Result, Ok, Err}
-use Rattle.rst_tree.specs.declared.fault.TreeFault.{TreeFault}
-use Rattle.rst_tree.specs.declared.fault.TreeFault.TheVariants.{NoMemory}
-use Rattle.rst_tree.specs.Faults.{Gives}
-use Rattle.rst_tree.specs.declared.tag.Tag.{Tag}
 use Rattle.rst_tree.specs.declared.node.Node.{Node}
 use Rattle.rst_inline_scan.specs.Pieces.{IsPieces}
 use Rattle.rst_inline_scan.specs.declared.piece.Piece.{Piece}
 use Rattle.rst_inline.specs.Results.{IsRead}
 use Rattle.rst_inline.specs.declared.nodes.Pieces.{Pieces}
-use Rattle.rst_block_nodes.specs.Results.{IsNumbered, ReadsText, IsHolding, HoldsText, HeadsText}
+use Rattle.rst_block_nodes.specs.Results.{HeadsText}
 use Rattle.rst_block_nodes.specs.Terms.{texts_of, groups_of, heads_of}
 use Rattle.rst_block_nodes.specs.declared.terms.Heads.{Heads}
-use Rattle.rst_block_nodes.specs.declared.texted.Reading.{Reading}
-use Rattle.rst_block_nodes.specs.declared.texted.Texted.{Texted}
 
-pub numbered_text : (text : List ℕ) (line first : ℕ) (pieces : Pieces) → IsRead text line pieces → (r : Result Reading TreeFault) → Gives (IsNumbered first pieces) r → Gives (ReadsText text line first) r
-numbered_text text line first pieces read (Ok reading) h = (pieces, read, h)
-numbered_text text line first pieces read (Err NoMemory) h = tt
-
-pub held_text : (tag : Tag) (line : ℕ) (text : List ℕ) (text_line first : ℕ) (reading : Reading) (texted : Texted) → ReadsText text text_line first reading → IsHolding tag line reading texted → HoldsText tag line text text_line first texted
-held_text tag line text text_line first reading texted read held = (reading, read, held)
-
-pub headed_text : (text cs ds : List ℕ) (line first notes : ℕ) (pieces qs : List Piece) (reading : Reading) (texts : List (List (List ℕ))) (nodes : List Node) (made : Heads) → cs ≡ text → ds ≡ text → qs ≡ pieces → IsPieces cs 0 pieces → ReadsText text line first reading → texts ≡ texts_of ds qs → notes ≡ length reading.notes.items → nodes ≡ reading.nodes.items → made.heads.items ≡ heads_of notes line (groups_of texts nodes) → made.notes.items ≡ reading.notes.items → HeadsText text line first made
+pub headed_text : (text cs ds : List ℕ) (line first notes : ℕ) (pieces qs : List Piece) (reading : Pieces) (texts : List (List (List ℕ))) (nodes : List Node) (made : Heads) → cs ≡ text → ds ≡ text → qs ≡ pieces → IsPieces cs 0 pieces → IsRead text line first reading → texts ≡ texts_of ds qs → notes ≡ length reading.notes.items → nodes ≡ reading.nodes.items → made.heads.items ≡ heads_of notes line (groups_of texts nodes) → made.notes.items ≡ reading.notes.items → HeadsText text line first made
 headed_text text cs ds line first notes pieces qs reading texts nodes made same alike listed are read those many all heads messages = (
   pieces,
   reading,

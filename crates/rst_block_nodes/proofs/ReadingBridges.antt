@@ -1,30 +1,31 @@
 -- What is read of a text is what the functions of the text give.
-use Rattle.std.proofs.Common.{◌≡◌, ℕ, List, [], map, length, Ok, ap, ap₂, sym, ◌∙◌}
+use Rattle.std.proofs.Common.{◌≡◌, ℕ, List, length, Ok, ap, ap₂, sym, ◌∙◌}
 use Rattle.rst_inline_scan.specs.Pieces.{IsPieces}
 use Rattle.rst_inline_scan.specs.Reading.{pieces_of}
 use Rattle.rst_inline_scan.specs.declared.piece.Piece.{Piece}
 use Rattle.rst_inline_scan.proofs.PieceLemmas.{IsPieces-unique}
 use Rattle.rst_inline_scan.proofs.ReadingLemmas.{pieces_of-pieces}
-use Rattle.rst_inline.specs.Results.{nodes_behind, notes_of}
+use Rattle.rst_inline.specs.Results.{messages_from, nodes_behind, notes_of, IsRead}
+use Rattle.rst_inline.specs.declared.nodes.Pieces.{Pieces}
+use Rattle.rst_tree.specs.Sends.{counted_on}
 use Rattle.rst_tree.specs.declared.node.Node.{Node}
 use Rattle.rst_tree.specs.declared.tag.Tag.{Tag}
 use Rattle.rst_block_nodes.specs.declared.terms.Heads.{Heads}
-use Rattle.rst_block_nodes.specs.declared.texted.Reading.{Reading}
 use Rattle.rst_block_nodes.specs.declared.texted.Texted.{Texted}
 use Rattle.rst_block_nodes.specs.Elements.{element_of}
 use Rattle.rst_block_nodes.specs.Readings.{read_nodes, read_notes, texted_node, term_nodes, texted, termed}
-use Rattle.rst_block_nodes.specs.Results.{HoldsText, HeadsText, ReadsText}
+use Rattle.rst_block_nodes.specs.Results.{HoldsText, HeadsText}
 use Rattle.rst_block_nodes.specs.Terms.{texts_of, groups_of, heads_of}
-use Rattle.rst_block_nodes.specs.Texts.{counted_on, counting, messages_from, numbered_on}
+use Rattle.rst_block_nodes.specs.Texts.{counting}
 
 pieces_are : (t : List ℕ) (ps : List Piece) → IsPieces t 0 ps → ps ≡ pieces_of t
 pieces_are t ps h = IsPieces-unique t 0 ps (pieces_of t) h (pieces_of-pieces t)
 
-reading_is : (t : List ℕ) (line first : ℕ) (r : Reading) → ReadsText t line first r → (r.nodes.items ≡ read_nodes t line first) × (r.notes.items ≡ read_notes t line first)
+reading_is : (t : List ℕ) (line first : ℕ) (r : Pieces) → IsRead t line first r → (r.nodes.items ≡ read_nodes t line first) × (r.notes.items ≡ read_notes t line first)
 reading_is t line first r h =
-    let same : h.1.0 ≡ pieces_of t = pieces_are t h.1.0 h.1.1 in (
-      h.2.nodes ∙ ap (map (numbered_on first)) (h.1.2.nodes ∙ ap (nodes_behind t line []) same),
-      h.2.notes ∙ ap (messages_from first) (h.1.2.notes ∙ ap (notes_of t line) same),
+    let same : h.0 ≡ pieces_of t = pieces_are t h.0 h.1 in (
+      h.2.nodes ∙ ap (nodes_behind t line first) same,
+      h.2.notes ∙ ap (λ ps. messages_from first (notes_of t line ps)) same,
     )
 
 pub texted-is : (tag : Tag) (line : ℕ) (t : List ℕ) (text_line first : ℕ) (made : Texted) → HoldsText tag line t text_line first made

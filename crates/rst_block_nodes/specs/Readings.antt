@@ -1,21 +1,22 @@
 -- The nodes of a text with inline markup, and the messages on it, as functions of the text (Markup Specification, 'Inline Markup',
 -- 'Definition Lists').
-use Rattle.std.specs.Prelude.{◌≡◌, ℕ, List, [], map, length, Ok}
+use Rattle.std.specs.Prelude.{◌≡◌, ℕ, List, length, Ok}
+use Rattle.rst_tree.specs.Sends.{counted_on}
 use Rattle.rst_tree.specs.declared.node.Node.{Node}
 use Rattle.rst_tree.specs.declared.tag.Tag.{Tag}
 use Rattle.rst_inline_scan.specs.Reading.{pieces_of}
-use Rattle.rst_inline.specs.Results.{nodes_behind, notes_of}
+use Rattle.rst_inline.specs.Results.{messages_from, nodes_behind, notes_of}
 use Rattle.rst_block_nodes.specs.declared.terms.Heads.{Heads}
 use Rattle.rst_block_nodes.specs.declared.texted.Texted.{Texted}
 use Rattle.rst_block_nodes.specs.Elements.{element_of}
 use Rattle.rst_block_nodes.specs.Numbered.{Numbered}
 use Rattle.rst_block_nodes.specs.Results.{HoldsText, HeadsText}
 use Rattle.rst_block_nodes.specs.Terms.{texts_of, groups_of, heads_of}
-use Rattle.rst_block_nodes.specs.Texts.{counted_on, counting, messages_from, numbered_on}
+use Rattle.rst_block_nodes.specs.Texts.{counting}
 
 -- the nodes of a text, where the messages on it are numbered from `first` on
 abbrev pub read_nodes : List ℕ → ℕ → ℕ → List Node
-read_nodes t line first = map (numbered_on first) (nodes_behind t line [] (pieces_of t))
+read_nodes t line first = nodes_behind t line first (pieces_of t)
 
 -- the messages on a text, which are numbered from `first` on and have the number of this line
 abbrev pub read_notes : List ℕ → ℕ → ℕ → List Node

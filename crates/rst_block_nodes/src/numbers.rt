@@ -1,5 +1,6 @@
 //! The numbers by which messages of texts and their problematics know each other.
-ghost use Rattle.std.specs.Prelude.{◌≡◌, ◌+◌, ◌-◌, ◌^◌, ◌<◌, min};
+ghost use Rattle.std.specs.Prelude.{◌≡◌, ◌^◌, ◌<◌};
+ghost use Rattle.rst_tree.specs.Sends.{counted_on};
 
 use std::marker::Model;
 
@@ -39,14 +40,10 @@ impl Numbers {
         let _given = self.given;
     }
 
-    /// Gives `n` messages more their numbers, of which this is the first. The sum can't pass the largest `u64`: each message
-    /// takes memory.
-    pub(crate) fn take(&mut self, n: usize) -> u64
-        ensures first { result ≡ self.old }
-        ensures given { self.new ≡ min (self.old + n) (2 ^ 64 - 1) }
+    /// Gives `n` messages more their numbers. The sum can't pass the largest `u64`: each message takes memory.
+    pub(crate) fn give(&mut self, n: usize)
+        ensures { self.new ≡ counted_on self.old n }
     {
-        let first = self.given;
-        self.given = first.saturating_add(n as u64);
-        first
+        self.given = self.given.saturating_add(n as u64);
     }
 }

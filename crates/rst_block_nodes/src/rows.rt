@@ -140,16 +140,16 @@ pub fn labels()
 
 /// What may stand in a replacement text (Directives, 'Replacement Text').
 pub fn replacements()
-    ensures roles { may_replace (nodes_behind (codes "*a* **b** ``c`` :sub:`d` :sup:`e` `f` |g| h") 1 []
+    ensures roles { may_replace (nodes_behind (codes "*a* **b** ``c`` :sub:`d` :sup:`e` `f` |g| h") 1 0
         (pieces_of (codes "*a* **b** ``c`` :sub:`d` :sup:`e` `f` |g| h"))) ≡ true }
-    ensures references { may_replace (nodes_behind (codes "a_ http://b") 1 [] (pieces_of (codes "a_ http://b"))) ≡ true }
-    ensures embedded { may_replace (nodes_behind (codes "`a <u>`__ `a <b_>`_") 1 [] (pieces_of (codes "`a <u>`__ `a <b_>`_"))) ≡ true }
-    ensures anonymous { may_replace (nodes_behind (codes "a__") 1 [] (pieces_of (codes "a__"))) ≡ false }
-    ensures round_a_substitution { may_replace (nodes_behind (codes "|a|_") 1 [] (pieces_of (codes "|a|_"))) ≡ false }
-    ensures target { may_replace (nodes_behind (codes "_`a`") 1 [] (pieces_of (codes "_`a`"))) ≡ false }
-    ensures footnote { may_replace (nodes_behind (codes "[1]_") 1 [] (pieces_of (codes "[1]_"))) ≡ false }
-    ensures citation { may_replace (nodes_behind (codes "[a]_") 1 [] (pieces_of (codes "[a]_"))) ≡ false }
-    ensures problematic { may_replace (nodes_behind (codes "*a") 1 [] (pieces_of (codes "*a"))) ≡ false }
+    ensures references { may_replace (nodes_behind (codes "a_ http://b") 1 0 (pieces_of (codes "a_ http://b"))) ≡ true }
+    ensures embedded { may_replace (nodes_behind (codes "`a <u>`__ `a <b_>`_") 1 0 (pieces_of (codes "`a <u>`__ `a <b_>`_"))) ≡ true }
+    ensures anonymous { may_replace (nodes_behind (codes "a__") 1 0 (pieces_of (codes "a__"))) ≡ false }
+    ensures round_a_substitution { may_replace (nodes_behind (codes "|a|_") 1 0 (pieces_of (codes "|a|_"))) ≡ false }
+    ensures target { may_replace (nodes_behind (codes "_`a`") 1 0 (pieces_of (codes "_`a`"))) ≡ false }
+    ensures footnote { may_replace (nodes_behind (codes "[1]_") 1 0 (pieces_of (codes "[1]_"))) ≡ false }
+    ensures citation { may_replace (nodes_behind (codes "[a]_") 1 0 (pieces_of (codes "[a]_"))) ≡ false }
+    ensures problematic { may_replace (nodes_behind (codes "*a") 1 0 (pieces_of (codes "*a"))) ≡ false }
 {}
 
 /// Parts of tables (Markup Specification, 'Grid Tables').

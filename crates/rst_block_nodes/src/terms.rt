@@ -1,16 +1,16 @@
 //! Terms of definition lists, with their classifiers.
-ghost use Rattle.std.specs.Prelude.{◌≡◌, ◌≤◌, false, List, [], ◌∷◌, map, length, IfOk, Ok};
+ghost use Rattle.std.specs.Prelude.{◌≡◌, ◌≤◌, false, [], ◌∷◌, map, length, IfOk, Ok};
 ghost use Rattle.std.specs.Str.{chars};
 ghost use Rattle.rst_tree.specs.Faults.{Gives};
-ghost use Rattle.rst_inline.specs.Parts.{part};
+ghost use Rattle.rst_tree.specs.Sends.{counted_on};
 ghost use Rattle.rst_block_nodes.specs.Readings.{termed};
 ghost use Rattle.rst_block_nodes.specs.Results.{HeadsText};
-ghost use Rattle.rst_block_nodes.specs.Texts.{counted_on};
 ghost use Rattle.rst_block_nodes.specs.Terms.{IsPut, groups_of, heads_behind, heads_of, texts_of, letters_from, parts_of, is_bare, is_delimiter, begins_with_space, ends_in_space, dark_len, spelled};
 
 use super::nodes::element_of;
 use super::numbers::Numbers;
-use super::texted::{Reading, counting, read};
+use super::texted::counting;
+use rst_inline::{Pieces, inline, part};
 use rst_inline_scan::{Kind, Piece, escapes, pieces_of};
 use rst_text::{characters_of, is_white};
 use rst_tree::{Attrs, Node, Result, Tag, Text};
@@ -41,7 +41,8 @@ pub fn term_and_classifiers(
     let characters = characters_of(alloc, text)?;
     let pieces = pieces_of(alloc, &characters)?;
     let parts = plain_parts(alloc, &characters, &pieces)?;
-    let Reading { nodes, notes } = read(alloc, text, line, numbers)?;
+    let Pieces { nodes, notes } = inline(alloc, text, line, numbers.given())?;
+    numbers.give(notes.len());
     let heads = heads_of(alloc, nodes, parts, notes.len(), line)?;
     Ok(Heads { heads, notes })
 }
@@ -68,14 +69,6 @@ fn plain_parts(alloc: Global, text: &[char], pieces: &[Piece]) -> Result<Vec<Vec
         }
     }
     Ok(parts)
-}
-
-/// The characters from a place on, up to another place.
-fn part(text: &[char], low: usize, high: usize) -> &[char]
-    ensures { result.now ≡ part text.now low high }
-{
-    let high = high.min(text.len());
-    &text[low.min(high)..high]
 }
 
 /// The characters that are left when escapes are gone: a backslash vanishes, and white behind one.

@@ -1,10 +1,10 @@
 -- Texts that were read are those of the definition.
 use Rattle.std.proofs.Common.{◌≡◌, ℕ, List, [], ◌∷◌, length, Option, Ok, sym, ap, ◌∙◌}
+use Rattle.rst_tree.specs.Sends.{counted_on}
 use Rattle.rst_tree.specs.declared.node.Node.{Node}
 use Rattle.rst_tree.specs.declared.tag.Tag.{Tag}
 use Rattle.rst_tree.specs.declared.tag.Tag.TheVariants.{Title as TitleTag}
 use Rattle.rst_block_nodes.specs.Results.{HoldsText}
-use Rattle.rst_block_nodes.specs.Texts.{counted_on}
 use Rattle.rst_block_nodes.specs.declared.texted.Texted.{Texted}
 use Rattle.rst_block_nodes.proofs.ReadingBridges.{texted_read}
 use Rattle.rst_block_sections.specs.declared.heading.Style.{Style}

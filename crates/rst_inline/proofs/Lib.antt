@@ -1,6 +1,5 @@
 pub mod Computing
 pub mod TextLemmas
 pub mod EmbeddedLemmas
-pub mod ReadLemmas
 pub mod WrittenLemmas
 pub mod QuietLemmas

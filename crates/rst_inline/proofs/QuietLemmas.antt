@@ -13,7 +13,7 @@ use Rattle.rst_inline.specs.declared.nodes.Pieces.{Pieces}
 use Rattle.rst_inline.specs.Elements.{text_children}
 use Rattle.rst_inline.specs.Parts.{source}
 use Rattle.rst_inline.specs.Readings.{plain_reading, reading}
-use Rattle.rst_inline.specs.Results.{nodes_by, notes_by, notes_of, nodes_behind, IsRead}
+use Rattle.rst_inline.specs.Results.{messages_from, nodes_by, notes_by, notes_of, nodes_behind, IsRead}
 
 -- the piece that is all of a text
 abbrev all_of : Text → Piece
@@ -26,15 +26,15 @@ reading-all t line h =
     let written : source t (all_of t) ≡ t = take_all (length t) t (omega arith) in
     ap plain_reading (ap unescaped written ∙ unescaped-plain t (quiet-plain t h))
 
-pub quiet-nodes : (t : Text) (line : ℕ) → quiet t ≡ true → nodes_of (text_children t) ≡ nodes_behind t line [] (whole t)
-quiet-nodes [] line h = refl
-quiet-nodes (c ∷ cs) line h = sym (ap (λ m. nodes_by m 0 (source (c ∷ cs) (all_of (c ∷ cs))) line ++ []) (reading-all (c ∷ cs) line h))
+pub quiet-nodes : (t : Text) (line first : ℕ) → quiet t ≡ true → nodes_of (text_children t) ≡ nodes_behind t line first (whole t)
+quiet-nodes [] line first h = refl
+quiet-nodes (c ∷ cs) line first h = sym (ap (λ m. nodes_by m first (source (c ∷ cs) (all_of (c ∷ cs))) line ++ []) (reading-all (c ∷ cs) line h))
 
 quiet-notes : (t : Text) (line : ℕ) → quiet t ≡ true → [] ≡ notes_of t line (whole t)
 quiet-notes [] line h = refl
 quiet-notes (c ∷ cs) line h = sym (ap (λ m. notes_by m line ++ []) (reading-all (c ∷ cs) line h))
 
 -- what was read of a quiet text
-pub quiet-read : (t : Text) (line : ℕ) (read : Pieces) → quiet t ≡ true → read.nodes.items ≡ nodes_of (text_children t) → read.notes.items ≡ [] → IsRead t line read
-quiet-read t line read h nodes notes =
-    (whole t, quiet-pieces t h, record { nodes = nodes ∙ quiet-nodes t line h; notes = notes ∙ quiet-notes t line h })
+pub quiet-read : (t : Text) (line first : ℕ) (read : Pieces) → quiet t ≡ true → read.nodes.items ≡ nodes_of (text_children t) → read.notes.items ≡ [] → IsRead t line first read
+quiet-read t line first read h nodes notes =
+    (whole t, quiet-pieces t h, record { nodes = nodes ∙ quiet-nodes t line first h; notes = notes ∙ ap (messages_from first) (quiet-notes t line h) })

@@ -35,22 +35,17 @@ text_element tag attrs cs line = Element tag attrs (text_children cs) line
 
 -- A reference has the name by which it is known to its reader, its source, and the name that it refers to, unless it is
 -- anonymous.
-abbrev pub reference_attrs : Suffix → Text → Text → List Attr
-reference_attrs Nameless source shown = attr Anonymous (Number 1) ∷ attr Name (said (normalized_white shown)) ∷ attr Rawsource (said source) ∷ []
-reference_attrs _ source shown = attr Name (said (normalized_white shown)) ∷ attr Rawsource (said source) ∷ attr Refname (said (name_of shown)) ∷ []
+abbrev pub reference_attrs : Suffix → Text → Text → Text → List Attr
+reference_attrs Nameless source shown name = attr Anonymous (Number 1) ∷ attr Name (said (normalized_white shown)) ∷ attr Rawsource (said source) ∷ []
+reference_attrs _ source shown name = attr Name (said (normalized_white shown)) ∷ attr Rawsource (said source) ∷ attr Refname (said (name_of name)) ∷ []
 
--- a reference by a simple name, or by a phrase in which nothing is embedded
-abbrev pub reference_node : Suffix → Text → Text → ℕ → Node
-reference_node suffix source shown line = text_element Reference (reference_attrs suffix source shown) shown line
+-- a reference by a name: that which it shows, or an embedded alias
+abbrev pub reference_node : Suffix → Text → Text → Text → ℕ → Node
+reference_node suffix source shown name line = text_element Reference (reference_attrs suffix source shown name) shown line
 
 -- a standalone URI
 abbrev pub uri_node : Text → ℕ → Node
 uri_node source line = text_element Reference (attr Rawsource (said source) ∷ attr Refuri (said source) ∷ []) source line
-
--- a phrase with an embedded alias
-abbrev pub alias_node : Text → Text → Text → ℕ → Node
-alias_node source shown name line =
-    text_element Reference (attr Name (said (normalized_white shown)) ∷ attr Rawsource (said source) ∷ attr Refname (said (name_of name)) ∷ []) shown line
 
 -- a phrase with an embedded URI
 abbrev pub embedded_node : Text → Text → Text → ℕ → Node
@@ -116,6 +111,6 @@ label_reference_node source (c ∷ cs) line =
 
 -- ---- problems
 
--- what is wrong as it is written, with the place of its message among those of the text
+-- what is wrong as it is written, with the number of its message
 abbrev pub problematic_node : ℕ → Text → ℕ → Node
-problematic_node place source line = text_element Problematic (attr Message (Number place) ∷ []) source line
+problematic_node number source line = text_element Problematic (attr Message (Number number) ∷ []) source line

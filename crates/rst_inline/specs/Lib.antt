@@ -1,5 +1,4 @@
 pub mod Parts
-pub mod Faults
 pub mod Roles
 pub mod Embedded
 pub mod Elements

@@ -22,7 +22,7 @@ use Rattle.rst_inline.specs.declared.reading.Meaning.TheVariants.{Nothing, One, 
 use Rattle.rst_inline.specs.Parts.{part, source, content, spelled}
 use Rattle.rst_inline.specs.Roles.{role_tag}
 use Rattle.rst_inline.specs.Embedded.{embedded_at, enclosed, is_alias, meant, shown_by}
-use Rattle.rst_inline.specs.Elements.{text_element, reference_node, uri_node, alias_node, embedded_node, inline_target_node, uri_target_node, substitution_node, outer_node, label_reference_node}
+use Rattle.rst_inline.specs.Elements.{text_element, reference_node, uri_node, embedded_node, inline_target_node, uri_target_node, substitution_node, outer_node, label_reference_node}
 
 -- ---- messages
 
@@ -34,10 +34,6 @@ unended_phrase Literal = UnendedLiteral
 unended_phrase Target = UnendedTarget
 unended_phrase Substitution = UnendedSubstitution
 unended_phrase Interpreted = UnendedInterpreted
-
--- a start-string without an end, which gives a warning
-abbrev pub unended : Markup → Meaning
-unended markup = Wrong Warning (phrase_text (unended_phrase markup))
 
 -- a role that no element belongs to, which gives an error
 abbrev pub unknown_role : List ℕ → Meaning
@@ -65,14 +61,14 @@ substitution_reading suffix inner outer shown line = One (outer_node suffix oute
 
 -- A phrase with an embedded alias refers to a name; one with an embedded URI leaves a target, too, unless it is anonymous.
 abbrev pub embedded_reading : Suffix → Text → Text → Text → Bool → ℕ → Meaning
-embedded_reading suffix source shown meaning true line = One (alias_node source shown meaning line)
+embedded_reading suffix source shown meaning true line = One (reference_node Named source shown meaning line)
 embedded_reading Named source shown meaning false line = Two (embedded_node source shown meaning line) (uri_target_node shown meaning line)
 embedded_reading suffix source shown meaning false line = One (embedded_node source shown meaning line)
 
 -- a phrase that is a reference, with the place of what is embedded in it, if there is something
 abbrev pub phrase_reading_at : Suffix → Text → Text → Option ℕ → ℕ → Meaning
 phrase_reading_at suffix source phrase (Some k) line = embedded_reading suffix source (shown_by phrase k) (meant (enclosed phrase k)) (is_alias (enclosed phrase k)) line
-phrase_reading_at suffix source phrase None line = One (reference_node suffix source (unescaped phrase) line)
+phrase_reading_at suffix source phrase None line = One (reference_node suffix source (unescaped phrase) (unescaped phrase) line)
 
 -- a phrase that is a reference
 abbrev pub phrase_reading : Suffix → Text → Text → ℕ → Meaning
@@ -110,22 +106,19 @@ interpreted_reading false Role t p line = role_reading (suffix_role t p) (unesca
 interpreted_reading false Named t p line = phrase_reading Named (source t p) (content t p) line
 interpreted_reading false Anonymous t p line = phrase_reading Anonymous (source t p) (content t p) line
 
--- what markup with both its strings means: what it encloses, without escapes unless it is a literal, in an element of its kind
-abbrev pub marked_reading : Markup → Suffix → Text → Piece → ℕ → Meaning
-marked_reading Strong suffix t p line = One (text_element tag.Strong [] (unescaped (content t p)) line)
-marked_reading Emphasis suffix t p line = One (text_element tag.Emphasis [] (unescaped (content t p)) line)
-marked_reading Literal suffix t p line = One (text_element tag.Literal [] (content t p) line)
-marked_reading Target suffix t p line = One (inline_target_node (unescaped (content t p)) line)
-marked_reading Substitution suffix t p line = substitution_reading suffix (part t p.from (p.content_to + 1)) (source t p) (unescaped (content t p)) line
-marked_reading Interpreted suffix t p line = interpreted_reading (has_prefix_role p) suffix t p line
-
--- what a piece of a kind means
+-- What a piece of a kind means. Markup with both its strings means what it encloses, without escapes unless it is a literal, in an element of
+-- its kind. A start-string without an end gives a warning.
 abbrev pub reading_by : Kind → Text → Piece → ℕ → Meaning
 reading_by Plain t p line = plain_reading (unescaped (source t p))
-reading_by (Marked markup suffix) t p line = marked_reading markup suffix t p line
-reading_by (Unended markup) t p line = unended markup
+reading_by (Marked Strong suffix) t p line = One (text_element tag.Strong [] (unescaped (content t p)) line)
+reading_by (Marked Emphasis suffix) t p line = One (text_element tag.Emphasis [] (unescaped (content t p)) line)
+reading_by (Marked Literal suffix) t p line = One (text_element tag.Literal [] (content t p) line)
+reading_by (Marked Target suffix) t p line = One (inline_target_node (unescaped (content t p)) line)
+reading_by (Marked Substitution suffix) t p line = substitution_reading suffix (part t p.from (p.content_to + 1)) (source t p) (unescaped (content t p)) line
+reading_by (Marked Interpreted suffix) t p line = interpreted_reading (has_prefix_role p) suffix t p line
+reading_by (Unended markup) t p line = Wrong Warning (phrase_text (unended_phrase markup))
 reading_by Label t p line = One (label_reference_node (source t p) (content t p) line)
-reading_by (Reference suffix) t p line = One (reference_node suffix (source t p) (content t p) line)
+reading_by (Reference suffix) t p line = One (reference_node suffix (source t p) (content t p) (content t p) line)
 reading_by Uri t p line = One (uri_node (source t p) line)
 
 -- what a piece means

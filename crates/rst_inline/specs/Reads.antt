@@ -36,7 +36,7 @@ message_line note = (0, level_name note.level ++ codes ": " ++ note.text)
 
 -- the lines of the nodes and then of the messages of pieces of a text
 abbrev pub shown_lines : Text → List Piece → List Line
-shown_lines t pieces = lines_of_all 0 (forest_of (nodes_behind t 1 [] pieces)) ++ map message_line (notes_of t 1 pieces)
+shown_lines t pieces = lines_of_all 0 (forest_of (nodes_behind t 1 0 pieces)) ++ map message_line (notes_of t 1 pieces)
 
 -- a text means the nodes, and then the messages, that these lines show
 abbrev pub Shows : String → List String → Type 0

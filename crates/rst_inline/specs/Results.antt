@@ -1,6 +1,8 @@
 -- What an inline text means (Markup Specification, 'Inline Markup'; Document Tree, 'problematic').
-use Rattle.std.specs.Prelude.{◌≡◌, ℕ, List, [], ◌∷◌, ◌++◌, length, None}
+use Rattle.std.specs.Prelude.{◌≡◌, ℕ, List, [], ◌∷◌, ◌++◌, None}
 use Rattle.std.specs.List.{flat_map}
+use Rattle.rst_tree.specs.Messages.{numbered_node}
+use Rattle.rst_tree.specs.Sends.{counted_on}
 use Rattle.rst_tree.specs.declared.node.Node.{Node}
 use Rattle.rst_tree.specs.declared.note.Note.{Note}
 use Rattle.rst_inline_scan.specs.Characters.{Text}
@@ -22,24 +24,33 @@ notes_by _ line = []
 abbrev pub notes_of : Text → ℕ → List Piece → List Note
 notes_of t line pieces = flat_map (λ p. notes_by (reading t line p) line) pieces
 
--- the nodes of a piece, whose message, if it has one, has this place among those of the text
-abbrev pub nodes_by : Meaning → ℕ → Text → ℕ → List Node
-nodes_by Nothing place source line = []
-nodes_by (One node) place source line = node ∷ []
-nodes_by (Two node next) place source line = node ∷ next ∷ []
-nodes_by (Wrong level text) place source line = problematic_node place source line ∷ []
+-- the messages as nodes, numbered from the first on
+abbrev pub messages_from : ℕ → List Note → List Node
+messages_from first [] = []
+messages_from first (note ∷ notes) = numbered_node first note ∷ messages_from (counted_on first 1) notes
 
--- the nodes of pieces in order, behind other pieces: the message of a piece stands behind all those of the pieces before it
-abbrev pub nodes_behind : Text → ℕ → List Piece → List Piece → List Node
-nodes_behind t line before [] = []
-nodes_behind t line before (p ∷ ps) =
-    nodes_by (reading t line p) (length (notes_of t line before)) (source t p) line ++ nodes_behind t line (before ++ p ∷ []) ps
+-- the nodes of a piece, where the next message has this number
+abbrev pub nodes_by : Meaning → ℕ → Text → ℕ → List Node
+nodes_by Nothing number source line = []
+nodes_by (One node) number source line = node ∷ []
+nodes_by (Two node next) number source line = node ∷ next ∷ []
+nodes_by (Wrong level text) number source line = problematic_node number source line ∷ []
+
+-- the number of the next message behind a piece, where it was this before it
+abbrev pub number_behind : Meaning → ℕ → ℕ
+number_behind (Wrong level text) number = counted_on number 1
+number_behind _ number = number
+
+-- the nodes of pieces in order, where the next message has this number
+abbrev pub nodes_behind : Text → ℕ → ℕ → List Piece → List Node
+nodes_behind t line number [] = []
+nodes_behind t line number (p ∷ ps) = nodes_by (reading t line p) number (source t p) line ++ nodes_behind t line (number_behind (reading t line p) number) ps
 
 -- the nodes and the messages are those of the pieces
-pub record Reads (t : Text) (line : ℕ) (pieces : List Piece) (read : Pieces) : Type 0 where
-  pub nodes : read.nodes.items ≡ nodes_behind t line [] pieces
-  pub notes : read.notes.items ≡ notes_of t line pieces
+pub record Reads (t : Text) (line first : ℕ) (pieces : List Piece) (read : Pieces) : Type 0 where
+  pub nodes : read.nodes.items ≡ nodes_behind t line first pieces
+  pub notes : read.notes.items ≡ messages_from first (notes_of t line pieces)
 
 -- They are those of the pieces of the text, of which there is exactly one list.
-abbrev pub IsRead : Text → ℕ → Pieces → Type 0
-IsRead t line read = (pieces : List Piece) × IsPieces t 0 pieces × Reads t line pieces read
+abbrev pub IsRead : Text → ℕ → ℕ → Pieces → Type 0
+IsRead t line first read = (pieces : List Piece) × IsPieces t 0 pieces × Reads t line first pieces read

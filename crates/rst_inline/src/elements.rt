@@ -1,14 +1,13 @@
 //! Elements of inline markup.
-ghost use Rattle.std.specs.Prelude.{◌≡◌, []};
+ghost use Rattle.std.specs.Prelude.{◌≡◌};
 ghost use Rattle.std.specs.Str.{chars};
 ghost use Rattle.rst_tree.specs.Forest.{bare};
 ghost use Rattle.rst_tree.specs.declared.node.Node.TheVariants.{Element};
-ghost use Rattle.rst_inline.specs.Elements.{text_children, text_element, inline_target_node, uri_target_node, problematic_node};
-ghost use Rattle.rst_inline.specs.Faults.{Gives};
+ghost use Rattle.rst_inline.specs.Elements.{text_children, text_element, uri_target_node, problematic_node};
+ghost use Rattle.rst_tree.specs.Faults.{Gives};
 
-use super::fault::Result;
 use super::texts::{name_said, said};
-use rst_tree::{Attrs, Children, Entry, Key, Node, Tag, Text, Value};
+use rst_tree::{Attrs, Children, Entry, Key, Node, Result, Tag, Text, Value};
 use std::alloc::Global;
 
 /// The nodes of a text: none where it is empty.
@@ -42,13 +41,6 @@ pub(crate) fn element(
     })
 }
 
-/// An element without attributes that holds a text.
-pub(crate) fn plain_element(alloc: Global, tag: Tag, shown: &str, line: usize) -> Result<Node>
-    ensures { Gives (λ node. node ≡ text_element tag [] (chars shown.now) line) result }
-{
-    element(alloc, tag, Vec::new(alloc), shown, line)
-}
-
 /// An element with attributes that holds nothing.
 pub(crate) fn bare_element(alloc: Global, tag: Tag, attrs: Vec<Entry>, line: usize) -> Node
     ensures { result ≡ Element tag attrs.items bare line }
@@ -59,18 +51,6 @@ pub(crate) fn bare_element(alloc: Global, tag: Tag, attrs: Vec<Entry>, line: usi
         children: Children::new(alloc),
         line,
     }
-}
-
-/// An inline target, named by its text.
-pub(crate) fn target(alloc: Global, shown: &str, line: usize) -> Result<Node>
-    ensures { Gives (λ node. node ≡ inline_target_node (chars shown.now) line) result }
-{
-    let name = name_said(alloc, shown)?;
-    let attrs = vec![in alloc;
-        Entry::new(Key::Inline, Value::Number(1)),
-        Entry::new(Key::OwnName, name),
-    ]?;
-    element(alloc, Tag::Target, attrs, shown, line)
 }
 
 /// The target that an embedded URI leaves, named by its phrase.
@@ -87,12 +67,12 @@ pub(crate) fn uri_target(alloc: Global, shown: &str, uri: &str, line: usize) -> 
     Ok(bare_element(alloc, Tag::Target, attrs, line))
 }
 
-/// What is wrong as it is written, with the place of its message among those of the text.
-pub(crate) fn problematic(alloc: Global, place: usize, source: &str, line: usize) -> Result<Node>
-    ensures { Gives (λ node. node ≡ problematic_node place (chars source.now) line) result }
+/// What is wrong as it is written, with the number of its message.
+pub(crate) fn problematic(alloc: Global, number: u64, source: &str, line: usize) -> Result<Node>
+    ensures { Gives (λ node. node ≡ problematic_node number (chars source.now) line) result }
 {
     // Registration adds two: its id and the id of its message.
     let mut attrs = Vec::with_capacity(alloc, 3)?;
-    attrs.push(Entry::new(Key::Message, Value::Number(place as u64)))?;
+    attrs.push_reserved(Entry::new(Key::Message, Value::Number(number)));
     element(alloc, Tag::Problematic, attrs, source, line)
 }

@@ -3,23 +3,17 @@ ghost use Rattle.std.specs.Prelude.{◌≡◌};
 ghost use Rattle.std.specs.Str.{chars};
 ghost use Rattle.std.specs.List.{list_all};
 ghost use Rattle.rst_inline.specs.Elements.{is_digit, label_tag, manual_reference_node, autonumbered_reference_node, autosymbol_reference_node, label_reference_node};
-ghost use Rattle.rst_inline.specs.Faults.{Gives};
+ghost use Rattle.rst_tree.specs.Faults.{Gives};
 
 use super::elements::{bare_element, element};
-use super::fault::Result;
 use super::texts::{name_said, said, spell};
-use rst_tree::{Entry, Key, Node, Tag, Value};
+use rst_tree::{Entry, Key, Node, Result, Tag, Value};
 use std::alloc::Global;
 
 fn are_digits(label: &[char]) -> bool
     ensures { result ≡ list_all is_digit label.now }
 {
-    for c in label {
-        if !is_digit(*c) {
-            return false;
-        }
-    }
-    true
+    label.iter().all(|c| is_digit(*c))
 }
 
 fn is_digit(c: char) -> bool

@@ -3,7 +3,6 @@
 
 mod elements;
 mod embedded;
-mod fault;
 mod labels;
 mod nodes;
 mod reading;
@@ -13,7 +12,6 @@ pub mod rows;
 mod texts;
 mod written;
 
-pub use fault::InlineFault;
 pub use nodes::{Pieces, inline};
 pub use rst_inline_scan::plain_uri;
-pub use texts::unescape;
+pub use texts::{part, unescape};

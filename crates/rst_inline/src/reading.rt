@@ -2,28 +2,26 @@
 ghost use Rattle.std.specs.Prelude.{◌<◌, ◌≤◌, ◌+◌, true, ◌≡◌, [], length, IfOk};
 ghost use Rattle.std.specs.Str.{chars};
 ghost use Rattle.std.specs.Cow.{cow_str_bytes};
+ghost use Rattle.rst_tree.specs.Faults.{Gives};
+ghost use Rattle.rst_tree.specs.declared.note.Level.TheVariants.{Warning};
 ghost use Rattle.rst_tree.specs.declared.tag.Tag.TheVariants.{Literal};
 ghost use Rattle.rst_inline_scan.specs.Escapes.{unescaped};
 ghost use Rattle.rst_inline_scan.specs.Pieces.{IsWithin};
-ghost use Rattle.rst_inline.specs.declared.reading.Meaning.TheVariants.{One};
+ghost use Rattle.rst_inline.specs.declared.reading.Meaning.TheVariants.{One, Wrong};
 ghost use Rattle.rst_inline.specs.Elements.{text_element, inline_target_node, label_reference_node, reference_node, uri_node};
 ghost use Rattle.rst_inline.specs.Embedded.{meant, shown_by};
 ghost use Rattle.rst_inline.specs.Parts.{part, source, content};
-ghost use Rattle.rst_inline.specs.Readings.{unended_phrase, unended, unknown_role, two_roles, mismatch, plain_reading, substitution_reading, embedded_reading, phrase_reading, role_reading, has_prefix_role, interpreted_reading, marked_reading, reading};
-ghost use Rattle.rst_inline.specs.Faults.{Gives};
+ghost use Rattle.rst_inline.specs.Readings.{unended_phrase, unknown_role, plain_reading, substitution_reading, embedded_reading, phrase_reading, role_reading, has_prefix_role, interpreted_reading, reading};
 
-use super::elements::{plain_element, target, uri_target};
+use super::elements::{element, text_nodes, uri_target};
 use super::embedded::{dark_end, embedded_at, enclosed, has_white, is_alias};
-use super::fault::Result;
 use super::labels::label_reference;
-use super::references::{
-    alias_reference, embedded_reference, outer_reference, reference, substitution, uri_reference,
-};
+use super::references::{embedded_reference, outer_reference, reference, substitution};
 use super::roles::role_tag;
-use super::texts::{part, spell};
+use super::texts::{name_said, part, said, spell};
 use super::written::Written;
 use rst_inline_scan::{Kind, Markup, Piece, Suffix, unescaped, without_white};
-use rst_tree::{Level, Node, Phrase, Tag, Text};
+use rst_tree::{Attrs, Entry, Key, Level, Node, Phrase, Result, Tag, Text, Value};
 use std::alloc::{AllocError, Global};
 use std::borrow::CowStr;
 
@@ -50,36 +48,16 @@ fn unended_phrase(markup: Markup) -> Phrase
     }
 }
 
-fn unended(alloc: Global, markup: Markup) -> Meaning
-    ensures { result ≡ unended markup }
-{
-    Meaning::Wrong(
-        Level::Warning,
-        Text::of_phrase(alloc, unended_phrase(markup)),
-    )
-}
-
 fn unknown_role(alloc: Global, name: &str) -> Result<Meaning>
     ensures { Gives (λ reading. reading ≡ unknown_role name.now) result }
 {
-    let mut text = String::from_str(alloc, "Unknown interpreted text role \"")?;
-    text.push_str(name)?;
-    text.push_str("\".")?;
+    let text = format!(in alloc; "Unknown interpreted text role \"{name}\".")?;
     Ok(Meaning::Wrong(Level::Error, Text::new(text)))
 }
 
-fn two_roles(alloc: Global) -> Result<Meaning>
-    ensures { Gives (λ reading. reading ≡ two_roles) result }
+fn warning(alloc: Global, text: &str) -> Result<Meaning>
+    ensures { Gives (λ reading. reading ≡ Wrong Warning text.now) result }
 {
-    let text =
-        "Multiple roles in interpreted text (both prefix and suffix present; only one allowed).";
-    Ok(Meaning::Wrong(Level::Warning, Text::from_str(alloc, text)?))
-}
-
-fn mismatch(alloc: Global) -> Result<Meaning>
-    ensures { Gives (λ reading. reading ≡ mismatch) result }
-{
-    let text = "Mismatch: both interpreted text role and reference suffix.";
     Ok(Meaning::Wrong(Level::Warning, Text::from_str(alloc, text)?))
 }
 
@@ -102,15 +80,21 @@ impl Written<'_> {
         ensures { Gives (λ reading. reading ≡ One (text_element tag [] (unescaped (content self.now.characters.items piece)) self.now.line)) result }
     {
         let shown = self.unescaped(piece.content_from, piece.content_to)?;
-        let node = plain_element(self.alloc, tag, shown.as_str(), self.line)?;
-        Ok(Meaning::One(node))
+        let children = text_nodes(self.alloc, shown.as_str())?;
+        Ok(Meaning::One(Node::Element {
+            tag,
+            attrs: Attrs::new(self.alloc),
+            children,
+            line: self.line,
+        }))
     }
 
     fn literal(&self, piece: Piece) -> Result<Meaning>
         ensures { Gives (λ reading. reading ≡ One (text_element Literal [] (content self.now.characters.items piece) self.now.line)) result }
     {
         let shown = self.part(piece.content_from, piece.content_to);
-        let node = plain_element(self.alloc, Tag::Literal, shown, self.line)?;
+        let attrs = Vec::new(self.alloc);
+        let node = element(self.alloc, Tag::Literal, attrs, shown, self.line)?;
         Ok(Meaning::One(node))
     }
 
@@ -118,7 +102,12 @@ impl Written<'_> {
         ensures { Gives (λ reading. reading ≡ One (inline_target_node (unescaped (content self.now.characters.items piece)) self.now.line)) result }
     {
         let shown = self.unescaped(piece.content_from, piece.content_to)?;
-        let node = target(self.alloc, shown.as_str(), self.line)?;
+        let shown = shown.as_str();
+        let attrs = vec![in self.alloc;
+            Entry::new(Key::Inline, Value::Number(1)),
+            Entry::new(Key::OwnName, name_said(self.alloc, shown)?),
+        ]?;
+        let node = element(self.alloc, Tag::Target, attrs, shown, self.line)?;
         Ok(Meaning::One(node))
     }
 
@@ -188,7 +177,7 @@ impl Written<'_> {
         ensures { Gives (λ reading. reading ≡ embedded_reading suffix (chars source.now) (chars shown.now) (chars meaning.now) is_alias self.now.line) result }
     {
         if is_alias {
-            let node = alias_reference(self.alloc, source, shown, meaning, self.line)?;
+            let node = reference(self.alloc, Suffix::Named, source, shown, meaning, self.line)?;
             return Ok(Meaning::One(node));
         }
         let node = embedded_reference(self.alloc, source, shown, meaning, self.line)?;
@@ -215,7 +204,8 @@ impl Written<'_> {
             return self.embedded(suffix, source, shown.as_str(), meaning.as_str(), alias);
         }
         let shown = self.unescaped(piece.content_from, piece.content_to)?;
-        let node = reference(self.alloc, suffix, source, shown.as_str(), self.line)?;
+        let shown = shown.as_str();
+        let node = reference(self.alloc, suffix, source, shown, shown, self.line)?;
         Ok(Meaning::One(node))
     }
 
@@ -238,8 +228,14 @@ impl Written<'_> {
             Suffix::Bare => {
                 self.with_role(self.part(piece.from + 1, piece.content_from - 2), piece)
             }
-            Suffix::Role => two_roles(self.alloc),
-            Suffix::Named | Suffix::Anonymous => mismatch(self.alloc),
+            Suffix::Role => warning(
+                self.alloc,
+                "Multiple roles in interpreted text (both prefix and suffix present; only one allowed).",
+            ),
+            Suffix::Named | Suffix::Anonymous => warning(
+                self.alloc,
+                "Mismatch: both interpreted text role and reference suffix.",
+            ),
         }
     }
 
@@ -258,21 +254,6 @@ impl Written<'_> {
         }
     }
 
-    /// Markup with its end-string.
-    fn marked(&self, markup: Markup, suffix: Suffix, piece: Piece) -> Result<Meaning>
-        requires { IsWithin self.now.characters.items piece }
-        ensures { Gives (λ reading. reading ≡ marked_reading markup suffix self.now.characters.items piece self.now.line) result }
-    {
-        match markup {
-            Markup::Strong => self.shown_in(Tag::Strong, piece),
-            Markup::Emphasis => self.shown_in(Tag::Emphasis, piece),
-            Markup::Literal => self.literal(piece),
-            Markup::Target => self.inline_target(piece),
-            Markup::Substitution => self.substituted(suffix, piece),
-            Markup::Interpreted => self.interpreted(suffix, piece),
-        }
-    }
-
     /// A reference to a footnote or a citation.
     fn label(&self, piece: Piece) -> Result<Meaning>
         ensures { Gives (λ reading. reading ≡ One (label_reference_node (source self.now.characters.items piece) (content self.now.characters.items piece) self.now.line)) result }
@@ -285,11 +266,11 @@ impl Written<'_> {
 
     /// A reference by a simple name.
     fn named(&self, suffix: Suffix, piece: Piece) -> Result<Meaning>
-        ensures { Gives (λ reading. reading ≡ One (reference_node suffix (source self.now.characters.items piece) (content self.now.characters.items piece) self.now.line)) result }
+        ensures { Gives (λ reading. let shown = content self.now.characters.items piece in reading ≡ One (reference_node suffix (source self.now.characters.items piece) shown shown self.now.line)) result }
     {
         let source = self.part(piece.from, piece.to);
-        let shown = self.part(piece.content_from, piece.content_to);
-        let node = reference(self.alloc, suffix, source, shown, self.line)?;
+        let name = self.part(piece.content_from, piece.content_to);
+        let node = reference(self.alloc, suffix, source, name, name, self.line)?;
         Ok(Meaning::One(node))
     }
 
@@ -297,7 +278,12 @@ impl Written<'_> {
     fn uri(&self, piece: Piece) -> Result<Meaning>
         ensures { Gives (λ reading. reading ≡ One (uri_node (source self.now.characters.items piece) self.now.line)) result }
     {
-        let node = uri_reference(self.alloc, self.part(piece.from, piece.to), self.line)?;
+        let source = self.part(piece.from, piece.to);
+        let attrs = vec![in self.alloc;
+            Entry::new(Key::Rawsource, said(self.alloc, source)?),
+            Entry::new(Key::Refuri, said(self.alloc, source)?),
+        ]?;
+        let node = element(self.alloc, Tag::Reference, attrs, source, self.line)?;
         Ok(Meaning::One(node))
     }
 
@@ -309,8 +295,16 @@ impl Written<'_> {
     {
         match piece.kind {
             Kind::Plain => self.plain(piece),
-            Kind::Marked(markup, suffix) => self.marked(markup, suffix, piece),
-            Kind::Unended(markup) => Ok(unended(self.alloc, markup)),
+            Kind::Marked(Markup::Strong, _) => self.shown_in(Tag::Strong, piece),
+            Kind::Marked(Markup::Emphasis, _) => self.shown_in(Tag::Emphasis, piece),
+            Kind::Marked(Markup::Literal, _) => self.literal(piece),
+            Kind::Marked(Markup::Target, _) => self.inline_target(piece),
+            Kind::Marked(Markup::Substitution, suffix) => self.substituted(suffix, piece),
+            Kind::Marked(Markup::Interpreted, suffix) => self.interpreted(suffix, piece),
+            Kind::Unended(markup) => Ok(Meaning::Wrong(
+                Level::Warning,
+                Text::of_phrase(self.alloc, unended_phrase(markup)),
+            )),
             Kind::Label => self.label(piece),
             Kind::Reference(suffix) => self.named(suffix, piece),
             Kind::Uri => self.uri(piece),

@@ -1,32 +1,37 @@
 //! References, and the substitutions that they stand round.
 ghost use Rattle.std.specs.Prelude.{◌≡◌};
 ghost use Rattle.std.specs.Str.{chars};
-ghost use Rattle.rst_inline.specs.Elements.{reference_attrs, reference_node, uri_node, alias_node, embedded_node, substitution_node, outer_attrs, outer_node};
-ghost use Rattle.rst_inline.specs.Faults.{Gives};
+ghost use Rattle.rst_inline.specs.Elements.{reference_attrs, reference_node, embedded_node, substitution_node, outer_attrs, outer_node};
+ghost use Rattle.rst_tree.specs.Faults.{Gives};
 
 use super::elements::element;
-use super::fault::Result;
 use super::texts::{name_said, normalized_said, said};
 use rst_inline_scan::Suffix;
-use rst_tree::{Attrs, Children, Entry, Key, Node, Tag, Value};
+use rst_tree::{Attrs, Children, Entry, Key, Node, Result, Tag, Value};
 use std::alloc::Global;
 
-/// The attributes of a reference by the name that it shows, with room for the one that tells where it leads, once that is found.
-fn reference_attrs(alloc: Global, suffix: Suffix, source: &str, shown: &str) -> Result<Vec<Entry>>
-    ensures { Gives (λ attrs. attrs.items ≡ reference_attrs suffix (chars source.now) (chars shown.now)) result }
+/// The attributes of a reference by a name, with room for the one that tells where it leads, once that is found.
+fn reference_attrs(
+    alloc: Global,
+    suffix: Suffix,
+    source: &str,
+    shown: &str,
+    name: &str,
+) -> Result<Vec<Entry>>
+    ensures { Gives (λ attrs. attrs.items ≡ reference_attrs suffix (chars source.now) (chars shown.now) (chars name.now)) result }
 {
-    let name = normalized_said(alloc, shown)?;
+    let own = normalized_said(alloc, shown)?;
     let written = said(alloc, source)?;
     let mut attrs = Vec::with_capacity(alloc, 4)?;
     match suffix {
         Suffix::Anonymous => {
             attrs.push_reserved(Entry::new(Key::Anonymous, Value::Number(1)));
-            attrs.push_reserved(Entry::new(Key::Name, name));
+            attrs.push_reserved(Entry::new(Key::Name, own));
             attrs.push_reserved(Entry::new(Key::Rawsource, written));
         }
         _ => {
-            let refname = name_said(alloc, shown)?;
-            attrs.push_reserved(Entry::new(Key::Name, name));
+            let refname = name_said(alloc, name)?;
+            attrs.push_reserved(Entry::new(Key::Name, own));
             attrs.push_reserved(Entry::new(Key::Rawsource, written));
             attrs.push_reserved(Entry::new(Key::Refname, refname));
         }
@@ -34,50 +39,18 @@ fn reference_attrs(alloc: Global, suffix: Suffix, source: &str, shown: &str) -> 
     Ok(attrs)
 }
 
-/// A reference by the name that it shows, or an anonymous one.
+/// A reference by a name, or an anonymous one.
 pub(crate) fn reference(
     alloc: Global,
     suffix: Suffix,
     source: &str,
     shown: &str,
+    name: &str,
     line: usize,
 ) -> Result<Node>
-    ensures { Gives (λ node. node ≡ reference_node suffix (chars source.now) (chars shown.now) line) result }
+    ensures { Gives (λ node. node ≡ reference_node suffix (chars source.now) (chars shown.now) (chars name.now) line) result }
 {
-    let attrs = reference_attrs(alloc, suffix, source, shown)?;
-    element(alloc, Tag::Reference, attrs, shown, line)
-}
-
-/// A standalone URI.
-pub(crate) fn uri_reference(alloc: Global, source: &str, line: usize) -> Result<Node>
-    ensures { Gives (λ node. node ≡ uri_node (chars source.now) line) result }
-{
-    let written = said(alloc, source)?;
-    let uri = said(alloc, source)?;
-    let attrs = vec![in alloc;
-        Entry::new(Key::Rawsource, written),
-        Entry::new(Key::Refuri, uri),
-    ]?;
-    element(alloc, Tag::Reference, attrs, source, line)
-}
-
-/// A phrase with an embedded alias.
-pub(crate) fn alias_reference(
-    alloc: Global,
-    source: &str,
-    shown: &str,
-    alias: &str,
-    line: usize,
-) -> Result<Node>
-    ensures { Gives (λ node. node ≡ alias_node (chars source.now) (chars shown.now) (chars alias.now) line) result }
-{
-    let name = normalized_said(alloc, shown)?;
-    let written = said(alloc, source)?;
-    let refname = name_said(alloc, alias)?;
-    let mut attrs = Vec::with_capacity(alloc, 4)?;
-    attrs.push_reserved(Entry::new(Key::Name, name));
-    attrs.push_reserved(Entry::new(Key::Rawsource, written));
-    attrs.push_reserved(Entry::new(Key::Refname, refname));
+    let attrs = reference_attrs(alloc, suffix, source, shown, name)?;
     element(alloc, Tag::Reference, attrs, shown, line)
 }
 

@@ -37,7 +37,7 @@ pub fn markup()
     ensures backslash_alone { Shows "\\" [] }
     ensures two_lines { Shows "*a\nb* c\nd" ("<emphasis>" ∷ "    a" ∷ "    b" ∷ " c" ∷ "d" ∷ []) }
     ensures target { Shows "_`A  b\\_`" ("<target inline=\"1\" own_name=\"a b_\">" ∷ "    A  b_" ∷ []) }
-    ensures line { nodes_behind (codes "*a*") 7 [] (pieces_of (codes "*a*")) ≡ Element Emphasis [] (words (codes "a") bare) 7 ∷ [] }
+    ensures line { nodes_behind (codes "*a*") 7 0 (pieces_of (codes "*a*")) ≡ Element Emphasis [] (words (codes "a") bare) 7 ∷ [] }
 {}
 
 /// References by a name and by a phrase (Markup Specification, 'Hyperlink References').

@@ -6,18 +6,17 @@ ghost use Rattle.rst_text.specs.Text.{chars_of};
 ghost use Rattle.rst_inline_scan.specs.Escapes.{unescaped};
 ghost use Rattle.rst_inline.specs.Parts.{part, spelled};
 ghost use Rattle.rst_inline.specs.Elements.{said};
-ghost use Rattle.rst_inline.specs.Faults.{Gives};
+ghost use Rattle.rst_tree.specs.Faults.{Gives};
 
-use super::fault::Result;
 use rst_inline_scan::unescaped;
 use rst_text::{characters_of, name_borrowed, normalized_borrowed};
-use rst_tree::{Text, Value};
+use rst_tree::{Result, Text, TreeFault, Value};
 use std::alloc::{AllocError, Global};
 
 /// The text without its escapes: a backslash vanishes, and white behind one; any other character behind one stays
 /// (Markup Specification, 'Escaping Mechanism').
 ///
-/// The only refusal is [`InlineFault::NoMemory`].
+/// The only refusal is [`TreeFault::NoMemory`].
 pub fn unescape(alloc: Global, text: &str) -> Result<String>
     ensures { Gives (λ out. chars_of out ≡ unescaped (chars text.now)) result }
 {
@@ -51,7 +50,7 @@ pub(crate) fn said(alloc: Global, text: &str) -> Result<Value>
 pub(crate) fn name_said(alloc: Global, text: &str) -> Result<Value>
     ensures { Gives (λ value. value ≡ said (names.name_of (chars text.now))) result }
 {
-    let name = name_borrowed(alloc, text)?;
+    let name = name_borrowed(alloc, text).map_err(|_| TreeFault::NoMemory)?;
     said(alloc, name.as_str())
 }
 
@@ -59,12 +58,12 @@ pub(crate) fn name_said(alloc: Global, text: &str) -> Result<Value>
 pub(crate) fn normalized_said(alloc: Global, text: &str) -> Result<Value>
     ensures { Gives (λ value. value ≡ said (names.normalized_white (chars text.now))) result }
 {
-    let name = normalized_borrowed(alloc, text)?;
+    let name = normalized_borrowed(alloc, text).map_err(|_| TreeFault::NoMemory)?;
     said(alloc, name.as_str())
 }
 
 /// The characters from a place on, up to another place.
-pub(crate) fn part(text: &[char], low: usize, high: usize) -> &[char]
+pub fn part(text: &[char], low: usize, high: usize) -> &[char]
     ensures { result.now ≡ part text.now low high }
 {
     let high = high.min(text.len());

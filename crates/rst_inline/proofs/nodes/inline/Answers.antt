@@ -1,17 +1,17 @@
-use Rattle.std.proofs.Common.{◌≡◌, true, sym, subst, arith}
+use Rattle.std.proofs.Common.{◌≡◌, ◌∙◌, true, sym, ap, subst, arith}
+use Rattle.std.specs.Str.{chars}
+use Rattle.rst_tree.specs.Nodes.{nodes_of}
 use Rattle.rst_inline_scan.specs.Pieces.{IsPieces}
 use Rattle.rst_inline_scan.specs.Quiet.{quiet}
 use Rattle.rst_inline_scan.proofs.PieceLemmas.{IsPieces-within}
 use Rattle.rst_inline_scan.proofs.QuietLemmas.{quiet-chars}
+use Rattle.rst_inline.proofs.QuietLemmas.{quiet-read}
 use Rattle.rst_inline.proofs.nodes.inline.Goals as goal
 
-pub quiet-requires : goal.quiet-requires
-quiet-requires c =
-    let bytes : quiet c.args.text.now ≡ true = cc in
-    quiet-chars c.args.text.now c.utf8.text bytes
-
 pub returns-then-is_quiet : goal.returns-then-is_quiet
-returns-then-is_quiet c = c.quiet.ensures c.args.line
+returns-then-is_quiet c =
+    let bytes : quiet c.args.text.now ≡ true = cc in
+    quiet-read (chars c.args.text.now) c.args.line c.args.first _ (quiet-chars c.args.text.now c.utf8.text bytes) (c.into_list.ensures.nodes ∙ ap nodes_of c.in_ok-children.ensures) c.new.ensures.items
 
 pub read-requires : goal.read-requires
 read-requires c =

@@ -2,7 +2,7 @@ use Rattle.std.proofs.Common.{◌≡◌, ◌<◌, ◌+◌, ◌∙◌, length, So
 use Rattle.std.specs.Str.{chars}
 use Rattle.rst_inline_scan.specs.Characters.{Text}
 use Rattle.rst_inline.specs.Embedded.{embedded_at, enclosed, is_alias, meant, shown_by}
-use Rattle.rst_inline.specs.Faults.{Gives}
+use Rattle.rst_tree.specs.Faults.{Gives}
 use Rattle.rst_inline.specs.Parts.{content, source}
 use Rattle.rst_inline.proofs.EmbeddedLemmas.{enclosed-part, phrase-embedded}
 use Rattle.rst_inline.proofs.written.Written.phrase.Goals as goal

@@ -1,6 +1,6 @@
 use Rattle.std.proofs.Common.{◌≡◌, ◌∙◌, ap, subst}
 use Rattle.rst_inline_scan.specs.Escapes.{unescaped}
-use Rattle.rst_inline.specs.Faults.{Gives}
+use Rattle.rst_tree.specs.Faults.{Gives}
 use Rattle.rst_inline.specs.Parts.{content}
 use Rattle.rst_inline.specs.Readings.{role_reading_by}
 use Rattle.rst_inline.specs.Roles.{role_tag}
