@@ -21,8 +21,8 @@ part-within t low high h l top bottom =
     ap (λ n. drop l (take n t)) top ∙ ap (drop l) (take_min high t) ∙ ap (λ n. drop n (take high t)) (bottom ∙ ap (min low) (top ∙ sym (length-take high t)))
     ∙ drop_min low (take high t)
 
-pub part-is : (t : Text) (low high h l : ℕ) → h ≡ min high (length t) → l ≡ min low h → take (h - l) (drop l t) ≡ part t low high
-part-is t low high h l top bottom =
+pub part_is : (t : Text) (low high h l : ℕ) → h ≡ min high (length t) → l ≡ min low h → take (h - l) (drop l t) ≡ part t low high
+part_is t low high h l top bottom =
     let e : l + (h - l) ≡ h = omega (arith, min-le_right low h) in
     sym (drop-take l (h - l) t) ∙ ap (λ n. drop l (take n t)) e ∙ part-within t low high h l top bottom
 
@@ -40,8 +40,8 @@ unfolding chars
 chars_of_star = refl
 
 -- the bytes of a text are those that its characters spell
-pub spelled-again : (bs : List ℕ) → IsUtf8 bs → bs ≡ spelled (chars bs)
-spelled-again bs utf8 = sym (encodes-chars bs utf8)
+pub spelled_again : (bs : List ℕ) → IsUtf8 bs → bs ≡ spelled (chars bs)
+spelled_again bs utf8 = sym (encodes-chars bs utf8)
 
 -- ---- an empty text
 
@@ -59,7 +59,7 @@ some-words [] bs e h = let none = none-empty bs e in absurd (cc)
 some-words (c ∷ cs) bs e h = ap (λ s. words s bare) e
 
 pub some-children : (bs : List ℕ) → IsUtf8 bs → (length bs == 0) ≡ false → words bs bare ≡ text_children (chars bs)
-some-children bs utf8 h = some-words (chars bs) bs (spelled-again bs utf8) h
+some-children bs utf8 h = some-words (chars bs) bs (spelled_again bs utf8) h
 
 pub no-children : (bs : List ℕ) → (length bs == 0) ≡ true → bare ≡ text_children (chars bs)
 unfolding chars
@@ -67,10 +67,10 @@ no-children bs h = sym (ap (λ (x : List ℕ). text_children (chars x)) (nil-of 
 
 -- ---- what a plain text means
 
-pub some-plain : (cs : Text) (bs : List ℕ) → bs ≡ spelled cs → (length bs == 0) ≡ false → One (Words bs) ≡ plain_reading cs
-some-plain [] bs e h = let none = none-empty bs e in absurd (cc)
-some-plain (c ∷ cs) bs e h = ap (λ s. One (Words s)) e
+pub some_plain : (cs : Text) (bs : List ℕ) → bs ≡ spelled cs → (length bs == 0) ≡ false → One (Words bs) ≡ plain_reading cs
+some_plain [] bs e h = let none = none-empty bs e in absurd (cc)
+some_plain (c ∷ cs) bs e h = ap (λ s. One (Words s)) e
 
-pub no-plain : (cs : Text) (bs : List ℕ) → chars bs ≡ cs → (length bs == 0) ≡ true → Nothing ≡ plain_reading cs
+pub no_plain : (cs : Text) (bs : List ℕ) → chars bs ≡ cs → (length bs == 0) ≡ true → Nothing ≡ plain_reading cs
 unfolding chars
-no-plain cs bs e h = sym (ap plain_reading (sym e ∙ ap chars (nil-of bs h)))
+no_plain cs bs e h = sym (ap plain_reading (sym e ∙ ap chars (nil-of bs h)))

@@ -63,6 +63,7 @@ fn warning(alloc: Global, text: &str) -> Result<Meaning>
 
 impl Written<'_> {
     /// Plain text without its escapes.
+    #[tactic(auto, using(crate::proofs::TextLemmas::spelled_again, crate::proofs::TextLemmas::some_plain, crate::proofs::TextLemmas::no_plain))]
     fn plain(&self, piece: Piece) -> Result<Meaning>
         ensures { Gives (λ reading. reading ≡ plain_reading (unescaped (source self.now.characters.items piece))) result }
     {
@@ -210,6 +211,7 @@ impl Written<'_> {
     }
 
     /// Interpreted text with a role.
+    #[tactic(auto, using(crate::proofs::TextLemmas::spelled_again))]
     fn with_role(&self, role: &str, piece: Piece) -> Result<Meaning>
         ensures { Gives (λ reading. reading ≡ role_reading (chars role.now) (unescaped (content self.now.characters.items piece)) self.now.line) result }
     {

@@ -39,6 +39,7 @@ pub(crate) fn spell(alloc: Global, characters: &[char]) -> Result<String, AllocE
 }
 
 /// A value that says a text.
+#[tactic(auto, using(crate::proofs::TextLemmas::spelled_again))]
 pub(crate) fn said(alloc: Global, text: &str) -> Result<Value>
     ensures { Gives (λ value. value ≡ said (chars text.now)) result }
 {
@@ -63,6 +64,7 @@ pub(crate) fn normalized_said(alloc: Global, text: &str) -> Result<Value>
 }
 
 /// The characters from a place on, up to another place.
+#[tactic(auto, using(crate::proofs::TextLemmas::part_is))]
 pub fn part(text: &[char], low: usize, high: usize) -> &[char]
     ensures { result.now ≡ part text.now low high }
 {
