@@ -37,9 +37,9 @@ last-below p low high (Some i) h = h.1
 last-below p low high None h = tt
 
 -- what stands between the brackets is not empty
-pub fits-inner : (t : Text) (k : ℕ) → fits_angle t k ≡ true → k + 2 < length t
+pub fits_inner : (t : Text) (k : ℕ) → fits_angle t k ≡ true → k + 2 < length t
 unfolding fits_angle
-fits-inner t k h = ltb-true (k + 2) (length t) (and_parts (nat_lt (k + 2) (length t)) _ h).0
+fits_inner t k h = ltb-true (k + 2) (length t) (and_parts (nat_lt (k + 2) (length t)) _ h).0
 
 -- ---- the end of what is not white
 

@@ -61,7 +61,7 @@ fn fits_angle(text: &[char], place: usize) -> bool
 }
 
 /// Where the `<` of an embedded URI or alias stands at the end of a phrase, if it has one.
-#[tactic(auto, unfolding(crate::specs::Embedded::embedded_at))]
+#[tactic(auto, unfolding(crate::specs::Embedded::embedded_at), using(crate::proofs::EmbeddedLemmas::fits_inner))]
 pub(crate) fn embedded_at(phrase: &[char]) -> Option<usize>
     ensures exact { result ≡ embedded_at phrase.now }
     ensures below { IfSome result (λ place. place + 2 < length phrase.now) }
