@@ -1,5 +1,5 @@
 -- The bounds of a grid's columns and rows.
-use Rattle.std.proofs.Common.{⊎_elim, ◌≡◌, ℕ, zero, suc, ◌+◌, ◌<◌, ◌≤◌, Bool, true, false, ◌&&◌, ◌||◌, eqb, List, [], ◌∷◌, length, drop, get_or, refl, sym, ap, ◌∙◌, arith}
+use Rattle.std.proofs.Common.{⊎_elim, ◌≡◌, ℕ, zero, suc, ◌+◌, ◌<◌, ◌≤◌, Bool, true, false, ◌&&◌, ◌||◌, eqb, List, [], ◌∷◌, ◌++◌, length, take, drop, get_or, refl, sym, subst, ap, ◌∙◌, arith}
 use Rattle.std.proofs.lemmas.List.{drop_more}
 use Rattle.std.proofs.lemmas.Bool.{cases_lt, le-leb, lt-leb, and_from, and_left, and_right}
 use Rattle.std.specs.List.{list_any}
@@ -8,6 +8,7 @@ use Rattle.rst_markup_tables.specs.Marks.{Marks}
 use Rattle.rst_markup_tables.specs.Drawn.{IsDrawn, AreDrawn}
 use Rattle.rst_markup_tables.specs.GridTable.{is_between, bounds_column, bounds_row}
 use Rattle.rst_markup_tables.specs.declared.drawn.Rectangle.{Rectangle}
+use Rattle.rst_markup_tables.proofs.Lists.{whole}
 
 pub drawn_at : (G : Grid) (i j : ℕ) (rs : List Rectangle) → AreDrawn G i j rs → (k : ℕ) → k < length rs → (d : Rectangle) → IsDrawn G (get_or rs k d)
 drawn_at G i j [] a k below d = absurd (omega arith)
@@ -24,13 +25,13 @@ or_false : (a : Bool) → (a || false) ≡ a
 or_false true = refl
 or_false false = refl
 
-pub any-step : {X : Type 0} (f : X → Bool) (xs : List X) (i : ℕ) (d : X) (old new whole : Bool) → i < length xs → new ≡ (old || f (get_or xs i d))
+any-step : {X : Type 0} (f : X → Bool) (xs : List X) (i : ℕ) (d : X) (old new whole : Bool) → i < length xs → new ≡ (old || f (get_or xs i d))
     → (old || list_any f (drop i xs)) ≡ whole → (new || list_any f (drop (i + 1) xs)) ≡ whole
 any-step f xs i d old new whole below is had =
     ap (λ b. b || list_any f (drop (i + 1) xs)) is ∙ or_regroup old (f (get_or xs i d)) (list_any f (drop (i + 1) xs))
     ∙ ap (λ ys. old || list_any f ys) (sym (drop_more xs i d below)) ∙ had
 
-pub Marks-one : (p : ℕ → Bool) (low high : ℕ) (old new : List Bool) → Marks p low high old new → (k : ℕ) → get_or new k false ≡ (get_or old k false || (is_between low high k && p k))
+Marks-one : (p : ℕ → Bool) (low high : ℕ) (old new : List Bool) → Marks p low high old new → (k : ℕ) → get_or new k false ≡ (get_or old k false || (is_between low high k && p k))
 Marks-one p low high old new m k = ⊎_elim
     (λ before. out (and_left _ _ (lt-leb low k before)) (λ a b. omega arith))
     (λ behind. ⊎_elim
@@ -44,12 +45,22 @@ Marks-one p low high old new m k = ⊎_elim
     out : is_between low high k ≡ false → (low ≤ k → k ≤ high → ⊥) → get_or new k false ≡ (get_or old k false || (is_between low high k && p k))
     out miss far = m.outside k far ∙ sym (ap (λ b. get_or old k false || (b && p k)) miss ∙ or_false (get_or old k false))
 
-pub column-one : (G : Grid) (r : Rectangle) (old new : List Bool) → Marks (λ k. eqb (place G r.top k) 43 || eqb (place G r.bottom k) 43) r.left r.right old new
-    → (k : ℕ) → get_or new k false ≡ (get_or old k false || bounds_column G k r)
-unfolding bounds_column
-column-one G r old new m k = Marks-one _ r.left r.right old new m k
+-- one rectangle more is marked
+pub marks_step : (f : ℕ → Rectangle → Bool) (p : ℕ → Bool) (low high : ℕ) (rs : List Rectangle) (i : ℕ) (d : Rectangle) (n len : ℕ) (old was new : List Bool) → i < length rs → was ≡ old → Marks p low high was new → len ≡ length old → length old ≡ n
+    → ((k : ℕ) → (is_between low high k && p k) ≡ f k (get_or rs i d)) → ((k : ℕ) → k < n → (get_or old k false || list_any (f k) (drop i rs)) ≡ list_any (f k) rs)
+    → (length (take len (new ++ drop (length new) old)) ≡ n) × ((k : ℕ) → k < n → (get_or (take len (new ++ drop (length new) old)) k false || list_any (f k) (drop (i + 1) rs)) ≡ list_any (f k) rs)
+marks_step f p low high rs i d n len old was new below same m fits size is had =
+    let marks : Marks p low high old new = subst (λ (l : List Bool). Marks p low high l new) same m in
+    let items : take len (new ++ drop (length new) old) ≡ new = whole len new (drop (length new) old) (omega (arith, marks.size, fits)) in (
+      ap length items ∙ marks.size ∙ size,
+      λ k inside. any-step (f k) rs i d (get_or old k false) _ _ below
+          (ap (λ (l : List Bool). get_or l k false) items ∙ Marks-one p low high old new marks k ∙ ap (λ b. get_or old k false || b) (is k)) (had k inside),
+    )
 
-pub row-one : (G : Grid) (r : Rectangle) (old new : List Bool) → Marks (λ k. eqb (place G k r.left) 43 || eqb (place G k r.right) 43) r.top r.bottom old new
-    → (k : ℕ) → get_or new k false ≡ (get_or old k false || bounds_row G k r)
+pub column-one : (G : Grid) (r : Rectangle) (k : ℕ) → (is_between r.left r.right k && (eqb (place G r.top k) 43 || eqb (place G r.bottom k) 43)) ≡ bounds_column G k r
+unfolding bounds_column
+column-one G r k = refl
+
+pub row-one : (G : Grid) (r : Rectangle) (k : ℕ) → (is_between r.top r.bottom k && (eqb (place G k r.left) 43 || eqb (place G k r.right) 43)) ≡ bounds_row G k r
 unfolding bounds_row
-row-one G r old new m k = Marks-one _ r.top r.bottom old new m k
+row-one G r k = refl

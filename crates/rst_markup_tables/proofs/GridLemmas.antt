@@ -20,7 +20,7 @@ use Rattle.rst_markup_blocks.specs.TableRows.{through, is_border_at, grid_bottom
 use Rattle.rst_markup_blocks.proofs.LineLemmas.{drop_one}
 use Rattle.rst_markup_blocks.proofs.TableLemmas.{grid_size-is}
 use Rattle.rst_markup_tables.specs.Places.{Row, Grid, no_row, row_of, rows_of}
-use Rattle.rst_markup_tables.specs.Cells.{characters}
+use Rattle.rst_markup_tables.specs.Cells.{characters, AreOfLine}
 use Rattle.rst_markup_tables.specs.GridTable.{dash}
 use Rattle.rst_markup_tables.specs.declared.places.Place.{Place}
 use Rattle.rst_markup_tables.specs.declared.places.Place.TheVariants.{Character, Second}
@@ -85,7 +85,7 @@ table_rows-are X L o rows bottom =
 
 -- ---- the rule between head and body
 
-pub scalars-dashed : (ps : List Place) → all_scalars (characters ps) ≡ true → all_scalars (characters (map dash ps)) ≡ true
+scalars-dashed : (ps : List Place) → all_scalars (characters ps) ≡ true → all_scalars (characters (map dash ps)) ≡ true
 scalars-dashed [] h = refl
 scalars-dashed (Character c ∷ ps) h =
     let parts = and_parts (scalar c) (all_scalars (characters ps)) h in
@@ -94,7 +94,7 @@ scalars-dashed (Character c ∷ ps) h =
     (λ e. and_from (scalar c) (all_scalars (characters (map dash ps))) parts.0 (scalars-dashed ps parts.1))
 scalars-dashed (Second ∷ ps) h = scalars-dashed ps h
 
-pub unended-dashed : (ps : List Place) → list_any is_line_end (characters ps) ≡ false → list_any is_line_end (characters (map dash ps)) ≡ false
+unended-dashed : (ps : List Place) → list_any is_line_end (characters ps) ≡ false → list_any is_line_end (characters (map dash ps)) ≡ false
 unended-dashed [] h = refl
 unended-dashed (Character c ∷ ps) h =
     let parts = or_parts (is_line_end c) (list_any is_line_end (characters ps)) h in
@@ -106,6 +106,9 @@ unended-dashed (Character c ∷ ps) h =
     or_parts true b h = cc
     or_parts false b h = (refl, h)
 unended-dashed (Second ∷ ps) h = unended-dashed ps h
+
+pub dashed-of_line : (ps new : List Place) → new ≡ map dash ps → AreOfLine ps → AreOfLine new
+dashed-of_line ps new e h = record { scalars = ap (λ ps. all_scalars (characters ps)) e ∙ scalars-dashed ps h.scalars; unended = ap (λ ps. list_any is_line_end (characters ps)) e ∙ unended-dashed ps h.unended }
 
 -- ---- rows of a block by their places
 

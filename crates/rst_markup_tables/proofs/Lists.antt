@@ -33,9 +33,6 @@ all_from-more p k high h e = ap (λ n. filter p (range_with_len k n)) (left_more
 pub each_from-more : {X : Type 0} (f : ℕ → X) (k high : ℕ) → k < high → map f (range_with_len k (high - k)) ≡ f k ∷ map f (range_with_len (k + 1) (high - (k + 1)))
 each_from-more f k high h = ap (λ n. map f (range_with_len k n)) (left_more k high h)
 
-pub each_from-end : {X : Type 0} (f : ℕ → X) (k high : ℕ) → high ≤ k → map f (range_with_len k (high - k)) ≡ []
-each_from-end f k high h = let e : high - k ≡ 0 = omega arith in ap (λ n. map f (range_with_len k n)) e
-
 pub range_more : (a n j : ℕ) → a + n ≡ j → range_with_len a (suc n) ≡ range_with_len a n ++ j ∷ []
 range_more a zero j e = let same : a ≡ j = omega arith in ap (λ k. k ∷ []) same
 range_more a (suc n) j e = ap (λ l. a ∷ l) (range_more (a + 1) n j (omega arith))

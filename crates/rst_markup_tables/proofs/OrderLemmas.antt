@@ -33,9 +33,6 @@ spans-order row low (suc n) h = by (begins_span row low) (order-from low (low + 
     by true rest = (omega arith, span_end-above row low (omega (arith, h)), rest)
     by false rest = rest
 
-pub columns-order : (T : Grid) → AreInOrder 0 (columns_of T)
-columns-order T = spans-order (row_at T 0) 0 (length (row_at T 0)) (omega arith)
-
 spread-order : (columns : List RuleSpan) (low : ℕ) (ss : List RuleSpan) → AreInOrder low ss → IfSome (spread columns ss) (AreInOrder low)
 spread-order [] low [] h = tt
 spread-order (c ∷ cs) low [] h = tt

@@ -1,15 +1,14 @@
 -- Simple tables.
-use Rattle.std.proofs.Common.{◌≡◌, ℕ, suc, ◌+◌, ◌-◌, ◌<◌, ◌≤◌, max, Bool, true, false, cond, List, [], ◌∷◌, ◌++◌, get_or, length, drop, take, append_assoc, option_map, map, filter, fold, refl, sym, ap, ap₂, ◌∙◌, arith, Option, Some, None}
+use Rattle.std.proofs.Common.{◌≡◌, ℕ, suc, ◌+◌, ◌-◌, ◌<◌, ◌≤◌, Bool, true, false, cond, List, [], ◌∷◌, ◌++◌, get_or, length, drop, take, append_assoc, option_map, map, filter, refl, sym, ap, ap₂, ◌∙◌, arith, Option, Some, None}
 use Rattle.std.proofs.lemmas.Bool.{ne_eqb, lt-ltb}
-use Rattle.std.proofs.lemmas.List.{map-append}
-use Rattle.std.proofs.lemmas.List.Sums.{position_or_len_is, fold-append}
+use Rattle.std.proofs.lemmas.List.Sums.{position_or_len_is}
 use Rattle.std.specs.Prelude.{position, option_and_then, flat_map}
 use Rattle.std.specs.List.{position_or_len, range_with_len}
 use Rattle.rst_markup_tables.specs.Neighbours.{neighbours}
 use Rattle.rst_markup_tables.specs.declared.simple_rows.RowLines.{RowLines}
 use Rattle.rst_markup_tables.proofs.Lists.{left_more, all_from-take, all_from-more}
 use Rattle.rst_markup_tables.specs.Places.{Grid, Row}
-use Rattle.rst_markup_tables.specs.SimpleTable.{begins_row, row_lines, row_between, section, lines_of_row, last_joined, joining, spread}
+use Rattle.rst_markup_tables.specs.SimpleTable.{begins_row, row_lines, row_between, section, last_joined, joining, spread}
 use Rattle.rst_markup_tables.specs.declared.spans.RuleSpan.{RuleSpan}
 
 -- ---- the place of the first item that passes
@@ -53,18 +52,6 @@ sections_left-more T low rule rules h =
     let before : low - 1 + 1 ≡ low = omega arith in
     let behind : rule ≡ rule + 1 - 1 = omega arith in
     ap₂ (λ n m. section T n rule ++ flat_map (λ (p : ℕ × ℕ). section T (p.0 + 1) p.1) (neighbours (m ∷ rules))) before behind
-
--- ---- the longest line
-
--- how many places the longest of some lines has, or n if that is more
-abbrev pub longest_with : ℕ → Grid → ℕ
-longest_with n lines = fold max n (map (λ (line : Row). length line.places) lines)
-
--- the lines of one row more
-pub longest-row : (T : Grid) (n : ℕ) (r : RowLines) (rs : List RowLines) → longest_with (longest_with n (lines_of_row T r)) (flat_map (lines_of_row T) rs) ≡ longest_with n (flat_map (lines_of_row T) (r ∷ rs))
-longest-row T n r rs =
-    let size : Row → ℕ = λ line. length line.places in
-    sym (ap (fold max n) (map-append size (lines_of_row T r) (flat_map (lines_of_row T) rs)) ∙ fold-append max n (map size (lines_of_row T r)) (map size (flat_map (lines_of_row T) rs)))
 
 -- ---- lines that were read
 

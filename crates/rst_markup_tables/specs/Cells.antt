@@ -1,10 +1,11 @@
 -- What stands in the cells of a table (Markup Specification, 'Grid Tables', 'Simple Tables').
-use Rattle.std.specs.Prelude.{ℕ, ◌-◌, Bool, true, not, nat_lt, List, [], ◌∷◌, take, drop, map, filter, get_or, length, Option, Some, None}
+use Rattle.std.specs.Prelude.{◌≡◌, ℕ, ◌-◌, Bool, true, false, not, nat_lt, List, [], ◌∷◌, take, drop, map, filter, get_or, length, Option, Some, None}
 use Rattle.std.specs.Char.{is_whitespace}
-use Rattle.std.specs.List.{range_with_len}
-use Rattle.std.specs.Str.{drop_trailing_whitespace}
+use Rattle.std.specs.List.{list_any, range_with_len}
+use Rattle.std.specs.Str.{all_scalars, drop_trailing_whitespace}
 use Rattle.rst_text.specs.Block.{Line, Block, is_blank, shorten}
 use Rattle.rst_text.specs.Extent.{least_indent}
+use Rattle.rst_text.specs.Lines.{is_line_end}
 use Rattle.rst_markup_tables.specs.Places.{Row, Grid, no_row, row_at}
 use Rattle.rst_markup_tables.specs.declared.places.Place.{Place}
 use Rattle.rst_markup_tables.specs.declared.places.Place.TheVariants.{Character, Second}
@@ -14,6 +15,11 @@ abbrev pub characters : List Place → List ℕ
 characters [] = []
 characters (Character c ∷ ps) = c ∷ characters ps
 characters (Second ∷ ps) = characters ps
+
+-- characters begin at the places that a text can hold, and none that ends a line
+pub record AreOfLine (ps : List Place) : Type 0 where
+  pub scalars : all_scalars (characters ps) ≡ true
+  pub unended : list_any is_line_end (characters ps) ≡ false
 
 -- no character begins at a place, or a white one
 abbrev pub is_white_place : Place → Bool

@@ -1,6 +1,6 @@
 -- Grid tables: what can be wrong with their lines, and what stands in them (Markup Specification, 'Grid Tables'). Which
 -- lines they are is told by the row of the table of constructs.
-use Rattle.std.specs.Prelude.{◌≡◌, ℕ, ◌+◌, ◌-◌, Bool, ◌&&◌, ◌||◌, ◌==◌, nat_le, List, Option, Some, None, option_map, option_and_then, if◌then◌else◌, get_or, slice_set, length, take, drop, map, filter}
+use Rattle.std.specs.Prelude.{◌≡◌, ℕ, ◌+◌, ◌-◌, Bool, ◌&&◌, ◌||◌, ◌==◌, nat_le, List, Option, Some, None, option_map, unwrap_or, option_and_then, if◌then◌else◌, get_or, slice_set, length, take, drop, map, filter}
 use Rattle.std.specs.List.{list_all, list_any, range_with_len}
 use Rattle.rst_text.specs.Block.{Block, first_number}
 use Rattle.rst_markup_tables.specs.Places.{Row, Grid, no_row, rows_of, row_at, mark_of, mark_at, place, width}
@@ -21,17 +21,10 @@ use Rattle.rst_markup_tables.specs.declared.results.TableResult.TheVariants.{Tab
 
 -- ---- what its rows are
 
--- `=` or `+`
-unfoldable pub is_part : Place → Bool
-is_part p = mark_of p == 61 || mark_of p == 43
-
--- `+=` at the beginning, `=+` at the end
-unfoldable pub has_ends : List Place → Bool
-has_ends row = mark_at row 0 == 43 && (mark_at row 1 == 61 && (mark_at row (length row - 2) == 61 && mark_at row (length row - 1) == 43))
-
 -- a rule between head and body: `+=`, any number of `=` and `+`, `=+`
 unfoldable pub is_head_rule : List Place → Bool
-is_head_rule row = nat_le 4 (length row) && (has_ends row && list_all is_part row)
+is_head_rule row = nat_le 4 (length row)
+    && (mark_at row 0 == 43 && (mark_at row 1 == 61 && (mark_at row (length row - 2) == 61 && (mark_at row (length row - 1) == 43 && list_all (λ p. mark_of p == 61 || mark_of p == 43) row))))
 
 -- the row has the width and ends in `+` or `|`
 unfoldable pub is_whole : ℕ → List Place → Bool
@@ -128,8 +121,7 @@ column_widths G rs = gaps (filter (is_column G rs) (range_with_len 0 (width G)))
 
 -- how many rows lie above the rule between head and body
 abbrev pub head_size : (ℕ → ℕ) → Option ℕ → ℕ
-head_size rank None = 0
-head_size rank (Some k) = rank k
+head_size rank head = unwrap_or (option_map rank head) 0
 
 -- the table in a tiled grid
 abbrev pub tiled_table : Option ℕ → Grid → List Rectangle → ℕ → TableResult

@@ -23,13 +23,9 @@ use Rattle.rst_markup_tables.specs.declared.results.TableResult.TheVariants.{Tab
 
 -- ---- lines
 
--- the mark or a space
-unfoldable pub is_stroke : ℕ → Place → Bool
-is_stroke mark p = mark_of p == mark || mark_of p == 32
-
 -- it begins with the mark, and holds only the mark and spaces
 unfoldable pub is_ruled : ℕ → List Place → Bool
-is_ruled mark row = mark_at row 0 == mark && list_all (is_stroke mark) row
+is_ruled mark row = mark_at row 0 == mark && list_all (λ p. mark_of p == mark || mark_of p == 32) row
 
 -- a border of `=` and spaces, or a span rule of `-` and spaces
 unfoldable pub is_rule : List Place → Bool

@@ -50,28 +50,19 @@ pub(crate) struct Tiling<'a> {
 }
 
 impl Tiling<'_> {
-    /// Which places of a row are bounds of columns.
-    pub(crate) fn column_marks(&self) -> Result<Vec<bool>>
+    /// Which rows are bounds of rows, and which places of a row are bounds of columns.
+    pub(crate) fn bounds(&self) -> Result<(Vec<bool>, Vec<bool>)>
         requires { IsTiling self.now.lines.now self.now.rectangles.now }
-        ensures { IfOk result (λ marks. AreMarked (is_column self.now.lines.now self.now.rectangles.now) (width self.now.lines.now) marks.items) }
+        ensures rows { IfOk result (λ marks. AreMarked (is_row self.now.lines.now self.now.rectangles.now) (length self.now.lines.now) marks.0.items) }
+        ensures columns { IfOk result (λ marks. AreMarked (is_column self.now.lines.now self.now.rectangles.now) (width self.now.lines.now) marks.1.items) }
     {
-        let mut marks = vec![in self.alloc; false; width(self.lines)]?;
+        let mut rows = vec![in self.alloc; false; self.lines.len()]?;
+        let mut columns = vec![in self.alloc; false; width(self.lines)]?;
         for rectangle in self.rectangles {
-            mark_columns(&mut marks, self.lines, *rectangle);
+            mark_rows(&mut rows, self.lines, *rectangle);
+            mark_columns(&mut columns, self.lines, *rectangle);
         }
-        Ok(marks)
-    }
-
-    /// Which rows are bounds of rows.
-    pub(crate) fn row_marks(&self) -> Result<Vec<bool>>
-        requires { IsTiling self.now.lines.now self.now.rectangles.now }
-        ensures { IfOk result (λ marks. AreMarked (is_row self.now.lines.now self.now.rectangles.now) (length self.now.lines.now) marks.items) }
-    {
-        let mut marks = vec![in self.alloc; false; self.lines.len()]?;
-        for rectangle in self.rectangles {
-            mark_rows(&mut marks, self.lines, *rectangle);
-        }
-        Ok(marks)
+        Ok((rows, columns))
     }
 }
 

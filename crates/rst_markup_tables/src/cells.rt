@@ -119,14 +119,8 @@ pub(crate) fn reaching(
 ) -> Result<Vec<usize>>
     ensures { IfOk result (λ found. found.items ≡ filter (reaches lines.now n) among.now) }
 {
-    let mut found = Vec::with_capacity(alloc, among.len())?;
-    for k in among {
-        if row_at(lines, *k).len() > n {
-            found.push(*k)?;
-            continue;
-        }
-    }
-    Ok(found)
+    let among = among.iter().copied();
+    among.filter(|k| row_at(lines, *k).len() > n).collect(alloc)
 }
 
 /// The least indentation of texts that aren't blank, 0 if there is none.

@@ -11,14 +11,9 @@ use std::alloc::Global;
 pub(crate) fn marked(alloc: Global, marks: &[bool]) -> Result<Vec<usize>>
     ensures { IfOk result (λ numbers. numbers.items ≡ filter (λ k. get_or marks.now k false) (range_with_len 0 (length marks.now))) }
 {
-    let mut numbers = Vec::new(alloc);
-    for place in 0..marks.len() {
-        if marks[place] {
-            numbers.push(place)?;
-            continue;
-        }
-    }
-    Ok(numbers)
+    (0..marks.len())
+        .filter(|place| marks.get(*place).copied().unwrap_or(false))
+        .collect(alloc)
 }
 
 /// For each place and the one past the end how many marks before it are set.

@@ -39,10 +39,7 @@ impl Ranks {
     fn head_size(&self, head: Option<usize>) -> usize
         ensures { result ≡ spec.head_size (λ k. get_or self.now.rows.items k 0) head }
     {
-        match head {
-            Some(rule) => self.row(rule),
-            None => 0,
-        }
+        head.map_or(0, |rule| self.row(rule))
     }
 }
 
@@ -102,8 +99,7 @@ impl Tiling<'_> {
         requires head { IfSome head (λ k. k < length self.now.lines.now) }
         ensures { IfOk result (λ table. table ≡ spec.tiled_table head self.now.lines.now self.now.rectangles.now end) }
     {
-        let row_bounds = self.row_marks()?;
-        let column_bounds = self.column_marks()?;
+        let (row_bounds, column_bounds) = self.bounds()?;
         let bounds = marked(self.alloc, &column_bounds)?;
         let widths = gaps(self.alloc, &bounds)?;
         let rows = ranks(self.alloc, &row_bounds)?;

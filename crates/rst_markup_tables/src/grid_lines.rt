@@ -1,5 +1,5 @@
 //! Grid tables: which lines they are, and what is wrong with them.
-ghost use Rattle.std.specs.Prelude.{◌≡◌, ◌+◌, ◌^◌, ◌<◌, ◌≤◌, ◌&&◌, nat_le, length, drop, take, if◌then◌else◌, Some, IfOk, OnOk, IfSome};
+ghost use Rattle.std.specs.Prelude.{◌≡◌, ◌+◌, ◌^◌, ◌<◌, ◌≤◌, ◌&&◌, nat_le, length, map, drop, take, if◌then◌else◌, Some, IfOk, OnOk, IfSome};
 ghost use Rattle.std.specs.List.{list_all};
 ghost use Rattle.std.specs.Str.{chars};
 ghost use Rattle.rst_text.specs.Looked.{capped};
@@ -13,7 +13,7 @@ ghost use Rattle.rst_markup_tables.specs.GridTable as spec;
 
 use super::Result;
 use super::drawn::is_upright;
-use super::places::{Place, TableLine, line_of, mark_at, row_at, width};
+use super::places::{Place, TableLine, consists_of, line_of, mark_at, row_at, width};
 use super::results::TableDetail;
 use rst_markup_blocks::is_drawn;
 use rst_markup_lines::is_grid_border;
@@ -89,52 +89,29 @@ pub(crate) fn grid_lines(
     })
 }
 
-/// Whether a place holds `=` or `+`.
-#[tactic(auto, unfolding(crate::specs::GridTable::is_part))]
-fn is_part(place: Place) -> bool
-    ensures { result ≡ spec.is_part place }
-{
-    place.mark() == '=' || place.mark() == '+'
-}
-
-/// Whether all places hold `=` or `+`.
-fn are_parts(row: &[Place]) -> bool
-    ensures { result ≡ list_all spec.is_part row.now }
-{
-    row.iter().all(|place| is_part(*place))
-}
-
-/// Whether a row begins with `+=` and ends with `=+`.
-#[tactic(auto, unfolding(crate::specs::GridTable::has_ends))]
-fn has_ends(row: &[Place]) -> bool
-    ensures { result ≡ spec.has_ends row.now }
-{
-    mark_at(row, 0) == '+'
-        && mark_at(row, 1) == '='
-        && mark_at(row, row.len().saturating_sub(2)) == '='
-        && mark_at(row, row.len().saturating_sub(1)) == '+'
-}
-
+/// Whether a row begins with `+=`, ends with `=+`, and holds only `=` and `+`.
 #[tactic(auto, unfolding(crate::specs::GridTable::is_head_rule))]
 fn is_head_rule(row: &[Place]) -> bool
     ensures { result ≡ spec.is_head_rule row.now }
 {
-    row.len() >= 4 && has_ends(row) && are_parts(row)
-}
-
-#[tactic(auto, unfolding(crate::specs::GridTable::is_whole))]
-fn is_whole(wide: usize, row: &[Place]) -> bool
-    ensures { result ≡ spec.is_whole wide row.now }
-{
-    row.len() == wide && is_upright(mark_at(row, row.len().saturating_sub(1)))
+    row.len() >= 4
+        && mark_at(row, 0) == '+'
+        && mark_at(row, 1) == '='
+        && mark_at(row, row.len().saturating_sub(2)) == '='
+        && mark_at(row, row.len().saturating_sub(1)) == '+'
+        && consists_of(row, '=', '+')
 }
 
 /// Whether each line has the first one's width and ends in `+` or `|`.
+#[tactic(auto, unfolding(crate::specs::GridTable::is_whole))]
 fn is_square(lines: &[TableLine]) -> bool
     ensures { result ≡ spec.is_square lines.now }
 {
     let wide = width(lines);
-    lines.iter().all(|line| is_whole(wide, line.places()))
+    lines.iter().all(|line| {
+        let row = line.places();
+        row.len() == wide && is_upright(mark_at(row, row.len().saturating_sub(1)))
+    })
 }
 
 /// The first line from place `low` on that is a rule between head and body.
@@ -173,15 +150,11 @@ fn dash(place: Place) -> Place
     }
 }
 
-/// A line with `-` for each `=`.
-fn dashed(alloc: Global, line: &TableLine) -> Result<TableLine>
-    ensures { IfOk result (λ new. new ≡ spec.dashed line.now) }
+/// Places with `-` for each `=`.
+fn dashes(alloc: Global, places: &[Place]) -> Result<Vec<Place>>
+    ensures { IfOk result (λ new. new.items ≡ map spec.dash places.now) }
 {
-    let mut places = Vec::with_capacity(alloc, line.places().len())?;
-    for place in line.places() {
-        places.push(dash(*place))?;
-    }
-    Ok(TableLine::with(line.number(), places))
+    places.iter().map(|place| dash(*place)).collect(alloc)
 }
 
 /// Makes the rule between head and body one of `-`, if there is one.
@@ -194,8 +167,8 @@ pub(crate) fn put_dashes(
     ensures { OnOk result (lines.new.items ≡ spec.with_dashes lines.old.items head) }
 {
     if let Some(k) = head {
-        let line = dashed(alloc, &lines[k])?;
-        lines[k] = line;
+        let places = dashes(alloc, lines[k].places())?;
+        lines[k] = TableLine::with(lines[k].number(), places);
     }
     Ok(())
 }

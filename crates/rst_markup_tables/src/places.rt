@@ -1,10 +1,9 @@
 //! Lines of a table as rows of places.
-ghost use Rattle.std.specs.Prelude.{◌≡◌, ◌+◌, ◌<◌, ◌∷◌, true, false, length, drop, map, IfOk};
-ghost use Rattle.std.specs.List.{list_any};
-ghost use Rattle.std.specs.Str.{chars, all_scalars};
-ghost use Rattle.rst_text.specs.Lines.{is_line_end};
-ghost use Rattle.rst_markup_tables.specs.Cells.{characters};
-ghost use Rattle.rst_markup_tables.specs.Places.{mark_of, is_double, places_of, mark_at, place, row_at, width, rows_of};
+ghost use Rattle.std.specs.Prelude.{◌≡◌, ◌+◌, ◌<◌, ◌∷◌, ◌||◌, ◌==◌, length, drop, map, IfOk};
+ghost use Rattle.std.specs.List.{list_all};
+ghost use Rattle.std.specs.Str.{chars};
+ghost use Rattle.rst_markup_tables.specs.Cells.{AreOfLine};
+ghost use Rattle.rst_markup_tables.specs.Places.{mark_of, places_of, mark_at, place, row_at, width, rows_of};
 ghost use Rattle.rst_markup_tables.specs.declared.places.Place.TheVariants.{Character};
 ghost use Rattle.rst_text.specs.Block.{first_number, front_text};
 ghost use Rattle.rst_text.specs.Shown.{block_of};
@@ -48,28 +47,17 @@ impl Model for TableLine {
 
     ghost view = { λ l. record { number = l.number; places = l.places.items } };
 
-    ghost use Rattle.std.specs.Prelude.{◌≡◌, true, false};
-    ghost use Rattle.std.specs.List.{list_any};
-    ghost use Rattle.std.specs.Str.{all_scalars};
-    ghost use Rattle.rst_text.specs.Lines.{is_line_end};
-    ghost use Rattle.rst_markup_tables.specs.Cells.{characters};
+    ghost use Rattle.rst_markup_tables.specs.Cells.{AreOfLine};
 
-    // The characters are some that a text can hold, and none of them ends a line.
-    ghost invariant = { λ l. (all_scalars (characters l.places.items) ≡ true) × (list_any is_line_end (characters l.places.items) ≡ false) };
+    ghost invariant = { λ l. AreOfLine l.places.items };
 }
 
 impl TableLine {
-    ghost use Rattle.std.specs.Prelude.{true, false, IsTrue};
-    ghost use Rattle.std.specs.List.{list_any};
-    ghost use Rattle.std.specs.Str.{all_scalars};
-    ghost use Rattle.rst_text.specs.Lines.{is_line_end, is_line_text};
-    ghost use Rattle.rst_markup_tables.specs.Cells.{characters};
-    ghost use Rattle.rst_markup_tables.specs.Places.{row_of};
+    ghost use Rattle.rst_markup_tables.specs.Cells.{AreOfLine};
 
     /// The line with this number and these places.
     pub(crate) fn with(number: usize, places: Vec<Place>) -> TableLine
-        requires scalars { all_scalars (characters places.items) ≡ true }
-        requires unended { list_any is_line_end (characters places.items) ≡ false }
+        requires { AreOfLine places.items }
         ensures { result ≡ record { number = number; places = places.items } }
     {
         TableLine { number, places }
@@ -85,19 +73,10 @@ impl TableLine {
     /// The line's places.
     pub(crate) fn places(&self) -> &[Place]
         ensures value { result.now ≡ self.now.places }
-        ensures scalars { all_scalars (characters result.now) ≡ true }
-        ensures unended { list_any is_line_end (characters result.now) ≡ false }
+        ensures of_line { AreOfLine result.now }
     {
         self.places.as_slice()
     }
-}
-
-/// Whether a character takes two places. Widths are those of characters by themselves, whatever stands beside them.
-#[tactic(auto, unfolding(crate::specs::Places::is_double))]
-fn is_double(c: char) -> bool
-    ensures { result ≡ is_double c }
-{
-    c.width().unwrap_or(0) == 2
 }
 
 /// The places of a text.
@@ -122,14 +101,15 @@ fn ascii_places(alloc: Global, bytes: &[u8]) -> Result<Vec<Place>>
     Ok(places)
 }
 
-/// The places of characters.
+/// The places of characters. The width of one is that of the character by itself, whatever stands beside it.
+#[tactic(auto, unfolding(crate::specs::Places::is_double))]
 fn places_from(alloc: Global, characters: &[char]) -> Result<Vec<Place>>
     ensures { IfOk result (λ places. places.items ≡ places_of characters.now) }
 {
     let mut places = Vec::with_capacity(alloc, characters.len())?;
     for c in characters {
         places.push(Place::Character(*c))?;
-        if is_double(*c) {
+        if c.width().unwrap_or(0) == 2 {
             places.push(Place::Second)?;
             continue;
         }
@@ -153,17 +133,21 @@ pub(crate) fn line_of(alloc: Global, view: &View<'_>, k: usize, text: &str) -> R
 pub(crate) fn mark_at(row: &[Place], column: usize) -> char
     ensures { result ≡ mark_at row.now column }
 {
-    match row.get(column) {
-        Some(Place::Character(c)) => *c,
-        _ => '\0',
-    }
+    row.get(column).map_or('\0', |place| place.mark())
+}
+
+/// Whether each place holds one of two characters.
+pub(crate) fn consists_of(row: &[Place], one: char, other: char) -> bool
+    ensures { result ≡ list_all (λ p. mark_of p == one || mark_of p == other) row.now }
+{
+    row.iter()
+        .all(|place| place.mark() == one || place.mark() == other)
 }
 
 /// The places of a line of a table; past its end there are none.
 pub(crate) fn row_at(lines: &[TableLine], row: usize) -> &[Place]
     ensures value { result.now ≡ row_at lines.now row }
-    ensures scalars { all_scalars (characters result.now) ≡ true }
-    ensures unended { list_any is_line_end (characters result.now) ≡ false }
+    ensures of_line { AreOfLine result.now }
 {
     match lines.get(row) {
         Some(line) => line.places(),

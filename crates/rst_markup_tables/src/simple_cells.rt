@@ -1,5 +1,6 @@
 //! The widths and cells of a simple table.
-ghost use Rattle.std.specs.Prelude.{◌≡◌, ◌+◌, ◌-◌, ◌<◌, ◌≤◌, Option, option_map, map, drop, take, length, IfOk};
+ghost use Rattle.std.specs.Prelude.{◌≡◌, ◌+◌, ◌-◌, ◌<◌, ◌≤◌, Option, Some, None, option_map, map, MatchResult, drop, take, length, IfOk};
+ghost use Rattle.std.specs.List.{range_with_len};
 ghost use Rattle.rst_markup_tables.specs.Places.{AreNumbered};
 ghost use Rattle.rst_markup_tables.specs.Results.{cells_of};
 ghost use Rattle.rst_markup_tables.specs.SimpleTable as spec;
@@ -7,23 +8,31 @@ ghost use Rattle.rst_markup_tables.specs.SimpleTable as spec;
 use super::Result;
 use super::cells::{all_places, cell_lines, reaching};
 use super::places::TableLine;
-use super::results::{Cell, Rows, Widths};
+use super::results::{Cell, Rows, TableDetail, Widths};
 use super::simple_rows::{RowLines, SimpleLines};
 use super::spans::{RuleSpan, span_of};
 use std::alloc::Global;
 
 /// How wide a column is.
 fn width_of(columns: &[RuleSpan], longest: usize, k: usize) -> usize
-    requires { k < length columns.now }
     ensures { result ≡ spec.width_of columns.now longest k }
 {
     let column = span_of(columns, k);
     let width = column.to.saturating_sub(column.from);
-    if k + 1 == columns.len() {
+    if columns.len().checked_sub(1) == Some(k) {
         width.max(longest.saturating_sub(column.from))
     } else {
         width
     }
+}
+
+/// How wide each column is.
+fn column_widths(alloc: Global, columns: &[RuleSpan], longest: usize) -> Result<Vec<usize>>
+    ensures { IfOk result (λ widths. widths.items ≡ map (spec.width_of columns.now longest) (range_with_len 0 (length columns.now))) }
+{
+    (0..columns.len())
+        .map(|k| width_of(columns, longest, k))
+        .collect(alloc)
 }
 
 /// Where a span of a row ends: the last has no end.
@@ -74,14 +83,10 @@ impl SimpleLines<'_> {
     fn longest_of(&self, rows: &[RowLines]) -> usize
         ensures { result ≡ spec.longest_of self.now.lines.now rows.now }
     {
-        let mut longest = 0usize;
-        for row in rows {
-            let lines = self.lines_of(*row);
-            for line in lines {
-                longest = longest.max(line.places().len());
-            }
-        }
-        longest
+        rows.iter()
+            .flat_map(|row| self.lines_of(*row))
+            .map(|line| line.places().len())
+            .fold(0, |longest, len| longest.max(len))
     }
 
     /// The widths of the columns.
@@ -90,24 +95,28 @@ impl SimpleLines<'_> {
         ensures { IfOk result (λ widths. widths ≡ spec.simple_widths self.now.lines.now) }
     {
         let longest = self.longest_of(rows);
-        let mut widths = Vec::with_capacity(self.alloc, self.columns.len())?;
-        for k in 0..self.columns.len() {
-            widths.push(width_of(self.columns, longest, k))?;
-        }
+        let widths = column_widths(self.alloc, self.columns, longest)?;
         Ok(Widths::of(widths))
     }
 
-    /// The cells of all rows.
-    pub(crate) fn all_entries(&self, rows: &[RowLines]) -> Result<Rows>
-        ensures { IfOk result (λ all. all ≡ map (spec.row_entries self.now.lines.now) rows.now) }
+    /// The cells of all rows, or the fault of the first line with text between the columns of its row.
+    pub(crate) fn all_entries(
+        &self,
+        rows: &[RowLines],
+    ) -> Result<std::result::Result<Rows, TableDetail>>
+        requires { rows.now ≡ spec.simple_rows self.now.lines.now }
+        ensures { IfOk result (λ found. MatchResult found (λ all. (spec.margin_fault self.now.lines.now ≡ None) × (all ≡ map (spec.row_entries self.now.lines.now) rows.now)) (λ detail. spec.margin_fault self.now.lines.now ≡ Some detail)) }
     {
         let mut all = Vec::with_capacity(self.alloc, rows.len())?;
         for row in rows {
             let spans = self.row_spans(*row)?;
+            if let Some(k) = self.text_in_margin(&spans, *row) {
+                return Ok(Err(TableDetail::Margin { line: k + 1 }));
+            }
             let cells = entries(self.alloc, self.lines_of(*row), &spans)?;
             all.push(cells)?;
         }
-        Ok(Rows::of(all))
+        Ok(Ok(Rows::of(all)))
     }
 }
 

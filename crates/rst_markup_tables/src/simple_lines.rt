@@ -1,37 +1,23 @@
 //! The lines of a simple table: which of them are rules, and the fault of its borders.
 ghost use Rattle.std.specs.Prelude.{◌≡◌, ◌+◌, ◌-◌, ◌<◌, ◌≤◌, length, drop, take, IfOk, IfNone};
-ghost use Rattle.std.specs.List.{list_all};
 ghost use Rattle.rst_text.specs.Looked.{capped};
 ghost use Rattle.rst_text.specs.Shown.{block_of};
 ghost use Rattle.rst_markup_tables.specs.Places.{AreNumbered, rows_of};
 ghost use Rattle.rst_markup_tables.specs.SimpleTable as spec;
 
 use super::Result;
-use super::places::{Place, TableLine, line_of, mark_at};
+use super::places::{Place, TableLine, consists_of, line_of, mark_at};
 use super::results::TableDetail;
 use rst_markup_blocks::is_as_long;
 use rst_text::{Looks, View};
 use std::alloc::Global;
-
-#[tactic(auto, unfolding(crate::specs::SimpleTable::is_stroke))]
-fn is_stroke(mark: char, place: Place) -> bool
-    ensures { result ≡ spec.is_stroke mark place }
-{
-    place.mark() == mark || place.mark() == ' '
-}
-
-fn are_strokes(mark: char, row: &[Place]) -> bool
-    ensures { result ≡ list_all (spec.is_stroke mark) row.now }
-{
-    row.iter().all(|place| is_stroke(mark, *place))
-}
 
 /// Whether a row begins with the mark, and holds only it and spaces.
 #[tactic(auto, unfolding(crate::specs::SimpleTable::is_ruled))]
 fn is_ruled(mark: char, row: &[Place]) -> bool
     ensures { result ≡ spec.is_ruled mark row.now }
 {
-    mark_at(row, 0) == mark && are_strokes(mark, row)
+    mark_at(row, 0) == mark && consists_of(row, mark, ' ')
 }
 
 /// Whether a row is a border or a span rule.

@@ -4,9 +4,11 @@ ghost use Rattle.std.specs.List.{list_all};
 ghost use Rattle.rst_markup_tables.specs.Places.{AreNumbered, row_at};
 ghost use Rattle.rst_text.specs.Places.{first_from};
 ghost use Rattle.rst_markup_tables.specs.SimpleTable as spec;
+ghost use Rattle.rst_markup_tables.specs.declared.results.TableDetail.TheVariants.{ColumnSpan};
 
 use super::Result;
 use super::places::{Place, TableLine, row_at};
+use super::results::TableDetail;
 use super::simple_lines::is_rule;
 use super::spans::{RuleSpan, span_of, spans_of, spread};
 use std::alloc::Global;
@@ -35,14 +37,9 @@ pub(crate) fn rules_of(alloc: Global, lines: &[TableLine]) -> Result<Vec<usize>>
     ensures value { IfOk result (λ rules. rules.items ≡ spec.rules_of lines.now) }
     ensures within { IfOk result (λ rules. (n : ℕ) → n < length rules.items → get_or rules.items n 0 < length lines.now) }
 {
-    let mut rules = Vec::new(alloc);
-    for k in 1..lines.len() {
-        if is_rule(row_at(lines, k)) {
-            rules.push(k)?;
-            continue;
-        }
-    }
-    Ok(rules)
+    (1..lines.len())
+        .filter(|k| is_rule(row_at(lines, *k)))
+        .collect(alloc)
 }
 
 #[tactic(auto, unfolding(crate::specs::SimpleTable::is_white_place))]
@@ -97,24 +94,18 @@ impl SimpleLines<'_> {
     fn rule_spans(&self, rule: usize) -> Result<Option<Vec<RuleSpan>>>
         ensures { IfOk result (λ found. option_map vec_items found ≡ spec.rule_spans self.now.lines.now rule) }
     {
-        // Most rows end at no rule; the runs of the top border are the columns.
-        if rule == 0 {
-            return spread(self.alloc, self.columns, self.columns);
-        }
         let spans = spans_of(self.alloc, row_at(self.lines, rule))?;
-        let found = spread(self.alloc, self.columns, &spans)?;
-        Ok(found)
+        spread(self.alloc, self.columns, &spans)
     }
 
-    /// The first of the rules whose spans don't cover the columns.
-    pub(crate) fn first_unaligned(&self, rules: &[usize]) -> Result<Option<usize>>
+    /// The fault of the first of the rules whose spans don't cover the columns.
+    pub(crate) fn rule_fault(&self, rules: &[usize]) -> Result<Option<TableDetail>>
         requires within { (n : ℕ) → n < length rules.now → get_or rules.now n 0 < length self.now.lines.now }
-        ensures value { IfOk result (λ found. found ≡ find (spec.is_unaligned self.now.lines.now) rules.now) }
-        ensures within { IfOk result (λ found. IfSome found (λ k. k < length self.now.lines.now)) }
+        ensures { IfOk result (λ fault. fault ≡ option_map (λ k. ColumnSpan (k + 1)) (find (spec.is_unaligned self.now.lines.now) rules.now)) }
     {
         for rule in rules {
             if self.rule_spans(*rule)?.is_none() {
-                return Ok(Some(*rule));
+                return Ok(Some(TableDetail::ColumnSpan { line: *rule + 1 }));
             }
         }
         Ok(None)
@@ -124,10 +115,12 @@ impl SimpleLines<'_> {
     pub(crate) fn row_spans(&self, row: RowLines) -> Result<Vec<RuleSpan>>
         ensures { IfOk result (λ spans. spans.items ≡ spec.row_spans self.now.lines.now row) }
     {
-        match self.rule_spans(row.rule)? {
-            Some(spans) => Ok(spans),
-            None => Ok(Vec::new(self.alloc)),
+        // Most rows end at no rule, and have the columns of the table.
+        if row.rule == 0 {
+            return Vec::from_slice(self.alloc, self.columns);
         }
+        let spans = self.rule_spans(row.rule)?;
+        Ok(spans.unwrap_or(Vec::new(self.alloc)))
     }
 
     /// Whether the line at a place begins a row: its first column isn't blank.
@@ -186,38 +179,11 @@ impl SimpleLines<'_> {
     }
 
     /// The first line of a row with text between these spans.
-    fn text_in_margin(&self, spans: &[RuleSpan], row: RowLines) -> Option<usize>
+    pub(crate) fn text_in_margin(&self, spans: &[RuleSpan], row: RowLines) -> Option<usize>
         requires { spec.AreInOrder 0 spans.now }
         ensures value { result ≡ spec.text_in_margin self.now.lines.now spans.now row.from row.to }
         ensures fits { IfSome result (λ k. k + 1 < 2 ^ 64) }
     {
         (row.from..row.to).find(|k| !are_clear(row_at(self.lines, *k), spans))
-    }
-
-    /// The first line of a row with text between its columns, by the columns of its rule.
-    fn row_in_margin(&self, row: RowLines) -> Result<Option<usize>>
-        ensures value { IfOk result (λ found. found ≡ spec.text_in_margin self.now.lines.now (spec.row_spans self.now.lines.now row) row.from row.to) }
-        ensures fits { IfOk result (λ found. IfSome found (λ k. k + 1 < 2 ^ 64)) }
-    {
-        // Most rows end at no rule, and have the columns of the table.
-        if row.rule == 0 {
-            return Ok(self.text_in_margin(self.columns, row));
-        }
-        let spans = self.row_spans(row)?;
-        Ok(self.text_in_margin(&spans, row))
-    }
-
-    /// The first line of all rows with text between its columns.
-    pub(crate) fn first_in_margin(&self, rows: &[RowLines]) -> Result<Option<usize>>
-        ensures value { IfOk result (λ found. found ≡ spec.first_in_margin self.now.lines.now rows.now) }
-        ensures fits { IfOk result (λ found. IfSome found (λ k. k + 1 < 2 ^ 64)) }
-    {
-        for row in rows {
-            let found = self.row_in_margin(*row)?;
-            if found.is_some() {
-                return Ok(found);
-            }
-        }
-        Ok(None)
     }
 }

@@ -9,7 +9,7 @@ ghost use Rattle.rst_markup_blocks.specs.TableRows.{simple_size, simple_scan};
 
 use super::Result;
 use super::places::{TableLine, row_at};
-use super::results::{TableDetail, TableResult};
+use super::results::TableResult;
 use super::simple_cells::head_size;
 use super::simple_lines::{border_fault, read_lines};
 use super::simple_rows::{SimpleLines, rules_of};
@@ -40,21 +40,19 @@ fn simple_of(
         columns: &columns,
     };
     let rules = rules_of(alloc, lines)?;
-    if let Some(rule) = table.first_unaligned(&rules)? {
-        let detail = TableDetail::ColumnSpan { line: rule + 1 };
+    if let Some(detail) = table.rule_fault(&rules)? {
         return Ok(malformed(line, first, size, detail));
     }
     let rows = table.rows(&rules)?;
-    if let Some(k) = table.first_in_margin(&rows)? {
-        let detail = TableDetail::Margin { line: k + 1 };
-        return Ok(malformed(line, first, size, detail));
+    match table.all_entries(&rows)? {
+        Ok(cells) => Ok(TableResult::Table {
+            cols: table.widths(&rows)?,
+            head: head_size(head, &rows),
+            rows: cells,
+            end: first + size,
+        }),
+        Err(detail) => Ok(malformed(line, first, size, detail)),
     }
-    Ok(TableResult::Table {
-        cols: table.widths(&rows)?,
-        head: head_size(head, &rows),
-        rows: table.all_entries(&rows)?,
-        end: first + size,
-    })
 }
 
 /// The simple table whose top border is the line at place `i` of a view: a table with its rows, or malformed with its

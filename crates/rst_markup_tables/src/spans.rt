@@ -1,5 +1,5 @@
 //! The spans of a simple table's rules.
-ghost use Rattle.std.specs.Prelude.{◌≡◌, ◌+◌, ◌^◌, ◌<◌, ◌==◌, drop, length, position, IfOk, IfSome, option_map, vec_items};
+ghost use Rattle.std.specs.Prelude.{◌≡◌, ◌+◌, ◌^◌, ◌<◌, ◌==◌, drop, position, IfOk, IfSome, option_map, vec_items};
 ghost use Rattle.rst_markup_tables.specs.SimpleTable as spec;
 
 use super::Result;
@@ -32,13 +32,24 @@ fn is_space(row: &[Place], place: usize) -> bool
     mark_at(row, place) == ' '
 }
 
-/// Where the run ends that begins at a place.
-fn span_end(row: &[Place], from: usize) -> usize
-    ensures { result ≡ spec.span_end row.now from }
+/// Whether a run of marks begins at a place.
+#[tactic(auto, unfolding(crate::specs::SimpleTable::begins_span))]
+fn begins_span(row: &[Place], place: usize) -> bool
+    ensures { result ≡ spec.begins_span row.now place }
 {
-    (from..row.len())
-        .find(|place| is_space(row, *place))
-        .unwrap_or(row.len())
+    !is_space(row, place) && (place == 0 || is_space(row, place - 1))
+}
+
+/// The run that begins at a place, as one column.
+fn span_at(row: &[Place], from: usize) -> RuleSpan
+    ensures { result ≡ spec.span_at row.now from }
+{
+    let end = (from..row.len()).find(|place| is_space(row, *place));
+    RuleSpan {
+        from,
+        to: end.unwrap_or(row.len()),
+        columns: 1,
+    }
 }
 
 /// The runs of marks in a row, each as one column.
@@ -46,20 +57,11 @@ pub(crate) fn spans_of(alloc: Global, row: &[Place]) -> Result<Vec<RuleSpan>>
     ensures { IfOk result (λ spans. spans.items ≡ spec.spans_of row.now) }
 {
     let mut spans = Vec::new(alloc);
-    let mut from = 0;
-    // No run goes on at `from`, so that one begins there unless it is a space.
-    while from < row.len() {
-        if is_space(row, from) {
-            from += 1;
+    for place in 0..row.len() {
+        if begins_span(row, place) {
+            spans.push(span_at(row, place))?;
             continue;
         }
-        let to = span_end(row, from);
-        spans.push(RuleSpan {
-            from,
-            to,
-            columns: 1,
-        })?;
-        from = to;
     }
     Ok(spans)
 }
@@ -88,8 +90,7 @@ fn last_joined(columns: &[RuleSpan], span: RuleSpan) -> Option<usize>
 fn behind(spans: &[RuleSpan], n: usize) -> &[RuleSpan]
     ensures { result.now ≡ drop n spans.now }
 {
-    let begin = n.min(spans.len());
-    &spans[begin..]
+    &spans[n.min(spans.len())..]
 }
 
 /// The spans with how many columns each joins, if they join all, one after the other.

@@ -11,10 +11,10 @@ pub text_of-requires : goal.text_of-requires
 text_of-requires c =
     let row : List Place = c.row_at-row.result.now in
     ap all_scalars (c.trimmed.ensures ∙ ap (λ ps. drop_trailing_whitespace (characters ps)) c.cut_places.ensures)
-    ∙ scalars-trimmed (characters (cut_places c.args.left c.args.right row)) (scalars-cut c.args.left c.args.right row c.row_at-row.ensures.scalars)
+    ∙ scalars-trimmed (characters (cut_places c.args.left c.args.right row)) (scalars-cut c.args.left c.args.right row c.row_at-row.ensures.of_line.scalars)
 
 pub returns-clause-line : goal.returns-clause-line
 returns-clause-line c =
     let row : List Place = c.row_at-row.result.now in
     ap is_line_text (c.in_ok-text.ensures ∙ c.trimmed.ensures ∙ ap (λ ps. drop_trailing_whitespace (characters ps)) c.cut_places.ensures)
-    ∙ is_line_text-trimmed (characters (cut_places c.args.left c.args.right row)) (unended-cut c.args.left c.args.right row c.row_at-row.ensures.unended)
+    ∙ is_line_text-trimmed (characters (cut_places c.args.left c.args.right row)) (unended-cut c.args.left c.args.right row c.row_at-row.ensures.of_line.unended)

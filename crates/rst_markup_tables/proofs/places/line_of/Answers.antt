@@ -15,10 +15,11 @@ use Rattle.rst_markup_tables.proofs.places.line_of.Goals as goal
 
 pub invariant_of-result : goal.invariant_of-result
 invariant_of-result c =
-    let text : characters c.in_ok-places.places.items ≡ chars c.args.text.now = ap characters c.in_ok-places.ensures ∙ characters-places (chars c.args.text.now) in (
-      ap all_scalars text ∙ scalars-chars c.args.text.now c.utf8.text,
-      ap (list_any is_line_end) text ∙ (is_line_text-parts (chars c.args.text.now) (ap is_line_text c.requires.text ∙ is_line_text-line c.args.view.now c.args.k)).0,
-    )
+    let text : characters c.in_ok-places.places.items ≡ chars c.args.text.now = ap characters c.in_ok-places.ensures ∙ characters-places (chars c.args.text.now) in
+    record {
+      scalars = ap all_scalars text ∙ scalars-chars c.args.text.now c.utf8.text;
+      unended = ap (list_any is_line_end) text ∙ (is_line_text-parts (chars c.args.text.now) (ap is_line_text c.requires.text ∙ is_line_text-line c.args.view.now c.args.k)).0;
+    }
 
 pub returns-clause-line : goal.returns-clause-line
 returns-clause-line c =

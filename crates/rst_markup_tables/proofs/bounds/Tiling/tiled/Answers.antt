@@ -15,7 +15,7 @@ cell_rows-requires-clause-few c = λ k inside.
     let G : Grid = c.args.self.now.lines.now in
     let rs : List Rectangle = c.args.self.now.rectangles.now in
     let rows : List ℕ = c.in_ok-rows.rows.items in
-    let ranked = ranks_of (is_row G rs) (length G) c.in_ok-row_bounds.row_bounds.items rows c.in_ok-row_bounds.ensures
+    let ranked = ranks_of (is_row G rs) (length G) c.in_ok-row_bounds.row_bounds.items rows c.in_ok-row_bounds.ensures.rows
     (subst (λ (marks : List Bool). AreRanks (below (λ k. get_or marks k false)) (length marks) rows) c.deref-3.ensures.value c.in_ok-rows.ensures) in
     let few = rank-few G rs rows c.requires.tiling ranked k (record { top = 0; left = 0; bottom = 0; right = 0 }) inside in
     omega (arith, few)
@@ -26,13 +26,13 @@ returns c =
     let rs : List Rectangle = c.args.self.now.rectangles.now in
     let f : ℕ → ℕ = λ k. get_or c.in_ok-rows.rows.items k 0 in
     let g : ℕ → ℕ = λ k. get_or c.in_ok-columns.columns.items k 0 in
-    let rows = ranks_of (is_row G rs) (length G) c.in_ok-row_bounds.row_bounds.items c.in_ok-rows.rows.items c.in_ok-row_bounds.ensures
+    let rows = ranks_of (is_row G rs) (length G) c.in_ok-row_bounds.row_bounds.items c.in_ok-rows.rows.items c.in_ok-row_bounds.ensures.rows
     (subst (λ (marks : List Bool). AreRanks (below (λ k. get_or marks k false)) (length marks) c.in_ok-rows.rows.items) c.deref-3.ensures.value c.in_ok-rows.ensures) in
-    let columns = ranks_of (is_column G rs) (width G) c.in_ok-column_bounds.column_bounds.items c.in_ok-columns.columns.items c.in_ok-column_bounds.ensures
+    let columns = ranks_of (is_column G rs) (width G) c.in_ok-row_bounds.column_bounds.items c.in_ok-columns.columns.items c.in_ok-row_bounds.ensures.columns
     (subst (λ (marks : List Bool). AreRanks (below (λ k. get_or marks k false)) (length marks) c.in_ok-columns.columns.items) c.deref-4.ensures.value c.in_ok-columns.ensures) in
     let bounds = c.in_ok-bounds.ensures ∙ ap (λ (marks : List Bool). filter (λ k. get_or marks k false) (range_with_len 0 (length marks))) c.deref.ensures.value in
     let widths : c.of.result ≡ column_widths G rs =
-    c.of.ensures ∙ c.in_ok-widths.ensures ∙ ap gaps (c.deref-2.ensures.value ∙ bounds) ∙ widths_of G rs c.in_ok-column_bounds.column_bounds.items c.in_ok-column_bounds.ensures in
+    c.of.ensures ∙ c.in_ok-widths.ensures ∙ ap gaps (c.deref-2.ensures.value ∙ bounds) ∙ widths_of G rs c.in_ok-row_bounds.column_bounds.items c.in_ok-row_bounds.ensures.columns in
     let same = agree f (below (is_row G rs)) g (below (is_column G rs)) G 0 0 rs c.requires.tiling.drawn (λ k inside. rows.at k (omega arith)) (λ k inside. columns.at k (omega arith)) in
     let count : c.saturating_sub-count.result ≡ below (is_row G rs) (length G) - 1 = c.saturating_sub-count.ensures ∙ ap (λ n. n - 1) (c.row.ensures ∙ rows.at (length G) (omega arith)) in
     let cells : c.of-2.result ≡ table_rows G rs =
