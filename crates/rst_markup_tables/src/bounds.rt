@@ -1,5 +1,5 @@
 //! The bounds of a grid's columns and rows.
-ghost use Rattle.std.specs.Prelude.{◌≡◌, ◌∷◌, ◌<◌, ◌||◌, ◌==◌, length, IfOk};
+ghost use Rattle.std.specs.Prelude.{◌≡◌, ◌<◌, ◌||◌, ◌==◌, length, IfOk};
 ghost use Rattle.rst_markup_tables.specs.Places.{AreNumbered, place, width};
 ghost use Rattle.rst_markup_tables.specs.Marks.{Marks, AreMarked};
 ghost use Rattle.rst_markup_tables.specs.Drawn.{IsTiling};

@@ -1,6 +1,6 @@
 //! The lines of a cell.
-ghost use Rattle.std.specs.Prelude.{◌≡◌, ◌-◌, ℕ, List, drop, filter, get_or, length, true, IfOk, IsTrue, map};
-ghost use Rattle.std.specs.List.{list_all, range_with_len};
+ghost use Rattle.std.specs.Prelude.{◌≡◌, ◌-◌, ℕ, List, drop, filter, length, true, IfOk, IsTrue, map};
+ghost use Rattle.std.specs.List.{range_with_len};
 ghost use Rattle.std.specs.Str.{all_scalars, drop_trailing_whitespace};
 ghost use Rattle.rst_text.specs.Extent.{least_indent};
 ghost use Rattle.rst_text.specs.Lines.{are_lines, is_line_text};
@@ -45,8 +45,7 @@ fn cut_places(row: &[Place], left: usize, right: Option<usize>) -> &[Place]
     ensures { result.now ≡ cut_places left right row.now }
 {
     let end = right.unwrap_or(row.len()).min(row.len());
-    let begin = left.min(end);
-    &row[begin..end]
+    &row[left.min(end)..end]
 }
 
 /// The text of the characters that begin at places.

@@ -1,7 +1,7 @@
 //! The rectangles that a grid table draws, and the tiling by them.
 ghost use Rattle.std.specs.Prelude.{◌≡◌, ◌<◌, ◌≤◌, ◌^◌, IfOk, option_map, vec_items, length};
-ghost use Rattle.rst_markup_tables.specs.Places.{Grid, width, place};
-ghost use Rattle.rst_markup_tables.specs.Drawn.{is_across, is_upright, IsAcross, Tiles};
+ghost use Rattle.rst_markup_tables.specs.Places.{width, place};
+ghost use Rattle.rst_markup_tables.specs.Drawn.{is_across, is_upright, Tiles};
 ghost use Rattle.rst_markup_tables.specs.Search.{are_upright, lists_of, begin_at, IsBottom, Tells, Closes, AreBegins, HasBegins, next_begin, Draws, Fills};
 
 use super::Result;

@@ -1,8 +1,5 @@
 //! The cells of a grid table.
-ghost use Rattle.std.specs.Prelude.{◌≡◌, ◌+◌, ◌-◌, ◌<◌, ◌≤◌, ℕ, [], List, Some, length, get_or, IfOk, IfSome};
-ghost use Rattle.rst_markup_tables.specs.Places.{AreNumbered, width};
-ghost use Rattle.rst_markup_tables.specs.Counts.{below};
-ghost use Rattle.rst_markup_tables.specs.Marks.{AreRanks};
+ghost use Rattle.std.specs.Prelude.{◌≡◌, ◌+◌, ◌-◌, ◌<◌, ℕ, [], Some, length, get_or, IfOk, IfSome};
 ghost use Rattle.rst_markup_tables.specs.Drawn.{IsTiling};
 ghost use Rattle.rst_markup_tables.specs.GridTable as spec;
 ghost use Rattle.rst_markup_tables.specs.Results.{cells_of};

@@ -1,8 +1,7 @@
 //! The widths and cells of a simple table.
-ghost use Rattle.std.specs.Prelude.{◌≡◌, ◌+◌, ◌-◌, ◌<◌, ◌≤◌, Option, Some, None, option_map, map, MatchResult, drop, take, length, IfOk};
+ghost use Rattle.std.specs.Prelude.{◌≡◌, ◌+◌, ◌-◌, ◌<◌, Option, Some, None, map, MatchResult, length, IfOk};
 ghost use Rattle.std.specs.List.{range_with_len};
 ghost use Rattle.rst_markup_tables.specs.Places.{AreNumbered};
-ghost use Rattle.rst_markup_tables.specs.Results.{cells_of};
 ghost use Rattle.rst_markup_tables.specs.SimpleTable as spec;
 
 use super::Result;
@@ -75,8 +74,7 @@ impl SimpleLines<'_> {
         ensures { result.now ≡ spec.lines_of_row self.now.lines.now row }
     {
         let end = row.to.min(self.lines.len());
-        let begin = row.from.min(end);
-        &self.lines[begin..end]
+        &self.lines[row.from.min(end)..end]
     }
 
     /// How many places the longest line of the rows has.

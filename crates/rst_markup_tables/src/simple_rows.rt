@@ -1,5 +1,5 @@
 //! The rows of a simple table.
-ghost use Rattle.std.specs.Prelude.{◌≡◌, ◌++◌, ◌∷◌, ◌+◌, ◌-◌, ◌^◌, ◌<◌, ◌≤◌, ℕ, Bool, not, get_or, length, IfOk, IfSome, option_map, find, vec_items};
+ghost use Rattle.std.specs.Prelude.{◌≡◌, ◌++◌, ◌+◌, ◌-◌, ◌^◌, ◌<◌, ℕ, not, get_or, length, IfOk, IfSome, option_map, find, vec_items};
 ghost use Rattle.std.specs.List.{list_all};
 ghost use Rattle.rst_markup_tables.specs.Places.{AreNumbered, row_at};
 ghost use Rattle.rst_text.specs.Places.{first_from};
@@ -63,8 +63,7 @@ fn is_clear(row: &[Place], from: usize, to: usize) -> bool
     ensures { result ≡ spec.is_clear from to row.now }
 {
     let end = to.min(row.len());
-    let begin = from.min(end);
-    are_white(&row[begin..end])
+    are_white(&row[from.min(end)..end])
 }
 
 /// Whether nothing but white stands between neighbouring spans.
@@ -141,7 +140,6 @@ impl SimpleLines<'_> {
 
     /// The rows with those of the lines from place `low` on before a rule.
     fn with_section(&self, rows: Vec<RowLines>, low: usize, rule: usize) -> Result<Vec<RowLines>>
-        requires { rule < length self.now.lines.now }
         ensures { IfOk result (λ all. all.items ≡ rows.items ++ spec.section self.now.lines.now low rule) }
     {
         let mut rows = rows;
