@@ -1,5 +1,5 @@
 -- The lines of a grid table.
-use Rattle.std.proofs.Common.{◌≡◌, ℕ, suc, ◌+◌, ◌-◌, ◌<◌, ◌≤◌, Bool, true, false, cond, ◌&&◌, ◌||◌, List, [], ◌∷◌, ◌++◌, length, take, drop, length-take, get_or, map, refl, sym, ap, ap₂, ◌∙◌, arith, append-nil, eqb, leb, Option, Some, None}
+use Rattle.std.proofs.Common.{◌≡◌, ℕ, suc, ◌+◌, ◌-◌, ◌<◌, ◌≤◌, Bool, true, false, cond, ◌&&◌, ◌||◌, List, [], ◌∷◌, ◌++◌, length, take, drop, length-take, length-drop, get_or, map, refl, sym, ap, ap₂, ◌∙◌, arith, append-nil, eqb, leb, Option, Some, None}
 use Rattle.std.proofs.lemmas.List.{drop_more, drop-drop, drop-map, length-map, take-map, take-take}
 use Rattle.std.proofs.lemmas.Bool.{cond_both, and_from, and_parts, leb-true, leb-false}
 use Rattle.std.proofs.Math.Nat.{le-min}
@@ -74,6 +74,9 @@ border-more B i k o above h =
 pub scan-over : (X : Block) (m : ℕ) → m ≤ suc (lines_while Drawn X) → m ≤ length X → m ≤ grid_scan X
 unfolding grid_scan
 scan-over X m above inside = le-min above inside
+
+pub scan-here : (B : Block) (i k : ℕ) → i ≤ k → k < length B → k + lines_while Drawn (drop k B) ≡ i + lines_while Drawn (drop i B) → k + 1 ≤ i + grid_scan (drop i B)
+scan-here B i k above inside among = let over = scan-over (drop i B) (k + 1 - i) (omega (arith, among)) (omega (arith, inside, length-drop i B)) in omega (arith, over)
 
 -- the lines of the table are those through its bottom border, or all where there is none
 pub table_rows-are : (X : Block) (L : Grid) (o : Option ℕ) → L ≡ drawn_rows X → o ≡ grid_bottom X → take (through (length L) o) L ≡ rows_of (take (grid_size X) X)

@@ -13,7 +13,7 @@ use Rattle.rst_markup_tables.specs.Places.{Row, no_row}
 use Rattle.rst_markup_tables.proofs.Begins.{pushed, pushed_size}
 use Rattle.rst_markup_tables.proofs.Lists.{onto}
 use Rattle.rst_markup_tables.proofs.Numbered.{numbered-from}
-use Rattle.rst_markup_tables.proofs.GridLemmas.{drawn_rows, drawn-row, drawn-none, border-more, scan-over}
+use Rattle.rst_markup_tables.proofs.GridLemmas.{drawn_rows, drawn-row, drawn-none, border-more, scan-over, scan-here}
 use Rattle.rst_markup_tables.proofs.grid_lines.drawn_lines.Goals as goal
 
 pub returns-then-not-is_drawn-clause-lines : goal.returns-then-not-is_drawn-clause-lines
@@ -31,25 +31,13 @@ returns-then-not-is_drawn-clause-bottom c =
     grid_bottom-is X (c.loop-k.k - c.args.i) c.loop-k.bottom all c.loop-k.invariant.last
 
 pub returns-then-not-is_drawn-clause-looks : goal.returns-then-not-is_drawn-clause-looks
-returns-then-not-is_drawn-clause-looks c =
-    let B : Block = block_of c.args.view.now in
-    let X : Block = drop c.args.i B in
-    let over = scan-over X (c.loop-k.k + 1 - c.args.i) (omega (arith, c.loop-k.invariant.among)) (omega (arith, length-drop c.args.i B)) in
-    omega (arith, over, c.loop-k.invariant.looks, c.line-text.ensures.looks)
+returns-then-not-is_drawn-clause-looks c = omega (arith, scan-here (block_of c.args.view.now) c.args.i c.loop-k.k (omega arith) (omega arith) c.loop-k.invariant.among, c.loop-k.invariant.looks, c.line-text.ensures.looks)
 
 pub returns-in_err-line-clause-looks : goal.returns-in_err-line-clause-looks
-returns-in_err-line-clause-looks c =
-    let B : Block = block_of c.args.view.now in
-    let X : Block = drop c.args.i B in
-    let over = scan-over X (c.loop-k.k + 1 - c.args.i) (omega (arith, c.loop-k.invariant.among)) (omega (arith, length-drop c.args.i B)) in
-    omega (arith, over, c.loop-k.invariant.looks, c.line-text.ensures.looks)
+returns-in_err-line-clause-looks c = omega (arith, scan-here (block_of c.args.view.now) c.args.i c.loop-k.k (omega arith) (omega arith) c.loop-k.invariant.among, c.loop-k.invariant.looks, c.line-text.ensures.looks)
 
 pub returns-in_err-push-clause-looks : goal.returns-in_err-push-clause-looks
-returns-in_err-push-clause-looks c =
-    let B : Block = block_of c.args.view.now in
-    let X : Block = drop c.args.i B in
-    let over = scan-over X (c.loop-k.k + 1 - c.args.i) (omega (arith, c.loop-k.invariant.among)) (omega (arith, length-drop c.args.i B)) in
-    omega (arith, over, c.loop-k.invariant.looks, c.line-text.ensures.looks)
+returns-in_err-push-clause-looks c = omega (arith, scan-here (block_of c.args.view.now) c.args.i c.loop-k.k (omega arith) (omega arith) c.loop-k.invariant.among, c.loop-k.invariant.looks, c.line-text.ensures.looks)
 
 pub loop-k-preserved : goal.loop-k-preserved
 loop-k-preserved c =
