@@ -58,5 +58,6 @@ looks-borders X (Some k) l0 l1 l2 some b h m none =
     omega (arith, below.0, scan)
 
 -- looks at them and at the lines of the table
-pub looks-lines : (X : Block) (bottom : Option ℕ) (l0 l1 l2 l3 size : ℕ) → None ≡ border_fault X bottom → bottom ≡ simple_bottom X → l1 ≤ l0 + 2 + simple_scan X → l2 ≤ l1 + 2 → l3 ≤ l2 + size → size ≡ simple_size X → l3 ≤ l0 + 4 * simple_scan X
-looks-lines X bottom l0 l1 l2 l3 size sound b h k m is = let there = bottom-there X bottom sound b in omega (arith, there.0, there.1)
+pub looks-lines : (X : Block) (n all : ℕ) (head bottom : Option ℕ) (l0 l1 l2 l3 : ℕ) → n ≡ through all (option_or bottom head) → all ≡ length X → head ≡ head_border X → bottom ≡ simple_bottom X → None ≡ border_fault X bottom
+    → l1 ≤ l0 + 2 + simple_scan X → l2 ≤ l1 + 2 → l3 ≤ l2 + n → l3 ≤ l0 + 4 * simple_scan X
+looks-lines X n all head bottom l0 l1 l2 l3 is e h b sound k m r = let there = bottom-there X bottom sound b in omega (arith, there.0, there.1, table-size X n all head bottom is e h b, k, m, r)

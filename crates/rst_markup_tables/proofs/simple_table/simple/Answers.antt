@@ -39,21 +39,15 @@ returns-in-Some-clause-looks c =
 
 pub returns-in_err-lines-clause-looks : goal.returns-in_err-lines-clause-looks
 returns-in_err-lines-clause-looks c =
-    let B : Block = block_of c.args.view.now in
-    let X : Block = drop c.args.i B in
-    let all : c.len-2.result - c.args.i ≡ length X = omega (arith, length-drop c.args.i B) in
-    let size = table-size X c.size-size.result (c.len-2.result - c.args.i) c.simple_borders-borders.result.head c.simple_borders-borders.result.bottom c.size-size.ensures all c.simple_borders-borders.ensures.head c.simple_borders-borders.ensures.bottom in
-    looks-lines X c.simple_borders-borders.result.bottom c.args.looks.now c.simple_borders-borders.new.looks c.border_fault.new.looks c.read_lines.new.looks c.size-size.result c.in_default.ensures.fault c.simple_borders-borders.ensures.bottom
-    c.simple_borders-borders.ensures.looks c.border_fault.ensures.looks (omega (arith, c.read_lines.ensures.looks)) size
+    looks-lines (drop c.args.i (block_of c.args.view.now)) c.size-size.result (c.len-2.result - c.args.i) c.simple_borders-borders.result.head c.simple_borders-borders.result.bottom c.args.looks.now c.simple_borders-borders.new.looks
+    c.border_fault.new.looks c.read_lines.new.looks c.size-size.ensures (omega (arith, length-drop c.args.i (block_of c.args.view.now))) c.simple_borders-borders.ensures.head c.simple_borders-borders.ensures.bottom c.in_default.ensures.fault
+    c.simple_borders-borders.ensures.looks c.border_fault.ensures.looks (omega (arith, c.read_lines.ensures.looks))
 
 pub returns-in_err-table-clause-looks : goal.returns-in_err-table-clause-looks
 returns-in_err-table-clause-looks c =
-    let B : Block = block_of c.args.view.now in
-    let X : Block = drop c.args.i B in
-    let all : c.len-2.result - c.args.i ≡ length X = omega (arith, length-drop c.args.i B) in
-    let size = table-size X c.size-size.result (c.len-2.result - c.args.i) c.simple_borders-borders.result.head c.simple_borders-borders.result.bottom c.size-size.ensures all c.simple_borders-borders.ensures.head c.simple_borders-borders.ensures.bottom in
-    looks-lines X c.simple_borders-borders.result.bottom c.args.looks.now c.simple_borders-borders.new.looks c.border_fault.new.looks c.read_lines.new.looks c.size-size.result c.in_default.ensures.fault c.simple_borders-borders.ensures.bottom
-    c.simple_borders-borders.ensures.looks c.border_fault.ensures.looks (omega (arith, c.read_lines.ensures.looks)) size
+    looks-lines (drop c.args.i (block_of c.args.view.now)) c.size-size.result (c.len-2.result - c.args.i) c.simple_borders-borders.result.head c.simple_borders-borders.result.bottom c.args.looks.now c.simple_borders-borders.new.looks
+    c.border_fault.new.looks c.read_lines.new.looks c.size-size.ensures (omega (arith, length-drop c.args.i (block_of c.args.view.now))) c.simple_borders-borders.ensures.head c.simple_borders-borders.ensures.bottom c.in_default.ensures.fault
+    c.simple_borders-borders.ensures.looks c.border_fault.ensures.looks (omega (arith, c.read_lines.ensures.looks))
 
 pub returns-clause-table : goal.returns-clause-table
 returns-clause-table c =
@@ -87,9 +81,6 @@ returns-clause-end c =
 
 pub returns-clause-looks : goal.returns-clause-looks
 returns-clause-looks c =
-    let B : Block = block_of c.args.view.now in
-    let X : Block = drop c.args.i B in
-    let all : c.len-2.result - c.args.i ≡ length X = omega (arith, length-drop c.args.i B) in
-    let size = table-size X c.size-size.result (c.len-2.result - c.args.i) c.simple_borders-borders.result.head c.simple_borders-borders.result.bottom c.size-size.ensures all c.simple_borders-borders.ensures.head c.simple_borders-borders.ensures.bottom in
-    looks-lines X c.simple_borders-borders.result.bottom c.args.looks.now c.simple_borders-borders.new.looks c.border_fault.new.looks c.read_lines.new.looks c.size-size.result c.in_default.ensures.fault c.simple_borders-borders.ensures.bottom
-    c.simple_borders-borders.ensures.looks c.border_fault.ensures.looks (omega (arith, c.read_lines.ensures.looks)) size
+    looks-lines (drop c.args.i (block_of c.args.view.now)) c.size-size.result (c.len-2.result - c.args.i) c.simple_borders-borders.result.head c.simple_borders-borders.result.bottom c.args.looks.now c.simple_borders-borders.new.looks
+    c.border_fault.new.looks c.read_lines.new.looks c.size-size.ensures (omega (arith, length-drop c.args.i (block_of c.args.view.now))) c.simple_borders-borders.ensures.head c.simple_borders-borders.ensures.bottom c.in_default.ensures.fault
+    c.simple_borders-borders.ensures.looks c.border_fault.ensures.looks (omega (arith, c.read_lines.ensures.looks))
