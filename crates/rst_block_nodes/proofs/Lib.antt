@@ -2,6 +2,7 @@ pub mod Computing
 pub mod TextLemmas
 pub mod OptionLemmas
 pub mod HeadLemmas
+pub mod MessageLemmas
 pub mod ReadLemmas
 pub mod TermLemmas
 pub mod LineBlockLemmas

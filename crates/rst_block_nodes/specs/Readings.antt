@@ -5,14 +5,14 @@ use Rattle.rst_tree.specs.Sends.{counted_on}
 use Rattle.rst_tree.specs.declared.node.Node.{Node}
 use Rattle.rst_tree.specs.declared.tag.Tag.{Tag}
 use Rattle.rst_inline_scan.specs.Reading.{pieces_of}
-use Rattle.rst_inline.specs.Results.{messages_from, nodes_behind, notes_of}
+use Rattle.rst_inline.specs.Results.{nodes_behind, notes_of}
 use Rattle.rst_block_nodes.specs.declared.terms.Heads.{Heads}
 use Rattle.rst_block_nodes.specs.declared.texted.Texted.{Texted}
 use Rattle.rst_block_nodes.specs.Elements.{element_of}
 use Rattle.rst_block_nodes.specs.Numbered.{Numbered}
 use Rattle.rst_block_nodes.specs.Results.{HoldsText, HeadsText}
 use Rattle.rst_block_nodes.specs.Terms.{texts_of, groups_of, heads_of}
-use Rattle.rst_block_nodes.specs.Texts.{counting}
+use Rattle.rst_block_nodes.specs.Texts.{counting, messages_from}
 
 -- the nodes of a text, where the messages on it are numbered from `first` on
 abbrev pub read_nodes : List ℕ → ℕ → ℕ → List Node

@@ -9,22 +9,22 @@ use Rattle.rst_block_nodes.specs.declared.terms.Heads.{Heads}
 use Rattle.rst_block_nodes.specs.declared.texted.Texted.{Texted}
 use Rattle.rst_block_nodes.specs.Elements.{element_of}
 use Rattle.rst_block_nodes.specs.Terms.{texts_of, groups_of, heads_of}
-use Rattle.rst_block_nodes.specs.Texts.{counting}
+use Rattle.rst_block_nodes.specs.Texts.{counting, messages_from}
 
 -- an element with the nodes that were read, and the messages
-pub record IsHolding (tag : Tag) (line : ℕ) (read : Pieces) (texted : Texted) : Type 0 where
-  pub element : texted.element ≡ element_of tag (counting (length read.notes.items)) read.nodes.items line
-  pub notes : texted.notes.items ≡ read.notes.items
+pub record IsHolding (tag : Tag) (line first : ℕ) (read : Pieces) (texted : Texted) : Type 0 where
+  pub element : texted.element ≡ element_of tag (counting (length texted.notes.items)) read.nodes.items line
+  pub notes : texted.notes.items ≡ messages_from first read.notes.items
 
 -- those of a text
 abbrev pub HoldsText : Tag → ℕ → List ℕ → ℕ → ℕ → Texted → Type 0
-HoldsText tag line text text_line first texted = (read : Pieces) × IsRead text text_line first read × IsHolding tag line read texted
+HoldsText tag line text text_line first texted = (read : Pieces) × IsRead text text_line first read × IsHolding tag line first read texted
 
 -- the heads of the nodes that were read, whose texts are those of the pieces of a text, and the messages
-pub record AreHeadsOf (text : List ℕ) (pieces : List Piece) (line : ℕ) (read : Pieces) (made : Heads) : Type 0 where
-  pub heads : made.heads.items ≡ heads_of (length read.notes.items) line (groups_of (texts_of text pieces) read.nodes.items)
-  pub notes : made.notes.items ≡ read.notes.items
+pub record AreHeadsOf (text : List ℕ) (pieces : List Piece) (line first : ℕ) (read : Pieces) (made : Heads) : Type 0 where
+  pub heads : made.heads.items ≡ heads_of (length made.notes.items) line (groups_of (texts_of text pieces) read.nodes.items)
+  pub notes : made.notes.items ≡ messages_from first read.notes.items
 
 -- those of a text, whose pieces are exactly one list
 abbrev pub HeadsText : List ℕ → ℕ → ℕ → Heads → Type 0
-HeadsText text line first made = (pieces : List Piece) × (read : Pieces) × IsPieces text 0 pieces × IsRead text line first read × AreHeadsOf text pieces line read made
+HeadsText text line first made = (pieces : List Piece) × (read : Pieces) × IsPieces text 0 pieces × IsRead text line first read × AreHeadsOf text pieces line first read made

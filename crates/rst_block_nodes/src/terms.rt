@@ -9,8 +9,8 @@ ghost use Rattle.rst_block_nodes.specs.Terms.{IsPut, groups_of, heads_behind, he
 
 use super::nodes::element_of;
 use super::numbers::Numbers;
-use super::texted::counting;
-use rst_inline::{Pieces, inline, part};
+use super::texted::{counting, messages_of};
+use rst_inline::{Pieces, inline_from, part};
 use rst_inline_scan::{Kind, Piece, escapes, pieces_of};
 use rst_text::{characters_of, is_white};
 use rst_tree::{Attrs, Node, Result, Tag, Text};
@@ -28,6 +28,7 @@ pub struct Heads {
 /// escaped; they are looked for when escapes are gone. The term says how many messages there are.
 ///
 /// The only refusal is [`TreeFault::NoMemory`].
+#[tactic(auto, using(crate::proofs::MessageLemmas::messages_from_length))]
 pub fn term_and_classifiers(
     alloc: Global,
     text: &str,
@@ -41,8 +42,10 @@ pub fn term_and_classifiers(
     let characters = characters_of(alloc, text)?;
     let pieces = pieces_of(alloc, &characters)?;
     let parts = plain_parts(alloc, &characters, &pieces)?;
-    let Pieces { nodes, notes } = inline(alloc, text, line, numbers.given())?;
+    let first = numbers.given();
+    let Pieces { nodes, notes } = inline_from(alloc, text, line, first)?;
     numbers.give(notes.len());
+    let notes = messages_of(alloc, notes, first)?;
     let heads = heads_of(alloc, nodes, parts, notes.len(), line)?;
     Ok(Heads { heads, notes })
 }

@@ -3,14 +3,14 @@ ghost use Rattle.std.specs.Prelude.{◌≡◌, length, Ok};
 ghost use Rattle.std.specs.Str.{chars};
 ghost use Rattle.rst_tree.specs.Faults.{Gives};
 ghost use Rattle.rst_tree.specs.Sends.{counted_on};
-ghost use Rattle.rst_block_nodes.specs.Texts.{counting};
+ghost use Rattle.rst_block_nodes.specs.Texts.{counting, messages_from};
 ghost use Rattle.rst_block_nodes.specs.Readings.{texted};
 ghost use Rattle.rst_block_nodes.specs.Results.{HoldsText};
 
 use super::nodes::element_of;
 use super::numbers::Numbers;
-use rst_inline::{Pieces, inline};
-use rst_tree::{Attrs, Key, Node, Result, Tag, Value};
+use rst_inline::{Pieces, inline_from};
+use rst_tree::{Attrs, Key, Node, Note, Result, Tag, Value};
 use std::alloc::Global;
 
 /// An element with the nodes of its text, and the messages of the text.
@@ -25,6 +25,7 @@ pub struct Texted {
 /// number, by which the document's messages are counted.
 ///
 /// The only refusal is [`TreeFault::NoMemory`].
+#[tactic(auto, using(crate::proofs::MessageLemmas::messages_from_length))]
 pub fn with_text(
     alloc: Global,
     tag: Tag,
@@ -37,13 +38,29 @@ pub fn with_text(
     ensures numbers { Gives (λ read. numbers.new ≡ counted_on numbers.old (length read.notes.items)) result }
     ensures read { Gives (λ made. texted tag line (chars text.now) text_line numbers.old ≡ Ok ((made.element, made.notes.items), numbers.new)) result }
 {
-    let Pieces { nodes, notes } = inline(alloc, text, text_line, numbers.given())?;
+    let first = numbers.given();
+    let Pieces { nodes, notes } = inline_from(alloc, text, text_line, first)?;
     numbers.give(notes.len());
+    let notes = messages_of(alloc, notes, first)?;
     let attrs = counting(alloc, notes.len())?;
     Ok(Texted {
         element: element_of(tag, attrs, nodes, line),
         notes,
     })
+}
+
+/// The messages of a text as nodes, numbered from the first on.
+#[tactic(auto, using(crate::proofs::MessageLemmas::messages_from_append, crate::proofs::MessageLemmas::number_behind_append))]
+pub(crate) fn messages_of(alloc: Global, notes: Vec<Note>, first: u64) -> Result<Vec<Node>>
+    ensures { Gives (λ messages. messages.items ≡ messages_from first notes.items) result }
+{
+    let mut messages = Vec::with_capacity(alloc, notes.len())?;
+    let mut number = first;
+    for note in notes {
+        messages.push(note.into_numbered(alloc, number)?)?;
+        number = number.saturating_add(1);
+    }
+    Ok(messages)
 }
 
 /// The attribute that says how many messages of its text an element has, if it has some.

@@ -13,7 +13,7 @@ use Rattle.rst_inline.specs.declared.nodes.Pieces.{Pieces}
 use Rattle.rst_inline.specs.Elements.{text_children}
 use Rattle.rst_inline.specs.Parts.{source}
 use Rattle.rst_inline.specs.Readings.{plain_reading, reading}
-use Rattle.rst_inline.specs.Results.{messages_from, nodes_by, notes_by, notes_of, nodes_behind, IsRead}
+use Rattle.rst_inline.specs.Results.{nodes_by, notes_by, notes_of, nodes_behind, IsRead}
 
 -- the piece that is all of a text
 abbrev all_of : Text → Piece
@@ -37,4 +37,4 @@ quiet-notes (c ∷ cs) line h = sym (ap (λ m. notes_by m line ++ []) (reading-a
 -- what was read of a quiet text
 pub quiet-read : (t : Text) (line first : ℕ) (read : Pieces) → quiet t ≡ true → read.nodes.items ≡ nodes_of (text_children t) → read.notes.items ≡ [] → IsRead t line first read
 quiet-read t line first read h nodes notes =
-    (whole t, quiet-pieces t h, record { nodes = nodes ∙ quiet-nodes t line first h; notes = notes ∙ ap (messages_from first) (quiet-notes t line h) })
+    (whole t, quiet-pieces t h, record { nodes = nodes ∙ quiet-nodes t line first h; notes = notes ∙ quiet-notes t line h })

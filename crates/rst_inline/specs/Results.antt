@@ -1,7 +1,6 @@
 -- What an inline text means (Markup Specification, 'Inline Markup'; Document Tree, 'problematic').
 use Rattle.std.specs.Prelude.{◌≡◌, ℕ, List, [], ◌∷◌, ◌++◌, None}
 use Rattle.std.specs.List.{flat_map}
-use Rattle.rst_tree.specs.Messages.{numbered_node}
 use Rattle.rst_tree.specs.Sends.{counted_on}
 use Rattle.rst_tree.specs.declared.node.Node.{Node}
 use Rattle.rst_tree.specs.declared.note.Note.{Note}
@@ -24,11 +23,6 @@ notes_by _ line = []
 abbrev pub notes_of : Text → ℕ → List Piece → List Note
 notes_of t line pieces = flat_map (λ p. notes_by (reading t line p) line) pieces
 
--- the messages as nodes, numbered from the first on
-abbrev pub messages_from : ℕ → List Note → List Node
-messages_from first [] = []
-messages_from first (note ∷ notes) = numbered_node first note ∷ messages_from (counted_on first 1) notes
-
 -- the nodes of a piece, where the next message has this number
 abbrev pub nodes_by : Meaning → ℕ → Text → ℕ → List Node
 nodes_by Nothing number source line = []
@@ -49,7 +43,7 @@ nodes_behind t line number (p ∷ ps) = nodes_by (reading t line p) number (sour
 -- the nodes and the messages are those of the pieces
 pub record Reads (t : Text) (line first : ℕ) (pieces : List Piece) (read : Pieces) : Type 0 where
   pub nodes : read.nodes.items ≡ nodes_behind t line first pieces
-  pub notes : read.notes.items ≡ messages_from first (notes_of t line pieces)
+  pub notes : read.notes.items ≡ notes_of t line pieces
 
 -- They are those of the pieces of the text, of which there is exactly one list.
 abbrev pub IsRead : Text → ℕ → ℕ → Pieces → Type 0

@@ -12,6 +12,7 @@ pub mod rows;
 mod texts;
 mod written;
 
-pub use nodes::{Pieces, inline};
+pub use nodes::{Pieces, inline, inline_from};
 pub use rst_inline_scan::plain_uri;
+pub use rst_tree::TreeFault as InlineFault;
 pub use texts::{part, unescape};

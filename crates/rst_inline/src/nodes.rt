@@ -17,14 +17,23 @@ use std::alloc::Global;
 #[derive(Debug, Drop)]
 pub struct Pieces {
     pub nodes: Vec<Node>,
-    pub notes: Vec<Node>,
+    pub notes: Vec<Note>,
 }
 
 /// The nodes and the messages of an inline text whose first line has the number `line` (Markup Specification, 'Inline
-/// Markup'). Every text has some. The messages are numbered from `first` on.
+/// Markup'). Every text has some. The messages are numbered from 0 on.
 ///
-/// The only refusal is [`TreeFault::NoMemory`].
-pub fn inline(alloc: Global, text: &str, line: usize, first: u64) -> Result<Pieces>
+/// The only refusal is [`InlineFault::NoMemory`].
+pub fn inline(alloc: Global, text: &str, line: usize) -> Result<Pieces>
+    ensures { Gives (IsRead (chars text.now) line 0) result }
+{
+    inline_from(alloc, text, line, 0)
+}
+
+/// What [`inline`] gives, with the messages numbered from `first` on.
+///
+/// The only refusal is [`InlineFault::NoMemory`].
+pub fn inline_from(alloc: Global, text: &str, line: usize, first: u64) -> Result<Pieces>
     ensures { Gives (IsRead (chars text.now) line first) result }
 {
     // A quiet text is one plain piece, so it is neither made characters nor scanned.
@@ -73,7 +82,7 @@ impl Written<'_> {
                         text,
                         block: None,
                     };
-                    notes.push(note.into_numbered(self.alloc, number)?)?;
+                    notes.push(note)?;
                     number = number.saturating_add(1);
                     continue;
                 }

@@ -1,7 +1,7 @@
 //! Nodes and messages of texts. The answers were worked out from the public Markup Specification, not by this crate.
 use super::tree_tests::printed;
 use rst_inline::{Pieces, inline, unescape};
-use rst_tree::{Attrs, Children, Key, Level, Node, Tag};
+use rst_tree::{Attrs, Children, Node, Tag};
 use std::alloc::Global;
 use std::test::Fail;
 
@@ -65,7 +65,7 @@ ERROR 7: Unknown interpreted text role \"x\".
 
 /// The nodes and the messages of a text on line 7.
 fn shown(alloc: Global, text: &str) -> Result<String, Fail> {
-    let Pieces { nodes, notes } = inline(alloc, text, 7, 0)?;
+    let Pieces { nodes, notes } = inline(alloc, text, 7)?;
     let paragraph = Node::Element {
         tag: Tag::Paragraph,
         attrs: Attrs::new(alloc),
@@ -74,12 +74,13 @@ fn shown(alloc: Global, text: &str) -> Result<String, Fail> {
     };
     let mut out = printed(alloc, paragraph)?;
     for note in &notes {
-        if let Node::Element { attrs, line, .. } = note {
-            let level = Level::of_number(attrs.number(Key::Level).unwrap_or(0));
-            let said = note.text_of(alloc)?;
-            let message = format!(in alloc; "{} {line}: {}\n", level.name(), said.as_str())?;
-            out.push_str(message.as_str())?;
-        }
+        let message = format!(in alloc;
+            "{} {}: {}\n",
+            note.level.name(),
+            note.line,
+            note.text.as_str()
+        )?;
+        out.push_str(message.as_str())?;
     }
     Ok(out)
 }

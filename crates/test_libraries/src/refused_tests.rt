@@ -6,7 +6,7 @@ use super::tables_tests::show;
 use super::transforms_tests::unresolved;
 use super::tree_tests::{text, titled};
 use rst_block::{BlockFault, parse};
-use rst_inline::{inline, unescape};
+use rst_inline::{InlineFault, inline, unescape};
 use rst_markup::{Explicit, TableResult, explicit, grid, kind_of, simple};
 use rst_markup_directives::{Argument, Directive, MarkupFault, Name, Place};
 use rst_settings::Settings;
@@ -207,11 +207,11 @@ const INLINE: &str =
 fn reads_inline_markup(rt: HostRuntime) {
     let mut refusals = Refusals::none();
     for _ in 0..2 {
-        match inline(rt.alloc(), INLINE, 7, 0) {
+        match inline(rt.alloc(), INLINE, 7) {
             Ok(read) => {
                 assert_eq!(rt; (read.nodes.len(), read.notes.len()), (29, 1));
             }
-            Err(fault) => refusals.add(&rt, fault == TreeFault::NoMemory),
+            Err(fault) => refusals.add(&rt, fault == InlineFault::NoMemory),
         }
     }
     refusals.judge(&rt);
@@ -223,7 +223,7 @@ fn unescapes(rt: HostRuntime) {
     for _ in 0..2 {
         match unescape(rt.alloc(), "a\\ b\\*c\\\\ \u{4E00}\\") {
             Ok(text) => assert_eq!(rt; text.as_str(), "ab*c\\ \u{4E00}"),
-            Err(fault) => refusals.add(&rt, fault == TreeFault::NoMemory),
+            Err(fault) => refusals.add(&rt, fault == InlineFault::NoMemory),
         }
     }
     refusals.judge(&rt);

@@ -1,13 +1,14 @@
 use Rattle.std.proofs.Common.{rules, subst}
 use Rattle.std.specs.Str.{chars}
 use Rattle.rst_inline.specs.Results.{IsRead}
+use Rattle.rst_block_nodes.proofs.MessageLemmas.{messages_from_length}
 use Rattle.rst_block_nodes.proofs.ReadingBridges.{texted_read}
 use Rattle.rst_block_nodes.proofs.texted.with_text.Goals as goal
 
 pub returns-clause-text : goal.returns-clause-text
 returns-clause-text c =
     let read = c.in_ok-nodes.field-0 in
-    (read, subst (λ first. IsRead (chars c.args.text.now) c.args.text_line first read) c.given.ensures c.in_ok-nodes.ensures, record { element = search rules; notes = search rules })
+    (read, subst (λ first. IsRead (chars c.args.text.now) c.args.text_line first read) c.given-first.ensures c.in_ok-nodes.ensures, record { element = search rules; notes = search rules })
 
 pub returns-clause-read : goal.returns-clause-read
-returns-clause-read c = texted_read c.args.tag c.args.line (chars c.args.text.now) c.args.text_line c.args.numbers.now c.give.new.self _ (returns-clause-text c) (search rules)
+returns-clause-read c = texted_read c.args.tag c.args.line (chars c.args.text.now) c.args.text_line c.args.numbers.now c.give.new.self _ (returns-clause-text c) (search (rules, messages_from_length))

@@ -1,5 +1,5 @@
 use Rattle.std.proofs.Common.{◌≡◌, ◌++◌, drop}
-use Rattle.rst_inline.specs.Results.{messages_from, notes_of, nodes_behind}
+use Rattle.rst_inline.specs.Results.{notes_of, nodes_behind}
 use Rattle.rst_inline.proofs.written.Written.read.Given as goal
 
 abbrev pub invariant-loop-piece : goal.invariant-loop-piece
@@ -8,5 +8,5 @@ invariant-loop-piece l =
     let rest = drop l.piece-index l.pieces in
     record {
       nodes : l.nodes.items ++ nodes_behind t l.self.line l.number rest ≡ nodes_behind t l.self.line l.first l.pieces;
-      notes : l.notes.items ++ messages_from l.number (notes_of t l.self.line rest) ≡ messages_from l.first (notes_of t l.self.line l.pieces);
+      notes : l.notes.items ++ notes_of t l.self.line rest ≡ notes_of t l.self.line l.pieces;
     }

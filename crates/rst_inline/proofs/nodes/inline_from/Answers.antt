@@ -6,7 +6,7 @@ use Rattle.rst_inline_scan.specs.Quiet.{quiet}
 use Rattle.rst_inline_scan.proofs.PieceLemmas.{IsPieces-within}
 use Rattle.rst_inline_scan.proofs.QuietLemmas.{quiet-chars}
 use Rattle.rst_inline.proofs.QuietLemmas.{quiet-read}
-use Rattle.rst_inline.proofs.nodes.inline.Goals as goal
+use Rattle.rst_inline.proofs.nodes.inline_from.Goals as goal
 
 pub returns-then-is_quiet : goal.returns-then-is_quiet
 returns-then-is_quiet c =
