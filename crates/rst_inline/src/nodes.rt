@@ -8,7 +8,7 @@ ghost use Rattle.rst_inline.specs.Results.{Reads, IsRead};
 use super::elements::{problematic, text_nodes};
 use super::reading::Meaning;
 use super::written::Written;
-use rst_inline_scan::{Piece, is_quiet};
+use rst_inline_scan::{Kind, Markup, Piece, Suffix, is_quiet};
 use rst_tree::{Node, Note, Result};
 use std::alloc::Global;
 
@@ -57,7 +57,12 @@ impl Written<'_> {
         requires { All (IsWithin self.now.characters.items) pieces.now }
         ensures { Gives (Reads self.now.characters.items self.now.line first pieces.now) result }
     {
-        let mut nodes = Vec::with_capacity(self.alloc, pieces.len())?;
+        // A phrase reference may give two nodes, the second a target.
+        let phrases = pieces
+            .iter()
+            .filter(|piece| matches!(piece.kind, Kind::Marked(Markup::Interpreted, Suffix::Named)))
+            .count();
+        let mut nodes = Vec::with_capacity(self.alloc, pieces.len().saturating_add(phrases))?;
         let mut notes = Vec::new(self.alloc);
         // Each message takes memory, so the sum can't pass the largest `u64`.
         let mut number = first;

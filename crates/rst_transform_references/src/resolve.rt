@@ -134,13 +134,6 @@ fn what_becomes(
     Ok(outcome)
 }
 
-/// Whether an element that may be gone, and of which this becomes, is gone or fails.
-fn ends(gone: bool, outcome: &Outcome) -> bool
-    ensures { result ≡ (gone || fails outcome.now) }
-{
-    gone || outcome.fails()
-}
-
 /// What becomes of all linked elements, where the messages of those that fail are made.
 fn resolved(context: &mut Context, holders: &Holders<'_>) -> Result<Vec<Outcome>>
     ensures { let all = map held holders.now.linked.now in Gives (λ outcomes. Makes (resolved_from (place_at holders.now.places.items) all [] all) context.old context.new outcomes.items) result }
@@ -150,7 +143,7 @@ fn resolved(context: &mut Context, holders: &Holders<'_>) -> Result<Vec<Outcome>
     for one in holders.linked {
         let gone = is_gone(ended.as_slice(), one.outer);
         let outcome = what_becomes(context, holders, one.element, gone)?;
-        ended.push(ends(gone, &outcome))?;
+        ended.push(gone || outcome.fails())?;
         outcomes.push(outcome)?;
     }
     Ok(outcomes)

@@ -37,14 +37,7 @@ pub fn last_section(
 fn is_any_shown(reports: &[Report], threshold: Threshold) -> bool
     ensures { result ≡ list_any (is_shown threshold) reports.now }
 {
-    reports.iter().any(|report| is_shown(report, threshold))
-}
-
-/// Whether a message is in the last section and is at or above the report level.
-fn is_shown(report: &Report, threshold: Threshold) -> bool
-    ensures { result ≡ is_shown threshold report.now }
-{
-    report.own && threshold.is_reached(report.level.number())
+    reports.iter().any(|report| report.own && threshold.is_reached(report.level.number()))
 }
 
 /// The section with its title and the messages in it.
