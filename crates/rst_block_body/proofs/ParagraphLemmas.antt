@@ -104,6 +104,9 @@ pub record IsParagraph (B : Block) (i j : ℕ) (t : List ℕ) : Type 0 where
   pub end : j ≡ i + lines_while Plain (drop i B)
   pub text : t ≡ joined (take (j - i) (drop i B))
 
+pub found_paragraph : (B : Block) (i j : ℕ) (t : List ℕ) → i < length B → is_loose (front_text (drop i B)) ≡ false → j ≡ i + lines_while Plain (drop i B) → t ≡ joined (take (j - i) (drop i B)) → IsParagraph B i j t
+found_paragraph B i j t inside plain end text = record { inside = inside; plain = plain; end = end; text = text }
+
 len_is : (B : Block) (i j : ℕ) (t : List ℕ) → IsParagraph B i j t → j ≡ i + paragraph_len (drop i B)
 len_is B i j t p = p.end ∙ ap (λ n. i + n) (own_lines (drop i B) (omega (arith, p.inside, length-drop i B)) p.plain)
 

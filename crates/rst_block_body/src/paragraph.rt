@@ -1,6 +1,7 @@
 //! Paragraphs, literal blocks and doctest blocks (Markup Specification, 'Paragraphs', 'Literal Blocks', 'Doctest
 //! Blocks').
-ghost use Rattle.std.specs.Prelude.{◌≡◌, [], ◌+◌, ◌-◌, ◌*◌, ◌<◌, ◌≤◌, length, drop, true, false, IfOk};
+ghost use Rattle.std.specs.Prelude.{◌≡◌, [], ◌+◌, ◌-◌, ◌*◌, ◌<◌, ◌≤◌, length, drop, codes, slice_range, true, false, IfOk};
+ghost use Rattle.std.specs.Cow.{cow_str_bytes};
 ghost use Rattle.std.specs.Str.{chars};
 ghost use Rattle.rst_text.specs.Shown.{block_of};
 ghost use Rattle.rst_markup_blocks.specs.Begun.{IsBegun};
@@ -10,6 +11,8 @@ ghost use Rattle.rst_block_state.specs.Meanings.{Keeps, reads};
 ghost use Rattle.rst_block_state.specs.declared.step.Step.TheVariants.{Next};
 ghost use Rattle.rst_block_state.specs.OpenBlocks.{Gives, ReadsNodes, HasMoreAt};
 ghost use Rattle.rst_block_state.specs.Literals as literals;
+ghost use Rattle.rst_block_state.specs.Texts.{joined, unless_blank};
+ghost use Rattle.rst_tree.specs.declared.note.Level.TheVariants.{Error};
 ghost use Rattle.rst_block_body.specs.TextSteps as parts;
 ghost use Rattle.rst_markup_blocks.specs.Lines.{lines_while};
 ghost use Rattle.rst_markup_blocks.specs.Sizes.{paragraph_size, literal_size};
@@ -26,9 +29,10 @@ use rst_block_state::{
 };
 use rst_markup_blocks::{LineTest, lines_end, text_at};
 use rst_markup_lines::{begins_with, ends_in_colons, front, is_blank, is_punctuation};
-use rst_text::View;
+use rst_text::{Looks, View};
 use rst_tree::{Level, Tag};
-use std::alloc::Global;
+use std::alloc::{AllocError, Global};
+use std::borrow::CowStr;
 
 /// A doctest block: the lines up to a blank one.
 pub fn doctest_block(view: &View<'_>, level: &mut OpenBlock, pass: &mut Pass) -> Result<()>
@@ -64,35 +68,8 @@ pub(crate) fn paragraph(view: &View<'_>, level: &mut OpenBlock, pass: &mut Pass)
 {
     let at = level.at;
     let end = lines_end(view, at, LineTest::Plain, &mut pass.looks);
-    if end == at + 1 {
-        let text = view.line(at, &mut pass.looks);
-        return paragraph_of(view, level, text, end, pass);
-    }
-    let text = source(pass.alloc, view, at, end, &mut pass.looks)?;
-    paragraph_of(view, level, text.as_str(), end, pass)
-}
-
-/// A paragraph of a text that ends at `end`, with the literal block that it announces.
-fn paragraph_of(
-    view: &View<'_>,
-    level: &mut OpenBlock,
-    text: &str,
-    end: usize,
-    pass: &mut Pass,
-) -> Result<()>
-    requires end { end ≤ length (block_of view.now) }
-    requires inside { level.old.at < length (block_of view.now) }
-    requires behind { level.old.at < end }
-    ensures later { IfOk result (λ _. level.old.at < level.new.at) }
-    ensures read { let B = block_of view.now in
-        let nodes = parts.paragraph_between (chars text.now) level.old.at end B pass.old.numbers in
-        Gives (λ _. ReadsNodes nodes level.old level.new (parts.paragraph_end (chars text.now) end B) pass.new.numbers) result }
-    ensures most { let B = block_of view.now in
-        let size = parts.paragraph_end (chars text.now) end B - end in
-        IfOk result (λ _. pass.new.looks ≤ pass.old.looks + 1 + 8 * reach size (drop end B)) }
-    ensures low { let size = parts.paragraph_end (chars text.now) end (block_of view.now) - end in
-        IfOk result (λ _. capped (pass.old.looks + size) ≤ pass.new.looks) }
-{
+    let text = text_between(pass.alloc, view, at, end, &mut pass.looks)?;
+    let text = text.as_str();
     if !ends_in_colons(text) {
         put_paragraph(view, level, text, end, pass)?;
         level.go_to(end);
@@ -100,6 +77,25 @@ fn paragraph_of(
     }
     put_paragraph(view, level, announced(text), end, pass)?;
     literal(view, level, end, pass)
+}
+
+/// The lines from place `from` up to place `to` joined by line feeds, without a copy where it is one line.
+fn text_between<'a>(
+    alloc: Global,
+    view: &View<'a>,
+    from: usize,
+    to: usize,
+    looks: &mut Looks,
+) -> Result<CowStr<'a, Global>, AllocError>
+    requires inside { from < length (block_of view.now) }
+    ensures text { IfOk result (λ text. chars (cow_str_bytes text) ≡ joined (slice_range (block_of view.now) from to)) }
+    ensures most { looks.new ≤ looks.old + (to - from) }
+    ensures low { IfOk result (λ _. capped looks.old ≤ looks.new) }
+{
+    if to == from + 1 {
+        return Ok(CowStr::Borrowed(view.line(from, looks)));
+    }
+    Ok(CowStr::Owned(source(alloc, view, from, to, looks)?))
 }
 
 /// Puts a paragraph that ends at `end` behind the last node, unless it is empty, and the message on an indented line behind it.
@@ -116,36 +112,38 @@ fn put_paragraph(
     ensures looks { IfOk result (λ _. pass.new.looks ≤ pass.old.looks + 1) }
     ensures low { IfOk result (λ _. capped pass.old.looks ≤ pass.new.looks) }
 {
-    put_shown(view, level, text, pass)?;
-    if is_blank(text_at(view, end, &mut pass.looks)) {
-        return Ok(());
-    }
-    let error = message(
-        pass.alloc,
-        Level::Error,
-        number_at(view, end),
-        "Unexpected indentation.",
-        None,
-    )?;
-    level.push(error)
-}
-
-/// Puts a paragraph behind the last node, unless it is empty.
-fn put_shown(view: &View<'_>, level: &mut OpenBlock, text: &str, pass: &mut Pass) -> Result<()>
-    ensures at { level.new.at ≡ level.old.at }
-    ensures read { let line = first_number (drop level.old.at (block_of view.now)) in
-        let nodes = literals.text_paragraph line (chars text.now) pass.old.numbers in
-        Gives (λ _. ReadsNodes nodes level.old level.new level.old.at pass.new.numbers) result }
-    ensures looks { pass.new.looks ≡ pass.old.looks }
-{
-    let alloc = pass.alloc;
     if is_blank(text) {
-        return Ok(());
+        return put_indentation_error(view, level, end, pass);
     }
+    let alloc = pass.alloc;
     let line = number_at(view, level.at);
     let made = with_text(alloc, Tag::Paragraph, line, text, line, &mut pass.numbers)?;
     level.push(made.element)?;
-    level.append(made.notes)
+    level.append(made.notes)?;
+    put_indentation_error(view, level, end, pass)
+}
+
+/// Puts the message on an indented line at place `end` behind the last node, if one is there.
+fn put_indentation_error(
+    view: &View<'_>,
+    level: &mut OpenBlock,
+    end: usize,
+    pass: &mut Pass,
+) -> Result<()>
+    ensures at { level.new.at ≡ level.old.at }
+    ensures error { let nodes = unless_blank Error (codes "Unexpected indentation.") (drop end (block_of view.now)) in
+        Gives (λ _. HasMoreAt level.old level.new nodes level.old.at) result }
+    ensures numbers { pass.new.numbers ≡ pass.old.numbers }
+    ensures looks { IfOk result (λ _. pass.new.looks ≤ pass.old.looks + 1) }
+    ensures low { IfOk result (λ _. capped pass.old.looks ≤ pass.new.looks) }
+{
+    if is_blank(text_at(view, end, &mut pass.looks)) {
+        return Ok(());
+    }
+    let line = number_at(view, end);
+    let text = "Unexpected indentation.";
+    let error = message(pass.alloc, Level::Error, line, text, None)?;
+    level.push(error)
 }
 
 /// The literal block that a paragraph announces that ends at `end`.
