@@ -1,5 +1,5 @@
 -- The first profile and the present one have the same result.
-use Rattle.std.proofs.Common.{◌≡◌, ◌∙◌, ◌⊎◌, inl, inr, ℕ, ◌≤◌, false, List, length, refl, sym, ap, arith, ⊎_elim}
+use Rattle.std.proofs.Common.{◌≡◌, ◌∙◌, ◌⊎◌, inl, inr, ℕ, false, List, length, refl, sym, ap, arith, ⊎_elim}
 use Rattle.std.proofs.lemmas.Bool.{cases_lt}
 use Rattle.std.specs.Prelude.{Option, Some, None, Result, Ok, Err}
 use Rattle.rst_block.specs.Documents.{document}
@@ -12,9 +12,9 @@ use Rattle.rst_tree.specs.declared.node.Node.{Node}
 use Rattle.rst_transform.specs.Finishing.{leaves}
 use Rattle.rst2pseudoxml_run.specs.CodeCalls.{IsWithoutCode}
 use Rattle.rst2pseudoxml_run.specs.declared.end.End.TheVariants.{TooDeep}
-use Rattle.rst2pseudoxml_run.specs.Profiles.{first_profile, list_of, titled_of, CallsNoCode, HasNoList, NestsWithin, ProfilesAgree}
+use Rattle.rst2pseudoxml_run.specs.Profiles.{first_profile, list_of, titled_of, CallsNoCode, HasNoList, ProfilesAgree}
 use Rattle.rst2pseudoxml_run.specs.Reading.{read_by, read_of}
-use Rattle.rst2pseudoxml_run.specs.Shown.{parts_of, result_of, result_of_read, result_of_text}
+use Rattle.rst2pseudoxml_run.specs.Shown.{parts_of, result_of_read, result_of_text}
 use Rattle.rst2pseudoxml_run.proofs.ProfilesCalls.{calls_agree}
 use Rattle.rst2pseudoxml_run.proofs.ProfilesCuts.{cells_keep, opened_keep}
 use Rattle.rst2pseudoxml_run.proofs.ProfilesLevels.{documents_follow}

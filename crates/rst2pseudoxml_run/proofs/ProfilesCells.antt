@@ -1,7 +1,7 @@
 -- Where no call of program code is in the lines of a table, none is in its cells: each line of a cell is a part of a line of the table, or of the rule
 -- between head and body.
 use Rattle.std.proofs.Common.{◌≡◌, ℕ, zero, suc, ◌+◌, ◌-◌, ◌⊎◌, inl, inr, Bool, true, false, cond, ◌&&◌, ◌||◌, ◌==◌, List, [], ◌∷◌, length, take, drop, map, get_or, Option, Some, None, is_some, unwrap_or, refl, sym, ap, subst, ◌∙◌, arith, true≢false}
-use Rattle.std.specs.Prelude.{flat_map}
+use Rattle.std.specs.Prelude.{flat_map, nat_le}
 use Rattle.std.specs.Char.{is_whitespace}
 use Rattle.std.specs.List.{list_all, range_with_len, AllByRecursion}
 use Rattle.std.specs.Str.{drop_trailing_whitespace}
@@ -13,8 +13,8 @@ use Rattle.rst_text.specs.Places.{first_from}
 use Rattle.rst_markup_blocks.specs.TableRows.{grid_bottom, grid_size, head_border, simple_size}
 use Rattle.rst_markup_tables.specs.Cells.{cell_block, cell_line, characters, cut_places}
 use Rattle.rst_markup_tables.specs.Counts.{below}
-use Rattle.rst_markup_tables.specs.GridTable.{cell_of, dash, dashed, grid_fault, head_of, is_column, is_head_rule, is_part, is_row, row_cells, tiled, with_dashes}
-use Rattle.rst_markup_tables.specs.Places.{is_double, no_row, places_of, row_at, row_of, rows_of, Grid, Row}
+use Rattle.rst_markup_tables.specs.GridTable.{cell_of, dash, dashed, grid_fault, head_of, is_column, is_head_rule, is_row, row_cells, tiled, with_dashes}
+use Rattle.rst_markup_tables.specs.Places.{is_double, mark_at, mark_of, no_row, places_of, row_at, row_of, rows_of, Grid, Row}
 use Rattle.rst_markup_tables.specs.Results.{cell_blocks}
 use Rattle.rst_markup_tables.specs.SimpleTable.{entry, lines_of_row, right_of, row_entries, row_spans, simple_by, simple_fault, simple_rows, simple_table, span_of}
 use Rattle.rst_markup_tables.specs.Tiling.{grid_by, grid_table, tiling_of}
@@ -193,12 +193,15 @@ other_of : (a b : Bool) → (a || b) ≡ true → a ≡ false → b ≡ true
 other_of true b h k = absurd (true≢false k)
 other_of false b h k = h
 
+-- `=` or `+`
+abbrev is_part : Place → Bool
+is_part p = mark_of p == 61 || mark_of p == 43
+
 rest_dashed : (p : Place) (b : Bool) (ps : List Place) → is_part p ≡ false → list_all is_part (cond b (p ∷ ps) ps) ≡ true → (list_all is_part ps ≡ true → AllByRecursion IsDashAt (map dash ps)) → AllByRecursion IsDashAt (map dash (cond b (p ∷ ps) ps))
 rest_dashed p true ps none h k = absurd (true≢false (sym (and_left _ _ h) ∙ none))
 rest_dashed p false ps none h k = k h
 
 dash_all : (t : List ℕ) → list_all is_part (places_of t) ≡ true → AllByRecursion IsDashAt (map dash (places_of t))
-unfolding is_part
 dash_all [] h = tt
 dash_all (c ∷ cs) h = (
   dash_by (place_with 45) (place_with c) (c == 61) (λ ps k. (inl refl, k)) (λ e ps k. (inr (eqb-true c 43 (other_of (c == 61) (c == 43) (and_left _ _ h) e)), k)),
@@ -209,13 +212,20 @@ cut_dashed : (left : ℕ) (right : Option ℕ) (ps : List Place) → AllByRecurs
 cut_dashed left None ps h = all_drop IsDashAt left ps h
 cut_dashed left (Some right) ps h = all_take IsDashAt (right - left) (drop left ps) (all_drop IsDashAt left ps h)
 
+-- the last of six conditions
+sixth : (a b c d e f : Bool) → (a && (b && (c && (d && (e && f))))) ≡ true → f ≡ true
+sixth a b c d e f h = and_right e f (and_right d (e && f) (and_right c (d && (e && f)) (and_right b (c && (d && (e && f))) (and_right a (b && (c && (d && (e && f)))) h))))
+
 rule_free : (l : Line) → is_head_rule (row_of l).places ≡ true → IsRowFree (dashed (row_of l))
 unfolding is_head_rule
 rule_free l rule left right =
     let ps : List Place = map dash (places_of l.text) in
     let t : List ℕ = characters (cut_places left right ps) in
     let k = trimmed t in
-    let all : AllByRecursion IsDash t = characters_dashed (cut_places left right ps) (cut_dashed left right ps (dash_all l.text (and_right _ _ (and_right _ _ rule)))) in
+    let row : List Place = places_of l.text in
+    let parts : list_all is_part row ≡ true =
+    sixth (nat_le 4 (length row)) (mark_at row 0 == 43) (mark_at row 1 == 61) (mark_at row (length row - 2) == 61) (mark_at row (length row - 1) == 43) (list_all is_part row) rule in
+    let all : AllByRecursion IsDash t = characters_dashed (cut_places left right ps) (cut_dashed left right ps (dash_all l.text parts)) in
     ap holds_code k.1 ∙ dashes_free (take k.0 t) (all_take IsDash k.0 t all)
 
 rule_at_free : (B : Block) (k : ℕ) → is_head_rule (row_at (rows_of B) k) ≡ true → IsRowFree (dashed (get_or (rows_of B) k no_row))
