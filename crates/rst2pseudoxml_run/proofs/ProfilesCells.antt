@@ -14,7 +14,7 @@ use Rattle.rst_markup_blocks.specs.TableRows.{grid_bottom, grid_size, head_borde
 use Rattle.rst_markup_tables.specs.Cells.{cell_block, cell_line, characters, cut_places}
 use Rattle.rst_markup_tables.specs.Counts.{below}
 use Rattle.rst_markup_tables.specs.GridTable.{cell_of, dash, dashed, grid_fault, head_of, is_column, is_head_rule, is_row, row_cells, tiled, with_dashes}
-use Rattle.rst_markup_tables.specs.Places.{is_double, mark_at, mark_of, no_row, places_of, row_at, row_of, rows_of, Grid, Row}
+use Rattle.rst_markup_tables.specs.Places.{consists_of, is_double, mark_at, mark_of, no_row, places_of, row_at, row_of, rows_of, Grid, Row}
 use Rattle.rst_markup_tables.specs.Results.{cell_blocks}
 use Rattle.rst_markup_tables.specs.SimpleTable.{entry, lines_of_row, right_of, row_entries, row_spans, simple_by, simple_fault, simple_rows, simple_table, span_of}
 use Rattle.rst_markup_tables.specs.Tiling.{grid_by, grid_table, tiling_of}
@@ -193,15 +193,11 @@ other_of : (a b : Bool) → (a || b) ≡ true → a ≡ false → b ≡ true
 other_of true b h k = absurd (true≢false k)
 other_of false b h k = h
 
--- `=` or `+`
-abbrev is_part : Place → Bool
-is_part p = mark_of p == 61 || mark_of p == 43
-
-rest_dashed : (p : Place) (b : Bool) (ps : List Place) → is_part p ≡ false → list_all is_part (cond b (p ∷ ps) ps) ≡ true → (list_all is_part ps ≡ true → AllByRecursion IsDashAt (map dash ps)) → AllByRecursion IsDashAt (map dash (cond b (p ∷ ps) ps))
+rest_dashed : (p : Place) (b : Bool) (ps : List Place) → consists_of 61 43 (p ∷ []) ≡ false → consists_of 61 43 (cond b (p ∷ ps) ps) ≡ true → (consists_of 61 43 ps ≡ true → AllByRecursion IsDashAt (map dash ps)) → AllByRecursion IsDashAt (map dash (cond b (p ∷ ps) ps))
 rest_dashed p true ps none h k = absurd (true≢false (sym (and_left _ _ h) ∙ none))
 rest_dashed p false ps none h k = k h
 
-dash_all : (t : List ℕ) → list_all is_part (places_of t) ≡ true → AllByRecursion IsDashAt (map dash (places_of t))
+dash_all : (t : List ℕ) → consists_of 61 43 (places_of t) ≡ true → AllByRecursion IsDashAt (map dash (places_of t))
 dash_all [] h = tt
 dash_all (c ∷ cs) h = (
   dash_by (place_with 45) (place_with c) (c == 61) (λ ps k. (inl refl, k)) (λ e ps k. (inr (eqb-true c 43 (other_of (c == 61) (c == 43) (and_left _ _ h) e)), k)),
@@ -223,8 +219,8 @@ rule_free l rule left right =
     let t : List ℕ = characters (cut_places left right ps) in
     let k = trimmed t in
     let row : List Place = places_of l.text in
-    let parts : list_all is_part row ≡ true =
-    sixth (nat_le 4 (length row)) (mark_at row 0 == 43) (mark_at row 1 == 61) (mark_at row (length row - 2) == 61) (mark_at row (length row - 1) == 43) (list_all is_part row) rule in
+    let parts : consists_of 61 43 row ≡ true =
+    sixth (nat_le 4 (length row)) (mark_at row 0 == 43) (mark_at row 1 == 61) (mark_at row (length row - 2) == 61) (mark_at row (length row - 1) == 43) (consists_of 61 43 row) rule in
     let all : AllByRecursion IsDash t = characters_dashed (cut_places left right ps) (cut_dashed left right ps (dash_all l.text parts)) in
     ap holds_code k.1 ∙ dashes_free (take k.0 t) (all_take IsDash k.0 t all)
 

@@ -85,10 +85,6 @@ announced_least t j B before put after h low least = omega (arith, end_colons t 
 size_behind : (B : Block) (i j : ℕ) (t : List ℕ) → IsParagraph B i j t → paragraph_size (drop i B) ≡ j - i + (paragraph_end t j B - j)
 size_behind B i j t p = omega (arith, end_all B i j t p, ends_later B i j t p)
 
--- where one line was found, it is looked at again
-pub one_again : (i j end text : ℕ) → j ≡ i + 1 → text ≡ capped (end + 1) → (text ≤ end + (j - i)) × (capped end ≤ text)
-one_again i j end text one again = (omega (arith, one, again), omega (arith, again))
-
 -- a paragraph, after the looks by which its end is found, and those at its lines again
 pub paragraph_most : (B : Block) (i j : ℕ) (t : List ℕ) (before end text after : ℕ) → IsParagraph B i j t → end ≤ before + lines_while Plain (drop i B) + 1 → text ≤ end + (j - i)
     → after ≤ text + 1 + 8 * reach (paragraph_end t j B - j) (drop j B) → after ≤ before + 20 * reach (paragraph_size (drop i B)) (drop i B)

@@ -3,7 +3,7 @@
 use Rattle.std.specs.Prelude.{◌≡◌, ℕ, ◌+◌, ◌-◌, Bool, ◌&&◌, ◌||◌, ◌==◌, nat_le, List, Option, Some, None, option_map, unwrap_or, option_and_then, if◌then◌else◌, get_or, slice_set, length, take, drop, map, filter}
 use Rattle.std.specs.List.{list_all, list_any, range_with_len}
 use Rattle.rst_text.specs.Block.{Block, first_number}
-use Rattle.rst_markup_tables.specs.Places.{Row, Grid, no_row, rows_of, row_at, mark_of, mark_at, place, width}
+use Rattle.rst_markup_tables.specs.Places.{Row, Grid, no_row, rows_of, row_at, consists_of, mark_of, mark_at, place, width}
 use Rattle.rst_text.specs.Places.{first_from}
 use Rattle.rst_markup_blocks.specs.TableRows.{grid_bottom, grid_size}
 use Rattle.rst_markup_tables.specs.Counts.{below}
@@ -23,8 +23,8 @@ use Rattle.rst_markup_tables.specs.declared.results.TableResult.TheVariants.{Tab
 
 -- a rule between head and body: `+=`, any number of `=` and `+`, `=+`
 unfoldable pub is_head_rule : List Place → Bool
-is_head_rule row = nat_le 4 (length row)
-    && (mark_at row 0 == 43 && (mark_at row 1 == 61 && (mark_at row (length row - 2) == 61 && (mark_at row (length row - 1) == 43 && list_all (λ p. mark_of p == 61 || mark_of p == 43) row))))
+is_head_rule row = nat_le 4 (length row) && (mark_at row 0 == 43 && (mark_at row 1 == 61
+    && (mark_at row (length row - 2) == 61 && (mark_at row (length row - 1) == 43 && consists_of 61 43 row))))
 
 -- the row has the width and ends in `+` or `|`
 unfoldable pub is_whole : ℕ → List Place → Bool

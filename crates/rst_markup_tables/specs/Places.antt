@@ -1,5 +1,6 @@
 -- The lines of a table as rows of places (Markup Specification, 'Grid Tables', 'Simple Tables').
-use Rattle.std.specs.Prelude.{◌≡◌, ℕ, ◌+◌, ◌<◌, Bool, false, ◌==◌, List, [], ◌∷◌, map, get_or, length, unwrap_or, if◌then◌else◌}
+use Rattle.std.specs.Prelude.{◌≡◌, ℕ, ◌+◌, ◌<◌, Bool, false, ◌||◌, ◌==◌, List, [], ◌∷◌, map, get_or, length, unwrap_or, if◌then◌else◌}
+use Rattle.std.specs.List.{list_all}
 use Rattle.unicode_width.specs.Width.{char_width}
 use Rattle.rst_text.specs.Block.{Line, Block}
 use Rattle.rst_markup_tables.specs.declared.places.Place.{Place}
@@ -18,6 +19,10 @@ places_of (c ∷ cs) = Character c ∷ (if is_double c then Second ∷ places_of
 abbrev pub mark_of : Place → ℕ
 mark_of (Character c) = c
 mark_of Second = 0
+
+-- each place holds one of two characters
+abbrev pub consists_of : ℕ → ℕ → List Place → Bool
+consists_of one other row = list_all (λ p. mark_of p == one || mark_of p == other) row
 
 -- a line of a table: its number in the document, and its places
 pub record Row : Type 0 where

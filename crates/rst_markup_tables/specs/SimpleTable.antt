@@ -5,7 +5,7 @@ use Rattle.std.specs.Char.{is_whitespace}
 use Rattle.std.specs.List.{list_all, range_with_len}
 use Rattle.std.specs.Option.{option_or}
 use Rattle.rst_text.specs.Block.{Block, first_number}
-use Rattle.rst_markup_tables.specs.Places.{Grid, rows_of, row_at, mark_of, mark_at}
+use Rattle.rst_markup_tables.specs.Places.{Grid, rows_of, row_at, consists_of, mark_of, mark_at}
 use Rattle.rst_text.specs.Places.{first_from}
 use Rattle.rst_markup_blocks.specs.TableRows.{is_as_long, head_border, simple_bottom, simple_size}
 use Rattle.rst_markup_tables.specs.Neighbours.{neighbours}
@@ -25,7 +25,7 @@ use Rattle.rst_markup_tables.specs.declared.results.TableResult.TheVariants.{Tab
 
 -- it begins with the mark, and holds only the mark and spaces
 unfoldable pub is_ruled : ℕ → List Place → Bool
-is_ruled mark row = mark_at row 0 == mark && list_all (λ p. mark_of p == mark || mark_of p == 32) row
+is_ruled mark row = mark_at row 0 == mark && consists_of mark 32 row
 
 -- a border of `=` and spaces, or a span rule of `-` and spaces
 unfoldable pub is_rule : List Place → Bool

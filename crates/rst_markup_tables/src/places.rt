@@ -1,9 +1,8 @@
 //! Lines of a table as rows of places.
-ghost use Rattle.std.specs.Prelude.{◌≡◌, ◌+◌, ◌<◌, ◌∷◌, ◌||◌, ◌==◌, length, drop, map, IfOk};
-ghost use Rattle.std.specs.List.{list_all};
+ghost use Rattle.std.specs.Prelude.{◌≡◌, ◌+◌, ◌<◌, ◌∷◌, length, drop, map, IfOk};
 ghost use Rattle.std.specs.Str.{chars};
 ghost use Rattle.rst_markup_tables.specs.Cells.{AreOfLine};
-ghost use Rattle.rst_markup_tables.specs.Places.{mark_of, places_of, mark_at, place, row_at, width, rows_of};
+ghost use Rattle.rst_markup_tables.specs.Places.{consists_of, mark_of, places_of, mark_at, place, row_at, width, rows_of};
 ghost use Rattle.rst_markup_tables.specs.declared.places.Place.TheVariants.{Character};
 ghost use Rattle.rst_text.specs.Block.{first_number, front_text};
 ghost use Rattle.rst_text.specs.Shown.{block_of};
@@ -138,7 +137,7 @@ pub(crate) fn mark_at(row: &[Place], column: usize) -> char
 
 /// Whether each place holds one of two characters.
 pub(crate) fn consists_of(row: &[Place], one: char, other: char) -> bool
-    ensures { result ≡ list_all (λ p. mark_of p == one || mark_of p == other) row.now }
+    ensures { result ≡ consists_of one other row.now }
 {
     row.iter()
         .all(|place| place.mark() == one || place.mark() == other)

@@ -42,70 +42,65 @@ boundary-more xs ys k u w b =
 -- ---- where texts begin
 
 -- in the words of the code
-pub start-is : (i r : ℕ) (ss starts bs text : List ℕ) → r ≡ get_or starts i (length text) → starts ≡ ss → text ≡ bs → r ≡ get_or ss i (length bs)
-start-is i r ss starts bs text e p q = rw (sym p, sym q) e
+pub start-is : (i r : ℕ) (ss : List ℕ) → i < length ss → r ≡ get_or ss i r → r ≡ get_or ss i 0
+start-is i r [] within e = absurd (omega arith)
+start-is zero r (s ∷ ss) within e = e
+start-is (suc i) r (s ∷ ss) within e = start-is i r ss (omega arith) e
 
-pub start-boundary : (from : ℕ) (bs ss : List ℕ) (i : ℕ) → AreStarts from bs ss → IsCharBoundary bs (get_or ss i (length bs))
-start-boundary from bs [] i h = IsCharBoundary-end bs
-start-boundary from bs (s ∷ ss) zero h = h.1
-start-boundary from bs (s ∷ ss) (suc i) h = start-boundary s bs ss i h.2
+pub start-boundary : (bs ss : List ℕ) (i : ℕ) → AreStarts bs ss → i < length ss → IsCharBoundary bs (get_or ss i 0)
+start-boundary bs [] i h within = absurd h
+start-boundary bs (s ∷ []) zero h within = subst (IsCharBoundary bs) (sym h) (IsCharBoundary-end bs)
+start-boundary bs (s ∷ []) (suc i) h within = absurd (omega arith)
+start-boundary bs (s ∷ e ∷ es) zero h within = h.1
+start-boundary bs (s ∷ e ∷ es) (suc i) h within = start-boundary bs (e ∷ es) i h.2 (omega arith)
 
-start-above : (from : ℕ) (bs ss : List ℕ) (i : ℕ) → AreStarts from bs ss → from ≤ get_or ss i (length bs)
-start-above from bs [] i h = h
-start-above from bs (s ∷ ss) zero h = h.0
-start-above from bs (s ∷ ss) (suc i) h = omega (arith, h.0, start-above s bs ss i h.2)
-
-pub starts-rise : (from : ℕ) (bs ss : List ℕ) (i k : ℕ) → AreStarts from bs ss → i ≤ k → get_or ss i (length bs) ≤ get_or ss k (length bs)
-starts-rise from bs [] i k h order = omega arith
-starts-rise from bs (s ∷ ss) zero zero h order = omega arith
-starts-rise from bs (s ∷ ss) zero (suc k) h order = start-above s bs ss k h.2
-starts-rise from bs (s ∷ ss) (suc i) zero h order = absurd (omega arith)
-starts-rise from bs (s ∷ ss) (suc i) (suc k) h order = starts-rise s bs ss i k h.2 (omega arith)
+pub starts-rise : (bs ss : List ℕ) (i k : ℕ) → AreStarts bs ss → i ≤ k → k < length ss → get_or ss i 0 ≤ get_or ss k 0
+starts-rise bs [] i k h order within = absurd h
+starts-rise bs (s ∷ ss) zero zero h order within = omega arith
+starts-rise bs (s ∷ ss) (suc i) zero h order within = absurd (omega arith)
+starts-rise bs (s ∷ []) i (suc k) h order within = absurd (omega arith)
+starts-rise bs (s ∷ e ∷ es) zero (suc k) h order within = omega (arith, h.0, starts-rise bs (e ∷ es) zero k h.2 (omega arith) (omega arith))
+starts-rise bs (s ∷ e ∷ es) (suc i) (suc k) h order within = starts-rise bs (e ∷ es) i k h.2 (omega arith) (omega arith)
 
 -- ---- one text more
 
-pub starts-added : (from : ℕ) (xs ys ss : List ℕ) → IsUtf8 xs → IsUtf8 ys → AreStarts from xs ss → AreStarts from (xs ++ ys) (ss ++ length xs ∷ [])
-starts-added from xs ys [] u w h = (h, IsCharBoundary-at_seam (xs ++ ys) xs ys refl w, omega (arith, length-append xs ys))
-starts-added from xs ys (s ∷ ss) u w h = (h.0, boundary-more xs ys s u w h.1, starts-added s xs ys ss u w h.2)
+pub starts-added : (xs ys ss : List ℕ) → IsUtf8 xs → IsUtf8 ys → AreStarts xs ss → AreStarts (xs ++ ys) (ss ++ length (xs ++ ys) ∷ [])
+starts-added xs ys [] u w h = absurd h
+starts-added xs ys (s ∷ []) u w h = (omega (arith, h, length-append xs ys), subst (IsCharBoundary (xs ++ ys)) (sym h) (IsCharBoundary-at_seam (xs ++ ys) xs ys refl w), refl)
+starts-added xs ys (s ∷ e ∷ es) u w h = (h.0, boundary-more xs ys s u w h.1, starts-added xs ys (e ∷ es) u w h.2)
 
-next-added : (ss : List ℕ) (n m : ℕ) → get_or (ss ++ n ∷ []) 0 m ≡ get_or ss 0 n
-next-added [] n m = refl
-next-added (s ∷ ss) n m = refl
-
-pub texts-added : (from : ℕ) (xs ys ss : List ℕ) → AreStarts from xs ss → texts_in (xs ++ ys) (ss ++ length xs ∷ []) ≡ texts_in xs ss ++ chars ys ∷ []
-texts-added from xs ys [] h = ap (λ t. chars t ∷ []) (range-added xs ys)
-texts-added from xs ys (s ∷ ss) h =
-    let next : ℕ = get_or ss 0 (length xs) in
-    let text : slice_range (xs ++ ys) s (get_or (ss ++ length xs ∷ []) 0 (length (xs ++ ys))) ≡ slice_range xs s next =
-    ap (slice_range (xs ++ ys) s) (next-added ss (length xs) (length (xs ++ ys))) ∙ range-front xs ys s next (start-above s xs ss 0 h.2) (start-boundary s xs ss 0 h.2).0 in
-    rw (text, texts-added s xs ys ss h.2) refl
+pub texts-added : (xs ys ss : List ℕ) → AreStarts xs ss → texts_in (xs ++ ys) (ss ++ length (xs ++ ys) ∷ []) ≡ texts_in xs ss ++ chars ys ∷ []
+texts-added xs ys [] h = absurd h
+texts-added xs ys (s ∷ []) h = rw h (ap (λ t. chars t ∷ []) (range-added xs ys))
+texts-added xs ys (s ∷ e ∷ es) h = rw (range-front xs ys s e h.0 (start-boundary xs (e ∷ es) 0 h.2 (omega arith)).0, texts-added xs ys (e ∷ es) h.2) refl
 
 -- ---- a text at a place
 
-pub length_texts : (bs ss : List ℕ) → length (texts_in bs ss) ≡ length ss
-length_texts bs [] = refl
-length_texts bs (s ∷ ss) = ap suc (length_texts bs ss)
+pub length_texts : (bs ss : List ℕ) → AreStarts bs ss → suc (length (texts_in bs ss)) ≡ length ss
+length_texts bs [] h = absurd h
+length_texts bs (s ∷ []) h = refl
+length_texts bs (s ∷ e ∷ es) h = ap suc (length_texts bs (e ∷ es) h.2)
 
-pub text-at : (bs ss : List ℕ) (i : ℕ) → i < length ss → get_or (texts_in bs ss) i [] ≡ chars (slice_range bs (get_or ss i (length bs)) (get_or ss (suc i) (length bs)))
-text-at bs [] i within = absurd (omega arith)
-text-at bs (s ∷ ss) zero within = refl
-text-at bs (s ∷ ss) (suc i) within = text-at bs ss i (omega arith)
+pub text-at : (bs ss : List ℕ) (i : ℕ) → AreStarts bs ss → suc i < length ss → get_or (texts_in bs ss) i [] ≡ chars (slice_range bs (get_or ss i 0) (get_or ss (suc i) 0))
+text-at bs [] i h within = absurd h
+text-at bs (s ∷ []) i h within = absurd (omega arith)
+text-at bs (s ∷ e ∷ es) zero h within = refl
+text-at bs (s ∷ e ∷ es) (suc i) h within = text-at bs (e ∷ es) i h.2 (omega arith)
 
 -- ---- each text has UTF-8, which takes no more bytes than all of them
 
-pub texts-of_starts : (from : ℕ) (bs ss : List ℕ) → IsUtf8 bs → length bs < 2 ^ 63 → AreStarts from bs ss → list_all is_text (texts_in bs ss) ≡ true
-texts-of_starts from bs [] u few h = refl
-texts-of_starts from bs (s ∷ ss) u few h =
-    let next : ℕ = get_or ss 0 (length bs) in
-    let part : List ℕ = slice_range bs s next in
-    let order : s ≤ next = start-above s bs ss 0 h.2 in
-    let behind : IsCharBoundary bs next = start-boundary s bs ss 0 h.2 in
-    let good : IsUtf8 part = IsUtf8-between bs s next u order h.1 behind in
+pub texts-of_starts : (bs ss : List ℕ) → IsUtf8 bs → length bs < 2 ^ 63 → AreStarts bs ss → list_all is_text (texts_in bs ss) ≡ true
+texts-of_starts bs [] u few h = absurd h
+texts-of_starts bs (s ∷ []) u few h = refl
+texts-of_starts bs (s ∷ e ∷ es) u few h =
+    let part : List ℕ = slice_range bs s e in
+    let behind : IsCharBoundary bs e = start-boundary bs (e ∷ es) 0 h.2 (omega arith) in
+    let good : IsUtf8 part = IsUtf8-between bs s e u h.0 h.1 behind in
     let same : encodes (chars part) ≡ part = encodes-chars part good in
-    let short : length part ≤ length bs = omega (arith, order, behind.0, length-drop s bs, length-take-le (next - s) (drop s bs) (omega (arith, order, behind.0, length-drop s bs))) in
+    let short : length part ≤ length bs = omega (arith, h.0, behind.0, length-drop s bs, length-take-le (e - s) (drop s bs) (omega (arith, h.0, behind.0, length-drop s bs))) in
     let one : is_utf8 (encodes (chars part)) ≡ true = ap is_utf8 same ∙ is_utf8-from_IsUtf8 part good in
     let two : (length (encodes (chars part)) < 2 ^ 63) = omega (arith, ap length same) in
-    rw (one, lt-ltb (length (encodes (chars part))) (2 ^ 63) two, texts-of_starts s bs ss u few h.2) refl
+    rw (one, lt-ltb (length (encodes (chars part))) (2 ^ 63) two, texts-of_starts bs (e ∷ es) u few h.2) refl
 
 -- ---- empty texts
 
@@ -113,8 +108,8 @@ no_range : (bs : List ℕ) (a b : ℕ) → b ≤ a → chars (slice_range bs a b
 no_range bs a b h = let none : b - a ≡ 0 = omega arith in ap (λ n. chars (take n (drop a bs))) none ∙ chars-nil
 
 -- Where the last of some texts ends where the first begins, all are empty.
-pub empty-between : (bs ss : List ℕ) (i end : ℕ) → AreStarts 0 bs ss → end ≤ length ss → get_or ss i (length bs) ≡ get_or ss end (length bs)
+pub empty-between : (bs ss : List ℕ) (i end : ℕ) → AreStarts bs ss → end < length ss → get_or ss i 0 ≡ get_or ss end 0
     → (k : ℕ) → i ≤ k → k < end → get_or (texts_in bs ss) k [] ≡ []
 empty-between bs ss i end h within same k low high =
-    text-at bs ss k (omega arith)
-    ∙ no_range bs (get_or ss k (length bs)) (get_or ss (suc k) (length bs)) (omega (arith, starts-rise 0 bs ss i k h low, starts-rise 0 bs ss (suc k) end h (omega arith)))
+    text-at bs ss k h (omega arith)
+    ∙ no_range bs (get_or ss k 0) (get_or ss (suc k) 0) (omega (arith, starts-rise bs ss i k h low (omega arith), starts-rise bs ss (suc k) end h (omega arith) within))

@@ -41,6 +41,6 @@ skip_while passes text = drop (prefix_len passes text) text
 unfoldable pub identifier_of : List ℕ → List ℕ
 identifier_of cs = skip_while is_no_start (join_with_byte 45 (parts_between (λ c. not (is_id_char c)) (filter is_ascii cs)))
 
--- The id that a text gives: its name, decomposed (NFKD), as an identifier. A name in ASCII is decomposed.
+-- The id that a text gives: its name, decomposed (NFKD), as an identifier. A name in ASCII is already decomposed.
 unfoldable pub id_of : List ℕ → List ℕ
 id_of text = let name = name_of text in identifier_of (if list_all is_ascii name then name else nfkd name)

@@ -1,5 +1,5 @@
 //! Texts as they are kept: one after another in one `String`.
-ghost use Rattle.std.specs.Prelude.{◌≡◌, ◌≤◌, ◌<◌, ◌^◌, [], ◌∷◌, ◌++◌, length, slice_index_or, encode_utf8_all, IfOk, IsTrue};
+ghost use Rattle.std.specs.Prelude.{◌≡◌, ◌+◌, ◌≤◌, ◌<◌, ◌^◌, [], ◌∷◌, ◌++◌, length, slice_index_or, encode_utf8_all, IfOk, IsTrue};
 ghost use Rattle.std.specs.Str.{chars};
 ghost use Rattle.std.specs.List.{list_all};
 ghost use Rattle.rst_text.specs.Kept.{AreEmpty, IsEmptyRun};
@@ -13,7 +13,7 @@ use std::marker::Model;
 #[derive(Debug, Drop)]
 pub(crate) struct Kept {
     text: String,
-    /// The place of each text's first byte: a text ends where the next begins.
+    /// The place of each text's first byte, and at last that of the end of all: a text ends where the next begins.
     starts: Vec<usize>,
 }
 
@@ -27,7 +27,7 @@ impl Model for Kept {
 
     ghost view = { λ k. texts_in (string_bytes k.text) k.starts.items };
 
-    ghost invariant = { λ k. AreStarts 0 (string_bytes k.text) k.starts.items };
+    ghost invariant = { λ k. AreStarts (string_bytes k.text) k.starts.items };
 }
 
 impl Kept {
@@ -36,7 +36,8 @@ impl Kept {
         ensures { IfOk result (λ kept. kept ≡ []) }
     {
         let text = String::with_capacity(alloc, bytes)?;
-        let starts = Vec::new(alloc);
+        let mut starts = Vec::new(alloc);
+        starts.push(0)?;
         Ok(Kept { text, starts })
     }
 
@@ -44,8 +45,10 @@ impl Kept {
     pub(crate) fn push(&mut self, text: &str) -> Result<(), AllocError>
         ensures { IfOk result (λ _. self.new ≡ self.old ++ chars text.now ∷ []) }
     {
-        self.starts.push(self.text.len())?;
+        // With this room the end's place finds its own, so nothing is half kept.
+        self.starts.reserve(1)?;
         self.text.push_str(text)?;
+        self.starts.push(self.text.len())?;
         Ok(())
     }
 
@@ -56,7 +59,7 @@ impl Kept {
         ensures few { length self.now < 2 ^ 63 }
         ensures texts { IsTrue (list_all is_text self.now) }
     {
-        self.starts.len()
+        self.starts.len() - 1
     }
 
     /// The text at place `i`, counted from 0.
@@ -64,8 +67,7 @@ impl Kept {
         requires { i < length self.now }
         ensures { result.now ≡ encode_utf8_all (slice_index_or self.now i []) }
     {
-        let text = self.text.as_str();
-        &text[start_of(i, &self.starts, text)..start_of(i + 1, &self.starts, text)]
+        &self.text.as_str()[self.starts[i]..self.starts[i + 1]]
     }
 
     /// Whether the texts from place `i` up to place `end` are empty. `false` tells nothing.
@@ -75,8 +77,7 @@ impl Kept {
         ensures { IsTrue result → AreEmpty (numbered_from 0 self.now) i end }
     {
         // The texts are in order, so all are empty if the last ends where the first begins.
-        let text = self.text.as_str();
-        start_of(i, &self.starts, text) == start_of(end, &self.starts, text)
+        self.starts[i] == self.starts[end]
     }
 
     /// The place after some empty texts from place `i` on, `to` at most. A long run of them takes few steps: each is
@@ -100,15 +101,5 @@ impl Kept {
             }
         }
         end
-    }
-}
-
-/// Where the text at place `i` begins, or would begin: behind all bytes.
-fn start_of(i: usize, starts: &[usize], text: &str) -> usize
-    ensures { result ≡ slice_index_or starts.now i (length text.now) }
-{
-    match starts.get(i) {
-        Some(start) => *start,
-        None => text.len(),
     }
 }

@@ -16,7 +16,7 @@ use Rattle.rst_transform_work.specs.Known.{Holds, Known, Makes}
 use Rattle.rst_transform_work.specs.Reports.{report_in, IsReported, KeepsRest}
 use Rattle.rst_transform_work.proofs.Holding.{holds_names, holds_reported}
 use Rattle.rst_transform_footnotes.specs.FootnoteLabels.{labels}
-use Rattle.rst_transform_footnotes.specs.Footnotes.{first_left_over, footnote_outcomes, is_apart, numbered_entry, outcomes_by, leftover, too_many, with_numbers}
+use Rattle.rst_transform_footnotes.specs.Footnotes.{first_left_over, footnote_outcomes, is_no_footnote, numbered_entry, outcomes_by, leftover, too_many, with_numbers}
 
 -- the references left over that there are
 pub left_over_of : (first : Option ℕ) (order : Order) (line footnotes counted place : ℕ) (text : List ℕ) (before after : Context) → first ≡ Some line → counted ≡ footnotes → text ≡ too_many order counted
@@ -28,12 +28,12 @@ left_over_of (Some first) order line footnotes counted place text before after i
     (ap Some (at ∙ ap length h.reports), holds_reported Error first (too_many order footnotes) true before after known h rest (rw (says, count, same) at reports))
 
 -- no element is a footnote or a reference to one
-pub none_decided : (linked : List Held) (context : Context) (outcomes : List Outcome) → list_all is_apart linked ≡ true → outcomes ≡ [] → Makes (footnote_outcomes linked) context context outcomes
+pub none_decided : (linked : List Held) (context : Context) (outcomes : List Outcome) → list_all is_no_footnote linked ≡ true → outcomes ≡ [] → Makes (footnote_outcomes linked) context context outcomes
 none_decided linked context outcomes apart become known h = rw apart (become, h)
 
 -- the steps, by what was listed
 pub decided : (linked : List Held) (list : List (Option (List ℕ))) (found : List (Option ℕ)) (before between after : Context) (names : Names) (numbers symbols : Option ℕ) (outcomes : List Outcome)
-    → list_all is_apart linked ≡ false → list ≡ labels linked → found ≡ found_by_order linked → ((name : List ℕ) → held_by names name ≡ with_numbers list linked (held_by before.names) name)
+    → list_all is_no_footnote linked ≡ false → list ≡ labels linked → found ≡ found_by_order linked → ((name : List ℕ) → held_by names name ≡ with_numbers list linked (held_by before.names) name)
     → Makes (leftover (first_left_over Numbers found linked) Numbers (length (in_order Numbers linked))) (record before { names = names }) between numbers
     → Makes (leftover (first_left_over Symbols found linked) Symbols (length (in_order Symbols linked))) between after symbols
     → outcomes ≡ outcomes_by linked list found numbers symbols → Makes (footnote_outcomes linked) before after outcomes

@@ -139,8 +139,8 @@ is_of_footnotes (Element FootnoteReference a c l) = true
 is_of_footnotes _ = false
 
 -- an element is no footnote and no reference to one
-abbrev pub is_apart : Held → Bool
-is_apart one = not (is_of_footnotes one.0)
+abbrev pub is_no_footnote : Held → Bool
+is_no_footnote one = not (is_of_footnotes one.0)
 
 -- What becomes of linked elements: nothing if none of them is a footnote or a reference to one. The numbers are held as names, and then come
 -- the messages on the references left over, those to numbered footnotes first.
@@ -148,5 +148,5 @@ abbrev pub footnote_outcomes : List Held → Known → List Outcome × Known
 footnote_outcomes linked known =
     let numbers : Option ℕ × Known = leftover_of Numbers linked (record known { names = with_numbers (labels linked) linked known.names }) in
     let symbols : Option ℕ × Known = leftover_of Symbols linked numbers.1 in
-    if list_all is_apart linked then ([], known)
+    if list_all is_no_footnote linked then ([], known)
     else (outcomes_by linked (labels linked) (found_by_order linked) numbers.0 symbols.0, symbols.1)

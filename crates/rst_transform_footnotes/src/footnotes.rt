@@ -4,7 +4,7 @@ ghost use Rattle.std.specs.List.{list_all};
 ghost use Rattle.std.specs.Option.{option_or};
 ghost use Rattle.rst_tree.specs.Faults.{Gives};
 ghost use Rattle.rst_transform_names.specs.Names.{held_by};
-ghost use Rattle.rst_transform_footnotes.specs.Footnotes.{entry_of, first_left_over, footnote_outcomes, is_apart, is_label, is_of_footnotes, label_in, labelled, lead_to_footnote, outcome_by, outcomes_by, own_number, referring, report_of, leftover, too_many, with_number, with_numbers};
+ghost use Rattle.rst_transform_footnotes.specs.Footnotes.{entry_of, first_left_over, footnote_outcomes, is_no_footnote, is_label, is_of_footnotes, label_in, labelled, lead_to_footnote, outcome_by, outcomes_by, own_number, referring, report_of, leftover, too_many, with_number, with_numbers};
 ghost use Rattle.rst_transform_links.specs.Linkings.{held};
 ghost use Rattle.rst_transform_links.specs.FootnoteOrders.{in_order, reference_order};
 ghost use Rattle.rst_transform_work.specs.Known.{Makes};
@@ -74,7 +74,7 @@ pub fn footnote_outcomes(context: &mut Context, linked: &[Linked<'_>]) -> Result
 
 /// Whether no element is a footnote or a reference to one.
 fn none_is_of_footnotes(linked: &[Linked<'_>]) -> bool
-    ensures { result ≡ list_all (λ one. is_apart (held one)) linked.now }
+    ensures { result ≡ list_all (λ one. is_no_footnote (held one)) linked.now }
 {
     linked.iter().all(|one| !is_of_footnotes(one.element))
 }

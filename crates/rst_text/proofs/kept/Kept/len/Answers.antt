@@ -9,4 +9,4 @@ pub returns-clause-texts : goal.returns-clause-texts
 returns-clause-texts c =
     let t = c.self.inside.text in
     let few : length (string_bytes t) < 2 ^ 63 = omega (arith, t.bytes.ok, t.bytes.small) in
-    sym (ap (list_all is_text) c.self.view_is) ∙ texts-of_starts 0 (string_bytes t) c.self.inside.starts.items (IsUtf8-string_bytes t) few c.self.invariant
+    sym (ap (list_all is_text) c.self.view_is) ∙ texts-of_starts (string_bytes t) c.self.inside.starts.items (IsUtf8-string_bytes t) few c.self.invariant
