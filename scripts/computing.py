@@ -1,6 +1,7 @@
 #!/usr/bin/env python3
 """Writes proofs/Computing.antt in each crate that has one: the name that opens, for a proof by computing, each definition of the crate that
-is shut (`unfoldable`), and those of the crates that it lists in crates.txt. With --check it only compares."""
+is shut (`unfoldable`), and those of the crates that it lists in crates.txt. In the crates of which the worked examples take long it also
+writes the proofs of these: that they hold by computing, which takes a third of the time of a search. With --check it only compares."""
 
 import pathlib
 import re
@@ -17,6 +18,8 @@ FURTHER = {
     "rst_transform_docinfo": ["Rattle.std.specs.Str.trim_start", "Rattle.std.specs.Str.trim_end"],
     "rst2pseudoxml_run": ["Rattle.std.specs.Str.chars", "Rattle.std.specs.Str.is_utf8", "Rattle.std.specs.Str.Lossy.utf8_valid_len"],
 }
+# the crates whose worked examples have a proof of their own
+ANSWERED = ["rst_block_state"]
 WIDTH = 150
 
 
@@ -32,6 +35,16 @@ def shut(crate):
             yield f"Rattle.{module}.{name}"
 
 
+def filled(margin, words):
+    """Lines of words, behind a margin."""
+    lines = [margin]
+    for word in words:
+        if len(lines[-1]) + 1 + len(word) > WIDTH:
+            lines.append(margin)
+        lines[-1] += " " + word
+    return lines
+
+
 def text_of(crate, libraries):
     names = KIT["std"] + FURTHER.get(crate, [])
     for library in libraries:
@@ -39,22 +52,47 @@ def text_of(crate, libraries):
             names += KIT[library]
         elif computing(library).exists():
             names.append(f"Rattle.{library}.proofs.Computing.{library}")
-    lines = [""]
-    for name in names + list(shut(crate)):
-        if len(lines[-1]) + 1 + len(name) > WIDTH - 3:
-            lines.append("")
-        lines[-1] += " " + name
     return "\n".join(
         [
             f"-- `unfolding {crate}` lets `refl` compute what the definitions give for a text that is written out. scripts/computing.py writes this file.",
             "",
             f"unfoldable pub {crate} : Unit {{0}}",
             "unfolding",
-            *("   " + line for line in lines),
+            *filled("   ", names + list(shut(crate))),
             f"{crate} = tt",
             "",
         ]
     )
+
+
+def answers(crate):
+    """The proofs of a crate's worked examples, each with its path."""
+    proofs = TOP / "crates" / crate / "proofs"
+    for path in sorted((TOP / "crates" / crate / "src" / "rows").glob("*.rt")):
+        for name, clauses in re.findall(r"^pub fn (\w+)\(\)\n(.*?)^\{\}", path.read_text(), re.M | re.S):
+            goals = ["Rattle", crate, "proofs", "rows", path.stem, name, "Goals"]
+            fields = [f"{clause} = refl;" for clause in re.findall(r"^    ensures (\w+) \{", clauses, re.M)]
+            lines = [
+                "use Rattle.std.proofs.Common.{refl}",
+                f"use Rattle.{crate}.proofs.Computing.{{{crate}}}",
+                f"use {'.'.join(goals)} as goal",
+                "",
+                "pub returns : goal.returns",
+                f"unfolding {crate}",
+                "returns c = record {",
+                *filled("   ", fields),
+                "  }",
+                "",
+            ]
+            yield proofs / "rows" / path.stem / name / "Answers.antt", "\n".join(lines)
+
+
+def written(crate, libraries):
+    """What is written in a crate: each file's path and text."""
+    if computing(crate).exists():
+        yield computing(crate), text_of(crate, libraries)
+    if crate in ANSWERED:
+        yield from answers(crate)
 
 
 def main():
@@ -64,16 +102,14 @@ def main():
     stale = []
     for line in (TOP / "crates.txt").read_text().splitlines():
         crate, _, libraries = line.split("#")[0].partition(":")
-        crate = crate.strip()
-        if not crate or not computing(crate).exists():
-            continue
-        text = text_of(crate, libraries.split())
-        if check and computing(crate).read_text() != text:
-            stale.append(crate)
-        elif not check:
-            computing(crate).write_text(text)
+        for path, text in written(crate.strip(), libraries.split()):
+            if not check:
+                path.parent.mkdir(parents=True, exist_ok=True)
+                path.write_text(text)
+            elif not path.exists() or path.read_text() != text:
+                stale.append(str(path.relative_to(TOP)))
     if stale:
-        sys.exit(f"proofs/Computing.antt isn't what scripts/computing.py writes: {' '.join(stale)}")
+        sys.exit(f"scripts/computing.py writes another text: {' '.join(stale)}")
 
 
 if __name__ == "__main__":

@@ -1,0 +1,9 @@
+use Rattle.std.proofs.Common.{refl}
+use Rattle.rst_block_state.proofs.Computing.{rst_block_state}
+use Rattle.rst_block_state.proofs.rows.blocks.doctests.Goals as goal
+
+pub returns : goal.returns
+unfolding rst_block_state
+returns c = record {
+    lines = refl; no_markup = refl; no_mark = refl;
+  }

@@ -1,0 +1,9 @@
+use Rattle.std.proofs.Common.{refl}
+use Rattle.rst_block_state.proofs.Computing.{rst_block_state}
+use Rattle.rst_block_state.proofs.rows.explicit.citations.Goals as goal
+
+pub returns : goal.returns
+unfolding rst_block_state
+returns c = record {
+    one = refl; no_label = refl;
+  }
