@@ -19,7 +19,7 @@ FURTHER = {
     "rst2pseudoxml_run": ["Rattle.std.specs.Str.chars", "Rattle.std.specs.Str.is_utf8", "Rattle.std.specs.Str.Lossy.utf8_valid_len"],
 }
 # the crates whose worked examples have a proof of their own
-ANSWERED = ["rst_block_state"]
+ANSWERED = ["rst_block_state", "rst2pseudoxml_run"]
 WIDTH = 150
 
 
@@ -67,10 +67,12 @@ def text_of(crate, libraries):
 
 def answers(crate):
     """The proofs of a crate's worked examples, each with its path."""
+    sources = TOP / "crates" / crate / "src"
     proofs = TOP / "crates" / crate / "proofs"
-    for path in sorted((TOP / "crates" / crate / "src" / "rows").glob("*.rt")):
+    for path in sorted([*sources.glob("rows.rt"), *sources.glob("rows/*.rt")]):
         for name, clauses in re.findall(r"^pub fn (\w+)\(\)\n(.*?)^\{\}", path.read_text(), re.M | re.S):
-            goals = ["Rattle", crate, "proofs", "rows", path.stem, name, "Goals"]
+            module = [*path.relative_to(sources).with_suffix("").parts, name]
+            goals = ["Rattle", crate, "proofs", *module, "Goals"]
             fields = [f"{clause} = refl;" for clause in re.findall(r"^    ensures (\w+) \{", clauses, re.M)]
             lines = [
                 "use Rattle.std.proofs.Common.{refl}",
@@ -84,7 +86,7 @@ def answers(crate):
                 "  }",
                 "",
             ]
-            yield proofs / "rows" / path.stem / name / "Answers.antt", "\n".join(lines)
+            yield proofs.joinpath(*module, "Answers.antt"), "\n".join(lines)
 
 
 def written(crate, libraries):
