@@ -35,16 +35,6 @@ def shut(crate):
             yield f"Rattle.{module}.{name}"
 
 
-def filled(margin, words):
-    """Lines of words, behind a margin."""
-    lines = [margin]
-    for word in words:
-        if len(lines[-1]) + 1 + len(word) > WIDTH:
-            lines.append(margin)
-        lines[-1] += " " + word
-    return lines
-
-
 def text_of(crate, libraries):
     names = KIT["std"] + FURTHER.get(crate, [])
     for library in libraries:
@@ -52,13 +42,18 @@ def text_of(crate, libraries):
             names += KIT[library]
         elif computing(library).exists():
             names.append(f"Rattle.{library}.proofs.Computing.{library}")
+    lines = [""]
+    for name in names + list(shut(crate)):
+        if len(lines[-1]) + 1 + len(name) > WIDTH - 3:
+            lines.append("")
+        lines[-1] += " " + name
     return "\n".join(
         [
             f"-- `unfolding {crate}` lets `refl` compute what the definitions give for a text that is written out. scripts/computing.py writes this file.",
             "",
             f"unfoldable pub {crate} : Unit {{0}}",
             "unfolding",
-            *filled("   ", names + list(shut(crate))),
+            *("   " + line for line in lines),
             f"{crate} = tt",
             "",
         ]
@@ -73,7 +68,6 @@ def answers(crate):
         for name, clauses in re.findall(r"^pub fn (\w+)\(\)\n(.*?)^\{\}", path.read_text(), re.M | re.S):
             module = [*path.relative_to(sources).with_suffix("").parts, name]
             goals = ["Rattle", crate, "proofs", *module, "Goals"]
-            fields = [f"{clause} = refl;" for clause in re.findall(r"^    ensures (\w+) \{", clauses, re.M)]
             lines = [
                 "use Rattle.std.proofs.Common.{refl}",
                 f"use Rattle.{crate}.proofs.Computing.{{{crate}}}",
@@ -82,8 +76,8 @@ def answers(crate):
                 "pub returns : goal.returns",
                 f"unfolding {crate}",
                 "returns c = record {",
-                *filled("   ", fields),
-                "  }",
+                *(f"  {clause} = refl;" for clause in re.findall(r"^    ensures (\w+) \{", clauses, re.M)),
+                "}",
                 "",
             ]
             yield proofs.joinpath(*module, "Answers.antt"), "\n".join(lines)

@@ -5,5 +5,5 @@ use Rattle.rst2pseudoxml_run.proofs.rows.anonymous_references.Goals as goal
 pub returns : goal.returns
 unfolding rst2pseudoxml_run
 returns c = record {
-    mismatch = refl;
-  }
+  mismatch = refl;
+}

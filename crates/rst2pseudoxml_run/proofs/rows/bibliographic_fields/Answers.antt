@@ -5,5 +5,7 @@ use Rattle.rst2pseudoxml_run.proofs.rows.bibliographic_fields.Goals as goal
 pub returns : goal.returns
 unfolding rst2pseudoxml_run
 returns c = record {
-    fields = refl; topics = refl; form = refl;
-  }
+  fields = refl;
+  topics = refl;
+  form = refl;
+}

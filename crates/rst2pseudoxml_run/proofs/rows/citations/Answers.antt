@@ -5,5 +5,5 @@ use Rattle.rst2pseudoxml_run.proofs.rows.citations.Goals as goal
 pub returns : goal.returns
 unfolding rst2pseudoxml_run
 returns c = record {
-    citation = refl;
-  }
+  citation = refl;
+}

@@ -5,5 +5,7 @@ use Rattle.rst2pseudoxml_run.proofs.rows.document_titles.Goals as goal
 pub returns : goal.returns
 unfolding rst2pseudoxml_run
 returns c = record {
-    title = refl; comment_before = refl; two_sections = refl;
-  }
+  title = refl;
+  comment_before = refl;
+  two_sections = refl;
+}

@@ -5,5 +5,5 @@ use Rattle.rst2pseudoxml_run.proofs.rows.halt_levels.Goals as goal
 pub returns : goal.returns
 unfolding rst2pseudoxml_run
 returns c = record {
-    halted = refl;
-  }
+  halted = refl;
+}

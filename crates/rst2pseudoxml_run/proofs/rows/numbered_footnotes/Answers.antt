@@ -5,5 +5,6 @@ use Rattle.rst2pseudoxml_run.proofs.rows.numbered_footnotes.Goals as goal
 pub returns : goal.returns
 unfolding rst2pseudoxml_run
 returns c = record {
-    numbered = refl; too_many = refl;
-  }
+  numbered = refl;
+  too_many = refl;
+}

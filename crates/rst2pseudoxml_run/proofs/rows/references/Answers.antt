@@ -5,5 +5,5 @@ use Rattle.rst2pseudoxml_run.proofs.rows.references.Goals as goal
 pub returns : goal.returns
 unfolding rst2pseudoxml_run
 returns c = record {
-    unknown = refl;
-  }
+  unknown = refl;
+}

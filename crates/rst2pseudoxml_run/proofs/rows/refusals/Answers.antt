@@ -5,5 +5,7 @@ use Rattle.rst2pseudoxml_run.proofs.rows.refusals.Goals as goal
 pub returns : goal.returns
 unfolding rst2pseudoxml_run
 returns c = record {
-    long_line = refl; too_deep = refl; not_utf8 = refl;
-  }
+  long_line = refl;
+  too_deep = refl;
+  not_utf8 = refl;
+}

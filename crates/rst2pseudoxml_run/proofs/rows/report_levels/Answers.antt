@@ -5,5 +5,7 @@ use Rattle.rst2pseudoxml_run.proofs.rows.report_levels.Goals as goal
 pub returns : goal.returns
 unfolding rst2pseudoxml_run
 returns c = record {
-    text_of_a_problematic = refl; infos = refl; in_the_exit_status = refl;
-  }
+  text_of_a_problematic = refl;
+  infos = refl;
+  in_the_exit_status = refl;
+}

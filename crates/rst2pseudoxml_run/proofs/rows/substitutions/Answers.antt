@@ -5,5 +5,9 @@ use Rattle.rst2pseudoxml_run.proofs.rows.substitutions.Goals as goal
 pub returns : goal.returns
 unfolding rst2pseudoxml_run
 returns c = record {
-    replaced = refl; by_its_name = refl; nested = refl; circle = refl; undefined = refl;
-  }
+  replaced = refl;
+  by_its_name = refl;
+  nested = refl;
+  circle = refl;
+  undefined = refl;
+}

@@ -5,5 +5,5 @@ use Rattle.rst2pseudoxml_run.proofs.rows.symbol_footnotes.Goals as goal
 pub returns : goal.returns
 unfolding rst2pseudoxml_run
 returns c = record {
-    symbols = refl;
-  }
+  symbols = refl;
+}

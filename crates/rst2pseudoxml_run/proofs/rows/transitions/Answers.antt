@@ -5,5 +5,8 @@ use Rattle.rst2pseudoxml_run.proofs.rows.transitions.Goals as goal
 pub returns : goal.returns
 unfolding rst2pseudoxml_run
 returns c = record {
-    between = refl; out_of_a_section = refl; begins = refl; ends = refl;
-  }
+  between = refl;
+  out_of_a_section = refl;
+  begins = refl;
+  ends = refl;
+}

@@ -5,5 +5,13 @@ use Rattle.rst_block_state.proofs.rows.blocks.attributions.Goals as goal
 pub returns : goal.returns
 unfolding rst_block_state
 returns c = record {
-    one = refl; marks = refl; none = refl; lines = refl; before_a_text = refl; message = refl; deeper = refl; in_an_item = refl; after_another = refl;
-  }
+  one = refl;
+  marks = refl;
+  none = refl;
+  lines = refl;
+  before_a_text = refl;
+  message = refl;
+  deeper = refl;
+  in_an_item = refl;
+  after_another = refl;
+}

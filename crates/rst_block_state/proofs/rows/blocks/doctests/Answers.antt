@@ -5,5 +5,7 @@ use Rattle.rst_block_state.proofs.rows.blocks.doctests.Goals as goal
 pub returns : goal.returns
 unfolding rst_block_state
 returns c = record {
-    lines = refl; no_markup = refl; no_mark = refl;
-  }
+  lines = refl;
+  no_markup = refl;
+  no_mark = refl;
+}

@@ -5,5 +5,8 @@ use Rattle.rst_block_state.proofs.rows.blocks.quoted_literals.Goals as goal
 pub returns : goal.returns
 unfolding rst_block_state
 returns c = record {
-    lines = refl; any_punctuation = refl; inconsistent = refl; indented = refl;
-  }
+  lines = refl;
+  any_punctuation = refl;
+  inconsistent = refl;
+  indented = refl;
+}

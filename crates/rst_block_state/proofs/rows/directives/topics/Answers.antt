@@ -5,5 +5,7 @@ use Rattle.rst_block_state.proofs.rows.directives.topics.Goals as goal
 pub returns : goal.returns
 unfolding rst_block_state
 returns c = record {
-    one = refl; in_an_item = refl; in_an_item_without_content = refl;
-  }
+  one = refl;
+  in_an_item = refl;
+  in_an_item_without_content = refl;
+}

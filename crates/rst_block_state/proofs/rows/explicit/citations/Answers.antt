@@ -5,5 +5,6 @@ use Rattle.rst_block_state.proofs.rows.explicit.citations.Goals as goal
 pub returns : goal.returns
 unfolding rst_block_state
 returns c = record {
-    one = refl; no_label = refl;
-  }
+  one = refl;
+  no_label = refl;
+}

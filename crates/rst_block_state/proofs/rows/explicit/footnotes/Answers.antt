@@ -5,5 +5,6 @@ use Rattle.rst_block_state.proofs.rows.explicit.footnotes.Goals as goal
 pub returns : goal.returns
 unfolding rst_block_state
 returns c = record {
-    kinds = refl; body = refl;
-  }
+  kinds = refl;
+  body = refl;
+}

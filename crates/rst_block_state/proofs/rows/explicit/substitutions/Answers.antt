@@ -5,5 +5,9 @@ use Rattle.rst_block_state.proofs.rows.explicit.substitutions.Goals as goal
 pub returns : goal.returns
 unfolding rst_block_state
 returns c = record {
-    replacement = refl; image = refl; text_elements = refl; references = refl; messages_dropped = refl;
-  }
+  replacement = refl;
+  image = refl;
+  text_elements = refl;
+  references = refl;
+  messages_dropped = refl;
+}

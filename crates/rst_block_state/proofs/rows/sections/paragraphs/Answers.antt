@@ -5,5 +5,11 @@ use Rattle.rst_block_state.proofs.rows.sections.paragraphs.Goals as goal
 pub returns : goal.returns
 unfolding rst_block_state
 returns c = record {
-    empty = refl; of_lines = refl; blank_lines = refl; tab = refl; unexpected_indentation = refl; message_on_a_text = refl; line_ends = refl;
-  }
+  empty = refl;
+  of_lines = refl;
+  blank_lines = refl;
+  tab = refl;
+  unexpected_indentation = refl;
+  message_on_a_text = refl;
+  line_ends = refl;
+}

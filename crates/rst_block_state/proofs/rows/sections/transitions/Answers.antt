@@ -5,5 +5,7 @@ use Rattle.rst_block_state.proofs.rows.sections.transitions.Goals as goal
 pub returns : goal.returns
 unfolding rst_block_state
 returns c = record {
-    one = refl; too_short = refl; ends_a_document = refl;
-  }
+  one = refl;
+  too_short = refl;
+  ends_a_document = refl;
+}

@@ -5,5 +5,8 @@ use Rattle.rst_block_state.proofs.rows.tables.malformed_grids.Goals as goal
 pub returns : goal.returns
 unfolding rst_block_state
 returns c = record {
-    bottom_missing = refl; right_edge_broken = refl; two_head_rules = refl; incomplete = refl;
-  }
+  bottom_missing = refl;
+  right_edge_broken = refl;
+  two_head_rules = refl;
+  incomplete = refl;
+}

@@ -5,5 +5,8 @@ use Rattle.rst_block_state.proofs.rows.tables.malformed_simple_tables.Goals as g
 pub returns : goal.returns
 unfolding rst_block_state
 returns c = record {
-    border_mismatch = refl; bottom_missing = refl; span_alignment = refl; text_in_a_margin = refl;
-  }
+  border_mismatch = refl;
+  bottom_missing = refl;
+  span_alignment = refl;
+  text_in_a_margin = refl;
+}

@@ -5,7 +5,22 @@ use Rattle.rst_block_state.proofs.rows.texts.nesting.Goals as goal
 pub returns : goal.returns
 unfolding rst_block_state
 returns c = record {
-    item = refl; fits = refl; blank_item = refl; enumerated_list = refl; definition = refl; field = refl; option = refl; quote = refl;
-    footnote = refl; citation = refl; directive = refl; second_block = refl; figure = refl; wrong_directive = refl; cell = refl; line_blocks = refl;
-    replacement = refl; in_order = refl;
-  }
+  item = refl;
+  fits = refl;
+  blank_item = refl;
+  enumerated_list = refl;
+  definition = refl;
+  field = refl;
+  option = refl;
+  quote = refl;
+  footnote = refl;
+  citation = refl;
+  directive = refl;
+  second_block = refl;
+  figure = refl;
+  wrong_directive = refl;
+  cell = refl;
+  line_blocks = refl;
+  replacement = refl;
+  in_order = refl;
+}
