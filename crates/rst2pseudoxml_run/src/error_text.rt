@@ -25,7 +25,7 @@ pub fn halting(notes: &[Note], settings: &Settings) -> Option<Level>
 }
 
 /// Whether a message is reported.
-fn is_reported(note: &Note, settings: &Settings) -> bool
+pub fn is_reported(note: &Note, settings: &Settings) -> bool
     ensures { result ≡ spec.is_reported settings.now note.now }
 {
     let level = note.level.number();

@@ -11,6 +11,8 @@ mod reporting;
 pub mod rows;
 mod running;
 
+pub use document::document_of;
 pub use end::End;
+pub use error_text::{halting, is_reported, status_of};
 pub use reporting::{Stop, report};
-pub use running::run;
+pub use running::{run, show};

@@ -62,7 +62,7 @@ pub fn run<R: ReadCall, O: WriteCall, E: WriteCall>(
 ///
 /// The messages are gathered before the first write, so where memory runs out nothing was written. The document needs no
 /// memory: it is printed as it is written.
-fn show<O: WriteCall, E: WriteCall>(
+pub fn show<O: WriteCall, E: WriteCall>(
     alloc: Global,
     settings: &Settings,
     source: &str,

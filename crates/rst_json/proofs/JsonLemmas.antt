@@ -1,0 +1,100 @@
+-- JSON that is put piece by piece.
+use Rattle.std.proofs.Common.{◌≡◌, ℕ, ◌+◌, ◌<◌, ◌≤◌, List, [], ◌∷◌, ◌++◌, length, take, drop, get_or, true, false, None, Result, Ok, Err, refl, sym, ap, ◌∙◌, append_assoc, add-one, arith}
+use Rattle.std.proofs.lemmas.List.{flat_map_more, take_more, take_all, take_at, drop_at}
+use Rattle.std.proofs.lemmas.List.Folds.{flat_map-map}
+use Rattle.std.specs.Fmt.{decimal}
+use Rattle.std.specs.List.{flat_map, list_any}
+use Rattle.std.specs.Prelude.{Bool, ◌||◌, ◌==◌, nat_lt, if◌then◌else◌, map, codes}
+use Rattle.rst_json.specs.Json.{Adds, behind_comma, control, escaped_byte, is_escaped, json_attr, json_block, json_node, json_nodes, json_note, json_object, json_string, parted}
+use Rattle.rst_tree.proofs.PrintedParts.{flat_map-flat_map}
+use Rattle.rst_tree.specs.declared.attrs.Attr.{Attr}
+use Rattle.rst_tree.specs.declared.node.Node.{Node}
+use Rattle.rst_tree.specs.declared.node.Node.TheVariants.{Element, Text}
+use Rattle.rst_tree.specs.declared.note.Note.{Note}
+use Rattle.rst_tree.specs.declared.tag.Tag.{Tag}
+use Rattle.rst_tree.specs.Forest.{Forest}
+use Rattle.rst_tree.specs.LevelNames.{level_name, level_number}
+use Rattle.rst_tree.specs.Nodes.{forest_of}
+use Rattle.rst_tree.specs.PrintedAttributes.{all_with_printed_attrs, printed_attrs, with_printed_attrs}
+use Rattle.rst_tree.specs.TagNames.{tag_name}
+
+-- a byte that stands for itself
+plain_byte : (b : ℕ) (l q s : Bool) → (l || q || s) ≡ false
+    → (if q then 92 ∷ 34 ∷ [] else (if s then 92 ∷ 92 ∷ [] else (if l then control b else b ∷ []))) ≡ b ∷ []
+plain_byte b true q s h = cc
+plain_byte b false true s h = cc
+plain_byte b false false true h = cc
+plain_byte b false false false h = refl
+
+neither : (a b : Bool) → (a || b) ≡ false → (a ≡ false) × (b ≡ false)
+neither true b h = cc
+neither false b h = (refl, h)
+
+-- a text of such bytes
+pub unescaped : (t : List ℕ) → list_any is_escaped t ≡ false → flat_map escaped_byte t ≡ t
+unescaped [] h = refl
+unescaped (b ∷ t) h =
+    let k = neither (is_escaped b) (list_any is_escaped t) h in rw (plain_byte b (nat_lt b 32) (b == 34) (b == 92) k.0, unescaped t k.1) refl
+
+-- one more item
+pub next_item : {X : Type 0} (f : X → List ℕ) (xs : List X) (i : ℕ) (x : X) (start out next : List ℕ) → x ≡ get_or xs i x → i < length xs
+    → out ≡ start ++ flat_map f (take i xs) → next ≡ out ++ f x → next ≡ start ++ flat_map f (take (i + 1) xs)
+next_item f xs i x start out next at fits so_far adds =
+    adds ∙ ap (λ o. o ++ f x) so_far ∙ flat_map_more f start (take i xs) x
+    ∙ ap (λ y. start ++ flat_map f (take i xs ++ y ∷ [])) at ∙ ap (λ ys. start ++ flat_map f ys) (sym (take_more xs i x fits))
+
+-- items with a comma before each, whose first comma gives way to a bracket
+first_replaced : (items : List (List ℕ)) → drop 1 (flat_map behind_comma items) ≡ parted items
+first_replaced [] = refl
+first_replaced (item ∷ items) = refl
+
+behind_front : (old xs : List ℕ) → drop (length old + 1) (old ++ xs) ≡ drop 1 xs
+behind_front [] xs = refl
+behind_front (o ∷ old) xs = rw add-one (rw add-one at (behind_front old xs))
+
+pub enclosed : {A E : Type 0} (items : List (List ℕ)) (old out new : List ℕ) (start left right : ℕ) (result : Result A E)
+    → out ≡ old ++ flat_map behind_comma items → start ≡ length old
+    → Adds (take start out) new (left ∷ (drop (start + 1) out ++ right ∷ [])) result → Adds old new (left ∷ (parted items ++ right ∷ [])) result
+enclosed items old out new start left right (Ok done) is begins adds =
+    adds ∙ rw (is, begins, take_at old (flat_map behind_comma items) (length old) refl, behind_front old (flat_map behind_comma items), first_replaced items) refl
+enclosed items old out new start left right (Err fault) is begins adds = tt
+
+-- the items that two loops put
+pub items_of_texts : (ts : List (List ℕ)) (i : ℕ) → length ts ≤ i → flat_map (λ t. behind_comma (json_string t)) (take i ts) ≡ flat_map behind_comma (map json_string ts)
+items_of_texts ts i all = rw (take_all i ts all) (sym (flat_map-map behind_comma json_string ts))
+
+pub items_of_attrs : (attrs : List Attr) (i : ℕ) → length attrs ≤ i
+    → flat_map (λ a. flat_map behind_comma (json_attr a)) (take i attrs) ≡ flat_map behind_comma (flat_map json_attr attrs)
+items_of_attrs attrs i all = rw (take_all i attrs all) (sym (flat_map-flat_map behind_comma json_attr attrs))
+
+-- nodes, node by node
+pub nodes_one_by_one : (ns : List Node) → json_nodes (all_with_printed_attrs None (forest_of ns)) ≡ flat_map (λ n. behind_comma (json_node (with_printed_attrs None n))) ns
+nodes_one_by_one [] = refl
+nodes_one_by_one (Element t a c l ∷ ns) = rw (nodes_one_by_one ns) refl
+nodes_one_by_one (Text t ∷ ns) = rw (nodes_one_by_one ns) refl
+
+-- an element, piece by piece
+pieces : (o a b c d e f g h : List ℕ) → (((((((o ++ a) ++ b) ++ c) ++ d) ++ e) ++ f) ++ g) ++ h ≡ o ++ (a ++ b ++ c ++ d ++ e ++ f ++ g ++ h)
+pieces o a b c d e f g h = simp append_assoc
+
+pub element_put : (node : Node) (old name : List ℕ) (t : Tag) (a : List Attr) (c : Forest) (l : ℕ) (ns : List Node) (i : ℕ)
+    → node ≡ Element t a c l → c ≡ forest_of ns → length ns ≤ i → name ≡ tag_name t
+    → (((((((old ++ 91 ∷ []) ++ json_string name) ++ 44 ∷ []) ++ decimal l) ++ 44 ∷ []) ++ json_object (flat_map json_attr (printed_attrs None t a l)))
+    ++ flat_map (λ n. behind_comma (json_node (with_printed_attrs None n))) (take i ns)) ++ 93 ∷ [] ≡ old ++ json_node (with_printed_attrs None node)
+element_put node old name t a c l ns i is nodes all named =
+    rw (is, nodes, named, take_all i ns all, ← nodes_one_by_one ns)
+    (pieces old (codes "[") (json_string (tag_name t)) (codes ",") (decimal l) (codes ",") (json_object (flat_map json_attr (printed_attrs None t a l)))
+    (json_nodes (all_with_printed_attrs None (forest_of ns))) (codes "]"))
+
+-- a message, piece by piece
+members : (o a d b e c f g h k z : List ℕ)
+    → (((((((((o ++ a) ++ d) ++ b) ++ e) ++ c) ++ f) ++ g) ++ h) ++ k) ++ z ≡ o ++ (((a ++ d) ++ ((b ++ e) ++ ((c ++ f) ++ ((g ++ h) ++ k)))) ++ z)
+members o a d b e c f g h k z = simp append_assoc
+
+pub note_put : (note : Note) (old name : List ℕ) (number : ℕ) → name ≡ level_name note.level → number ≡ level_number note.level
+    → (((((((((old ++ codes ",{\"line\":") ++ decimal note.line) ++ codes ",\"level\":") ++ decimal number) ++ codes ",\"type\":") ++ json_string name) ++ codes ",\"text\":")
+    ++ json_string note.text) ++ flat_map behind_comma (json_block note.block)) ++ 125 ∷ [] ≡ old ++ behind_comma (json_note note)
+note_put note old name number named numbered =
+    rw (named, numbered)
+    (members old (codes ",{\"line\":") (decimal note.line) (codes ",\"level\":") (decimal (level_number note.level)) (codes ",\"type\":") (json_string (level_name note.level))
+    (codes ",\"text\":") (json_string note.text) (flat_map behind_comma (json_block note.block)) (125 ∷ []))

@@ -1,0 +1,121 @@
+//! Elements with their attributes, and texts.
+
+ghost use Rattle.std.specs.Prelude.{◌≡◌, map, None, Some};
+ghost use Rattle.std.specs.List.{flat_map};
+ghost use Rattle.rst_json.specs.Json.{Adds, behind_comma, json_array, json_attr, json_node, json_object, json_string};
+ghost use Rattle.rst_tree.specs.Attributes.{value_of, said_number, with_attr};
+ghost use Rattle.rst_tree.specs.Faults.{Gives};
+ghost use Rattle.rst_tree.specs.KeyNames.{key_name};
+ghost use Rattle.rst_tree.specs.PrintedAttributes.{printed_attrs, with_printed_attrs};
+ghost use Rattle.rst_tree.specs.declared.tag.Tag.TheVariants.{SystemMessage};
+
+use crate::list::enclose;
+use crate::string::{put_number, put_string};
+use rst_tree::{Attrs, Entry, Key, Level, Node, Result, Said, Tag, Text, Value};
+use std::alloc::Global;
+
+/// Puts a node: a text as a string, an element as an array of its tag, its line, an object of the attributes that it is printed with, and
+/// its nodes.
+pub fn put_node(alloc: Global, node: &Node, out: &mut Vec<u8>) -> Result<()>
+    ensures { Adds out.old.items out.new.items (json_node (with_printed_attrs None node.now)) result }
+{
+    match node {
+        Node::Text(text) => put_string(text.as_bytes(), out),
+        Node::Element {
+            tag,
+            attrs,
+            children,
+            line,
+        } => {
+            out.push(b'[')?;
+            put_string(tag.name().as_bytes(), out)?;
+            out.push(b',')?;
+            put_number(*line as u64, out)?;
+            out.push(b',')?;
+            put_printed_attrs(alloc, *tag, attrs, *line, out)?;
+            for child in children.as_slice() {
+                out.push(b',')?;
+                put_node(alloc, child, out)?;
+            }
+            out.push(b']')?;
+            Ok(())
+        }
+    }
+}
+
+/// Puts the attributes that an element is printed with: a message has its line and its type, too.
+fn put_printed_attrs(
+    alloc: Global,
+    tag: Tag,
+    attrs: &Attrs,
+    line: usize,
+    out: &mut Vec<u8>,
+) -> Result<()>
+    ensures { Adds out.old.items out.new.items (json_object (flat_map json_attr (printed_attrs None tag attrs.now line))) result }
+{
+    match tag {
+        Tag::SystemMessage => put_attrs(message_attrs(alloc, attrs, line)?.as_slice(), out),
+        _ => put_attrs(attrs.as_slice(), out),
+    }
+}
+
+/// The attributes of a message with its line and its type.
+fn message_attrs(alloc: Global, attrs: &Attrs, line: usize) -> Result<Attrs>
+    ensures { Gives (λ printed. printed ≡ printed_attrs None SystemMessage attrs.now line) result }
+{
+    let mut printed = attrs.copy(alloc)?;
+    printed.set(Key::Line, Value::Number(line as u64))?;
+    if let Some(number) = attrs.number(Key::Level) {
+        let name = Text::from_str(alloc, Level::of_number(number).name())?;
+        printed.set(Key::Type_, Value::Text(name))?;
+    }
+    Ok(printed)
+}
+
+/// Puts an object of the attributes, without those that aren't shown.
+fn put_attrs(attrs: &[Entry], out: &mut Vec<u8>) -> Result<()>
+    ensures { Adds out.old.items out.new.items (json_object (flat_map json_attr attrs.now)) result }
+{
+    let start = out.len();
+    for attr in attrs {
+        put_attr(attr, out)?;
+    }
+    enclose(start, b'{', b'}', out)
+}
+
+/// Puts an attribute behind a comma, unless it isn't shown.
+fn put_attr(attr: &Entry, out: &mut Vec<u8>) -> Result<()>
+    ensures { Adds out.old.items out.new.items (flat_map behind_comma (json_attr attr.now)) result }
+{
+    if attr.is_left_out() {
+        return Ok(());
+    }
+    out.push(b',')?;
+    put_string(name_of(attr.key()), out)?;
+    out.push(b':')?;
+    match attr.said() {
+        Said::Text(text) => put_string(text.as_bytes(), out),
+        Said::Number(number) => put_number(number, out),
+        Said::List(texts) => put_texts(texts, out),
+    }
+}
+
+/// The name of an attribute, which stands between a space and two bytes more where it is printed.
+fn name_of(key: Key) -> &'static [u8]
+    ensures { result.now ≡ key_name key }
+{
+    let opening = key.opening().as_bytes();
+    &opening[1..opening.len() - 2]
+}
+
+/// Puts an array of texts.
+fn put_texts(texts: &[Text], out: &mut Vec<u8>) -> Result<()>
+    ensures { Adds out.old.items out.new.items (json_array (map json_string texts.now)) result }
+{
+    let start = out.len();
+    for text in texts {
+        out.push(b',')?;
+        put_string(text.as_bytes(), out)?;
+    }
+    enclose(start, b'[', b']', out)
+}
