@@ -3,7 +3,7 @@
 use Rattle.std.proofs.Common.{◌≡◌, ℕ, zero, suc, ◌+◌, ◌-◌, ◌⊎◌, inl, inr, Bool, true, false, cond, ◌&&◌, ◌||◌, ◌==◌, List, [], ◌∷◌, length, take, drop, map, get_or, Option, Some, None, is_some, unwrap_or, refl, sym, ap, subst, ◌∙◌, arith, true≢false}
 use Rattle.std.specs.Prelude.{flat_map, nat_le}
 use Rattle.std.specs.Char.{is_whitespace}
-use Rattle.std.specs.List.{list_all, range_with_len, AllByRecursion}
+use Rattle.std.specs.List.{range_with_len, AllByRecursion}
 use Rattle.std.specs.Str.{drop_trailing_whitespace}
 use Rattle.std.proofs.lemmas.Bool.{eqb-true}
 use Rattle.std.proofs.lemmas.List.{take_all}
@@ -193,7 +193,7 @@ other_of : (a b : Bool) → (a || b) ≡ true → a ≡ false → b ≡ true
 other_of true b h k = absurd (true≢false k)
 other_of false b h k = h
 
-rest_dashed : (p : Place) (b : Bool) (ps : List Place) → consists_of 61 43 (p ∷ []) ≡ false → consists_of 61 43 (cond b (p ∷ ps) ps) ≡ true → (consists_of 61 43 ps ≡ true → AllByRecursion IsDashAt (map dash ps)) → AllByRecursion IsDashAt (map dash (cond b (p ∷ ps) ps))
+rest_dashed : (p : Place) (b : Bool) (ps : List Place) → (mark_of p == 61 || mark_of p == 43) ≡ false → consists_of 61 43 (cond b (p ∷ ps) ps) ≡ true → (consists_of 61 43 ps ≡ true → AllByRecursion IsDashAt (map dash ps)) → AllByRecursion IsDashAt (map dash (cond b (p ∷ ps) ps))
 rest_dashed p true ps none h k = absurd (true≢false (sym (and_left _ _ h) ∙ none))
 rest_dashed p false ps none h k = k h
 
