@@ -1,5 +1,6 @@
 # Installs the program of these sources (scripts/program.sh) with its manual page, the pages that the manual page cites, the
-# integrations, and completions for three shells. It doesn't build the program: scripts/build.sh does, if the kit is there.
+# integrations, and completions for three shells; and the library for C, if dist/ has one of these sources. It doesn't build the program:
+# scripts/build.sh does, if the kit is there.
 PREFIX = /usr/local
 DESTDIR =
 PROGRAM = rst2pseudoxml
@@ -11,6 +12,8 @@ own = $(PREFIX)/share/rst2pseudoxml
 bash = $(share)/bash-completion/completions/$(PROGRAM)
 zsh = $(share)/zsh/site-functions/_$(PROGRAM)
 fish = $(share)/fish/vendor_completions.d/$(PROGRAM).fish
+library = $(DESTDIR)$(PREFIX)/lib
+include = $(DESTDIR)$(PREFIX)/include
 scripts = check-pages.sh check-trees.sh
 files = docutils-names.txt sphinx-names.txt flycheck-rst2pseudoxml.el rst2pseudoxml.py vscode-tasks.json
 pages = docs/PROFILE.md docs/DOCUTILS.md docs/INTEGRATIONS.md
@@ -27,6 +30,7 @@ named = sed \
 
 help:
 	@echo 'make install      installs $(PROGRAM) below $(DESTDIR)$(PREFIX)'
+	@echo 'make install-library    installs the library for C alone, with its header'
 	@echo 'make uninstall    removes what was installed there'
 	@echo 'make dist         makes a tarball of the last commit, whose name has the version'
 	@echo 'make check        proves and tests everything, which takes the kit and an hour or more'
@@ -51,10 +55,27 @@ install:
 	cd "$(share)/doc/rst2pseudoxml" && chmod 644 *.md profile/*.md
 	cd "$(DESTDIR)$(own)" && chmod 644 $(files) && chmod 755 $(scripts)
 	chmod 644 "$(share)/man/man1/$(MANPAGE)" "$(bash)" "$(zsh)" "$(fish)"
+	! grep -qxs "library $$(scripts/digest.sh library)" dist/BUILT || $(MAKE) -s install-library
+
+# Programs are linked with the name librst2pseudoxml.so, and find the library by that of its interface.
+install-library:
+	mkdir -p "$(include)" "$(library)/pkgconfig"
+	cp include/rst2pseudoxml.h "$(include)"
+	rm -f "$(library)/librst2pseudoxml.so.1"
+	cp dist/librst2pseudoxml.a "$(library)"
+	cp dist/librst2pseudoxml.so "$(library)/librst2pseudoxml.so.1"
+	ln -sf librst2pseudoxml.so.1 "$(library)/librst2pseudoxml.so"
+	version=$$(sed -n 's/^\.TH .* "rst2pseudoxml \([0-9.]*\)".*/\1/p' docs/rst2pseudoxml.1) && \
+	printf '%s\n' 'prefix=$(PREFIX)' 'Name: rst2pseudoxml' 'Description: reads reStructuredText' "Version: $$version" \
+	  'Cflags: -I$${prefix}/include' 'Libs: -L$${prefix}/lib -lrst2pseudoxml' >"$(library)/pkgconfig/rst2pseudoxml.pc"
+	chmod 644 "$(library)/librst2pseudoxml.a" "$(library)/pkgconfig/rst2pseudoxml.pc" "$(include)/rst2pseudoxml.h"
+	chmod 755 "$(library)/librst2pseudoxml.so.1"
 
 uninstall:
 	rm -f "$(DESTDIR)$(PREFIX)/bin/$(PROGRAM)" "$(share)/man/man1/$(MANPAGE)" "$(bash)" "$(zsh)" "$(fish)"
 	rm -rf "$(DESTDIR)$(own)" "$(share)/doc/rst2pseudoxml"
+	cd "$(library)" 2>/dev/null && rm -f librst2pseudoxml.a librst2pseudoxml.so librst2pseudoxml.so.1 pkgconfig/rst2pseudoxml.pc || true
+	rm -f "$(include)/rst2pseudoxml.h"
 
 dist:
 	name=rst2pseudoxml-$$(sed -n 's/^\.TH .* "rst2pseudoxml \([0-9.]*\)".*/\1/p' docs/rst2pseudoxml.1) && \
@@ -64,4 +85,4 @@ dist:
 check:
 	./check
 
-.PHONY: help install uninstall dist check
+.PHONY: help install install-library uninstall dist check

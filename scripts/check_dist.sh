@@ -14,6 +14,13 @@ static() {
   fi
 }
 
+library() {
+  local linked
+  linked=$(mktemp -d) && trap 'rm -rf "$linked"' RETURN
+  scripts/library.sh "$linked"
+  cmp dist/librst2pseudoxml.a "$linked/librst2pseudoxml.a" && cmp dist/librst2pseudoxml.so "$linked/librst2pseudoxml.so"
+}
+
 (cd dist && sha256sum --quiet --check rst2pseudoxml.sha256)
 if ! grep -qx "sources $(scripts/digest.sh)" dist/BUILT; then
   echo "skipped: dist/ is of older sources; scripts/dist.sh renews it"
@@ -27,5 +34,6 @@ elif ! grep -qxF "kit $(rt version)" dist/BUILT; then
 else
   cmp dist/rst2pseudoxml crates/rst2pseudoxml/out/rst2pseudoxml
   static
+  library
   echo "dist/ is what these sources build"
 fi

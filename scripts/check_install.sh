@@ -29,16 +29,29 @@ names() { # PROGRAM: what is installed by other names than in the checkout
   printf './opt/rst/%s\n' "bin/$1" "share/bash-completion/completions/$1" "share/fish/vendor_completions.d/$1.fish" "share/man/man1/$1.1" "share/zsh/site-functions/_$1"
 }
 pages=$(cd "$top/docs" && printf './opt/rst/share/doc/rst2pseudoxml/%s\n' DOCUTILS.md INTEGRATIONS.md PROFILE.md profile/*)
+library=''
+if grep -qxs "library $("$top/scripts/digest.sh" library)" "$top/dist/BUILT"; then
+  library=$(printf './opt/rst/%s\n' include/rst2pseudoxml.h lib/librst2pseudoxml.a lib/librst2pseudoxml.so.1 lib/pkgconfig/rst2pseudoxml.pc)
+else
+  echo "skipped: the library for C, as dist/ has none of these sources"
+fi
 integrations=$(cd "$top/integrations" && printf './opt/rst/share/rst2pseudoxml/%s\n' check-*.sh *-names.txt flycheck* *.json rst2pseudoxml.py)
-all() { printf '%s\n' "$(names "$1")" "$pages" "$integrations" | LC_ALL=C sort; }
+all() { printf '%s\n' "$(names "$1")" "$pages" "$integrations" ${library:+"$library"} | LC_ALL=C sort; }
 hello=$'<document source="<stdin>">\n    <paragraph>\n        Hello'
 
 same 'make install' '' "$(of_make install)"
 same 'what is installed' "$(all rst2pseudoxml)" "$(files)"
 same 'the program' "$hello" "$(printf 'Hello' | "$installed/bin/rst2pseudoxml" 2>&1)"
 same 'who may read' '' "$(find "$target" -type f ! -perm -a+r)"
-same 'what runs' 'bin/rst2pseudoxml share/rst2pseudoxml/check-pages.sh share/rst2pseudoxml/check-trees.sh' \
+same 'what runs' "bin/rst2pseudoxml ${library:+lib/librst2pseudoxml.so.1 }share/rst2pseudoxml/check-pages.sh share/rst2pseudoxml/check-trees.sh" \
   "$(cd "$installed" && find . -type f -perm -a+x | LC_ALL=C sort | sed 's|./||' | paste -sd ' ')"
+if [ -n "$library" ] && command -v cc >/dev/null && command -v pkg-config >/dev/null; then
+  same 'make install-library' '' "$(make -s -C "$top" install-library DESTDIR= PREFIX="$folder/c" 2>&1)"
+  printf '#include <rst2pseudoxml.h>\nint main(void) { return rst_abi_version() != RST_ABI_VERSION; }\n' >version.c
+  # shellcheck disable=SC2046 # words of the compiler
+  same 'a program with the library' 'status 0' \
+    "$(cc version.c $(PKG_CONFIG_PATH=$folder/c/lib/pkgconfig pkg-config --cflags --libs rst2pseudoxml) 2>&1; LD_LIBRARY_PATH=$folder/c/lib ./a.out; echo "status $?")"
+fi
 if command -v man >/dev/null; then
   same 'the manual page' 'rst2pseudoxml - print the document tree of reStructuredText as pseudo-XML' \
     "$(MANWIDTH=100 man -l "$installed/share/man/man1/rst2pseudoxml.1" 2>&1 | sed -n 's/^ *\(rst2pseudoxml - .*\)/\1/p')"

@@ -1,5 +1,5 @@
 #!/usr/bin/env bash
-# Renews the shipped programs in dist/ from these sources. Without a static C library the static one is left out.
+# Renews the shipped programs and the library in dist/ from these sources. Without a static C library the static one is left out.
 # The dynamic one keeps its symbols (46 KB): the kit links it with them and has no `strip`, and the version of another `strip` would decide
 # the bytes that check_dist.sh compares.
 set -euo pipefail
@@ -10,9 +10,11 @@ mkdir -p dist
 cp crates/rst2pseudoxml/out/rst2pseudoxml dist/rst2pseudoxml
 rm -f dist/rst2pseudoxml-static
 library=$(scripts/static.sh dist/rst2pseudoxml-static) || [ $? = 77 ]
-(cd dist && sha256sum rst2pseudoxml* | grep -v sha256 >rst2pseudoxml.sha256)
+scripts/library.sh dist
+(cd dist && sha256sum rst2pseudoxml* librst2pseudoxml* | grep -v sha256 >rst2pseudoxml.sha256)
 {
   echo "sources $(scripts/digest.sh)"
+  echo "library $(scripts/digest.sh library)"
   echo "kit $(rt version)"
   echo "system x86-64 Linux with glibc 2.34 or later, on a processor of x86-64-v2 (with SSE4.2)"
   [ -z "$library" ] || echo "static $library"

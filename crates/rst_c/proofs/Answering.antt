@@ -1,0 +1,95 @@
+-- What a text means to the program and to the library, and what is made of it.
+use Rattle.std.proofs.Common.{◌≡◌, ◌≤◌, ◌∙◌, ℕ, List, [], ◌++◌, Option, Some, None, Result, Ok, Err, Bool, true, false, length, refl, sym, ap, inl, inr, subst}
+use Rattle.std.proofs.lemmas.Bool.{cond-false, le-ltb}
+use Rattle.std.proofs.lemmas.Str.{IsUtf8-from_is_utf8, is_utf8-from_IsUtf8}
+use Rattle.std.specs.Prelude.{nat_lt, if◌then◌else◌, ◌⊎◌}
+use Rattle.std.specs.Result.{IsErrAnd}
+use Rattle.std.specs.Str.{IsUtf8, is_utf8}
+use Rattle.rst_c.specs.Answers.{left_of, left_of_read, left_of_text, made_by, made_of, needs_memory, print_wanted, shown_of, Finds, Left, Makes, Wanted}
+use Rattle.rst_c.specs.declared.answer.Made.{Made}
+use Rattle.rst_c.specs.declared.answer.Refusal.{Refusal}
+use Rattle.rst_c.specs.declared.answer.Refusal.TheVariants.{Source, Text}
+use Rattle.rst_settings.specs.Profile.{profile_of}
+use Rattle.rst_settings.specs.declared.Settings.{Settings}
+use Rattle.rst_text.specs.Lines.{lines_of}
+use Rattle.rst_text.specs.Text.{text_of}
+use Rattle.rst_tree.specs.declared.node.Node.{Node}
+use Rattle.rst_tree.specs.declared.note.Note.{Note}
+use Rattle.rst2pseudoxml_run.specs.Reading.{read_of}
+use Rattle.rst2pseudoxml_run.specs.Shown.{Parts, parts_of, result_of, result_of_read, result_of_text}
+use Rattle.rst2pseudoxml_run.specs.declared.end.End.{End}
+use Rattle.rst2pseudoxml_run.specs.declared.end.End.TheVariants.{Done, Read, TooLong, NotUtf8, TooDeep, NoMemory, WriteErr, WriteOut}
+
+-- memory is needed where a text isn't too long
+module _ (makes : Node × List Note → Parts) (settings : Settings) (bytes : List ℕ) where
+  read_needs : (read : Result (Node × ℕ) ℕ) → needs_memory (made_by makes (left_of_read settings read)) ≡ true
+  read_needs (Ok read) = refl
+  read_needs (Err line) = refl
+
+  text_needs : (text : Option (List ℕ)) → needs_memory (made_by makes (left_of_text settings bytes text)) ≡ true
+  text_needs None = refl
+  text_needs (Some text) = read_needs (read_of (profile_of settings) (lines_of settings.tab text))
+
+  short_needs : length bytes ≤ 16777216 → needs_memory (made_by makes (left_of settings bytes)) ≡ true
+  short_needs short = rw (le-ltb 16777216 (length bytes) short) (text_needs (text_of bytes))
+
+  -- a call makes nothing of a text of which no document was found
+  pub nothing_made : (end : End) → Finds settings bytes (Err end) → Makes (made_by makes (left_of settings bytes)) (Err (Text end))
+  nothing_made NoMemory short = inr (refl, short_needs short)
+  nothing_made TooLong is = inl (sym (ap (made_by makes) is))
+  nothing_made (NotUtf8 at) is = inl (sym (ap (made_by makes) is))
+  nothing_made (TooDeep line) is = inl (sym (ap (made_by makes) is))
+  nothing_made Read is = inl (sym (ap (made_by makes) is))
+  nothing_made (Done status) is = inl (sym (ap (made_by makes) is))
+  nothing_made (WriteErr done) is = inl (sym (ap (made_by makes) is))
+  nothing_made (WriteOut done) is = inl (sym (ap (made_by makes) is))
+
+-- the program shows what is left of a text
+module _ (settings : Settings) (source bytes : List ℕ) where
+  abbrev pub shows : Node × List Note → Parts
+  shows left = parts_of settings source left.0 left.1
+
+  read_shown : (read : Result (Node × ℕ) ℕ) → shown_of (result_of_read (profile_of settings) settings source read) ≡ made_by shows (left_of_read settings read)
+  read_shown (Ok read) = refl
+  read_shown (Err line) = refl
+
+  text_shown : (text : Option (List ℕ)) → shown_of (result_of_text (profile_of settings) settings source bytes text) ≡ made_by shows (left_of_text settings bytes text)
+  text_shown None = refl
+  text_shown (Some text) = read_shown (read_of (profile_of settings) (lines_of settings.tab text))
+
+  left_shown : shown_of (result_of (profile_of settings) settings source bytes) ≡ made_by shows (left_of settings bytes)
+  left_shown =
+      elim (nat_lt 16777216 (length bytes)) as (λ b. shown_of (if b then Err TooLong else result_of_text (profile_of settings) settings source bytes (text_of bytes))
+      ≡ made_by shows (if b then Err TooLong else left_of_text settings bytes (text_of bytes))) [ true ↦ refl | false ↦ text_shown (text_of bytes) ]
+
+  -- what is wanted of a print, where the source is UTF-8 and where it isn't
+  wanted_of_text : IsUtf8 source → print_wanted (Some settings) source bytes ≡ made_by shows (left_of settings bytes)
+  wanted_of_text utf8 = rw (is_utf8-from_IsUtf8 source utf8) left_shown
+
+  not_true : (b : Bool) → (b ≡ true → ⊥) → b ≡ false
+  not_true true refuted = absurd (refuted refl)
+  not_true false refuted = refl
+
+  pub source_refused : (IsUtf8 source → ⊥) → Makes (print_wanted (Some settings) source bytes) (Err Source)
+  source_refused refuted = inl (rw (not_true (is_utf8 source) (λ is. refuted (IsUtf8-from_is_utf8 source is))) refl)
+
+  pub text_refused : (end : End) → IsUtf8 source → Finds settings bytes (Err end) → Makes (print_wanted (Some settings) source bytes) (Err (Text end))
+  text_refused end utf8 finds = subst (λ w. Makes w (Err (Text end))) (sym (wanted_of_text utf8)) (nothing_made shows settings bytes end finds)
+
+  made_of_left : (document : Node) (notes : List Note) → IsUtf8 source → left_of settings bytes ≡ Ok (document, notes) → print_wanted (Some settings) source bytes ≡ Ok (parts_of settings source document notes)
+  made_of_left document notes utf8 left = wanted_of_text utf8 ∙ ap (made_by shows) left
+
+  pub text_printed : (document : Node) (notes : List Note) (same_source old_out old_err out err : List ℕ) (status : ℕ) → IsUtf8 source → left_of settings bytes ≡ Ok (document, notes)
+      → same_source ≡ source → old_out ≡ [] → old_err ≡ []
+      → out ≡ old_out ++ (parts_of settings same_source document notes).out → err ≡ old_err ++ (parts_of settings same_source document notes).err
+      → status ≡ (parts_of settings same_source document notes).status → Makes (print_wanted (Some settings) source bytes) (Ok (record { out = out; err = err; status = status }))
+  text_printed document notes same_source old_out old_err out err status utf8 left same no_out no_err out_is err_is status_is =
+      inl (sym (made_of_left document notes utf8 left ∙ rw (out_is, err_is, status_is, no_out, no_err, same) refl))
+
+  pub memory_gone : (document : Node) (notes : List Note) → IsUtf8 source → left_of settings bytes ≡ Ok (document, notes) → Makes (print_wanted (Some settings) source bytes) (Err (Text NoMemory))
+  memory_gone document notes utf8 left = inr (refl, ap needs_memory (made_of_left document notes utf8 left))
+
+-- what a fault that is passed on makes
+pub passed_on : (result : Result Made Refusal) (end : End) → IsErrAnd result (λ refusal. refusal ≡ Text end) → made_of result ≡ Err (Text end)
+passed_on (Ok made) end is = absurd is
+passed_on (Err refusal) end is = ap Err is

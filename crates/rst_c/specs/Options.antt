@@ -1,0 +1,33 @@
+-- The options of a call (Configuration, 'report_level', 'halt_level', 'exit_status_level', 'doctitle_xform', 'docinfo_xform', 'tab_width',
+-- 'line_length_limit').
+use Rattle.std.specs.Prelude.{◌≡◌, ℕ, Bool, true, false, ◌&&◌, ◌==◌, nat_le, slice_index, Option, None, Some}
+use Rattle.rst_settings.specs.declared.Settings.{Settings}
+use Rattle.rst_settings.specs.Threshold.{threshold_number}
+use Rattle.rst_c.specs.declared.options.RstOptions.{RstOptions}
+
+abbrev pub is_within : ℕ → ℕ → ℕ → Bool
+is_within low number high = nat_le low number && nat_le number high
+
+-- each option is in its range, and the size is that of the struct
+abbrev pub are_in_range : RstOptions → Bool
+are_in_range options =
+    (options.size == 16) && is_within 1 options.report 5 && is_within 1 options.halt 5 && is_within 1 options.exit_status 5
+    && is_within 1 options.tab_width 99 && is_within 1 options.line_length_limit 16777216
+    && nat_le options.no_doc_title 1 && nat_le options.no_doc_info 1
+    && (slice_index options.unused 0 == 0) && (slice_index options.unused 1 == 0)
+
+-- options that are in their ranges choose these settings; thresholds go by their numbers
+pub record Sets (options : RstOptions) (settings : Settings) : Type 0 where
+  pub in_range : are_in_range options ≡ true
+  pub report : threshold_number settings.report ≡ options.report
+  pub halt : threshold_number settings.halt ≡ options.halt
+  pub exit : threshold_number settings.exit ≡ options.exit_status
+  pub title : settings.title ≡ (options.no_doc_title == 0)
+  pub info : settings.info ≡ (options.no_doc_info == 0)
+  pub tab : settings.tab ≡ options.tab_width
+  pub limit : settings.limit ≡ options.line_length_limit
+
+-- the settings that options choose, or none where one isn't in its range
+abbrev pub SetsIf : RstOptions → Option Settings → Type 0
+SetsIf options None = are_in_range options ≡ false
+SetsIf options (Some settings) = Sets options settings

@@ -1,0 +1,134 @@
+//! The document of a text, and what is made of it.
+ghost use Rattle.std.specs.Prelude.{◌≡◌, ◌≤◌, IfOk, filter, map};
+ghost use Rattle.rst_c.specs.Answers.{json_wanted, made_of, print_wanted, Finds, Makes};
+ghost use Rattle.rst_c.specs.Answers as spec;
+ghost use Rattle.rst_json.specs.Json.{json_array, json_note};
+ghost use Rattle.rst_transform_messages.specs.Messages.{highest_level};
+ghost use Rattle.rst2pseudoxml_run.specs.Shown as shown;
+
+use crate::answer::{Made, Refusal};
+use rst_json::{enclose, put_node, put_note};
+use rst_settings::Settings;
+use rst_text::Counted;
+use rst_transform::Finished;
+use rst_tree::{Note, TreeFault};
+use rst2pseudoxml_run::{End, document_of, halting, is_reported, show, status_of};
+use std::alloc::Global;
+
+/// What the program shows of a text.
+pub fn printed(
+    alloc: Global,
+    text: &[u8],
+    source: &[u8],
+    settings: Option<Settings>,
+) -> Result<Made, Refusal>
+    ensures { Makes (print_wanted settings source.now text.now) (made_of result) }
+{
+    let Some(settings) = settings else {
+        return Err(Refusal::Options);
+    };
+    let Ok(source) = str::from_utf8(source) else {
+        return Err(Refusal::Source);
+    };
+    let finished = finished_of(alloc, text, &settings)?;
+    let mut tree = Counted::of(Vec::new(alloc));
+    let mut messages = Counted::of(Vec::new(alloc));
+    match show(
+        alloc,
+        &settings,
+        source,
+        &finished,
+        &mut tree,
+        &mut messages,
+    ) {
+        End::Done(status) => Ok(Made {
+            tree,
+            messages,
+            status,
+        }),
+        _ => Err(Refusal::Text(End::NoMemory)),
+    }
+}
+
+/// The finished document of a text as JSON.
+pub fn document_json(
+    alloc: Global,
+    text: &[u8],
+    settings: Option<Settings>,
+) -> Result<Made, Refusal>
+    ensures { Makes (json_wanted spec.document_json settings text.now) (made_of result) }
+{
+    let Some(settings) = settings else {
+        return Err(Refusal::Options);
+    };
+    let finished = finished_of(alloc, text, &settings)?;
+    let mut json = Vec::new(alloc);
+    match put_node(alloc, &finished.document, &mut json) {
+        Ok(()) => Ok(Made {
+            tree: Counted::of(json),
+            messages: Counted::of(Vec::new(alloc)),
+            status: ended_by(&finished, &settings),
+        }),
+        Err(_) => Err(Refusal::Text(End::NoMemory)),
+    }
+}
+
+/// The messages on a text as JSON: those that are reported.
+pub fn messages_json(
+    alloc: Global,
+    text: &[u8],
+    settings: Option<Settings>,
+) -> Result<Made, Refusal>
+    ensures { Makes (json_wanted spec.messages_json settings text.now) (made_of result) }
+{
+    let Some(settings) = settings else {
+        return Err(Refusal::Options);
+    };
+    let finished = finished_of(alloc, text, &settings)?;
+    match notes_json(alloc, finished.notes.as_slice(), &settings) {
+        Ok(json) => Ok(Made {
+            tree: Counted::of(json),
+            messages: Counted::of(Vec::new(alloc)),
+            status: ended_by(&finished, &settings),
+        }),
+        Err(_) => Err(Refusal::Text(End::NoMemory)),
+    }
+}
+
+/// The finished document of a text. It is freed where the caller lets it go, other than in the program's own run.
+fn finished_of(alloc: Global, text: &[u8], settings: &Settings) -> Result<Finished, End>
+    ensures { Finds settings.now text.now result }
+{
+    if text.len() > 16_777_216 {
+        return Err(End::TooLong);
+    }
+    document_of(alloc, settings, Vec::from_slice(alloc, text)?)
+}
+
+/// The messages that are reported as an array.
+fn notes_json(alloc: Global, notes: &[Note], settings: &Settings) -> Result<Vec<u8>, TreeFault>
+    ensures { IfOk result (λ json. json.items ≡ json_array (map json_note (filter (shown.is_reported settings.now) notes.now))) }
+{
+    let mut json = Vec::new(alloc);
+    for note in notes {
+        if !is_reported(note, settings) {
+            continue;
+        }
+        put_note(note, &mut json)?;
+    }
+    enclose(0, b'[', b']', &mut json)?;
+    Ok(json)
+}
+
+/// The exit status of the program.
+fn ended_by(finished: &Finished, settings: &Settings) -> u8
+    requires highest { finished.now.highest ≡ highest_level finished.now.notes.items }
+    requires few { finished.now.highest ≤ 4 }
+    ensures { let notes = finished.now.notes.items in result ≡ shown.ended_by settings.now notes (shown.halting settings.now notes) }
+{
+    if halting(finished.notes.as_slice(), settings).is_some() {
+        1
+    } else {
+        status_of(finished.highest, settings)
+    }
+}

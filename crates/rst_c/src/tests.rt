@@ -1,0 +1,102 @@
+//! Each export once, over a document whose tree, JSON and messages are known.
+use crate::answer::RstResult;
+use crate::options::RstOptions;
+use crate::{rst_abi_version, rst_json, rst_messages, rst_print};
+use std::test::Fail;
+
+const OPTIONS: RstOptions = RstOptions {
+    size: 16,
+    report: 2,
+    halt: 4,
+    exit_status: 2,
+    tab_width: 8,
+    line_length_limit: 10_000,
+    no_doc_title: 0,
+    no_doc_info: 0,
+    unused: [0, 0],
+};
+
+const TEXT: &[u8] = b"A *b*\n\n*c\n";
+
+const TREE: &str = "\
+<document source=\"x\">
+    <paragraph>
+        A 
+        <emphasis>
+            b
+    <paragraph>
+        <problematic ids=\"problematic-1\" refid=\"system-message-1\">
+            *
+        c
+    <system_message backrefs=\"problematic-1\" ids=\"system-message-1\" level=\"2\" line=\"3\" source=\"x\" type=\"WARNING\">
+        <paragraph>
+            Inline emphasis start-string without end-string.
+";
+
+const MESSAGES: &str = "x:3: (WARNING/2) Inline emphasis start-string without end-string.\n";
+
+const JSON: &str = "[\"document\",0,{},[\"paragraph\",1,{},\"A \",[\"emphasis\",1,{},\"b\"]],\
+[\"paragraph\",3,{},[\"problematic\",3,{\"ids\":[\"problematic-1\"],\"refid\":\"system-message-1\"},\"*\"],\"c\"],\
+[\"system_message\",3,{\"backrefs\":[\"problematic-1\"],\"ids\":[\"system-message-1\"],\"level\":2,\"line\":3,\"type\":\"WARNING\"},\
+[\"paragraph\",3,{},\"Inline emphasis start-string without end-string.\"]]]";
+
+const NOTES: &str =
+    "[{\"line\":3,\"level\":2,\"type\":\"WARNING\",\"text\":\"Inline emphasis start-string without end-string.\"}]";
+
+/// What a result holds before a call.
+fn before() -> RstResult {
+    RstResult {
+        end: 9,
+        status: 9,
+        at: 9,
+        length: 9,
+        messages: 9,
+    }
+}
+
+/// The front of a room.
+fn front(room: &[u8], length: u64) -> Result<&str, Fail> {
+    Ok(str::from_utf8(&room[..(length as usize).min(room.len())])?)
+}
+
+#[test]
+fn version(rt: HostRuntime) {
+    assert_eq!(rt; rst_abi_version(), 1);
+}
+
+#[test]
+fn prints(rt: HostRuntime) -> Result<(), Fail> {
+    let (mut tree, mut messages, mut answer) = ([7u8; 600], [7u8; 100], before());
+    rst_print(
+        rt.alloc(),
+        TEXT,
+        b"x",
+        &OPTIONS,
+        &mut tree,
+        &mut messages,
+        &mut answer,
+    );
+    assert_eq!(rt; answer.end, 0);
+    assert_eq!(rt; answer.status, 12);
+    assert_eq!(rt; front(&tree, answer.length)?, TREE);
+    assert_eq!(rt; front(&messages, answer.messages)?, MESSAGES);
+    Ok(())
+}
+
+#[test]
+fn gives_json(rt: HostRuntime) -> Result<(), Fail> {
+    let (mut json, mut answer) = ([7u8; 600], before());
+    rst_json(rt.alloc(), TEXT, &OPTIONS, &mut json, &mut answer);
+    assert_eq!(rt; front(&json, answer.length)?, JSON);
+    assert_eq!(rt; answer.status, 12);
+    Ok(())
+}
+
+#[test]
+fn gives_messages(rt: HostRuntime) -> Result<(), Fail> {
+    let (mut json, mut answer) = ([7u8; 600], before());
+    rst_messages(rt.alloc(), TEXT, &OPTIONS, &mut json, &mut answer);
+    assert_eq!(rt; front(&json, answer.length)?, NOTES);
+    assert_eq!(rt; answer.messages, 0);
+    Ok(())
+}

@@ -1,0 +1,265 @@
+/* Calls the library as a program in C would, for scripts/check_library.sh.
+
+     library print|json|messages REPORT HALT EXIT TAB LIMIT NO_TITLE NO_INFO SOURCE
+
+   reads a text from standard input and writes what the call makes of it: the tree or the JSON to standard output, the messages to standard
+   error. The status is the program's. If nothing was made it is 100 and the end of the call, and standard error has the end and its place. It
+   is 200 where the library breaks its word. Each call is made with no room, with rooms that are one byte too small, with exact ones and with
+   larger ones: what doesn't fit must leave its room as it was, and nothing may be written behind a text.
+
+     library allocations
+
+   (compiled with COUNTED, and malloc, realloc and free wrapped) makes each call on the text of standard input, with each allocation failing in
+   turn: it must do without, or end with RST_NO_MEMORY and leave the rooms as they were; and free all that it took.
+
+     library threads
+
+   makes calls in four threads at once. */
+#include <pthread.h>
+#include <rst2pseudoxml.h>
+#include <stdio.h>
+#include <stdlib.h>
+#include <string.h>
+
+enum { MARK = 0xa5 };
+
+struct call {
+    const char *name;
+    const uint8_t *text;
+    size_t text_length;
+    const char *source;
+    rst_options options;
+};
+
+struct room {
+    uint8_t *bytes;
+    size_t length;
+};
+
+static void broken(const char *what)
+{
+    fprintf(stderr, "library: %s\n", what);
+    exit(200);
+}
+
+static struct room marked(size_t length)
+{
+    struct room room = {malloc(length ? length : 1), length};
+    if (!room.bytes)
+        broken("no memory");
+    memset(room.bytes, MARK, length);
+    return room;
+}
+
+static int is_marked(const struct room *room, size_t from)
+{
+    for (size_t i = from; i < room->length; i++)
+        if (room->bytes[i] != MARK)
+            return 0;
+    return 1;
+}
+
+static rst_result made(const struct call *call, struct room *first, struct room *second)
+{
+    rst_result result;
+    memset(&result, MARK, sizeof result);
+    if (!strcmp(call->name, "print"))
+        rst_print(call->text, call->text_length, (const uint8_t *)call->source, strlen(call->source), &call->options, first->bytes, first->length,
+                  second->bytes, second->length, &result);
+    else if (!strcmp(call->name, "json"))
+        rst_json(call->text, call->text_length, &call->options, first->bytes, first->length, &result);
+    else
+        rst_messages(call->text, call->text_length, &call->options, first->bytes, first->length, &result);
+    return result;
+}
+
+/* A call with so many bytes of room for each text; what it tells must be this. */
+static void check(const struct call *call, const rst_result *told, size_t first_room, size_t second_room, struct room *first, struct room *second)
+{
+    *first = marked(first_room);
+    *second = marked(second_room);
+    rst_result again = made(call, first, second);
+    if (memcmp(&again, told, sizeof again))
+        broken("two calls tell different results");
+    if (!is_marked(first, told->length <= first_room ? told->length : 0) || !is_marked(second, told->messages <= second_room ? told->messages : 0))
+        broken("a room was written where it should have stayed as it was");
+}
+
+static int told_of(const struct call *call)
+{
+    struct room none = {NULL, 0}, first, second;
+    rst_result told = made(call, &none, &none);
+    if (told.end != RST_DONE) {
+        if (told.length || told.messages || told.status)
+            broken("a call that made nothing tells a length or a status");
+        check(call, &told, 64, 64, &first, &second);
+        free(first.bytes);
+        free(second.bytes);
+        fprintf(stderr, "end %u at %llu\n", told.end, (unsigned long long)told.at);
+        return 100 + (int)told.end;
+    }
+    if (told.length && told.messages) {
+        check(call, &told, told.length - 1, told.messages - 1, &first, &second);
+        free(first.bytes);
+        free(second.bytes);
+    }
+    if (told.length) {
+        check(call, &told, told.length - 1, told.messages, &first, &second);
+        free(first.bytes);
+        free(second.bytes);
+    }
+    check(call, &told, told.length + 7, told.messages + 5, &first, &second);
+    struct room exact, exact_second;
+    check(call, &told, told.length, told.messages, &exact, &exact_second);
+    if (memcmp(first.bytes, exact.bytes, told.length) || memcmp(second.bytes, exact_second.bytes, told.messages))
+        broken("two calls make different texts");
+    fwrite(exact.bytes, 1, told.length, stdout);
+    fwrite(exact_second.bytes, 1, told.messages, stderr);
+    free(first.bytes);
+    free(second.bytes);
+    free(exact.bytes);
+    free(exact_second.bytes);
+    return (int)told.status;
+}
+
+static struct room all_of(FILE *file)
+{
+    struct room read = {malloc(1 << 16), 0};
+    for (size_t room = 1 << 16;;) {
+        size_t count = fread(read.bytes + read.length, 1, room - read.length, file);
+        read.length += count;
+        if (!count)
+            return read;
+        if (read.length == room)
+            read.bytes = realloc(read.bytes, room *= 2);
+        if (!read.bytes)
+            broken("no memory");
+    }
+}
+
+static const char TEXT[] = "Title\n=====\n\nA *word and a link_.\n\n- an item\n\n  + inside\n\n.. _link: https://example.org/\n";
+
+static void *calls(void *unused)
+{
+    static const char *const NAMES[] = {"print", "json", "messages"};
+    (void)unused;
+    for (int i = 0; i < 300; i++) {
+        struct call call = {NAMES[i % 3], (const uint8_t *)TEXT, sizeof TEXT - 1, "a", RST_OPTIONS};
+        struct room first = marked(4096), second = marked(4096);
+        rst_result told = made(&call, &first, &second);
+        if (told.end != RST_DONE || told.status || !told.length || !is_marked(&first, told.length))
+            broken("a call in a thread goes wrong");
+        free(first.bytes);
+        free(second.bytes);
+    }
+    return NULL;
+}
+
+static int threads(void)
+{
+    pthread_t threads[4];
+    for (int i = 0; i < 4; i++)
+        if (pthread_create(&threads[i], NULL, calls, NULL))
+            broken("no thread");
+    for (int i = 0; i < 4; i++)
+        pthread_join(threads[i], NULL);
+    return 0;
+}
+
+#ifdef COUNTED
+void *__real_malloc(size_t bytes);
+void *__real_realloc(void *held, size_t bytes);
+void __real_free(void *held);
+
+/* Allocations are counted in the calls alone. The one that fails is counted down to; none does if it begins below 0. */
+static long live, until_failure = -1;
+
+static int fails(void) { return until_failure >= 0 && until_failure-- == 0; }
+
+void *__wrap_malloc(size_t bytes)
+{
+    void *made = fails() ? NULL : __real_malloc(bytes);
+    live += made != NULL;
+    return made;
+}
+
+void *__wrap_realloc(void *held, size_t bytes)
+{
+    void *made = fails() ? NULL : __real_realloc(held, bytes);
+    live += made != NULL && held == NULL;
+    return made;
+}
+
+void __wrap_free(void *held)
+{
+    live -= held != NULL;
+    __real_free(held);
+}
+
+/* A call whose allocation with this number fails; whether one failed. */
+static int fails_at(const struct call *call, long number, const rst_result *whole)
+{
+    static const rst_result NOTHING = {RST_NO_MEMORY, 0, 0, 0, 0};
+    struct room first = marked(1 << 20), second = marked(1 << 20);
+    long before = live;
+    until_failure = number;
+    rst_result told = made(call, &first, &second);
+    int failed = until_failure < 0;
+    until_failure = -1;
+    if (live != before)
+        broken("a call doesn't free what it took");
+    if (memcmp(&told, whole, sizeof told) && (!failed || memcmp(&told, &NOTHING, sizeof told)))
+        broken("a call ends otherwise than its memory says");
+    if (!is_marked(&first, told.length) || !is_marked(&second, told.messages))
+        broken("a room was written where it should have stayed as it was");
+    free(first.bytes);
+    free(second.bytes);
+    return failed;
+}
+
+static int allocations(void)
+{
+    static const char *const NAMES[] = {"print", "json", "messages"};
+    struct room text = all_of(stdin);
+    long count = 0;
+    for (int i = 0; i < 3; i++) {
+        struct call call = {NAMES[i], text.bytes, text.length, "a", RST_OPTIONS};
+        struct room none = {NULL, 0};
+        rst_result whole = made(&call, &none, &none);
+        long number = 0;
+        while (fails_at(&call, number, &whole))
+            number++;
+        if (number == 0)
+            broken("a call takes no memory");
+        count += number;
+    }
+    free(text.bytes);
+    printf("%ld allocations failed in turn\n", count);
+    return 0;
+}
+#else
+static int allocations(void)
+{
+    broken("allocations aren't counted");
+    return 1;
+}
+#endif
+
+int main(int count, char **words)
+{
+    if (rst_abi_version() != RST_ABI_VERSION)
+        broken("the library has another version than its header");
+    if (count == 2 && !strcmp(words[1], "threads"))
+        return threads();
+    if (count == 2 && !strcmp(words[1], "allocations"))
+        return allocations();
+    if (count != 10)
+        broken("see the comment at the head of library.c");
+    struct room text = all_of(stdin);
+    rst_options options = {sizeof options, (uint8_t)atoi(words[2]), (uint8_t)atoi(words[3]), (uint8_t)atoi(words[4]), (uint8_t)atoi(words[5]),
+                           (uint32_t)atol(words[6]), (uint8_t)atoi(words[7]), (uint8_t)atoi(words[8]), {0, 0}};
+    struct call call = {words[1], text.bytes, text.length, words[9], options};
+    int status = told_of(&call);
+    free(text.bytes);
+    return status;
+}

@@ -1,0 +1,155 @@
+#!/usr/bin/env python3
+"""Compares what the library for C makes with what the program prints: scripts/library.py LIBRARY..
+
+Each LIBRARY is library.c, compiled with the library (scripts/check_library.sh does that). The texts are the inputs of the worked rows, with
+their options, and pages of docs/, mutated in the way of bench/fuzz.py. For each text it checks that `print` gives the program's output, its messages
+and its status, or an end where the program refuses the text; that `json` is JSON that shows the same tree, and `messages` JSON that shows the
+same messages. The program is the one that scripts/program.sh finds.
+"""
+
+import concurrent.futures
+import json
+import os
+import pathlib
+import random
+import re
+import subprocess
+import sys
+
+from program import TOP, program
+from rows import TABLES, Source
+
+LEVELS = {"info": 1, "warning": 2, "error": 3, "severe": 4, "none": 5}
+ENDS = (
+    (rb"input too long\n", lambda at: (103, 3, 0)),
+    (rb"not UTF-8 at byte (\d+)\n", lambda at: (104, 4, at)),
+    (rb"line (\d+): nesting too deep\n", lambda at: (105, 5, at)),
+)
+MUTATIONS = [b"\n", b"*", b"`", b"|", b"_ ", b":", b"  ", b"\t", b"\\", b'"', b"\x01", "\u00e9".encode(), b"\xff"]
+OPTIONS = [[], ["-v"], ["--halt=warning"], ["--exit-status=info", "--no-doc-info"], ["--no-doc-title", "--tab-width=3", "--strict"]]
+PLACES = ("report", "halt", "exit-status", "tab-width", "line-length-limit", "no-doc-title", "no-doc-info")
+WORDS = {"-v": "--report=info", "--verbose": "--report=info", "-q": "--report=none", "--quiet": "--report=none", "--strict": "--halt=info"}
+
+
+def options(words):
+    """The options that words of the program give, as library.c takes them."""
+    chosen = dict(zip(PLACES, ["2", "4", "5", "8", "10000", "0", "0"]))
+    words = iter(words)
+    for word in words:
+        word = WORDS.get(word, word)
+        name, equals, value = word.removeprefix("--").partition("=")
+        if name.startswith("no-doc-"):
+            value = "1"
+        elif not equals:
+            name, value = name.replace("-r", "report"), next(words)
+        chosen[name] = str(LEVELS.get(value, value))
+    return list(chosen.values())
+
+
+def escaped(text):
+    return re.sub(r"([\\ ])", r"\\\1", text)
+
+
+def printed(node, source, level=0):
+    """The lines of the tree that the JSON of a node means."""
+    indent = "    " * level
+    if isinstance(node, str):
+        return [indent + line for line in (node.split("\n")[:-1] if node.endswith("\n") else node.split("\n"))]
+    tag, line, attributes, *nodes = node
+    if tag == "system_message" and attributes["line"] != line:
+        raise ValueError("a message has two lines")
+    if tag in ("document", "system_message"):
+        attributes = dict(sorted({**attributes, "source": source}.items()))
+    values = ((name, " ".join(map(escaped, value)) if isinstance(value, list) else value) for name, value in attributes.items())
+    start = "".join(f' {name}="{value}"' for name, value in values)
+    return [f"{indent}<{tag}{start}>", *(line for one in nodes for line in printed(one, source, level + 1))]
+
+
+def messages(notes, source):
+    """What the program writes to standard error for the JSON of messages."""
+    lines = []
+    for note in notes:
+        block = f"\n{note['block']}\n" if "block" in note else ""
+        lines.append(f"{source}:{note['line']}: ({note['type']}/{note['level']}) {note['text']}\n{block}")
+    return "".join(lines)
+
+
+def wanted_end(err):
+    """The status, the end and its place of a call on a text that the program refuses."""
+    for pattern, end in ENDS:
+        match = re.fullmatch(b"rst2pseudoxml: " + pattern, err)
+        if match:
+            return end(int(match[1]) if match.groups() else 0)
+    return None
+
+
+class Comparison:
+    """A program and a library."""
+
+    def __init__(self, path, library):
+        self.path = path
+        self.library = library
+
+    def call(self, name, words, text):
+        done = subprocess.run([self.library, name, *options(words), "<stdin>"], input=text, stdout=subprocess.PIPE, stderr=subprocess.PIPE, check=False)
+        return done.stdout, done.stderr, done.returncode
+
+    def fault(self, words, text):
+        """What is wrong, if something is."""
+        done = subprocess.run([self.path, *words], input=text, stdout=subprocess.PIPE, stderr=subprocess.PIPE, check=False)
+        end = wanted_end(done.stderr)
+        if end:
+            refused = (b"", b"end %d at %d\n" % end[1:], end[0])
+            return next((name for name in ("print", "json", "messages") if self.call(name, words, text) != refused), None)
+        if self.call("print", words, text) != (done.stdout, done.stderr, done.returncode):
+            return "print"
+        out, err, status = self.call("json", words, text)
+        halted = done.returncode == 1
+        if err or status != done.returncode or not halted and "\n".join(printed(json.loads(out), "<stdin>")) + "\n" != done.stdout.decode():
+            return "json"
+        out, err, status = self.call("messages", words, text)
+        shown = messages(json.loads(out), "<stdin>")
+        rest = done.stderr.decode().removeprefix(shown)
+        if err or status != done.returncode or shown + rest != done.stderr.decode() or bool(rest) != halted or rest and not rest.startswith("Exiting due to"):
+            return "messages"
+        return None
+
+
+def trials():
+    """Each name, words and text."""
+    for table in TABLES:
+        for name, words, given, (_, err, status) in Source(table).rows():
+            if status != 2 and not err.startswith("rst2pseudoxml: cannot open"):
+                yield name, words, given.encode()
+    choose = random.Random(1)
+    for page in sorted((TOP / "docs").rglob("*.md")):
+        for times in range(4):
+            text = bytearray(page.read_bytes())
+            for _ in range(5 * times):
+                at = choose.randrange(len(text))
+                text[at : at + 1] = choose.choice(MUTATIONS)
+            yield f"{page.relative_to(TOP)}, {times}", choose.choice(OPTIONS), bytes(text)
+
+
+def main():
+    if len(sys.argv) == 1 or "--help" in sys.argv:
+        print(__doc__)
+        return 2
+    path = program([])
+    wrong = count = 0
+    for library in sys.argv[1:]:
+        comparison = Comparison(path, str(pathlib.Path(library).resolve()))
+        with concurrent.futures.ThreadPoolExecutor(os.cpu_count()) as pool:
+            started = [(name, pool.submit(comparison.fault, words, text)) for name, words, text in trials()]
+            for name, one in started:
+                count += 1
+                fault = one.result()
+                if fault:
+                    wrong += 1
+                    print(f"{os.path.basename(library)}: {name}: {fault} differs from the program")
+    print(f"the library: {count} texts compared with the program, {wrong} differ")
+    return wrong > 0 or count == 0
+
+
+if __name__ == "__main__":
+    sys.exit(main())
