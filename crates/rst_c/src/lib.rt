@@ -35,11 +35,8 @@ pub extern "C" fn rst_print(
     ensures { Answers options.now (λ settings. print_wanted settings source.now text.now)
         (λ made. (answer.new ≡ answer_of made) × (tree.new ≡ tree_after made tree.old) × (messages.new ≡ messages_after made messages.old)) }
 {
-    *answer = tell(
-        &printed(alloc, text, source, options.settings()),
-        tree,
-        messages,
-    );
+    let made = printed(alloc, text, source, options.settings());
+    *answer = tell(&made, tree, messages);
 }
 
 /// The finished document of a text as JSON, if it fits.
@@ -54,11 +51,8 @@ pub extern "C" fn rst_json(
     ensures { Answers options.now (λ settings. json_wanted document_json settings text.now)
         (λ made. (answer.new ≡ answer_of made) × (json.new ≡ tree_after made json.old)) }
 {
-    *answer = tell(
-        &document_json(alloc, text, options.settings()),
-        json,
-        &mut [],
-    );
+    let made = document_json(alloc, text, options.settings());
+    *answer = tell(&made, json, &mut []);
 }
 
 /// The messages on a text as JSON, if they fit: those that are reported, in their order.
@@ -73,11 +67,8 @@ pub extern "C" fn rst_messages(
     ensures { Answers options.now (λ settings. json_wanted messages_json settings text.now)
         (λ made. (answer.new ≡ answer_of made) × (json.new ≡ tree_after made json.old)) }
 {
-    *answer = tell(
-        &messages_json(alloc, text, options.settings()),
-        json,
-        &mut [],
-    );
+    let made = messages_json(alloc, text, options.settings());
+    *answer = tell(&made, json, &mut []);
 }
 
 #[cfg(test)]
