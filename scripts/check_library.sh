@@ -1,9 +1,10 @@
 #!/usr/bin/env bash
 # Tests the library for C: scripts/check_library.sh [FOLDER]. FOLDER has librst2pseudoxml.a and librst2pseudoxml.so; without it those in dist/ are
 # taken. library.c is compiled against the header, once for each of the two, and what it prints is compared with the program's output, on
-# all worked rows and on mutated pages (scripts/library.py). Then calls run at once in several threads, each allocation fails in turn, and
+# all worked rows and on mutated pages (scripts/library.py). The example of the README has to print what it shows. Then calls run at once in several threads, each allocation fails in turn, and
 # valgrind looks for wrong reads and writes, if it is there. The status is 77 without a C compiler, without Python, or if dist/ has no library
 # of these sources.
+# shellcheck disable=SC2016 # backticks of Markdown
 set -euo pipefail
 cd -- "$(dirname -- "$0")/.."
 folder=${1-dist}
@@ -19,6 +20,9 @@ ln -s "$folder/librst2pseudoxml.so" "$work/librst2pseudoxml.so.1"
 compile() { "$compiler" -std=c11 -Wall -Wextra -Wpedantic -Werror -O1 -g -Iinclude scripts/library.c -pthread "$@"; }
 compile -o "$work/shared" "$folder/librst2pseudoxml.so" -Wl,-rpath,"$work"
 compile -o "$work/static" -DCOUNTED "$folder/librst2pseudoxml.a" -Wl,--wrap=malloc,--wrap=realloc,--wrap=free
+sed -n '/^```c$/,/^```$/p' README.md | sed '1d;$d' >"$work/hello.c"
+"$compiler" -Iinclude "$work/hello.c" "$folder/librst2pseudoxml.a" -o "$work/hello"
+sed -n '/^`cc -Iinclude hello.c/,/^`make install`/p' README.md | sed -n '/^```$/,/^```$/p' | sed '1d;$d' | diff - <("$work/hello")
 "$work/static" allocations <docs/JSON.md
 "$work/shared" threads
 python3 scripts/library.py "$work/shared" "$work/static"

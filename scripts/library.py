@@ -2,7 +2,7 @@
 """Compares what the library for C makes with what the program prints: scripts/library.py LIBRARY..
 
 Each LIBRARY is library.c, compiled with the library (scripts/check_library.sh does that). The texts are the inputs of the worked rows, with
-their options, and pages of docs/, mutated in the way of bench/fuzz.py. For each text it checks that `print` gives the program's output, its messages
+their options, pages of docs/, mutated in the way of bench/fuzz.py, and tables inside one another. The library has a stack of 2 MiB. For each text it checks that `print` gives the program's output, its messages
 and its status, or an end where the program refuses the text; that `json` is JSON that shows the same tree, and `messages` JSON that shows the
 same messages. The program is the one that scripts/program.sh finds.
 """
@@ -15,6 +15,7 @@ import random
 import re
 import subprocess
 import sys
+import threading
 
 from program import TOP, program
 from rows import TABLES, Source
@@ -29,6 +30,12 @@ MUTATIONS = [b"\n", b"*", b"`", b"|", b"_ ", b":", b"  ", b"\t", b"\\", b'"', b"
 OPTIONS = [[], ["-v"], ["--halt=warning"], ["--exit-status=info", "--no-doc-info"], ["--no-doc-title", "--tab-width=3", "--strict"]]
 PLACES = ("report", "halt", "exit-status", "tab-width", "line-length-limit", "no-doc-title", "no-doc-info")
 WORDS = {"-v": "--report=info", "--verbose": "--report=info", "-q": "--report=none", "--quiet": "--report=none", "--strict": "--halt=info"}
+
+
+# Trees have up to 1,350 levels.
+sys.setrecursionlimit(20_000)
+threading.stack_size(1 << 26)
+SMALL_STACK = ["sh", "-c", 'ulimit -s 2048 && exec "$@"', "sh"]
 
 
 def options(words):
@@ -91,7 +98,7 @@ class Comparison:
         self.library = library
 
     def call(self, name, words, text):
-        done = subprocess.run([self.library, name, *options(words), "<stdin>"], input=text, stdout=subprocess.PIPE, stderr=subprocess.PIPE, check=False)
+        done = subprocess.run([*SMALL_STACK, self.library, name, *options(words), "<stdin>"], input=text, stdout=subprocess.PIPE, stderr=subprocess.PIPE, check=False)
         return done.stdout, done.stderr, done.returncode
 
     def fault(self, words, text):
@@ -115,12 +122,19 @@ class Comparison:
         return None
 
 
+def tables(count):
+    """Tables of one cell, so many inside one another."""
+    borders = ["|" * level + "+" + "-" * (1 + 2 * (count - level)) + "+" + "|" * level for level in range(count)]
+    return "\n".join([*borders, "|" * count + "abc" + "|" * count, *reversed(borders)]).encode()
+
+
 def trials():
     """Each name, words and text."""
     for table in TABLES:
         for name, words, given, (_, err, status) in Source(table).rows():
             if status != 2 and not err.startswith("rst2pseudoxml: cannot open"):
                 yield name, words, given.encode()
+    yield from ((f"{count} tables", [], tables(count)) for count in (250, 251))
     choose = random.Random(1)
     for page in sorted((TOP / "docs").rglob("*.md")):
         for times in range(4):
