@@ -15,15 +15,15 @@ fish = $(share)/fish/vendor_completions.d/$(PROGRAM).fish
 library = $(DESTDIR)$(PREFIX)/lib
 include = $(DESTDIR)$(PREFIX)/include
 scripts = check-pages.sh check-trees.sh
-files = docutils-names.txt sphinx-names.txt flycheck-rst2pseudoxml.el rst2pseudoxml.py vscode-tasks.json
+files = flycheck-rst2pseudoxml.el vscode-tasks.json
 pages = docs/PROFILE.md docs/DOCUTILS.md docs/INTEGRATIONS.md
 
 # What is installed runs the program that is installed with it.
 named = sed \
 	-e 's|^\( *program=\)rst2pseudoxml$$|\1"$(PREFIX)/bin/$(PROGRAM)"|' \
-	-e 's|^PROGRAM = "rst2pseudoxml"|PROGRAM = "$(PREFIX)/bin/$(PROGRAM)"|' \
 	-e 's|:command ("rst2pseudoxml"|:command ("$(PREFIX)/bin/$(PROGRAM)"|' \
 	-e 's|"check-pages.sh"|"$(own)/check-pages.sh"|' \
+	-e 's|"$$here/../python/src"|"$$here/python"|' \
 	-e 's|^\(.compdef\) rst2pseudoxml$$|\1 $(PROGRAM)|' \
 	-e 's|^\(complete -c\) rst2pseudoxml|\1 $(PROGRAM)|' \
 	-e 's|^\(complete -F _rst2pseudoxml\) rst2pseudoxml|\1 $(PROGRAM)|'
@@ -50,6 +50,10 @@ install:
 	$(named) completion/_rst2pseudoxml >"$(zsh)"
 	$(named) completion/rst2pseudoxml.fish >"$(fish)"
 	for file in $(scripts) $(files); do $(named) "integrations/$$file" >"$(DESTDIR)$(own)/$$file" || exit; done
+	(cd python/src && find rst2pseudoxml ! -name '*.pyc' ! -type d) | while read -r file; do \
+		mkdir -p "$(DESTDIR)$(own)/python/$$(dirname "$$file")" && cp -L "python/src/$$file" "$(DESTDIR)$(own)/python/$$file" || exit; \
+	done
+	find "$(DESTDIR)$(own)/python" -type f -exec chmod 644 {} +
 	cp $(pages) "$(share)/doc/rst2pseudoxml"
 	cp docs/profile/*.md "$(share)/doc/rst2pseudoxml/profile"
 	cd "$(share)/doc/rst2pseudoxml" && chmod 644 *.md profile/*.md

@@ -1,10 +1,9 @@
 #!/usr/bin/env python3
 """Measures what a call costs, in CPU time of the system and the user, with that of starting it: of the programs in dist/, of
-./rst2pseudoxml, of the Python module, and of check-pages.sh for each of 200 pages.
+./rst2pseudoxml, and of check-pages.sh for each of 200 pages.
 
 All read the same short page, and take turns. ./rst2pseudoxml runs in copies of a fresh checkout, without and with a program that was
-built there, and also after a pause, as a lone call does. Fails if it costs more than 2 times the program where nothing was built, or
-the module more than 1.3 times.
+built there, and also after a pause, as a lone call does. Fails if it costs more than 2 times the program where nothing was built.
 """
 
 import resource
@@ -16,16 +15,12 @@ import time
 from pathlib import Path
 
 TOP = Path(__file__).resolve().parent.parent
-sys.path.insert(0, str(TOP / "integrations"))
-from rst2pseudoxml import tree
-
 ROUNDS = 10
 PAGES = 20
 PAUSE = 0.05
 TEXT = "A *word*.\n"
 PROGRAM = "dist/rst2pseudoxml"
 SCRIPT = "./rst2pseudoxml"
-MODULE = "integrations/rst2pseudoxml.py"
 ALONE = ", after a pause"
 
 
@@ -79,8 +74,6 @@ def main() -> int:
         calls = {name: call(fresh / name) for name in (PROGRAM, "dist/rst2pseudoxml-static", SCRIPT)}
         calls[SCRIPT + ", where a program was built"] = call(developers / SCRIPT)
         calls.update({name + ALONE: call(fresh / name, PAUSE) for name in (PROGRAM, SCRIPT)})
-        calls[MODULE] = lambda: tree(TEXT)
-        tree(TEXT)  # finds the program
         costs = milliseconds(calls)
         pages = Path(temporary, "pages")
         pages.mkdir()
@@ -92,7 +85,7 @@ def main() -> int:
     times = {name: cost / costs[PROGRAM + ALONE if name.endswith(ALONE) else PROGRAM] for name, cost in costs.items()}
     for name, cost in costs.items():
         print(f"{cost:6.2f} ms, {times[name]:.2f} times the program  {name}")
-    return int(max(times[SCRIPT], times[SCRIPT + ALONE]) > 2 or times[MODULE] > 1.3)
+    return int(max(times[SCRIPT], times[SCRIPT + ALONE]) > 2)
 
 
 if __name__ == "__main__":

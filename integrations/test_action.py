@@ -62,12 +62,12 @@ class Action(unittest.TestCase):
 
     def test_level(self):
         self.same(0, [], level="error")
-        self.same(2, ["check-pages.sh: no such level: loud"], level="loud")
+        self.same(2, ["rst-check: no such level: loud"], level="loud")
 
     def test_nothing_matches(self):
         self.same(1, ["::error file=docs/*.rst::cannot open docs/*.rst"], files="docs/*.rst\ngood.rst")
         status, (line,) = run_step(self.workspace, files="")
-        self.assertEqual((status, line[:38]), (2, "check-pages.sh: no file was named (usa"))
+        self.assertEqual((status, line.partition(" (")[0]), (2, "rst-check: no file was named"))
 
     def test_known_names(self):
         (self.workspace / "sphinx.rst").write_text(":ref:`a` :ours:`b`\n")
@@ -82,7 +82,7 @@ class Action(unittest.TestCase):
 
     def test_inputs_are_no_commands(self):
         self.same(1, ["::error file=$(echo good.rst)::cannot open $(echo good.rst)"], files="$(echo good.rst)")
-        self.same(2, ["check-pages.sh: cannot read $(echo good.rst)"], known="@$(echo good.rst)", files="good.rst")
+        self.same(2, ["rst-check: cannot read $(echo good.rst)"], known="@$(echo good.rst)", files="good.rst")
 
 
 class Hook(unittest.TestCase):

@@ -4,6 +4,7 @@
 # shellcheck disable=SC2016 # backticks of reStructuredText
 set -u
 unset MAKEFLAGS MAKELEVEL
+export PYTHONDONTWRITEBYTECODE=1
 top=$(cd -- "$(dirname -- "$0")/.." && pwd)
 if ! command -v make >/dev/null; then
   echo "skipped: there is no make"
@@ -35,8 +36,9 @@ if grep -qxs "library $("$top/scripts/digest.sh" library)" "$top/dist/BUILT"; th
 else
   echo "skipped: the library for C, as dist/ has none of these sources"
 fi
-integrations=$(cd "$top/integrations" && printf './opt/rst/share/rst2pseudoxml/%s\n' check-*.sh *-names.txt flycheck* *.json rst2pseudoxml.py)
-all() { printf '%s\n' "$(names "$1")" "$pages" "$integrations" ${library:+"$library"} | LC_ALL=C sort; }
+integrations=$(cd "$top/integrations" && printf './opt/rst/share/rst2pseudoxml/%s\n' check-*.sh flycheck* *.json)
+package=$(cd "$top/python/src" && find rst2pseudoxml ! -name '*.pyc' ! -type d -printf './opt/rst/share/rst2pseudoxml/python/%p\n')
+all() { printf '%s\n' "$(names "$1")" "$pages" "$integrations" "$package" ${library:+"$library"} | LC_ALL=C sort; }
 hello=$'<document source="<stdin>">\n    <paragraph>\n        Hello'
 
 same 'make install' '' "$(of_make install)"
@@ -116,7 +118,7 @@ same 'check-trees.sh' $'written: ./page.tree\nstatus 0' "$("$installed/share/rst
 printf ':ref:`a`\n' >page.rst
 same 'the names of Sphinx' '' "$("$installed/share/rst2pseudoxml/check-pages.sh" --known=@sphinx-names.txt page.rst 2>&1)"
 if command -v python3 >/dev/null; then
-  same 'the Python module' "$hello" "$(PYTHONDONTWRITEBYTECODE=1 PYTHONPATH=$installed/share/rst2pseudoxml python3 -c 'import rst2pseudoxml; print(rst2pseudoxml.tree("Hello"), end="")' 2>&1)"
+  same 'the Python package' "$hello" "$(PYTHONPATH=$installed/share/rst2pseudoxml/python python3 -c 'import rst2pseudoxml; print(rst2pseudoxml.pseudoxml("Hello"), end="")' 2>&1)"
 fi
 same 'the name in completions' '1 1 10' "$(cd "$installed/share" && grep -ch -- ' rst-tree\( \|$\)' bash-completion/completions/rst-tree zsh/site-functions/_rst-tree fish/vendor_completions.d/rst-tree.fish | paste -sd ' ')"
 same 'the name in the page' '0' "$(grep -c '^\.[BI].* rst2pseudoxml' "$installed/share/man/man1/tree.1")"

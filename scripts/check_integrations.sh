@@ -1,6 +1,6 @@
 #!/usr/bin/env bash
-# Tests integrations/, the hook for pre-commit and the action for GitHub with the tools that this machine has: several awk, python3,
-# pytest, the module yaml, pre-commit, Emacs, Flycheck. Prints a line for each that is skipped. The status is 0 if what was run passed,
+# Tests integrations/, the hook for pre-commit and the action for GitHub with the tools that this machine has: python3, the module yaml,
+# pre-commit, Emacs, Flycheck. Prints a line for each that is skipped. The status is 0 if what was run passed,
 # 1 if a test failed, 77 if nothing could be run. It leaves nothing in the checkout.
 # shellcheck disable=SC2016 # backticks of reStructuredText
 set -u
@@ -45,110 +45,16 @@ python_with() { # MODULE: a python3 that has it
 
 check_pages() {
   local check=$here/check-pages.sh
+  if ! command -v python3 >/dev/null; then
+    echo "skipped: the pages, as there is no python3"
+    return
+  fi
   same 'a good page' '0 ' "$(answer "$check" good.rst)"
-  same 'a bad page' "1 a b.rst:$warning" "$(answer "$check" good.rst 'a b.rst' good.rst)"
-  same 'a name that begins with -' "1 ./-x.rst:$warning" "$(answer "$check" -- -x.rst)"
-  same 'a lower level' "1 info.rst:1: (INFO/1) Enumerated list start value not ordinal-1: \"c\" (ordinal 3)" \
-    "$(answer "$check" --level=info info.rst)"
-  same 'a higher level' '0 ' "$(answer "$check" --level=error -- 'a b.rst')"
-  same 'refused pages' "1 deep.rst: rst2pseudoxml: line 3: nesting too deep
-bytes.rst: rst2pseudoxml: not UTF-8 at byte 1
-memory.rst: rst2pseudoxml: read failed
-none.rst: rst2pseudoxml: cannot open none.rst
-a b.rst:$warning" "$(answer "$check" deep.rst bytes.rst memory.rst none.rst 'a b.rst')"
-  local usage='[--level=LEVEL] [--known=NAMES|@FILE].. [--format=FORMAT] [--] FILE|FOLDER..'
-  same 'no file' "2 check-pages.sh: no file was named (usage: check-pages.sh $usage)" "$(answer "$check" --)"
-  shows 'help' 0 "    check-pages.sh $usage" "$check" --help
-  same 'no format' '2 check-pages.sh: no such format: xml' "$(answer "$check" --format=xml good.rst)"
-  mkdir -p tree/b/.hidden tree/empty && cp ./-x.rst tree/b && cp ./-x.rst 'tree/a *.txt' && cp ./-x.rst tree/b/.hidden/c.rst && cp ./-x.rst tree/no.md
-  same 'a folder' "1 tree/a *.txt:$warning
-tree/b/-x.rst:$warning
-a b.rst:$warning" "$(answer "$check" tree 'a b.rst')"
-  same 'this folder' "1 ./a *.txt:$warning
-./b/-x.rst:$warning" "$(cd tree && answer "$check" .)"
-  same 'a folder without pages' '2 check-pages.sh: there is no *.rst or *.txt in tree/empty' "$(answer "$check" tree/empty)"
-  same 'no option' '2 check-pages.sh: no such option: -x.rst' "$(answer "$check" -x.rst)"
-  same 'no level' '2 check-pages.sh: no such level: loud' "$(answer "$check" --level=loud good.rst)"
-}
-
-check_known() {
-  local check=$here/check-pages.sh awk
-  mkdir known && cd known || exit 1
-  cat >page.rst <<'END'
-.. Spam:: an option
-
-   page.rst:1: (ERROR/3) No message.
-
-   .. _In Spam: u
-   .. _`with: colon`: u
-   .. |sub| image:: a
-   .. [CIT] x
-
-   .. ham::
-      :name: by name
-
-   `text <https://example.org/>`_
-
-See :ni:`x` |today| |sub| `in spam`_ [cit]_ `by name`_ text_ `with: colon`_
-
-.. _far: nowhere_
-
-.. |day| date:: %d
-.. |ni|  replace:: a :ni:`x`
-.. |b|   replace:: |day|
-
-far_ |Day| |ni| |b|
-
-.. role:: own(emphasis)
-
-:own:`x`
-
-.. code-block:: py
-   :linenos:
-
-   x
-END
-  local other='page.rst:17: (ERROR/3) Indirect hyperlink target "far" refers to target "nowhere", which does not exist.'
-  local today='page.rst:15: (ERROR/3) Undefined substitution referenced: "today".'
-  for awk in gawk mawk original-awk 'busybox awk'; do
-    command -v "${awk% awk}" >/dev/null || continue
-    printf '#!/bin/sh\nexec %s "$@"\n' "$awk" >./awk
-    chmod +x awk
-    same "known names, $awk" "1 $today
-$other" "$(PATH=.:$PATH answer "$check" --known=spam,Ni,role --known='directive:date, code-block' page.rst)"
-    same "what is defined elsewhere, $awk" '0 ' "$(PATH=.:$PATH answer "$check" --known=spam,ni,role,date,code-block,substitution:today,target:Nowhere page.rst)"
-  done
-  rm awk
-  printf ':a:`x`\n\n.. b::\n' >short.rst
-  local a='short.rst:1: (ERROR/3) Unknown interpreted text role "a".' b='short.rst:3: (ERROR/3) Unknown directive type "b".'
-  same 'an option that helps' "1 $a
-$b
-
-.. b::
-short.rst: passes with --known=role:a,directive:b" "$(answer "$check" short.rst)"
-  same 'with that option' '0 ' "$(answer "$check" --known=role:a,directive:b short.rst)"
-  same 'not the other kind' "1 $a
-short.rst: passes with --known=role:a" "$(answer "$check" --known=directive:a,b short.rst)"
-  printf '*x\n' >>short.rst
-  same 'no option helps' "1 $a" "$(answer "$check" --known=b short.rst | grep -v WARN)"
-  printf '# ours\n\n  a \r\ndirective:b\n@more.txt\n' >names.txt
-  printf '@names.txt\nc\n' >more.txt
-  same 'a file' '0 ' "$(answer "$check" --level=error --known=@names.txt short.rst)"
-  same 'no file of names' '2 check-pages.sh: cannot read none.txt' "$(answer "$check" --known=@none.txt short.rst)"
-  mkdir project && mv short.rst project && cp names.txt project/.rst-known && cp more.txt project
-  same "a project's file" '0 ' "$(answer "$check" --level=error --known=target:x project)"
-  same "the file of this folder" '0 ' "$(cd project && cp .rst-known names.txt && answer "$check" --level=error short.rst)"
-  printf '.. toctree::\n\n:func:`a` :c:func:`b` :mod:`c`\n\n.. contents::\n.. py:class:: x\n' >sphinx.rst
-  same 'names of Sphinx' '0 ' "$(answer "$check" --known=@sphinx-names.txt sphinx.rst)"
-  for names in "$here"/*-names.txt; do
-    same "${names##*/}, each once" '' "$(grep -v '^#' "$names" | grep . | sort | uniq -d)"
-    same "${names##*/}, kinds" '' "$(grep -vxE '#.*||@docutils-names.txt|(directive|role|substitution):[a-z][a-z0-9:-]*' "$names")"
-  done
-  for name in $(sed -n 's/^directive://p' "$here/docutils-names.txt"); do
-    printf '.. %s:: a\n\n' "$name"
-  done >docutils.rst
-  same 'directives of Docutils that the program reads' "$(grep -c ^directive: "$here/docutils-names.txt")" "$("$top/rst2pseudoxml" docutils.rst 2>&1 >/dev/null | grep -c 'Unknown directive type')"
-  cd ..
+  same 'bad pages' "1 a b.rst:$warning
+./-x.rst:$warning" "$(answer "$check" -- good.rst 'a b.rst' -x.rst)"
+  echo 'raise SystemExit("this is not the module json")' >json.py
+  same 'a module in the folder of the pages' '0 ' "$(answer "$check" good.rst)"
+  same 'a link to the script' '0 ' "$(ln -s "$check" linked && answer ./linked good.rst)"
 }
 
 check_trees() {
@@ -180,44 +86,20 @@ trees/good.rst: there is no trees/good.tree; --update writes it' "$(answer "$che
 }
 
 check_copies() { # they run the program on the PATH, where those of the checkout run that of the checkout
-  mkdir -p copy/of path && cp -- "$here"/check-*.sh copy/of
+  mkdir -p copy/of path && cp -- "$here"/check-trees.sh copy/of
   printf '#!/bin/sh\necho rst2pseudoxml: of the PATH >&2\nexit 1\n' >path/rst2pseudoxml
   chmod +x path/rst2pseudoxml
   local PATH=$folder/path:$PATH
-  same 'pages by the checkout' '0 ' "$(answer "$here/check-pages.sh" good.rst)"
-  same 'pages by the PATH' '1 good.rst: rst2pseudoxml: of the PATH' "$(answer copy/of/check-pages.sh good.rst)"
   shows 'trees by the PATH' 1 './good.rst: rst2pseudoxml: of the PATH' copy/of/check-trees.sh .
-  # shellcheck disable=SC2016
-  printf '#!/bin/sh\nkill -9 $$\n' >path/rst2pseudoxml # stays for the copy of the Python module
-  shows 'a program that is killed' 1 'good.rst: rst2pseudoxml: ended with status 137' copy/of/check-pages.sh good.rst
 }
 
 check_python() {
   if ! command -v python3 >/dev/null; then
-    echo "skipped: the Python module, the formats, pytest and the action, as there is no python3"
+    echo "skipped: the formats and the action, as there is no python3"
     return
   fi
-  succeeds 'the Python module' python3 "$here/test_rst2pseudoxml.py"
   succeeds 'the formats' python3 "$here/test_formats.py"
-  cp -- "$here/rst2pseudoxml.py" copy/of
-  shows 'a copy of the Python module' 1 'rst2pseudoxml.Refused: rst2pseudoxml: ended with status -9' \
-    env PATH="$folder/path:$PATH" PYTHONPATH=copy/of python3 -c 'import rst2pseudoxml; rst2pseudoxml.tree("")'
-  shows 'a copy of the Python module without a program' 1 'FileNotFoundError: there is no rst2pseudoxml on the PATH' \
-    env PYTHONPATH=copy/of "$(command -v python3)" -c 'import os, rst2pseudoxml; os.environ["PATH"] = "none"; rst2pseudoxml.tree("")'
   local python
-  if python=$(python_with pytest); then
-    cat >test_fails.py <<'END'
-from rst2pseudoxml import assert_tree
-
-def test_fails():
-    assert_tree("Some *text*", '<document source="<stdin>">\n')
-END
-    shows 'pytest, with a test that fails' 1 'E       +        <emphasis>' \
-      env PYTHONPATH="$here" "$python" -m pytest -p no:cacheprovider test_fails.py "$here/test_rst2pseudoxml.py"
-    grep -q '1 failed, [1-9][0-9]* passed' out || same 'pytest, how many tests fail' '1 failed, and the others passed' "$(tail -n 1 out)"
-  else
-    echo "skipped: pytest, as no python3 here has it"
-  fi
   if python=$(python_with yaml); then
     succeeds 'the action' "$python" "$here/test_action.py"
   else
@@ -272,14 +154,10 @@ check_emacs() {
 
 warning='1: (WARNING/2) Inline emphasis start-string without end-string.'
 echo fine >good.rst
-ln -s /proc/self/mem memory.rst # a file that can be opened, and not read
 echo 'A *word' | tee -- 'a b.rst' ./-x.rst >/dev/null
-echo 'c. one' >info.rst
 printf 'text\n\n%sa\n' "$(printf -- '- %.0s' {1..251})" >deep.rst
-printf 'a\377' >bytes.rst
 mkdir 'a folder'
 check_pages
-check_known
 check_trees
 check_copies
 check_python

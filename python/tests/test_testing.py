@@ -1,34 +1,12 @@
 #!/usr/bin/env python3
-"""Tests of the module rst2pseudoxml; pytest runs them, and so does python3 by itself."""
+"""Tests of assert_tree; pytest runs them, and so does python3 by itself."""
 
 import unittest
 
-from rst2pseudoxml import Refused, assert_tree, tree
+from rst2pseudoxml import Refused
+from rst2pseudoxml.testing import assert_tree
 
 HELLO = '<document source="<stdin>">\n    <paragraph>\n        Hello\n'
-
-
-class Trees(unittest.TestCase):
-    def test_tree(self):
-        self.assertEqual(tree("Hello"), HELLO)
-
-    def test_characters_outside_ascii(self):
-        self.assertEqual(tree("Grüße"), HELLO.replace("Hello", "Grüße"))
-
-    def test_options(self):
-        self.assertIn("Possible title underline", tree("Title\n--\n", "--verbose"))
-        self.assertNotIn("Possible title underline", tree("Title\n--\n"))
-
-    def test_severe_messages_do_not_halt(self):
-        self.assertIn('level="4"', tree("- One\n  ===\n", "--exit-status=info"))
-
-    def test_refused_text(self):
-        with self.assertRaisesRegex(Refused, "^rst2pseudoxml: line 1: nesting too deep$"):
-            tree("- " * 251 + "a")
-
-    def test_refused_options(self):
-        with self.assertRaisesRegex(Refused, "^rst2pseudoxml: bad level$"):
-            tree("Hello", "--report=loud")
 
 
 class Assertions(unittest.TestCase):
@@ -49,8 +27,14 @@ class Assertions(unittest.TestCase):
             """,
         )
 
-    def test_options(self):
-        assert_tree("a\tb", HELLO.replace("Hello", "a   b"), "--tab-width=4")
+    def test_settings(self):
+        assert_tree("a\tb", HELLO.replace("Hello", "a   b"), tab_width=4)
+
+    def test_severe_messages_do_not_halt(self):
+        with self.assertRaisesRegex(AssertionError, 'level="4"'):
+            assert_tree("- One\n  ===\n", HELLO)
+        with self.assertRaises(Refused):
+            assert_tree("- One\n  ===\n", HELLO, halt="severe")
 
     def test_difference(self):
         with self.assertRaises(AssertionError) as failed:

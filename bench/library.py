@@ -1,0 +1,89 @@
+#!/usr/bin/env python3
+"""Measures the calls of the Python package, beside the program and Docutils: microseconds of CPU time for pages of four sizes.
+
+    bench/library.py [ROUNDS]
+
+The pages are prose (bench/prose.py). All calls take turns, in ROUNDS rounds (10 if not given); the least time of each is printed, in a table in
+Markdown. A start of the program is counted with the time of its process. Fails if a document of Docutils differs from the program's tree.
+"""
+
+import resource
+import subprocess
+import sys
+import time
+from pathlib import Path
+
+TOP = Path(__file__).resolve().parent.parent
+sys.path.insert(0, str(TOP / "python/src"))
+
+import docutils.core
+import docutils.frontend
+import docutils.parsers.rst
+import docutils.utils
+from prose import prose
+
+import rst2pseudoxml
+import rst2pseudoxml.docutils
+
+PROGRAM = TOP / "dist/rst2pseudoxml"
+SIZES = (100, 1_400, 10_000, 100_000)
+OVERRIDES = {"_disable_config": True, "syntax_highlight": "none"}
+DOCUMENT, PUBLISHED = "`docutils.doctree`", "Docutils' `publish_doctree`"
+LEAST = 0.02  # seconds that a measurement takes
+
+
+def page(size):
+    """Prose of about this size, which ends with a line."""
+    return prose(size)[:size].rpartition("\n")[0] + "\n"
+
+
+def calls(text):
+    settings = docutils.frontend.get_default_settings(docutils.parsers.rst.Parser)
+    settings.syntax_highlight = "none"
+    parser = docutils.parsers.rst.Parser()
+    return {
+        "`pseudoxml`": lambda: rst2pseudoxml.pseudoxml(text),
+        "`json`": lambda: rst2pseudoxml.json(text),
+        "`tree`": lambda: rst2pseudoxml.tree(text),
+        DOCUMENT: lambda: rst2pseudoxml.docutils.doctree(text),
+        "the program, started": lambda: subprocess.run([PROGRAM], input=text.encode(), stdout=subprocess.PIPE, stderr=subprocess.DEVNULL),
+        "Docutils' parser alone": lambda: parser.parse(text, docutils.utils.new_document("<stdin>", settings.copy())),
+        PUBLISHED: lambda: docutils.core.publish_doctree(text, settings_overrides=OVERRIDES),
+    }
+
+
+def spent():
+    """The CPU seconds of this process and its children so far."""
+    children = resource.getrusage(resource.RUSAGE_CHILDREN)
+    return time.process_time() + children.ru_utime + children.ru_stime
+
+
+def microseconds(call):
+    """The CPU time of a call: the mean of as many as take some time."""
+    count, began = 0, spent()
+    while count == 0 or spent() - began < LEAST:
+        call()
+        count += 1
+    return 1e6 * (spent() - began) / count
+
+
+def main():
+    rounds = int(sys.argv[1]) if sys.argv[1:] else 10
+    least = {}
+    for size in SIZES:
+        text = page(size)
+        if rst2pseudoxml.docutils.doctree(text).pformat() != rst2pseudoxml.pseudoxml(text):
+            sys.exit(f"the document of {size} bytes differs")
+        for _ in range(rounds):
+            for name, call in calls(text).items():
+                least.setdefault(name, {})[size] = min(microseconds(call), least.get(name, {}).get(size, float("inf")))
+    print("| microseconds a call |", " | ".join(f"{size / 1000:g} KB" for size in SIZES), "|")
+    print("|---" * (1 + len(SIZES)) + "|")
+    for name, times in least.items():
+        print(f"| {name} |", " | ".join(f"{times[size]:,.0f}" for size in SIZES), "|")
+    ratios = (least[PUBLISHED][size] / least[DOCUMENT][size] for size in SIZES)
+    print(f"| {PUBLISHED}, times {DOCUMENT} |", " | ".join(f"{ratio:.1f}" for ratio in ratios), "|")
+
+
+if __name__ == "__main__":
+    main()

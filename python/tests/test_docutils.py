@@ -1,0 +1,262 @@
+#!/usr/bin/env python3
+"""Tests documents of Docutils beside the program and beside Docutils' own parser; pytest runs them, and so does python3 by itself."""
+
+import collections
+import io
+import threading
+import unittest
+
+import cases
+
+import docutils.core
+import docutils.utils
+from docutils import frontend, nodes
+from docutils.parsers.rst import roles
+
+import rst2pseudoxml
+from rst2pseudoxml.docutils import Parser, doctree
+
+SETTINGS = {
+    "_disable_config": True,
+    "halt_level": 5,
+    "warning_stream": False,
+    "syntax_highlight": "none",
+    "file_insertion_enabled": False,
+    "raw_enabled": False,
+    "output_encoding": "unicode",
+    "use_latex_citations": False,
+    "legacy_column_widths": True,
+}
+TABLES = (
+    "nameids nametypes footnotes autofootnotes symbol_footnotes autofootnote_refs symbol_footnote_refs citations citation_refs "
+    "substitution_defs substitution_names"
+).split()
+PAGE = """
+Title
+=====
+
+:Author: me
+
+.. _here:
+
+First
+-----
+
+*a* [1]_ [#]_ [#x]_ [*]_ [C]_ here_ `u <http://x.org/>`_ anonymous__ |s| _`in`
+
+__ http://y.org/
+
+.. [1] one
+.. [#] two
+.. [#x] three
+.. [*] four
+.. [C] five
+.. |s| image:: s.png
+   :scale: 50
+
+3. a
+
+   +---+---+
+   | a     |
+   +---+---+
+   | b | c |
+   +---+---+
+
+.. note:: *d
+
+   ::
+
+     e
+
+First
+-----
+
+.. foo:: bar
+
+x
+"""
+
+
+def published(text, writer, parser=None, **settings):
+    roles._roles.clear()  # those that a document defines last as long as the process
+    return docutils.core.publish_string(text, "<stdin>", parser=parser, writer_name=writer, settings_overrides={**SETTINGS, **settings})
+
+
+def settings_of(given):
+    """The settings of Docutils that settings of a call are."""
+    settings = frontend.get_default_settings(Parser, docutils.readers.standalone.Reader)
+    for ours, theirs in (("report", "report_level"), ("halt", "halt_level")):
+        if ours in given:
+            setattr(settings, theirs, rst2pseudoxml.LEVELS[given[ours]])
+    for ours, theirs in (("no_doc_title", "doctitle_xform"), ("no_doc_info", "docinfo_xform")):
+        setattr(settings, theirs, not given.get(ours))
+    for name in {"tab_width", "line_length_limit"} & set(given):
+        setattr(settings, name, given[name])
+    settings.warning_stream = io.StringIO()
+    return settings
+
+
+def named(value):
+    """What tables hold, with the tags and ids of elements in their place."""
+    if isinstance(value, nodes.Element):
+        return value.tagname, value["ids"], value.astext()
+    if isinstance(value, dict):
+        return {name: named(one) for name, one in value.items()}
+    return [named(one) for one in value] if isinstance(value, list) else value
+
+
+def typed(element):
+    """The attributes of an element, with their types."""
+    return sorted((name, type(value).__name__, value) for name, value in element.attributes.items())
+
+
+class BesideTheProgram(unittest.TestCase):
+    def same(self, given, data, out, err, status):
+        """Whether a tree was compared."""
+        if status == 2:  # the tests of the calls see to it
+            return False
+        settings = settings_of(given)
+        if status in cases.SHOWN:
+            document = doctree(data, settings)
+            if "\0" not in out:  # a mark of Docutils' own, which it leaves out of texts
+                self.assertEqual(document.pformat(), out)
+            # in the order of the tree
+            self.assertEqual(sorted(settings.warning_stream.getvalue().split()), sorted(err.split()))
+            highest = max((message.level for message in rst2pseudoxml.messages(data, **{**given, "report": 1})), default=-1)
+            self.assertEqual(document.reporter.max_level, highest)
+            return True
+        with self.assertRaises((rst2pseudoxml.Refused, docutils.utils.SystemMessage)) as refused:
+            doctree(data, settings)
+        if isinstance(refused.exception, docutils.utils.SystemMessage):
+            shown, _, last = err.rstrip("\n").rpartition("\n")
+            self.assertEqual(settings.warning_stream.getvalue().rstrip("\n"), shown.rstrip("\n"))
+            self.assertTrue(last.startswith(f"Exiting due to level-{refused.exception.level} "))
+        else:
+            self.assertEqual(f"{refused.exception}\n", err)
+        return False
+
+    def all_same(self, documents):
+        count = 0
+        for name, given, data, answer in cases.cases(documents):
+            with self.subTest(name):
+                count += self.same(given, data, *answer)
+        return count
+
+    def test_rows(self):
+        self.assertGreater(self.all_same(cases.rows()), 70)
+
+    def test_mutated_documents(self):
+        self.assertGreater(self.all_same(cases.mutated(1700)), 1000)
+
+    def test_pages(self):
+        self.all_same(cases.pages(300))
+
+
+class BesideItsOwnParser(unittest.TestCase):
+    """Where the trees are the same, so is all else."""
+
+    def counted(self, documents):
+        """How many trees are the same, and how many aren't. A tree doesn't show whether a text ends in a line feed."""
+        count = collections.Counter()
+        for name, _, data in documents:
+            text = data.decode("utf-8", "replace")
+            try:
+                theirs = published(text, "pseudoxml")
+            except (LookupError, RecursionError):  # some make Docutils raise these
+                continue
+            with self.subTest(name):
+                same = published(text, "pseudoxml", Parser()) == theirs
+                count[same] += 1
+                if same:
+                    self.assertEqual(*(published(text, "html5", parser).replace("\n</pre>", "</pre>") for parser in (None, Parser())))
+                    self.same_documents(text)
+        return count
+
+    def same_documents(self, text):
+        roles._roles.clear()
+        theirs = docutils.core.publish_doctree(text, settings_overrides=SETTINGS)
+        ours = doctree(text, theirs.settings.copy(), theirs["source"])
+        for table in TABLES:
+            self.assertEqual(named(getattr(ours, table)), named(getattr(theirs, table)), table)
+        if theirs.pformat() == ours.pformat():  # no messages are left out
+            self.assertEqual(set(ours.ids), set(theirs.ids))
+            for one, other in zip(ours.findall(nodes.Element), theirs.findall(nodes.Element)):
+                self.assertEqual(typed(one), typed(other))
+
+    def test_rows(self):
+        self.assertGreater(self.counted(cases.rows())[True], 70)
+
+    def test_mutated_documents(self):
+        short = ((name, words, data) for name, words, data in cases.mutated(100) if len(data) < 5000)
+        self.assertGreater(self.counted(short)[True], 50)
+
+    def test_pages(self):
+        self.counted((name, words, data) for name, words, data in cases.pages(20) if len(data) < 10_000)
+
+
+class Documents(unittest.TestCase):
+    def test_other_writers(self):
+        text = PAGE.replace(".. foo:: bar", "").replace("3. a", "1. a")
+        for writer in ("latex", "xml", "html4css1", "manpage"):
+            with self.subTest(writer):
+                self.assertEqual(published(text, writer, Parser()), published(text, writer))
+
+    def test_own_document_is_published(self):
+        document = doctree(PAGE, settings_of({"report": "none"}))
+        page = docutils.core.publish_from_doctree(document, writer_name="html5", settings_overrides=SETTINGS)
+        self.assertIn('<h1 class="title">Title</h1>', page)
+
+    def test_lines_and_sources(self):
+        document = doctree("a\n\n- b\n\n  *c*\n", source="x.rst")
+        found = [(node.tagname, node.line, node.source) for node in document.findall(nodes.TextElement)]
+        self.assertEqual(found, [("paragraph", 1, "x.rst"), ("paragraph", 3, "x.rst"), ("paragraph", 5, "x.rst"), ("emphasis", 5, "x.rst")])
+        self.assertIs(next(document.findall(nodes.emphasis)).document, document)
+
+    def test_tables(self):
+        document = doctree(PAGE, settings_of({"report": 1, "halt": 5}))
+        for element in document.findall(nodes.Element):
+            for one in element["ids"]:
+                self.assertIs(document.ids[one], element)
+            self.assertTrue(all(child.parent is element for child in element.children))
+        self.assertEqual(document.nameids["here"], "here")
+        self.assertIsNone(document.nameids["first"])
+        self.assertEqual((document.nametypes["here"], document.nametypes["first"], document.nametypes["title"]), (True, False, False))
+        self.assertEqual([node.tagname for node in document.refids["here"]], ["target", "reference"])
+        self.assertEqual(document.parse_messages, list(document.findall(nodes.system_message)))
+
+    def test_settings_of_transforms(self):
+        self.assertEqual(doctree("A\n=\n\nb", settings_of({"no_doc_title": True}))[0].tagname, "section")
+        self.assertIn("“a”", published('"a"', "pseudoxml", Parser(), smart_quotes=True))
+        self.assertNotIn("comment", published(".. a\n\nb", "pseudoxml", Parser(), strip_comments=True))
+        self.assertIn('title="T"', published("a", "pseudoxml", Parser(), title="T"))
+        text = "A\n=\n\nB\n=\n\nC\n-\n\nd"
+        self.assertEqual(*(published(text, "pseudoxml", parser, sectsubtitle_xform=True) for parser in (None, Parser())))
+
+    def test_messages_are_reported(self):
+        for parser in (None, Parser()):
+            stream = io.StringIO()
+            with self.assertRaises(docutils.utils.SystemMessage):
+                published("*a\n\n.. b::\n", "pseudoxml", parser, halt_level=3, warning_stream=stream)
+            self.assertEqual(stream.getvalue().count("<stdin>:1: (WARNING/2) Inline emphasis"), 1)
+            self.assertIn('<stdin>:3: (ERROR/3) Unknown directive type "b".\n\n.. b::', stream.getvalue())
+
+    def test_threads(self):
+        texts = [PAGE.replace("First", f"Number {number}") for number in range(8)]
+        wanted = [doctree(text, settings_of({"report": 5})).pformat() for text in texts]
+        settings = settings_of({"report": 5})
+        found = []
+
+        def work(number):
+            for _ in range(50):
+                found.append(doctree(texts[number], settings.copy()).pformat() == wanted[number])
+
+        threads = [threading.Thread(target=work, args=(number,)) for number in range(len(texts))]
+        for thread in threads:
+            thread.start()
+        for thread in threads:
+            thread.join()
+        self.assertEqual((len(found), all(found)), (400, True))
+
+
+if __name__ == "__main__":
+    unittest.main()

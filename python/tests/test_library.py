@@ -1,0 +1,172 @@
+#!/usr/bin/env python3
+"""Tests the calls of the package beside the program; pytest runs them, and so does python3 by itself."""
+
+import gc
+import json
+import pickle
+import resource
+import subprocess
+import sys
+import threading
+import unittest
+
+import cases
+
+import rst2pseudoxml
+from rst2pseudoxml import Message, Node, Refused, messages, pseudoxml, tree
+
+HELLO = '<document source="<stdin>">\n    <paragraph>\n        Hello\n'
+
+
+def shown(node, level=0):
+    """A tree as the program prints it."""
+    indent = "    " * level
+    if isinstance(node, str):
+        return "".join(f"{indent}{line}\n" for line in node.removesuffix("\n").split("\n"))
+    attributes = dict(node.attributes)
+    if node.tag in ("document", "system_message"):
+        attributes["source"] = "<stdin>"
+    parts = [node.tag]
+    for name, value in sorted(attributes.items()):
+        if isinstance(value, list):
+            value = " ".join(one.replace("\\", "\\\\").replace(" ", "\\ ") for one in value)
+        parts.append(f'{name}="{value}"')
+    return f"{indent}<{' '.join(parts)}>\n" + "".join(shown(child, level + 1) for child in node.children)
+
+
+def written(message):
+    """A message as the program writes it."""
+    block = "" if message.block is None else f"\n{message.block}\n"
+    return f"{message.file}:{message.line}: ({message.type}/{message.level}) {message.text}\n{block}"
+
+
+class BesideTheProgram(unittest.TestCase):
+    def same(self, settings, data, out, err, status):
+        if status == 2:
+            with self.assertRaises(ValueError) as wrong:
+                pseudoxml(data, **settings)
+            self.assertEqual(f"{wrong.exception}\n", err)
+        elif status in cases.SHOWN:
+            self.assertEqual(pseudoxml(data, **settings), out)
+            self.assertEqual(shown(tree(data, **settings)), out)
+            self.assertEqual("".join(map(written, messages(data, **settings))), err)
+        else:
+            with self.assertRaises(Refused) as refused:
+                pseudoxml(data, **settings)
+            line = f"{refused.exception}\n"
+            if refused.exception.kind == "halted":
+                line = "".join(map(written, messages(data, **settings))) + line
+            self.assertEqual(line, err)
+        return status
+
+    def all_same(self, documents):
+        statuses = []
+        for name, settings, data, answer in cases.cases(documents):
+            with self.subTest(name):
+                statuses.append(self.same(settings, data, *answer))
+        return statuses
+
+    def test_rows(self):
+        self.assertLess({0, 1, 2}, set(self.all_same(cases.rows())))
+
+    def test_mutated_documents(self):
+        self.assertLess({0, 1, 12}, set(self.all_same(cases.mutated(1000))))
+
+    def test_pages(self):
+        self.all_same(cases.pages(100))
+
+
+class Values(unittest.TestCase):
+    def test_text_and_bytes(self):
+        self.assertEqual(pseudoxml("Grüße"), HELLO.replace("Hello", "Grüße"))
+        self.assertEqual(pseudoxml("Grüße".encode()), HELLO.replace("Hello", "Grüße"))
+        with self.assertRaises(UnicodeEncodeError):
+            pseudoxml("\ud800")
+
+    def test_source(self):
+        self.assertEqual(pseudoxml("Hello", source="ä.rst"), HELLO.replace("<stdin>", "ä.rst"))
+        self.assertEqual([message.file for message in messages("*a", source="ä.rst")], ["ä.rst"])
+
+    def test_tree(self):
+        text = Node("emphasis", {}, ("b",), 2)
+        self.assertEqual(tree("\na *b*"), Node("document", {}, (Node("paragraph", {}, ("a ", text), 2),), 0))
+        with self.assertRaises(AttributeError):
+            text.tag = "strong"
+
+    def test_json(self):
+        self.assertEqual(json.loads(rst2pseudoxml.json('"a\\\\')), ["document", 0, {}, ["paragraph", 1, {}, '"a\\']])
+
+    def test_messages(self):
+        message = Message("<stdin>", 1, 3, "ERROR", 'Unknown directive type "a".', ".. a::")
+        self.assertEqual(messages(".. a::\n\n*b"), [message, Message("<stdin>", 3, 2, "WARNING", messages("*b")[0].text)])
+        self.assertEqual(messages(".. a::\n\n*b", report="error"), [message])
+        self.assertEqual(messages(".. a::\n\n*b", halt=3), [message])
+
+    def test_levels(self):
+        for level in ("error", 3, "3"):
+            self.assertEqual(messages("*a", report=level), [])
+
+    def test_wrong_settings(self):
+        wrong = [("report", "loud"), ("halt", 0), ("halt", 6), ("tab_width", 0), ("tab_width", 256 + 8), ("line_length_limit", 2**24 + 1)]
+        for name, value in wrong:
+            with self.subTest(name), self.assertRaises(ValueError):
+                pseudoxml("a", **{name: value})
+        with self.assertRaises(TypeError):
+            pseudoxml("a", loud=True)
+
+    def test_refusals(self):
+        for text, kind, place, line in (
+            (b"a\xff", "not UTF-8", 1, "rst2pseudoxml: not UTF-8 at byte 1"),
+            ("b\n\n" + "- " * 251 + "a", "too deep", 3, "rst2pseudoxml: line 3: nesting too deep"),
+            (b"\n" * (2**24 + 1), "too long", None, "rst2pseudoxml: input too long"),
+            ("b\n\n- One\n  ===\n", "halted", 4, "Exiting due to level-4 (SEVERE) system message."),
+        ):
+            for call in (pseudoxml, tree, rst2pseudoxml.json):
+                with self.subTest(kind), self.assertRaises(Refused) as refused:
+                    call(text)
+                one = pickle.loads(pickle.dumps(refused.exception))
+                self.assertEqual((one.kind, one.place, str(one)), (kind, place, line))
+
+
+class Calls(unittest.TestCase):
+    def test_threads(self):
+        texts = [f"{'=' * 9}\nTitle {number}\n{'=' * 9}\n\n" + f"- *{number}* `a\n" * number for number in range(40)]
+        wanted = [(pseudoxml(text), tree(text)) for text in texts]
+        found = {}
+
+        def work(first):
+            for turn in range(400):
+                number = (first + turn) % len(texts)
+                found[first, turn] = (pseudoxml(texts[number]), tree(texts[number])) == wanted[number]
+
+        threads = [threading.Thread(target=work, args=(first,)) for first in range(8)]
+        for thread in threads:
+            thread.start()
+        for thread in threads:
+            thread.join()
+        self.assertEqual((len(found), all(found.values())), (3200, True))
+
+    def test_memory(self):
+        """In a process of its own, whose memory no other test has used."""
+        self.assertLess(int(subprocess.run([sys.executable, __file__, "grown"], stdout=subprocess.PIPE, check=True).stdout), 500)
+
+
+def grown():
+    """The KB by which the memory grew between the first thousand calls and twenty thousand."""
+    text = "Title\n=====\n\n- *one* `two\n\n.. note:: b_\n\n" + "Some text.\n" * 100
+
+    def most(calls):
+        for _ in range(calls // 4):
+            pseudoxml(text), tree(text), messages(text), rst2pseudoxml.json(text)
+        gc.collect()
+        return resource.getrusage(resource.RUSAGE_SELF).ru_maxrss
+
+    before = most(1000)
+    return most(19_000) - before
+
+
+if __name__ == "__main__":
+    if sys.argv[1:] == ["grown"]:
+        print(grown())
+    else:
+        unittest.main()
