@@ -1,6 +1,6 @@
 """rst-view: a page that shows a text beside its document tree.
 
-The page is one HTML file with its style and script (page.html); what it shows is in it as JSON. With `--watch` it is served on the
+The page is one HTML file with its style and script (`TEMPLATE`); what it shows is in it as JSON. With `--watch` it is served on the
 loopback address alone, and asks for the next state of the file whenever it has shown one.
 """
 
@@ -33,7 +33,13 @@ try:
 except ImportError:
     Observer = None
 
-TEMPLATE = Path(__file__).with_name("page.html").read_text("utf-8")
+
+def part(*names: str) -> str:
+    """A part of the page, of files beside this one."""
+    return "".join(Path(__file__).with_name(name).read_text("utf-8") for name in names)
+
+
+TEMPLATE = part("page.html").replace("%STYLE%", part("page.css")).replace("%SCRIPT%", part("document.js", "list.js", "page.js"))
 LINE_END = re.compile("\r\n|[\n\r\x1c-\x1e\x85\u2028\u2029]")
 LOOKED_AT = 0.5  # seconds from one look at the file's time to the next
 ANSWERED = 20  # seconds after which the page is told that nothing has changed
