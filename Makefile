@@ -51,8 +51,9 @@ install:
 	$(named) completion/rst2pseudoxml.fish >"$(fish)"
 	for file in $(scripts) $(files); do $(named) "integrations/$$file" >"$(DESTDIR)$(own)/$$file" || exit; done
 	(cd python/src && find rst2pseudoxml ! -name '*.pyc' ! -type d) | while read -r file; do \
-		mkdir -p "$(DESTDIR)$(own)/python/$$(dirname "$$file")" && cp -L "python/src/$$file" "$(DESTDIR)$(own)/python/$$file" || exit; \
+		mkdir -p "$(DESTDIR)$(own)/python/$$(dirname "$$file")" && cp "python/src/$$file" "$(DESTDIR)$(own)/python/$$file" || exit; \
 	done
+	cp dist/librst2pseudoxml.so "$(DESTDIR)$(own)/python/rst2pseudoxml"
 	find "$(DESTDIR)$(own)/python" -type f -exec chmod 644 {} +
 	cp $(pages) "$(share)/doc/rst2pseudoxml"
 	cp docs/profile/*.md "$(share)/doc/rst2pseudoxml/profile"

@@ -16,7 +16,8 @@ if [ ! -e "$top/dist/librst2pseudoxml.so" ]; then
   echo "skipped: dist/ has no library"
   exit 77
 fi
-cp -rL -- "$top/python" copy && "$python" -m pip install --quiet --no-deps --no-build-isolation --target installed ./copy || exit 1
+mkdir -p copy/dist && cp -r -- "$top/python" copy && cp -- "$top/dist/librst2pseudoxml.so" copy/dist &&
+  "$python" -m pip install --quiet --no-deps --no-build-isolation --target installed ./copy/python || exit 1
 export PYTHONPATH=$folder/installed
 failed=0
 [ "$(echo 'A *word' >a.rst && installed/bin/rst-check a.rst)" = 'a.rst:1: (WARNING/2) Inline emphasis start-string without end-string.' ] || failed=1

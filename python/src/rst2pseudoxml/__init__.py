@@ -105,8 +105,9 @@ class _Result(Structure):
 
 
 def _loaded() -> CDLL:
-    """The library that is shipped beside this file."""
-    library = CDLL(str(Path(__file__).with_name("librst2pseudoxml.so")))
+    """The library that is installed beside this file; in a checkout, that of dist/."""
+    path = Path(__file__).with_name("librst2pseudoxml.so")
+    library = CDLL(str(path if path.exists() else path.parents[3] / "dist" / path.name))
     if library.rst_abi_version() != 1:
         raise ImportError("librst2pseudoxml.so is of another version")
     text, room, end = [c_char_p, c_size_t], [c_void_p, c_size_t], [POINTER(_Result)]
