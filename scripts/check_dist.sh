@@ -17,7 +17,7 @@ static() {
 library() {
   local linked
   linked=$(mktemp -d) && trap 'rm -rf "$linked"' RETURN
-  scripts/library.sh "$linked"
+  scripts/library.sh "$linked" || { [ $? = 77 ] && return; exit 1; }
   cmp dist/librst2pseudoxml.a "$linked/librst2pseudoxml.a" && cmp dist/librst2pseudoxml.so "$linked/librst2pseudoxml.so"
 }
 

@@ -1,25 +1,36 @@
 #!/usr/bin/env bash
-# Links the library for C from the archive of crates/rst_c, and writes librst2pseudoxml.a and librst2pseudoxml.so to FOLDER:
-# scripts/library.sh FOLDER [ARCHIVE]. Without ARCHIVE the kit proves and builds it first, unless that is done already.
-# Only the kit's tools are used, so the same archive gives the same bytes everywhere.
+# Builds the library for C over the libraries that `rt ci` left in crates/*/out, and writes librst2pseudoxml.a and librst2pseudoxml.so to FOLDER:
+# scripts/library.sh FOLDER. Its crate is proved once more (some minutes); `rt lib` would do that for all crates. The status is 77 if a library
+# is missing. Only the kit's tools are used, so the same sources give the same bytes everywhere.
 set -euo pipefail
 cd -- "$(dirname -- "$0")/.."
-folder=${1-} archive=${2-crates/rst_c/out/librst_c.a}
-case $folder in
-'' | -*) echo "usage: scripts/library.sh FOLDER [ARCHIVE]" >&2 && exit 2 ;;
+case ${1-} in
+'' | -*) echo "usage: scripts/library.sh FOLDER" >&2 && exit 2 ;;
 esac
-if [ $# = 1 ]; then
-  log=$(mktemp) && trap 'rm -f "$log"' EXIT
-  if ! (cd crates/rst_c && rt lib) >"$log" 2>&1; then
-    grep -v '^statements ' "$log" >&2
-    exit 1
-  fi
-fi
+mkdir -p -- "$1"
+folder=$(cd -- "$1" && pwd)
 kit=$(dirname -- "$(rt doc)")
+work=$(mktemp -d) && trap 'rm -rf "$work"' EXIT
+given=(-L "dependency=$kit/rlibs")
+for found in "$PWD"/crates/*/out/rlib; do
+  given+=(-L "dependency=$found")
+done
+for name in std $(sed -n 's/^rst_c staticlib: //p' crates.txt); do
+  for found in "$PWD/crates/$name/out/rlib/$name.rlib" "$kit/rlibs/$name.rlib"; do
+    [ ! -d "$found" ] || break
+  done
+  [ -d "$found" ] || { echo "skipped: there is no library $name; rt ci builds it" >&2 && exit 77; }
+  given+=(--extern "$name=$found")
+done
+archive=$work/librst_c.a
+if ! (cd crates/rst_c && "$kit/bin/rattle" build --crate-name rst_c src/lib.rt --crate-type staticlib "${given[@]}" --toolchain "$kit/toolchain" \
+  --antt-project "$kit/rattle/logic/antt-project.json" --logic-built "$kit/logic_built" -o "$archive") >"$work/log" 2>&1; then
+  grep -v '^statements ' "$work/log" >&2
+  exit 1
+fi
 # What the library needs of the C library, the kit calls by the functions of this archive.
 heap=$kit/c/liblibc_c.a
 printf 'create %s\naddlib %s\naddlib %s\nsave\nend\n' "$folder/librst2pseudoxml.a" "$archive" "$heap" | "$kit/toolchain/bin/llvm-ar" -M
-work=$(mktemp -d) && trap 'rm -rf "${log-}" "$work"' EXIT
 echo '{ global: rst_*; local: *; };' >"$work/exports"
 "$kit/toolchain/bin/ld.lld" -shared -soname librst2pseudoxml.so.1 --version-script "$work/exports" -z relro -z now -z noexecstack -z defs --gc-sections \
   --build-id=sha1 --threads=1 --strip-all -o "$folder/librst2pseudoxml.so" --whole-archive "$archive" --no-whole-archive "$heap" "$kit/toolchain/lib/libc.so.6"
