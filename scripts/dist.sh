@@ -1,5 +1,6 @@
 #!/usr/bin/env bash
-# Renews the shipped programs and the library in dist/ from these sources. Without a static C library the static one is left out.
+# Renews the shipped programs and the library in dist/ from these sources, after `rt ci`. Without a static C library the static one is left
+# out.
 # The dynamic one keeps its symbols (46 KB): the kit links it with them and has no `strip`, and the version of another `strip` would decide
 # the bytes that check_dist.sh compares.
 set -euo pipefail
