@@ -1,9 +1,9 @@
 #!/usr/bin/env bash
 # Tests the library for C: scripts/check_library.sh [FOLDER]. FOLDER has librst2pseudoxml.a and librst2pseudoxml.so; without it those in dist/ are
 # taken. library.c is compiled against the header, once for each of the two, and what it prints is compared with the program's output, on
-# all worked rows and on mutated pages (scripts/library.py). The example of the README has to print what it shows. Then calls run at once in several threads, each allocation fails in turn, and
-# valgrind looks for wrong reads and writes, if it is there. The status is 77 without a C compiler, without Python, or if dist/ has no library
-# of these sources.
+# all worked rows and on mutated pages (scripts/library.py). The example of the README has to print what it shows. Calls run at once in
+# several threads, each allocation fails in turn, and valgrind looks for wrong reads and writes, if it is there. The status is 77 without a C
+# compiler, without Python, or if dist/ has no library of these sources.
 # shellcheck disable=SC2016 # backticks of Markdown
 set -euo pipefail
 cd -- "$(dirname -- "$0")/.."

@@ -99,7 +99,7 @@ class Comparison:
         self.library = library
 
     def call(self, name, words, text):
-        done = subprocess.run([*SMALL_STACK, self.library, name, *options(words), "<stdin>"], input=text, stdout=subprocess.PIPE, stderr=subprocess.PIPE, check=False)
+        done = subprocess.run([*SMALL_STACK, self.library, name, *options(words), "<stdin>"], input=text, capture_output=True, check=False)
         return done.stdout, done.stderr, done.returncode
 
     def fault(self, words, text):
@@ -118,7 +118,9 @@ class Comparison:
         out, err, status = self.call("messages", words, text)
         shown = messages(json.loads(out), "<stdin>")
         rest = done.stderr.decode().removeprefix(shown)
-        if err or status != done.returncode or shown + rest != done.stderr.decode() or bool(rest) != halted or rest and not rest.startswith("Exiting due to"):
+        if err or status != done.returncode or shown + rest != done.stderr.decode():
+            return "messages"
+        if bool(rest) != halted or rest and not rest.startswith("Exiting due to"):
             return "messages"
         return None
 
