@@ -61,11 +61,11 @@ Spaces-end f text out (b ∷ rest) begun due x none = absurd (omega arith)
 
 -- The characters that are left behind a character of a word stay as they are, and are ASCII.
 abbrev Stays : (ℕ → ℕ) → List ℕ → Type 0
-Stays f rest = IsAscii rest × (map f (spaced_from true false rest) ≡ rest)
+Stays f rest = IsAscii rest × (spaced_from true false rest ≡ rest) × (map f rest ≡ rest)
 
 -- the text is ASCII that stays as it is
 abbrev Settled : (ℕ → ℕ) → List ℕ → Type 0
-Settled f text = IsAscii text × (map f (normalized_white text) ≡ text)
+Settled f text = IsAscii text × (normalized_white text ≡ text) × (map f text ≡ text)
 
 -- The text stays as it is if what is left does, behind a character of a word or not.
 abbrev pub Settles : (ℕ → ℕ) → List ℕ → List ℕ → Bool → Type 0
@@ -86,13 +86,15 @@ blank = refl
 pub Settles-start : (f : ℕ → ℕ) (text : List ℕ) → Settles f text text false
 Settles-start f text c cs e low h same s = (
   subst IsAscii (sym e) (IsAscii-cons c cs low s.0),
-  ap (λ l. map f (normalized_white l)) e ∙ sym (ap (map f) (spaced_from-start (c ∷ cs))) ∙ ap (map f) (joined_from-char is_white 32 false c cs h) ∙ cons same s.1 ∙ sym e,
+  ap normalized_white e ∙ sym (spaced_from-start (c ∷ cs)) ∙ joined_from-char is_white 32 false c cs h ∙ ap (λ l. c ∷ l) s.1 ∙ sym e,
+  ap (map f) e ∙ cons same s.2 ∙ sym e,
 )
 
 pub Settles-word : (f : ℕ → ℕ) (text rest cs : List ℕ) (in_word : Bool) (c : ℕ) → Settles f text rest in_word → rest ≡ c ∷ cs → c < 128 → 32 < c → f c ≡ c → Settles f text cs true
 Settles-word f text rest cs true c x e low more same s = x (
   subst IsAscii (sym e) (IsAscii-cons c cs low s.0),
-  ap (λ l. map f (spaced_from true false l)) e ∙ ap (map f) (joined_from-char is_white 32 true c cs (dark c more low)) ∙ cons same s.1 ∙ sym e,
+  ap (spaced_from true false) e ∙ joined_from-char is_white 32 true c cs (dark c more low) ∙ ap (λ l. c ∷ l) s.1 ∙ sym e,
+  ap (map f) e ∙ cons same s.2 ∙ sym e,
 )
 Settles-word f text rest cs false c x e low more same s = x c cs e low (dark c more low) same s
 
@@ -101,12 +103,12 @@ Settles-space f text rest cs x e space c ds k low h same s =
     let is : rest ≡ 32 ∷ c ∷ ds = e ∙ ap (λ l. 32 ∷ l) k in
     x (
       subst IsAscii (sym is) (IsAscii-cons 32 (c ∷ ds) (omega arith) (IsAscii-cons c ds low s.0)),
-      ap (λ l. map f (spaced_from true false l)) is ∙ ap (map f) (joined_from-over is_white 32 true false 32 (c ∷ ds) blank) ∙ ap (map f) (joined_from-due is_white 32 true c ds h)
-          ∙ cons space (cons same s.1) ∙ sym is,
+      ap (spaced_from true false) is ∙ joined_from-over is_white 32 true false 32 (c ∷ ds) blank ∙ joined_from-due is_white 32 true c ds h ∙ ap (λ l. 32 ∷ c ∷ l) s.1 ∙ sym is,
+      ap (map f) is ∙ cons space (cons same s.2) ∙ sym is,
     )
 
-pub Settles-end : (f : ℕ → ℕ) (text rest : List ℕ) → Settles f text rest true → length rest ≡ 0 → chars text ≡ map f (normalized_white (chars text))
+pub Settles-end : (f : ℕ → ℕ) (text rest : List ℕ) → Settles f text rest true → length rest ≡ 0 → (normalized_white (chars text) ≡ chars text) × (map f (chars text) ≡ chars text)
 Settles-end f text [] x none =
-    let s : Settled f text = x (IsAscii-nil, refl) in
-    let bytes : chars text ≡ text = chars-IsAscii text s.0 in bytes ∙ sym s.1 ∙ sym (ap (λ l. map f (normalized_white l)) bytes)
+    let s : Settled f text = x (IsAscii-nil, refl, refl) in
+    let bytes : chars text ≡ text = chars-IsAscii text s.0 in (ap normalized_white bytes ∙ s.1 ∙ sym bytes, ap (map f) bytes ∙ s.2 ∙ sym bytes)
 Settles-end f text (b ∷ rest) x none = absurd (omega arith)

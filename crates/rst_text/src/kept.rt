@@ -45,10 +45,11 @@ impl Kept {
     pub(crate) fn push(&mut self, text: &str) -> Result<(), AllocError>
         ensures { IfOk result (λ _. self.new ≡ self.old ++ chars text.now ∷ []) }
     {
-        // With this room the end's place finds its own, so nothing is half kept.
-        self.starts.reserve(1)?;
-        self.text.push_str(text)?;
-        self.starts.push(self.text.len())?;
+        self.starts.push(self.text.len() + text.len())?;
+        if let Err(fault) = self.text.push_str(text) {
+            self.starts.pop();
+            return Err(fault);
+        }
         Ok(())
     }
 

@@ -52,6 +52,25 @@ pub fn name_borrowed(alloc: Global, text: &str) -> Result<CowStr<'_, Global>, Te
     Ok(spaced::<Folded>(alloc, text)?)
 }
 
+/// What [`normalized_borrowed`] and [`name_borrowed`] give. A text that is its own name is looked at once.
+///
+/// The only refusal is [`TextFault::NoMemory`].
+pub fn both_borrowed(
+    alloc: Global,
+    text: &str,
+) -> Result<(CowStr<'_, Global>, CowStr<'_, Global>), TextFault>
+    ensures normalized { Gives (λ both. chars (cow_str_bytes both.0) ≡ spec.normalized_white (chars text.now)) result }
+    ensures name { Gives (λ both. chars (cow_str_bytes both.1) ≡ spec.name_of (chars text.now)) result }
+{
+    if is_settled::<Folded>(text) {
+        return Ok((CowStr::Borrowed(text), CowStr::Borrowed(text)));
+    }
+    Ok((
+        normalized_borrowed(alloc, text)?,
+        name_borrowed(alloc, text)?,
+    ))
+}
+
 /// The id that a text gives: its name in NFKD without the characters that aren't ASCII, each run of characters other
 /// than a to z and 0 to 9 as one hyphen, without digits and hyphens at the front and hyphens at the end. It may be
 /// empty.
@@ -109,7 +128,8 @@ impl Case for Folded {
 
 /// Whether a text stays as it is, as ASCII mostly does: a single space between words, no other white, and each character in its case.
 fn is_settled<C: Case>(text: &str) -> bool
-    ensures { result ≡ true → chars text.now ≡ map C.cased (spec.normalized_white (chars text.now)) }
+    ensures white { result ≡ true → spec.normalized_white (chars text.now) ≡ chars text.now }
+    ensures case { result ≡ true → map C.cased (chars text.now) ≡ chars text.now }
 {
     let mut in_word = false;
     for byte in text.as_bytes() {

@@ -19,5 +19,8 @@ loop-byte-preserved g c =
     (drop_more c.as_bytes-byte-items.result.now c.loop-byte.byte-index 0 (omega arith) ∙ ap (λ b. b ∷ drop (c.loop-byte.byte-index + 1) c.as_bytes-byte-items.result.now) (sym c.from-c.ensures ∙ c.if-c-ne32.false))
     (ap g.C.Case.cased (sym c.if-c-ne32.false) ∙ sym c.cased.ensures ∙ c.if-cased-c.false ∙ c.if-c-ne32.false)
 
-pub returns : goal.returns
-returns g c settled = Settles-end g.C.Case.cased c.args.text.now (drop c.loop-byte.byte-index c.as_bytes-byte-items.result.now) (subst (Settles g.C.Case.cased c.args.text.now _) settled c.loop-byte.invariant) (length-drop c.loop-byte.byte-index c.as_bytes-byte-items.result.now ∙ omega arith)
+pub returns-clause-white : goal.returns-clause-white
+returns-clause-white g c settled = (Settles-end g.C.Case.cased c.args.text.now (drop c.loop-byte.byte-index c.as_bytes-byte-items.result.now) (subst (Settles g.C.Case.cased c.args.text.now _) settled c.loop-byte.invariant) (length-drop c.loop-byte.byte-index c.as_bytes-byte-items.result.now ∙ omega arith)).0
+
+pub returns-clause-case : goal.returns-clause-case
+returns-clause-case g c settled = (Settles-end g.C.Case.cased c.args.text.now (drop c.loop-byte.byte-index c.as_bytes-byte-items.result.now) (subst (Settles g.C.Case.cased c.args.text.now _) settled c.loop-byte.invariant) (length-drop c.loop-byte.byte-index c.as_bytes-byte-items.result.now ∙ omega arith)).1
