@@ -1,7 +1,7 @@
 #!/usr/bin/env python3
 """Writes proofs/Computing.antt in each crate that has one: the name that opens, for a proof by computing, each definition of the crate that
-is shut (`unfoldable`), and those of the crates that it lists in crates.txt. In the crates of which the worked examples take long it also
-writes the proofs of these: that they hold by computing, which takes a third of the time of a search. With --check it only compares."""
+is shut (`unfoldable`), and those of the crates that it lists in crates.txt; and the proofs of the worked examples: that they hold by
+computing, which takes a third of the time of a search. With --check it only compares."""
 
 import pathlib
 import re
@@ -18,8 +18,6 @@ FURTHER = {
     "rst_transform_docinfo": ["Rattle.std.specs.Str.trim_start", "Rattle.std.specs.Str.trim_end"],
     "rst2pseudoxml_run": ["Rattle.std.specs.Str.chars", "Rattle.std.specs.Str.is_utf8", "Rattle.std.specs.Str.Lossy.utf8_valid_len"],
 }
-# the crates whose worked examples have a proof of their own
-ANSWERED = ["rst_block_state", "rst2pseudoxml_run"]
 WIDTH = 150
 
 
@@ -60,6 +58,13 @@ def text_of(crate, libraries):
     )
 
 
+def computed(clause):
+    """The proof of a clause: each of the equations that it joins holds by computing, for all values that it begins with."""
+    values = "".join(f"λ {name}. " for name in re.findall(r"(?:^\{|→) \((\w+) : \w+\)(?= →)", clause))
+    joined = clause.count("\n        × ")
+    return values + (f"({', '.join(['refl'] * (joined + 1))})" if joined else "refl")
+
+
 def answers(crate):
     """The proofs of a crate's worked examples, each with its path."""
     sources = TOP / "crates" / crate / "src"
@@ -76,7 +81,7 @@ def answers(crate):
                 "pub returns : goal.returns",
                 f"unfolding {crate}",
                 "returns c = record {",
-                *(f"  {clause} = refl;" for clause in re.findall(r"^    ensures (\w+) \{", clauses, re.M)),
+                *(f"  {clause} = {computed(text)};" for clause, text in re.findall(r"^    ensures (\w+) (.*?)(?=^    ensures|\Z)", clauses, re.M | re.S)),
                 "}",
                 "",
             ]
@@ -87,8 +92,7 @@ def written(crate, libraries):
     """What is written in a crate: each file's path and text."""
     if computing(crate).exists():
         yield computing(crate), text_of(crate, libraries)
-    if crate in ANSWERED:
-        yield from answers(crate)
+    yield from answers(crate)
 
 
 def main():

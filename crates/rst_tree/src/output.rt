@@ -359,8 +359,13 @@ pub fn put_node<W: Write, const N: usize>(
         } => {
             put_indent(out, page, level);
             put_tag_line(out, page, *tag, attrs, *line, source);
+            let inner = level.saturating_add(1);
             for child in children.as_slice() {
-                put_node(out, page, level.saturating_add(1), child, source);
+                // Most nodes are texts, which need no call.
+                match child {
+                    Node::Text(text) => put_text(out, page, inner, text.as_bytes()),
+                    Node::Element { .. } => put_node(out, page, inner, child, source),
+                }
             }
         }
         Node::Text(text) => put_text(out, page, level, text.as_bytes()),

@@ -1,11 +1,13 @@
-use Rattle.std.proofs.Common.{rules, ◌≤◌, arith, ◌+◌}
+use Rattle.std.proofs.Common.{rules, List, ℕ, ◌≤◌, arith, ◌+◌}
 use Rattle.rst_tree.specs.Nodes.{node_height}
 use Rattle.rst_tree.specs.Print.{deeper, printed_node}
 use Rattle.rst_tree.specs.PrintedAttributes.{given, with_printed_attrs}
 use Rattle.rst_tree.proofs.PrintedParts.{child_height}
 use Rattle.rst_tree.proofs.PrintedAttributeParts.{element-with-attrs, words-with-attrs}
 use Rattle.rst_tree.proofs.Sending.{◌▸◌, Gets-as, Gets-item, Gets-none}
+use Rattle.rst_tree.specs.declared.node.Node.{Node}
 use Rattle.rst_tree.proofs.output.+put_node.Goals as goal
+use Rattle.rst_tree.proofs.output.+put_node.Goals.{in-Text-child, in-Element-child}
 
 pub loop-child-init : goal.loop-child-init
 loop-child-init g t c = Gets-none _ _ _
@@ -19,8 +21,14 @@ put_node-requires g t c =
 
 pub loop-child-preserved : goal.loop-child-preserved
 loop-child-preserved g t c =
-    Gets-item (λ x. printed_node (deeper c.args.level) (with_printed_attrs (given c.args.source) x)) _ c.loop-child.child-index _ c.child-item.is (omega arith) c.loop-child.invariant
-    (rw c.saturating_add.ensures at c.put_node.ensures)
+    let printed : Node → List ℕ = λ x. printed_node (deeper c.args.level) (with_printed_attrs (given c.args.source) x) in
+    elim c.match-child.branch [
+      | in-Text-child w ↦ rw (w.out-is, w.page-is)
+          (Gets-item printed _ c.loop-child.child-index _ c.child-item.is (omega arith) c.loop-child.invariant
+          (Gets-as (rw c.saturating_add-inner.ensures at w.put_text.ensures) (words-with-attrs (given c.args.source) (deeper c.args.level) c.child-item.result w.in-Text-child.text _ w.in-Text-child.is w.as_bytes.ensures)))
+      | in-Element-child w ↦ rw (w.out-is, w.page-is)
+          (Gets-item printed _ c.loop-child.child-index _ c.child-item.is (omega arith) c.loop-child.invariant (rw c.saturating_add-inner.ensures at w.put_node.ensures))
+    ]
 
 pub returns-after-loop-child : goal.returns-after-loop-child
 returns-after-loop-child g t c =
@@ -29,4 +37,4 @@ returns-after-loop-child g t c =
     c.in-Element.is c.as_slice-child-items.ensures c.loop-child-test.false)
 
 pub returns-in-Text : goal.returns-in-Text
-returns-in-Text g t c = Gets-as c.put_text.ensures (words-with-attrs (given c.args.source) c.args.level c.args.node.now c.in-Text.text _ c.in-Text.is c.as_bytes.ensures)
+returns-in-Text g t c = Gets-as c.put_text-in-Text.ensures (words-with-attrs (given c.args.source) c.args.level c.args.node.now c.in-Text.text _ c.in-Text.is c.as_bytes-in-Text.ensures)

@@ -1,0 +1,16 @@
+use Rattle.std.proofs.Common.{refl}
+use Rattle.rst_inline.proofs.Computing.{rst_inline}
+use Rattle.rst_inline.proofs.rows.roles.Goals as goal
+
+pub returns : goal.returns
+unfolding rst_inline
+returns c = record {
+  text = refl;
+  low_and_high = refl;
+  titles = refl;
+  exactly = refl;
+  others = refl;
+  in_front = refl;
+  behind = refl;
+  by_default = refl;
+}

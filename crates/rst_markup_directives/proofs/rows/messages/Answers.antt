@@ -1,0 +1,16 @@
+use Rattle.std.proofs.Common.{refl}
+use Rattle.rst_markup_directives.proofs.Computing.{rst_markup_directives}
+use Rattle.rst_markup_directives.proofs.rows.messages.Goals as goal
+
+pub returns : goal.returns
+unfolding rst_markup_directives
+returns c = record {
+  unknown_name = refl;
+  unknown_option = refl;
+  options = refl;
+  others = refl;
+  without_content = refl;
+  topic = refl;
+  replacement = refl;
+  definition = refl;
+}

@@ -1,0 +1,14 @@
+use Rattle.std.proofs.Common.{refl}
+use Rattle.rst_markup_directives.proofs.Computing.{rst_markup_directives}
+use Rattle.rst_markup_directives.proofs.rows.names.Goals as goal
+
+pub returns : goal.returns
+unfolding rst_markup_directives
+returns c = record {
+  admonitions = refl;
+  others = refl;
+  code = refl;
+  no_code = refl;
+  case_of_letters = refl;
+  left_out = refl;
+}

@@ -1,0 +1,15 @@
+use Rattle.std.proofs.Common.{refl}
+use Rattle.rst_markup_directives.proofs.Computing.{rst_markup_directives}
+use Rattle.rst_markup_directives.proofs.rows.option_names.Goals as goal
+
+pub returns : goal.returns
+unfolding rst_markup_directives
+returns c = record {
+  each = refl;
+  case_of_letters = refl;
+  image = refl;
+  figure = refl;
+  note = refl;
+  code = refl;
+  replace = refl;
+}

@@ -1,0 +1,18 @@
+use Rattle.std.proofs.Common.{refl}
+use Rattle.rst_markup_directives.proofs.Computing.{rst_markup_directives}
+use Rattle.rst_markup_directives.proofs.rows.values.Goals as goal
+
+pub returns : goal.returns
+unfolding rst_markup_directives
+returns c = record {
+  classes = refl;
+  no_classes = refl;
+  empty_alt = refl;
+  alt = refl;
+  name = refl;
+  height = refl;
+  width = refl;
+  figure_width = refl;
+  align = refl;
+  target = refl;
+}

@@ -1,0 +1,10 @@
+use Rattle.std.proofs.Common.{refl}
+use Rattle.rst_markup_tables.proofs.Computing.{rst_markup_tables}
+use Rattle.rst_markup_tables.proofs.rows.messages.Goals as goal
+
+pub returns : goal.returns
+unfolding rst_markup_tables
+returns c = record {
+  grid = refl;
+  simple = refl;
+}
