@@ -1,6 +1,6 @@
 //! Inline markup between a start-string and an end-string.
-ghost use Rattle.std.specs.Prelude.{◌≡◌, ℕ, ◌+◌, ◌<◌, ◌≤◌, true, length, unwrap_or, option_map, IfSome};
-ghost use Rattle.std.specs.Option.{option_or};
+ghost use Rattle.std.specs.Prelude.{◌≡◌, ℕ, ◌+◌, ◌<◌, ◌≤◌, true, Some, length, option_map, IfSome};
+ghost use Rattle.std.specs.Option.{is_some, option_or};
 ghost use Rattle.rst_inline_scan.specs.Marked.{start_len, end_len, mark, has_start, has_end, has_escapes, start_of, starts, tail_of, ends, markup_end, unended_piece, ended_piece, marked};
 ghost use Rattle.rst_inline_scan.specs.Escapes.{is_escaped};
 ghost use Rattle.rst_inline_scan.specs.Tails.{name_tail, role_tail, bare_tail};
@@ -121,33 +121,39 @@ impl Markup {
         }
     }
 
-    /// Whether the end-string stands at the place, which is escaped or not, and may end the markup.
+    /// What stands behind the end-string at the place, which is escaped or not, if it may end the markup.
     #[tactic(auto, unfolding(crate::specs::Marked::ends))]
-    fn ends(self, text: &[char], place: usize, escaped: bool) -> bool
+    fn ending(self, text: &[char], place: usize, escaped: bool) -> Option<Tail>
         requires above { 0 < place }
         requires below { place < length text.now }
-        ensures { (from : ℕ) → escaped ≡ is_escaped text.now from place → result ≡ ends self text.now from place }
+        ensures ends { (from : ℕ) → escaped ≡ is_escaped text.now from place → is_some result ≡ ends self text.now from place }
+        ensures tail { IfSome result (λ tail. tail_of self text.now place ≡ Some tail) }
     {
-        self.has_end(text, place)
-            && is_dark(text, place - 1)
-            && !(self.has_escapes() && escaped)
-            && self.tail(text, place).is_some()
+        if !self.has_end(text, place)
+            || !is_dark(text, place - 1)
+            || (self.has_escapes() && escaped)
+        {
+            return None;
+        }
+        self.tail(text, place)
     }
 
-    /// The least end of the markup that begins at `place` with its start-string at `start`.
-    pub(crate) fn end(self, text: &[char], place: usize, start: usize) -> Option<usize>
+    /// The least end of the markup that begins at `place` with its start-string at `start`, and what stands behind that.
+    pub(crate) fn end(self, text: &[char], place: usize, start: usize) -> Option<(usize, Tail)>
         requires mark { has_start self text.now start ≡ true }
         requires order { place ≤ start }
         requires below { start ≤ length text.now }
-        ensures exact { result ≡ markup_end self text.now place start }
-        ensures within { IfSome result (λ end. end < length text.now) }
+        ensures exact { option_map (λ found. found.0) result ≡ markup_end self text.now place start }
+        ensures tail { IfSome result (λ found. tail_of self text.now found.0 ≡ Some found.1) }
     {
         let mark = self.mark();
         let open = start + self.start_len();
         let mut escaped = false;
         for at in start + 1..text.len() {
-            if text[at] == mark && open < at && self.ends(text, at, escaped) {
-                return Some(at);
+            if text[at] == mark && open < at {
+                if let Some(tail) = self.ending(text, at, escaped) {
+                    return Some((at, tail));
+                }
             }
             escaped = escapes(text[at], escaped);
         }
@@ -169,20 +175,17 @@ impl Markup {
         }
     }
 
-    /// The markup with its end-string at `end` and what stands behind that; a start without an end where nothing does.
-    fn ended_piece(self, place: usize, start: usize, end: usize, tail: Option<Tail>) -> Piece
+    /// The markup with its end-string at `end` and what stands behind that.
+    fn ended_piece(self, place: usize, start: usize, end: usize, tail: Tail) -> Piece
         requires { start + 2 ≤ usize.MAX }
-        ensures { result ≡ unwrap_or (option_map (ended_piece self place start end) tail) (unended_piece self place start) }
+        ensures { result ≡ ended_piece self place start end tail }
     {
-        match tail {
-            Some(tail) => Piece {
-                kind: Kind::Marked(self, tail.suffix),
-                from: place,
-                content_from: start + self.start_len(),
-                content_to: end,
-                to: tail.to,
-            },
-            None => self.unended_piece(place, start),
+        Piece {
+            kind: Kind::Marked(self, tail.suffix),
+            from: place,
+            content_from: start + self.start_len(),
+            content_to: end,
+            to: tail.to,
         }
     }
 
@@ -199,7 +202,7 @@ impl Markup {
             return None;
         }
         Some(match missing.end(self, text, place, start) {
-            Some(end) => self.ended_piece(place, start, end, self.tail(text, end)),
+            Some((end, tail)) => self.ended_piece(place, start, end, tail),
             None => self.unended_piece(place, start),
         })
     }

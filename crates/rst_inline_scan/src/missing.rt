@@ -1,12 +1,12 @@
 //! What searches before a place have shown to be absent behind it, so that no text is searched twice in vain.
-ghost use Rattle.std.specs.Prelude.{◌≡◌, ◌<◌, ◌≤◌, true, length, IfSome};
-ghost use Rattle.rst_inline_scan.specs.Marked.{has_start, markup_end};
+ghost use Rattle.std.specs.Prelude.{◌≡◌, ◌<◌, ◌≤◌, true, Some, length, option_map, IfSome};
+ghost use Rattle.rst_inline_scan.specs.Marked.{has_start, markup_end, tail_of};
 ghost use Rattle.rst_inline_scan.specs.Names.{name_end};
 ghost use Rattle.rst_inline_scan.specs.Uri.{uri_end};
 ghost use Rattle.rst_inline_scan.specs.Missing.{unended_from, with_unended, IsMissing};
 
 use super::names::name_end;
-use super::piece::Markup;
+use super::piece::{Markup, Tail};
 use super::uri::uri_end;
 
 /// What is absent behind a place.
@@ -68,20 +68,20 @@ impl Missing {
         }
     }
 
-    /// The least end of the markup that begins at `place` with its start-string at `start`.
+    /// The least end of the markup that begins at `place` with its start-string at `start`, and what stands behind that.
     pub(crate) fn end(
         &mut self,
         markup: Markup,
         text: &[char],
         place: usize,
         start: usize,
-    ) -> Option<usize>
+    ) -> Option<(usize, Tail)>
         requires mark { has_start markup text.now start ≡ true }
         requires order { place ≤ start }
         requires below { start ≤ length text.now }
         requires known { IsMissing text.now self.old place }
-        ensures exact { result ≡ markup_end markup text.now place start }
-        ensures within { IfSome result (λ end. end < length text.now) }
+        ensures exact { option_map (λ found. found.0) result ≡ markup_end markup text.now place start }
+        ensures tail { IfSome result (λ found. tail_of markup text.now found.0 ≡ Some found.1) }
         ensures known { IsMissing text.now self.new place }
     {
         if self.unended_from(markup) <= start {
