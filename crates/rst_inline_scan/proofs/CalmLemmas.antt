@@ -2,7 +2,7 @@
 use Rattle.std.proofs.Common.{◌≡◌, ⊎_elim, ◌⊎◌, inl, inr, ℕ, zero, suc, ◌+◌, ◌-◌, ◌<◌, ◌≤◌, [], ◌∷◌, map, Bool, true, false, not, ◌&&◌, ◌||◌, ◌==◌, None, length, get_or, true≢false, refl, sym, ap, ◌∙◌, subst, arith}
 use Rattle.std.specs.Prelude.{nat_lt}
 use Rattle.std.specs.Char.{is_ascii_alphanumeric}
-use Rattle.std.proofs.lemmas.List.{length-map}
+use Rattle.std.proofs.lemmas.List.{length-map, get_or_past}
 use Rattle.std.proofs.lemmas.Bool.{lt-ltb, eqb-true, ne_eqb, and_parts, and_left, and_right, or_parts, cases_lt}
 use Rattle.std.proofs.lemmas.Bool.Decides.{nat_tests}
 use Rattle.std.proofs.Math.Bool.{and-true, and-false}
@@ -15,14 +15,14 @@ use Rattle.rst_inline_scan.specs.Tails.{name_tail}
 use Rattle.rst_inline_scan.specs.Calm.{AreBytesOf, byte_of, is_calm, is_calm_at, AreCalm, is_of_name, IsStep}
 use Rattle.rst_inline_scan.specs.Pieces.{piece_at, HasNoStart}
 use Rattle.rst_inline_scan.proofs.EscapeLemmas.{other-bare, is_escaped-bare}
-use Rattle.rst_inline_scan.proofs.WordLemmas.{letter-low, differs, absent, letter-behind, unmarked, no-label, no-letter-at, no-underscore, no-piece-barred}
+use Rattle.rst_inline_scan.proofs.WordLemmas.{letter-low, differs, absent, letter-behind, unmarked, no-label, no-letter-at, no-underscore, IsBarred, no-piece-barred}
 
--- from one place up to another all are calm, the last is none of a name, and the other isn't the text's end
+-- from one place up to another all are calm, and the last is none of a name, or the other is the text's end
 pub record IsCalm (t : Text) (from to : ℕ) : Type 0 where
   pub above : from ≤ to
-  pub within : from < to → to < length t
+  pub within : to ≤ length t
   pub calm : AreCalm t from to
-  pub edge : from < to → is_of_name (get_or t (to - 1) 0) ≡ false
+  pub edge : from < to → to < length t → is_of_name (get_or t (to - 1) 0) ≡ false
 
 -- ---- a calm place
 
@@ -51,18 +51,22 @@ calm-target t i h = ⊎_elim
     (λ inner. and_right _ _ (absent is_ascii_alphanumeric t (i + 1) 96 inner.1 refl))
     (either t i h)
 
+letter-within : (t : Text) (k : ℕ) → is_ascii_alphanumeric (get_or t k 0) ≡ true → k < length t
+letter-within t k letter = ⊎_elim (λ inside. inside) (λ past. absurd (true≢false (sym letter ∙ ap is_ascii_alphanumeric (get_or_past t k 0 past)))) (cases_lt k (length t))
+
 -- behind an underscore no name ends where a letter or a digit stands
-letter-unended : (t : Text) (k : ℕ) → k + 1 < length t → is_ascii_alphanumeric (get_or t (k + 1) 0) ≡ true → ends_name t k ≡ false
+letter-unended : (t : Text) (k : ℕ) → is_ascii_alphanumeric (get_or t (k + 1) 0) ≡ true → ends_name t k ≡ false
 unfolding ends_name name_tail
-letter-unended t k within letter =
+letter-unended t k letter =
+    let within = letter-within t (k + 1) letter in
     let second = absent is_ascii_alphanumeric t (k + 1) 95 letter refl in
     let behind : is_free_behind t (k + 1) ≡ false = rw (letter-behind (get_or t (k + 1) 0) letter, lt-ltb (k + 1) (length t) within) refl in
     rw (second, behind) (grind (arith, nat_tests))
 
-calm-unended : (t : Text) (k : ℕ) → k + 1 < length t → is_calm_at t k ≡ true → ends_name t k ≡ false
-calm-unended t k within h = ⊎_elim
+calm-unended : (t : Text) (k : ℕ) → is_calm_at t k ≡ true → ends_name t k ≡ false
+calm-unended t k h = ⊎_elim
     (λ calm. no-underscore t k (absent is_calm t k 95 calm refl))
-    (λ inner. letter-unended t k within inner.1)
+    (λ inner. letter-unended t k inner.1)
     (either t k h)
 
 -- ---- a run of them
@@ -95,22 +99,33 @@ no-name-at : (t : Text) (i : ℕ) → IsOther (get_or t i 0) → is_name_at t i 
 unfolding is_name_at
 no-name-at t i here = rw (no-letter-at t i (get_or t i 0) refl here.low here.letter, here.joint) refl
 
+-- past the text's end all are calm
+AreCalm-past : (t : Text) (from to : ℕ) → AreCalm t from to → length t ≤ to → AreCalm t from (to + 1)
+AreCalm-past t from to calm past k above less = ⊎_elim
+    (λ inside. calm k above inside)
+    (λ behind. ap (λ c. is_calm c || (c == 95 && is_ascii_alphanumeric (get_or t (k + 1) 0))) (get_or_past t k 0 (omega arith)))
+    (cases_lt k to)
+
+bars-calm : (t : Text) (i e : ℕ) → i ≤ e → AreCalm t i (e + 1) → (e < length t → IsOther (get_or t e 0)) → IsBarred t i e
+bars-calm t i e order calm last = record {
+  above = order;
+  unended = λ k more upto. calm-unended t k (calm k (omega arith) (omega arith));
+  colon = λ k more upto. absent is_loose t k 58 (loose t k (calm k more (omega arith))) refl;
+  name = λ inside. no-name-at t e (last inside);
+  letter = λ inside. (last inside).letter;
+}
+
 none-calm : (t : Text) (begin from to i : ℕ) → IsCalm t from to → from ≤ i → i < to → piece_at t begin i ≡ None
 none-calm t begin from to i run above less =
-    let within : to < length t = run.within (omega arith) in
-    let calm : (k : ℕ) → i ≤ k → k < to → is_calm_at t k ≡ true = λ k more below. run.calm k (omega arith) below in
+    let calm : AreCalm t i to = λ k more below. run.calm k (omega arith) below in
     let here = loose t i (calm i (omega arith) less) in
-    let edge = other (get_or t (to - 1) 0) (run.edge (omega arith)) in
-    no-piece-barred t begin i (to - 1)
-    (record {
-      above = omega arith;
-      unended = λ k more upto. calm-unended t k (omega arith) (calm k (omega arith) (omega arith));
-      colon = λ k more upto. absent is_loose t k 58 (loose t k (calm k more (omega arith))) refl;
-      name = λ inside. no-name-at t (to - 1) edge;
-      letter = λ inside. edge.letter;
-    })
+    let none : (e : ℕ) → IsBarred t i e → piece_at t begin i ≡ None = λ e bar. no-piece-barred t begin i e bar
     (unmarked t i (absent is_loose t i 42 here refl) (absent is_loose t i 96 here refl) (calm-target t i (calm i (omega arith) less)) (absent is_loose t i 124 here refl) (absent is_loose t i 58 here refl))
-    (no-label t i (absent is_loose t i 91 here refl))
+    (no-label t i (absent is_loose t i 91 here refl)) in
+    ⊎_elim
+    (λ inside. none (to - 1) (bars-calm t i (to - 1) (omega arith) (λ k more below. calm k more (omega arith)) (λ before. other (get_or t (to - 1) 0) (run.edge (omega arith) inside))))
+    (λ end. none to (bars-calm t i to (omega arith) (AreCalm-past t i to calm end) (λ before. absurd (omega arith))))
+    (cases_lt to (length t))
 
 -- so they are stepped over
 pub calm-step : (t : Text) (from to : ℕ) → IsCalm t from to → IsStep t from to
@@ -163,11 +178,11 @@ calm-at_same t bytes k of h = ⊎_elim
 pub calm-same : (t bytes : Text) (from to : ℕ) → AreBytesOf t bytes → IsCalm bytes from to → IsCalm t from to
 calm-same t bytes from to of run = record {
   above = run.above;
-  within = λ some. let within = run.within some in let long = of.long in omega arith;
+  within = let within = run.within in let long = of.long in omega arith;
   calm = λ k above less. calm-at_same t bytes k of (run.calm k above less);
-  edge = λ some.
-      let here = of.ascii (to - 1) (other (get_or bytes (to - 1) 0) (run.edge some)).low in
-      ap is_of_name here ∙ run.edge some;
+  edge = λ some inside.
+      let edge = run.edge some (let long = of.long in omega arith) in
+      ap is_of_name (of.ascii (to - 1) (other (get_or bytes (to - 1) 0) edge).low) ∙ edge;
 }
 
 -- ---- steps
@@ -193,16 +208,16 @@ escaped-step t from place start escaped order over known = ⊎_elim
 -- what is known where the step ends
 pub record Stepped (t : Text) (from place start : ℕ) (after : Bool) : Type 0 where
   pub above : place ≤ start
-  pub below : start < length t
+  pub below : start ≤ length t
   pub none : HasNoStart t from from start
   pub escaped : after ≡ is_escaped t from start
 
-pub stepped : (t : Text) (from place start : ℕ) (escaped after : Bool) → from ≤ place → place < length t → HasNoStart t from from place → escaped ≡ is_escaped t from place
+pub stepped : (t : Text) (from place start : ℕ) (escaped after : Bool) → from ≤ place → HasNoStart t from from place → escaped ≡ is_escaped t from place
     → IsStep t place start → after ≡ (escaped && start == place) → Stepped t from place start after
-stepped t from place start escaped after order inside none known step is =
+stepped t from place start escaped after order none known step is =
     record {
       above = step.above;
-      below = ⊎_elim step.within (λ none. let above = step.above in omega arith) (cases_lt place start);
+      below = step.within;
       none = HasNoStart-step t from place start none step;
       escaped = is ∙ escaped-step t from place start escaped order step known;
     }

@@ -31,10 +31,10 @@ AreCalm t from to = (k : ℕ) → from ≤ k → k < to → is_calm_at t k ≡ t
 abbrev pub is_of_name : ℕ → Bool
 is_of_name c = not (nat_lt c 128) || (is_ascii_alphanumeric c || is_joint c)
 
--- From one place up to another, which may be the same, no start stands, wherever plain text before them begins. The other isn't
--- the text's end, and no backslash stands before it.
+-- From one place up to another, which may be the same, no start stands, wherever plain text before them begins. No backslash
+-- stands before the other.
 pub record IsStep (t : Text) (from to : ℕ) : Type 0 where
   pub above : from ≤ to
-  pub within : from < to → to < length t
+  pub within : to ≤ length t
   pub none : (begin : ℕ) → HasNoStart t begin from to
   pub bare : from < to → slice_index t (to - 1) ≢ 92

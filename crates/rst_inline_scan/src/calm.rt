@@ -50,19 +50,18 @@ impl ByteTest for Calm {
     }
 }
 
-/// The place behind the bytes from a place on that are calm, or underscores before a letter or a digit, but not behind the last byte.
+/// The place behind the bytes from a place on that are calm, or underscores before a letter or a digit.
 fn calm_end(bytes: &[u8], place: usize) -> usize
     requires { place < length bytes.now }
     ensures above { place ≤ result }
-    ensures within { result < length bytes.now }
+    ensures within { result ≤ length bytes.now }
     ensures calm { AreCalm bytes.now place result }
 {
-    let last = bytes.len() - 1;
     let mut at = run_end::<Calm>(bytes, place);
-    while at < last && bytes[at] == b'_' && bytes[at + 1].is_ascii_alphanumeric() {
+    while at + 1 < bytes.len() && bytes[at] == b'_' && bytes[at + 1].is_ascii_alphanumeric() {
         at = run_end::<Calm>(bytes, at + 1);
     }
-    at.min(last)
+    at
 }
 
 /// Whether the name of a reference or the scheme of a URI may hold the byte.
@@ -97,6 +96,9 @@ fn calm_step(bytes: &[u8], place: usize, searched: &mut usize) -> usize
         return place;
     }
     *searched = calm_end(bytes, place);
+    if *searched == bytes.len() {
+        return *searched;
+    }
     name_start(bytes, place, *searched)
 }
 

@@ -124,6 +124,11 @@ fn pieces_by(alloc: Global, text: &[char], bytes: &[u8]) -> Result<Vec<Piece>, A
     let mut searched = 0;
     while place < text.len() {
         let (start, start_escaped) = step(bytes, place, escaped, &mut searched);
+        if start == text.len() {
+            place = start;
+            escaped = start_escaped;
+            continue;
+        }
         let end = word_end(text, start);
         match piece_at(text, start, end, start_escaped, &mut missing) {
             Some(piece) => {

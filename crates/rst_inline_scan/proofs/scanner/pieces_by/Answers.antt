@@ -22,7 +22,7 @@ loop-place-init c = record {
 
 pub loop-place-preserved-in-Some : goal.loop-place-preserved-in-Some
 loop-place-preserved-in-Some c =
-    let start = stepped c.args.text.now c.loop-place.from c.loop-place.place c.step-start.result.0 c.loop-place.escaped c.step-start.result.1 (omega arith) (omega arith)
+    let start = stepped c.args.text.now c.loop-place.from c.loop-place.place c.step-start.result.0 c.loop-place.escaped c.step-start.result.1 (omega arith)
     c.loop-place.invariant.none c.loop-place.invariant.escaped (c.step-start.ensures.over c.args.text.now c.requires) c.step-start.ensures.escaped in
     let later = start.above in
     let inside = start.below in
@@ -49,9 +49,23 @@ loop-place-preserved-in-Some c =
           ]);
     }
 
+pub loop-place-preserved-then-start-text : goal.loop-place-preserved-then-start-text
+loop-place-preserved-then-start-text c =
+    let start = stepped c.args.text.now c.loop-place.from c.loop-place.place c.step-start.result.0 c.loop-place.escaped c.step-start.result.1 (omega arith)
+    c.loop-place.invariant.none c.loop-place.invariant.escaped (c.step-start.ensures.over c.args.text.now c.requires) c.step-start.ensures.escaped in
+    let later = start.above in
+    record {
+      above = omega arith;
+      below = start.below;
+      escaped = start.escaped;
+      none = start.none;
+      known = IsMissing-later c.args.text.now c.loop-place.missing c.loop-place.place c.step-start.result.0 (omega arith) c.loop-place.invariant.known;
+      told = c.loop-place.invariant.told;
+    }
+
 pub loop-place-preserved-then-end-text : goal.loop-place-preserved-then-end-text
 loop-place-preserved-then-end-text c =
-    let start = stepped c.args.text.now c.loop-place.from c.loop-place.place c.step-start.result.0 c.loop-place.escaped c.step-start.result.1 (omega arith) (omega arith)
+    let start = stepped c.args.text.now c.loop-place.from c.loop-place.place c.step-start.result.0 c.loop-place.escaped c.step-start.result.1 (omega arith)
     c.loop-place.invariant.none c.loop-place.invariant.escaped (c.step-start.ensures.over c.args.text.now c.requires) c.step-start.ensures.escaped in
     let later = start.above in
     let inside = start.below in
@@ -68,7 +82,7 @@ loop-place-preserved-then-end-text c =
 
 pub loop-place-preserved : goal.loop-place-preserved
 loop-place-preserved c =
-    let start = stepped c.args.text.now c.loop-place.from c.loop-place.place c.step-start.result.0 c.loop-place.escaped c.step-start.result.1 (omega arith) (omega arith)
+    let start = stepped c.args.text.now c.loop-place.from c.loop-place.place c.step-start.result.0 c.loop-place.escaped c.step-start.result.1 (omega arith)
     c.loop-place.invariant.none c.loop-place.invariant.escaped (c.step-start.ensures.over c.args.text.now c.requires) c.step-start.ensures.escaped in
     let later = start.above in
     let inside = start.below in
@@ -103,7 +117,7 @@ returns c =
 
 pub loop-place-smaller-in-Some : goal.loop-place-smaller-in-Some
 loop-place-smaller-in-Some c =
-    let start = stepped c.args.text.now c.loop-place.from c.loop-place.place c.step-start.result.0 c.loop-place.escaped c.step-start.result.1 (omega arith) (omega arith)
+    let start = stepped c.args.text.now c.loop-place.from c.loop-place.place c.step-start.result.0 c.loop-place.escaped c.step-start.result.1 (omega arith)
     c.loop-place.invariant.none c.loop-place.invariant.escaped (c.step-start.ensures.over c.args.text.now c.requires) c.step-start.ensures.escaped in
     let later = start.above in
     let inside = start.below in
