@@ -5,6 +5,7 @@ use Rattle.rst_tree.specs.declared.node.Node.TheVariants.{Text as Words}
 use Rattle.rst_tree.specs.declared.note.Level.TheVariants.{Warning, Error}
 use Rattle.rst_tree.specs.declared.phrase.Phrase.{Phrase}
 use Rattle.rst_tree.specs.declared.phrase.Phrase.TheVariants.{UnendedStrong, UnendedEmphasis, UnendedLiteral, UnendedTarget, UnendedSubstitution, UnendedInterpreted}
+use Rattle.rst_tree.specs.Nodes.{forest_of}
 use Rattle.rst_tree.specs.Phrases.{phrase_text}
 use Rattle.rst_tree.specs.declared.tag.Tag.{Tag}
 use Rattle.rst_tree.specs.declared.tag.Tag.TheVariants as tag
@@ -62,7 +63,7 @@ substitution_reading suffix inner outer shown line = One (outer_node suffix oute
 -- A phrase with an embedded alias refers to a name; one with an embedded URI leaves a target, too, unless it is anonymous.
 abbrev pub embedded_reading : Suffix → Text → Text → Text → Bool → ℕ → Meaning
 embedded_reading suffix source shown meaning true line = One (reference_node Named source shown meaning line)
-embedded_reading Named source shown meaning false line = Two (embedded_node source shown meaning line) (uri_target_node shown meaning line)
+embedded_reading Named source shown meaning false line = Two (forest_of (embedded_node source shown meaning line ∷ uri_target_node shown meaning line ∷ []))
 embedded_reading suffix source shown meaning false line = One (embedded_node source shown meaning line)
 
 -- a phrase that is a reference, with the place of what is embedded in it, if there is something

@@ -4,6 +4,7 @@ use Rattle.std.specs.List.{flat_map}
 use Rattle.rst_tree.specs.Sends.{counted_on}
 use Rattle.rst_tree.specs.declared.node.Node.{Node}
 use Rattle.rst_tree.specs.declared.note.Note.{Note}
+use Rattle.rst_tree.specs.Nodes.{nodes_of}
 use Rattle.rst_inline_scan.specs.Characters.{Text}
 use Rattle.rst_inline_scan.specs.Pieces.{IsPieces}
 use Rattle.rst_inline_scan.specs.declared.piece.Piece.{Piece}
@@ -27,7 +28,7 @@ notes_of t line pieces = flat_map (λ p. notes_by (reading t line p) line) piece
 abbrev pub nodes_by : Meaning → ℕ → Text → ℕ → List Node
 nodes_by Nothing number source line = []
 nodes_by (One node) number source line = node ∷ []
-nodes_by (Two node next) number source line = node ∷ next ∷ []
+nodes_by (Two both) number source line = nodes_of both
 nodes_by (Wrong level text) number source line = problematic_node number source line ∷ []
 
 -- the number of the next message behind a piece, where it was this before it

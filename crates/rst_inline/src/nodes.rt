@@ -73,9 +73,9 @@ impl Written<'_> {
                     nodes.push(node)?;
                     continue;
                 }
-                Meaning::Two(node, next) => {
-                    nodes.push(node)?;
-                    nodes.push(next)?;
+                Meaning::Two(both) => {
+                    let mut both = both.into_list();
+                    nodes.append(&mut both)?;
                     continue;
                 }
                 Meaning::Wrong(level, text) => {

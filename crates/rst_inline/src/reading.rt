@@ -21,7 +21,7 @@ use super::roles::role_tag;
 use super::texts::{name_said, part, said, spell};
 use super::written::Written;
 use rst_inline_scan::{Kind, Markup, Piece, Suffix, unescaped, without_white};
-use rst_tree::{Attrs, Entry, Key, Level, Node, Phrase, Result, Tag, Text, Value};
+use rst_tree::{Attrs, Children, Entry, Key, Level, Node, Phrase, Result, Tag, Text, Value};
 use std::alloc::{AllocError, Global};
 use std::borrow::CowStr;
 
@@ -30,7 +30,7 @@ use std::borrow::CowStr;
 pub(crate) enum Meaning {
     Nothing,
     One(Node),
-    Two(Node, Node),
+    Two(Children),
     Wrong(Level, Text),
 }
 
@@ -64,6 +64,7 @@ fn warning(alloc: Global, text: &str) -> Result<Meaning>
 impl Written<'_> {
     /// Plain text without its escapes.
     #[tactic(auto, using(crate::proofs::TextLemmas::spelled_again, crate::proofs::TextLemmas::some_plain, crate::proofs::TextLemmas::no_plain))]
+    #[inline(always)]
     fn plain(&self, piece: Piece) -> Result<Meaning>
         ensures { Gives (λ reading. reading ≡ plain_reading (unescaped (source self.now.characters.items piece))) result }
     {
@@ -77,6 +78,7 @@ impl Written<'_> {
     }
 
     /// An element that holds what the markup of a piece encloses, without its escapes.
+    #[inline(never)]
     fn shown_in(&self, tag: Tag, piece: Piece) -> Result<Meaning>
         ensures { Gives (λ reading. reading ≡ One (text_element tag [] (unescaped (content self.now.characters.items piece)) self.now.line)) result }
     {
@@ -90,6 +92,7 @@ impl Written<'_> {
         }))
     }
 
+    #[inline(never)]
     fn literal(&self, piece: Piece) -> Result<Meaning>
         ensures { Gives (λ reading. reading ≡ One (text_element Literal [] (content self.now.characters.items piece) self.now.line)) result }
     {
@@ -99,6 +102,7 @@ impl Written<'_> {
         Ok(Meaning::One(node))
     }
 
+    #[inline(never)]
     fn inline_target(&self, piece: Piece) -> Result<Meaning>
         ensures { Gives (λ reading. reading ≡ One (inline_target_node (unescaped (content self.now.characters.items piece)) self.now.line)) result }
     {
@@ -112,6 +116,7 @@ impl Written<'_> {
         Ok(Meaning::One(node))
     }
 
+    #[inline(never)]
     fn substituted(&self, suffix: Suffix, piece: Piece) -> Result<Meaning>
         requires { IsWithin self.now.characters.items piece }
         ensures { Gives (λ reading. reading ≡ substitution_reading suffix (part self.now.characters.items piece.from (piece.content_to + 1)) (source self.now.characters.items piece) (unescaped (content self.now.characters.items piece)) self.now.line) result }
@@ -185,7 +190,8 @@ impl Written<'_> {
         match suffix {
             Suffix::Named => {
                 let target = uri_target(self.alloc, shown, meaning, self.line)?;
-                Ok(Meaning::Two(node, target))
+                let nodes = vec![in self.alloc; node, target]?;
+                Ok(Meaning::Two(Children::of(nodes)))
             }
             _ => Ok(Meaning::One(node)),
         }
@@ -242,6 +248,7 @@ impl Written<'_> {
     }
 
     /// Interpreted text, or a phrase that is a reference.
+    #[inline(never)]
     fn interpreted(&self, suffix: Suffix, piece: Piece) -> Result<Meaning>
         requires { IsWithin self.now.characters.items piece }
         ensures { Gives (λ reading. reading ≡ interpreted_reading (has_prefix_role piece) suffix self.now.characters.items piece self.now.line) result }
@@ -257,6 +264,7 @@ impl Written<'_> {
     }
 
     /// A reference to a footnote or a citation.
+    #[inline(never)]
     fn label(&self, piece: Piece) -> Result<Meaning>
         ensures { Gives (λ reading. reading ≡ One (label_reference_node (source self.now.characters.items piece) (content self.now.characters.items piece) self.now.line)) result }
     {
@@ -267,6 +275,7 @@ impl Written<'_> {
     }
 
     /// A reference by a simple name.
+    #[inline(never)]
     fn named(&self, suffix: Suffix, piece: Piece) -> Result<Meaning>
         ensures { Gives (λ reading. let shown = content self.now.characters.items piece in reading ≡ One (reference_node suffix (source self.now.characters.items piece) shown shown self.now.line)) result }
     {
@@ -277,6 +286,7 @@ impl Written<'_> {
     }
 
     /// A standalone URI.
+    #[inline(never)]
     fn uri(&self, piece: Piece) -> Result<Meaning>
         ensures { Gives (λ reading. reading ≡ One (uri_node (source self.now.characters.items piece) self.now.line)) result }
     {
@@ -291,6 +301,7 @@ impl Written<'_> {
 
     /// What a piece of the text means.
     #[tactic(auto, unfolding(crate::specs::Readings::reading))]
+    #[inline(always)]
     pub(crate) fn reading(&self, piece: Piece) -> Result<Meaning>
         requires { IsWithin self.now.characters.items piece }
         ensures { Gives (λ read. read ≡ reading self.now.characters.items self.now.line piece) result }
