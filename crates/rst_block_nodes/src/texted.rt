@@ -54,6 +54,9 @@ pub fn with_text(
 pub(crate) fn messages_of(alloc: Global, notes: Vec<Note>, first: u64) -> Result<Vec<Node>>
     ensures { Gives (λ messages. messages.items ≡ messages_from first notes.items) result }
 {
+    if notes.is_empty() {
+        return Ok(Vec::new(alloc));
+    }
     let mut messages = Vec::with_capacity(alloc, notes.len())?;
     let mut number = first;
     for note in notes {
