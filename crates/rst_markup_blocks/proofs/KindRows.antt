@@ -9,6 +9,7 @@ use Rattle.rst_text.specs.Block.{Block, front_text, is_blank}
 use Rattle.rst_markup_lines.specs.Front.{begins_by, begins_with, first}
 use Rattle.rst_markup_lines.specs.OptionMarker.{option_at, options_from}
 use Rattle.rst_markup_lines.specs.Marker.{bullet, bullet_by, doctest, line_bar}
+use Rattle.rst_markup_lines.specs.Enumerator.{enumerator_of}
 use Rattle.rst_markup_lines.specs.Field.{field_of}
 use Rattle.rst_markup_lines.specs.Border.{is_grid_border, is_simple_border}
 use Rattle.rst_markup_lines.specs.ExplicitMarks.{dots, underscores}
@@ -125,10 +126,15 @@ no-adornment : (c : ℕ) (cs : List ℕ) → is_ascii_alphabetic c ≡ true → 
 unfolding adornment_of
 no-adornment c cs h = rw (no-punctuation c h) refl
 
--- then only an enumerator is none of a text
-pub letter_kind : (X : Block) (t next after : List ℕ) → begins_by is_ascii_alphabetic t ≡ true → front_text X ≡ t → next_text X ≡ next → after_text X ≡ after
-    → kind_at X ≡ (if is_some (item_enumerator t next) then Enumerator else Text)
-letter_kind X [] next after h a b d = absurd (true≢false (sym h))
-letter_kind X (c ∷ cs) next after h a b d =
-    kind_at_is X (c ∷ cs) next after a b d
-    ∙ rw (later_kind_is X (c ∷ cs) a, other c 32 h refl, no-bullet c cs h, no-field c cs h, no-option c cs next after h, no-doctest c cs h, no-bar c cs h, no-grid c cs h, no-simple c cs h, no-dots c cs h, no-underscores c cs h, no-adornment c cs h) refl
+no-item : (t next : List ℕ) → enumerator_of t ≡ None → item_enumerator t next ≡ None
+unfolding item_enumerator
+no-item t next none = rw none refl
+
+-- then what begins with no enumerator is a text
+pub letter_kind : (X : Block) (t : List ℕ) → begins_by is_ascii_alphabetic t ≡ true → enumerator_of t ≡ None → front_text X ≡ t → kind_at X ≡ Text
+letter_kind X [] h none a = absurd (true≢false (sym h))
+letter_kind X (c ∷ cs) h none a =
+    let next = next_text X in
+    let after = after_text X in
+    kind_at_is X (c ∷ cs) next after a refl refl
+    ∙ rw (no-item (c ∷ cs) next none, later_kind_is X (c ∷ cs) a, other c 32 h refl, no-bullet c cs h, no-field c cs h, no-option c cs next after h, no-doctest c cs h, no-bar c cs h, no-grid c cs h, no-simple c cs h, no-dots c cs h, no-underscores c cs h, no-adornment c cs h) refl

@@ -15,7 +15,8 @@ use super::lines::below_text;
 use super::row::{item_enumerator, item_option};
 use rst_markup_lines::{
     Adornment, Enumerator, FieldMark, Marker, adornment_of, begins_with, bullet, doctest, dots,
-    field_of, front, is_blank, is_grid_border, is_simple_border, line_bar, underscores,
+    enumerator_of, field_of, front, is_blank, is_grid_border, is_simple_border, line_bar,
+    underscores,
 };
 use rst_text::{Looks, View};
 
@@ -73,6 +74,8 @@ pub fn kind_of(view: &View<'_>, i: usize, looks: &mut Looks) -> Kind
 }
 
 /// What begins at the line at place `at`, in at most three looks.
+// In its caller most lines, blank ones and texts, cost a few tests.
+#[inline(always)]
 pub fn begun_at(view: &View<'_>, at: usize, looks: &mut Looks) -> Begun
     requires inside { at < length (block_of view.now) }
     ensures begun { spec.IsBegun (drop at (block_of view.now)) result }
@@ -82,6 +85,10 @@ pub fn begun_at(view: &View<'_>, at: usize, looks: &mut Looks) -> Begun
     let text = view.line(at, looks);
     if is_blank(text) {
         return Begun::Blank;
+    }
+    // Most lines begin with a letter, at which only an enumerator or a text can begin.
+    if begins_with_letter(text) && enumerator_of(text).is_none() {
+        return Begun::Text;
     }
     let next = below_text(view, at, 1, looks);
     let after = below_text(view, at, 2, looks);
@@ -99,19 +106,13 @@ fn begins_with_letter(text: &str) -> bool
 }
 
 /// What begins at a line that isn't blank before the next two: the first row of the table of constructs whose condition holds.
+#[inline(never)]
 #[tactic(auto, using(crate::proofs::KindRows::bullet_is))]
 fn begun_by(text: &str, next: &str, after: &str) -> Begun
     requires { is_blank (chars text.now) ≡ false }
     ensures kind { (X : Block) → front_text X ≡ chars text.now → next_text X ≡ chars next.now → after_text X ≡ chars after.now → spec.kind_in result ≡ kind_at X }
     ensures mark { spec.IsMarked (chars text.now) (chars next.now) (chars after.now) result }
 {
-    // Most lines begin with a letter, at which only an enumerator or a text can begin.
-    if begins_with_letter(text) {
-        return match item_enumerator(text, next) {
-            Some(enumerator) => Begun::Enumerator(enumerator),
-            None => Begun::Text,
-        };
-    }
     if begins_with(' ', text) {
         return Begun::Quote;
     }

@@ -73,6 +73,8 @@ pub fn below_text<'a>(view: &View<'a>, i: usize, n: usize, looks: &mut Looks) ->
 
 /// The place after the lines from place `from` on that pass a test. It looks once at each of them and at the line that
 /// stops it.
+// Each caller knows the test: in its place, the loop asks for nothing else.
+#[inline(always)]
 pub fn lines_end(view: &View<'_>, from: usize, test: LineTest, looks: &mut Looks) -> usize
     requires inside { from ≤ length (block_of view.now) }
     ensures end { result ≡ from + lines_while test (drop from (block_of view.now)) }

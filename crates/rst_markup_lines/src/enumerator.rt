@@ -201,6 +201,7 @@ fn begins_no_enumerator(text: &str) -> bool
 }
 
 /// The enumerator at the front of a line: `(x)`, `x)` or `x.`, and its marker.
+#[inline(always)]
 #[tactic(auto, using(crate::proofs::EnumeratorLemmas::word_none))]
 pub fn enumerator_of(text: &str) -> Option<Enumerator>
     ensures { result ≡ spec.enumerator_of (chars text.now) }

@@ -1,13 +1,23 @@
-use Rattle.std.proofs.Common.{drop, sym, ◌∙◌}
+use Rattle.std.proofs.Common.{◌≡◌, true, None, drop, sym, rules, ◌∙◌}
+use Rattle.std.specs.Char.{is_ascii_alphabetic}
 use Rattle.std.specs.Str.{chars}
 use Rattle.rst_text.specs.Block.{Block}
 use Rattle.rst_text.specs.Shown.{block_of}
-use Rattle.rst_markup_blocks.proofs.KindRows.{begun_of, blank_at}
+use Rattle.rst_markup_lines.specs.Enumerator.{enumerator_of}
+use Rattle.rst_markup_lines.specs.Front.{begins_by}
+use Rattle.rst_markup_blocks.proofs.KindRows.{begun_of, blank_at, letter_kind}
 use Rattle.rst_markup_blocks.proofs.begun.begun_at.Goals as goal
 
 pub returns-then-is_blank-clause-begun : goal.returns-then-is_blank-clause-begun
 returns-then-is_blank-clause-begun c =
     blank_at (drop c.args.at (block_of c.args.view.now)) (chars c.line-text.result.now) (sym c.line-text.ensures.text) (sym c.is_blank.ensures ∙ c.if-is_blank.true)
+
+pub returns-then-is_none-clause-begun : goal.returns-then-is_none-clause-begun
+returns-then-is_none-clause-begun c =
+    let text = chars c.line-text.result.now in
+    let letter : begins_by is_ascii_alphabetic text ≡ true = search rules in
+    let none : enumerator_of text ≡ None = search rules in
+    record { kind = sym (letter_kind (drop c.args.at (block_of c.args.view.now)) text letter none (sym c.line-text.ensures.text)); mark = tt }
 
 pub returns-clause-begun : goal.returns-clause-begun
 returns-clause-begun c =
