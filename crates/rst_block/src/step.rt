@@ -1,9 +1,11 @@
 //! One step: the construct at the next line of a block.
-ghost use Rattle.std.specs.Prelude.{◌≡◌, ◌+◌, ◌-◌, ◌<◌, length, IfOk};
+ghost use Rattle.std.specs.Prelude.{◌≡◌, ◌≢◌, ◌<◌, drop, length, IfOk};
 ghost use Rattle.rst_text.specs.Shown.{block_of};
+ghost use Rattle.rst_markup_blocks.specs.Begun.{IsBegun};
+ghost use Rattle.rst_markup_blocks.specs.declared.begun.Begun.TheVariants.{Blank, Text};
 ghost use Rattle.rst_block_state.specs.Steps as spec;
 ghost use Rattle.rst_block_state.specs.Meanings.{Keeps, comes, reads};
-ghost use Rattle.rst_block_state.specs.Ledger.{Takes, least_left, most_left};
+ghost use Rattle.rst_block_state.specs.Ledger.{IsPaid, Takes, least_left, most_left};
 ghost use Rattle.rst_block_state.specs.declared.step.Step.TheVariants.{Next};
 
 use rst_block_body::adornment::adornment;
@@ -23,6 +25,7 @@ use rst_text::View;
 use std::alloc::Global;
 
 /// Reads the construct at the next line.
+#[inline(always)]
 pub(crate) fn step_at(view: &View<'_>, level: &mut OpenBlock, pass: &mut Pass) -> Result<Step>
     requires inside { level.old.at < length (block_of view.now) }
     ensures step { IfOk result (λ s. spec.IsStep (block_of view.now) level.old.at level.new.at s) }
@@ -37,9 +40,36 @@ pub(crate) fn step_at(view: &View<'_>, level: &mut OpenBlock, pass: &mut Pass) -
     let at = level.at;
     match begun_at(view, at, &mut pass.looks) {
         Begun::Blank => {
-            level.go_to(lines_end(view, at, LineTest::Blank, &mut pass.looks));
+            level.go_to(lines_end(view, at + 1, LineTest::Blank, &mut pass.looks));
             Ok(Step::Next)
         }
+        Begun::Text => text_line(view, level, Vec::new(pass.alloc), pass),
+        begun => marked_step(view, level, begun, pass),
+    }
+}
+
+/// The same where this begins, neither a blank line nor a text: most lines are one of these, which have little to do with it.
+#[inline(never)]
+fn marked_step(
+    view: &View<'_>,
+    level: &mut OpenBlock,
+    begun: Begun,
+    pass: &mut Pass,
+) -> Result<Step>
+    requires inside { level.old.at < length (block_of view.now) }
+    requires begun { IsBegun (drop level.old.at (block_of view.now)) begun }
+    requires filled { begun ≢ Blank }
+    requires mark { begun ≢ Text }
+    ensures step { IfOk result (λ s. spec.IsStep (block_of view.now) level.old.at level.new.at s) }
+    ensures kept { IfOk result (λ _. level.new.depth ≡ level.old.depth) }
+    ensures read { Keeps result (λ s. comes level.new (block_of view.now) s pass.new.numbers)
+        (reads level.old (block_of view.now) pass.old.numbers) }
+    ensures paid { IfOk result (λ s. IsPaid 29 level.old level.new (block_of view.now) s pass.old.looks pass.new.looks) }
+{
+    let at = level.at;
+    match begun {
+        Begun::Blank => unreachable!(),
+        Begun::Text => unreachable!(),
         Begun::Quote => block_quote(view, level, pass),
         Begun::Bullet { mark, marker } => bullet_item(view, level, mark, marker, pass),
         Begun::Enumerator(enumerator) => enumerated_item(view, level, enumerator, pass),
@@ -63,6 +93,5 @@ pub(crate) fn step_at(view: &View<'_>, level: &mut OpenBlock, pass: &mut Pass) -
         }
         Begun::Explicit | Begun::Anonymous => explicit_markup(view, level, pass),
         Begun::Adornment(mark) => adornment(view, level, mark, pass),
-        Begun::Text => text_line(view, level, Vec::new(pass.alloc), pass),
     }
 }

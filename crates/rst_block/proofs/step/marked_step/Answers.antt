@@ -1,0 +1,30 @@
+use Rattle.std.proofs.Common.{subst}
+use Rattle.std.specs.Prelude.{◌==◌, drop}
+use Rattle.rst_text.specs.Block.{Block}
+use Rattle.rst_text.specs.Shown.{block_of}
+use Rattle.rst_markup_blocks.specs.Begun.{IsBegun}
+use Rattle.rst_block_body.proofs.StepsPaid.{grid_found, simple_found}
+use Rattle.rst_block_body.proofs.TableSteps.{grid_there}
+use Rattle.rst_block.proofs.step.marked_step.Goals as goal
+
+pub table-requires-clause-table : goal.table-requires-clause-table
+table-requires-clause-table c =
+    let B : Block = block_of c.args.view.now in
+    let l = c.args.level.now in
+    grid_there B l.at c.in_ok-found-in-Grid.found (subst (IsBegun (drop l.at B)) c.in-Grid.is c.requires.begun) c.in_ok-found-in-Grid.ensures.table
+
+pub returns-in_ok-found-in-Grid-clause-paid : goal.returns-in_ok-found-in-Grid-clause-paid
+returns-in_ok-found-in-Grid-clause-paid c =
+    let B : Block = block_of c.args.view.now in
+    let l = c.args.level.now in
+    let begun = subst (IsBegun (drop l.at B)) c.in-Grid.is c.requires.begun in
+    let looks = grid_found (l.depth == 0) (drop l.at B) _ _ begun c.grid.ensures.looks c.in_ok-found-in-Grid.ensures.low in
+    c.table.ensures.paid _ looks.0 looks.1
+
+pub returns-in_ok-found-in-Simple-clause-paid : goal.returns-in_ok-found-in-Simple-clause-paid
+returns-in_ok-found-in-Simple-clause-paid c =
+    let B : Block = block_of c.args.view.now in
+    let l = c.args.level.now in
+    let begun = subst (IsBegun (drop l.at B)) c.in-Simple.is c.requires.begun in
+    let looks = simple_found (l.depth == 0) (drop l.at B) _ _ begun c.simple.ensures.looks c.simple.ensures.low in
+    c.table-in-Simple.ensures.paid _ looks.0 looks.1
