@@ -5,7 +5,7 @@ ghost use Rattle.rst_inline.specs.Elements.{reference_attrs, reference_node, emb
 ghost use Rattle.rst_tree.specs.Faults.{Gives};
 
 use super::elements::element;
-use super::texts::{name_said, normalized_said, said};
+use super::texts::{both_said, name_said, normalized_said, said};
 use rst_inline_scan::Suffix;
 use rst_tree::{Attrs, Children, Entry, Key, Node, Result, Tag, Value};
 use std::alloc::Global;
@@ -20,17 +20,22 @@ fn reference_attrs(
 ) -> Result<Vec<Entry>>
     ensures { Gives (λ attrs. attrs.items ≡ reference_attrs suffix (chars source.now) (chars shown.now) (chars name.now)) result }
 {
-    let own = normalized_said(alloc, shown)?;
     let written = said(alloc, source)?;
     let mut attrs = Vec::with_capacity(alloc, 4)?;
     match suffix {
         Suffix::Anonymous => {
+            let own = normalized_said(alloc, shown)?;
             attrs.push_reserved(Entry::new(Key::Anonymous, Value::Number(1)));
             attrs.push_reserved(Entry::new(Key::Name, own));
             attrs.push_reserved(Entry::new(Key::Rawsource, written));
         }
         _ => {
-            let refname = name_said(alloc, name)?;
+            // A phrase without an alias is its own name.
+            let (own, refname) = if shown == name {
+                both_said(alloc, shown)?
+            } else {
+                (normalized_said(alloc, shown)?, name_said(alloc, name)?)
+            };
             attrs.push_reserved(Entry::new(Key::Name, own));
             attrs.push_reserved(Entry::new(Key::Rawsource, written));
             attrs.push_reserved(Entry::new(Key::Refname, refname));
