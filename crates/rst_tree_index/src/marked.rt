@@ -119,9 +119,14 @@ fn add_marks(alloc: Global, nodes: &Children, marks: &mut Marks) -> Result<()>
         else {
             continue;
         };
+        let own = is_registered(*tag, attrs, *line);
+        if children.are_plain() {
+            marks.push(place, own, Marks::none(alloc))?;
+            continue;
+        }
         let mut inner = Marks::none(alloc);
         add_marks(alloc, children, &mut inner)?;
-        marks.push(place, is_registered(*tag, attrs, *line), inner)?;
+        marks.push(place, own, inner)?;
     }
     Ok(())
 }

@@ -37,6 +37,7 @@ fn has_registered_key(attrs: &[Entry]) -> bool
 }
 
 /// Whether registration needs an element.
+#[inline(always)]
 pub(crate) fn is_registered(tag: Tag, attrs: &Attrs, line: usize) -> bool
     ensures { result ≡ is_registered (item tag attrs.now line) }
 {

@@ -1,8 +1,9 @@
-use Rattle.std.proofs.Common.{rules, ◌+◌, ◌≤◌, ◌∷◌, ◌++◌, ◌∙◌, ap, sym}
+use Rattle.std.proofs.Common.{rules, ◌+◌, ◌≤◌, ◌∷◌, ◌++◌, [], ◌∙◌, ap, refl, sym}
 use Rattle.std.specs.Prelude.{map}
 use Rattle.std.proofs.lemmas.List.{take_all}
 use Rattle.rst_tree.specs.Forest.{height}
 use Rattle.rst_tree.specs.Nodes.{forest_of}
+use Rattle.rst_tree.proofs.PlainNodes.{nothing_gathered}
 use Rattle.rst_tree.proofs.PrintedParts.{inside_lower}
 use Rattle.rst_tree_index.specs.Marks.{path_of, places}
 use Rattle.rst_tree_index.specs.Registered.{is_registered}
@@ -22,8 +23,20 @@ loop-place-preserved t c =
     let node = c.index-list-place.result in
     let inside = c.in-Element in
     let marks =
-    marks_within is_registered node inside.tag inside.attrs inside.children inside.line c.is_registered.result c.none-inner.result c.add_marks.new.marks inside.is c.is_registered.ensures c.none-inner.ensures
+    marks_within is_registered node inside.tag inside.attrs inside.children inside.line c.is_registered-own.result c.none-inner.result c.add_marks.new.marks inside.is c.is_registered-own.ensures c.none-inner.ensures
     c.in_ok-add_marks.ensures in
+    paths_more is_registered c.as_slice-list.result.now held.place node c.args.marks.now held.marks c.push-in-loop-place.new.self c.loop-place-test.true c.index-list-place.is held.invariant
+    (c.in_ok-push-2.ensures ∙ ap (λ z. held.marks ++ map (λ p. held.place ∷ p) z) marks)
+
+pub loop-place-preserved-then-are_plain : goal.loop-place-preserved-then-are_plain
+loop-place-preserved-then-are_plain t c =
+    let held = c.loop-place in
+    let node = c.index-list-place.result in
+    let inside = c.in-Element in
+    let none = nothing_gathered (places is_registered) (λ t. refl) inside.children (sym c.are_plain.ensures ∙ c.if-are_plain.true) in
+    let marks =
+    marks_within is_registered node inside.tag inside.attrs inside.children inside.line c.is_registered-own.result c.none.result c.none.result inside.is c.is_registered-own.ensures c.none.ensures
+    (c.none.ensures ∙ ap (λ z. [] ++ map path_of z) (sym none) ∙ ap (λ z. z ++ map path_of (places is_registered inside.children)) (sym c.none.ensures)) in
     paths_more is_registered c.as_slice-list.result.now held.place node c.args.marks.now held.marks c.push.new.self c.loop-place-test.true c.index-list-place.is held.invariant
     (c.in_ok-push.ensures ∙ ap (λ z. held.marks ++ map (λ p. held.place ∷ p) z) marks)
 
