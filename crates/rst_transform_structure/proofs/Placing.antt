@@ -1,6 +1,7 @@
 -- Transitions that get their places in a loop, one node after another.
 use Rattle.std.proofs.Common.{◌≡◌, ℕ, ◌-◌, List, [], ◌∷◌, ◌++◌, length, Bool, true, false, nat_eq, refl, ap, sym, ◌∙◌, arith, append_assoc, append-nil}
-use Rattle.std.specs.Prelude.{◌&&◌, if◌then◌else◌}
+use Rattle.std.specs.Prelude.{◌&&◌, not, if◌then◌else◌}
+use Rattle.std.specs.List.{list_all}
 use Rattle.rst_tree.specs.declared.attrs.Attr.{Attr}
 use Rattle.rst_tree.specs.declared.node.Node.{Node}
 use Rattle.rst_tree.specs.declared.node.Node.TheVariants.{Element, Text}
@@ -12,7 +13,7 @@ use Rattle.rst_transform_work.specs.declared.context.Context.{Context}
 use Rattle.rst_transform_work.specs.Reports.{KeepsRest}
 use Rattle.rst_tree_index.specs.Kinds.{is_transition}
 use Rattle.rst_transform_names.specs.NameMessages.{is_section}
-use Rattle.rst_transform_structure.specs.Transitions.{is_last, none_yet, placed_in, put_section, put_transition, so_far, with_node, Siblings}
+use Rattle.rst_transform_structure.specs.Transitions.{is_last, keeps_place, none_yet, placed_in, put_section, put_transition, so_far, with_node, Siblings}
 
 -- what is the same in its parts is the same
 siblings : (s u : Siblings) → s.placed ≡ u.placed → s.moving ≡ u.moving → s.reports ≡ u.reports → s ≡ u
@@ -37,6 +38,22 @@ module _ (first : ℕ) (ends : Bool) (s : Siblings) where
     pub step_other : is_section t ≡ false → is_transition t ≡ false → placed_in first ends s (element t a c l r) ≡ placed_in first ends (with_node (Element t a c l) s) r
     unfolding placed_in
     step_other other is = rw (other, is) refl
+
+-- none of these nodes is moved
+pub all_keep : (first : ℕ) (ends : Bool) (s : Siblings) (ns : List Node) → list_all keeps_place ns ≡ true → placed_in first ends s (forest_of ns) ≡ record s { placed = s.placed ++ ns }
+unfolding placed_in
+all_keep first ends s [] all = ap (λ ps. record s { placed = ps }) (sym (append-nil s.placed))
+all_keep first ends s (Text t ∷ ns) all = all_keep first ends (with_node (Text t) s) ns all ∙ ap (λ ps. record s { placed = ps }) (append_assoc s.placed (Text t ∷ []) ns)
+all_keep first ends s (Element t a c l ∷ ns) all = by (is_section t) (is_transition t) refl refl (all_keep first ends (with_node (Element t a c l) s) ns) all
+  where
+    by : (x y : Bool) → is_section t ≡ x → is_transition t ≡ y
+        → (list_all keeps_place ns ≡ true → placed_in first ends (with_node (Element t a c l) s) (forest_of ns) ≡ record s { placed = (s.placed ++ Element t a c l ∷ []) ++ ns }) → ((not x && not y) && list_all keeps_place ns) ≡ true
+        → placed_in first ends s (forest_of (Element t a c l ∷ ns)) ≡ record s { placed = s.placed ++ Element t a c l ∷ ns }
+    by true y is other more h = cc
+    by false true is other more h = cc
+    by false false is other more h =
+        step_other first ends s t a c l (forest_of ns) is other ∙ more h
+        ∙ ap (λ ps. record s { placed = ps }) (append_assoc s.placed (Element t a c l ∷ []) ns)
 
 last_of : (ns : List Node) → is_last (forest_of ns) ≡ nat_eq (length ns) 0
 last_of [] = refl

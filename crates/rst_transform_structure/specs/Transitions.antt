@@ -26,6 +26,11 @@ is_one None = false
 is_one (Some (Element t a c l)) = is_transition t
 is_one (Some (Text t)) = false
 
+-- a node is neither a section nor a transition
+abbrev pub keeps_place : Node → Bool
+keeps_place (Element t a c l) = not (is_section t) && not (is_transition t)
+keeps_place (Text t) = true
+
 -- the last of the nodes is a transition
 abbrev pub ends_in_transition : List Node → Bool
 ends_in_transition nodes = is_one (slice_get nodes (length nodes - 1))

@@ -9,7 +9,7 @@ ghost use Rattle.rst_transform_work.specs.Known.{Makes};
 ghost use Rattle.rst_transform_work.specs.Reading.{is_title};
 ghost use Rattle.rst_tree_index.specs.Kinds.{is_transition};
 ghost use Rattle.rst_transform_names.specs.NameMessages.{is_section};
-ghost use Rattle.rst_transform_structure.specs.Transitions.{ends_in_transition, fault_before, none_yet, placed_in, put_transition, so_far, with_fault, with_message, with_transitions};
+ghost use Rattle.rst_transform_structure.specs.Transitions.{ends_in_transition, fault_before, keeps_place, none_yet, placed_in, put_transition, so_far, with_fault, with_message, with_transitions};
 
 use rst_transform_work::{Context, Document, is_title};
 use rst_tree::{Attrs, Children, Level, Node, Result, Tag, Text};
@@ -58,11 +58,19 @@ fn place_in(nodes: Children, ends: bool, context: &mut Context) -> Result<Placed
     ensures rest { Gives (λ _. KeepsRest context.old context.new) result }
 {
     let mut left = nodes.len();
+    let list = nodes.into_list();
+    // Most often none has to be moved.
+    if all_keep_places(list.as_slice()) {
+        return Ok(Placed {
+            nodes: list,
+            moving: Vec::new(context.alloc),
+        });
+    }
     let mut placed = Placed {
         nodes: Vec::with_capacity(context.alloc, left)?,
         moving: Vec::new(context.alloc),
     };
-    for node in nodes.into_list() {
+    for node in list {
         left = left.saturating_sub(1);
         match node {
             Node::Text(text) => {
@@ -207,6 +215,23 @@ fn ends_in_transition(nodes: &[Node]) -> bool
         Some(Node::Element { tag, .. }) => is_transition(*tag),
         Some(Node::Text(_)) | None => false,
     }
+}
+
+/// Whether a node is neither a section nor a transition.
+fn keeps_place(node: &Node) -> bool
+    ensures { result ≡ keeps_place node.now }
+{
+    match node {
+        Node::Element { tag, .. } => !is_section(*tag) && !is_transition(*tag),
+        Node::Text(_) => true,
+    }
+}
+
+/// Whether none of these nodes is a section or a transition.
+fn all_keep_places(nodes: &[Node]) -> bool
+    ensures { result ≡ list_all keeps_place nodes.now }
+{
+    nodes.iter().all(|node| keeps_place(node))
 }
 
 /// Whether an element of a kind is a section.

@@ -1,23 +1,24 @@
 use Rattle.std.proofs.Common.{◌≡◌, ◌+◌, ◌≤◌, ◌∷◌, ◌++◌, [], rules, refl, ap, sym, ◌∙◌}
 use Rattle.std.specs.Prelude.{◌&&◌, nat_eq}
+use Rattle.std.specs.List.{list_all}
 use Rattle.std.proofs.lemmas.List.{map-id}
 use Rattle.std.proofs.lemmas.Iterator.Consumers.{YieldsList-turn, YieldsList-end}
 use Rattle.std.proofs.lemmas.Iterator.Adapters.{YieldsList-from_vec}
 use Rattle.rst_tree.specs.Forest.{height}
 use Rattle.rst_tree.specs.Nodes.{join_node}
 use Rattle.rst_tree.proofs.PrintedParts.{inside_lower}
-use Rattle.rst_transform_structure.specs.Transitions.{placed_in, so_far, with_node}
-use Rattle.rst_transform_structure.proofs.Placing.{placing_node, placing_transition, placing_section, placing_all, step_other, step_text}
+use Rattle.rst_transform_structure.specs.Transitions.{keeps_place, none_yet, placed_in, so_far, with_node}
+use Rattle.rst_transform_structure.proofs.Placing.{all_keep, placing_node, placing_transition, placing_section, placing_all, step_other, step_text}
 use Rattle.rst_transform_structure.proofs.transitions.+place_in.Goals as goal
 use Rattle.rst_transform_structure.proofs.transitions.+place_in.Goals.{then-ends, else-ends}
 
 pub place_in-requires : goal.place_in-requires
 place_in-requires t c =
-    let turn = YieldsList-turn (YieldsList-from_vec {s = c.into_iter-node-iterator.result} c.into_list-node-items.result.items (search rules) (search rules))
+    let turn = YieldsList-turn (YieldsList-from_vec {s = c.into_iter-node-iterator.result} c.into_list-list.result.items (search rules) (search rules))
     c.loop-node.yielded c.loop-node.node-iterator c.loop-node.yielded_by c.next.result c.next.new.self c.in-Some.node c.in-Some.is c.next.ensures.steps in
     let h : height c.in-Element.children + 1 ≤ height c.args.nodes =
-    inside_lower c.in-Some.node c.in-Element.tag c.in-Element.attrs c.in-Element.children c.args.nodes c.in-Element.line c.into_list-node-items.result.items _
-    c.in-Element.is c.into_list-node-items.ensures.forest turn.1 turn.0 in
+    inside_lower c.in-Some.node c.in-Element.tag c.in-Element.attrs c.in-Element.children c.args.nodes c.in-Element.line c.into_list-list.result.items _
+    c.in-Element.is c.into_list-list.ensures.forest turn.1 turn.0 in
     search (rules, h)
 
 pub loop-node-preserved-in-Text : goal.loop-node-preserved-in-Text
@@ -52,9 +53,17 @@ loop-node-preserved t c =
     ∙ ap (λ m. placed_in c.args.context.now.first_number c.args.ends (with_node m s) r) (sym c.in-Element.is))
     (c.in_ok-push-in-Element.ensures.items ∙ ap (λ m. c.loop-node.placed.nodes.items ++ m ∷ []) (sym c.in-Element.is)) refl refl
 
+pub returns-then-all_keep_places-clause-placed : goal.returns-then-all_keep_places-clause-placed
+returns-then-all_keep_places-clause-placed t c =
+    let none = none_yet c.args.context.now.reports.items in
+    ap (λ ms. record none { placed = c.into_list-list.result.items; moving = ms }) c.new.ensures.items
+    ∙ sym (ap (placed_in c.args.context.now.first_number c.args.ends none) c.into_list-list.ensures.forest
+    ∙ all_keep c.args.context.now.first_number c.args.ends none c.into_list-list.result.items
+    (ap (list_all keeps_place) (sym c.as_slice.ensures.value) ∙ sym c.all_keep_places.ensures ∙ c.if-all_keep_places.true))
+
 pub returns-clause-placed : goal.returns-clause-placed
 returns-clause-placed t c =
-    let end = YieldsList-end (YieldsList-from_vec {s = c.into_iter-node-iterator.result} c.into_list-node-items.result.items (search rules) (search rules))
+    let end = YieldsList-end (YieldsList-from_vec {s = c.into_iter-node-iterator.result} c.into_list-list.result.items (search rules) (search rules))
     c.loop-node.yielded c.loop-node.node-iterator c.loop-node.yielded_by c.next.result c.next.new.self c.in-None.is c.next.ensures.steps in
     placing_all c.args.context.now c.args.ends c.args.nodes c.loop-node.left c.loop-node.yielded c.loop-node.placed c.loop-node.context c.loop-node.invariant
-    (sym (map-id c.loop-node.yielded) ∙ end.0 ∙ c.into_list-node-items.ensures.nodes)
+    (sym (map-id c.loop-node.yielded) ∙ end.0 ∙ c.into_list-list.ensures.nodes)
