@@ -1,4 +1,3 @@
 pub mod Finishing
 pub mod Law
 pub mod Linking
-pub mod Looked

@@ -1,7 +1,10 @@
 //! All transforms, in order.
-ghost use Rattle.std.specs.Prelude.{◌≡◌, ◌≤◌, IfOk};
+ghost use Rattle.std.specs.Prelude.{◌≡◌, ◌≤◌, false, IfOk};
+ghost use Rattle.std.specs.List.{list_any};
 ghost use Rattle.rst_settings.specs.Profile.{profile_of};
 ghost use Rattle.rst_tree.specs.Faults.{Gives};
+ghost use Rattle.rst_tree.specs.Walk.{items};
+ghost use Rattle.rst_transform_messages.specs.Early.{is_early};
 ghost use Rattle.rst_transform_work.specs.Known.{Makes};
 ghost use Rattle.rst_transform_work.specs.States.{IsDocument};
 ghost use Rattle.rst_transform_docinfo.specs.Docinfo.{with_docinfo};
@@ -13,7 +16,6 @@ ghost use Rattle.rst_transform.specs.Finishing.{asked, Finishes};
 ghost use Rattle.rst_transform.specs.Finishing as spec;
 
 use crate::linking::resolve_links;
-use crate::look::has_early;
 use rst_settings::Settings;
 use rst_transform_docinfo::docinfo::docinfo;
 use rst_transform_messages::Messages;
@@ -66,8 +68,8 @@ pub fn finish(
     };
     let start = Document::of(registered.root);
     let mut list = Messages::with_room(alloc, messages, settings.halt, settings.report)?;
-    list.add_all(alloc, &start.children)?;
-    let after = transformed(start, &mut context, settings)?;
+    let early = list.add_all(alloc, &start.children)?;
+    let after = transformed(start, early, &mut context, settings)?;
     let sectioned = last_section(after, &mut context, settings.report)?;
     list.add_reports(context.reports)?;
     let shown = filter(alloc, sectioned, settings.report, list.shown())?;
@@ -79,11 +81,17 @@ pub fn finish(
     })
 }
 
-/// A document after all transforms, in order.
-fn transformed(document: Document, context: &mut Context, settings: &Settings) -> Result<Document>
+/// A document after all transforms, in order. It may have something `early`: what the first ones act on.
+fn transformed(
+    document: Document,
+    early: bool,
+    context: &mut Context,
+    settings: &Settings,
+) -> Result<Document>
+    requires { early ≡ false → list_any is_early (items document.children) ≡ false }
     ensures { Gives (Makes (spec.transformed (profile_of settings.now) settings.now document) context.old context.new) result }
 {
-    let retargeted = with_early(document, context)?;
+    let retargeted = with_early(document, early, context)?;
     let titled = with_title(retargeted, context, settings.title)?;
     let informed = with_info(titled, context, settings.info)?;
     let linked = resolve_links(informed, context)?;
@@ -92,10 +100,11 @@ fn transformed(document: Document, context: &mut Context, settings: &Settings) -
 }
 
 /// A document whose substitution references are replaced, and whose internal targets handed on their ids and names. Most have neither.
-fn with_early(document: Document, context: &mut Context) -> Result<Document>
+fn with_early(document: Document, early: bool, context: &mut Context) -> Result<Document>
+    requires { early ≡ false → list_any is_early (items document.children) ≡ false }
     ensures { Gives (Makes (λ known. let expanded = with_expansions document known in with_targets expanded.0 expanded.1) context.old context.new) result }
 {
-    if !has_early(&document.children) {
+    if !early {
         return Ok(document);
     }
     let expanded = expand(document, context)?;

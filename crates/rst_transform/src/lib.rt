@@ -4,7 +4,6 @@
 mod finishing;
 pub mod laws;
 mod linking;
-mod look;
 
 pub use finishing::{Finished, finish};
 pub use rst_settings::Settings;

@@ -1,3 +1,4 @@
 pub mod Computing
 pub mod Listing
+pub mod Looking
 pub mod Showing

@@ -1,3 +1,4 @@
+pub mod Early
 pub mod Filtered
 pub mod Listed
 pub mod Messages

@@ -1,12 +1,16 @@
 //! The list of messages, and the levels at which they count.
-ghost use Rattle.std.specs.Prelude.{◌≡◌, ◌≤◌, ◌==◌, ◌&&◌, ◌||◌, min, ℕ};
+ghost use Rattle.std.specs.Prelude.{◌≡◌, ◌≤◌, ◌==◌, ◌&&◌, ◌||◌, false, min, ℕ};
+ghost use Rattle.std.specs.List.{list_any};
 ghost use Rattle.rst_tree_index.specs.Kinds.{is_message};
 ghost use Rattle.rst_settings.specs.Threshold.{is_reached};
 ghost use Rattle.rst_tree.specs.Faults.{Gives};
 ghost use Rattle.rst_tree.specs.Tree.{text_in};
+ghost use Rattle.rst_tree.specs.Walk.{items};
+ghost use Rattle.rst_transform_messages.specs.Early.{is_early};
 ghost use Rattle.rst_transform_messages.specs.Messages.{has_halt, EndsAtHalt, highest_level, level_said, has_number, marked};
 ghost use Rattle.rst_transform_messages.specs.MessagesIn.{note_said};
 
+use crate::early::is_early;
 use rst_settings::Threshold;
 use rst_transform_work::Report;
 use rst_tree::{Attrs, Children, Key, Level, Node, Note, Result, Tag, Text};
@@ -85,11 +89,14 @@ impl Messages {
         Ok(())
     }
 
-    /// Adds the messages among nodes and in them, in preorder. A message holds no other.
-    pub fn add_all(&mut self, alloc: Global, nodes: &Children) -> Result<()>
+    /// Adds the messages among nodes and in them, in preorder. A message holds no other. Where it returns `false`, the first transforms
+    /// have nothing to act on there.
+    pub fn add_all(&mut self, alloc: Global, nodes: &Children) -> Result<bool>
         ensures levels { KeepsLevels self.old self.new }
         ensures adds { Gives (λ _. Adds (messages_among nodes.now) self.old self.new) result }
+        ensures early { Gives (λ early. early ≡ false → list_any is_early (items nodes.now) ≡ false) result }
     {
+        let mut early = false;
         for node in nodes.as_slice() {
             match node {
                 Node::Text(_) => continue,
@@ -102,16 +109,19 @@ impl Messages {
                     if is_message(*tag) {
                         let note = note_of(alloc, attrs, children, *line)?;
                         self.push(note, attrs.number(Key::Message))?;
+                        // What stands in it isn't looked at.
+                        early = true;
                         continue;
                     }
+                    early |= is_early(*tag, attrs);
                     if children.are_plain() {
                         continue;
                     }
-                    self.add_all(alloc, children)?;
+                    early |= self.add_all(alloc, children)?;
                 }
             }
         }
-        Ok(())
+        Ok(early)
     }
 
     /// Adds the messages of the transforms, which are the last.

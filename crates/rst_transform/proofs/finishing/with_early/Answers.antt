@@ -1,4 +1,3 @@
-use Rattle.std.proofs.Common.{◌∙◌, sym}
 use Rattle.rst_tree.specs.Walk.{items}
 use Rattle.rst_transform_substitutions.specs.Expanded.{with_expansions}
 use Rattle.rst_transform_substitutions.proofs.NoReferences.{stays_expanded}
@@ -8,11 +7,11 @@ use Rattle.rst_transform.proofs.Looking.{neither}
 use Rattle.rst_transform.proofs.Sequence.{makes_then}
 use Rattle.rst_transform.proofs.finishing.with_early.Goals as goal
 
-pub returns-then-not-has_early : goal.returns-then-not-has_early
-returns-then-not-has_early c =
+pub returns-then-not-early : goal.returns-then-not-early
+returns-then-not-early c =
     let d = c.args.document in
     let now = c.args.context.now in
-    let none = neither (items d.children) (sym c.has_early.ensures ∙ c.if-not-has_early.true) in
+    let none = neither (items d.children) (c.requires c.if-not-early.true) in
     makes_then (with_expansions d) with_targets now now now d d (stays_expanded d now none.0) (without_targets d now none.1)
 
 pub returns : goal.returns
