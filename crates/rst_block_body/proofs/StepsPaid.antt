@@ -1,22 +1,19 @@
 -- The looks of one step after the other.
 use Rattle.std.proofs.Common.{◌≡◌, ℕ, ◌+◌, ◌-◌, ◌*◌, ◌<◌, ◌≤◌, Bool, [], length, drop, Option, Some, None, Result, IfOk, arith, refl, ap, sym, subst, ◌∙◌, inl, inr}
-use Rattle.std.specs.Prelude.{◌==◌, ◌⊎◌}
+use Rattle.std.specs.Prelude.{◌==◌}
 use Rattle.std.proofs.lemmas.Result.{IfOk-weaker}
 use Rattle.rst_text.specs.Looked.{capped}
 use Rattle.rst_text.specs.Block.{Block}
 use Rattle.rst_markup_blocks.specs.Begun.{IsBegun}
 use Rattle.rst_markup_blocks.specs.Ends.{row_size}
-use Rattle.rst_markup_blocks.specs.Lines.{lines_while}
-use Rattle.rst_markup_blocks.specs.Partition.{AreBlank, construct_size}
+use Rattle.rst_markup_blocks.specs.Partition.{construct_size}
 use Rattle.rst_markup_blocks.specs.TableRows.{grid_size, grid_scan, grid_reach, simple_size, simple_scan, simple_reach}
 use Rattle.rst_markup_blocks.specs.declared.begun.Begun.{Begun}
 use Rattle.rst_markup_blocks.specs.declared.begun.Begun.TheVariants as begun
 use Rattle.rst_markup_blocks.specs.declared.kind.Kind.TheVariants.{Grid, Simple}
 use Rattle.rst_markup_blocks.specs.declared.kind.Kind.TheVariants as kinds
-use Rattle.rst_markup_blocks.specs.declared.lines.LineTest.TheVariants.{Blank as BlankTest}
 use Rattle.rst_markup_blocks.specs.declared.part.Part.{Part}
 use Rattle.rst_markup_blocks.proofs.PartitionLemmas.{end_inside}
-use Rattle.rst_markup_blocks.proofs.RowLemmas.{row_at}
 use Rattle.rst_markup_tables.specs.Ends.{end_of}
 use Rattle.rst_markup_tables.specs.declared.results.TableFault.{TableFault}
 use Rattle.rst_markup_tables.specs.declared.results.TableResult.{TableResult}
@@ -27,7 +24,6 @@ use Rattle.rst_block_state.specs.Inside.{opened_by, cell_blocks, cells_by}
 use Rattle.rst_block_state.specs.Ledger.{unread_at, totals, place_after, next_blocks, next_cells, run_looks, end_looks, most_after, least_after, most_left, least_left, GoesOn, IsPaid, Takes}
 use Rattle.rst_block_state.specs.Meanings.{deepest}
 use Rattle.rst_block_state.specs.NextLine.{IsNextConstruct, IsTableAt}
-use Rattle.rst_block_state.specs.OpenBlocks.{IsMoved}
 use Rattle.rst_block_state.specs.Reaches.{reach_at}
 use Rattle.rst_block_state.specs.Texts.{lines_in}
 use Rattle.rst_block_state.specs.Within.{Within}
@@ -36,8 +32,8 @@ use Rattle.rst_block_state.specs.declared.open_block.OpenBlock.{OpenBlock}
 use Rattle.rst_block_state.specs.declared.waits.Waits.{Waits}
 use Rattle.rst_block_state.specs.declared.step.Step.{Step}
 use Rattle.rst_block_state.specs.declared.step.Step.TheVariants.{Next, Open, Cells}
-use Rattle.rst_block_state.proofs.LedgerLemmas.{blank_lines, construct, size_reached}
-use Rattle.rst_block_state.proofs.NextConstructs.{IsFilled, are_blank, next_of}
+use Rattle.rst_block_state.proofs.LedgerLemmas.{construct, size_reached}
+use Rattle.rst_block_state.proofs.NextConstructs.{IsFilled, next_of}
 use Rattle.rst_block_state.proofs.PaidSteps.{one_look, paid_next, reach_of}
 use Rattle.rst_block_body.proofs.TableSteps.{IsNextTable, next_table}
 use Rattle.rst_block_state.proofs.WaitingLooks.{last_block}
@@ -54,14 +50,6 @@ pub takes_none : (most least looks : ℕ) → Takes most least looks most least 
 takes_none most least looks = record { no_more = omega arith; no_less = omega arith }
 
 -- ---- a construct at the next line
-
--- blank lines, of which there is one: three looks at most are taken for that one, and then one at each of them and at the line after them
-pub blanks_taken : {old new : OpenBlock} {before mid after : ℕ} (B : Block) → old.at < new.at → new.at ≤ length B → new.at ≡ old.at + lines_while BlankTest (drop old.at B) → IsMoved old new
-    → mid ≤ before + 3 → capped before ≤ mid → after ≤ mid + lines_while BlankTest (drop old.at B) + 1 → capped (mid + lines_while BlankTest (drop old.at B)) ≤ after
-    → Takes (most_left old B Next) (least_left old B Next) before (most_left new B Next) (least_left new B Next) after
-blanks_taken {old} {new} {before} {mid} {after} B later within at moved few some more all =
-    let blank : AreBlank B old.at new.at = rw at (are_blank B old.at) in
-    blank_lines old new B before after (omega arith) within blank moved.depth moved.run (omega arith) (omega arith)
 
 -- what is paid for with fewer looks is paid for
 paid_within : (old new : OpenBlock) (B : Block) (s : Step) (before after : ℕ) → IsPaid 27 old new B s before after → IsPaid 29 old new B s before after
@@ -86,11 +74,6 @@ pub text_taken : (old new : OpenBlock) (B : Block) (before mid after : ℕ) (res
     → IfOk result (λ s. Takes (most_left old B Next) (least_left old B Next) before (most_left new B s) (least_left new B s) after)
 text_taken old new B before mid after result inside h some few paid =
     IfOk-weaker result _ _ (λ s p. construct_taken begun.Text inside h tt some few (paid_within old new B s mid after p)) paid
-
--- explicit markup isn't blank
-pub markup_filled : (mark : Begun) → (mark ≡ begun.Explicit) ⊎ (mark ≡ begun.Anonymous) → IsFilled mark
-markup_filled mark (inl e) = subst IsFilled (sym e) tt
-markup_filled mark (inr e) = subst IsFilled (sym e) tt
 
 -- ---- tables
 

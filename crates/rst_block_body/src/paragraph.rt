@@ -99,6 +99,7 @@ fn text_between<'a>(
 }
 
 /// Puts a paragraph that ends at `end` behind the last node, unless it is empty, and the message on an indented line behind it.
+#[inline(always)]
 fn put_paragraph(
     view: &View<'_>,
     level: &mut OpenBlock,
