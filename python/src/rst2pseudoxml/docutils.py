@@ -14,6 +14,7 @@ that are done would read. `rawsource` is empty.
 from __future__ import annotations
 
 import functools
+from copy import copy
 from json import loads
 from typing import Any
 
@@ -26,6 +27,7 @@ from . import HALTED, LIBRARY, answer, messages
 
 _DONE = set(standalone.Reader().get_transforms()) - set(readers.Reader().get_transforms()) - {frontmatter.SectionSubTitle}
 _CLASSES = vars(nodes)
+_new_element, _new_text, _Text = object.__new__, str.__new__, nodes.Text  # the constructors of nodes would take four times as long
 _NOTED = frozenset({"ids", "names", "dupnames", "refid", "level"})  # what an element is noted for
 _LISTS = {
     ("footnote", None): "footnotes",
@@ -66,7 +68,7 @@ def doctree(text: str | bytes, settings: frontend.Values | None = None, source: 
     `settings` are those of Docutils, by default its defaults (no configuration file is read). `source` is the name of the text in messages.
     Exceptions are those of `Parser`.
     """
-    document = utils.new_document(source, settings or _defaults().copy())
+    document = utils.new_document(source, settings or copy(_defaults()))
     Parser().parse(text, document)
     document.current_source = document.current_line = None
     return document
@@ -99,7 +101,7 @@ def _read(text: str | bytes, document: nodes.document) -> str:
 
 
 def _fill(document: nodes.document, made: list) -> None:
-    """Puts nodes into a document, without their constructors, which would take four times as long, and enters them into its tables."""
+    """Puts nodes into a document, and enters them into its tables."""
     _, _, attributes, *whole = made
     document.attributes.update(attributes)
     source = document["source"]
@@ -108,19 +110,21 @@ def _fill(document: nodes.document, made: list) -> None:
     def fill(parent: nodes.Element, children: list) -> None:  # in place: the lists become those of the nodes
         for place, found in enumerate(children):
             if found.__class__ is str:
-                node: Any = str.__new__(nodes.Text, found)
+                node: Any = _new_text(_Text, found)
             else:
-                tag, line, attributes = found[:3]
+                tag, line, given = found[:3]
                 del found[:3]
-                node = object.__new__(_CLASSES[tag])
+                node = _new_element(_CLASSES[tag])
                 node.rawsource = ""
                 node.children = found
-                node.attributes = {"ids": [], "classes": [], "names": [], "dupnames": [], "backrefs": [], **attributes}
+                node.attributes = {"ids": [], "classes": [], "names": [], "dupnames": [], "backrefs": []}
                 node.tagname = tag
                 node.source = source
                 node.line = line or None
-                if not _NOTED.isdisjoint(attributes):
-                    noted.append(node)
+                if given:
+                    node.attributes.update(given)
+                    if not _NOTED.isdisjoint(given):
+                        noted.append(node)
                 fill(node, found)
             node.parent = parent
             children[place] = node
@@ -146,7 +150,8 @@ def _trim(document: nodes.document) -> None:
 
 def _note(element: nodes.Element, document: nodes.document) -> None:
     """Enters an element into the tables of its document."""
-    ids, names, dupnames = element["ids"], element["names"], element["dupnames"]
+    attributes = element.attributes
+    ids, names, dupnames = attributes["ids"], attributes["names"], attributes["dupnames"]
     for one in ids:
         document.ids[one] = element
     if isinstance(element, nodes.system_message):
@@ -165,9 +170,9 @@ def _note(element: nodes.Element, document: nodes.document) -> None:
     for name in dupnames:
         document.nameids.setdefault(name, None)
         document.nametypes.setdefault(name, name != title)
-    if "refid" in element:
-        document.refids.setdefault(element["refid"], []).append(element)
-    kind = (element.tagname, element.get("auto"))
+    if "refid" in attributes:
+        document.refids.setdefault(attributes["refid"], []).append(element)
+    kind = (element.tagname, attributes.get("auto"))
     if kind in _LISTS:
         getattr(document, _LISTS[kind]).append(element)
     elif kind in _LABELS:
