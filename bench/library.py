@@ -7,6 +7,7 @@ The pages are prose (bench/prose.py). All calls take turns, in ROUNDS rounds (10
 Markdown. A start of the program is counted with the time of its process. Fails if a document of Docutils differs from the program's tree.
 """
 
+import gc
 import resource
 import subprocess
 import sys
@@ -59,7 +60,8 @@ def spent():
 
 
 def microseconds(call):
-    """The CPU time of a call: the mean of as many as take some time."""
+    """The CPU time of a call: the mean of as many as take some time. What earlier calls have left is collected before."""
+    gc.collect()
     count, began = 0, spent()
     while count == 0 or spent() - began < LEAST:
         call()
