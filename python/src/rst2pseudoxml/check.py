@@ -187,14 +187,14 @@ def as_json(file: str, line: int | None, level: int | None, kind: str, text: str
 FORMATS = {"gcc": gcc, "github": github, "json": as_json}
 
 
-def pages_in(folder: str) -> Iterator[str]:
+def pages_in(folder: str) -> list[str]:
     """The pages in a folder and those in it, by the bytes of their names."""
     found = []
     for path, folders, files in os.walk(folder):
         folders[:] = [name for name in folders if not name.startswith(".")]
         paths = [os.path.join(path, name) for name in files if name.endswith((".rst", ".txt")) and not name.startswith(".")]
         found += [page for page in paths if os.path.isfile(page) and not os.path.islink(page)]
-    return iter(sorted(found, key=os.fsencode))
+    return sorted(found, key=os.fsencode)
 
 
 def content(page: str) -> bytes:
@@ -247,7 +247,7 @@ def _pages(given: list[str], known: Known) -> Iterator[str]:
             continue
         if os.path.isfile(os.path.join(page, FILE)):
             known.add_file(f"{page}/{FILE}")
-        pages = list(pages_in(page))
+        pages = pages_in(page)
         if not pages:
             _refuse(f"there is no *.rst or *.txt in {page}")
         yield from pages
