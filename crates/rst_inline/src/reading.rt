@@ -16,7 +16,9 @@ ghost use Rattle.rst_inline.specs.Readings.{unended_phrase, unknown_role, plain_
 use super::elements::{element, text_nodes, uri_target};
 use super::embedded::{dark_end, embedded_at, enclosed, has_white, is_alias};
 use super::labels::label_reference;
-use super::references::{embedded_reference, outer_reference, reference, substitution};
+use super::references::{
+    alias_reference, embedded_reference, outer_reference, reference, substitution,
+};
 use super::roles::role_tag;
 use super::texts::{name_said, part, said, spell};
 use super::written::Written;
@@ -183,7 +185,7 @@ impl Written<'_> {
         ensures { Gives (λ reading. reading ≡ embedded_reading suffix (chars source.now) (chars shown.now) (chars meaning.now) is_alias self.now.line) result }
     {
         if is_alias {
-            let node = reference(self.alloc, Suffix::Named, source, shown, meaning, self.line)?;
+            let node = alias_reference(self.alloc, source, shown, meaning, self.line)?;
             return Ok(Meaning::One(node));
         }
         let node = embedded_reference(self.alloc, source, shown, meaning, self.line)?;
@@ -212,7 +214,7 @@ impl Written<'_> {
         }
         let shown = self.unescaped(piece.content_from, piece.content_to)?;
         let shown = shown.as_str();
-        let node = reference(self.alloc, suffix, source, shown, shown, self.line)?;
+        let node = reference(self.alloc, suffix, source, shown, self.line)?;
         Ok(Meaning::One(node))
     }
 
@@ -281,7 +283,7 @@ impl Written<'_> {
     {
         let source = self.part(piece.from, piece.to);
         let name = self.part(piece.content_from, piece.content_to);
-        let node = reference(self.alloc, suffix, source, name, name, self.line)?;
+        let node = reference(self.alloc, suffix, source, name, self.line)?;
         Ok(Meaning::One(node))
     }
 

@@ -1,8 +1,11 @@
 //! References, and the substitutions that they stand round.
-ghost use Rattle.std.specs.Prelude.{◌≡◌};
+ghost use Rattle.std.specs.Prelude.{◌≡◌, ◌∷◌, []};
 ghost use Rattle.std.specs.Str.{chars};
-ghost use Rattle.rst_inline.specs.Elements.{reference_attrs, reference_node, embedded_node, substitution_node, outer_attrs, outer_node};
+ghost use Rattle.rst_inline.specs.Elements.{reference_node, embedded_node, substitution_node, outer_attrs, outer_node};
+ghost use Rattle.rst_tree.specs.Attributes.{attr};
 ghost use Rattle.rst_tree.specs.Faults.{Gives};
+ghost use Rattle.rst_tree.specs.declared.key.Key.TheVariants.{Name, Rawsource, Refname};
+ghost use Rattle.rst_inline_scan.specs.declared.piece.Suffix.TheVariants.{Named};
 
 use super::elements::element;
 use super::texts::{both_said, name_said, normalized_said, said};
@@ -11,51 +14,57 @@ use rst_tree::{Attrs, Children, Entry, Key, Node, Result, Tag, Value};
 use std::alloc::Global;
 
 /// The attributes of a reference by a name, with room for the one that tells where it leads, once that is found.
-fn reference_attrs(
-    alloc: Global,
-    suffix: Suffix,
-    source: &str,
-    shown: &str,
-    name: &str,
-) -> Result<Vec<Entry>>
-    ensures { Gives (λ attrs. attrs.items ≡ reference_attrs suffix (chars source.now) (chars shown.now) (chars name.now)) result }
+fn named_attrs(alloc: Global, own: Value, written: Value, refname: Value) -> Result<Vec<Entry>>
+    ensures { Gives (λ attrs. attrs.items ≡ attr Name own ∷ attr Rawsource written ∷ attr Refname refname ∷ []) result }
 {
-    let written = said(alloc, source)?;
     let mut attrs = Vec::with_capacity(alloc, 4)?;
-    match suffix {
-        Suffix::Anonymous => {
-            let own = normalized_said(alloc, shown)?;
-            attrs.push_reserved(Entry::new(Key::Anonymous, Value::Number(1)));
-            attrs.push_reserved(Entry::new(Key::Name, own));
-            attrs.push_reserved(Entry::new(Key::Rawsource, written));
-        }
-        _ => {
-            // A phrase without an alias is its own name.
-            let (own, refname) = if shown == name {
-                both_said(alloc, shown)?
-            } else {
-                (normalized_said(alloc, shown)?, name_said(alloc, name)?)
-            };
-            attrs.push_reserved(Entry::new(Key::Name, own));
-            attrs.push_reserved(Entry::new(Key::Rawsource, written));
-            attrs.push_reserved(Entry::new(Key::Refname, refname));
-        }
-    }
+    attrs.push_reserved(Entry::new(Key::Name, own));
+    attrs.push_reserved(Entry::new(Key::Rawsource, written));
+    attrs.push_reserved(Entry::new(Key::Refname, refname));
     Ok(attrs)
 }
 
-/// A reference by a name, or an anonymous one.
+/// A reference by the name that it shows, or an anonymous one.
 pub(crate) fn reference(
     alloc: Global,
     suffix: Suffix,
     source: &str,
     shown: &str,
-    name: &str,
     line: usize,
 ) -> Result<Node>
-    ensures { Gives (λ node. node ≡ reference_node suffix (chars source.now) (chars shown.now) (chars name.now) line) result }
+    ensures { Gives (λ node. node ≡ reference_node suffix (chars source.now) (chars shown.now) (chars shown.now) line) result }
 {
-    let attrs = reference_attrs(alloc, suffix, source, shown, name)?;
+    let written = said(alloc, source)?;
+    let attrs = match suffix {
+        Suffix::Anonymous => {
+            let mut attrs = Vec::with_capacity(alloc, 4)?;
+            attrs.push_reserved(Entry::new(Key::Anonymous, Value::Number(1)));
+            attrs.push_reserved(Entry::new(Key::Name, normalized_said(alloc, shown)?));
+            attrs.push_reserved(Entry::new(Key::Rawsource, written));
+            attrs
+        }
+        _ => {
+            let (own, refname) = both_said(alloc, shown)?;
+            named_attrs(alloc, own, written, refname)?
+        }
+    };
+    element(alloc, Tag::Reference, attrs, shown, line)
+}
+
+/// A phrase with an embedded alias.
+pub(crate) fn alias_reference(
+    alloc: Global,
+    source: &str,
+    shown: &str,
+    alias: &str,
+    line: usize,
+) -> Result<Node>
+    ensures { Gives (λ node. node ≡ reference_node Named (chars source.now) (chars shown.now) (chars alias.now) line) result }
+{
+    let own = normalized_said(alloc, shown)?;
+    let written = said(alloc, source)?;
+    let refname = name_said(alloc, alias)?;
+    let attrs = named_attrs(alloc, own, written, refname)?;
     element(alloc, Tag::Reference, attrs, shown, line)
 }
 
