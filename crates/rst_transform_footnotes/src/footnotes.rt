@@ -16,7 +16,7 @@ use rst_transform_links::{
 };
 use rst_transform_names::{Holder, NameEntry, Names, Strength};
 use rst_transform_work::{Context, at_place, first_said, item_at, line_of, list_said, number_said};
-use rst_tree::{Entry, Key, Level, Node, Result, Tag, Text, Value};
+use rst_tree::{Attr, Key, Level, Node, Result, Tag, Text, Value};
 use std::alloc::Global;
 
 /// Numbers the footnotes, and lets the references find those that they find by the order (Markup Specification,
@@ -239,7 +239,7 @@ fn label_in(labels: &[Option<Text>], footnote: Option<usize>) -> Result<Option<T
 }
 
 /// What a reference says of the footnote at a place: its id.
-fn lead_to_footnote(alloc: Global, linked: &[Linked<'_>], footnote: usize) -> Result<Option<Entry>>
+fn lead_to_footnote(alloc: Global, linked: &[Linked<'_>], footnote: usize) -> Result<Option<Attr>>
     ensures { Gives (λ lead. lead ≡ lead_to_footnote (slice_get (map held linked.now) footnote)) result }
 {
     let Some(one) = linked.get(footnote) else {
@@ -267,7 +267,7 @@ fn with_number(
     node: &Node,
     labels: &[Option<Text>],
     place: usize,
-) -> Result<Option<Entry>>
+) -> Result<Option<Attr>>
     ensures { Gives (λ names. names ≡ with_number node.now (own_number node.now (at_place labels.now place))) result }
 {
     let Some(number) = own_number(node, labels, place) else {
@@ -275,5 +275,7 @@ fn with_number(
     };
     let mut names = list_said(alloc, node, Key::Names)?;
     names.push(number.copy()?)?;
-    Ok(Some(Entry::new(Key::Names, Value::List(names))))
+    let key = Key::Names;
+    let value = Value::List(names);
+    Ok(Some(Attr { key, value }))
 }

@@ -9,7 +9,7 @@ ghost use Rattle.rst_transform_work.specs.Reports.{report_in, IsReported, KeepsR
 
 use rst_transform_links::{Linked, Outcome, lead_of, text_attr};
 use rst_transform_work::{Context, first_said, has, line_of};
-use rst_tree::{Entry, Key, Level, Node, Result, Tag, Text};
+use rst_tree::{Attr, Key, Level, Node, Result, Tag, Text};
 use std::alloc::Global;
 
 /// Lets the n-th anonymous reference refer to the n-th anonymous target (Markup Specification, 'Anonymous Hyperlinks').
@@ -148,7 +148,7 @@ fn behind_first<'t, 'a>(targets: &'t [Linked<'a>]) -> &'t [Linked<'a>]
 }
 
 /// What a reference says of the first of some targets, if there is one.
-fn first_lead(alloc: Global, targets: &[Linked<'_>]) -> Result<Option<Entry>>
+fn first_lead(alloc: Global, targets: &[Linked<'_>]) -> Result<Option<Attr>>
     ensures { Gives (λ lead. lead ≡ first_lead (map held targets.entry.now)) result }
 {
     match targets.first() {
@@ -158,7 +158,7 @@ fn first_lead(alloc: Global, targets: &[Linked<'_>]) -> Result<Option<Entry>>
 }
 
 /// What a reference says of its target: where that leads, or its id, unless it is an indirect one.
-fn lead_to(alloc: Global, target: &Node) -> Result<Option<Entry>>
+fn lead_to(alloc: Global, target: &Node) -> Result<Option<Attr>>
     ensures { Gives (λ lead. lead ≡ lead_to target.now) result }
 {
     if let Some(attr) = lead_of(alloc, target)? {

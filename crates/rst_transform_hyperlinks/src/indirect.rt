@@ -16,7 +16,7 @@ use crate::chains::{Answer, Step, answers};
 use rst_transform_links::{Holders, Linked, Outcome, element_at, is_lost, is_target, lead_by_name};
 use rst_transform_names::{NameEntry, Names};
 use rst_transform_work::{Context, at_place, has, item_at, line_of, text_said};
-use rst_tree::{Key, Level, Node, Result, Tag, Text};
+use rst_tree::{Attr, Entry, Key, Level, Node, Result, Tag, Text};
 use std::alloc::Global;
 
 /// Lets each target that refers to a name lead where that name leads, through further such targets (Markup Specification,
@@ -101,7 +101,8 @@ fn own_step(names: &Names, holders: &Holders<'_>, node: &Node) -> Result<Option<
                 (Some(place), Some(node)) if is_indirect(node) => { Ok(Some(Step::To(place))) }
                 _ => {
                     let lead = lead_by_name(holders.alloc, known, holder)?;
-                    Ok(Some(Step::Ends(Answer::Leads(lead))))
+                    let attr = Entry::new(lead.key, lead.value);
+                    Ok(Some(Step::Ends(Answer::Leads(attr))))
                 }
             }
         }
@@ -234,7 +235,12 @@ fn led(alloc: Global, answer: &Answer) -> Result<Outcome>
     ensures { Gives (λ outcome. outcome ≡ led answer.now) result }
 {
     match answer {
-        Answer::Leads(attr) => Ok(Outcome::adds(Some(attr.copy(alloc)?))),
+        Answer::Leads(attr) => {
+            let attr = attr.copy(alloc)?;
+            let key = attr.key();
+            let value = attr.into_value();
+            Ok(Outcome::adds(Some(Attr { key, value })))
+        }
         Answer::Missing(_) | Answer::Circular => Ok(Outcome::adds(None)),
     }
 }

@@ -13,7 +13,7 @@ ghost use Rattle.rst_transform_work.specs.Reading.{number_said};
 use crate::links::Linked;
 use rst_transform_names::{Holder, NameEntry};
 use rst_transform_work::{number_said, put_at, text_said};
-use rst_tree::{Entry, Key, Node, Result, Tag, Text, Value};
+use rst_tree::{Attr, Key, Node, Result, Tag, Text, Value};
 use std::alloc::Global;
 
 /// The linked elements, and their places by their numbers.
@@ -77,16 +77,19 @@ pub fn is_lost(known: &NameEntry) -> bool
 }
 
 /// An attribute that is a text.
-pub fn text_attr(alloc: Global, key: Key, text: &str) -> Result<Entry>
-    ensures { Gives (λ entry. entry ≡ attr key (Words text.now)) result }
+#[inline(always)]
+pub fn text_attr(alloc: Global, key: Key, text: &str) -> Result<Attr>
+    ensures { Gives (λ said. said ≡ attr key (Words text.now)) result }
 {
     let text = Text::from_str(alloc, text)?;
-    Ok(Entry::new(key, Value::Text(text)))
+    let value = Value::Text(text);
+    Ok(Attr { key, value })
 }
 
 /// Where a target leads that isn't a place of its own: its `refuri` or else its `refid`, as an attribute for what refers to
 /// it.
-pub fn lead_of(alloc: Global, target: &Node) -> Result<Option<Entry>>
+#[inline(always)]
+pub fn lead_of(alloc: Global, target: &Node) -> Result<Option<Attr>>
     ensures { Gives (λ lead. lead ≡ lead_of target.now) result }
 {
     if let Some(uri) = text_said(target, Key::Refuri) {
@@ -108,7 +111,8 @@ pub fn is_target(node: &Node) -> bool
 
 /// Where a name leads by which another target isn't meant: to where its holder leads if that is a target, and else to the
 /// id of the element that brought the name. A target with a URI leads there though it has left the document.
-pub fn lead_by_name(alloc: Global, held: &NameEntry, holder: Option<&Node>) -> Result<Entry>
+#[inline(always)]
+pub fn lead_by_name(alloc: Global, held: &NameEntry, holder: Option<&Node>) -> Result<Attr>
     ensures { Gives (λ lead. lead ≡ name_lead (holding holder.entry) held.now.uri held.now.id) result }
 {
     if let Some(target) = holder.filter(|holder| is_target(holder)) {

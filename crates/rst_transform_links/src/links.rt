@@ -7,7 +7,7 @@ ghost use Rattle.rst_transform_links.specs.Links.{changed_document, is_idle};
 ghost use Rattle.rst_transform_links.specs.Outcomes.{adds, fails, stays};
 
 use rst_transform_work::{Document, ProblematicAttrs, take_source};
-use rst_tree::{Attrs, Children, Entry, Node, Result, Rewriter, Tag, Text, rewrite_in};
+use rst_tree::{Attr, Attrs, Children, Node, Result, Rewriter, Tag, Text, rewrite_in};
 use rst_tree_index::is_linked_tag;
 use std::alloc::Global;
 use std::collections::VecDeque;
@@ -27,7 +27,7 @@ pub enum Outcome {
     /// It stays. In the end it has this attribute, and shows this text in place of what stood in it, if there are such. What gets a text,
     /// a label or a reference to a footnote, holds no linked element.
     Stays {
-        attr: Option<Entry>,
+        attr: Option<Attr>,
         shown: Option<Text>,
     },
     /// It becomes a problematic of the message at this place among the reports once its turn comes, and stays till then.
@@ -38,7 +38,7 @@ pub enum Outcome {
 
 impl Outcome {
     /// It stays, and says this, if there is something.
-    pub fn adds(attr: Option<Entry>) -> Outcome
+    pub fn adds(attr: Option<Attr>) -> Outcome
         ensures { result ≡ adds attr }
     {
         Outcome::Stays { attr, shown: None }
@@ -175,7 +175,7 @@ impl Changes {
             None | Some(Outcome::Fails(_)) => Ok(true),
             Some(Outcome::Stays { attr, shown }) => {
                 if let Some(attr) = attr {
-                    attrs.set(attr.key(), attr.into_value())?;
+                    attrs.set(attr.key, attr.value)?;
                 }
                 let Some(text) = shown else {
                     return Ok(true);

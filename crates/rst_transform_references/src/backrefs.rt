@@ -12,7 +12,7 @@ use crate::meanings::{Meaning, meaning_to, refers_to_footnote_or_citation};
 use rst_transform_links::{Holders, Linked, Outcome, found_by_order};
 use rst_transform_names::Names;
 use rst_transform_work::{at_place, first_said};
-use rst_tree::{Entry, Key, Node, Result, Text, Texts, Value};
+use rst_tree::{Attr, Key, Node, Result, Text, Texts, Value};
 use std::alloc::Global;
 
 /// The place of the footnote or citation that an element refers to, by its name or by the order.
@@ -107,7 +107,9 @@ fn referred_to(ids: Texts, outcome: Outcome) -> Outcome
     if ids.as_slice().is_empty() {
         return outcome;
     }
-    Outcome::adds(Some(Entry::new(Key::Backrefs, Value::List(ids))))
+    let key = Key::Backrefs;
+    let value = Value::List(ids);
+    Outcome::adds(Some(Attr { key, value }))
 }
 
 /// Whether an element refers to a footnote or a citation.

@@ -8,17 +8,14 @@ ghost use Rattle.rst_transform_references.specs.Meanings.{held_meaning, is_footn
 
 use rst_transform_links::{Holders, Linked, element_at, is_lost, lead_by_name};
 use rst_transform_names::{NameEntry, Names};
-use rst_tree::{Entry, Key, Node, Result, Tag};
+use rst_tree::{Attr, Key, Node, Result, Tag};
 use std::alloc::Global;
 
 /// What a name means to a reference (Markup Specification, 'Hyperlink References').
 #[derive(Drop)]
 pub enum Meaning {
     /// It leads where the attribute says: to the footnote or citation at this place, if it is one.
-    Leads {
-        attr: Entry,
-        referent: Option<usize>,
-    },
+    Leads { attr: Attr, referent: Option<usize> },
     /// No element of the kind that is looked for has it.
     Unknown,
     /// Elements with equal names lost it.
@@ -36,6 +33,7 @@ fn is_footnote_or_citation(node: &Node) -> bool
 }
 
 /// Whether a node is a reference to a footnote or a citation.
+#[inline(always)]
 pub fn refers_to_footnote_or_citation(node: &Node) -> bool
     ensures { result ≡ refers_to_footnote_or_citation node.now }
 {
@@ -48,6 +46,7 @@ pub fn refers_to_footnote_or_citation(node: &Node) -> bool
 }
 
 /// The name of a reference by name.
+#[inline(always)]
 pub fn reference_name<'n>(node: &'n Node) -> Option<&'n str>
     ensures { MatchOption result (reference_name node.now ≡ None) (λ name. reference_name node.now ≡ Some name.now) }
 {
@@ -62,6 +61,7 @@ pub fn reference_name<'n>(node: &'n Node) -> Option<&'n str>
 }
 
 /// The place of a footnote or a citation, if the element there is one.
+#[inline(always)]
 fn referent_place(element: Option<&Node>, place: Option<usize>) -> Option<usize>
     ensures { result ≡ referent_place (holding element.entry) place }
 {
@@ -72,6 +72,7 @@ fn referent_place(element: Option<&Node>, place: Option<usize>) -> Option<usize>
 }
 
 /// What its name means to a reference by name; there is nothing for another element.
+#[inline(always)]
 pub fn meaning_to(names: &Names, holders: &Holders<'_>, element: &Node) -> Result<Option<Meaning>>
     ensures { Gives (λ meaning. meaning ≡ meaning_to (place_at holders.now.places.items) (map held holders.now.linked.now) (held_by names.now) element.now) result }
 {
