@@ -1,9 +1,9 @@
 /* Calls the library as a program in C would, for scripts/check_library.sh.
 
-     library print|json|messages REPORT HALT EXIT TAB LIMIT NO_TITLE NO_INFO SOURCE
+     library print|json|records|messages REPORT HALT EXIT TAB LIMIT NO_TITLE NO_INFO SOURCE
 
    reads a text from standard input and writes what the call makes of it: the tree or the JSON to standard output, the messages to standard
-   error. The status is the program's. If nothing was made it is 100 and the end of the call, and standard error has the end and its place. It
+   error. Of records it writes the tree that they show. The status is the program's. If nothing was made it is 100 and the end of the call, and standard error has the end and its place. It
    is 200 where the library breaks its word. Each call is made with no room, with rooms that are one byte too small, with exact ones and with
    larger ones: what doesn't fit must leave its room as it was, and nothing may be written behind a text.
 
@@ -68,6 +68,8 @@ static rst_result made(const struct call *call, struct room *first, struct room 
                   second->bytes, second->length, &result);
     else if (!strcmp(call->name, "json"))
         rst_json(call->text, call->text_length, &call->options, first->bytes, first->length, &result);
+    else if (!strcmp(call->name, "records"))
+        rst_records(call->text, call->text_length, &call->options, first->bytes, first->length, &result);
     else
         rst_messages(call->text, call->text_length, &call->options, first->bytes, first->length, &result);
     return result;
@@ -83,6 +85,118 @@ static void check(const struct call *call, const rst_result *told, size_t first_
         broken("two calls tell different results");
     if (!is_marked(first, told->length <= first_room ? told->length : 0) || !is_marked(second, told->messages <= second_room ? told->messages : 0))
         broken("a room was written where it should have stayed as it was");
+}
+
+/* Bytes of a room, from one place to another. */
+struct part {
+    const uint8_t *at, *end;
+};
+
+static uint64_t number_at(const uint8_t *at)
+{
+    uint64_t number = 0;
+    for (int i = 8; i-- > 0;)
+        number = number << 8 | at[i];
+    return number;
+}
+
+/* Bytes that stand behind their number, and within others. */
+static struct part part_at(const uint8_t *at, struct part whole)
+{
+    if (whole.end - at < 8 || number_at(at) > (uint64_t)(whole.end - at - 8))
+        broken("a record ends behind the one that holds it");
+    return (struct part){at + 8, at + 8 + number_at(at)};
+}
+
+static void print_part(struct part part) { fwrite(part.at, 1, (size_t)(part.end - part.at), stdout); }
+
+/* What an attribute says: its kind is the first byte. */
+static void print_value(struct part value)
+{
+    struct part text = {value.at + 1, value.end};
+    if (*value.at == RST_TEXT)
+        print_part(text);
+    else if (*value.at == RST_NUMBER && text.end - text.at == 8)
+        printf("%llu", (unsigned long long)number_at(text.at));
+    else if (*value.at == RST_TEXTS)
+        for (const uint8_t *at = text.at; at < text.end;) {
+            struct part member = part_at(at, text);
+            if (at > text.at)
+                putchar(' ');
+            for (at = member.at; at < member.end; at++)
+                printf("%s%c", *at == ' ' || *at == '\\' ? "\\" : "", *at);
+        }
+    else
+        broken("an attribute is of no kind");
+}
+
+static int is_named(struct part name, const char *text)
+{
+    return (size_t)(name.end - name.at) == strlen(text) && !memcmp(name.at, text, strlen(text));
+}
+
+/* The attributes, and the source in its place. */
+static void print_attributes(struct part attributes, const char *source)
+{
+    for (const uint8_t *at = attributes.at; at < attributes.end;) {
+        struct part attribute = part_at(at, attributes), name = part_at(attribute.at, attribute);
+        if (source && is_named(name, "type")) {
+            printf(" source=\"%s\"", source);
+            source = NULL;
+        }
+        putchar(' ');
+        print_part(name);
+        fputs("=\"", stdout);
+        print_value((struct part){name.end, attribute.end});
+        putchar('"');
+        at = attribute.end;
+    }
+    if (source)
+        printf(" source=\"%s\"", source);
+}
+
+static void print_text(struct part text, int level)
+{
+    for (const uint8_t *at = text.at; at < text.end;) {
+        const uint8_t *end = memchr(at, '\n', (size_t)(text.end - at));
+        struct part line = {at, end ? end : text.end};
+        printf("%*s", 4 * level, "");
+        print_part(line);
+        putchar('\n');
+        at = line.end + 1;
+    }
+}
+
+/* A node and the nodes in it, as the program prints them. */
+static void print_node(struct part node, const char *source, int level)
+{
+    if (*node.at == RST_TEXT) {
+        print_text((struct part){node.at + 1, node.end}, level);
+        return;
+    }
+    struct part tag = part_at(node.at + 9, node), attributes = part_at(tag.end, node);
+    printf("%*s<", 4 * level, "");
+    print_part(tag);
+    print_attributes(attributes, is_named(tag, "document") || is_named(tag, "system_message") ? source : NULL);
+    puts(">");
+    for (const uint8_t *at = attributes.end; at < node.end;) {
+        struct part inner = part_at(at, node);
+        print_node(inner, source, level + 1);
+        at = inner.end;
+    }
+}
+
+static void show(const struct call *call, const struct room *made)
+{
+    struct part whole = {made->bytes, made->bytes + made->length};
+    if (strcmp(call->name, "records")) {
+        print_part(whole);
+        return;
+    }
+    struct part document = part_at(whole.at, whole);
+    if (document.end != whole.end)
+        broken("there are bytes behind the document");
+    print_node(document, call->source, 0);
 }
 
 static int told_of(const struct call *call)
@@ -113,7 +227,7 @@ static int told_of(const struct call *call)
     check(call, &told, told.length, told.messages, &exact, &exact_second);
     if (memcmp(first.bytes, exact.bytes, told.length) || memcmp(second.bytes, exact_second.bytes, told.messages))
         broken("two calls make different texts");
-    fwrite(exact.bytes, 1, told.length, stdout);
+    show(call, &exact);
     fwrite(exact_second.bytes, 1, told.messages, stderr);
     free(first.bytes);
     free(second.bytes);
@@ -141,10 +255,10 @@ static const char TEXT[] = "Title\n=====\n\nA *word and a link_.\n\n- an item\n\
 
 static void *calls(void *unused)
 {
-    static const char *const NAMES[] = {"print", "json", "messages"};
+    static const char *const NAMES[] = {"print", "json", "records", "messages"};
     (void)unused;
     for (int i = 0; i < 300; i++) {
-        struct call call = {NAMES[i % 3], (const uint8_t *)TEXT, sizeof TEXT - 1, "a", RST_OPTIONS};
+        struct call call = {NAMES[i % 4], (const uint8_t *)TEXT, sizeof TEXT - 1, "a", RST_OPTIONS};
         struct room first = marked(4096), second = marked(4096);
         rst_result told = made(&call, &first, &second);
         if (told.end != RST_DONE || told.status || !told.length || !is_marked(&first, told.length))
@@ -219,10 +333,10 @@ static int fails_at(const struct call *call, long number, const rst_result *whol
 
 static int allocations(void)
 {
-    static const char *const NAMES[] = {"print", "json", "messages"};
+    static const char *const NAMES[] = {"print", "json", "records", "messages"};
     struct room text = all_of(stdin);
     long count = 0;
-    for (int i = 0; i < 3; i++) {
+    for (int i = 0; i < 4; i++) {
         struct call call = {NAMES[i], text.bytes, text.length, "a", RST_OPTIONS};
         struct room none = {NULL, 0};
         rst_result whole = made(&call, &none, &none);

@@ -4,7 +4,7 @@
 Each LIBRARY is library.c, compiled with the library (scripts/check_library.sh does that); it runs with a stack of 2 MiB. The texts are the
 inputs of the worked rows, with their options, pages of docs/, mutated in the way of bench/fuzz.py, and tables inside one another. For each
 text it checks that `print` gives the program's output, its messages and its status, or an end where the program refuses the text; that
-`json` is JSON that shows the same tree, and `messages` JSON that shows the same messages. The program is the one that scripts/program.sh
+`json` is JSON that shows the same tree, `records` are records that show it, and `messages` JSON that shows the same messages. The program is the one that scripts/program.sh
 finds.
 """
 
@@ -108,13 +108,16 @@ class Comparison:
         end = wanted_end(done.stderr)
         if end:
             refused = (b"", b"end %d at %d\n" % end[1:], end[0])
-            return next((name for name in ("print", "json", "messages") if self.call(name, words, text) != refused), None)
+            return next((name for name in ("print", "json", "records", "messages") if self.call(name, words, text) != refused), None)
         if self.call("print", words, text) != (done.stdout, done.stderr, done.returncode):
             return "print"
         out, err, status = self.call("json", words, text)
         halted = done.returncode == 1
-        if err or status != done.returncode or not halted and "\n".join(printed(json.loads(out), "<stdin>")) + "\n" != done.stdout.decode():
+        tree = "".join(f"{line}\n" for line in printed(json.loads(out), "<stdin>")).encode()
+        if err or status != done.returncode or not halted and tree != done.stdout:
             return "json"
+        if self.call("records", words, text) != (tree, b"", done.returncode):
+            return "records"
         out, err, status = self.call("messages", words, text)
         shown = messages(json.loads(out), "<stdin>")
         rest = done.stderr.decode().removeprefix(shown)

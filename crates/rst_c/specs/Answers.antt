@@ -7,8 +7,11 @@ use Rattle.rst_c.specs.declared.answer.Refusal.{Refusal}
 use Rattle.rst_c.specs.declared.answer.Refusal.TheVariants.{Options, Source, Text}
 use Rattle.rst_c.specs.declared.answer.RstResult.{RstResult}
 use Rattle.rst_c.specs.declared.answer.Made.{Made}
+use Rattle.rst_c.specs.declared.document.Form.{Form}
+use Rattle.rst_c.specs.declared.document.Form.TheVariants.{DocumentJson, DocumentRecords, MessagesJson}
 use Rattle.rst_c.specs.declared.options.RstOptions.{RstOptions}
 use Rattle.rst_json.specs.Json.{json_array, json_node, json_note}
+use Rattle.rst_json.specs.Records.{node_record}
 use Rattle.rst_settings.specs.Profile.{profile_of}
 use Rattle.rst_settings.specs.declared.Settings.{Settings}
 use Rattle.rst_text.specs.Counted.{inner_of}
@@ -45,16 +48,14 @@ left_of settings bytes = if nat_lt 16777216 (length bytes) then Err TooLong else
 
 -- ---- what a call makes of it: two texts and a status
 
-abbrev pub json_parts : Settings → List Note → List ℕ → Parts
-json_parts settings notes json = record { out = json; err = []; status = ended_by settings notes (halting settings notes) }
+-- the document with the attributes that it is printed with, but for its source; or the messages that are reported
+abbrev pub bytes_as : Form → Settings → Node × List Note → List ℕ
+bytes_as DocumentJson settings left = json_node (with_printed_attrs None left.0)
+bytes_as DocumentRecords settings left = node_record (with_printed_attrs None left.0)
+bytes_as MessagesJson settings left = json_array (map json_note (filter (is_reported settings) left.1))
 
--- the document with the attributes that it is printed with, but for its source
-abbrev pub document_json : Settings → Node × List Note → Parts
-document_json settings left = json_parts settings left.1 (json_node (with_printed_attrs None left.0))
-
--- the messages that are reported
-abbrev pub messages_json : Settings → Node × List Note → Parts
-messages_json settings left = json_parts settings left.1 (json_array (map json_note (filter (is_reported settings) left.1)))
+abbrev pub parts_as : Form → Settings → Node × List Note → Parts
+parts_as form settings left = record { out = bytes_as form settings left; err = []; status = ended_by settings left.1 (halting settings left.1) }
 
 -- ---- what a call makes, or why it makes nothing
 
@@ -65,9 +66,10 @@ abbrev pub made_by : (Node × List Note → Parts) → Left → Wanted
 made_by makes (Ok left) = Ok (makes left)
 made_by makes (Err end) = Err (Text end)
 
-abbrev pub json_wanted : (Settings → Node × List Note → Parts) → Option Settings → List ℕ → Wanted
-json_wanted makes None text = Err Options
-json_wanted makes (Some settings) text = made_by (makes settings) (left_of settings text)
+-- what a form shows of a text
+abbrev pub form_wanted : Form → Option Settings → List ℕ → Wanted
+form_wanted form None text = Err Options
+form_wanted form (Some settings) text = made_by (parts_as form settings) (left_of settings text)
 
 abbrev pub shown_of : Result Parts End → Wanted
 shown_of (Ok parts) = Ok parts
@@ -101,7 +103,7 @@ answer_of (Err refusal) = failed_by refusal
 abbrev pub filled : List ℕ → List ℕ → List ℕ
 filled text room = if nat_le (length text) (length room) then text ++ drop (length text) room else room
 
--- the room for the tree, or for JSON, after a call
+-- the room for the tree, for JSON or for records, after a call
 abbrev pub tree_after : Wanted → List ℕ → List ℕ
 tree_after (Ok parts) room = filled parts.out room
 tree_after (Err refusal) room = room

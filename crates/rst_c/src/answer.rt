@@ -17,13 +17,13 @@ pub struct RstResult {
     pub status: u32,
     /// For a text that isn't UTF-8 how many bytes its longest front has that is; for one that is nested too deeply the number of the line; else 0.
     pub at: u64,
-    /// How many bytes the tree or the JSON has; 0 where it wasn't made.
+    /// How many bytes the tree, the JSON or the records have; 0 where none were made.
     pub length: u64,
     /// How many bytes the messages have, where they were made beside the tree; else 0.
     pub messages: u64,
 }
 
-/// What a call made: the tree with the messages beside it, or JSON with none; and the exit status of the program.
+/// What a call made: the tree with the messages beside it, or JSON or records with none; and the exit status of the program.
 #[derive(Drop)]
 pub struct Made {
     pub tree: Counted<Vec<u8>>,

@@ -1,13 +1,12 @@
 //! The document of a text, and what is made of it.
 ghost use Rattle.std.specs.Prelude.{◌≡◌, ◌≤◌, IfOk, filter, map};
-ghost use Rattle.rst_c.specs.Answers.{json_wanted, made_of, print_wanted, Finds, Makes};
-ghost use Rattle.rst_c.specs.Answers as spec;
+ghost use Rattle.rst_c.specs.Answers.{bytes_as, form_wanted, made_of, print_wanted, Finds, Makes};
 ghost use Rattle.rst_json.specs.Json.{json_array, json_note};
 ghost use Rattle.rst_transform_messages.specs.Messages.{highest_level};
 ghost use Rattle.rst2pseudoxml_run.specs.Shown as shown;
 
 use crate::answer::{Made, Refusal};
-use rst_json::{enclose, put_node, put_note};
+use rst_json::{enclose, put_node, put_note, put_record};
 use rst_settings::Settings;
 use rst_text::Counted;
 use rst_transform::Finished;
@@ -50,22 +49,33 @@ pub fn printed(
     }
 }
 
-/// The finished document of a text as JSON.
-pub fn document_json(
+/// What a call makes of a finished document beside the printed one.
+#[derive(Clone, Copy, Debug, PartialEq, Eq)]
+pub enum Form {
+    /// The document as JSON.
+    DocumentJson,
+    /// The document as records.
+    DocumentRecords,
+    /// The messages that are reported, as JSON.
+    MessagesJson,
+}
+
+/// What a form shows of a text.
+pub fn formed(
     alloc: Global,
     text: &[u8],
     settings: Option<Settings>,
+    form: Form,
 ) -> Result<Made, Refusal>
-    ensures { Makes (json_wanted spec.document_json settings text.now) (made_of result) }
+    ensures { Makes (form_wanted form settings text.now) (made_of result) }
 {
     let Some(settings) = settings else {
         return Err(Refusal::Options);
     };
     let finished = finished_of(alloc, text, &settings)?;
-    let mut json = Vec::new(alloc);
-    match put_node(alloc, &finished.document, &mut json) {
-        Ok(()) => Ok(Made {
-            tree: Counted::of(json),
+    match bytes_as(alloc, &finished, &settings, form) {
+        Ok(bytes) => Ok(Made {
+            tree: Counted::of(bytes),
             messages: Counted::of(Vec::new(alloc)),
             status: ended_by(&finished, &settings),
         }),
@@ -73,25 +83,26 @@ pub fn document_json(
     }
 }
 
-/// The messages on a text as JSON: those that are reported.
-pub fn messages_json(
+/// The bytes of a form.
+fn bytes_as(
     alloc: Global,
-    text: &[u8],
-    settings: Option<Settings>,
-) -> Result<Made, Refusal>
-    ensures { Makes (json_wanted spec.messages_json settings text.now) (made_of result) }
+    finished: &Finished,
+    settings: &Settings,
+    form: Form,
+) -> Result<Vec<u8>, TreeFault>
+    ensures { IfOk result (λ bytes. bytes.items ≡ bytes_as form settings.now (finished.now.document, finished.now.notes.items)) }
 {
-    let Some(settings) = settings else {
-        return Err(Refusal::Options);
-    };
-    let finished = finished_of(alloc, text, &settings)?;
-    match notes_json(alloc, finished.notes.as_slice(), &settings) {
-        Ok(json) => Ok(Made {
-            tree: Counted::of(json),
-            messages: Counted::of(Vec::new(alloc)),
-            status: ended_by(&finished, &settings),
-        }),
-        Err(_) => Err(Refusal::Text(End::NoMemory)),
+    let mut bytes = Vec::new(alloc);
+    match form {
+        Form::DocumentJson => {
+            put_node(alloc, &finished.document, &mut bytes)?;
+            Ok(bytes)
+        }
+        Form::DocumentRecords => {
+            put_record(alloc, &finished.document, &mut bytes)?;
+            Ok(bytes)
+        }
+        Form::MessagesJson => notes_json(alloc, finished.notes.as_slice(), settings),
     }
 }
 

@@ -2,14 +2,15 @@
 #![tactic(auto)]
 
 ghost use Rattle.std.specs.Prelude.{◌≡◌};
-ghost use Rattle.rst_c.specs.Answers.{answer_of, document_json, json_wanted, messages_after, messages_json, print_wanted, tree_after, Answers};
+ghost use Rattle.rst_c.specs.Answers.{answer_of, form_wanted, messages_after, print_wanted, tree_after, Answers};
+ghost use Rattle.rst_c.specs.declared.document.Form.TheVariants.{DocumentJson, DocumentRecords, MessagesJson};
 
 mod answer;
 mod document;
 mod options;
 
 use answer::{RstResult, tell};
-use document::{document_json, messages_json, printed};
+use document::{Form, formed, printed};
 use options::RstOptions;
 use std::alloc::Global;
 
@@ -48,11 +49,27 @@ pub extern "C" fn rst_json(
     json: &mut [u8],
     answer: &mut RstResult,
 )
-    ensures { Answers options.now (λ settings. json_wanted document_json settings text.now)
+    ensures { Answers options.now (λ settings. form_wanted DocumentJson settings text.now)
         (λ made. (answer.new ≡ answer_of made) × (json.new ≡ tree_after made json.old)) }
 {
-    let made = document_json(alloc, text, options.settings());
+    let made = formed(alloc, text, options.settings(), Form::DocumentJson);
     *answer = tell(&made, json, &mut []);
+}
+
+/// The finished document of a text as records, if they fit.
+#[unsafe(no_mangle)]
+pub extern "C" fn rst_records(
+    alloc: Global,
+    text: &[u8],
+    options: &RstOptions,
+    records: &mut [u8],
+    answer: &mut RstResult,
+)
+    ensures { Answers options.now (λ settings. form_wanted DocumentRecords settings text.now)
+        (λ made. (answer.new ≡ answer_of made) × (records.new ≡ tree_after made records.old)) }
+{
+    let made = formed(alloc, text, options.settings(), Form::DocumentRecords);
+    *answer = tell(&made, records, &mut []);
 }
 
 /// The messages on a text as JSON, if they fit: those that are reported, in their order.
@@ -64,10 +81,10 @@ pub extern "C" fn rst_messages(
     json: &mut [u8],
     answer: &mut RstResult,
 )
-    ensures { Answers options.now (λ settings. json_wanted messages_json settings text.now)
+    ensures { Answers options.now (λ settings. form_wanted MessagesJson settings text.now)
         (λ made. (answer.new ≡ answer_of made) × (json.new ≡ tree_after made json.old)) }
 {
-    let made = messages_json(alloc, text, options.settings());
+    let made = formed(alloc, text, options.settings(), Form::MessagesJson);
     *answer = tell(&made, json, &mut []);
 }
 

@@ -1,1 +1,4 @@
 pub mod JsonLemmas
+pub mod NameLemmas
+pub mod ReaderLemmas
+pub mod RecordLemmas

@@ -1,1 +1,3 @@
 pub mod Json
+pub mod Reader
+pub mod Records

@@ -60,7 +60,7 @@ fn put_printed_attrs(
 }
 
 /// The attributes of a message with its line and its type.
-fn message_attrs(alloc: Global, attrs: &Attrs, line: usize) -> Result<Attrs>
+pub fn message_attrs(alloc: Global, attrs: &Attrs, line: usize) -> Result<Attrs>
     ensures { Gives (λ printed. printed ≡ printed_attrs None SystemMessage attrs.now line) result }
 {
     let mut printed = attrs.copy(alloc)?;
@@ -101,7 +101,7 @@ fn put_attr(attr: &Entry, out: &mut Vec<u8>) -> Result<()>
 }
 
 /// The name of an attribute, which stands between a space and two bytes more where it is printed.
-fn name_of(key: Key) -> &'static [u8]
+pub fn name_of(key: Key) -> &'static [u8]
     ensures { result.now ≡ key_name key }
 {
     let opening = key.opening().as_bytes();

@@ -1,0 +1,138 @@
+//! Trees as records.
+
+ghost use Rattle.std.specs.Prelude.{◌≡◌, ◌≤◌, ◌+◌, ◌++◌, length, None, take, drop};
+ghost use Rattle.std.specs.List.{flat_map};
+ghost use Rattle.rst_json.specs.Json.{Adds};
+ghost use Rattle.rst_json.specs.Records.{attr_record, node_record, sized, value_record, word};
+ghost use Rattle.rst_tree.specs.Entries.{said};
+ghost use Rattle.rst_tree.specs.PrintedAttributes.{printed_attrs, with_printed_attrs};
+
+use crate::element::{message_attrs, name_of};
+use rst_tree::{Attrs, Entry, Node, Result, Said, Tag};
+use std::alloc::Global;
+
+/// Puts a node behind its length: a text; or an element with its line, its tag, the attributes that it is printed with, and its nodes.
+pub fn put_record(alloc: Global, node: &Node, out: &mut Vec<u8>) -> Result<()>
+    ensures { Adds out.old.items out.new.items (node_record (with_printed_attrs None node.now)) result }
+{
+    let start = out.len();
+    put_word(0, out)?;
+    match node {
+        Node::Text(text) => {
+            out.push(0)?;
+            out.extend_from_slice(text.as_bytes())?;
+            seal(start, out);
+            Ok(())
+        }
+        Node::Element {
+            tag,
+            attrs,
+            children,
+            line,
+        } => {
+            out.push(1)?;
+            put_word(*line as u64, out)?;
+            put_sized(tag.name().as_bytes(), out)?;
+            put_printed_attrs(alloc, *tag, attrs, *line, out)?;
+            for child in children.as_slice() {
+                put_record(alloc, child, out)?;
+            }
+            seal(start, out);
+            Ok(())
+        }
+    }
+}
+
+/// Puts the attributes that an element is printed with: a message has its line and its type, too.
+fn put_printed_attrs(
+    alloc: Global,
+    tag: Tag,
+    attrs: &Attrs,
+    line: usize,
+    out: &mut Vec<u8>,
+) -> Result<()>
+    ensures { Adds out.old.items out.new.items (sized (flat_map attr_record (printed_attrs None tag attrs.now line))) result }
+{
+    match tag {
+        Tag::SystemMessage => put_attrs(message_attrs(alloc, attrs, line)?.as_slice(), out),
+        _ => put_attrs(attrs.as_slice(), out),
+    }
+}
+
+/// Puts the attributes behind their length, without those that aren't shown.
+fn put_attrs(attrs: &[Entry], out: &mut Vec<u8>) -> Result<()>
+    ensures { Adds out.old.items out.new.items (sized (flat_map attr_record attrs.now)) result }
+{
+    let start = out.len();
+    put_word(0, out)?;
+    for attr in attrs {
+        put_attr(attr, out)?;
+    }
+    seal(start, out);
+    Ok(())
+}
+
+/// Puts an attribute behind its length, unless it isn't shown.
+fn put_attr(attr: &Entry, out: &mut Vec<u8>) -> Result<()>
+    ensures { Adds out.old.items out.new.items (attr_record attr.now) result }
+{
+    if attr.is_left_out() {
+        return Ok(());
+    }
+    let start = out.len();
+    put_word(0, out)?;
+    put_sized(name_of(attr.key()), out)?;
+    put_said(attr.said(), out)?;
+    seal(start, out);
+    Ok(())
+}
+
+/// Puts what an attribute says behind its kind.
+fn put_said(said: Said, out: &mut Vec<u8>) -> Result<()>
+    ensures { Adds out.old.items out.new.items (value_record (said said)) result }
+{
+    match said {
+        Said::Text(text) => {
+            out.push(0)?;
+            out.extend_from_slice(text.as_bytes())?;
+            Ok(())
+        }
+        Said::Number(number) => {
+            out.push(1)?;
+            put_word(number, out)
+        }
+        Said::List(texts) => {
+            out.push(2)?;
+            for text in texts {
+                put_sized(text.as_bytes(), out)?;
+            }
+            Ok(())
+        }
+    }
+}
+
+/// Puts some bytes behind their number.
+fn put_sized(bytes: &[u8], out: &mut Vec<u8>) -> Result<()>
+    ensures { Adds out.old.items out.new.items (sized bytes.now) result }
+{
+    put_word(bytes.len() as u64, out)?;
+    out.extend_from_slice(bytes)?;
+    Ok(())
+}
+
+/// Puts a number in eight bytes, the lowest first.
+fn put_word(number: u64, out: &mut Vec<u8>) -> Result<()>
+    ensures { Adds out.old.items out.new.items (word number) result }
+{
+    out.extend_from_slice(&number.to_le_bytes())?;
+    Ok(())
+}
+
+/// Tells in the eight bytes at a place how many bytes are behind them.
+fn seal(start: usize, out: &mut Vec<u8>)
+    requires { start + 8 ≤ length out.old.items }
+    ensures { out.new.items ≡ take start out.old.items ++ sized (drop (start + 8) out.old.items) }
+{
+    let length = out.len() - start - 8;
+    out[start..start + 8].copy_from_slice(&(length as u64).to_le_bytes());
+}
