@@ -57,7 +57,7 @@ typedef struct rst_result {
     uint32_t end;      /* one of rst_end */
     uint32_t status;   /* the program's exit status, if RST_DONE: 0, 1 if a message halts the run, 11 to 14; else 0 */
     uint64_t at;       /* see RST_NOT_UTF8, RST_TOO_DEEP; else 0 */
-    uint64_t length;   /* bytes of the tree, or of the JSON, if RST_DONE; else 0 */
+    uint64_t length;   /* bytes of the tree, of the JSON or of the records, if RST_DONE; else 0 */
     uint64_t messages; /* bytes of the messages (rst_print), if RST_DONE; else 0 */
 } rst_result;
 
@@ -72,6 +72,33 @@ void rst_print(const uint8_t *text, size_t text_length, const uint8_t *source, s
 /* The finished document as JSON: a text is a string, an element is [tag, line, {attributes}, children..]. It is whole also if a message
    halts the run. docs/JSON.md describes it. */
 void rst_json(const uint8_t *text, size_t text_length, const rst_options *options, uint8_t *json, size_t json_room, rst_result *result);
+
+/* The finished document as records, to be walked without reading a text: the tree of rst_json, whole also if a message halts the run. Numbers
+   are of 8 bytes, the lowest first; lengths are in bytes; texts are UTF-8 without a NUL; nothing is aligned. The record of a node is
+
+       8 bytes     length of what follows: the next sibling, or the end of the element around, is right behind it
+       1 byte      RST_TEXT or RST_ELEMENT
+     and for a text
+       the rest    the text
+     and for an element
+       8 bytes     line, counted from 1; 0 where it has none
+       8 bytes     length of the tag, and then the tag
+       8 bytes     length of the attributes, and then the attributes, in the order of their names, each as
+         8 bytes   length of what follows
+         8 bytes   length of the name, and then the name
+         1 byte    RST_TEXT, RST_NUMBER or RST_TEXTS
+         the rest  the text; the number; or the texts, each behind its length in 8 bytes
+       the rest    the records of its nodes, one behind another
+
+   So a walk forwards meets the nodes in the order of the text. docs/RECORDS.md has an example. The room may be freed or used anew at any
+   time: the records point to nothing else. */
+enum rst_kind {
+    RST_TEXT = 0,
+    RST_ELEMENT = 1, /* of nodes */
+    RST_NUMBER = 1,  /* of attributes */
+    RST_TEXTS = 2
+};
+void rst_records(const uint8_t *text, size_t text_length, const rst_options *options, uint8_t *records, size_t records_room, rst_result *result);
 
 /* The messages as JSON, in the order in which the program shows them, those that --report and --halt leave: a list of
    {"line": 3, "level": 2, "type": "WARNING", "text": ".."}; "block" holds the source text of a message that has one, else it is absent. */

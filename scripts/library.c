@@ -135,12 +135,19 @@ static int is_named(struct part name, const char *text)
     return (size_t)(name.end - name.at) == strlen(text) && !memcmp(name.at, text, strlen(text));
 }
 
-/* The attributes, and the source in its place. */
+static int is_behind(struct part name, const char *text)
+{
+    size_t length = (size_t)(name.end - name.at), other = strlen(text);
+    int order = memcmp(name.at, text, length < other ? length : other);
+    return order > 0 || (order == 0 && length > other);
+}
+
+/* The attributes, and the source in its place by the order of the names. */
 static void print_attributes(struct part attributes, const char *source)
 {
     for (const uint8_t *at = attributes.at; at < attributes.end;) {
         struct part attribute = part_at(at, attributes), name = part_at(attribute.at, attribute);
-        if (source && is_named(name, "type")) {
+        if (source && is_behind(name, "source")) {
             printf(" source=\"%s\"", source);
             source = NULL;
         }

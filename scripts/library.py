@@ -4,8 +4,8 @@
 Each LIBRARY is library.c, compiled with the library (scripts/check_library.sh does that); it runs with a stack of 2 MiB. The texts are the
 inputs of the worked rows, with their options, pages of docs/, mutated in the way of bench/fuzz.py, and tables inside one another. For each
 text it checks that `print` gives the program's output, its messages and its status, or an end where the program refuses the text; that
-`json` is JSON that shows the same tree, `records` are records that show it, and `messages` JSON that shows the same messages. The program is the one that scripts/program.sh
-finds.
+`json` is JSON that shows the same tree, that the records show it too (library.c prints the tree from them), and that `messages` is JSON that
+shows the same messages. The program is the one that scripts/program.sh finds.
 """
 
 import concurrent.futures

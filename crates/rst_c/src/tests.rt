@@ -1,7 +1,7 @@
 //! Each export once, over a document whose tree, JSON and messages are known.
 use crate::answer::RstResult;
 use crate::options::RstOptions;
-use crate::{rst_abi_version, rst_json, rst_messages, rst_print};
+use crate::{rst_abi_version, rst_json, rst_messages, rst_print, rst_records};
 use std::test::Fail;
 
 const OPTIONS: RstOptions = RstOptions {
@@ -42,6 +42,12 @@ const JSON: &str = "[\"document\",0,{},[\"paragraph\",1,{},\"A \",[\"emphasis\",
 
 const NOTES: &str =
     "[{\"line\":3,\"level\":2,\"type\":\"WARNING\",\"text\":\"Inline emphasis start-string without end-string.\"}]";
+
+/// The records of `a`: a document, a paragraph at line 1, and the text.
+const RECORDS: &[u8] = b"\
+\x55\0\0\0\0\0\0\0\x01\0\0\0\0\0\0\0\0\x08\0\0\0\0\0\0\0document\0\0\0\0\0\0\0\0\
+\x2c\0\0\0\0\0\0\0\x01\x01\0\0\0\0\0\0\0\x09\0\0\0\0\0\0\0paragraph\0\0\0\0\0\0\0\0\
+\x02\0\0\0\0\0\0\0\0a";
 
 /// What a result holds before a call.
 fn before() -> RstResult {
@@ -90,6 +96,15 @@ fn gives_json(rt: HostRuntime) -> Result<(), Fail> {
     assert_eq!(rt; front(&json, answer.length)?, JSON);
     assert_eq!(rt; answer.status, 12);
     Ok(())
+}
+
+#[test]
+fn gives_records(rt: HostRuntime) {
+    let (mut records, mut answer) = ([7u8; 100], before());
+    rst_records(rt.alloc(), b"a\n", &OPTIONS, &mut records, &mut answer);
+    assert_eq!(rt; answer.end, 0);
+    assert_eq!(rt; answer.length, 93);
+    assert_eq!(rt; &records[..93], RECORDS);
 }
 
 #[test]

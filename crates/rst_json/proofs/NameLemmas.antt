@@ -1,5 +1,5 @@
 -- Each tag and each attribute is found by its name.
-use Rattle.std.proofs.Common.{◌≡◌, ℕ, ◌+◌, ◌<◌, ◌≤◌, List, [], ◌∷◌, length, Bool, true, false, ◌==◌, Option, Some, None, find, bytes_eq, refl, sym, ap, ◌∙◌, arith, eqb-true, subst, lit≤}
+use Rattle.std.proofs.Common.{◌≡◌, ℕ, ◌+◌, ◌<◌, ◌≤◌, List, [], ◌∷◌, length, Bool, true, false, ◌==◌, Option, Some, None, refl, sym, ap, ◌∙◌, arith, eqb-true, subst, lit≤}
 use Rattle.std.specs.Prelude.{◌&&◌}
 use borrow.Author.Tests.{eqb-false}
 use denote.Enum.Bare.{Bare, same_true, sameb, tag_one}

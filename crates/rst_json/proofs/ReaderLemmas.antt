@@ -1,24 +1,22 @@
 -- What the reader makes of the JSON of a tree.
-use Rattle.std.proofs.Common.{◌≡◌, ℕ, ◌+◌, ◌*◌, ◌/◌, ◌%◌, ◌^◌, ◌<◌, ◌≤◌, List, [], ◌∷◌, ◌++◌, length, Bool, true, false, not, cond, nat_lt, ◌==◌, if◌then◌else◌, Option, Some, None, option_map, map, filter, All, decimal, refl, sym, ap, ◌∙◌, append_assoc, append-nil, zero-add, arith, eqb-true, ne_eqb, lt-ltb, ltb-true, zero, suc, codes, flat_map}
+use Rattle.std.proofs.Common.{◌≡◌, ℕ, ◌+◌, ◌*◌, ◌/◌, ◌%◌, ◌^◌, ◌<◌, List, [], ◌∷◌, ◌++◌, length, Bool, true, false, not, cond, nat_lt, ◌==◌, if◌then◌else◌, Some, map, All, decimal, refl, sym, ap, ◌∙◌, append_assoc, append-nil, zero-add, arith, eqb-true, ne_eqb, lt-ltb, ltb-true, suc, codes, flat_map}
 use Rattle.std.proofs.lemmas.Fmt.{decimal_is_IsNumeral}
 use Rattle.std.proofs.lemmas.Str.{digit_value-digit_char}
 use Rattle.std.proofs.lemmas.Str.Parse.{digit_from_value}
 use Rattle.std.specs.Char.{digit_value, is_digit}
 use Rattle.std.specs.Str.Parse.{AllDigits, digits_value, digits_value_after}
-use Rattle.rst_json.specs.Json.{behind_comma, control, escaped_byte, hex, json_array, json_attr, json_element, json_member, json_node, json_nodes, json_object, json_string, json_value, parted}
-use Rattle.rst_json.specs.Reader.{AreWithin, Items, IsWithin, Place, all_shown, array, array_end, attrs_read, between, broken, colon, comma, digits, escape, in_front, items_of, led, lone, node_read, nodes_read, number, object, object_end, opened, quoted, reads, shown, shown_attrs, string, texts_read, ReadsBack, ShowsOneTree}
+use Rattle.rst_json.specs.Json.{behind_comma, control, escaped_byte, hex, json_attr, json_element, json_member, json_nodes, json_object, json_string, json_value, parted}
+use Rattle.rst_json.specs.Reader.{AreWithin, Items, IsWithin, all_shown, array, array_end, attrs_read, between, colon, comma, digits, in_front, items_of, led, lone, node_read, nodes_read, number, object, object_end, opened, quoted, reads, shown_attrs, string, texts_read, ReadsBack, ShowsOneTree}
 use Rattle.rst_json.proofs.NameLemmas.{key_found, tag_found}
 use Rattle.rst_tree.specs.declared.attrs.Attr.{Attr}
 use Rattle.rst_tree.specs.declared.attrs.Value.{Value}
 use Rattle.rst_tree.specs.declared.attrs.Value.TheVariants.{Text, Number, List as Listed}
 use Rattle.rst_tree.specs.declared.key.Key.{Key}
-use Rattle.rst_tree.specs.declared.node.Node.{Node}
 use Rattle.rst_tree.specs.declared.node.Node.TheVariants.{Element, Text as Words}
 use Rattle.rst_tree.specs.declared.tag.Tag.{Tag}
 use Rattle.rst_tree.specs.Attributes.{attr}
 use Rattle.rst_tree.specs.Forest.{Forest, bare, element, words}
 use Rattle.rst_tree.specs.KeyNames.{key_name}
-use Rattle.rst_tree.specs.Nodes.{join_node}
 use Rattle.rst_tree.specs.Print.{is_left_out}
 use Rattle.rst_tree.specs.TagNames.{tag_name}
 

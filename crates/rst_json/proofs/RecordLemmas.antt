@@ -2,8 +2,7 @@
 use Rattle.std.proofs.Common.{◌≡◌, ℕ, ◌+◌, ◌≤◌, List, [], ◌∷◌, ◌++◌, length, take, drop, None, refl, sym, ap, ap₂, ◌∙◌, append_assoc, length-append, drop_at, take_at, arith}
 use Rattle.std.proofs.lemmas.List.{take_all}
 use Rattle.std.specs.List.{flat_map}
-use Rattle.std.specs.Prelude.{codes}
-use Rattle.rst_json.specs.Records.{attr_record, element_record, node_record, node_records, sized, word}
+use Rattle.rst_json.specs.Records.{attr_record, node_record, node_records, sized, word}
 use Rattle.rst_tree.specs.declared.attrs.Attr.{Attr}
 use Rattle.rst_tree.specs.declared.node.Node.{Node}
 use Rattle.rst_tree.specs.declared.node.Node.TheVariants.{Element, Text}
@@ -19,7 +18,7 @@ pub sealed : (old body out new : List ℕ) (start : ℕ) → start ≡ length ol
 sealed old body out new start begins is tells =
     tells
     ∙ ap₂ (λ x y. x ++ sized y)
-    (ap (take start) (is ∙ append_assoc old (word 0) body) ∙ take_at old (word 0 ++ body) start begins)
+    (ap (take start) (is ∙ append_assoc old (word 0) body) ∙ take_at old (word 0 ++ body) start (sym begins))
     (ap (drop (start + 8)) is ∙ drop_at (old ++ word 0) body (start + 8) (omega (arith, length-append old (word 0))))
 
 -- nodes, node by node
@@ -38,8 +37,7 @@ pub element_put : (node : Node) (old name : List ℕ) (t : Tag) (a : List Attr) 
     × (((((old ++ 1 ∷ []) ++ word l) ++ sized name) ++ sized (flat_map attr_record (printed_attrs None t a l))) ++ flat_map (λ n. node_record (with_printed_attrs None n)) (take i ns) ≡ old ++ body)
 element_put node old name t a c l ns i is nodes all named = (
   1 ∷ (word l ++ sized name ++ sized (flat_map attr_record (printed_attrs None t a l)) ++ flat_map (λ n. node_record (with_printed_attrs None n)) ns),
-  (
-    rw (is, nodes, named, records_one_by_one ns) refl,
-    rw (take_all i ns all) (pieces old (1 ∷ []) (word l) (sized name) (sized (flat_map attr_record (printed_attrs None t a l))) (flat_map (λ n. node_record (with_printed_attrs None n)) ns)),
-  ),
+  rw (is, nodes, named, records_one_by_one ns) refl,
+  rw (take_all i ns all)
+      (pieces old (1 ∷ []) (word l) (sized name) (sized (flat_map attr_record (printed_attrs None t a l))) (flat_map (λ n. node_record (with_printed_attrs None n)) ns)),
 )

@@ -62,8 +62,8 @@ marked b items =
     if b == 123 then opened object items else (if b == 125 then object_end ∷ items else (
     if is_space b then items else broken ∷ []))))))
 
--- Where a place is: between strings and numbers; behind digits, which are a number; in a string, behind some bytes; behind a backslash in it;
--- behind `\u` and some digits, where the next isn't the last, or is.
+-- Where a place is: between strings and numbers; behind digits of a number; in a string, behind some bytes of it, or there behind a backslash;
+-- or there behind `\u` and digits, with their number and how many follow the next digit.
 pub data Place : Type 0 where
   between : Place
   digits : ℕ → Place

@@ -88,10 +88,10 @@ fn put_attr(attr: &Entry, out: &mut Vec<u8>) -> Result<()>
 }
 
 /// Puts what an attribute says behind its kind.
-fn put_said(said: Said, out: &mut Vec<u8>) -> Result<()>
-    ensures { Adds out.old.items out.new.items (value_record (said said)) result }
+fn put_said(meant: Said, out: &mut Vec<u8>) -> Result<()>
+    ensures { Adds out.old.items out.new.items (value_record (said meant.entry)) result }
 {
-    match said {
+    match meant {
         Said::Text(text) => {
             out.push(0)?;
             out.extend_from_slice(text.as_bytes())?;
