@@ -1,4 +1,4 @@
-use Rattle.std.proofs.Common.{rules, arith, ◌≡◌, ◌≤◌, ◌<◌, ◌+◌, length, ◌∙◌, append_assoc, add-one}
+use Rattle.std.proofs.Common.{rules, arith, ◌≤◌, ◌<◌, ◌+◌, length, ◌∙◌, append_assoc, add-one}
 use Rattle.std.proofs.lemmas.List.{drop_all, set_split, take_all}
 use Rattle.rst_json.proofs.list.enclose.Goals as goal
 use Rattle.rst_json.proofs.list.enclose.Goals.{then-start-len, else-start-len+in_ok-push}
