@@ -1,11 +1,11 @@
 -- What a text means to the program and to the library, and what is made of it.
 use Rattle.std.proofs.Common.{◌≡◌, ◌≤◌, ◌∙◌, ℕ, List, [], ◌++◌, Option, Some, None, Result, Ok, Err, Bool, true, false, length, refl, sym, ap, inl, inr, subst}
-use Rattle.std.proofs.lemmas.Bool.{cond-false, le-ltb}
+use Rattle.std.proofs.lemmas.Bool.{le-ltb}
 use Rattle.std.proofs.lemmas.Str.{IsUtf8-from_is_utf8, is_utf8-from_IsUtf8}
-use Rattle.std.specs.Prelude.{nat_lt, if◌then◌else◌, ◌⊎◌}
+use Rattle.std.specs.Prelude.{nat_lt, if◌then◌else◌}
 use Rattle.std.specs.Result.{IsErrAnd}
 use Rattle.std.specs.Str.{IsUtf8, is_utf8}
-use Rattle.rst_c.specs.Answers.{left_of, left_of_read, left_of_text, made_by, made_of, needs_memory, print_wanted, shown_of, Finds, Left, Makes, Wanted}
+use Rattle.rst_c.specs.Answers.{left_of, left_of_read, left_of_text, made_by, made_of, needs_memory, print_wanted, shown_of, Finds, Makes}
 use Rattle.rst_c.specs.declared.answer.Made.{Made}
 use Rattle.rst_c.specs.declared.answer.Refusal.{Refusal}
 use Rattle.rst_c.specs.declared.answer.Refusal.TheVariants.{Source, Text}

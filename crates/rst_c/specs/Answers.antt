@@ -26,7 +26,7 @@ use Rattle.rst_tree.specs.declared.note.Note.{Note}
 use Rattle.rst2pseudoxml_run.specs.Reading.{read_of}
 use Rattle.rst2pseudoxml_run.specs.Shown.{Parts, ended_by, halting, is_reported, result_of}
 use Rattle.rst2pseudoxml_run.specs.declared.end.End.{End}
-use Rattle.rst2pseudoxml_run.specs.declared.end.End.TheVariants.{Done, Read, TooLong, NotUtf8, TooDeep, NoMemory, WriteErr, WriteOut}
+use Rattle.rst2pseudoxml_run.specs.declared.end.End.TheVariants.{TooLong, NotUtf8, TooDeep, NoMemory}
 
 -- ---- what a text means: the same for each call
 

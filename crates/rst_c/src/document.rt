@@ -50,7 +50,7 @@ pub fn printed(
 }
 
 /// What a call makes of a finished document beside the printed one.
-#[derive(Clone, Copy, Debug, PartialEq, Eq)]
+#[derive(Clone, Copy)]
 pub enum Form {
     /// The document as JSON.
     DocumentJson,

@@ -1,7 +1,6 @@
 use Rattle.std.proofs.Common.{◌∙◌, ℕ, [], filter, map, refl, sym, Ok}
 use Rattle.std.proofs.lemmas.List.{take_all}
 use Rattle.std.proofs.lemmas.List.Folds.{flat_map-map}
-use Rattle.std.specs.List.{flat_map}
 use Rattle.rst_json.proofs.JsonLemmas.{enclosed}
 use Rattle.rst_json.specs.Json.{behind_comma, json_note}
 use Rattle.rst2pseudoxml_run.specs.Shown.{is_reported}
