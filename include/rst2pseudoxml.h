@@ -73,8 +73,16 @@ void rst_print(const uint8_t *text, size_t text_length, const uint8_t *source, s
    halts the run. docs/JSON.md describes it. */
 void rst_json(const uint8_t *text, size_t text_length, const rst_options *options, uint8_t *json, size_t json_room, rst_result *result);
 
+/* The kinds in records: of nodes, a text or an element; of what attributes say, a text, a number or texts. */
+enum rst_kind {
+    RST_TEXT = 0,
+    RST_ELEMENT = 1,
+    RST_NUMBER = 1,
+    RST_TEXTS = 2
+};
+
 /* The finished document as records, to be walked without reading a text: the tree of rst_json, whole also if a message halts the run. Numbers
-   are of 8 bytes, the lowest first; lengths are in bytes; texts are UTF-8 without a NUL; nothing is aligned. The record of a node is
+   are of 8 bytes, the lowest first; lengths are in bytes; texts are UTF-8 with no NUL behind them; nothing is aligned. The record of a node is
 
        8 bytes     length of what follows: the next sibling, or the end of the element around, is right behind it
        1 byte      RST_TEXT or RST_ELEMENT
@@ -83,7 +91,7 @@ void rst_json(const uint8_t *text, size_t text_length, const rst_options *option
      and for an element
        8 bytes     line, counted from 1; 0 where it has none
        8 bytes     length of the tag, and then the tag
-       8 bytes     length of the attributes, and then the attributes, in the order of their names, each as
+       8 bytes     length of the attributes, and then the attributes, in their order, each as
          8 bytes   length of what follows
          8 bytes   length of the name, and then the name
          1 byte    RST_TEXT, RST_NUMBER or RST_TEXTS
@@ -92,12 +100,6 @@ void rst_json(const uint8_t *text, size_t text_length, const rst_options *option
 
    So a walk forwards meets the nodes in the order of the text. docs/RECORDS.md has an example. The room may be freed or used anew at any
    time: the records point to nothing else. */
-enum rst_kind {
-    RST_TEXT = 0,
-    RST_ELEMENT = 1, /* of nodes */
-    RST_NUMBER = 1,  /* of attributes */
-    RST_TEXTS = 2
-};
 void rst_records(const uint8_t *text, size_t text_length, const rst_options *options, uint8_t *records, size_t records_room, rst_result *result);
 
 /* The messages as JSON, in the order in which the program shows them, those that --report and --halt leave: a list of
