@@ -3,9 +3,10 @@
      library print|json|records|messages REPORT HALT EXIT TAB LIMIT NO_TITLE NO_INFO SOURCE
 
    reads a text from standard input and writes what the call makes of it: the tree or the JSON to standard output, the messages to standard
-   error. Of records it writes the tree that they show. The status is the program's. If nothing was made it is 100 and the end of the call, and standard error has the end and its place. It
-   is 200 where the library breaks its word. Each call is made with no room, with rooms that are one byte too small, with exact ones and with
-   larger ones: what doesn't fit must leave its room as it was, and nothing may be written behind a text.
+   error. Of records it writes the tree that they show. The status is the program's. If nothing was made it is 100 and the end of the call, and
+   standard error has the end and its place. It is 200 where the library breaks its word. Each call is made with no room, with rooms that are
+   one byte too small, with exact ones and with larger ones: what doesn't fit must leave its room as it was, and nothing may be written behind
+   a text.
 
      library allocations
 

@@ -4,11 +4,13 @@
 import gc
 import json
 import pickle
+import re
 import resource
 import subprocess
 import sys
 import threading
 import unittest
+from ctypes import byref, c_char
 
 import cases
 
@@ -126,6 +128,33 @@ class Values(unittest.TestCase):
                     call(text)
                 one = pickle.loads(pickle.dumps(refused.exception))
                 self.assertEqual((one.kind, one.place, str(one)), (kind, place, line))
+
+
+class Records(unittest.TestCase):
+    """The walk that docs/RECORDS.md shows."""
+
+    def records(self, data):
+        entry = rst2pseudoxml.LIBRARY.rst_records
+        entry.argtypes, entry.restype = rst2pseudoxml.LIBRARY.rst_json.argtypes, None
+        room, result = bytearray(100 * len(data) + 4096), rst2pseudoxml._Result()
+        entry(data, len(data), rst2pseudoxml._options(halt="none"), byref(c_char.from_buffer(room)), len(room), result)
+        self.assertEqual(result.end, 0)
+        self.assertLessEqual(result.length, len(room))
+        return bytes(memoryview(room)[: result.length])
+
+    def test_walk(self):
+        walk, shown_trees = {}, 0
+        exec(re.search("```python\n(.*?)```", (cases.TOP / "docs/RECORDS.md").read_text(encoding="utf-8"), re.DOTALL)[1], walk)
+        for name, _, data in cases.mutated(200):
+            try:
+                found = rst2pseudoxml.json(data, halt="none")
+            except Refused:
+                continue
+            records = self.records(data)
+            with self.subTest(name):
+                self.assertEqual(list(walk["nodes"](records, 0, len(records))), [json.loads(found)])
+            shown_trees += 1
+        self.assertGreater(shown_trees, 100)
 
 
 class Calls(unittest.TestCase):
