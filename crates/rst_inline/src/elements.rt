@@ -1,6 +1,7 @@
 //! Elements of inline markup.
-ghost use Rattle.std.specs.Prelude.{◌≡◌};
+ghost use Rattle.std.specs.Prelude.{◌≡◌, true};
 ghost use Rattle.std.specs.Str.{chars};
+ghost use Rattle.rst_tree.specs.Attributes.{in_order};
 ghost use Rattle.rst_tree.specs.Forest.{bare};
 ghost use Rattle.rst_tree.specs.declared.node.Node.TheVariants.{Element};
 ghost use Rattle.rst_inline.specs.Elements.{text_children, text_element, uri_target_node, problematic_node};
@@ -22,7 +23,7 @@ pub(crate) fn text_nodes(alloc: Global, shown: &str) -> Result<Children>
     Ok(nodes)
 }
 
-/// An element with attributes that holds a text.
+/// An element with attributes, whose names rise, that holds a text.
 pub(crate) fn element(
     alloc: Global,
     tag: Tag,
@@ -30,6 +31,7 @@ pub(crate) fn element(
     shown: &str,
     line: usize,
 ) -> Result<Node>
+    requires { in_order attrs.items ≡ true }
     ensures { Gives (λ node. node ≡ text_element tag attrs.items (chars shown.now) line) result }
 {
     let children = text_nodes(alloc, shown)?;
@@ -41,8 +43,9 @@ pub(crate) fn element(
     })
 }
 
-/// An element with attributes that holds nothing.
+/// An element with attributes, whose names rise, that holds nothing.
 pub(crate) fn bare_element(alloc: Global, tag: Tag, attrs: Vec<Entry>, line: usize) -> Node
+    requires { in_order attrs.items ≡ true }
     ensures { result ≡ Element tag attrs.items bare line }
 {
     Node::Element {

@@ -25,6 +25,7 @@ fn named_attrs(alloc: Global, own: Value, written: Value, refname: Value) -> Res
 }
 
 /// A reference by the name that it shows, or an anonymous one.
+#[tactic(auto, using(crate::proofs::Orders::reference_in_order))]
 pub(crate) fn reference(
     alloc: Global,
     suffix: Suffix,
@@ -123,6 +124,7 @@ fn outer_attrs(alloc: Global, suffix: Suffix, source: &str, shown: &str) -> Resu
 }
 
 /// The reference that stands round a substitution.
+#[tactic(auto, using(crate::proofs::Orders::outer_in_order))]
 pub(crate) fn outer_reference(
     alloc: Global,
     suffix: Suffix,

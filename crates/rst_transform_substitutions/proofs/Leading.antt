@@ -17,11 +17,12 @@ use Rattle.rst_tree.specs.declared.attrs.Attr.{Attr}
 use Rattle.rst_tree.specs.declared.node.Node.TheVariants.{Element, Text}
 use Rattle.rst_tree.specs.declared.tag.Tag.{Tag}
 use Rattle.rst_tree.specs.Forest.{Forest, bare, element, words}
+use Rattle.rst_tree_index.specs.Kinds.{is_reference}
 use Rattle.rst_transform_substitutions.specs.declared.definitions.Definitions.{Definitions}
 use Rattle.rst_transform_substitutions.specs.declared.expansion.ExpansionFault.TheVariants.{Circular, TooLarge}
 use Rattle.rst_transform_substitutions.specs.declared.outcomes.Outcome.{Outcome}
 use Rattle.rst_transform_substitutions.specs.Definitions.{found_by, known_found, placed}
-use Rattle.rst_transform_substitutions.specs.Expansion.{and_then, behind, entering, expanded, given_within, inside, is_reference, most_nested, most_visited, name_said, nodes_for, nodes_in, size_of, visiting, Expansion}
+use Rattle.rst_transform_substitutions.specs.Expansion.{and_then, behind, entering, expanded, given_within, inside, most_nested, most_visited, name_said, nodes_for, nodes_in, size_of, visiting, Expansion}
 use Rattle.rst_transform_substitutions.specs.Numbering.{is_at_least, may_lead, names_said, own_name, places_found, places_of, AreOrdered}
 use Rattle.rst_transform_substitutions.specs.Outcomes.{came}
 

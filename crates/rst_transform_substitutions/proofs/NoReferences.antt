@@ -13,11 +13,11 @@ use Rattle.rst_transform_work.specs.declared.context.Context.{Context}
 use Rattle.rst_transform_work.specs.declared.document.Document.{Document}
 use Rattle.rst_tree.proofs.PlainNodes.{nothing_gathered}
 use Rattle.rst_tree.specs.Nodes.{are_plain}
+use Rattle.rst_tree_index.specs.Kinds.{is_reference}
 use Rattle.rst_transform_work.specs.Known.{Holds, Known, Makes}
 use Rattle.rst_transform_work.specs.States.{elements_of}
 use Rattle.rst_transform_substitutions.specs.Definitions.{definitions_among, found_among, place_of_name, Definition}
 use Rattle.rst_transform_substitutions.specs.Expanded.{expanded_in, with_expansions, within_element, Nodes}
-use Rattle.rst_transform_substitutions.specs.Expansion.{is_reference}
 
 abbrev refers : Item → Bool
 refers x = is_reference x.tag

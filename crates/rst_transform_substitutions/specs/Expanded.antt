@@ -11,6 +11,7 @@ use Rattle.rst_tree.specs.declared.tag.Tag.TheVariants.{SubstitutionDefinition}
 use Rattle.rst_tree.specs.Attributes.{said_text, value_of}
 use Rattle.rst_tree.specs.Forest.{Forest, bare, element, words}
 use Rattle.rst_tree.specs.Nodes.{forest_of, nodes_of}
+use Rattle.rst_tree_index.specs.Kinds.{is_reference}
 use Rattle.rst_transform_work.specs.declared.document.Document.{Document}
 use Rattle.rst_transform_work.specs.Known.{Known}
 use Rattle.rst_transform_work.specs.Problematics.{problematic_node}
@@ -18,7 +19,7 @@ use Rattle.rst_transform_work.specs.Reading.{source_said}
 use Rattle.rst_transform_work.specs.Reports.{reported}
 use Rattle.rst_transform_substitutions.specs.declared.expansion.ExpansionFault.{ExpansionFault}
 use Rattle.rst_transform_substitutions.specs.Definitions.{definitions_among, found_among, place_of_name, Definition}
-use Rattle.rst_transform_substitutions.specs.Expansion.{fault_text, is_reference, name_said, nodes_for}
+use Rattle.rst_transform_substitutions.specs.Expansion.{fault_text, name_said, nodes_for}
 
 -- nodes, and what is known once they are there
 abbrev pub Nodes : Type 0

@@ -8,10 +8,10 @@ use Rattle.rst_tree.specs.declared.key.Key.TheVariants.{Refname, Serial}
 use Rattle.rst_tree.specs.declared.node.Node.{Node}
 use Rattle.rst_tree.specs.declared.node.Node.TheVariants.{Element, Text}
 use Rattle.rst_tree.specs.declared.tag.Tag.{Tag}
-use Rattle.rst_tree.specs.declared.tag.Tag.TheVariants.{SubstitutionReference}
 use Rattle.rst_tree.specs.Attributes.{said_text, value_of, without_key}
 use Rattle.rst_tree.specs.Forest.{Forest, bare, element, words}
 use Rattle.rst_tree.specs.Nodes.{forest_of}
+use Rattle.rst_tree_index.specs.Kinds.{is_reference}
 use Rattle.rst_transform_substitutions.specs.declared.expansion.ExpansionFault.{ExpansionFault}
 use Rattle.rst_transform_substitutions.specs.declared.expansion.ExpansionFault.TheVariants.{Undefined, Circular, TooLarge}
 use Rattle.rst_transform_substitutions.specs.declared.expansion.Halted.{Halted}
@@ -24,10 +24,6 @@ most_nested = 100
 -- the most nodes and characters that are visited for one reference
 abbrev pub most_visited : ℕ
 most_visited = 10000
-
-abbrev pub is_reference : Tag → Bool
-is_reference SubstitutionReference = true
-is_reference _ = false
 
 -- the name that a reference says
 abbrev pub name_said : List Attr → List ℕ

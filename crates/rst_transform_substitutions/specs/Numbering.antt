@@ -5,9 +5,10 @@ use Rattle.std.specs.Option.{option_to_list}
 use Rattle.rst_tree.specs.declared.attrs.Attr.{Attr}
 use Rattle.rst_tree.specs.declared.tag.Tag.{Tag}
 use Rattle.rst_tree.specs.Forest.{Forest, bare, element, words}
+use Rattle.rst_tree_index.specs.Kinds.{is_reference}
 use Rattle.rst_transform_substitutions.specs.declared.definitions.Definitions.{Definitions}
 use Rattle.rst_transform_substitutions.specs.Definitions.{known_found}
-use Rattle.rst_transform_substitutions.specs.Expansion.{is_reference, name_said}
+use Rattle.rst_transform_substitutions.specs.Expansion.{name_said}
 
 -- the name that an element says, if it is a reference
 abbrev pub own_name : Tag → List Attr → List (List ℕ)

@@ -29,6 +29,7 @@ impl Model for ProblematicAttrs {
 
 impl ProblematicAttrs {
     /// Lets an element tell it in place of its attributes, in the room that they had.
+    #[tactic(auto, using(crate::proofs::Orders::problematic_in_order))]
     pub fn tell(self, alloc: Global, attrs: &mut Attrs) -> Result<()>
         ensures { Gives (λ _. attrs.new ≡ self) result }
     {

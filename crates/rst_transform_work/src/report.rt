@@ -47,6 +47,7 @@ impl Report {
 
     /// What the `system_message` tells, in the order of the names: the ids of its problematics and its own, which move there, its level
     /// and its number.
+    #[tactic(auto, using(crate::proofs::Orders::report_in_order))]
     fn take_attrs(&mut self, alloc: Global) -> Result<Attrs>
         ensures attrs { Gives (λ attrs. attrs ≡ report_attrs self.old) result }
         ensures left { Gives (λ _. self.new ≡ without_ids self.old) result }

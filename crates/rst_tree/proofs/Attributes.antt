@@ -8,9 +8,8 @@ use Rattle.rst_tree.specs.declared.attrs.Attr.{Attr}
 use Rattle.rst_tree.specs.declared.attrs.Value.{Value}
 use Rattle.rst_tree.specs.declared.key.Key.{Key}
 use Rattle.rst_tree.specs.KeyNames.{key_code, is_same}
-use Rattle.rst_tree.specs.Tree.{in_order}
 use Rattle.std.specs.Prelude.{◌&&◌}
-use Rattle.rst_tree.specs.Attributes.{attr, places_below, with_attr, is_at, value_of, place_named, without_key}
+use Rattle.rst_tree.specs.Attributes.{in_order, attr, places_below, with_attr, is_at, value_of, place_named, without_key}
 
 -- a value in place of the one before
 pub set_there : (k : Key) (v : Value) (xs : List Attr) → is_at k (drop (places_below k xs) xs) ≡ true → set xs (places_below k xs) (attr k v) ≡ with_attr k v xs
@@ -42,6 +41,9 @@ and_both a b h k = rw (h, k) refl
 -- a name is before another one, the same, or behind it
 trichotomy : (m n : ℕ) → nat_lt m n ≡ false → nat_eq m n ≡ false → nat_lt n m ≡ true
 trichotomy m n h k = grind (arith, h, k)
+
+below : (m n p : ℕ) → nat_lt m n ≡ true → nat_lt n p ≡ true → nat_lt m p ≡ true
+below m n p h k = grind (arith, h, k)
 
 same_before : (m n p : ℕ) → nat_eq m n ≡ true → nat_lt m p ≡ nat_lt n p
 same_before m n p h = let e : m ≡ n = eqb-true m n h in rw e refl
@@ -80,6 +82,27 @@ in_order-with_attr k v (a ∷ xs) h =
             | false ↦ λ other. and_both _ _ (trichotomy (key_code a.key) (key_code k) high other) h
           ] refl
     ] refl
+
+-- what comes before the first two names comes before the second alone
+before_next : (a b : Attr) (xs : List Attr) → nat_lt (key_code a.key) (key_code b.key) ≡ true → in_order (b ∷ xs) ≡ true → in_order (a ∷ xs) ≡ true
+before_next a b [] low h = refl
+before_next a b (c ∷ xs) low h = let p = both _ _ h in and_both _ _ (below (key_code a.key) (key_code b.key) (key_code c.key) low p.0) p.1
+
+head_before : (k : Key) (a b : Attr) (xs : List Attr) → nat_lt (key_code a.key) (key_code b.key) ≡ true → in_order (b ∷ xs) ≡ true
+    → in_order (without_key k (b ∷ xs)) ≡ true → in_order (a ∷ without_key k (b ∷ xs)) ≡ true
+head_before k a b xs low h =
+    elim (is_same b.key k) as (λ z. in_order (if z then xs else b ∷ without_key k xs) ≡ true → in_order (a ∷ (if z then xs else b ∷ without_key k xs)) ≡ true)
+    [ true ↦ λ g. before_next a b xs low h | false ↦ λ g. and_both _ _ low g ]
+
+pub in_order-without_key : (k : Key) (xs : List Attr) → in_order xs ≡ true → in_order (without_key k xs) ≡ true
+in_order-without_key k [] h = refl
+in_order-without_key k (a ∷ []) h = elim (is_same a.key k) as (λ z. in_order (if z then [] else a ∷ []) ≡ true) [ true ↦ refl | false ↦ refl ]
+in_order-without_key k (a ∷ b ∷ xs) h =
+    let p = both _ _ h in
+    elim (is_same a.key k) as (λ z. in_order (if z then b ∷ xs else a ∷ without_key k (b ∷ xs)) ≡ true) [
+      | true ↦ p.1
+      | false ↦ head_before k a b xs p.0 p.1 (in_order-without_key k (b ∷ xs) p.1)
+    ]
 
 -- the attribute of a name, and the others
 pub named_value : (k : Key) (xs : List Attr) (a : Attr) → place_named k xs < length xs → a ≡ get_or xs (place_named k xs) a → Some a.value ≡ value_of k xs

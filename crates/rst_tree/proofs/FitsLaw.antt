@@ -7,7 +7,8 @@ use Rattle.rst_tree.specs.declared.node.Node.TheVariants.{Element, Text}
 use Rattle.rst_tree.specs.Forest.{height}
 use Rattle.rst_tree.specs.Nodes.{forest_of, nodes_of, node_height}
 use Rattle.rst_tree.specs.Paths.{node_at, map_at, changed_at, with_child}
-use Rattle.rst_tree.specs.Tree.{is_sound, is_sound_node, in_order, is_tree, is_tree_within, fits, is_element, most_levels}
+use Rattle.rst_tree.specs.Attributes.{in_order}
+use Rattle.rst_tree.specs.Tree.{is_sound, is_sound_node, is_tree, is_tree_within, fits, is_element, most_levels}
 use Rattle.rst_tree.specs.Law.{FitsWithinLevels}
 use Rattle.rst_tree.proofs.Fitting.{both, and_both, height-cons, sound-cons, pushed_tree}
 

@@ -16,7 +16,8 @@ use Rattle.rst_tree.specs.declared.key.Key.{Key}
 use Rattle.rst_tree.proofs.Attributes.{in_order-with_attr}
 use Rattle.rst_tree.proofs.Changes.{forest_of-nodes_of, nodes_of-forest_of, slice_get-some, slice_get-none}
 use Rattle.rst_tree.specs.Paths.{node_at, map_at, changed_at, with_child, with_value}
-use Rattle.rst_tree.specs.Tree.{is_sound, is_sound_node, in_order, is_tree, fits, is_element, most_levels, text_all, text_in}
+use Rattle.rst_tree.specs.Attributes.{in_order}
+use Rattle.rst_tree.specs.Tree.{is_sound, is_sound_node, is_tree, fits, is_element, most_levels, text_all, text_in}
 
 pub both : (a b : Bool) → (a && b) ≡ true → (a ≡ true) × (b ≡ true)
 both true b h = (refl, h)

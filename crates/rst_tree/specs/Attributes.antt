@@ -1,5 +1,5 @@
 -- The attributes of an element, in the order of their names (Document Tree, 'Attribute Reference').
-use Rattle.std.specs.Prelude.{ℕ, ◌+◌, Bool, false, if◌then◌else◌, nat_lt, List, [], ◌∷◌, Option, Some, None}
+use Rattle.std.specs.Prelude.{ℕ, ◌+◌, Bool, true, false, ◌&&◌, if◌then◌else◌, nat_lt, List, [], ◌∷◌, Option, Some, None}
 use Rattle.rst_tree.specs.declared.attrs.Attr.{Attr}
 use Rattle.rst_tree.specs.declared.attrs.Value.{Value}
 use Rattle.rst_tree.specs.declared.attrs.Value.TheVariants.{Text, Number, List as Listed}
@@ -9,6 +9,12 @@ use Rattle.rst_tree.specs.KeyNames.{key_code, is_same}
 -- an attribute: its name, and what it says
 abbrev pub attr : Key → Value → Attr
 attr k v = record { key = k; value = v }
+
+-- the names are in order, and no two are the same
+abbrev pub in_order : List Attr → Bool
+in_order [] = true
+in_order (a ∷ []) = true
+in_order (a ∷ b ∷ more) = nat_lt (key_code a.key) (key_code b.key) && in_order (b ∷ more)
 
 -- what the attribute of a name says
 abbrev pub value_of : Key → List Attr → Option Value

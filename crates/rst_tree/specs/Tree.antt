@@ -3,19 +3,12 @@ use Rattle.std.specs.Prelude.{◌≡◌, Result, Ok, Err, ℕ, ◌&&◌, ◌||�
 use Rattle.std.specs.List.{list_all}
 use Rattle.std.specs.Str.{chars}
 use Rattle.rst_text.specs.Lines.{is_line_end}
-use Rattle.rst_tree.specs.declared.attrs.Attr.{Attr}
 use Rattle.rst_tree.specs.declared.node.Node.{Node}
 use Rattle.rst_tree.specs.declared.node.Node.TheVariants.{Element, Text}
 use Rattle.rst_tree.specs.Forest.{Forest, bare, element, words}
-use Rattle.rst_tree.specs.KeyNames.{key_code}
+use Rattle.rst_tree.specs.Attributes.{in_order}
 use Rattle.rst_tree.specs.Nodes.{node_height}
 use Rattle.rst_tree.specs.Paths.{node_at, changed_at, with_child}
-
--- the names are in order, and no two are the same
-abbrev pub in_order : List Attr → Bool
-in_order [] = true
-in_order (a ∷ []) = true
-in_order (a ∷ b ∷ more) = nat_lt (key_code a.key) (key_code b.key) && in_order (b ∷ more)
 
 -- a text without line ends other than LF
 abbrev pub is_lines : List ℕ → Bool

@@ -1,9 +1,8 @@
 //! The attributes of elements.
-ghost use Rattle.std.specs.Prelude.{◌≡◌, ◌≤◌, ◌∷◌, drop, length, vec_len, [], MatchOption, None, Some, is_some};
+ghost use Rattle.std.specs.Prelude.{◌≡◌, ◌≤◌, ◌∷◌, drop, length, vec_len, [], true, MatchOption, None, Some, is_some};
 ghost use Rattle.rst_tree.specs.Faults.{Gives, Becomes};
-ghost use Rattle.rst_tree.specs.Attributes.{attr, value_of, said_text, said_number, with_attr, without_key, place_named, places_below, is_at};
+ghost use Rattle.rst_tree.specs.Attributes.{attr, value_of, said_text, said_number, with_attr, without_key, place_named, places_below, is_at, in_order};
 ghost use Rattle.rst_tree.specs.Entries.{said};
-ghost use Rattle.rst_tree.specs.Tree.{in_order};
 
 use crate::entry::{Entry, Said};
 use crate::fault::Result;
@@ -27,19 +26,22 @@ pub struct Attr {
     pub value: Value,
 }
 
-/// The attributes of an element, which contracts see as the list of them.
+/// The attributes of an element, in the order of their names, each name once. Contracts see them as a list.
 #[derive(Debug, Drop)]
 pub struct Attrs {
     list: Vec<Entry>,
 }
 
 impl Model for Attrs {
-    ghost use Rattle.std.specs.Prelude.{List};
+    ghost use Rattle.std.specs.Prelude.{◌≡◌, List, true};
+    ghost use Rattle.rst_tree.specs.Attributes.{in_order};
     ghost use Rattle.rst_tree.specs.declared.attrs.Attr.{Attr};
 
     ghost Value = { List Attr };
 
     ghost view = { λ a. a.list.items };
+
+    ghost invariant = { λ a. in_order a.list.items ≡ true };
 }
 
 impl Attrs {
@@ -61,8 +63,9 @@ impl Attrs {
         Ok(Attrs { list })
     }
 
-    /// The attributes of a `Vec`.
+    /// The attributes of a `Vec`, in which their names rise.
     pub fn of(list: Vec<Entry>) -> Attrs
+        requires { in_order list.items ≡ true }
         ensures { result ≡ list.items }
     {
         Attrs { list }
@@ -83,17 +86,11 @@ impl Attrs {
         self.list.as_slice()
     }
 
-    /// Whether the names rise, as they do in a tree.
-    pub fn are_in_order(&self) -> bool
-        ensures { result ≡ in_order self.now }
+    /// The names rise. Nothing is done: callers learn it.
+    pub fn are_in_order(&self)
+        ensures { in_order self.now ≡ true }
     {
-        let attrs = self.as_slice();
-        for i in 1..attrs.len() {
-            if attrs[i - 1].key().code() >= attrs[i].key().code() {
-                return false;
-            }
-        }
-        true
+        let _ = &self.list;
     }
 
     /// What the attribute of a name says, if there is one.

@@ -79,6 +79,8 @@ impl Children {
     }
 
     /// One node, in a list with room for it alone.
+    // A call would move the node once more.
+    #[inline(always)]
     pub fn lone(alloc: Global, node: Node) -> Result<Children>
         ensures { Gives (λ nodes. nodes ≡ forest_of (node ∷ [])) result }
     {

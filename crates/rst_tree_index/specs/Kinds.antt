@@ -4,7 +4,7 @@ use Rattle.std.specs.Prelude.{◌&&◌, not, Bool, true, false, is_some}
 use Rattle.rst_tree.specs.declared.key.Key.{Key}
 use Rattle.rst_tree.specs.declared.key.Key.TheVariants.{Inline, Refname, Refuri}
 use Rattle.rst_tree.specs.declared.tag.Tag.{Tag}
-use Rattle.rst_tree.specs.declared.tag.Tag.TheVariants.{SystemMessage, Target, Transition}
+use Rattle.rst_tree.specs.declared.tag.Tag.TheVariants.{SubstitutionReference, SystemMessage, Target, Transition}
 use Rattle.rst_tree.specs.Attributes.{value_of}
 use Rattle.rst_tree.specs.Walk.{Item}
 
@@ -23,6 +23,10 @@ is_target _ = false
 -- an element has an attribute of this name
 abbrev pub tells : Key → Item → Bool
 tells k x = is_some (value_of k x.attrs)
+
+abbrev pub is_reference : Tag → Bool
+is_reference SubstitutionReference = true
+is_reference _ = false
 
 -- an internal target of the body: it stands in no text, and tells neither a URI nor a name
 abbrev pub is_internal : Item → Bool

@@ -106,20 +106,6 @@ fn nested(alloc: Global, levels: usize) -> Result<Node, TreeFault> {
     Ok(node)
 }
 
-/// An element whose attributes have these names, in this order.
-fn named(alloc: Global, keys: &[Key]) -> Result<Node, TreeFault> {
-    let mut list = Vec::new(alloc);
-    for key in keys {
-        list.push(Entry::new(*key, Value::Number(1)))?;
-    }
-    Ok(Node::Element {
-        tag: Tag::Paragraph,
-        attrs: Attrs::of(list),
-        children: Children::new(alloc),
-        line: 1,
-    })
-}
-
 /// Ends the test where a node is no tree but should be one, or the other way round.
 fn judge(rt: &impl Abort, root: Node, want: bool) {
     assert_eq!(rt; Tree::of(root).is_ok(), want);
@@ -128,14 +114,6 @@ fn judge(rt: &impl Abort, root: Node, want: bool) {
 #[test]
 fn knows_trees(rt: HostRuntime) -> Result<(), Fail> {
     let alloc = rt.alloc();
-    for &(keys, want) in &[
-        (&[][..], true),
-        (&[Key::Ids, Key::Names, Key::XmlSpace], true),
-        (&[Key::Names, Key::Ids], false),
-        (&[Key::Ids, Key::Ids], false),
-    ] {
-        judge(&rt, named(alloc, keys)?, want);
-    }
     for &(said, want) in &[("a\nb\u{1F}", true), ("a\rb", false), ("a\u{2028}", false)] {
         judge(&rt, text(alloc, said)?, want);
     }
