@@ -10,7 +10,7 @@ ghost use Rattle.rst_transform_messages.specs.Early.{is_early};
 ghost use Rattle.rst_transform_messages.specs.Messages.{has_halt, EndsAtHalt, highest_level, level_said, has_number, marked};
 ghost use Rattle.rst_transform_messages.specs.MessagesIn.{note_said};
 
-use crate::early::is_early;
+use crate::early::{is_early, may_be_early};
 use rst_settings::Threshold;
 use rst_transform_work::Report;
 use rst_tree::{Attrs, Children, Key, Level, Node, Note, Result, Tag, Text};
@@ -106,14 +106,13 @@ impl Messages {
                     children,
                     line,
                 } => {
+                    early |= is_early(*tag, attrs);
                     if is_message(*tag) {
                         let note = note_of(alloc, attrs, children, *line)?;
                         self.push(note, attrs.number(Key::Message))?;
-                        // What stands in it isn't looked at.
-                        early = true;
+                        early |= may_be_early(children);
                         continue;
                     }
-                    early |= is_early(*tag, attrs);
                     if children.are_plain() {
                         continue;
                     }
