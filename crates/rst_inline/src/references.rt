@@ -14,6 +14,8 @@ use rst_tree::{Attrs, Children, Entry, Key, Node, Result, Tag, Value};
 use std::alloc::Global;
 
 /// The attributes of a reference by a name, with room for the one that tells where it leads, once that is found.
+// A call would move its three values.
+#[inline(always)]
 fn named_attrs(alloc: Global, own: Value, written: Value, refname: Value) -> Result<Vec<Entry>>
     ensures { Gives (λ attrs. attrs.items ≡ attr Name own ∷ attr Rawsource written ∷ attr Refname refname ∷ []) result }
 {
