@@ -50,6 +50,11 @@ mismatch = Wrong Warning (codes "Mismatch: both interpreted text role and refere
 
 -- ---- kinds of pieces
 
+-- the node of a plain text, if there is one
+abbrev pub plain_meaning : Option (List ℕ) → Meaning
+plain_meaning None = Nothing
+plain_meaning (Some text) = One (Words text)
+
 -- plain text without its escapes, which gives no node where nothing is left of it
 abbrev pub plain_reading : Text → Meaning
 plain_reading [] = Nothing

@@ -52,6 +52,7 @@ pub fn inline_from(alloc: Global, text: &str, line: usize, first: u64) -> Result
 impl Written<'_> {
     /// The nodes and the messages of the pieces of the text. The messages are numbered from `first` on.
     // Its frame is large, and quiet texts need none of it.
+    #[tactic(auto, unfolding(crate::specs::Readings::reading))]
     #[inline(never)]
     fn read(&self, pieces: &[Piece], first: u64) -> Result<Pieces>
         requires { All (IsWithin self.now.characters.items) pieces.now }
@@ -67,6 +68,13 @@ impl Written<'_> {
         // Each message takes memory, so the sum can't pass the largest `u64`.
         let mut number = first;
         for piece in pieces {
+            // Most pieces are plain: their texts come into the list without a `Meaning` that is moved.
+            if matches!(piece.kind, Kind::Plain) {
+                if let Some(text) = self.plain(*piece)? {
+                    nodes.push(Node::Text(text))?;
+                }
+                continue;
+            }
             match self.reading(*piece)? {
                 Meaning::Nothing => continue,
                 Meaning::One(node) => {

@@ -11,7 +11,7 @@ ghost use Rattle.rst_inline.specs.declared.reading.Meaning.TheVariants.{One, Wro
 ghost use Rattle.rst_inline.specs.Elements.{text_element, inline_target_node, label_reference_node, reference_node, uri_node};
 ghost use Rattle.rst_inline.specs.Embedded.{meant, shown_by};
 ghost use Rattle.rst_inline.specs.Parts.{part, source, content};
-ghost use Rattle.rst_inline.specs.Readings.{unended_phrase, unknown_role, plain_reading, substitution_reading, embedded_reading, phrase_reading, role_reading, has_prefix_role, interpreted_reading, reading};
+ghost use Rattle.rst_inline.specs.Readings.{unended_phrase, unknown_role, plain_meaning, plain_reading, substitution_reading, embedded_reading, phrase_reading, role_reading, has_prefix_role, interpreted_reading, reading};
 
 use super::elements::{element, text_nodes, uri_target};
 use super::embedded::{dark_end, embedded_at, enclosed, has_white, is_alias};
@@ -64,19 +64,19 @@ fn warning(alloc: Global, text: &str) -> Result<Meaning>
 }
 
 impl Written<'_> {
-    /// Plain text without its escapes.
+    /// Plain text without its escapes, if something is left of it.
     #[tactic(auto, using(crate::proofs::TextLemmas::spelled_again, crate::proofs::TextLemmas::some_plain, crate::proofs::TextLemmas::no_plain))]
     #[inline(always)]
-    fn plain(&self, piece: Piece) -> Result<Meaning>
-        ensures { Gives (λ reading. reading ≡ plain_reading (unescaped (source self.now.characters.items piece))) result }
+    pub(crate) fn plain(&self, piece: Piece) -> Result<Option<Text>>
+        ensures { Gives (λ text. plain_meaning text ≡ plain_reading (unescaped (source self.now.characters.items piece))) result }
     {
         let shown = self.unescaped(piece.from, piece.to)?;
         let shown = shown.as_str();
         if shown.is_empty() {
-            return Ok(Meaning::Nothing);
+            return Ok(None);
         }
         let text = Text::from_str(self.alloc, shown)?;
-        Ok(Meaning::One(Node::Text(text)))
+        Ok(Some(text))
     }
 
     /// An element that holds what the markup of a piece encloses, without its escapes.
@@ -309,7 +309,10 @@ impl Written<'_> {
         ensures { Gives (λ read. read ≡ reading self.now.characters.items self.now.line piece) result }
     {
         match piece.kind {
-            Kind::Plain => self.plain(piece),
+            Kind::Plain => match self.plain(piece)? {
+                Some(text) => Ok(Meaning::One(Node::Text(text))),
+                None => Ok(Meaning::Nothing),
+            },
             Kind::Marked(Markup::Strong, _) => self.shown_in(Tag::Strong, piece),
             Kind::Marked(Markup::Emphasis, _) => self.shown_in(Tag::Emphasis, piece),
             Kind::Marked(Markup::Literal, _) => self.literal(piece),
