@@ -1,4 +1,4 @@
-use Rattle.std.proofs.Common.{◌≡◌, ◌∙◌, ◌+◌, Some, None, sym, ap, drop, arith}
+use Rattle.std.proofs.Common.{rules, ◌≡◌, ◌∙◌, ◌+◌, Some, None, sym, ap, drop, arith}
 use Rattle.std.specs.Prelude.{option_map}
 use Rattle.rst_text.specs.Block.{Block, indentation}
 use Rattle.rst_text.specs.Shown.{block_of}
@@ -10,25 +10,19 @@ use Rattle.rst_markup_blocks.proofs.AttributionLemmas.{lines_none, lines_some, a
 use Rattle.rst_markup_blocks.proofs.LineLemmas.{drop_one}
 use Rattle.rst_markup_blocks.proofs.attribution.attribution_behind.Goals as goal
 
-pub returns-in-Some-clause-attribution : goal.returns-in-Some-clause-attribution
-returns-in-Some-clause-attribution c =
+pub returns-in-Some : goal.returns-in-Some
+returns-in-Some c =
     let B : Block = block_of c.args.view.now in
     let indent : c.indentation-indent.result ≡ indentation (next_text (drop c.args.k B)) = c.indentation-indent.ensures.value ∙ ap (λ t. indentation t) c.below_text.ensures.text in
     let some : Some c.in-Some.end ≡ option_map (λ n. c.args.k + 1 + n) (level_lines c.indentation-indent.result (drop (c.args.k + 1) B)) = sym c.in-Some.is ∙ c.level_end.ensures.end in
     let lines = lines_some c.args.k c.indentation-indent.result c.in-Some.end B some in
-    attribution_some c.args.k c.indentation-indent.result c.args.marker lines.0 c.in-Some.end (drop c.args.k B) indent lines.1 lines.2
-
-pub returns-in-Some-clause-text : goal.returns-in-Some-clause-text
-returns-in-Some-clause-text c =
-    let B : Block = block_of c.args.view.now in
-    let some : Some c.in-Some.end ≡ option_map (λ n. c.args.k + 1 + n) (level_lines c.indentation-indent.result (drop (c.args.k + 1) B)) = sym c.in-Some.is ∙ c.level_end.ensures.end in
-    let lines = lines_some c.args.k c.indentation-indent.result c.in-Some.end B some in
-    rw lines.2 (attribution_block c.args.k lines.0 c.args.marker c.indentation-indent.result B (omega arith) lines.1)
-
-pub returns-in-Some-clause-looks : goal.returns-in-Some-clause-looks
-returns-in-Some-clause-looks c =
-    let B : Block = block_of c.args.view.now in
-    omega (arith, ap (λ Y. lines_while Filled Y) (drop_one c.args.k B), c.below_text.ensures.looks, c.level_end.ensures.looks)
+    record {
+      attribution = attribution_some c.args.k c.indentation-indent.result c.args.marker lines.0 c.in-Some.end (drop c.args.k B) indent lines.1 lines.2;
+      text = rw lines.2 (attribution_block c.args.k lines.0 c.args.marker c.indentation-indent.result B (omega arith) lines.1);
+      looks = omega (arith, ap (λ Y. lines_while Filled Y) (drop_one c.args.k B), c.below_text.ensures.looks, c.level_end.ensures.looks);
+      low = search rules;
+      each = search rules;
+    }
 
 pub returns-in-None-clause-attribution : goal.returns-in-None-clause-attribution
 returns-in-None-clause-attribution c =

@@ -1,4 +1,4 @@
-use Rattle.std.proofs.Common.{◌≡◌, ℕ, ◌+◌, Some, None, true, false, drop, ap, sym, ◌∙◌, arith}
+use Rattle.std.proofs.Common.{rules, ◌≡◌, ℕ, ◌+◌, Some, None, true, false, drop, ap, sym, ◌∙◌, arith}
 use Rattle.rst_text.specs.Block.{Block, front_text}
 use Rattle.rst_text.specs.Extent.{extent}
 use Rattle.rst_text.specs.Reach.{reach, through_text}
@@ -28,19 +28,8 @@ returns-then-from-indented-clause-looks c =
 behind_blank : (from k b : ℕ) (B : Block) → k ≡ from + b → drop k B ≡ drop b (drop from B)
 behind_blank from k b B e = ap (λ j. drop j B) e ∙ drop_far from b B
 
-pub returns-in-Some-clause-end : goal.returns-in-Some-clause-end
-returns-in-Some-clause-end c =
-    let B : Block = block_of c.args.view.now in
-    let Y : Block = drop c.args.from B in
-    let b : ℕ = lines_while Blank Y in
-    let none : extent 1 Y ≡ 0 = omega (arith, ap (λ e. e.end) c.block_end-indented.ensures.extent) in
-    let place = behind_blank c.args.from c.lines_end-start.result b B c.lines_end-start.ensures.end in
-    let e : first (front_text (drop b Y)) ≡ Some c.in-Some.c = ap (λ Z. first (front_text Z)) (sym place) ∙ ap first (sym c.text_at.ensures.text) ∙ sym c.front.ensures ∙ c.in-Some.is in
-    let p : is_punctuation c.in-Some.c ≡ true = sym c.is_punctuation.ensures ∙ c.if-is_punctuation.true in
-    omega (arith, literal_other Y none, quoted_there b c.in-Some.c Y e p, c.lines_end.ensures.end, c.lines_end-start.ensures.end, ap (λ Z. lines_while (Begins c.in-Some.c) Z) place)
-
-pub returns-in-Some-clause-looks : goal.returns-in-Some-clause-looks
-returns-in-Some-clause-looks c =
+pub returns-in-Some : goal.returns-in-Some
+returns-in-Some c =
     let B : Block = block_of c.args.view.now in
     let Y : Block = drop c.args.from B in
     let b : ℕ = lines_while Blank Y in
@@ -51,10 +40,14 @@ returns-in-Some-clause-looks c =
     let Z : Block = drop b Y in
     let k : ℕ = lines_while (Begins c.in-Some.c) Z in
     let whole = looked_quoted c.in-Some.c Y none e p (through_text Y) 1 (reach k Z) (omega arith) (omega arith) (omega arith) in
-    omega (arith, whole, blank_reach Y, c.block_end-indented.ensures.looks, c.lines_end-start.ensures.looks, c.text_at.ensures.few, c.lines_end.ensures.looks, ap (λ X. reach (lines_while (Begins c.in-Some.c) X) X) place)
+    record {
+      end = omega (arith, literal_other Y none, quoted_there b c.in-Some.c Y e p, c.lines_end.ensures.end, c.lines_end-start.ensures.end, ap (λ Z. lines_while (Begins c.in-Some.c) Z) place);
+      looks = omega (arith, whole, blank_reach Y, c.block_end-indented.ensures.looks, c.lines_end-start.ensures.looks, c.text_at.ensures.few, c.lines_end.ensures.looks, ap (λ X. reach (lines_while (Begins c.in-Some.c) X) X) place);
+      low = search rules;
+    }
 
-pub returns-in_default-clause-end : goal.returns-in_default-clause-end
-returns-in_default-clause-end c =
+pub returns-in_default : goal.returns-in_default
+returns-in_default c =
     let B : Block = block_of c.args.view.now in
     let Y : Block = drop c.args.from B in
     let b : ℕ = lines_while Blank Y in
@@ -63,22 +56,14 @@ returns-in_default-clause-end c =
     let e : first (front_text (drop b Y)) ≡ Some c.in-Some.c = ap (λ Z. first (front_text Z)) (sym place) ∙ ap first (sym c.text_at.ensures.text) ∙ sym c.front.ensures ∙ c.in-Some.is in
     let p : is_punctuation c.in-Some.c ≡ false = sym c.is_punctuation.ensures ∙ c.if-is_punctuation.false in
     let zero : literal_size Y ≡ 0 = literal_other Y none ∙ quoted_other b c.in-Some.c Y e p in
-    omega (arith, zero)
+    record {
+      end = omega (arith, zero);
+      looks = omega (arith, reach_none Y zero, looked_none Y none, blank_reach Y, through_behind Y, c.block_end-indented.ensures.looks, c.lines_end-start.ensures.looks, c.text_at.ensures.looks, ap through_text place);
+      low = search rules;
+    }
 
-pub returns-in_default-clause-looks : goal.returns-in_default-clause-looks
-returns-in_default-clause-looks c =
-    let B : Block = block_of c.args.view.now in
-    let Y : Block = drop c.args.from B in
-    let b : ℕ = lines_while Blank Y in
-    let none : extent 1 Y ≡ 0 = omega (arith, ap (λ e. e.end) c.block_end-indented.ensures.extent) in
-    let place = behind_blank c.args.from c.lines_end-start.result b B c.lines_end-start.ensures.end in
-    let e : first (front_text (drop b Y)) ≡ Some c.in-Some.c = ap (λ Z. first (front_text Z)) (sym place) ∙ ap first (sym c.text_at.ensures.text) ∙ sym c.front.ensures ∙ c.in-Some.is in
-    let p : is_punctuation c.in-Some.c ≡ false = sym c.is_punctuation.ensures ∙ c.if-is_punctuation.false in
-    let zero : literal_size Y ≡ 0 = literal_other Y none ∙ quoted_other b c.in-Some.c Y e p in
-    omega (arith, reach_none Y zero, looked_none Y none, blank_reach Y, through_behind Y, c.block_end-indented.ensures.looks, c.lines_end-start.ensures.looks, c.text_at.ensures.looks, ap through_text place)
-
-pub returns-in_default-2-clause-end : goal.returns-in_default-2-clause-end
-returns-in_default-2-clause-end c =
+pub returns-in_default-2 : goal.returns-in_default-2
+returns-in_default-2 c =
     let B : Block = block_of c.args.view.now in
     let Y : Block = drop c.args.from B in
     let b : ℕ = lines_while Blank Y in
@@ -86,15 +71,8 @@ returns-in_default-2-clause-end c =
     let place = behind_blank c.args.from c.lines_end-start.result b B c.lines_end-start.ensures.end in
     let e : first (front_text (drop b Y)) ≡ None = ap (λ Z. first (front_text Z)) (sym place) ∙ ap first (sym c.text_at.ensures.text) ∙ sym c.front.ensures ∙ c.in_default.is in
     let zero : literal_size Y ≡ 0 = literal_other Y none ∙ quoted_none b Y e in
-    omega (arith, zero)
-
-pub returns-in_default-2-clause-looks : goal.returns-in_default-2-clause-looks
-returns-in_default-2-clause-looks c =
-    let B : Block = block_of c.args.view.now in
-    let Y : Block = drop c.args.from B in
-    let b : ℕ = lines_while Blank Y in
-    let none : extent 1 Y ≡ 0 = omega (arith, ap (λ e. e.end) c.block_end-indented.ensures.extent) in
-    let place = behind_blank c.args.from c.lines_end-start.result b B c.lines_end-start.ensures.end in
-    let e : first (front_text (drop b Y)) ≡ None = ap (λ Z. first (front_text Z)) (sym place) ∙ ap first (sym c.text_at.ensures.text) ∙ sym c.front.ensures ∙ c.in_default.is in
-    let zero : literal_size Y ≡ 0 = literal_other Y none ∙ quoted_none b Y e in
-    omega (arith, reach_none Y zero, looked_none Y none, blank_reach Y, through_behind Y, c.block_end-indented.ensures.looks, c.lines_end-start.ensures.looks, c.text_at.ensures.looks, ap through_text place)
+    record {
+      end = omega (arith, zero);
+      looks = omega (arith, reach_none Y zero, looked_none Y none, blank_reach Y, through_behind Y, c.block_end-indented.ensures.looks, c.lines_end-start.ensures.looks, c.text_at.ensures.looks, ap through_text place);
+      low = search rules;
+    }

@@ -1,4 +1,4 @@
-use Rattle.std.proofs.Common.{◌≡◌, ℕ, ◌+◌, ◌-◌, ◌≤◌, true, false, List, drop, ap, sym, ◌∙◌, arith, refl}
+use Rattle.std.proofs.Common.{rules, ◌≡◌, ℕ, ◌+◌, ◌-◌, ◌≤◌, true, false, List, drop, ap, sym, ◌∙◌, arith, refl}
 use Rattle.rst_text.specs.Block.{Block, front_text}
 use Rattle.rst_text.specs.Reach.{reach}
 use Rattle.rst_text.specs.Shown.{block_of}
@@ -17,39 +17,29 @@ last i end n B text e some t =
 behind : (i end n : ℕ) (B : Block) → end ≡ i + n → drop end B ≡ drop n (drop i B)
 behind i end n B e = ap (λ m. drop m B) e ∙ drop_far i n B
 
-pub returns-then-ends_in_colons-clause-end : goal.returns-then-ends_in_colons-clause-end
-returns-then-ends_in_colons-clause-end c =
-    let B : Block = block_of c.args.view.now in
-    let X : Block = drop c.args.i B in
-    let n : ℕ = run_size Plain X in
-    let text = last c.args.i c.run_below_end-end.result n B _ c.run_below_end-end.ensures.end (run_size_some X) c.text_at.ensures.text in
-    let colons : ends_in_colons (front_text (drop (n - 1) X)) ≡ true = ap ends_in_colons (sym text) ∙ sym c.ends_in_colons.ensures ∙ c.if-ends_in_colons.true in
-    omega (arith, paragraph_more n X refl colons, c.literal_end.ensures.end, c.run_below_end-end.ensures.end, ap literal_size (behind c.args.i c.run_below_end-end.result n B c.run_below_end-end.ensures.end))
-
-pub returns-then-ends_in_colons-clause-looks : goal.returns-then-ends_in_colons-clause-looks
-returns-then-ends_in_colons-clause-looks c =
+pub returns-then-ends_in_colons : goal.returns-then-ends_in_colons
+returns-then-ends_in_colons c =
     let B : Block = block_of c.args.view.now in
     let X : Block = drop c.args.i B in
     let n : ℕ = run_size Plain X in
     let text = last c.args.i c.run_below_end-end.result n B _ c.run_below_end-end.ensures.end (run_size_some X) c.text_at.ensures.text in
     let colons : ends_in_colons (front_text (drop (n - 1) X)) ≡ true = ap ends_in_colons (sym text) ∙ sym c.ends_in_colons.ensures ∙ c.if-ends_in_colons.true in
     let whole = reach_more n X (paragraph_more n X refl colons) in
-    omega (arith, whole, run_size_some X, paragraph_len_is X, c.literal_end.ensures.looks, c.run_below_end-end.ensures.few, c.text_at.ensures.few, ap (λ Y. reach (literal_size Y) Y) (behind c.args.i c.run_below_end-end.result n B c.run_below_end-end.ensures.end))
+    record {
+      end = omega (arith, paragraph_more n X refl colons, c.literal_end.ensures.end, c.run_below_end-end.ensures.end, ap literal_size (behind c.args.i c.run_below_end-end.result n B c.run_below_end-end.ensures.end));
+      looks = omega (arith, whole, run_size_some X, paragraph_len_is X, c.literal_end.ensures.looks, c.run_below_end-end.ensures.few, c.text_at.ensures.few, ap (λ Y. reach (literal_size Y) Y) (behind c.args.i c.run_below_end-end.result n B c.run_below_end-end.ensures.end));
+      low = search rules;
+    }
 
-pub returns-clause-end : goal.returns-clause-end
-returns-clause-end c =
+pub returns : goal.returns
+returns c =
     let B : Block = block_of c.args.view.now in
     let X : Block = drop c.args.i B in
     let n : ℕ = run_size Plain X in
     let text = last c.args.i c.run_below_end-end.result n B _ c.run_below_end-end.ensures.end (run_size_some X) c.text_at.ensures.text in
     let colons : ends_in_colons (front_text (drop (n - 1) X)) ≡ false = ap ends_in_colons (sym text) ∙ sym c.ends_in_colons.ensures ∙ c.if-ends_in_colons.false in
-    omega (arith, paragraph_only n X refl colons, c.run_below_end-end.ensures.end)
-
-pub returns-clause-looks : goal.returns-clause-looks
-returns-clause-looks c =
-    let B : Block = block_of c.args.view.now in
-    let X : Block = drop c.args.i B in
-    let n : ℕ = run_size Plain X in
-    let text = last c.args.i c.run_below_end-end.result n B _ c.run_below_end-end.ensures.end (run_size_some X) c.text_at.ensures.text in
-    let colons : ends_in_colons (front_text (drop (n - 1) X)) ≡ false = ap ends_in_colons (sym text) ∙ sym c.ends_in_colons.ensures ∙ c.if-ends_in_colons.false in
-    omega (arith, reach_only n X (paragraph_only n X refl colons), run_size_some X, paragraph_len_is X, c.run_below_end-end.ensures.few, c.text_at.ensures.few)
+    record {
+      end = omega (arith, paragraph_only n X refl colons, c.run_below_end-end.ensures.end);
+      looks = omega (arith, reach_only n X (paragraph_only n X refl colons), run_size_some X, paragraph_len_is X, c.run_below_end-end.ensures.few, c.text_at.ensures.few);
+      low = search rules;
+    }

@@ -1,4 +1,4 @@
-use Rattle.std.proofs.Common.{ap, arith}
+use Rattle.std.proofs.Common.{rules, ap, arith}
 use Rattle.rst_text.specs.Block.{Block}
 use Rattle.rst_text.specs.Shown.{block_of}
 use Rattle.rst_markup_blocks.specs.Lines.{lines_while}
@@ -6,20 +6,14 @@ use Rattle.rst_markup_blocks.specs.Sizes.{run_size}
 use Rattle.rst_markup_blocks.proofs.LineLemmas.{drop_one}
 use Rattle.rst_markup_blocks.proofs.ends.run_below_end.Goals as goal
 
-pub returns-clause-end : goal.returns-clause-end
+pub returns : goal.returns
 unfolding run_size
-returns-clause-end c =
+returns c =
     let B : Block = block_of c.args.view.now in
-    omega (arith, c.lines_end.ensures.end, ap (λ X. lines_while c.args.test X) (drop_one c.args.i B))
-
-pub returns-clause-few : goal.returns-clause-few
-unfolding run_size
-returns-clause-few c =
-    let B : Block = block_of c.args.view.now in
-    omega (arith, c.lines_end.ensures.few, ap (λ X. lines_while c.args.test X) (drop_one c.args.i B))
-
-pub returns-clause-low : goal.returns-clause-low
-unfolding run_size
-returns-clause-low c =
-    let B : Block = block_of c.args.view.now in
-    omega (arith, c.lines_end.ensures.low, ap (λ X. lines_while c.args.test X) (drop_one c.args.i B))
+    record {
+      end = omega (arith, c.lines_end.ensures.end, ap (λ X. lines_while c.args.test X) (drop_one c.args.i B));
+      within = search rules;
+      after = search rules;
+      few = omega (arith, c.lines_end.ensures.few, ap (λ X. lines_while c.args.test X) (drop_one c.args.i B));
+      low = omega (arith, c.lines_end.ensures.low, ap (λ X. lines_while c.args.test X) (drop_one c.args.i B));
+    }

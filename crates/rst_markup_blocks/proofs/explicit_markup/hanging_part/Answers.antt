@@ -12,46 +12,34 @@ use Rattle.rst_markup_blocks.proofs.PartLemmas.{part_text, part_bare, looked_han
 use Rattle.rst_text.proofs.Reaches.{looked_is}
 use Rattle.rst_markup_blocks.proofs.explicit_markup.hanging_part.Goals as goal
 
-pub returns-then-not-bare-clause-part : goal.returns-then-not-bare-clause-part
-returns-then-not-bare-clause-part c =
+pub returns-then-not-bare : goal.returns-then-not-bare
+returns-then-not-bare c =
     let B : Block = block_of c.args.view.now in
     let X : Block = drop c.args.i B in
     let below = drop_one c.args.i B in
     let end : c.block_end-extent.result.end ≡ c.args.i + 1 + extent 1 (drop (c.args.i + 1) B) = ap (λ e. e.end) c.block_end-extent.ensures.extent in
     let indent : c.block_end-extent.result.indent ≡ least_of (drop (c.args.i + 1) B) = ap (λ e. e.indent) c.block_end-extent.ensures.extent in
-    part_text c.args.i c.args.cut c.block_end-extent.result.end c.block_end-extent.result.indent X c.args.bare c.if-not-bare.true
-    (omega (arith, end, hanging_is X, ap (λ Y. extent 1 Y) below)) (indent ∙ ap least_of below)
+    record {
+      part =
+          part_text c.args.i c.args.cut c.block_end-extent.result.end c.block_end-extent.result.indent X c.args.bare c.if-not-bare.true
+          (omega (arith, end, hanging_is X, ap (λ Y. extent 1 Y) below)) (indent ∙ ap least_of below);
+      looks = omega (arith, c.block_end-extent.ensures.looks, looked_hanging X (omega (arith, length-drop c.args.i B)), ap (λ Y. looked 1 Y) (drop_one c.args.i B));
+      low = omega (arith, c.block_end-extent.ensures.low, looked_is 1 (drop (c.args.i + 1) B), hanging_is (drop c.args.i B), ap (λ Y. extent 1 Y) (drop_one c.args.i B));
+    }
 
-pub returns-then-not-bare-clause-looks : goal.returns-then-not-bare-clause-looks
-returns-then-not-bare-clause-looks c =
-    let B : Block = block_of c.args.view.now in
-    let X : Block = drop c.args.i B in
-    omega (arith, c.block_end-extent.ensures.looks, looked_hanging X (omega (arith, length-drop c.args.i B)), ap (λ Y. looked 1 Y) (drop_one c.args.i B))
-
-pub returns-clause-part : goal.returns-clause-part
-returns-clause-part c =
+pub returns : goal.returns
+returns c =
     let B : Block = block_of c.args.view.now in
     let X : Block = drop c.args.i B in
     let below = drop_one c.args.i B in
     let end : c.block_end-extent.result.end ≡ c.args.i + 1 + extent 1 (drop (c.args.i + 1) B) = ap (λ e. e.end) c.block_end-extent.ensures.extent in
     let indent : c.block_end-extent.result.indent ≡ least_of (drop (c.args.i + 1) B) = ap (λ e. e.indent) c.block_end-extent.ensures.extent in
     let whole : c.block_end-extent.result.end ≡ c.args.i + hanging_size X = omega (arith, end, hanging_is X, ap (λ Y. extent 1 Y) below) in
-    part_bare c.args.i c.args.cut c.block_end-extent.result.end c.block_end-extent.result.indent c.min.result X c.args.bare c.if-not-bare.false
-    whole (indent ∙ ap least_of below)
-    (omega (arith, c.min.ensures, c.lines_end-start.ensures.end, end, ap (λ Y. extent 1 Y) below, ap (λ Y. lines_while Blank Y) below))
-
-pub returns-clause-looks : goal.returns-clause-looks
-returns-clause-looks c =
-    let B : Block = block_of c.args.view.now in
-    let X : Block = drop c.args.i B in
-    omega (arith, c.block_end-extent.ensures.looks, c.lines_end-start.ensures.looks, looked_hanging X (omega (arith, length-drop c.args.i B)), ap (λ Y. looked 1 Y) (drop_one c.args.i B), blank_below (drop (c.args.i + 1) B))
-
-pub returns-then-not-bare-clause-low : goal.returns-then-not-bare-clause-low
-returns-then-not-bare-clause-low c =
-    let B : Block = block_of c.args.view.now in
-    omega (arith, c.block_end-extent.ensures.low, looked_is 1 (drop (c.args.i + 1) B), hanging_is (drop c.args.i B), ap (λ Y. extent 1 Y) (drop_one c.args.i B))
-
-pub returns-clause-low : goal.returns-clause-low
-returns-clause-low c =
-    let B : Block = block_of c.args.view.now in
-    omega (arith, c.block_end-extent.ensures.low, c.lines_end-start.ensures.low, looked_is 1 (drop (c.args.i + 1) B), hanging_is (drop c.args.i B), ap (λ Y. extent 1 Y) (drop_one c.args.i B))
+    record {
+      part =
+          part_bare c.args.i c.args.cut c.block_end-extent.result.end c.block_end-extent.result.indent c.min.result X c.args.bare c.if-not-bare.false
+          whole (indent ∙ ap least_of below)
+          (omega (arith, c.min.ensures, c.lines_end-start.ensures.end, end, ap (λ Y. extent 1 Y) below, ap (λ Y. lines_while Blank Y) below));
+      looks = omega (arith, c.block_end-extent.ensures.looks, c.lines_end-start.ensures.looks, looked_hanging X (omega (arith, length-drop c.args.i B)), ap (λ Y. looked 1 Y) (drop_one c.args.i B), blank_below (drop (c.args.i + 1) B));
+      low = omega (arith, c.block_end-extent.ensures.low, c.lines_end-start.ensures.low, looked_is 1 (drop (c.args.i + 1) B), hanging_is (drop c.args.i B), ap (λ Y. extent 1 Y) (drop_one c.args.i B));
+    }

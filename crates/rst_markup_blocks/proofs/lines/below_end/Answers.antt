@@ -7,17 +7,11 @@ use Rattle.rst_markup_blocks.proofs.LineLemmas.{drop_one, looked_below}
 use Rattle.rst_text.proofs.Reaches.{looked_is}
 use Rattle.rst_markup_blocks.proofs.lines.below_end.Goals as goal
 
-pub returns-clause-end : goal.returns-clause-end
-returns-clause-end c =
+pub returns : goal.returns
+returns c =
     let B : Block = block_of c.args.view.now in
-    omega (arith, ap (λ e. e.end) c.block_end.ensures.extent, ap (λ X. extent c.args.least X) (drop_one c.args.i B))
-
-pub returns-clause-looks : goal.returns-clause-looks
-returns-clause-looks c =
-    let B : Block = block_of c.args.view.now in
-    omega (arith, c.block_end.ensures.looks, ap (λ X. looked c.args.least X) (drop_one c.args.i B), looked_below c.args.least (drop c.args.i B) (omega (arith, length-drop c.args.i B)))
-
-pub returns-clause-low : goal.returns-clause-low
-returns-clause-low c =
-    let B : Block = block_of c.args.view.now in
-    omega (arith, c.block_end.ensures.low, looked_is c.args.least (drop (c.args.i + 1) B), ap (λ X. extent c.args.least X) (drop_one c.args.i B))
+    record {
+      end = omega (arith, ap (λ e. e.end) c.block_end.ensures.extent, ap (λ X. extent c.args.least X) (drop_one c.args.i B));
+      looks = omega (arith, c.block_end.ensures.looks, ap (λ X. looked c.args.least X) (drop_one c.args.i B), looked_below c.args.least (drop c.args.i B) (omega (arith, length-drop c.args.i B)));
+      low = omega (arith, c.block_end.ensures.low, looked_is c.args.least (drop (c.args.i + 1) B), ap (λ X. extent c.args.least X) (drop_one c.args.i B));
+    }

@@ -25,33 +25,25 @@ returns-after-loop-i-clause-end c =
     let none = while_end c.loop-i.i c.args.test B (omega arith) in
     omega (arith, c.loop-i.invariant.at_line, c.loop-i.invariant.place)
 
-pub returns-then-not-passes-clause-end : goal.returns-then-not-passes-clause-end
-returns-then-not-passes-clause-end c =
-    let B : Block = block_of c.args.view.now in
-    let fails : passes c.args.test (front_text (drop c.loop-i.i B)) ≡ false = cc in
-    let stop = while_stop c.loop-i.i c.args.test B (omega arith) fails in
-    omega (arith, stop.0, c.loop-i.invariant.at_line, c.loop-i.invariant.place)
-
-pub returns-then-not-passes-clause-looks : goal.returns-then-not-passes-clause-looks
-returns-then-not-passes-clause-looks c =
+pub returns-then-not-passes : goal.returns-then-not-passes
+returns-then-not-passes c =
     let B : Block = block_of c.args.view.now in
     let fails : passes c.args.test (front_text (drop c.loop-i.i B)) ≡ false = cc in
     let stop = while_stop c.loop-i.i c.args.test B (omega arith) fails in
     let place : c.loop-i.i ≡ c.args.from + lines_while c.args.test (drop c.args.from B) = omega (arith, stop.0, c.loop-i.invariant.place) in
-    omega (arith, stop.1, behind_while c.args.from c.loop-i.i c.args.test B place, c.line.ensures.looks, c.loop-i.invariant.looks)
+    record {
+      end = omega (arith, stop.0, c.loop-i.invariant.at_line, c.loop-i.invariant.place);
+      within = search rules;
+      few = search rules;
+      looks = omega (arith, stop.1, behind_while c.args.from c.loop-i.i c.args.test B place, c.line.ensures.looks, c.loop-i.invariant.looks);
+      low = omega (arith, stop.0, c.loop-i.invariant.place, c.loop-i.invariant.low, c.line.ensures.looks);
+    }
 
 pub returns-after-loop-i-clause-low : goal.returns-after-loop-i-clause-low
 returns-after-loop-i-clause-low c =
     let B : Block = block_of c.args.view.now in
     let none = while_end c.loop-i.i c.args.test B (omega arith) in
     omega (arith, c.loop-i.invariant.place, c.loop-i.invariant.low)
-
-pub returns-then-not-passes-clause-low : goal.returns-then-not-passes-clause-low
-returns-then-not-passes-clause-low c =
-    let B : Block = block_of c.args.view.now in
-    let fails : passes c.args.test (front_text (drop c.loop-i.i B)) ≡ false = cc in
-    let stop = while_stop c.loop-i.i c.args.test B (omega arith) fails in
-    omega (arith, stop.0, c.loop-i.invariant.place, c.loop-i.invariant.low, c.line.ensures.looks)
 
 pub returns-in-Blank : goal.returns-in-Blank
 returns-in-Blank c =

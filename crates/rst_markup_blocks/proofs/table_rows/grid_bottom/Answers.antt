@@ -1,4 +1,4 @@
-use Rattle.std.proofs.Common.{◌≡◌, ◌-◌, drop, arith}
+use Rattle.std.proofs.Common.{rules, ◌≡◌, ◌-◌, drop, arith}
 use Rattle.rst_text.specs.Block.{Block}
 use Rattle.rst_text.specs.Shown.{block_of}
 use Rattle.rst_markup_blocks.specs.declared.lines.LineTest.TheVariants.{Drawn}
@@ -6,17 +6,13 @@ use Rattle.rst_markup_blocks.specs.Lines.{lines_while}
 use Rattle.rst_markup_blocks.proofs.TableLemmas.{grid_bottom-is, grid_bottom-below}
 use Rattle.rst_markup_blocks.proofs.table_rows.grid_bottom.Goals as goal
 
-pub returns-clause-bottom : goal.returns-clause-bottom
-returns-clause-bottom c =
+pub returns : goal.returns
+returns c =
     let X : Block = drop c.args.i (block_of c.args.view.now) in
     let through : c.loop-k.k - 2 ≡ lines_while Drawn X - 2 = omega (arith, c.requires.all, c.loop-k.invariant.among) in
-    grid_bottom-is X c.loop-k.k c.loop-k.bottom through c.loop-k.invariant.last
-
-pub returns-clause-within : goal.returns-clause-within
-returns-clause-within c =
-    let X : Block = drop c.args.i (block_of c.args.view.now) in
-    let through : c.loop-k.k - 2 ≡ lines_while Drawn X - 2 = omega (arith, c.requires.all, c.loop-k.invariant.among) in
-    grid_bottom-below X c.args.all c.loop-k.bottom c.requires.all (grid_bottom-is X c.loop-k.k c.loop-k.bottom through c.loop-k.invariant.last)
-
-pub returns-clause-looks : goal.returns-clause-looks
-returns-clause-looks c = omega (arith, c.loop-k.invariant.looks, c.loop-k.invariant.among)
+    record {
+      bottom = grid_bottom-is X c.loop-k.k c.loop-k.bottom through c.loop-k.invariant.last;
+      within = grid_bottom-below X c.args.all c.loop-k.bottom c.requires.all (grid_bottom-is X c.loop-k.k c.loop-k.bottom through c.loop-k.invariant.last);
+      looks = omega (arith, c.loop-k.invariant.looks, c.loop-k.invariant.among);
+      low = search rules;
+    }

@@ -16,22 +16,19 @@ use Rattle.rst_markup_tables.proofs.Numbered.{numbered-from}
 use Rattle.rst_markup_tables.proofs.GridLemmas.{drawn_rows, drawn-row, drawn-none, border-more, scan-over, scan-here}
 use Rattle.rst_markup_tables.proofs.grid_lines.drawn_lines.Goals as goal
 
-pub returns-then-not-is_drawn-clause-lines : goal.returns-then-not-is_drawn-clause-lines
-returns-then-not-is_drawn-clause-lines c =
+pub returns-then-not-is_drawn : goal.returns-then-not-is_drawn
+returns-then-not-is_drawn c =
     let B : Block = block_of c.args.view.now in
     let stop : is_drawn (front_text (drop c.loop-k.k B)) ≡ false = sym (c.is_drawn.ensures ∙ ap is_drawn c.line-text.ensures.text) ∙ c.if-not-is_drawn.true in
-    drawn-none (drop c.loop-k.k B) c.loop-k.lines.items (drawn_rows (drop c.args.i B)) (while_stop c.loop-k.k Drawn B (omega arith) stop).0 c.loop-k.invariant.lines
-
-pub returns-then-not-is_drawn-clause-bottom : goal.returns-then-not-is_drawn-clause-bottom
-returns-then-not-is_drawn-clause-bottom c =
-    let B : Block = block_of c.args.view.now in
     let X : Block = drop c.args.i B in
-    let stop : is_drawn (front_text (drop c.loop-k.k B)) ≡ false = sym (c.is_drawn.ensures ∙ ap is_drawn c.line-text.ensures.text) ∙ c.if-not-is_drawn.true in
     let all : c.loop-k.k - c.args.i - 2 ≡ lines_while Drawn X - 2 = omega (arith, c.loop-k.invariant.among, (while_stop c.loop-k.k Drawn B (omega arith) stop).0) in
-    grid_bottom-is X (c.loop-k.k - c.args.i) c.loop-k.bottom all c.loop-k.invariant.last
-
-pub returns-then-not-is_drawn-clause-looks : goal.returns-then-not-is_drawn-clause-looks
-returns-then-not-is_drawn-clause-looks c = omega (arith, scan-here (block_of c.args.view.now) c.args.i c.loop-k.k (omega arith) (omega arith) c.loop-k.invariant.among, c.loop-k.invariant.looks, c.line-text.ensures.looks)
+    record {
+      lines = drawn-none (drop c.loop-k.k B) c.loop-k.lines.items (drawn_rows (drop c.args.i B)) (while_stop c.loop-k.k Drawn B (omega arith) stop).0 c.loop-k.invariant.lines;
+      numbered = numbered-from _ _ c.loop-k.invariant.numbered;
+      bottom = grid_bottom-is X (c.loop-k.k - c.args.i) c.loop-k.bottom all c.loop-k.invariant.last;
+      looks = omega (arith, scan-here (block_of c.args.view.now) c.args.i c.loop-k.k (omega arith) (omega arith) c.loop-k.invariant.among, c.loop-k.invariant.looks, c.line-text.ensures.looks);
+      low = omega (arith, (while_stop c.loop-k.k Drawn B (omega arith) stop).0, c.loop-k.invariant.among, c.loop-k.invariant.low, c.line-text.ensures.looks);
+    }
 
 pub returns-in_err-line-clause-looks : goal.returns-in_err-line-clause-looks
 returns-in_err-line-clause-looks c = omega (arith, scan-here (block_of c.args.view.now) c.args.i c.loop-k.k (omega arith) (omega arith) c.loop-k.invariant.among, c.loop-k.invariant.looks, c.line-text.ensures.looks)
@@ -74,19 +71,10 @@ returns-clause-looks c =
     let over = scan-over X (c.loop-k.k - c.args.i) (omega (arith, c.loop-k.invariant.among)) (omega (arith, length-drop c.args.i B)) in
     omega (arith, over, c.loop-k.invariant.looks)
 
-pub returns-then-not-is_drawn-clause-low : goal.returns-then-not-is_drawn-clause-low
-returns-then-not-is_drawn-clause-low c =
-    let B : Block = block_of c.args.view.now in
-    let stop : is_drawn (front_text (drop c.loop-k.k B)) ≡ false = sym (c.is_drawn.ensures ∙ ap is_drawn c.line-text.ensures.text) ∙ c.if-not-is_drawn.true in
-    omega (arith, (while_stop c.loop-k.k Drawn B (omega arith) stop).0, c.loop-k.invariant.among, c.loop-k.invariant.low, c.line-text.ensures.looks)
-
 pub returns-clause-low : goal.returns-clause-low
 returns-clause-low c =
     let B : Block = block_of c.args.view.now in
     omega (arith, while_end c.loop-k.k Drawn B (omega arith), c.loop-k.invariant.among, c.loop-k.invariant.low)
-
-pub returns-then-not-is_drawn-clause-numbered : goal.returns-then-not-is_drawn-clause-numbered
-returns-then-not-is_drawn-clause-numbered c = numbered-from _ _ c.loop-k.invariant.numbered
 
 pub returns-clause-numbered : goal.returns-clause-numbered
 returns-clause-numbered c = numbered-from _ _ c.loop-k.invariant.numbered
