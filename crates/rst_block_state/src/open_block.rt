@@ -125,6 +125,9 @@ impl OpenBlock {
             spec.Closes closed self.old self.new pass.new.numbers no_run result }
         ensures looks { pass.new.looks ≤ pass.old.looks + 1 }
     {
+        if matches!(self.run, Run::None) {
+            return Ok(());
+        }
         let run = mem::replace(&mut self.run, Run::None);
         let ending = run.ending();
         run.put(&mut self.nodes, self.depth, pass)?;
