@@ -74,12 +74,7 @@ end_colons t j B h = rw h refl
 
 -- ---- all of a paragraph
 
--- a paragraph's own lines are those from its first one on that are neither blank nor indented
-own_lines : (X : Block) → 1 ≤ length X → is_loose (front_text X) ≡ false → lines_while Plain X ≡ paragraph_len X
-unfolding lines_while paragraph_len run_size
-own_lines [] h p = absurd (omega arith)
-own_lines (l ∷ ls) h p = rw p refl
-
+-- a paragraph's own lines are its first one and those below it that are neither blank nor indented
 own_some : (X : Block) → paragraph_len X ≡ suc (lines_while Plain (drop 1 X))
 unfolding paragraph_len run_size
 own_some X = refl
@@ -100,15 +95,14 @@ size_is X = refl
 -- the place where a paragraph ends, from its text
 pub record IsParagraph (B : Block) (i j : ℕ) (t : List ℕ) : Type 0 where
   pub inside : i < length B
-  pub plain : is_loose (front_text (drop i B)) ≡ false
-  pub end : j ≡ i + lines_while Plain (drop i B)
+  pub end : j ≡ i + 1 + lines_while Plain (drop (i + 1) B)
   pub text : t ≡ joined (take (j - i) (drop i B))
 
-pub found_paragraph : (B : Block) (i j : ℕ) (t : List ℕ) → i < length B → is_loose (front_text (drop i B)) ≡ false → j ≡ i + lines_while Plain (drop i B) → t ≡ joined (take (j - i) (drop i B)) → IsParagraph B i j t
-found_paragraph B i j t inside plain end text = record { inside = inside; plain = plain; end = end; text = text }
+pub found_paragraph : (B : Block) (i j : ℕ) (t : List ℕ) → i < length B → j ≡ i + 1 + lines_while Plain (drop (i + 1) B) → t ≡ joined (take (j - i) (drop i B)) → IsParagraph B i j t
+found_paragraph B i j t inside end text = record { inside = inside; end = end; text = text }
 
 len_is : (B : Block) (i j : ℕ) (t : List ℕ) → IsParagraph B i j t → j ≡ i + paragraph_len (drop i B)
-len_is B i j t p = p.end ∙ ap (λ n. i + n) (own_lines (drop i B) (omega (arith, p.inside, length-drop i B)) p.plain)
+len_is B i j t p = omega (arith, p.end, own_some (drop i B), ap (lines_while Plain) (lines_after B i 1 (i + 1) refl))
 
 pub ends_later : (B : Block) (i j : ℕ) (t : List ℕ) → IsParagraph B i j t → i < j
 ends_later B i j t p = omega (arith, len_is B i j t p, own_some (drop i B))
@@ -128,7 +122,7 @@ end_all B i j t p =
     let some : paragraph_len X ≡ suc (lines_while Plain (drop 1 (drop i B))) = own_some X in
     let size : j - i ≡ suc (lines_while Plain (drop 1 (drop i B))) = omega (arith, len, some) in
     let before : paragraph_len X - 1 ≡ lines_while Plain (drop 1 (drop i B)) = omega (arith, some) in
-    let within : lines_while Plain (drop 1 (drop i B)) < length X = omega (arith, own_within X, own_lines X (omega (arith, p.inside, length-drop i B)) p.plain, some) in
+    let within : lines_while Plain (drop 1 (drop i B)) < length X = omega (arith, own_within (drop 1 X), length-drop 1 X, length-drop i B, p.inside) in
     let tells : ends_in_colons t ≡ ends_in_colons (last_text X) =
     ap ends_in_colons (p.text ∙ ap (λ k. joined (take k X)) size) ∙ colons_last last X within ∙ ap (λ k. ends_in_colons (front_text (drop k X))) (sym before) in
     let more : ℕ = if ends_in_colons (last_text X) then literal_size (drop (paragraph_len X) X) else 0 in

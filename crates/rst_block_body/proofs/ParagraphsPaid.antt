@@ -1,5 +1,5 @@
 -- The looks at a paragraph and at the literal block that it announces.
-use Rattle.std.proofs.Common.{◌≡◌, ℕ, zero, suc, ◌+◌, ◌-◌, ◌*◌, ◌<◌, ◌≤◌, true, false, Some, [], ◌∷◌, List, length, drop, ap, ◌∙◌, arith}
+use Rattle.std.proofs.Common.{◌≡◌, ℕ, zero, suc, ◌+◌, ◌-◌, ◌*◌, ◌<◌, ◌≤◌, true, false, Some, [], ◌∷◌, List, length, drop, min, ap, ◌∙◌, arith}
 use Rattle.rst_text.specs.Block.{Block, front_text}
 use Rattle.rst_text.specs.Extent.{extent}
 use Rattle.rst_text.specs.Looked.{capped}
@@ -86,7 +86,7 @@ size_behind : (B : Block) (i j : ℕ) (t : List ℕ) → IsParagraph B i j t →
 size_behind B i j t p = omega (arith, end_all B i j t p, ends_later B i j t p)
 
 -- a paragraph, after the looks by which its end is found, and those at its lines again
-pub paragraph_most : (B : Block) (i j : ℕ) (t : List ℕ) (before end text after : ℕ) → IsParagraph B i j t → end ≤ before + lines_while Plain (drop i B) + 1 → text ≤ end + (j - i)
+pub paragraph_most : (B : Block) (i j : ℕ) (t : List ℕ) (before end text after : ℕ) → IsParagraph B i j t → end ≤ before + lines_while Plain (drop (i + 1) B) + 1 → text ≤ end + (j - i)
     → after ≤ text + 1 + 8 * reach (paragraph_end t j B - j) (drop j B) → after ≤ before + 20 * reach (paragraph_size (drop i B)) (drop i B)
 paragraph_most B i j t before end text after p few again most =
     let n : ℕ = j - i in
@@ -96,6 +96,6 @@ paragraph_most B i j t before end text after p few again most =
     ap (λ k. reach k (drop i B)) (size_behind B i j t p) ∙ reach_behind n m (drop i B) ∙ ap (λ X. n + reach m X) (lines_after B i n j (omega (arith, later))) in
     omega (arith, whole, later, p.end, few, again, most)
 
-pub paragraph_least : (B : Block) (i j : ℕ) (t : List ℕ) (before end text after : ℕ) → IsParagraph B i j t → capped (before + lines_while Plain (drop i B)) ≤ end → capped end ≤ text
+pub paragraph_least : (B : Block) (i j : ℕ) (t : List ℕ) (before end text after : ℕ) → IsParagraph B i j t → capped (before + lines_while Plain (drop (i + 1) B)) ≤ end → capped (end + min 1 (j - i)) ≤ text
     → capped (text + (paragraph_end t j B - j)) ≤ after → capped (before + paragraph_size (drop i B)) ≤ after
 paragraph_least B i j t before end text after p low again least = omega (arith, size_behind B i j t p, p.end, low, again, least)

@@ -1,6 +1,6 @@
 //! Paragraphs, literal blocks and doctest blocks (Markup Specification, 'Paragraphs', 'Literal Blocks', 'Doctest
 //! Blocks').
-ghost use Rattle.std.specs.Prelude.{◌≡◌, [], ◌+◌, ◌-◌, ◌*◌, ◌<◌, ◌≤◌, length, drop, codes, slice_range, true, false, IfOk};
+ghost use Rattle.std.specs.Prelude.{◌≡◌, [], ◌+◌, ◌-◌, ◌*◌, ◌<◌, ◌≤◌, length, drop, min, codes, slice_range, true, false, IfOk};
 ghost use Rattle.std.specs.Cow.{cow_str_bytes};
 ghost use Rattle.std.specs.Str.{chars};
 ghost use Rattle.rst_text.specs.Shown.{block_of};
@@ -67,7 +67,7 @@ pub(crate) fn paragraph(view: &View<'_>, level: &mut OpenBlock, pass: &mut Pass)
     ensures low { IfOk result (λ _. capped (pass.old.looks + paragraph_size (drop level.old.at (block_of view.now))) ≤ pass.new.looks) }
 {
     let at = level.at;
-    let end = lines_end(view, at, LineTest::Plain, &mut pass.looks);
+    let end = lines_end(view, at + 1, LineTest::Plain, &mut pass.looks);
     let text = text_between(pass.alloc, view, at, end, &mut pass.looks)?;
     let text = text.as_str();
     if !ends_in_colons(text) {
@@ -90,7 +90,7 @@ fn text_between<'a>(
     requires inside { from < length (block_of view.now) }
     ensures text { IfOk result (λ text. chars (cow_str_bytes text) ≡ joined (slice_range (block_of view.now) from to)) }
     ensures most { looks.new ≤ looks.old + (to - from) }
-    ensures low { IfOk result (λ _. capped looks.old ≤ looks.new) }
+    ensures low { IfOk result (λ _. capped (looks.old + min 1 (to - from)) ≤ looks.new) }
 {
     if to == from + 1 {
         return Ok(CowStr::Borrowed(view.line(from, looks)));

@@ -23,7 +23,7 @@ returns-then-not-ends_in_colons-clause-read c =
     let at : ℕ = c.args.level.now.at in
     let end : ℕ = c.lines_end-end.result in
     let t : List ℕ = chars c.as_str-text.result.now in
-    let p = found_paragraph B at end t c.requires.inside c.requires.plain c.lines_end-end.ensures.end (ap chars c.as_str-text.ensures.value ∙ c.in_ok-text.ensures.text) in
+    let p = found_paragraph B at end t c.requires.inside c.lines_end-end.ensures.end (ap chars c.as_str-text.ensures.value ∙ c.in_ok-text.ensures.text) in
     let later : at < end = ends_later B at end t p in
     let plain : ends_in_colons t ≡ false = sym c.ends_in_colons.ensures ∙ (let p : c.ends_in_colons.result ≡ false = search rules in p) in
     let read = c.in_ok-put_paragraph.ensures.read in
@@ -40,7 +40,7 @@ returns-then-not-ends_in_colons-clause-most c =
     let at : ℕ = c.args.level.now.at in
     let end : ℕ = c.lines_end-end.result in
     let t : List ℕ = chars c.as_str-text.result.now in
-    let p = found_paragraph B at end t c.requires.inside c.requires.plain c.lines_end-end.ensures.end (ap chars c.as_str-text.ensures.value ∙ c.in_ok-text.ensures.text) in
+    let p = found_paragraph B at end t c.requires.inside c.lines_end-end.ensures.end (ap chars c.as_str-text.ensures.value ∙ c.in_ok-text.ensures.text) in
     paragraph_most B at end t _ _ c.text_between.new.looks _ p c.lines_end-end.ensures.few c.text_between.ensures.most (omega (arith, c.in_ok-put_paragraph.ensures.looks))
 
 pub returns-then-not-ends_in_colons-clause-low : goal.returns-then-not-ends_in_colons-clause-low
@@ -49,7 +49,7 @@ returns-then-not-ends_in_colons-clause-low c =
     let at : ℕ = c.args.level.now.at in
     let end : ℕ = c.lines_end-end.result in
     let t : List ℕ = chars c.as_str-text.result.now in
-    let p = found_paragraph B at end t c.requires.inside c.requires.plain c.lines_end-end.ensures.end (ap chars c.as_str-text.ensures.value ∙ c.in_ok-text.ensures.text) in
+    let p = found_paragraph B at end t c.requires.inside c.lines_end-end.ensures.end (ap chars c.as_str-text.ensures.value ∙ c.in_ok-text.ensures.text) in
     let plain : ends_in_colons t ≡ false = sym c.ends_in_colons.ensures ∙ (let p : c.ends_in_colons.result ≡ false = search rules in p) in
     paragraph_least B at end t _ _ c.text_between.new.looks _ p c.lines_end-end.ensures.low c.in_ok-text.ensures.low (omega (arith, end_plain t end B plain, c.in_ok-put_paragraph.ensures.low))
 
@@ -59,7 +59,7 @@ literal-requires-clause-behind c =
     let at : ℕ = c.args.level.now.at in
     let end : ℕ = c.lines_end-end.result in
     let t : List ℕ = chars c.as_str-text.result.now in
-    let p = found_paragraph B at end t c.requires.inside c.requires.plain c.lines_end-end.ensures.end (ap chars c.as_str-text.ensures.value ∙ c.in_ok-text.ensures.text) in
+    let p = found_paragraph B at end t c.requires.inside c.lines_end-end.ensures.end (ap chars c.as_str-text.ensures.value ∙ c.in_ok-text.ensures.text) in
     omega (arith, c.put_paragraph-2.ensures.at, ends_later B at end t p)
 
 pub returns-clause-read : goal.returns-clause-read
@@ -69,7 +69,7 @@ returns-clause-read c =
     let end : ℕ = c.lines_end-end.result in
     let t : List ℕ = chars c.as_str-text.result.now in
     let u : List ℕ = chars c.announced.result.now in
-    let p = found_paragraph B at end t c.requires.inside c.requires.plain c.lines_end-end.ensures.end (ap chars c.as_str-text.ensures.value ∙ c.in_ok-text.ensures.text) in
+    let p = found_paragraph B at end t c.requires.inside c.lines_end-end.ensures.end (ap chars c.as_str-text.ensures.value ∙ c.in_ok-text.ensures.text) in
     let colons : ends_in_colons t ≡ true = sym c.ends_in_colons.ensures ∙ (let p : c.ends_in_colons.result ≡ true = search rules in p) in
     let read = c.in_ok-put_paragraph-2.ensures.read in
     let L : List Node = literal_nodes (first_number (drop (end - 1) B)) (drop end B) in
@@ -85,7 +85,7 @@ returns-clause-most c =
     let at : ℕ = c.args.level.now.at in
     let end : ℕ = c.lines_end-end.result in
     let t : List ℕ = chars c.as_str-text.result.now in
-    let p = found_paragraph B at end t c.requires.inside c.requires.plain c.lines_end-end.ensures.end (ap chars c.as_str-text.ensures.value ∙ c.in_ok-text.ensures.text) in
+    let p = found_paragraph B at end t c.requires.inside c.lines_end-end.ensures.end (ap chars c.as_str-text.ensures.value ∙ c.in_ok-text.ensures.text) in
     let colons : ends_in_colons t ≡ true = sym c.ends_in_colons.ensures ∙ (let p : c.ends_in_colons.result ≡ true = search rules in p) in
     IfOk-weaker c.literal.result _ _ (λ _ g. paragraph_most B at end t _ _ c.text_between.new.looks _ p c.lines_end-end.ensures.few c.text_between.ensures.most (announced_most t end B _ _ _ colons c.in_ok-put_paragraph-2.ensures.looks g)) c.literal.ensures.most
 
@@ -95,6 +95,6 @@ returns-clause-low c =
     let at : ℕ = c.args.level.now.at in
     let end : ℕ = c.lines_end-end.result in
     let t : List ℕ = chars c.as_str-text.result.now in
-    let p = found_paragraph B at end t c.requires.inside c.requires.plain c.lines_end-end.ensures.end (ap chars c.as_str-text.ensures.value ∙ c.in_ok-text.ensures.text) in
+    let p = found_paragraph B at end t c.requires.inside c.lines_end-end.ensures.end (ap chars c.as_str-text.ensures.value ∙ c.in_ok-text.ensures.text) in
     let colons : ends_in_colons t ≡ true = sym c.ends_in_colons.ensures ∙ (let p : c.ends_in_colons.result ≡ true = search rules in p) in
     IfOk-weaker c.literal.result _ _ (λ _ g. paragraph_least B at end t _ _ c.text_between.new.looks _ p c.lines_end-end.ensures.low c.in_ok-text.ensures.low (announced_least t end B _ _ _ colons c.in_ok-put_paragraph-2.ensures.low g)) c.literal.ensures.low
