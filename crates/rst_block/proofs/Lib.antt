@@ -1,12 +1,13 @@
-pub mod CellsRead
 pub mod BudgetLemmas
 pub mod CellFacts
+pub mod CellsRead
 pub mod DocumentLooks
 pub mod InsideReads
 pub mod LastLevel
 pub mod MachinePaid
 pub mod MarkupFacts
 pub mod OpenedFacts
+pub mod Places
 pub mod Stack
 pub mod Waiting
 pub mod Work

@@ -3,6 +3,7 @@
 #![tactic(auto, using(rst_block_state::proofs::Views::few_lines))]
 
 mod ended;
+mod frames;
 pub mod laws;
 mod machine;
 mod parsing;

@@ -1,5 +1,5 @@
 //! The machine: the constructs of a block one after the other, and the blocks inside them.
-ghost use Rattle.std.specs.Prelude.{◌≡◌, Ok, suc, ◌+◌, ◌-◌, ◌<◌, ◌≤◌, ◌++◌, ◌∷◌, [], length, IfOk, IfSome, IfNone, IsTrue};
+ghost use Rattle.std.specs.Prelude.{◌≡◌, Ok, suc, ◌+◌, ◌-◌, ◌<◌, ◌≤◌, ◌∷◌, [], length, IfOk, IsTrue};
 ghost use Rattle.rst_text.specs.Lines.{are_lines};
 ghost use Rattle.rst_text.specs.Looked.{capped};
 ghost use Rattle.rst_text.specs.Shown.{block_of};
@@ -15,12 +15,12 @@ ghost use Rattle.rst_block_state.specs.Inside.{cell_blocks};
 ghost use Rattle.rst_markup_tables.specs.declared.results.TableResult.TheVariants.{Table};
 
 use super::ended::closed;
+use super::frames::Frames;
 use super::resume::resume;
 use super::step::step_at;
-use arrayvec::ArrayVec;
 use rst_block_body::table::{after_table, entry_of, table_of};
 use rst_block_state::{
-    BlockFault, DEEPEST, Ended, Frame, OpenBlock, Pass, Result, Step, Waits, inside, opened,
+    BlockFault, DEEPEST, Ended, OpenBlock, Pass, Result, Step, Waits, inside, opened,
 };
 use rst_markup_blocks::{LineTest, Part, lines_end};
 use rst_markup_tables::{Cell, Rows, TableResult};
@@ -28,9 +28,6 @@ use rst_text::{Lines, View};
 use rst_tree::{Attrs, Tag};
 use rst_tree_index::{Marked, MarkedNodes};
 use std::alloc::Global;
-
-/// The blocks that wait for one inside them, the outermost first.
-pub(crate) type Frames = ArrayVec<Frame, 250, Global>;
 
 /// Reads the lines of a text: of a document, or of a table's cell, that stands in as many blocks as `depth` says. The blocks that
 /// wait, those of the text behind those round it, stand in `frames`.
@@ -42,8 +39,8 @@ pub(crate) fn read(
     pass: &mut Pass,
 ) -> Result<OpenBlock>
     requires depth { depth ≤ 251 }
-    requires room { length frames.old.items ≤ depth }
-    ensures frames { IfOk result (λ _. frames.new.items ≡ frames.old.items) }
+    requires room { length frames.old ≤ depth }
+    ensures frames { IfOk result (λ _. frames.new ≡ frames.old) }
     ensures depth { IfOk result (λ level. level.depth ≡ depth) }
     ensures read { Keeps result (λ level. just (done_of level) pass.new.numbers) (text_items depth lines.now pass.old.numbers) }
     ensures paid { IfOk result (λ _. TakesFor (total_at depth lines.now) pass.old.looks pass.new.looks) }
@@ -66,8 +63,8 @@ fn read_blocks(
     pass: &mut Pass,
 ) -> Result<OpenBlock>
     requires depth { depth ≤ 250 }
-    requires room { length frames.old.items ≤ depth }
-    ensures frames { IfOk result (λ _. frames.new.items ≡ frames.old.items) }
+    requires room { length frames.old ≤ depth }
+    ensures frames { IfOk result (λ _. frames.new ≡ frames.old) }
     ensures depth { IfOk result (λ level. level.depth ≡ depth) }
     ensures read { Keeps result (λ level. just (done_of level) pass.new.numbers)
         (block_items (within_at depth) (block_of whole.entry) pass.old.numbers) }
@@ -90,16 +87,17 @@ fn read_blocks(
                 if inner > DEEPEST {
                     flat(&view, &mut level, waits, first, second, pass)?
                 } else {
-                    frames.push(opened(pass.alloc, &view, &mut level, waits, second, inner));
+                    let frame = opened(pass.alloc, &view, &mut level, waits, second, inner);
+                    frames.push(pass.alloc, frame)?;
                     view = inside(&view, first);
                     Step::Next
                 }
             }
-            Step::Done => match last_of(frames, base) {
+            Step::Done => match frames.pop(base) {
                 None => return Ok(level),
                 Some(frame) => match closed(&whole, frame, &mut level, inner - 1, pass)? {
                     Ended::Waiting(frame, part) => {
-                        frames.push(frame);
+                        frames.push(pass.alloc, frame)?;
                         view = part;
                         Step::Next
                     }
@@ -133,18 +131,6 @@ fn next(view: &View<'_>, level: &mut OpenBlock, pass: &mut Pass) -> Result<Step>
     }
     level.close(view, pass)?;
     Ok(Step::Done)
-}
-
-/// Takes the last of the blocks that wait, but for the first ones, as many as `base` says.
-fn last_of(frames: &mut Frames, base: usize) -> Option<Frame>
-    requires { base ≤ length frames.old.items }
-    ensures none { IfNone result ((frames.new.items ≡ frames.old.items) × (length frames.old.items ≡ base)) }
-    ensures some { IfSome result (λ f. (frames.old.items ≡ frames.new.items ++ f ∷ []) × (base < length frames.old.items)) }
-{
-    if frames.len() == base {
-        return None;
-    }
-    frames.pop()
 }
 
 /// Refuses lines that are nested too deeply, unless they are blank.
@@ -205,10 +191,10 @@ fn cells(
 ) -> Result<Step>
     requires inside { level.old.at < length (block_of view.now) }
     requires depth { depth ≤ 251 }
-    requires room { length frames.old.items ≤ depth }
+    requires room { length frames.old ≤ depth }
     requires level { depth ≡ suc level.old.depth }
     requires table { spec.IsTable level.old.at found }
-    ensures frames { IfOk result (λ _. frames.new.items ≡ frames.old.items) }
+    ensures frames { IfOk result (λ _. frames.new ≡ frames.old) }
     ensures next { IfOk result (λ s. s ≡ Next) }
     ensures later { IfOk result (λ _. level.old.at < level.new.at) }
     ensures kept { IfOk result (λ _. level.new.depth ≡ level.old.depth) }
@@ -241,9 +227,9 @@ fn cells(
 #[cycle(machine)]
 fn rows_of(rows: Rows, depth: usize, frames: &mut Frames, pass: &mut Pass) -> Result<MarkedNodes>
     requires depth { depth ≤ 251 }
-    requires room { length frames.old.items ≤ depth }
+    requires room { length frames.old ≤ depth }
     requires inner { 1 ≤ depth }
-    ensures frames { IfOk result (λ _. frames.new.items ≡ frames.old.items) }
+    ensures frames { IfOk result (λ _. frames.new ≡ frames.old) }
     ensures rows { Keeps result (λ made. Ok (made, pass.new.numbers))
         (each (tables.row_of (within_at (depth - 1))) rows pass.old.numbers) }
     ensures paid { IfOk result (λ _. TakesFor (totals (depth - 1) (cell_blocks (Table [] 0 rows 0))) pass.old.looks pass.new.looks) }
@@ -260,9 +246,9 @@ fn rows_of(rows: Rows, depth: usize, frames: &mut Frames, pass: &mut Pass) -> Re
 #[cycle(machine)]
 fn row_of(cells: Vec<Cell>, depth: usize, frames: &mut Frames, pass: &mut Pass) -> Result<Marked>
     requires depth { depth ≤ 251 }
-    requires room { length frames.old.items ≤ depth }
+    requires room { length frames.old ≤ depth }
     requires inner { 1 ≤ depth }
-    ensures frames { IfOk result (λ _. frames.new.items ≡ frames.old.items) }
+    ensures frames { IfOk result (λ _. frames.new ≡ frames.old) }
     ensures row { Keeps result (λ node. Ok (node, pass.new.numbers)) (tables.row_of (within_at (depth - 1)) cells.items pass.old.numbers) }
     ensures paid { let inner = cell_blocks (Table [] 0 (cells.items ∷ []) 0) in
         IfOk result (λ _. TakesFor (totals (depth - 1) inner) pass.old.looks pass.new.looks) }

@@ -6,8 +6,8 @@ ghost use Rattle.rst_block.specs.Documents as spec;
 ghost use Rattle.rst_tree.specs.Faults.{Gives};
 ghost use Rattle.std.specs.Prelude.{◌≡◌, IfOk};
 
-use super::machine::{Frames, read};
-use arrayvec::ArrayVec;
+use super::frames::Frames;
+use super::machine::read;
 use rst_block_nodes::Numbers;
 use rst_block_sections::document;
 use rst_block_state::{Pass, Result};
@@ -55,7 +55,7 @@ pub fn parse(alloc: Global, lines: &Lines) -> Result<Parsed>
         looks: Looks::none(),
         numbers: Numbers::none(),
     };
-    let mut frames: Frames = ArrayVec::new_in(alloc);
+    let mut frames = Frames::none(alloc);
     let level = read(lines, 0, &mut frames, &mut pass)?;
     Ok(Parsed {
         document: document(alloc, level.nodes, level.headings)?,

@@ -33,32 +33,32 @@ decreases-row_of l = 5 * (251 - l.depth) + 3
 -- the blocks that wait make of what comes in the block that is read all that the text gives
 abbrev pub invariant-read_blocks-loop-now : goal.invariant-read_blocks-loop-now
 invariant-read_blocks-loop-now l = record {
-  base : l.base ≤ length l.frames.items;
+  base : l.base ≤ length l.frames;
   under : l.base ≤ l.depth;
-  room : l.depth + (length l.frames.items - l.base) ≤ 250;
-  outer : take l.base l.frames.items ≡ l.fn.frames.items;
-  waiting : AreFrames (source_of l.whole) (drop l.base l.frames.items);
+  room : l.depth + (length l.frames - l.base) ≤ 250;
+  outer : take l.base l.frames ≡ l.fn.frames;
+  waiting : AreFrames (source_of l.whole) (drop l.base l.frames);
   text : source_of l.view ≡ source_of l.whole;
   now : IsNow (block_of l.view) l.level.at l.now;
-  depth : l.level.depth ≡ l.depth + (length l.frames.items - l.base);
-  nested : AreNested l.depth (drop l.base l.frames.items);
-  read : plug (source_of l.whole) (drop l.base l.frames.items) (comes l.level (block_of l.view) l.now) l.pass.numbers ≡ block_items (within_at l.depth) (block_of l.whole) l.fn.pass.numbers;
-  paid : IsPaidFor (total_at l.depth (block_of l.whole)) (source_of l.whole) (drop l.base l.frames.items) l.level (block_of l.view) l.now l.fn.pass.looks l.pass.looks;
+  depth : l.level.depth ≡ l.depth + (length l.frames - l.base);
+  nested : AreNested l.depth (drop l.base l.frames);
+  read : plug (source_of l.whole) (drop l.base l.frames) (comes l.level (block_of l.view) l.now) l.pass.numbers ≡ block_items (within_at l.depth) (block_of l.whole) l.fn.pass.numbers;
+  paid : IsPaidFor (total_at l.depth (block_of l.whole)) (source_of l.whole) (drop l.base l.frames) l.level (block_of l.view) l.now l.fn.pass.looks l.pass.looks;
 }
 
 abbrev pub decreases-read_blocks-loop-now : goal.decreases-read_blocks-loop-now
-decreases-read_blocks-loop-now l = all_left (2 ^ 64) (250 - l.depth) (source_of l.whole) (drop l.base l.frames.items) (length (block_of l.view)) l.level.at l.now
+decreases-read_blocks-loop-now l = all_left (2 ^ 64) (250 - l.depth) (source_of l.whole) (drop l.base l.frames) (length (block_of l.view)) l.level.at l.now
 
 abbrev pub invariant-rows_of-loop-cells : goal.invariant-rows_of-loop-cells
 invariant-rows_of-loop-cells l = record {
-  frames : l.frames.items ≡ l.fn.frames.items;
+  frames : l.frames ≡ l.fn.frames;
   made : each_after (row_of (within_at (l.depth - 1))) l.made (cells_of (into_iter_items l.cells-iterator)) l.pass.numbers ≡ each (row_of (within_at (l.depth - 1))) l.fn.rows l.fn.pass.numbers;
   paid : AreLeft (totals (l.depth - 1) (cell_blocks (Table [] 0 l.fn.rows 0))) (totals (l.depth - 1) (row_lines (into_iter_items l.cells-iterator))) l.fn.pass.looks l.pass.looks;
 }
 
 abbrev pub invariant-row_of-loop-cell : goal.invariant-row_of-loop-cell
 invariant-row_of-loop-cell l = record {
-  frames : l.frames.items ≡ l.fn.frames.items;
+  frames : l.frames ≡ l.fn.frames;
   made : each_after (entry_of (within_at (l.depth - 1))) l.entries (into_iter_items l.cell-iterator) l.pass.numbers ≡ each (entry_of (within_at (l.depth - 1))) l.fn.cells.items l.fn.pass.numbers;
   paid : AreLeft (totals (l.depth - 1) (cell_lines l.fn.cells.items)) (totals (l.depth - 1) (cell_lines (into_iter_items l.cell-iterator))) l.fn.pass.looks l.pass.looks;
 }
