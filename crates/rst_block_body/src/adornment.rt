@@ -37,7 +37,6 @@ pub fn adornment(
     requires inside { level.old.at < length (block_of view.now) }
     requires begun { IsBegun (drop level.old.at (block_of view.now)) (marks.Adornment mark) }
     ensures step { IfOk result (λ s. spec.IsStep (block_of view.now) level.old.at level.new.at s) }
-    ensures kept { IfOk result (λ _. level.new.depth ≡ level.old.depth) }
     ensures read { Keeps result (λ s. comes level.new (block_of view.now) s pass.new.numbers)
         (reads level.old (block_of view.now) pass.old.numbers) }
     ensures paid { IfOk result (λ s. IsPaid 29 level.old level.new (block_of view.now) s pass.old.looks pass.new.looks) }
@@ -110,7 +109,6 @@ fn transition(view: &View<'_>, level: &mut OpenBlock, pass: &mut Pass) -> Result
     requires inside { level.old.at < length (block_of view.now) }
     requires found { IsNextConstruct level.old (block_of view.now) transition 1 }
     ensures later { IfOk result (λ _. level.old.at < level.new.at) }
-    ensures kept { IfOk result (λ _. level.new.depth ≡ level.old.depth) }
     ensures read { Keeps result (λ _. reads level.new (block_of view.now) pass.new.numbers)
         (reads level.old (block_of view.now) pass.old.numbers) }
     ensures paid { IfOk result (λ _. IsPaid 27 level.old level.new (block_of view.now) Next pass.old.looks pass.new.looks) }
@@ -127,7 +125,6 @@ fn short(view: &View<'_>, level: &mut OpenBlock, text: &str, pass: &mut Pass) ->
     requires inside { level.old.at < length (block_of view.now) }
     requires text { IsText level.old (block_of view.now) (said Info (first_number (drop level.old.at (block_of view.now))) text.now ∷ []) }
     ensures step { IfOk result (λ s. spec.IsStep (block_of view.now) level.old.at level.new.at s) }
-    ensures kept { IfOk result (λ _. level.new.depth ≡ level.old.depth) }
     ensures read { Keeps result (λ s. comes level.new (block_of view.now) s pass.new.numbers)
         (reads level.old (block_of view.now) pass.old.numbers) }
     ensures paid { IfOk result (λ s. IsPaid 27 level.old level.new (block_of view.now) s pass.old.looks pass.new.looks) }
@@ -142,7 +139,6 @@ fn wrong(view: &View<'_>, level: &mut OpenBlock, form: WrongForm, pass: &mut Pas
     requires inside { level.old.at < length (block_of view.now) }
     requires found { IsNextConstruct level.old (block_of view.now) (misplaced_lines form.gravity form.text.now) form.lines }
     ensures later { IfOk result (λ _. level.old.at < level.new.at) }
-    ensures kept { IfOk result (λ _. level.new.depth ≡ level.old.depth) }
     ensures read { Keeps result (λ _. reads level.new (block_of view.now) pass.new.numbers)
         (reads level.old (block_of view.now) pass.old.numbers) }
     ensures paid { IfOk result (λ _. IsPaid 27 level.old level.new (block_of view.now) Next pass.old.looks pass.new.looks) }
@@ -170,7 +166,6 @@ fn overlined(
     requires found { IsNextConstruct level.old (block_of view.now) (overlined_title mark short) 3 }
     requires titles { level.old.depth ≡ 0 }
     ensures later { IfOk result (λ _. level.old.at < level.new.at) }
-    ensures kept { IfOk result (λ _. level.new.depth ≡ level.old.depth) }
     ensures read { Keeps result (λ _. reads level.new (block_of view.now) pass.new.numbers)
         (reads level.old (block_of view.now) pass.old.numbers) }
     ensures paid { IfOk result (λ _. IsPaid 27 level.old level.new (block_of view.now) Next pass.old.looks pass.new.looks) }

@@ -39,7 +39,6 @@ pub fn doctest_block(view: &View<'_>, level: &mut OpenBlock, pass: &mut Pass) ->
     requires inside { level.old.at < length (block_of view.now) }
     requires begun { IsBegun (drop level.old.at (block_of view.now)) Doctest }
     ensures later { IfOk result (λ _. level.old.at < level.new.at) }
-    ensures kept { IfOk result (λ _. level.new.depth ≡ level.old.depth) }
     ensures read { Keeps result (λ _. reads level.new (block_of view.now) pass.new.numbers)
         (reads level.old (block_of view.now) pass.old.numbers) }
     ensures paid { IfOk result (λ _. IsPaid 29 level.old level.new (block_of view.now) Next pass.old.looks pass.new.looks) }

@@ -27,7 +27,6 @@ pub fn block_quote(view: &View<'_>, level: &mut OpenBlock, pass: &mut Pass) -> R
     requires inside { level.old.at < length (block_of view.now) }
     requires begun { IsBegun (drop level.old.at (block_of view.now)) Quote }
     ensures step { IfOk result (λ s. spec.IsStep (block_of view.now) level.old.at level.new.at s) }
-    ensures kept { IfOk result (λ _. level.new.depth ≡ level.old.depth) }
     ensures read { Keeps result (λ s. comes level.new (block_of view.now) s pass.new.numbers)
         (reads level.old (block_of view.now) pass.old.numbers) }
     ensures paid { IfOk result (λ s. IsPaid 29 level.old level.new (block_of view.now) s pass.old.looks pass.new.looks) }
@@ -51,7 +50,6 @@ pub fn quote_part(
     requires filled { quote.from < quote.to }
     ensures step { IfOk result (λ s. spec.IsStep (block_of view.now) level.old.at level.new.at s) }
     ensures resumed { IfOk result (λ s. spec.IsResumed (block_of view.now) level.old.at level.new.at s) }
-    ensures kept { IfOk result (λ _. level.new.depth ≡ level.old.depth) }
     ensures read { Keeps result (λ s. comes level.new (block_of view.now) s pass.new.numbers)
         (quotes_from level.old (block_of view.now) [] quote pass.old.numbers) }
     ensures paid { IfOk result (λ s. AreQuotesPaid level.old level.new (block_of view.now) quote quote.to s pass.old.looks pass.new.looks) }

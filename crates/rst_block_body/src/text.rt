@@ -37,7 +37,6 @@ pub fn text_line(
     requires inside { level.old.at < length (block_of view.now) }
     requires text { IsText level.old (block_of view.now) infos.items }
     ensures step { IfOk result (λ s. spec.IsStep (block_of view.now) level.old.at level.new.at s) }
-    ensures kept { IfOk result (λ _. level.new.depth ≡ level.old.depth) }
     ensures read { Keeps result (λ s. comes level.new (block_of view.now) s pass.new.numbers)
         (reads level.old (block_of view.now) pass.old.numbers) }
     ensures paid { IfOk result (λ s. IsPaid 27 level.old level.new (block_of view.now) s pass.old.looks pass.new.looks) }

@@ -22,18 +22,14 @@ pub returns-in_err-close-clause-read : goal.returns-in_err-close-clause-read
 returns-in_err-close-clause-read c =
     close_refuses c.from_residual.result c.in_err-close.field-0.0 _ _ _ c.args.level.now (search rules) c.in_err-close.ensures.closed (λ line h. next_refused _ c.requires.found tt h)
 
-pub returns-clause-kept : goal.returns-clause-kept
-returns-clause-kept c =
-    gives_kept _ _ c.push_heading.result c.push_heading.ensures.title
-    (λ _ h. h.depth ∙ c.go_to.ensures.moved.depth ∙ c.in_ok-close.ensures.closed.depth)
-
-pub returns-clause-read : goal.returns-clause-read
-returns-clause-read c =
+pub returns : goal.returns
+returns c =
     let B : Block = block_of c.args.view.now in
     let l = c.args.level.now in
     let found = c.requires.found in
     let within : l.at + 3 ≤ length B = next_within found c.requires.inside in
     let stop : c.saturating_add-end.result ≡ l.at + 3 = end_behind l.at c.close.new.self.at c.saturating_add-end.result 3 (length B) c.close.ensures.at c.saturating_add-end.ensures within (few_lines c.args.view.now) in
+    let looked : length (slice_range B c.close.new.self.at c.saturating_add-end.result) ≡ 3 = lines_looked B c.close.new.self.at c.saturating_add-end.result c.close.ensures.at stop within in
     let bytes : string_bytes c.in_ok-lines.lines ≡ source_of B (span_to l.at (l.at + 3)) =
     c.in_ok-lines.ensures.bytes ∙ ap (λ i. source_of B (span_to i c.saturating_add-end.result)) c.close.ensures.at ∙ ap (λ i. source_of B (span_to l.at i)) stop in
     let second : c.saturating_add.result ≡ l.at + 1 = omega (arith, c.saturating_add.ensures, c.close.ensures.at, within, few_lines c.args.view.now) in
@@ -50,25 +46,17 @@ returns-clause-read c =
     let at : c.go_to.new.self.at ≡ l.at + 3 =
     goes_behind l.at c.close.new.self.at c.go_to.new.self.at c.saturating_add-end.result 3 (length B) c.close.ensures.at c.saturating_add-end.ensures (next_some found c.requires.inside)
     within (few_lines c.args.view.now) c.go_to.ensures.there in
-    gives_keeps _ c.push_heading.result _ _ c.push_heading.ensures.title
-    (λ _ h. next_title found tt (has_ended B _ c.in_ok-close.ensures.closed)
-    (overlined_reads c.args.mark c.args.short B l.at (l.at + 3) c.number_at-line.result c.close.new.pass.numbers (chars c.skip-text.result.now) (string_bytes c.in_ok-lines.lines) c.in_ok-warning.warning _
-    text line warning bytes c.in_ok-heading.ensures.title)
-    refl c.go_to.ensures.moved at h)
-
-pub returns-clause-paid : goal.returns-clause-paid
-returns-clause-paid c =
-    let B : Block = block_of c.args.view.now in
-    let l = c.args.level.now in
-    let found = c.requires.found in
-    let within : l.at + 3 ≤ length B = next_within found c.requires.inside in
-    let stop : c.saturating_add-end.result ≡ l.at + 3 = end_behind l.at c.close.new.self.at c.saturating_add-end.result 3 (length B) c.close.ensures.at c.saturating_add-end.ensures within (few_lines c.args.view.now) in
-    let looked : length (slice_range B c.close.new.self.at c.saturating_add-end.result) ≡ 3 = lines_looked B c.close.new.self.at c.saturating_add-end.result c.close.ensures.at stop within in
-    let at : c.go_to.new.self.at ≡ l.at + 3 =
-    goes_behind l.at c.close.new.self.at c.go_to.new.self.at c.saturating_add-end.result 3 (length B) c.close.ensures.at c.saturating_add-end.ensures (next_some found c.requires.inside)
-    within (few_lines c.args.view.now) c.go_to.ensures.there in
+    let closed = c.in_ok-close.ensures.closed in
     let moved = c.go_to.ensures.moved in
-    gives_kept _ _ c.push_heading.result c.push_heading.ensures.title
-    (λ _ h. paid_flat 27 c.push_heading.new.self c.args.pass.now.looks c.heading_of.new.pass.looks found tt c.in_ok-close.ensures.closed (h.depth ∙ moved.depth) (h.run ∙ moved.run) (h.at ∙ at)
-    (omega (arith, c.close.ensures.run, c.source.ensures.most, stop, c.close.ensures.at, c.text_at-text.ensures.few, c.heading_of.ensures.looks))
-    (omega (arith, c.close.ensures.low, c.in_ok-lines.ensures.each, looked, c.text_at-text.ensures.low, c.heading_of.ensures.looks)))
+    record {
+      later = search rules;
+      read = gives_keeps _ c.push_heading.result _ _ c.push_heading.ensures.title
+          (λ _ h. next_title found tt (has_ended B _ closed)
+          (overlined_reads c.args.mark c.args.short B l.at (l.at + 3) c.number_at-line.result c.close.new.pass.numbers (chars c.skip-text.result.now) (string_bytes c.in_ok-lines.lines) c.in_ok-warning.warning _
+          text line warning bytes c.in_ok-heading.ensures.title)
+          refl moved at h);
+      paid = gives_kept _ _ c.push_heading.result c.push_heading.ensures.title
+          (λ _ h. paid_flat 27 c.push_heading.new.self c.args.pass.now.looks c.heading_of.new.pass.looks found tt closed (h.depth ∙ moved.depth) (h.run ∙ moved.run) (h.at ∙ at)
+          (omega (arith, c.close.ensures.run, c.source.ensures.most, stop, c.close.ensures.at, c.text_at-text.ensures.few, c.heading_of.ensures.looks))
+          (omega (arith, c.close.ensures.low, c.in_ok-lines.ensures.each, looked, c.text_at-text.ensures.low, c.heading_of.ensures.looks)));
+    }

@@ -1,4 +1,4 @@
-use Rattle.std.proofs.Common.{◌≡◌, ◌+◌, ◌∷◌, [], length, drop, Ok, arith, rules, refl, sym, ◌∙◌, ap}
+use Rattle.std.proofs.Common.{◌≡◌, ◌+◌, ◌∷◌, [], length, drop, Ok, arith, rules, sym, ◌∙◌, ap}
 use Rattle.rst_text.specs.Block.{Block, first_number}
 use Rattle.rst_text.specs.Shown.{block_of}
 use Rattle.rst_tree.specs.declared.node.Node.{Node}
@@ -14,12 +14,8 @@ pub returns-in_err-close-clause-read : goal.returns-in_err-close-clause-read
 returns-in_err-close-clause-read c =
     close_refuses c.from_residual.result c.in_err-close.field-0.0 _ _ _ c.args.level.now (search rules) c.in_err-close.ensures.closed (λ line h. next_refused _ c.requires.found tt h)
 
-pub returns-clause-kept : goal.returns-clause-kept
-returns-clause-kept c =
-    gives_kept _ _ c.push.result c.push.ensures.more (λ _ h. h.depth ∙ c.go_to.ensures.moved.depth ∙ c.in_ok-close.ensures.closed.depth)
-
-pub returns-clause-read : goal.returns-clause-read
-returns-clause-read c =
+pub returns : goal.returns
+returns c =
     let B : Block = block_of c.args.view.now in
     let l = c.args.level.now in
     let found = c.requires.found in
@@ -28,18 +24,14 @@ returns-clause-read c =
     let at : c.go_to.new.self.at ≡ l.at + 1 =
     goes_behind l.at c.close.new.self.at c.go_to.new.self.at c.saturating_add.result 1 (length B) c.close.ensures.at c.saturating_add.ensures (next_some found c.requires.inside)
     (next_within found c.requires.inside) (few_lines c.args.view.now) c.go_to.ensures.there in
-    gives_keeps _ c.push.result _ _ c.push.ensures.more
-    (λ _ h. next_nodes (c.element-node.result ∷ []) found tt (has_ended B _ c.in_ok-close.ensures.closed)
-    (ap (λ (n : Node). Ok (plain n ∷ [], c.close.new.pass.numbers)) (sym node)) (moved_more c.go_to.ensures.moved at h))
-
-pub returns-clause-paid : goal.returns-clause-paid
-returns-clause-paid c =
-    let l = c.args.level.now in
-    let found = c.requires.found in
-    let at : c.go_to.new.self.at ≡ l.at + 1 =
-    goes_behind l.at c.close.new.self.at c.go_to.new.self.at c.saturating_add.result 1 (length (block_of c.args.view.now)) c.close.ensures.at c.saturating_add.ensures (next_some found c.requires.inside)
-    (next_within found c.requires.inside) (few_lines c.args.view.now) c.go_to.ensures.there in
+    let closed = c.in_ok-close.ensures.closed in
     let moved = c.go_to.ensures.moved in
-    gives_kept _ _ c.push.result c.push.ensures.more
-    (λ _ h. paid_flat 27 c.push.new.self c.args.pass.now.looks c.close.new.pass.looks found tt c.in_ok-close.ensures.closed (h.depth ∙ moved.depth) (h.run ∙ moved.run) (h.at ∙ at)
-    (omega (arith, c.close.ensures.run)) (omega (arith, c.close.ensures.low)))
+    record {
+      later = search rules;
+      read = gives_keeps _ c.push.result _ _ c.push.ensures.more
+          (λ _ h. next_nodes (c.element-node.result ∷ []) found tt (has_ended B _ closed)
+          (ap (λ (n : Node). Ok (plain n ∷ [], c.close.new.pass.numbers)) (sym node)) (moved_more moved at h));
+      paid = gives_kept _ _ c.push.result c.push.ensures.more
+          (λ _ h. paid_flat 27 c.push.new.self c.args.pass.now.looks c.close.new.pass.looks found tt closed (h.depth ∙ moved.depth) (h.run ∙ moved.run) (h.at ∙ at)
+          (omega (arith, c.close.ensures.run)) (omega (arith, c.close.ensures.low)));
+    }

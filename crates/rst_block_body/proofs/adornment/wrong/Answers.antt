@@ -1,4 +1,4 @@
-use Rattle.std.proofs.Common.{◌≡◌, ◌+◌, ◌≤◌, ◌∷◌, [], length, drop, Ok, slice_range, arith, rules, refl, sym, ◌∙◌, ap}
+use Rattle.std.proofs.Common.{◌≡◌, ◌+◌, ◌≤◌, ◌∷◌, [], length, drop, Ok, slice_range, arith, rules, sym, ◌∙◌, ap}
 use Rattle.rst_text.specs.Block.{Block, first_number}
 use Rattle.rst_text.specs.Shown.{block_of}
 use Rattle.rst_tree.specs.declared.node.Node.{Node}
@@ -15,12 +15,8 @@ pub returns-in_err-close-clause-read : goal.returns-in_err-close-clause-read
 returns-in_err-close-clause-read c =
     close_refuses c.from_residual.result c.in_err-close.field-0.0 _ _ _ c.args.level.now (search rules) c.in_err-close.ensures.closed (λ line h. next_refused _ c.requires.found tt h)
 
-pub returns-clause-kept : goal.returns-clause-kept
-returns-clause-kept c =
-    gives_kept _ _ c.push.result c.push.ensures.more (λ _ h. h.depth ∙ c.go_to.ensures.moved.depth ∙ c.in_ok-close.ensures.closed.depth)
-
-pub returns-clause-read : goal.returns-clause-read
-returns-clause-read c =
+pub returns : goal.returns
+returns c =
     let B : Block = block_of c.args.view.now in
     let l = c.args.level.now in
     let form = c.args.form in
@@ -28,30 +24,21 @@ returns-clause-read c =
     let within : l.at + form.lines ≤ length B = next_within found c.requires.inside in
     let stop : c.saturating_add-end.result ≡ l.at + form.lines =
     end_behind l.at c.close.new.self.at c.saturating_add-end.result form.lines (length B) c.close.ensures.at c.saturating_add-end.ensures within (few_lines c.args.view.now) in
+    let looked : length (slice_range B c.close.new.self.at c.saturating_add-end.result) ≡ form.lines = lines_looked B c.close.new.self.at c.saturating_add-end.result c.close.ensures.at stop within in
     let node : c.in_ok-node.node ≡ shown form.gravity (first_number (drop l.at B)) form.text.now (source_of B (span_to l.at (l.at + form.lines))) =
     message_is B form.gravity form.text.now c.as_str.result.now c.in_ok-node.node l.at c.close.new.self.at c.number_at-line.result c.saturating_add-end.result (l.at + form.lines) c.close.ensures.at
     c.in_ok-node.ensures c.number_at-line.ensures (c.as_str.ensures.value ∙ c.in_ok-block.ensures.bytes) stop in
     let at : c.go_to.new.self.at ≡ l.at + form.lines =
     goes_behind l.at c.close.new.self.at c.go_to.new.self.at c.saturating_add-end.result form.lines (length B) c.close.ensures.at c.saturating_add-end.ensures (next_some found c.requires.inside)
     within (few_lines c.args.view.now) c.go_to.ensures.there in
-    gives_keeps _ c.push.result _ _ c.push.ensures.more
-    (λ _ h. next_nodes (c.in_ok-node.node ∷ []) found tt (has_ended B _ c.in_ok-close.ensures.closed)
-    (ap (λ (n : Node). Ok (plain n ∷ [], c.close.new.pass.numbers)) (sym node)) (moved_more c.go_to.ensures.moved at h))
-
-pub returns-clause-paid : goal.returns-clause-paid
-returns-clause-paid c =
-    let B : Block = block_of c.args.view.now in
-    let l = c.args.level.now in
-    let lines = c.args.form.lines in
-    let found = c.requires.found in
-    let within : l.at + lines ≤ length B = next_within found c.requires.inside in
-    let stop : c.saturating_add-end.result ≡ l.at + lines =
-    end_behind l.at c.close.new.self.at c.saturating_add-end.result lines (length B) c.close.ensures.at c.saturating_add-end.ensures within (few_lines c.args.view.now) in
-    let looked : length (slice_range B c.close.new.self.at c.saturating_add-end.result) ≡ lines = lines_looked B c.close.new.self.at c.saturating_add-end.result c.close.ensures.at stop within in
-    let at : c.go_to.new.self.at ≡ l.at + lines =
-    goes_behind l.at c.close.new.self.at c.go_to.new.self.at c.saturating_add-end.result lines (length B) c.close.ensures.at c.saturating_add-end.ensures (next_some found c.requires.inside)
-    within (few_lines c.args.view.now) c.go_to.ensures.there in
+    let closed = c.in_ok-close.ensures.closed in
     let moved = c.go_to.ensures.moved in
-    gives_kept _ _ c.push.result c.push.ensures.more
-    (λ _ h. paid_flat 27 c.push.new.self c.args.pass.now.looks c.source.new.looks found tt c.in_ok-close.ensures.closed (h.depth ∙ moved.depth) (h.run ∙ moved.run) (h.at ∙ at)
-    (omega (arith, c.close.ensures.run, c.source.ensures.most, stop, c.close.ensures.at)) (omega (arith, c.close.ensures.low, c.in_ok-block.ensures.each, looked)))
+    record {
+      later = search rules;
+      read = gives_keeps _ c.push.result _ _ c.push.ensures.more
+          (λ _ h. next_nodes (c.in_ok-node.node ∷ []) found tt (has_ended B _ closed)
+          (ap (λ (n : Node). Ok (plain n ∷ [], c.close.new.pass.numbers)) (sym node)) (moved_more moved at h));
+      paid = gives_kept _ _ c.push.result c.push.ensures.more
+          (λ _ h. paid_flat 27 c.push.new.self c.args.pass.now.looks c.source.new.looks found tt closed (h.depth ∙ moved.depth) (h.run ∙ moved.run) (h.at ∙ at)
+          (omega (arith, c.close.ensures.run, c.source.ensures.most, stop, c.close.ensures.at)) (omega (arith, c.close.ensures.low, c.in_ok-block.ensures.each, looked)));
+    }

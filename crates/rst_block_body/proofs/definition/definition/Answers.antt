@@ -20,46 +20,33 @@ returns-in_err-join_list-clause-read c =
     plain_refused c.from_residual.result c.in_err-join_list.field-0.0 _ Definition _ (search rules) refl
     (next_definition l B c.args.infos.items c.requires.text c.requires.form c.indented-body.ensures.part) c.in_err-join_list.ensures.joins c.in_err-join_list.ensures.begins
 
-pub returns-clause-kept : goal.returns-clause-kept
-returns-clause-kept c =
+pub returns : goal.returns
+returns c =
     let B = block_of c.args.view.now in
     let l = c.args.level.now in
-    let mark = definition_item c.args.infos.items in
-    let opened : IsOpened l c.join_list.new.level B Definition (empty_list mark (drop l.at B)) c.indented-body.result.to c.args.pass.now.numbers c.join_list.new.pass.numbers =
-    record { joins = c.in_ok-join_list.ensures.joins; numbers = c.in_ok-join_list.ensures.numbers; begins = c.in_ok-join_list.ensures.begins } in
-    c.go_to.ensures.moved.depth ∙ c.in_ok-put_before.ensures.run.depth ∙ opened_depth mark refl opened
-
-pub returns-clause-read : goal.returns-clause-read
-returns-clause-read c =
-    let B = block_of c.args.view.now in
-    let l = c.args.level.now in
-    let mark = definition_item c.args.infos.items in
+    let infos = c.args.infos.items in
+    let mark = definition_item infos in
     let part = c.indented-body.result in
+    let is = c.indented-body.ensures.part in
     let line = c.number_at-line.result in
     let heads = c.in_ok-heads.heads.heads in
     let notes = c.in_ok-heads.heads.notes in
     let waits = ListedBody line DefinitionListItem DefinitionTag heads notes in
     let k = c.join_list.new.pass.numbers in
     let m = c.term_and_classifiers.new.numbers in
-    let opened : IsOpened l c.join_list.new.level B Definition (empty_list mark (drop l.at B)) part.to c.args.pass.now.numbers k =
-    record { joins = c.in_ok-join_list.ensures.joins; numbers = c.in_ok-join_list.ensures.numbers; begins = c.in_ok-join_list.ensures.begins } in
-    let next = next_definition l B c.args.infos.items c.requires.text c.requires.form c.indented-body.ensures.part in
-    plain_item l c.join_list.new.level c.put_before.new.level c.go_to.new.self B mark Definition (Open waits part None) (λ w. item_with w B DefinitionListItem DefinitionTag line part heads.items notes.items) part.to
-    c.args.pass.now.numbers k m refl next opened c.in_ok-put_before.ensures.run c.go_to.ensures.moved
-    (c.go_to.ensures.there (rw (c.put_before.ensures.at, c.in_ok-join_list.ensures.at) (item_behind next c.requires.inside)))
-    (λ r h. body_means c.go_to.new.self B line DefinitionListItem DefinitionTag heads.items notes.items waits part r m h (λ ns. refl))
-    (definition_made (within_at l.depth) B l.at c.args.infos.items (drop l.at B) k refl c.number_at-line.ensures c.line-term.ensures.text c.indented-body.ensures.part c.in_ok-heads.ensures.read)
-
-pub returns-clause-paid : goal.returns-clause-paid
-returns-clause-paid c =
-    let B = block_of c.args.view.now in
-    let l = c.args.level.now in
-    let infos = c.args.infos.items in
-    let part = c.indented-body.ensures.part in
     let start = c.args.pass.now.looks in
     let mid = c.indented-body.new.looks in
-    let next = next_definition l B infos c.requires.text c.requires.form part in
-    paid_item 25 (ListedBody c.number_at-line.result DefinitionListItem DefinitionTag c.in_ok-heads.heads.heads c.in_ok-heads.heads.notes) c.indented-body.result start start mid c.line-term.new.looks (omega arith)
-    next (definition_is B l.at infos part) (found_below B l.at start mid part c.indented-body.ensures.reach c.indented-body.ensures.low) refl tt refl (returns-clause-kept c)
-    (c.go_to.ensures.there (rw (c.put_before.ensures.at, c.in_ok-join_list.ensures.at) (item_behind next c.requires.inside))) (omega arith)
-    (omega (arith, c.in_ok-join_list.ensures.low, c.line-term.ensures.looks)) (omega (arith, c.in_ok-join_list.ensures.looks, c.line-term.ensures.looks))
+    let opened : IsOpened l c.join_list.new.level B Definition (empty_list mark (drop l.at B)) part.to c.args.pass.now.numbers k =
+    record { joins = c.in_ok-join_list.ensures.joins; numbers = c.in_ok-join_list.ensures.numbers; begins = c.in_ok-join_list.ensures.begins } in
+    let next = next_definition l B infos c.requires.text c.requires.form is in
+    let there = c.go_to.ensures.there (rw (c.put_before.ensures.at, c.in_ok-join_list.ensures.at) (item_behind next c.requires.inside)) in
+    record {
+      step = search rules;
+      read = plain_item l c.join_list.new.level c.put_before.new.level c.go_to.new.self B mark Definition (Open waits part None) (λ w. item_with w B DefinitionListItem DefinitionTag line part heads.items notes.items) part.to
+          c.args.pass.now.numbers k m refl next opened c.in_ok-put_before.ensures.run c.go_to.ensures.moved there
+          (λ r h. body_means c.go_to.new.self B line DefinitionListItem DefinitionTag heads.items notes.items waits part r m h (λ ns. refl))
+          (definition_made (within_at l.depth) B l.at infos (drop l.at B) k refl c.number_at-line.ensures c.line-term.ensures.text is c.in_ok-heads.ensures.read);
+      paid = paid_item 25 waits part start start mid c.line-term.new.looks (omega arith) next (definition_is B l.at infos is)
+          (found_below B l.at start mid is c.indented-body.ensures.reach c.indented-body.ensures.low) refl tt refl (c.go_to.ensures.moved.depth ∙ c.in_ok-put_before.ensures.run.depth ∙ opened_depth mark refl opened)
+          there (omega arith) (omega (arith, c.in_ok-join_list.ensures.low, c.line-term.ensures.looks)) (omega (arith, c.in_ok-join_list.ensures.looks, c.line-term.ensures.looks));
+    }

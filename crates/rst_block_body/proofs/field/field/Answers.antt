@@ -22,47 +22,35 @@ returns-in_err-join_list-clause-read c =
     plain_refused c.from_residual.result c.in_err-join_list.field-0.0 _ Field _ (search rules) refl (next_field l B c.requires.begun c.hanging-body.ensures.part)
     c.in_err-join_list.ensures.joins c.in_err-join_list.ensures.begins
 
-pub returns-clause-kept : goal.returns-clause-kept
-returns-clause-kept c =
-    let B = block_of c.args.view.now in
-    let l = c.args.level.now in
-    let mark = field_item c.args.mark in
-    let opened : IsOpened l c.join_list.new.level B Field (empty_list mark (drop l.at B)) c.hanging-body.result.to c.args.pass.now.numbers c.join_list.new.pass.numbers =
-    record { joins = c.in_ok-join_list.ensures.joins; numbers = c.in_ok-join_list.ensures.numbers; begins = c.in_ok-join_list.ensures.begins } in
-    c.go_to.ensures.moved.depth ∙ opened_depth mark refl opened
-
-pub returns-clause-read : goal.returns-clause-read
-returns-clause-read c =
+pub returns : goal.returns
+returns c =
     let B = block_of c.args.view.now in
     let l = c.args.level.now in
     let mid = c.join_list.new.level in
     let mark = field_item c.args.mark in
     let part = c.hanging-body.result in
+    let is = c.hanging-body.ensures.part in
     let line = c.number_at-line.result in
     let heads = c.push.new.self in
     let notes = c.in_ok-name-2.name.notes in
     let waits = ListedBody line FieldTag FieldBody heads notes in
     let k = c.join_list.new.pass.numbers in
     let m = c.with_text.new.numbers in
+    let start = c.args.pass.now.looks in
+    let found = c.hanging-body.new.looks in
     let opened : IsOpened l mid B Field (empty_list mark (drop l.at B)) part.to c.args.pass.now.numbers k =
     record { joins = c.in_ok-join_list.ensures.joins; numbers = c.in_ok-join_list.ensures.numbers; begins = c.in_ok-join_list.ensures.begins } in
     let text = sym (chars_from_encodes _ (string_bytes c.in_ok-name.name) (IsUtf8-string_bytes c.in_ok-name.name) (sym c.in_ok-name.ensures)) in
-    let next = next_field l B c.requires.begun c.hanging-body.ensures.part in
-    plain_item l mid mid c.go_to.new.self B mark Field (Open waits part None) (λ w. item_with w B FieldTag FieldBody line part heads.items notes.items) part.to c.args.pass.now.numbers k m
-    refl next opened (none_noted mid) c.go_to.ensures.moved (c.go_to.ensures.there (rw c.in_ok-join_list.ensures.at (item_behind next c.requires.inside)))
-    (λ r h. body_means c.go_to.new.self B line FieldTag FieldBody heads.items notes.items waits part r m h (λ ns. refl))
-    (field_made (within_at l.depth) B l.at c.args.mark (drop l.at B) k c.number_at-line.ensures (ap chars c.as_str.ensures.value ∙ text ∙ ap (λ t. slice_range t c.args.mark.name.from c.args.mark.name.to) c.line.ensures.text)
-    c.hanging-body.ensures.part (search rules) c.in_ok-name-2.ensures.read)
-
-pub returns-clause-paid : goal.returns-clause-paid
-returns-clause-paid c =
-    let B = block_of c.args.view.now in
-    let l = c.args.level.now in
-    let part = c.hanging-body.ensures.part in
-    let start = c.args.pass.now.looks in
-    let mid = c.hanging-body.new.looks in
-    let next = next_field l B c.requires.begun part in
-    paid_item 29 (ListedBody c.number_at-line.result FieldTag FieldBody c.push.new.self c.in_ok-name-2.name.notes) c.hanging-body.result start start mid c.line.new.looks (omega arith) next part
-    (found_hanging B l.at c.args.mark.marker start mid part c.hanging-body.ensures.reach c.hanging-body.ensures.low) refl tt refl (returns-clause-kept c)
-    (c.go_to.ensures.there (rw c.in_ok-join_list.ensures.at (item_behind next c.requires.inside))) (omega arith)
-    (omega (arith, c.in_ok-join_list.ensures.low, c.line.ensures.looks)) (omega (arith, c.in_ok-join_list.ensures.looks, c.line.ensures.looks))
+    let next = next_field l B c.requires.begun is in
+    let there = c.go_to.ensures.there (rw c.in_ok-join_list.ensures.at (item_behind next c.requires.inside)) in
+    record {
+      step = search rules;
+      read = plain_item l mid mid c.go_to.new.self B mark Field (Open waits part None) (λ w. item_with w B FieldTag FieldBody line part heads.items notes.items) part.to c.args.pass.now.numbers k m
+          refl next opened (none_noted mid) c.go_to.ensures.moved there
+          (λ r h. body_means c.go_to.new.self B line FieldTag FieldBody heads.items notes.items waits part r m h (λ ns. refl))
+          (field_made (within_at l.depth) B l.at c.args.mark (drop l.at B) k c.number_at-line.ensures (ap chars c.as_str.ensures.value ∙ text ∙ ap (λ t. slice_range t c.args.mark.name.from c.args.mark.name.to) c.line.ensures.text)
+          is (search rules) c.in_ok-name-2.ensures.read);
+      paid = paid_item 29 waits part start start found c.line.new.looks (omega arith) next is
+          (found_hanging B l.at c.args.mark.marker start found is c.hanging-body.ensures.reach c.hanging-body.ensures.low) refl tt refl (c.go_to.ensures.moved.depth ∙ opened_depth mark refl opened)
+          there (omega arith) (omega (arith, c.in_ok-join_list.ensures.low, c.line.ensures.looks)) (omega (arith, c.in_ok-join_list.ensures.looks, c.line.ensures.looks));
+    }

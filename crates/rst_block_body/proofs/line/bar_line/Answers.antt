@@ -22,11 +22,8 @@ returns-in_err-close-clause-read c =
     close_refuses c.from_residual-in_err-close.result c.in_err-close.field-0.0 _ _ _ l (search rules) c.in_err-close.ensures.closed
     (λ line h. sym (ap (reads l B) c.in_ok-text.ensures.numbers) ∙ line_refused _ (sym c.lines_end_at.ensures ∙ c.if-lines_end_at.false) (next_of (Line c.args.marker) l B c.requires.begun tt) h)
 
-pub returns-then-lines_end_at-clause-kept : goal.returns-then-lines_end_at-clause-kept
-returns-then-lines_end_at-clause-kept c = gives_kept _ _ c.add_line.result c.add_line.ensures.line (λ _ h. h.0.depth)
-
-pub returns-then-lines_end_at-clause-read : goal.returns-then-lines_end_at-clause-read
-returns-then-lines_end_at-clause-read c =
+pub returns-then-lines_end_at : goal.returns-then-lines_end_at
+returns-then-lines_end_at c =
     let B = block_of c.args.view.now in
     let l = c.args.level.now in
     let m = c.args.marker in
@@ -38,16 +35,19 @@ returns-then-lines_end_at-clause-read c =
     let some : l.at < l.at + lines = next_some next c.requires.inside in
     let line : (last : ℕ) → indented_by (unwrap_or bar.indent last) bar ≡ indented_line (indentation_of last m) B m (span_to l.at (l.at + lines)) =
     λ last. c.in_ok-text.ensures.line last ∙ ap (λ i. indented_line (indentation_of last m) B m (span_to l.at i)) stop in
-    gives_keeps _ c.add_line.result _ _ c.add_line.ensures.line
-    (λ _ h. ap (reads new B) c.in_ok-text.ensures.numbers
-    ∙ line_joined bar c.args.pass.now.numbers (sym c.lines_end_at.ensures ∙ c.if-lines_end_at.true) next line
-    (subst (λ i. HasLine l new (line_added bar i (open_of l.run))) stop h.0) (h.1 (omega (arith, stop, some)) ∙ stop))
+    record {
+      later = search rules;
+      read = gives_keeps _ c.add_line.result _ _ c.add_line.ensures.line
+          (λ _ h. ap (reads new B) c.in_ok-text.ensures.numbers
+          ∙ line_joined bar c.args.pass.now.numbers (sym c.lines_end_at.ensures ∙ c.if-lines_end_at.true) next line
+          (subst (λ i. HasLine l new (line_added bar i (open_of l.run))) stop h.0) (h.1 (omega (arith, stop, some)) ∙ stop));
+      paid = gives_kept _ _ c.add_line.result c.add_line.ensures.line
+          (λ _ h. line_paid c.indented_end-end.result _ _ _ _ c.requires.inside c.requires.begun stop h.0.depth h.1 c.indented_end-end.ensures.few c.indented_end-end.ensures.low
+          c.in_ok-text.ensures.most c.in_ok-text.ensures.low (omega arith) (omega arith));
+    }
 
-pub returns-clause-kept : goal.returns-clause-kept
-returns-clause-kept c = gives_kept _ _ c.add_line-2.result c.add_line-2.ensures.line (λ _ h. h.0.depth ∙ c.in_ok-close.ensures.closed.depth)
-
-pub returns-clause-read : goal.returns-clause-read
-returns-clause-read c =
+pub returns : goal.returns
+returns c =
     let B = block_of c.args.view.now in
     let l = c.args.level.now in
     let m = c.args.marker in
@@ -62,20 +62,14 @@ returns-clause-read c =
     let some : l.at < l.at + lines = next_some next c.requires.inside in
     let line : (last : ℕ) → indented_by (unwrap_or bar.indent last) bar ≡ indented_line (indentation_of last m) B m (span_to l.at (l.at + lines)) =
     λ last. c.in_ok-text.ensures.line last ∙ ap (λ i. indented_line (indentation_of last m) B m (span_to l.at i)) stop in
-    gives_keeps _ c.add_line-2.result _ _ c.add_line-2.ensures.line
-    (λ _ h. line_begun opened bar l.at (sym c.lines_end_at.ensures ∙ c.if-lines_end_at.false) next line (has_ended B _ c.in_ok-close.ensures.closed) run
-    (subst (λ i. HasLine opened new (line_added bar i (open_of opened.run))) stop h.0) (h.1 (omega (arith, stop, some, c.close.ensures.at)) ∙ stop)
-    ∙ ap (reads l B) c.in_ok-text.ensures.numbers)
-
-pub returns-then-lines_end_at-clause-paid : goal.returns-then-lines_end_at-clause-paid
-returns-then-lines_end_at-clause-paid c =
-    gives_kept _ _ c.add_line.result c.add_line.ensures.line
-    (λ _ h. line_paid c.indented_end-end.result _ _ _ _ c.requires.inside c.requires.begun c.indented_end-end.ensures.end h.0.depth h.1 c.indented_end-end.ensures.few c.indented_end-end.ensures.low
-    c.in_ok-text.ensures.most c.in_ok-text.ensures.low (omega arith) (omega arith))
-
-pub returns-clause-paid : goal.returns-clause-paid
-returns-clause-paid c =
-    let at : c.close.new.self.at ≡ c.args.level.now.at = c.close.ensures.at in
-    gives_kept _ _ c.add_line-2.result c.add_line-2.ensures.line
-    (λ _ h. line_paid c.indented_end-end.result _ _ _ _ c.requires.inside c.requires.begun c.indented_end-end.ensures.end (h.0.depth ∙ c.in_ok-close.ensures.closed.depth) (λ gone. h.1 (omega (arith, at, gone)))
-    c.indented_end-end.ensures.few c.indented_end-end.ensures.low c.in_ok-text.ensures.most c.in_ok-text.ensures.low c.close.ensures.run c.close.ensures.low)
+    let closed = c.in_ok-close.ensures.closed in
+    record {
+      later = search rules;
+      read = gives_keeps _ c.add_line-2.result _ _ c.add_line-2.ensures.line
+          (λ _ h. line_begun opened bar l.at (sym c.lines_end_at.ensures ∙ c.if-lines_end_at.false) next line (has_ended B _ closed) run
+          (subst (λ i. HasLine opened new (line_added bar i (open_of opened.run))) stop h.0) (h.1 (omega (arith, stop, some, c.close.ensures.at)) ∙ stop)
+          ∙ ap (reads l B) c.in_ok-text.ensures.numbers);
+      paid = gives_kept _ _ c.add_line-2.result c.add_line-2.ensures.line
+          (λ _ h. line_paid c.indented_end-end.result _ _ _ _ c.requires.inside c.requires.begun stop (h.0.depth ∙ closed.depth) (λ gone. h.1 (omega (arith, c.close.ensures.at, gone)))
+          c.indented_end-end.ensures.few c.indented_end-end.ensures.low c.in_ok-text.ensures.most c.in_ok-text.ensures.low c.close.ensures.run c.close.ensures.low);
+    }

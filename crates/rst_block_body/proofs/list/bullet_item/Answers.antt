@@ -7,15 +7,26 @@ use Rattle.rst_block_body.proofs.ListItems.{item_behind, next_bullet, item_refus
 use Rattle.rst_block_body.proofs.ListsPaid.{found_item, paid_item}
 use Rattle.rst_block_body.proofs.list.bullet_item.Goals as goal
 
-pub returns-then-eq-clause-read : goal.returns-then-eq-clause-read
-returns-then-eq-clause-read c =
+pub returns-then-eq : goal.returns-then-eq
+returns-then-eq c =
     let B = block_of c.args.view.now in
     let l = c.args.level.now in
     let n = c.args.pass.now.numbers in
-    let next = next_bullet l B c.requires.begun c.item_part-body.ensures.part in
+    let start = c.args.pass.now.looks in
+    let mid = c.item_part-body.new.looks in
+    let part = c.item_part-body.ensures.part in
+    let moved = c.opened.ensures.moved in
+    let next = next_bullet l B c.requires.begun part in
     let kind : c.list_kind.result ≡ Some (Bullet c.args.mark) = search rules in
-    listed_joins n refl c.opened.ensures.waits next (bullet_joins l c.args.mark c.args.marker c.item_part-body.result.to (sym c.list_kind.ensures ∙ kind)) c.join.ensures.run c.opened.ensures.moved
-    (c.opened.ensures.there (rw c.join.ensures.at (item_behind next c.requires.inside))) (bullet_made l B c.args.mark c.args.marker n c.number_at-line.ensures c.item_part-body.ensures.part)
+    let there = c.opened.ensures.there (rw c.join.ensures.at (item_behind next c.requires.inside)) in
+    record {
+      step = search rules;
+      read = listed_joins n refl c.opened.ensures.waits next (bullet_joins l c.args.mark c.args.marker c.item_part-body.result.to (sym c.list_kind.ensures ∙ kind)) c.join.ensures.run moved there
+          (bullet_made l B c.args.mark c.args.marker n c.number_at-line.ensures part);
+      paid = paid_item 29 (ListItem c.number_at-line.result) c.item_part-body.result start start mid mid (omega arith) next part
+          (found_item B l.at c.args.marker start mid part c.item_part-body.ensures.reach c.item_part-body.ensures.low) c.opened.ensures.waits tt refl (moved.depth ∙ c.join.ensures.run.depth)
+          there (omega arith) (omega arith) (omega arith);
+    }
 
 pub returns-in_err-close-clause-read : goal.returns-in_err-close-clause-read
 returns-in_err-close-clause-read c =
@@ -25,43 +36,24 @@ returns-in_err-close-clause-read c =
     (λ line h. item_refused _ (next_bullet l (block_of c.args.view.now) c.requires.begun c.item_part-body.ensures.part)
     (bullet_begins l c.args.mark c.args.marker c.item_part-body.result.to (λ e. other (c.list_kind.ensures ∙ e))) h)
 
-pub returns-clause-kept : goal.returns-clause-kept
-returns-clause-kept c =
-    c.opened-2.ensures.moved.depth ∙ c.in_ok-begin.ensures.run.depth ∙ c.in_ok-close.ensures.closed.depth
-
-pub returns-clause-read : goal.returns-clause-read
-returns-clause-read c =
+pub returns : goal.returns
+returns c =
     let B = block_of c.args.view.now in
     let l = c.args.level.now in
     let k = c.close.new.pass.numbers in
-    let next = next_bullet l B c.requires.begun c.item_part-body.ensures.part in
+    let start = c.args.pass.now.looks in
+    let mid = c.item_part-body.new.looks in
+    let part = c.item_part-body.ensures.part in
+    let moved = c.opened-2.ensures.moved in
+    let next = next_bullet l B c.requires.begun part in
     let closed = bullet_run B c.args.marker c.in_ok-close.ensures.closed c.in_ok-begin.ensures.run c.in_ok-bullet_list.ensures c.number_at-line.ensures in
     let other : c.list_kind.result ≡ Some (Bullet c.args.mark) → ⊥ = search rules in
-    listed_begins c.args.pass.now.numbers k c.opened-2.ensures.waits next (bullet_begins l c.args.mark c.args.marker c.item_part-body.result.to (λ e. other (c.list_kind.ensures ∙ e))) closed
-    c.opened-2.ensures.moved (c.opened-2.ensures.there (rw (c.begin.ensures.at, c.close.ensures.at) (item_behind next c.requires.inside)))
-    (bullet_made l B c.args.mark c.args.marker k c.number_at-line.ensures c.item_part-body.ensures.part)
-
-pub returns-then-eq-clause-paid : goal.returns-then-eq-clause-paid
-returns-then-eq-clause-paid c =
-    let B = block_of c.args.view.now in
-    let l = c.args.level.now in
-    let part = c.item_part-body.ensures.part in
-    let start = c.args.pass.now.looks in
-    let mid = c.item_part-body.new.looks in
-    let next = next_bullet l B c.requires.begun part in
-    paid_item 29 (ListItem c.number_at-line.result) c.item_part-body.result start start mid mid (omega arith) next part
-    (found_item B l.at c.args.marker start mid part c.item_part-body.ensures.reach c.item_part-body.ensures.low) c.opened.ensures.waits tt refl (c.opened.ensures.moved.depth ∙ c.join.ensures.run.depth)
-    (c.opened.ensures.there (rw c.join.ensures.at (item_behind next c.requires.inside))) (omega arith) (omega arith) (omega arith)
-
-pub returns-clause-paid : goal.returns-clause-paid
-returns-clause-paid c =
-    let B = block_of c.args.view.now in
-    let l = c.args.level.now in
-    let part = c.item_part-body.ensures.part in
-    let start = c.args.pass.now.looks in
-    let mid = c.item_part-body.new.looks in
-    let next = next_bullet l B c.requires.begun part in
-    paid_item 29 (ListItem c.number_at-line.result) c.item_part-body.result start start mid c.close.new.pass.looks (omega arith) next part
-    (found_item B l.at c.args.marker start mid part c.item_part-body.ensures.reach c.item_part-body.ensures.low) c.opened-2.ensures.waits tt refl
-    (c.opened-2.ensures.moved.depth ∙ c.in_ok-begin.ensures.run.depth ∙ c.in_ok-close.ensures.closed.depth)
-    (c.opened-2.ensures.there (rw (c.begin.ensures.at, c.close.ensures.at) (item_behind next c.requires.inside))) (omega arith) c.close.ensures.low (omega (arith, c.close.ensures.run))
+    let there = c.opened-2.ensures.there (rw (c.begin.ensures.at, c.close.ensures.at) (item_behind next c.requires.inside)) in
+    record {
+      step = search rules;
+      read = listed_begins c.args.pass.now.numbers k c.opened-2.ensures.waits next (bullet_begins l c.args.mark c.args.marker c.item_part-body.result.to (λ e. other (c.list_kind.ensures ∙ e))) closed moved there
+          (bullet_made l B c.args.mark c.args.marker k c.number_at-line.ensures part);
+      paid = paid_item 29 (ListItem c.number_at-line.result) c.item_part-body.result start start mid c.close.new.pass.looks (omega arith) next part
+          (found_item B l.at c.args.marker start mid part c.item_part-body.ensures.reach c.item_part-body.ensures.low) c.opened-2.ensures.waits tt refl
+          (moved.depth ∙ c.in_ok-begin.ensures.run.depth ∙ c.in_ok-close.ensures.closed.depth) there (omega arith) c.close.ensures.low (omega (arith, c.close.ensures.run));
+    }

@@ -8,15 +8,26 @@ use Rattle.rst_block_body.proofs.ListItems.{item_behind, next_enumerated, item_r
 use Rattle.rst_block_body.proofs.ListsPaid.{found_item, paid_item}
 use Rattle.rst_block_body.proofs.list.enumerated_item.Goals as goal
 
-pub returns-in-Some-clause-read : goal.returns-in-Some-clause-read
-returns-in-Some-clause-read c =
+pub returns-in-Some : goal.returns-in-Some
+returns-in-Some c =
     let B = block_of c.args.view.now in
     let l = c.args.level.now in
     let n = c.args.pass.now.numbers in
-    let next = next_enumerated l B c.requires.begun c.item_part-body.ensures.part in
+    let start = c.args.pass.now.looks in
+    let mid = c.item_part-body.new.looks in
+    let part = c.item_part-body.ensures.part in
+    let moved = c.opened.ensures.moved in
+    let next = next_enumerated l B c.requires.begun part in
     let joins = sym (ap (option_map (λ kind. joining_in kind)) c.in-Some.is) ∙ c.going_on.ensures in
-    listed_joins n refl c.opened.ensures.waits next (enumerated_joins l c.args.enumerator c.item_part-body.result.to joins) c.join.ensures.run c.opened.ensures.moved
-    (c.opened.ensures.there (rw c.join.ensures.at (item_behind next c.requires.inside))) (enumerated_made l B c.args.enumerator n c.number_at-line.ensures c.item_part-body.ensures.part)
+    let there = c.opened.ensures.there (rw c.join.ensures.at (item_behind next c.requires.inside)) in
+    record {
+      step = search rules;
+      read = listed_joins n refl c.opened.ensures.waits next (enumerated_joins l c.args.enumerator c.item_part-body.result.to joins) c.join.ensures.run moved there
+          (enumerated_made l B c.args.enumerator n c.number_at-line.ensures part);
+      paid = paid_item 29 (ListItem c.number_at-line.result) c.item_part-body.result start start mid mid (omega arith) next part
+          (found_item B l.at c.args.enumerator.marker start mid part c.item_part-body.ensures.reach c.item_part-body.ensures.low) c.opened.ensures.waits tt refl
+          (moved.depth ∙ c.join.ensures.run.depth) there (omega arith) (omega arith) (omega arith);
+    }
 
 pub returns-in_err-close-clause-read : goal.returns-in_err-close-clause-read
 returns-in_err-close-clause-read c =
@@ -26,47 +37,27 @@ returns-in_err-close-clause-read c =
     close_refuses c.from_residual.result c.in_err-close.field-0.0 _ _ _ l (search rules) c.in_err-close.ensures.closed
     (λ line h. item_refused _ (next_enumerated l (block_of c.args.view.now) c.requires.begun c.item_part-body.ensures.part) (enumerated_joins l c.args.enumerator c.item_part-body.result.to begins) h)
 
-pub returns-clause-kept : goal.returns-clause-kept
-returns-clause-kept c =
-    c.opened-2.ensures.moved.depth ∙ c.in_ok-begin_enumerated_list.ensures.run.depth ∙ c.in_ok-close.ensures.closed.depth
-
-pub returns-clause-read : goal.returns-clause-read
-returns-clause-read c =
+pub returns : goal.returns
+returns c =
     let B = block_of c.args.view.now in
     let l = c.args.level.now in
     let k = c.close.new.pass.numbers in
+    let start = c.args.pass.now.looks in
+    let mid = c.item_part-body.new.looks in
     let stop = c.item_part-body.result.to in
-    let next = next_enumerated l B c.requires.begun c.item_part-body.ensures.part in
+    let part = c.item_part-body.ensures.part in
+    let moved = c.opened-2.ensures.moved in
+    let next = next_enumerated l B c.requires.begun part in
     let closed = enumerated_run B c.args.enumerator stop c.in_ok-close.ensures.closed c.close.ensures.at c.in_ok-begin_enumerated_list.ensures.run in
     let none : c.going_on.result ≡ None = search rules in
     let begins = sym (ap (option_map (λ kind. joining_in kind)) none) ∙ c.going_on.ensures in
-    let same = listed_begins c.args.pass.now.numbers k c.opened-2.ensures.waits next (enumerated_joins l c.args.enumerator stop begins) closed c.opened-2.ensures.moved
-    (c.opened-2.ensures.there (rw (c.begin_enumerated_list.ensures.at, c.close.ensures.at) (item_behind next c.requires.inside)))
-    (enumerated_made l B c.args.enumerator k c.number_at-line.ensures c.item_part-body.ensures.part) in
-    rw c.begin_enumerated_list.ensures.numbers same
-
-pub returns-in-Some-clause-paid : goal.returns-in-Some-clause-paid
-returns-in-Some-clause-paid c =
-    let B = block_of c.args.view.now in
-    let l = c.args.level.now in
-    let part = c.item_part-body.ensures.part in
-    let start = c.args.pass.now.looks in
-    let mid = c.item_part-body.new.looks in
-    let next = next_enumerated l B c.requires.begun part in
-    paid_item 29 (ListItem c.number_at-line.result) c.item_part-body.result start start mid mid (omega arith) next part
-    (found_item B l.at c.args.enumerator.marker start mid part c.item_part-body.ensures.reach c.item_part-body.ensures.low) c.opened.ensures.waits tt refl
-    (c.opened.ensures.moved.depth ∙ c.join.ensures.run.depth) (c.opened.ensures.there (rw c.join.ensures.at (item_behind next c.requires.inside))) (omega arith) (omega arith) (omega arith)
-
-pub returns-clause-paid : goal.returns-clause-paid
-returns-clause-paid c =
-    let B = block_of c.args.view.now in
-    let l = c.args.level.now in
-    let part = c.item_part-body.ensures.part in
-    let start = c.args.pass.now.looks in
-    let mid = c.item_part-body.new.looks in
-    let next = next_enumerated l B c.requires.begun part in
-    paid_item 29 (ListItem c.number_at-line.result) c.item_part-body.result start start mid c.begin_enumerated_list.new.pass.looks (omega arith) next part
-    (found_item B l.at c.args.enumerator.marker start mid part c.item_part-body.ensures.reach c.item_part-body.ensures.low) c.opened-2.ensures.waits tt refl
-    (c.opened-2.ensures.moved.depth ∙ c.in_ok-begin_enumerated_list.ensures.run.depth ∙ c.in_ok-close.ensures.closed.depth)
-    (c.opened-2.ensures.there (rw (c.begin_enumerated_list.ensures.at, c.close.ensures.at) (item_behind next c.requires.inside))) (omega arith)
-    (omega (arith, c.close.ensures.low, c.begin_enumerated_list.ensures.low)) (omega (arith, c.close.ensures.run, c.begin_enumerated_list.ensures.looks))
+    let there = c.opened-2.ensures.there (rw (c.begin_enumerated_list.ensures.at, c.close.ensures.at) (item_behind next c.requires.inside)) in
+    record {
+      step = search rules;
+      read = rw c.begin_enumerated_list.ensures.numbers (listed_begins c.args.pass.now.numbers k c.opened-2.ensures.waits next (enumerated_joins l c.args.enumerator stop begins) closed moved there
+          (enumerated_made l B c.args.enumerator k c.number_at-line.ensures part));
+      paid = paid_item 29 (ListItem c.number_at-line.result) c.item_part-body.result start start mid c.begin_enumerated_list.new.pass.looks (omega arith) next part
+          (found_item B l.at c.args.enumerator.marker start mid part c.item_part-body.ensures.reach c.item_part-body.ensures.low) c.opened-2.ensures.waits tt refl
+          (moved.depth ∙ c.in_ok-begin_enumerated_list.ensures.run.depth ∙ c.in_ok-close.ensures.closed.depth) there (omega arith)
+          (omega (arith, c.close.ensures.low, c.begin_enumerated_list.ensures.low)) (omega (arith, c.close.ensures.run, c.begin_enumerated_list.ensures.looks));
+    }

@@ -20,44 +20,32 @@ returns-in_err-join_list-clause-read c =
     plain_refused c.from_residual-in_err-join_list.result c.in_err-join_list.field-0.0 _ OptionItem _ (search rules) refl (next_option l B c.requires.begun c.hanging-body.ensures.part)
     c.in_err-join_list.ensures.joins c.in_err-join_list.ensures.begins
 
-pub returns-clause-kept : goal.returns-clause-kept
-returns-clause-kept c =
-    let B = block_of c.args.view.now in
-    let l = c.args.level.now in
-    let mark = option_item c.args.marker in
-    let opened : IsOpened l c.join_list.new.level B OptionItem (empty_list mark (drop l.at B)) c.hanging-body.result.to c.args.pass.now.numbers c.join_list.new.pass.numbers =
-    record { joins = c.in_ok-join_list.ensures.joins; numbers = c.in_ok-join_list.ensures.numbers; begins = c.in_ok-join_list.ensures.begins } in
-    c.go_to.ensures.moved.depth ∙ opened_depth mark refl opened
-
-pub returns-clause-read : goal.returns-clause-read
-returns-clause-read c =
+pub returns : goal.returns
+returns c =
     let B = block_of c.args.view.now in
     let l = c.args.level.now in
     let mid = c.join_list.new.level in
     let mark = option_item c.args.marker in
     let part = c.hanging-body.result in
+    let is = c.hanging-body.ensures.part in
     let line = c.number_at-line.result in
     let heads = c.push.new.self in
     let notes = c.new.result in
     let waits = ListedBody line OptionListItem Description heads notes in
     let k = c.join_list.new.pass.numbers in
+    let start = c.line.new.looks in
+    let found = c.hanging-body.new.looks in
     let opened : IsOpened l mid B OptionItem (empty_list mark (drop l.at B)) part.to c.args.pass.now.numbers k =
     record { joins = c.in_ok-join_list.ensures.joins; numbers = c.in_ok-join_list.ensures.numbers; begins = c.in_ok-join_list.ensures.begins } in
-    let next = next_option l B c.requires.begun c.hanging-body.ensures.part in
-    plain_item l mid mid c.go_to.new.self B mark OptionItem (Open waits part None) (λ w. item_with w B OptionListItem Description line part heads.items notes.items) part.to c.args.pass.now.numbers k k
-    refl next opened (none_noted mid) c.go_to.ensures.moved (c.go_to.ensures.there (rw c.in_ok-join_list.ensures.at (item_behind next c.requires.inside)))
-    (λ r h. body_means c.go_to.new.self B line OptionListItem Description heads.items notes.items waits part r k h (λ ns. refl))
-    (option_made (within_at l.depth) B l.at c.args.marker (drop l.at B) k c.number_at-line.ensures c.line.ensures.text c.hanging-body.ensures.part c.in_ok-group.ensures (search rules) c.new.ensures.items)
-
-pub returns-clause-paid : goal.returns-clause-paid
-returns-clause-paid c =
-    let B = block_of c.args.view.now in
-    let l = c.args.level.now in
-    let part = c.hanging-body.ensures.part in
-    let start = c.line.new.looks in
-    let mid = c.hanging-body.new.looks in
-    let next = next_option l B c.requires.begun part in
-    paid_item 29 (ListedBody c.number_at-line.result OptionListItem Description c.push.new.self c.new.result) c.hanging-body.result c.args.pass.now.looks start mid c.join_list.new.pass.looks (omega arith) next part
-    (found_hanging B l.at c.args.marker start mid part c.hanging-body.ensures.reach c.hanging-body.ensures.low) refl tt refl (returns-clause-kept c)
-    (c.go_to.ensures.there (rw c.in_ok-join_list.ensures.at (item_behind next c.requires.inside))) (omega (arith, c.line.ensures.looks))
-    c.in_ok-join_list.ensures.low (omega (arith, c.in_ok-join_list.ensures.looks, c.line.ensures.looks))
+    let next = next_option l B c.requires.begun is in
+    let there = c.go_to.ensures.there (rw c.in_ok-join_list.ensures.at (item_behind next c.requires.inside)) in
+    record {
+      step = search rules;
+      read = plain_item l mid mid c.go_to.new.self B mark OptionItem (Open waits part None) (λ w. item_with w B OptionListItem Description line part heads.items notes.items) part.to c.args.pass.now.numbers k k
+          refl next opened (none_noted mid) c.go_to.ensures.moved there
+          (λ r h. body_means c.go_to.new.self B line OptionListItem Description heads.items notes.items waits part r k h (λ ns. refl))
+          (option_made (within_at l.depth) B l.at c.args.marker (drop l.at B) k c.number_at-line.ensures c.line.ensures.text is c.in_ok-group.ensures (search rules) c.new.ensures.items);
+      paid = paid_item 29 waits part c.args.pass.now.looks start found c.join_list.new.pass.looks (omega arith) next is
+          (found_hanging B l.at c.args.marker start found is c.hanging-body.ensures.reach c.hanging-body.ensures.low) refl tt refl (c.go_to.ensures.moved.depth ∙ opened_depth mark refl opened)
+          there (omega (arith, c.line.ensures.looks)) c.in_ok-join_list.ensures.low (omega (arith, c.in_ok-join_list.ensures.looks, c.line.ensures.looks));
+    }

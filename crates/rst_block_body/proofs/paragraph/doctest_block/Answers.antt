@@ -17,31 +17,23 @@ returns-in_err-close-clause-read c =
     close_refuses c.from_residual.result c.in_err-close.field-0.0 _ _ _ l (search rules) c.in_err-close.ensures.closed
     (λ line h. next_refused _ (next_of Doctest l (block_of c.args.view.now) c.requires.begun tt) tt h)
 
-pub returns-clause-kept : goal.returns-clause-kept
-returns-clause-kept c =
-    gives_kept _ _ c.push.result c.push.ensures.more (λ _ h. h.depth ∙ c.go_to.ensures.moved.depth ∙ c.in_ok-close.ensures.closed.depth)
-
-pub returns-clause-read : goal.returns-clause-read
-returns-clause-read c =
+pub returns : goal.returns
+returns c =
     let B : Block = block_of c.args.view.now in
     let l = c.args.level.now in
+    let closed = c.in_ok-close.ensures.closed in
     let at : c.close.new.self.at ≡ l.at = c.close.ensures.at in
     let stop : c.lines_end-end.result ≡ l.at + doctest_size (drop l.at B) = doctest_end B c.close.new.self.at l.at c.lines_end-end.result at c.lines_end-end.ensures.end in
     let node : c.in_ok-node.node ≡ doctest_node B (span_to l.at c.lines_end-end.result) =
     doctest_is B c.close.new.self.at l.at c.lines_end-end.result c.number_at.result c.as_str.result.now c.in_ok-node.node at c.in_ok-node.ensures c.number_at.ensures (c.as_str.ensures.value ∙ c.in_ok-text.ensures.bytes) in
     let found = next_of Doctest l B c.requires.begun tt in
     let goes : c.go_to.new.self.at ≡ c.lines_end-end.result = c.go_to.ensures.there (omega (arith, stop, at, next_some found c.requires.inside)) in
-    gives_keeps _ c.push.result _ _ c.push.ensures.more
-    (λ _ h. next_nodes (c.in_ok-node.node ∷ []) found tt (has_ended B _ c.in_ok-close.ensures.closed) (rw (node, stop) refl) (moved_more c.go_to.ensures.moved (goes ∙ stop) h))
-
-pub returns-clause-paid : goal.returns-clause-paid
-returns-clause-paid c =
-    let B : Block = block_of c.args.view.now in
-    let l = c.args.level.now in
-    let at : c.close.new.self.at ≡ l.at = c.close.ensures.at in
-    let stop : c.lines_end-end.result ≡ l.at + doctest_size (drop l.at B) = doctest_end B c.close.new.self.at l.at c.lines_end-end.result at c.lines_end-end.ensures.end in
-    let goes : c.go_to.new.self.at ≡ c.lines_end-end.result = c.go_to.ensures.there (omega (arith, stop, at, next_some (next_of Doctest l B c.requires.begun tt) c.requires.inside)) in
     let looks = doctest_looks B c.close.new.self.at l.at c.lines_end-end.result _ _ _ _ _ at c.lines_end-end.ensures.end c.close.ensures.low c.close.ensures.run c.lines_end-end.ensures.looks c.lines_end-end.ensures.low c.source.ensures.most c.in_ok-text.ensures.each in
-    gives_kept _ _ c.push.result c.push.ensures.more
-    (λ _ h. paid_alone 29 Doctest l c.close.new.self c.go_to.new.self c.push.new.self B _ _ (c.in_ok-node.node ∷ []) _ _ c.requires.begun tt refl refl
-    c.in_ok-close.ensures.closed c.go_to.ensures.moved (goes ∙ stop) h looks.0 (omega (arith, looks.1)))
+    record {
+      later = search rules;
+      read = gives_keeps _ c.push.result _ _ c.push.ensures.more
+          (λ _ h. next_nodes (c.in_ok-node.node ∷ []) found tt (has_ended B _ closed) (rw (node, stop) refl) (moved_more c.go_to.ensures.moved (goes ∙ stop) h));
+      paid = gives_kept _ _ c.push.result c.push.ensures.more
+          (λ _ h. paid_alone 29 Doctest l c.close.new.self c.go_to.new.self c.push.new.self B _ _ (c.in_ok-node.node ∷ []) _ _ c.requires.begun tt refl refl
+          closed c.go_to.ensures.moved (goes ∙ stop) h looks.0 (omega (arith, looks.1)));
+    }

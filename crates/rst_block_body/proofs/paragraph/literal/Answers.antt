@@ -1,4 +1,4 @@
-use Rattle.std.proofs.Common.{◌≡◌, ◌+◌, ◌-◌, ◌<◌, ◌≤◌, ◌⊎◌, inl, inr, ℕ, [], ◌∷◌, length, drop, true, false, Some, refl, sym, ap, ◌∙◌, arith}
+use Rattle.std.proofs.Common.{◌≡◌, ◌+◌, ◌-◌, ◌<◌, ◌≤◌, ◌⊎◌, inl, inr, ℕ, [], ◌∷◌, length, drop, true, false, Some, refl, sym, ap, ◌∙◌, arith, rules}
 use Rattle.std.proofs.lemmas.Result.{IfOk-weaker}
 use Rattle.rst_text.specs.Block.{Block, front_text, first_number}
 use Rattle.rst_text.specs.Shown.{block_of}
@@ -13,29 +13,46 @@ use Rattle.rst_block_body.proofs.ParagraphsPaid.{indented_most, indented_least, 
 use Rattle.rst_block_body.proofs.paragraph.literal.Goals.{in_default-via-in-Some+else-is_punctuation, in_default-via-in_default, then-start-len, else-start-len}
 use Rattle.rst_block_body.proofs.paragraph.literal.Goals as goal
 
-pub returns-then-begins_with-clause-gone : goal.returns-then-begins_with-clause-gone
-returns-then-begins_with-clause-gone c =
+pub returns-then-begins_with : goal.returns-then-begins_with
+returns-then-begins_with c =
     let B : Block = block_of c.args.view.now in
     let start : ℕ = c.lines_end-start.result in
     let end : ℕ = c.args.end in
-    let last : ℕ = first_number (drop (end - 1) B) in
-    let space : begins_with 32 (front_text (drop start B)) ≡ true = rw c.text_at-text.ensures.text at (sym c.begins_with.ensures ∙ c.if-begins_with.true) in
-    let h = indented_here B end start last c.lines_end-start.ensures.end space in
-    gives_map _ _ c.indented_literal.result c.indented_literal.ensures.gone (λ _ g. more_as h.0 h.1 g)
+    let ends = c.lines_end-start.ensures in
+    let text = c.text_at-text.ensures in
+    let made = c.indented_literal.ensures in
+    let space : begins_with 32 (front_text (drop start B)) ≡ true = rw text.text at (sym c.begins_with.ensures ∙ c.if-begins_with.true) in
+    let h = indented_here B end start (first_number (drop (end - 1) B)) ends.end space in
+    record {
+      later = search rules;
+      gone = gives_map _ _ c.indented_literal.result made.gone (λ _ g. more_as h.0 h.1 g);
+      numbers = search rules;
+      most = IfOk-weaker c.indented_literal.result _ _ (λ _ g. indented_most B end start _ _ _ _ ends.end space ends.few text.few g) made.most;
+      low = IfOk-weaker c.indented_literal.result _ _ (λ _ g. indented_least B end start _ _ _ _ ends.end space ends.low text.low g) made.low;
+    }
 
-pub returns-in-Some-clause-gone : goal.returns-in-Some-clause-gone
-returns-in-Some-clause-gone c =
+pub returns-in-Some : goal.returns-in-Some
+returns-in-Some c =
     let B : Block = block_of c.args.view.now in
     let start : ℕ = c.lines_end-start.result in
     let end : ℕ = c.args.end in
-    let last : ℕ = first_number (drop (end - 1) B) in
-    let space : begins_with 32 (front_text (drop start B)) ≡ false = rw c.text_at-text.ensures.text at (sym c.begins_with.ensures ∙ c.if-begins_with.false) in
-    let front : first (front_text (drop start B)) ≡ Some c.in-Some.quote = rw c.text_at-text.ensures.text at (sym c.front.ensures ∙ c.in-Some.is) in
-    let h = quoted_here B end start last c.in-Some.quote c.lines_end-start.ensures.end space front (sym c.is_punctuation.ensures ∙ c.if-is_punctuation.true) in
-    gives_map _ _ c.quoted_literal.result c.quoted_literal.ensures.gone (λ _ g. more_as h.0 h.1 g)
+    let ends = c.lines_end-start.ensures in
+    let text = c.text_at-text.ensures in
+    let made = c.quoted_literal.ensures in
+    let space : begins_with 32 (front_text (drop start B)) ≡ false = rw text.text at (sym c.begins_with.ensures ∙ c.if-begins_with.false) in
+    let front : first (front_text (drop start B)) ≡ Some c.in-Some.quote = rw text.text at (sym c.front.ensures ∙ c.in-Some.is) in
+    let quote : is_punctuation c.in-Some.quote ≡ true = sym c.is_punctuation.ensures ∙ c.if-is_punctuation.true in
+    let h = quoted_here B end start (first_number (drop (end - 1) B)) c.in-Some.quote ends.end space front quote in
+    record {
+      later = search rules;
+      gone = gives_map _ _ c.quoted_literal.result made.gone (λ _ g. more_as h.0 h.1 g);
+      numbers = search rules;
+      most = IfOk-weaker c.quoted_literal.result _ _ (λ _ g. quoted_most B end start c.in-Some.quote _ _ _ _ ends.end space front quote ends.few text.few g) made.most;
+      low = IfOk-weaker c.quoted_literal.result _ _ (λ _ g. quoted_least B end start c.in-Some.quote _ _ _ _ ends.end space front quote ends.low text.low g) made.low;
+    }
 
-pub returns-in_ok-warning-in_default-clause-gone : goal.returns-in_ok-warning-in_default-clause-gone
-returns-in_ok-warning-in_default-clause-gone c =
+pub returns-in_ok-warning-in_default : goal.returns-in_ok-warning-in_default
+returns-in_ok-warning-in_default c =
     let B : Block = block_of c.args.view.now in
     let start : ℕ = c.lines_end-start.result in
     let end : ℕ = c.args.end in
@@ -50,56 +67,10 @@ returns-in_ok-warning-in_default-clause-gone c =
       | else-start-len w ↦ inr (omega (arith, w.if-start-len.false, c.len.ensures), c.number_at.ensures ∙ ap (λ i. first_number (drop i B)) (let e : c.if-start-len.place ≡ end - 1 = omega arith in e))
     ] in
     let nodes = ap (λ node. node ∷ []) c.in_ok-warning-in_default.ensures ∙ no_literal_is B start c.number_at.result last place ∙ h.0 in
-    gives_map _ _ c.push.result c.push.ensures.more (λ _ g. more_as nodes refl (moved_more c.go_to.ensures.moved (c.go_to.ensures.there c.requires.behind ∙ h.1) g))
-
-pub returns-then-begins_with-clause-most : goal.returns-then-begins_with-clause-most
-returns-then-begins_with-clause-most c =
-    let B : Block = block_of c.args.view.now in
-    let start : ℕ = c.lines_end-start.result in
-    let space : begins_with 32 (front_text (drop start B)) ≡ true = rw c.text_at-text.ensures.text at (sym c.begins_with.ensures ∙ c.if-begins_with.true) in
-    IfOk-weaker c.indented_literal.result _ _ (λ _ g. indented_most B c.args.end start _ _ _ _ c.lines_end-start.ensures.end space c.lines_end-start.ensures.few c.text_at-text.ensures.few g) c.indented_literal.ensures.most
-
-pub returns-then-begins_with-clause-low : goal.returns-then-begins_with-clause-low
-returns-then-begins_with-clause-low c =
-    let B : Block = block_of c.args.view.now in
-    let start : ℕ = c.lines_end-start.result in
-    let space : begins_with 32 (front_text (drop start B)) ≡ true = rw c.text_at-text.ensures.text at (sym c.begins_with.ensures ∙ c.if-begins_with.true) in
-    IfOk-weaker c.indented_literal.result _ _ (λ _ g. indented_least B c.args.end start _ _ _ _ c.lines_end-start.ensures.end space c.lines_end-start.ensures.low c.text_at-text.ensures.low g) c.indented_literal.ensures.low
-
-pub returns-in-Some-clause-most : goal.returns-in-Some-clause-most
-returns-in-Some-clause-most c =
-    let B : Block = block_of c.args.view.now in
-    let start : ℕ = c.lines_end-start.result in
-    let space : begins_with 32 (front_text (drop start B)) ≡ false = rw c.text_at-text.ensures.text at (sym c.begins_with.ensures ∙ c.if-begins_with.false) in
-    let front : first (front_text (drop start B)) ≡ Some c.in-Some.quote = rw c.text_at-text.ensures.text at (sym c.front.ensures ∙ c.in-Some.is) in
-    let quote : is_punctuation c.in-Some.quote ≡ true = sym c.is_punctuation.ensures ∙ c.if-is_punctuation.true in
-    IfOk-weaker c.quoted_literal.result _ _ (λ _ g. quoted_most B c.args.end start c.in-Some.quote _ _ _ _ c.lines_end-start.ensures.end space front quote c.lines_end-start.ensures.few c.text_at-text.ensures.few g) c.quoted_literal.ensures.most
-
-pub returns-in-Some-clause-low : goal.returns-in-Some-clause-low
-returns-in-Some-clause-low c =
-    let B : Block = block_of c.args.view.now in
-    let start : ℕ = c.lines_end-start.result in
-    let space : begins_with 32 (front_text (drop start B)) ≡ false = rw c.text_at-text.ensures.text at (sym c.begins_with.ensures ∙ c.if-begins_with.false) in
-    let front : first (front_text (drop start B)) ≡ Some c.in-Some.quote = rw c.text_at-text.ensures.text at (sym c.front.ensures ∙ c.in-Some.is) in
-    let quote : is_punctuation c.in-Some.quote ≡ true = sym c.is_punctuation.ensures ∙ c.if-is_punctuation.true in
-    IfOk-weaker c.quoted_literal.result _ _ (λ _ g. quoted_least B c.args.end start c.in-Some.quote _ _ _ _ c.lines_end-start.ensures.end space front quote c.lines_end-start.ensures.low c.text_at-text.ensures.low g) c.quoted_literal.ensures.low
-
-pub returns-in_ok-warning-in_default-clause-most : goal.returns-in_ok-warning-in_default-clause-most
-returns-in_ok-warning-in_default-clause-most c =
-    let B : Block = block_of c.args.view.now in
-    let start : ℕ = c.lines_end-start.result in
-    let none : c.args.end ≡ c.args.end + literal_size (drop c.args.end B) = elim c.in_default.branch [
-      | in_default-via-in-Some+else-is_punctuation w ↦ (other_here B c.args.end start 0 w.in-Some.quote c.lines_end-start.ensures.end (rw c.text_at-text.ensures.text at (sym c.begins_with.ensures ∙ c.if-begins_with.false)) (rw c.text_at-text.ensures.text at (sym c.front.ensures ∙ w.in-Some.is)) (sym w.is_punctuation.ensures ∙ w.if-is_punctuation.false)).1
-      | in_default-via-in_default w ↦ (none_here B c.args.end start 0 c.lines_end-start.ensures.end (rw c.text_at-text.ensures.text at (sym c.front.ensures ∙ w.in_default.is))).1
-    ] in
-    gives_kept _ _ c.push.result c.push.ensures.more (λ _ _. none_most B c.args.end start (literal_size (drop c.args.end B)) _ _ _ c.lines_end-start.ensures.end none c.lines_end-start.ensures.looks c.text_at-text.ensures.looks)
-
-pub returns-in_ok-warning-in_default-clause-low : goal.returns-in_ok-warning-in_default-clause-low
-returns-in_ok-warning-in_default-clause-low c =
-    let B : Block = block_of c.args.view.now in
-    let start : ℕ = c.lines_end-start.result in
-    let none : c.args.end ≡ c.args.end + literal_size (drop c.args.end B) = elim c.in_default.branch [
-      | in_default-via-in-Some+else-is_punctuation w ↦ (other_here B c.args.end start 0 w.in-Some.quote c.lines_end-start.ensures.end (rw c.text_at-text.ensures.text at (sym c.begins_with.ensures ∙ c.if-begins_with.false)) (rw c.text_at-text.ensures.text at (sym c.front.ensures ∙ w.in-Some.is)) (sym w.is_punctuation.ensures ∙ w.if-is_punctuation.false)).1
-      | in_default-via-in_default w ↦ (none_here B c.args.end start 0 c.lines_end-start.ensures.end (rw c.text_at-text.ensures.text at (sym c.front.ensures ∙ w.in_default.is))).1
-    ] in
-    gives_kept _ _ c.push.result c.push.ensures.more (λ _ _. omega (arith, none, c.lines_end-start.ensures.low, c.text_at-text.ensures.low))
+    record {
+      later = search rules;
+      gone = gives_map _ _ c.push.result c.push.ensures.more (λ _ g. more_as nodes refl (moved_more c.go_to.ensures.moved (c.go_to.ensures.there c.requires.behind ∙ h.1) g));
+      numbers = search rules;
+      most = gives_kept _ _ c.push.result c.push.ensures.more (λ _ _. none_most B end start (literal_size (drop end B)) _ _ _ c.lines_end-start.ensures.end h.1 c.lines_end-start.ensures.looks c.text_at-text.ensures.looks);
+      low = gives_kept _ _ c.push.result c.push.ensures.more (λ _ _. omega (arith, h.1, c.lines_end-start.ensures.low, c.text_at-text.ensures.low));
+    }

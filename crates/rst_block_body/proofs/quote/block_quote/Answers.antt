@@ -5,7 +5,7 @@ use Rattle.rst_markup_blocks.specs.declared.begun.Begun.TheVariants.{Quote}
 use Rattle.rst_markup_blocks.specs.declared.part.Part.{Part}
 use Rattle.rst_block_state.specs.Meanings.{quotes_from}
 use Rattle.rst_block_state.specs.Within.{indented_part}
-use Rattle.rst_block_state.proofs.Calls.{close_refuses, keeps_as, depth_after}
+use Rattle.rst_block_state.proofs.Calls.{close_refuses, keeps_as}
 use Rattle.rst_block_state.proofs.NextConstructs.{next_of, next_some, has_ended, next_refused}
 use Rattle.rst_block_body.proofs.QuoteSteps.{quote_reads}
 use Rattle.rst_block_body.proofs.QuotesPaid.{block_quote_paid}
@@ -29,9 +29,6 @@ returns-clause-read c =
     let part = c.indented-quote.ensures.part ∙ ap (λ i. indented_part i (drop i B)) c.close.ensures.at in
     let read = quote_reads (omega arith) c.requires.begun (has_ended B _ c.in_ok-close.ensures.closed) in
     keeps_as c.quote_part.result _ _ _ (ap (λ p. quotes_from c.close.new.self B [] p c.close.new.pass.numbers) part ∙ sym read) c.quote_part.ensures.read
-
-pub returns-clause-kept : goal.returns-clause-kept
-returns-clause-kept c = depth_after c.quote_part.result _ c.in_ok-close.ensures.closed.depth c.quote_part.ensures.kept
 
 pub returns-clause-paid : goal.returns-clause-paid
 returns-clause-paid c =

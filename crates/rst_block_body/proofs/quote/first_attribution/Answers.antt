@@ -1,4 +1,4 @@
-use Rattle.std.proofs.Common.{◌≡◌, ◌+◌, drop, length-drop, arith, ap}
+use Rattle.std.proofs.Common.{◌≡◌, ◌+◌, drop, length-drop, arith, rules, ap}
 use Rattle.std.proofs.lemmas.List.{drop-drop}
 use Rattle.rst_text.specs.Block.{Block}
 use Rattle.rst_text.specs.Shown.{block_of}
@@ -15,11 +15,21 @@ loop-end-init c = record {
   unfound = Unfound-start (block_of c.args.lines.now) c.lines_end-end.result c.lines_end-end.ensures.end;
 }
 
-pub returns-in-Some-clause-first : goal.returns-in-Some-clause-first
-returns-in-Some-clause-first c =
+pub returns-in-Some : goal.returns-in-Some
+returns-in-Some c =
     let B : Block = block_of c.args.lines.now in
-    let place = behind_blank B c.loop-end.end c.lines_end-place.result c.loop-end.invariant.unfound (omega arith) c.lines_end-place.ensures.end in
-    Unfound-found B c.loop-end.end c.lines_end-place.result c.in-Some.found c.loop-end.invariant.unfound place (omega arith) c.in-Some.ensures.attribution
+    let at = c.lines_end-place.result in
+    let place = behind_blank B c.loop-end.end at c.loop-end.invariant.unfound (omega arith) c.lines_end-place.ensures.end in
+    let ends = attribution_end at (drop at B) c.in-Some.found c.in-Some.ensures.attribution in
+    record {
+      first = Unfound-found B c.loop-end.end at c.in-Some.found c.loop-end.invariant.unfound place (omega arith) c.in-Some.ensures.attribution;
+      place = (omega (arith, place), omega (arith, ends));
+      within = search rules;
+      through = omega (arith, place, c.lines_end-place.ensures.end, c.lines_end-place.ensures.few, c.attribution_at.ensures.looks, c.loop-end.invariant.looks, ends);
+      all = tt;
+      each = omega (arith, c.lines_end-place.ensures.end, c.lines_end-place.ensures.low, c.in-Some.ensures.each, c.loop-end.invariant.low, ends);
+      low = tt;
+    }
 
 pub returns-then-place-len-clause-first : goal.returns-then-place-len-clause-first
 returns-then-place-len-clause-first c =
@@ -42,19 +52,3 @@ loop-end-preserved c =
       unfound = Unfound-step B c.loop-end.end c.lines_end-place.result c.lines_end-end-in-None.result c.loop-end.invariant.unfound place (omega arith) (length-drop (c.loop-end.end + 1) B)
           c.in-None.ensures.attribution c.lines_end-end-in-None.ensures.end;
     }
-
-pub returns-in-Some-clause-place : goal.returns-in-Some-clause-place
-returns-in-Some-clause-place c =
-    let B : Block = block_of c.args.lines.now in
-    let place = behind_blank B c.loop-end.end c.lines_end-place.result c.loop-end.invariant.unfound (omega arith) c.lines_end-place.ensures.end in
-    (omega (arith, place), omega (arith, attribution_end c.lines_end-place.result (drop c.lines_end-place.result B) c.in-Some.found c.in-Some.ensures.attribution))
-
-pub returns-in-Some-clause-through : goal.returns-in-Some-clause-through
-returns-in-Some-clause-through c =
-    let B : Block = block_of c.args.lines.now in
-    let place = behind_blank B c.loop-end.end c.lines_end-place.result c.loop-end.invariant.unfound (omega arith) c.lines_end-place.ensures.end in
-    omega (arith, place, c.lines_end-place.ensures.end, c.lines_end-place.ensures.few, c.attribution_at.ensures.looks, c.loop-end.invariant.looks, attribution_end c.lines_end-place.result (drop c.lines_end-place.result B) c.in-Some.found c.in-Some.ensures.attribution)
-
-pub returns-in-Some-clause-each : goal.returns-in-Some-clause-each
-returns-in-Some-clause-each c =
-    omega (arith, c.lines_end-place.ensures.end, c.lines_end-place.ensures.low, c.in-Some.ensures.each, c.loop-end.invariant.low, attribution_end c.lines_end-place.result (drop c.lines_end-place.result (block_of c.args.lines.now)) c.in-Some.found c.in-Some.ensures.attribution)

@@ -1,4 +1,4 @@
-use Rattle.std.proofs.Common.{◌≡◌, ℕ, ◌+◌, ◌<◌, ◌∷◌, codes, drop, arith, rules, refl, subst, ◌∙◌, ap}
+use Rattle.std.proofs.Common.{◌≡◌, ℕ, ◌+◌, ◌∷◌, codes, drop, arith, rules, subst, ◌∙◌, ap}
 use Rattle.rst_text.specs.Block.{Block, first_number}
 use Rattle.rst_text.specs.Shown.{block_of}
 use Rattle.rst_tree.specs.declared.node.Node.{Node}
@@ -23,55 +23,41 @@ returns-in_err-close-clause-read c =
     let t = next_table l B c.args.found c.requires.table in
     close_refuses c.from_residual.result c.in_err-close.field-0.0 _ _ _ l (search rules) c.in_err-close.ensures.closed (λ line h. next_refused _ t.next t.alone h)
 
-pub returns-in_ok-after_table-in-Malformed-clause-kept : goal.returns-in_ok-after_table-in-Malformed-clause-kept
-returns-in_ok-after_table-in-Malformed-clause-kept c =
-    c.in_ok-after_table-in-Malformed.ensures.more.depth ∙ c.in_ok-push-in-Malformed.ensures.more.depth ∙ c.go_to.ensures.moved.depth ∙ c.in_ok-close.ensures.closed.depth
-
-pub returns-in_ok-after_table-in-Malformed-clause-read : goal.returns-in_ok-after_table-in-Malformed-clause-read
-returns-in_ok-after_table-in-Malformed-clause-read c =
+pub returns-in_ok-after_table-in-Malformed : goal.returns-in_ok-after_table-in-Malformed
+returns-in_ok-after_table-in-Malformed c =
     let B : Block = block_of c.args.view.now in
     let l = c.args.level.now in
     let mid = c.close.new.self in
     let new = c.after_table.new.level in
+    let closed = c.in_ok-close.ensures.closed in
     let end : ℕ = c.in-Malformed.end in
     let fault = c.in-Malformed.note in
-    let t : IsNextTable l B (Malformed end fault) = subst (IsNextTable l B) c.in-Malformed.is (next_table l B c.args.found c.requires.table) in
+    let here : IsTableAt B l.at (Malformed end fault) = subst (IsTableAt B l.at) c.in-Malformed.is c.requires.table in
+    let t : IsNextTable l B (Malformed end fault) = next_table l B (Malformed end fault) here in
     let stop : end ≡ l.at + t.lines = t.end in
-    let some : l.at < l.at + t.lines = next_some t.next c.requires.inside in
-    let at : c.go_to.new.self.at ≡ end = c.go_to.ensures.there (omega (arith, c.close.ensures.at, stop, some)) in
+    let at : c.go_to.new.self.at ≡ end = c.go_to.ensures.there (omega (arith, c.close.ensures.at, stop, next_some t.next c.requires.inside)) in
     let nodes : c.in_ok-error-in-Malformed.error ∷ warned (codes "Blank line required after table.") (drop c.push.new.self.at B)
     ≡ shown Error (first_number (drop mid.at B)) (malformed_text fault.detail) (source_of B (span_to mid.at end)) ∷ warned (codes "Blank line required after table.") (drop end B) =
     ap (λ (n : Node). n ∷ warned (codes "Blank line required after table.") (drop c.push.new.self.at B)) c.in_ok-error-in-Malformed.ensures.error
     ∙ ap (λ i. shown Error (first_number (drop mid.at B)) (malformed_text fault.detail) (source_of B (span_to mid.at end)) ∷ warned (codes "Blank line required after table.") (drop i B)) (c.push.ensures.at ∙ at) in
-    ap (reads new B) c.in_ok-after_table-in-Malformed.ensures.numbers
-    ∙ malformed_reads t (has_ended B _ c.in_ok-close.ensures.closed) c.go_to.ensures.moved at
-    (subst (HasMore c.go_to.new.self new) nodes (more_more c.in_ok-push-in-Malformed.ensures.more c.in_ok-after_table-in-Malformed.ensures.more))
+    let both = more_more c.in_ok-push-in-Malformed.ensures.more c.in_ok-after_table-in-Malformed.ensures.more in
+    let more = moved_more c.go_to.ensures.moved at both in
+    record {
+      step = search rules;
+      kept = more.depth ∙ closed.depth;
+      read = ap (reads new B) c.in_ok-after_table-in-Malformed.ensures.numbers ∙ malformed_reads t (has_ended B _ closed) c.go_to.ensures.moved at (subst (HasMore c.go_to.new.self new) nodes both);
+      paid = λ before few some. malformed_paid mid.at before _ _ _ _ here c.requires.inside (more.depth ∙ closed.depth) more.at few some c.close.ensures.at
+          c.close.ensures.run c.close.ensures.low c.malformed.ensures.most (omega (arith, c.in_ok-error-in-Malformed.ensures.each)) c.after_table.ensures.looks c.after_table.ensures.low;
+    }
 
-pub returns-in_default-clause-step : goal.returns-in_default-clause-step
-returns-in_default-clause-step c =
+pub returns-in_default : goal.returns-in_default
+returns-in_default c =
     let B : Block = block_of c.args.view.now in
-    table_steps c.args.level.now B c.args.found c.close.new.self.at (next_table c.args.level.now B c.args.found c.requires.table) c.in_default.not-Malformed c.close.ensures.at c.requires.inside
-
-pub returns-in_default-clause-kept : goal.returns-in_default-clause-kept
-returns-in_default-clause-kept c = c.in_ok-close.ensures.closed.depth
-
-pub returns-in_default-clause-read : goal.returns-in_default-clause-read
-returns-in_default-clause-read c =
-    table_comes (next_table c.args.level.now (block_of c.args.view.now) c.args.found c.requires.table) (has_ended _ _ c.in_ok-close.ensures.closed)
-
-pub returns-in_ok-after_table-in-Malformed-clause-paid : goal.returns-in_ok-after_table-in-Malformed-clause-paid
-returns-in_ok-after_table-in-Malformed-clause-paid c =
-    let B : Block = block_of c.args.view.now in
-    let l = c.args.level.now in
-    let end : ℕ = c.in-Malformed.end in
-    let here : IsTableAt B l.at (Malformed end c.in-Malformed.note) = subst (IsTableAt B l.at) c.in-Malformed.is c.requires.table in
-    let t : IsNextTable l B (Malformed end c.in-Malformed.note) = next_table l B (Malformed end c.in-Malformed.note) here in
-    let stop : end ≡ l.at + t.lines = t.end in
-    let at : c.go_to.new.self.at ≡ end = c.go_to.ensures.there (omega (arith, c.close.ensures.at, stop, next_some t.next c.requires.inside)) in
-    let more = moved_more c.go_to.ensures.moved at (more_more c.in_ok-push-in-Malformed.ensures.more c.in_ok-after_table-in-Malformed.ensures.more) in
-    λ before few some. malformed_paid c.close.new.self.at before _ _ _ _ here c.requires.inside (more.depth ∙ c.in_ok-close.ensures.closed.depth) more.at few some c.close.ensures.at
-    c.close.ensures.run c.close.ensures.low c.malformed.ensures.most (omega (arith, c.in_ok-error-in-Malformed.ensures.each)) c.after_table.ensures.looks c.after_table.ensures.low
-
-pub returns-in_default-clause-paid : goal.returns-in_default-clause-paid
-returns-in_default-clause-paid c =
-    λ before few some. cells_paid c.args.found before _ _ c.requires.table c.requires.inside c.in_ok-close.ensures.closed.depth few some c.close.ensures.run c.close.ensures.low
+    let t = next_table c.args.level.now B c.args.found c.requires.table in
+    let closed = c.in_ok-close.ensures.closed in
+    record {
+      step = table_steps c.args.level.now B c.args.found c.close.new.self.at t c.in_default.not-Malformed c.close.ensures.at c.requires.inside;
+      kept = closed.depth;
+      read = table_comes t (has_ended _ _ closed);
+      paid = λ before few some. cells_paid c.args.found before _ _ c.requires.table c.requires.inside closed.depth few some c.close.ensures.run c.close.ensures.low;
+    }

@@ -48,86 +48,69 @@ underlined-requires c =
     let form = form_here (block_of c.args.view.now) c.args.level.now.at c.line-text.ensures.text c.below_text-next.ensures.text c.text_form.ensures c.in-Title.is in
     omega (arith, next_within (next_of_form c.args.infos.items c.requires.text form) c.requires.inside, c.append-in-Title.ensures.at, c.close-in-Title.ensures.at)
 
-pub returns-in_ok-paragraph-in-Paragraph-clause-kept : goal.returns-in_ok-paragraph-in-Paragraph-clause-kept
-returns-in_ok-paragraph-in-Paragraph-clause-kept c =
-    c.in_ok-paragraph-in-Paragraph.ensures.read.gone.depth ∙ c.in_ok-append-in-Paragraph.ensures.more.depth ∙ c.in_ok-close-in-Paragraph.ensures.closed.depth
-
-pub returns-in_ok-paragraph-in-Paragraph-clause-read : goal.returns-in_ok-paragraph-in-Paragraph-clause-read
-returns-in_ok-paragraph-in-Paragraph-clause-read c =
+pub returns-in_ok-paragraph-in-Paragraph : goal.returns-in_ok-paragraph-in-Paragraph
+returns-in_ok-paragraph-in-Paragraph c =
     let B = block_of c.args.view.now in
-    let form = form_here B c.args.level.now.at c.line-text.ensures.text c.below_text-next.ensures.text c.text_form.ensures c.in-Paragraph.is in
-    paragraph_goes (next_of_form c.args.infos.items c.requires.text form) (has_ended B _ c.in_ok-close-in-Paragraph.ensures.closed) c.in_ok-append-in-Paragraph.ensures.more
-    c.in_ok-paragraph-in-Paragraph.ensures.read
+    let l = c.args.level.now in
+    let form = form_here B l.at c.line-text.ensures.text c.below_text-next.ensures.text c.text_form.ensures c.in-Paragraph.is in
+    let next = c.below_text-next.ensures in
+    let closed = c.in_ok-close-in-Paragraph.ensures.closed in
+    let some = c.in_ok-append-in-Paragraph.ensures.more in
+    let read = c.in_ok-paragraph-in-Paragraph.ensures in
+    let gone = read.read.gone in
+    let at : c.append.new.self.at ≡ l.at = c.append.ensures.at ∙ c.close.ensures.at in
+    let looks = paragraph_looks B c.append.new.self.at (run_looks l.run) c.below_text-next.new.looks at c.close.ensures.low c.close.ensures.run read.most read.low in
+    record {
+      step = search rules;
+      read = paragraph_goes (next_of_form c.args.infos.items c.requires.text form) (has_ended B _ closed) some read.read;
+      paid = paid_text c.requires.inside c.line-text.ensures.looks next.low next.looks
+          (paid_flat 25 c.paragraph.new.level _ _ (next_of_form c.args.infos.items c.requires.text form) tt closed (gone.depth ∙ some.depth) (gone.run ∙ some.run)
+          (gone.at ∙ ap (λ i. i + paragraph_size (drop i B)) at) looks.0 looks.1);
+    }
 
-pub returns-in_ok-paragraph-in-ShortUnderline-clause-kept : goal.returns-in_ok-paragraph-in-ShortUnderline-clause-kept
-returns-in_ok-paragraph-in-ShortUnderline-clause-kept c =
-    c.in_ok-paragraph-in-ShortUnderline.ensures.read.gone.depth ∙ c.in_ok-put_short_underline-in-ShortUnderline.ensures.more.depth
-    ∙ c.in_ok-append-in-ShortUnderline.ensures.more.depth ∙ c.in_ok-close-in-ShortUnderline.ensures.closed.depth
-
-pub returns-in_ok-paragraph-in-ShortUnderline-clause-read : goal.returns-in_ok-paragraph-in-ShortUnderline-clause-read
-returns-in_ok-paragraph-in-ShortUnderline-clause-read c =
+pub returns-in_ok-paragraph-in-ShortUnderline : goal.returns-in_ok-paragraph-in-ShortUnderline
+returns-in_ok-paragraph-in-ShortUnderline c =
     let B = block_of c.args.view.now in
-    let form = form_here B c.args.level.now.at c.line-text.ensures.text c.below_text-next.ensures.text c.text_form.ensures c.in-ShortUnderline.is in
-    let ended = has_ended B c.args.pass.now.numbers c.in_ok-close-in-ShortUnderline.ensures.closed in
-    paragraph_goes (next_of_form c.args.infos.items c.requires.text form) ended (short_more ended c.in_ok-append-in-ShortUnderline.ensures.more c.in_ok-put_short_underline-in-ShortUnderline.ensures.more)
-    c.in_ok-paragraph-in-ShortUnderline.ensures.read
+    let l = c.args.level.now in
+    let form = form_here B l.at c.line-text.ensures.text c.below_text-next.ensures.text c.text_form.ensures c.in-ShortUnderline.is in
+    let next = c.below_text-next.ensures in
+    let close = c.close-in-ShortUnderline.ensures in
+    let closed = c.in_ok-close-in-ShortUnderline.ensures.closed in
+    let ended = has_ended B c.args.pass.now.numbers closed in
+    let some = c.in_ok-append-in-ShortUnderline.ensures.more in
+    let info = c.in_ok-put_short_underline-in-ShortUnderline.ensures.more in
+    let read = c.in_ok-paragraph-in-ShortUnderline.ensures in
+    let gone = read.read.gone in
+    let at : c.put_short_underline.new.level.at ≡ l.at = c.put_short_underline.ensures.at ∙ c.append-in-ShortUnderline.ensures.at ∙ close.at in
+    let looks = paragraph_looks B c.put_short_underline.new.level.at (run_looks l.run) c.below_text-next.new.looks at close.low close.run read.most read.low in
+    record {
+      step = search rules;
+      read = paragraph_goes (next_of_form c.args.infos.items c.requires.text form) ended (short_more ended some info) read.read;
+      paid = paid_text c.requires.inside c.line-text.ensures.looks next.low next.looks
+          (paid_flat 25 c.paragraph-in-ShortUnderline.new.level _ _ (next_of_form c.args.infos.items c.requires.text form) tt closed (gone.depth ∙ info.depth ∙ some.depth)
+          (gone.run ∙ info.run ∙ some.run) (gone.at ∙ ap (λ i. i + paragraph_size (drop i B)) at) looks.0 looks.1);
+    }
 
-pub returns-in_ok-underlined-in-Title-clause-read : goal.returns-in_ok-underlined-in-Title-clause-read
-returns-in_ok-underlined-in-Title-clause-read c =
+pub returns-in_ok-underlined-in-Title : goal.returns-in_ok-underlined-in-Title
+returns-in_ok-underlined-in-Title c =
     let B = block_of c.args.view.now in
-    let form = form_here B c.args.level.now.at c.line-text.ensures.text c.below_text-next.ensures.text c.text_form.ensures c.in-Title.is in
-    underlined_goes (next_of_form c.args.infos.items c.requires.text form) (has_ended B _ c.in_ok-close-in-Title.ensures.closed) c.in_ok-append-in-Title.ensures.more
-    c.in_ok-underlined-in-Title.ensures.read
-
-pub returns-in_ok-underlined-in-Title-clause-kept : goal.returns-in_ok-underlined-in-Title-clause-kept
-returns-in_ok-underlined-in-Title-clause-kept c =
-    c.in_ok-underlined-in-Title.ensures.read.depth ∙ c.in_ok-append-in-Title.ensures.more.depth ∙ c.in_ok-close-in-Title.ensures.closed.depth
+    let l = c.args.level.now in
+    let form = form_here B l.at c.line-text.ensures.text c.below_text-next.ensures.text c.text_form.ensures c.in-Title.is in
+    let next = c.below_text-next.ensures in
+    let closed = c.in_ok-close-in-Title.ensures.closed in
+    let some = c.in_ok-append-in-Title.ensures.more in
+    let read = c.in_ok-underlined-in-Title.ensures.read in
+    let at : c.append-in-Title.new.self.at ≡ l.at = c.append-in-Title.ensures.at ∙ c.close-in-Title.ensures.at in
+    record {
+      step = search rules;
+      read = underlined_goes (next_of_form c.args.infos.items c.requires.text form) (has_ended B _ closed) some read;
+      paid = paid_text c.requires.inside c.line-text.ensures.looks next.low next.looks
+          (paid_flat 25 c.underlined.new.level c.below_text-next.new.looks c.underlined.new.pass.looks (next_of_form c.args.infos.items c.requires.text form) tt closed
+          (read.depth ∙ some.depth) (read.run ∙ some.run) (read.at ∙ ap (λ i. i + 2) at)
+          (omega (arith, c.close-in-Title.ensures.run, c.underlined.ensures.most)) (omega (arith, c.close-in-Title.ensures.low, c.in_ok-underlined-in-Title.ensures.low)));
+    }
 
 pub returns-in-Definition-clause-paid : goal.returns-in-Definition-clause-paid
 returns-in-Definition-clause-paid c =
     let next = c.below_text-next.ensures in
     IfOk-weaker c.definition.result _ _ (λ _ h. paid_text c.requires.inside c.line-text.ensures.looks next.low next.looks h) c.definition.ensures.paid
-
-pub returns-in_ok-paragraph-in-Paragraph-clause-paid : goal.returns-in_ok-paragraph-in-Paragraph-clause-paid
-returns-in_ok-paragraph-in-Paragraph-clause-paid c =
-    let B = block_of c.args.view.now in
-    let l = c.args.level.now in
-    let form = form_here B l.at c.line-text.ensures.text c.below_text-next.ensures.text c.text_form.ensures c.in-Paragraph.is in
-    let next = c.below_text-next.ensures in
-    let some = c.in_ok-append-in-Paragraph.ensures.more in
-    let gone = c.in_ok-paragraph-in-Paragraph.ensures.read.gone in
-    let at : c.append.new.self.at ≡ l.at = c.append.ensures.at ∙ c.close.ensures.at in
-    let looks = paragraph_looks B c.append.new.self.at (run_looks l.run) c.below_text-next.new.looks at c.close.ensures.low c.close.ensures.run c.in_ok-paragraph-in-Paragraph.ensures.most c.in_ok-paragraph-in-Paragraph.ensures.low in
-    paid_text c.requires.inside c.line-text.ensures.looks next.low next.looks
-    (paid_flat 25 c.paragraph.new.level _ _ (next_of_form c.args.infos.items c.requires.text form) tt c.in_ok-close-in-Paragraph.ensures.closed (gone.depth ∙ some.depth) (gone.run ∙ some.run)
-    (gone.at ∙ ap (λ i. i + paragraph_size (drop i B)) at) looks.0 looks.1)
-
-pub returns-in_ok-paragraph-in-ShortUnderline-clause-paid : goal.returns-in_ok-paragraph-in-ShortUnderline-clause-paid
-returns-in_ok-paragraph-in-ShortUnderline-clause-paid c =
-    let B = block_of c.args.view.now in
-    let l = c.args.level.now in
-    let form = form_here B l.at c.line-text.ensures.text c.below_text-next.ensures.text c.text_form.ensures c.in-ShortUnderline.is in
-    let next = c.below_text-next.ensures in
-    let some = c.in_ok-append-in-ShortUnderline.ensures.more in
-    let info = c.in_ok-put_short_underline-in-ShortUnderline.ensures.more in
-    let gone = c.in_ok-paragraph-in-ShortUnderline.ensures.read.gone in
-    let at : c.put_short_underline.new.level.at ≡ l.at = c.put_short_underline.ensures.at ∙ c.append-in-ShortUnderline.ensures.at ∙ c.close-in-ShortUnderline.ensures.at in
-    let looks = paragraph_looks B c.put_short_underline.new.level.at (run_looks l.run) c.below_text-next.new.looks at c.close-in-ShortUnderline.ensures.low c.close-in-ShortUnderline.ensures.run c.in_ok-paragraph-in-ShortUnderline.ensures.most
-    c.in_ok-paragraph-in-ShortUnderline.ensures.low in
-    paid_text c.requires.inside c.line-text.ensures.looks next.low next.looks
-    (paid_flat 25 c.paragraph-in-ShortUnderline.new.level _ _ (next_of_form c.args.infos.items c.requires.text form) tt c.in_ok-close-in-ShortUnderline.ensures.closed (gone.depth ∙ info.depth ∙ some.depth)
-    (gone.run ∙ info.run ∙ some.run) (gone.at ∙ ap (λ i. i + paragraph_size (drop i B)) at) looks.0 looks.1)
-
-pub returns-in_ok-underlined-in-Title-clause-paid : goal.returns-in_ok-underlined-in-Title-clause-paid
-returns-in_ok-underlined-in-Title-clause-paid c =
-    let B = block_of c.args.view.now in
-    let l = c.args.level.now in
-    let form = form_here B l.at c.line-text.ensures.text c.below_text-next.ensures.text c.text_form.ensures c.in-Title.is in
-    let next = c.below_text-next.ensures in
-    let some = c.in_ok-append-in-Title.ensures.more in
-    let read = c.in_ok-underlined-in-Title.ensures.read in
-    let at : c.append-in-Title.new.self.at ≡ l.at = c.append-in-Title.ensures.at ∙ c.close-in-Title.ensures.at in
-    paid_text c.requires.inside c.line-text.ensures.looks next.low next.looks
-    (paid_flat 25 c.underlined.new.level c.below_text-next.new.looks c.underlined.new.pass.looks (next_of_form c.args.infos.items c.requires.text form) tt c.in_ok-close-in-Title.ensures.closed
-    (read.depth ∙ some.depth) (read.run ∙ some.run) (read.at ∙ ap (λ i. i + 2) at)
-    (omega (arith, c.close-in-Title.ensures.run, c.underlined.ensures.most)) (omega (arith, c.close-in-Title.ensures.low, c.in_ok-underlined-in-Title.ensures.low)))
