@@ -1,8 +1,9 @@
 -- Explicit markup, step by step: what a block gives where it stands at its next line, and directives as they are kept. No rule of markup.
-use Rattle.std.specs.Prelude.{ℕ, Bool, true, false, List, Option, Some, if◌then◌else◌}
+use Rattle.std.specs.Prelude.{ℕ, ◌<◌, length, Bool, true, false, List, Option, Some, if◌then◌else◌}
 use Rattle.rst_text.specs.Block.{Block}
 use Rattle.rst_tree.specs.declared.node.Node.{Node}
 use Rattle.rst_markup_directives.specs.Argument.{given_in}
+use Rattle.rst_markup_directives.specs.Call.{IsContentIn}
 use Rattle.rst_markup_directives.specs.Directive.{Read}
 use Rattle.rst_markup_directives.specs.Options.{choices_in}
 use Rattle.rst_markup_directives.specs.declared.found.Content.{Content}
@@ -65,6 +66,12 @@ place_in titles = if titles then Top else Body
 -- a right directive, as it is kept
 abbrev pub read_of : Found → Read
 read_of f = record { name = f.name; argument = given_in f.argument; options = choices_in f.options.items; content = f.content }
+
+-- a right directive at a line of a block: its content stands in the block, and it ends behind the line
+pub record IsRight (B : Block) (at : ℕ) (found : Found) : Type 0 where
+  pub content : IsContentIn B found.content
+  pub inside : at < length B
+  pub later : at < found.end
 
 -- what the content of a figure begins with, as it is kept
 abbrev pub beginning_in : Front → Beginning

@@ -17,10 +17,10 @@ ghost use Rattle.rst_block_sections.specs.Sections.{filled};
 ghost use Rattle.rst_block_state.specs.Directives as meaning;
 ghost use Rattle.rst_block_state.specs.Directives.{titled_element};
 ghost use Rattle.rst_block_state.specs.LineRuns.{number_or};
-ghost use Rattle.rst_block_markup.specs.MarkupSteps.{is_figure, is_replacement, place_in, read_of, reads_with};
+ghost use Rattle.rst_block_markup.specs.MarkupSteps.{IsRight, is_figure, is_replacement, place_in, read_of, reads_with};
 ghost use Rattle.rst_block_state.specs.Meanings.{Keeps, comes, within_at};
 ghost use Rattle.rst_block_state.specs.Numbered.{then_read, just};
-ghost use Rattle.rst_markup_directives.specs.Call.{IsArgumentIn, IsContentIn, IsDirectiveIn};
+ghost use Rattle.rst_markup_directives.specs.Call.{IsArgumentIn, IsDirectiveIn};
 ghost use Rattle.rst_markup_directives.specs.declared.found.Place.{Place};
 ghost use Rattle.rst_markup_blocks.specs.Parts.{IsBlock, IsCall};
 ghost use Rattle.rst_block_state.specs.OpenBlocks.{Gives, IsMoved};
@@ -110,11 +110,9 @@ pub(crate) fn directive_block(
     pass: &mut Pass,
 ) -> Result<Step>
     requires call { IsCall (block_of view.now) level.old.at invocation.now }
-    requires inside { level.old.at < length (block_of view.now) }
     requires later { level.old.at < invocation.now.block.to }
     requires begins { level.old.at ≤ invocation.now.block.from }
     ensures step { IfOk result (λ s. spec.IsStep (block_of view.now) level.old.at level.new.at s) }
-    ensures kept { IfOk result (λ _. level.new.depth ≡ level.old.depth) }
     ensures read { let B = block_of view.now in
         let end = invocation.now.block.to in
         let nodes = meaning.directive_nodes (within_at level.old.depth) B (record { start = level.old.at; stop = end }) invocation.now in
@@ -217,12 +215,9 @@ fn directive_nodes(
     found: &Found,
     pass: &mut Pass,
 ) -> Result<Step>
-    requires content { IsContentIn (block_of view.now) found.now.content }
+    requires right { IsRight (block_of view.now) level.old.at found.now }
     requires argument { IsArgumentIn (block_of view.now) found.now.argument }
-    requires inside { level.old.at < length (block_of view.now) }
-    requires later { level.old.at < found.now.end }
     ensures step { IfOk result (λ s. spec.IsStep (block_of view.now) level.old.at level.new.at s) }
-    ensures kept { IfOk result (λ _. level.new.depth ≡ level.old.depth) }
     ensures read { let B = block_of view.now in
         let line = first_number (drop level.old.at B) in
         let source = source_of B (record { start = level.old.at; stop = found.now.end }) in
@@ -254,12 +249,9 @@ fn titled_block(
     title: Part,
     pass: &mut Pass,
 ) -> Result<Step>
-    requires content { IsContentIn (block_of view.now) found.now.content }
+    requires right { IsRight (block_of view.now) level.old.at found.now }
     requires title { IsBlock (block_of view.now) title }
-    requires inside { level.old.at < length (block_of view.now) }
-    requires later { level.old.at < found.now.end }
     ensures step { IfOk result (λ s. spec.IsStep (block_of view.now) level.old.at level.new.at s) }
-    ensures kept { IfOk result (λ _. level.new.depth ≡ level.old.depth) }
     ensures read { let B = block_of view.now in
         let line = first_number (drop level.old.at B) in
         let nodes = meaning.titled_nodes (within_at level.old.depth) B line (read_of found.now) (lines_in B title) in
@@ -280,11 +272,8 @@ fn plain_block(
     found: &Found,
     pass: &mut Pass,
 ) -> Result<Step>
-    requires content { IsContentIn (block_of view.now) found.now.content }
-    requires inside { level.old.at < length (block_of view.now) }
-    requires later { level.old.at < found.now.end }
+    requires { IsRight (block_of view.now) level.old.at found.now }
     ensures step { IfOk result (λ s. spec.IsStep (block_of view.now) level.old.at level.new.at s) }
-    ensures kept { IfOk result (λ _. level.new.depth ≡ level.old.depth) }
     ensures read { let B = block_of view.now in
         let line = first_number (drop level.old.at B) in
         let source = source_of B (record { start = level.old.at; stop = found.now.end }) in
@@ -312,11 +301,8 @@ fn image_block(
     found: &Found,
     uri: &str,
 ) -> Result<Step>
-    requires content { IsContentIn (block_of view.now) found.now.content }
-    requires inside { level.old.at < length (block_of view.now) }
-    requires later { level.old.at < found.now.end }
+    requires { IsRight (block_of view.now) level.old.at found.now }
     ensures step { IfOk result (λ s. spec.IsStep (block_of view.now) level.old.at level.new.at s) }
-    ensures kept { IfOk result (λ _. level.new.depth ≡ level.old.depth) }
     ensures read { (number : ℕ) → let B = block_of view.now in
         let line = first_number (drop level.old.at B) in
         let source = source_of B (record { start = level.old.at; stop = found.now.end }) in
@@ -361,11 +347,8 @@ fn figure_block(
     found: &Found,
     uri: &str,
 ) -> Result<Step>
-    requires content { IsContentIn (block_of view.now) found.now.content }
-    requires inside { level.old.at < length (block_of view.now) }
-    requires later { level.old.at < found.now.end }
+    requires { IsRight (block_of view.now) level.old.at found.now }
     ensures step { IfOk result (λ s. spec.IsStep (block_of view.now) level.old.at level.new.at s) }
-    ensures kept { IfOk result (λ _. level.new.depth ≡ level.old.depth) }
     ensures read { (number : ℕ) → let B = block_of view.now in
         let line = first_number (drop level.old.at B) in
         let source = source_of B (record { start = level.old.at; stop = found.now.end }) in
@@ -396,11 +379,8 @@ fn code_nodes(
     language: Option<&str>,
     pass: &mut Pass,
 ) -> Result<Step>
-    requires content { IsContentIn (block_of view.now) found.now.content }
-    requires inside { level.old.at < length (block_of view.now) }
-    requires later { level.old.at < found.now.end }
+    requires { IsRight (block_of view.now) level.old.at found.now }
     ensures step { IfOk result (λ s. spec.IsStep (block_of view.now) level.old.at level.new.at s) }
-    ensures kept { IfOk result (λ _. level.new.depth ≡ level.old.depth) }
     ensures read { let B = block_of view.now in
         let line = first_number (drop level.old.at B) in
         let nodes = just (meaning.code_nodes B line (read_of found.now) (option_map (λ word. word.now) language.entry)) in

@@ -1,5 +1,5 @@
 //! Explicit markup blocks (Markup Specification, 'Explicit Markup Blocks').
-ghost use Rattle.std.specs.Prelude.{◌≡◌, ℕ, ◌+◌, ◌-◌, ◌*◌, ◌<◌, ◌≤◌, [], ◌∷◌, length, drop, string_bytes, option_map, None, IfOk, IsTrue};
+ghost use Rattle.std.specs.Prelude.{◌≡◌, ℕ, ◌+◌, ◌-◌, ◌*◌, ◌<◌, ◌≤◌, [], ◌∷◌, length, drop, string_bytes, option_map, IfOk, IsTrue};
 ghost use Rattle.rst_text.specs.Block.{Block, first_number, front_text};
 ghost use Rattle.rst_text.specs.Looked.{capped};
 ghost use Rattle.rst_text.specs.Shown.{block_of};
@@ -18,8 +18,6 @@ ghost use Rattle.rst_block_state.specs.Numbered.{just};
 ghost use Rattle.rst_block_state.specs.OpenBlocks as blocks;
 ghost use Rattle.rst_block_state.specs.Steps as spec;
 ghost use Rattle.rst_block_state.specs.Texts.{excerpt, lines_in, said, spelled};
-ghost use Rattle.rst_block_state.specs.declared.waits.Waits.TheVariants.{Element};
-ghost use Rattle.rst_block_state.specs.declared.step.Step.TheVariants.{Open};
 ghost use Rattle.rst_block_state.specs.Ledger.{IsPaid, Opens, run_looks, unread_at};
 ghost use Rattle.rst_block_state.specs.Inside.{markup_blocks};
 
@@ -41,7 +39,6 @@ pub fn explicit_markup(view: &View<'_>, level: &mut OpenBlock, pass: &mut Pass) 
     requires inside { level.old.at < length (block_of view.now) }
     requires kind { IsTrue (is_explicit_kind (kind_of (block_of view.now) level.old.at)) }
     ensures step { IfOk result (λ s. spec.IsStep (block_of view.now) level.old.at level.new.at s) }
-    ensures kept { IfOk result (λ _. level.new.depth ≡ level.old.depth) }
     ensures read { Keeps result (λ s. comes level.new (block_of view.now) s pass.new.numbers)
         (reads level.old (block_of view.now) pass.old.numbers) }
     ensures paid { IfOk result (λ s. IsPaid 29 level.old level.new (block_of view.now) s pass.old.looks pass.new.looks) }
@@ -93,7 +90,6 @@ fn markup_of(
     requires later { level.old.at < end }
     requires explicit { found ≡ explicit_of level.old.at (drop level.old.at (block_of view.now)) }
     ensures step { IfOk result (λ s. spec.IsStep (block_of view.now) level.old.at level.new.at s) }
-    ensures kept { IfOk result (λ _. level.new.depth ≡ level.old.depth) }
     ensures read { let B = block_of view.now in
         let X = drop level.old.at B in
         let nodes = markup.markup_by found (within_at level.old.depth) B (record { start = level.old.at; stop = end }) X in
@@ -133,10 +129,8 @@ fn labelled_block(
     pass: &mut Pass,
 ) -> Result<Step>
     requires body { IsBlock (block_of view.now) body }
-    requires inside { level.old.at < length (block_of view.now) }
     requires later { level.old.at < body.to }
     ensures step { IfOk result (λ s. spec.IsStep (block_of view.now) level.old.at level.new.at s) }
-    ensures kept { IfOk result (λ _. level.new.depth ≡ level.old.depth) }
     ensures read { let B = block_of view.now in
         let X = drop level.old.at B in
         let element = markup.labelled_node kind (excerpt (front_text X) label) (first_number X) in
@@ -148,7 +142,12 @@ fn labelled_block(
     let line = number_at(view, level.at);
     let label = label_text(pass.alloc, view, level.at, label, &mut pass.looks)?;
     let element = labelled(pass.alloc, kind, label.as_str(), line)?;
-    Ok(noted(level, element, body))
+    level.go_to(body.to);
+    Ok(Step::Open {
+        waits: Waits::Element(element),
+        first: body,
+        second: None,
+    })
 }
 
 /// The element of a footnote or of a citation, which holds its label so far.
@@ -170,10 +169,8 @@ fn target_block(
     pass: &mut Pass,
 ) -> Result<Step>
     requires text { IsBlock (block_of view.now) text }
-    requires inside { level.old.at < length (block_of view.now) }
     requires later { level.old.at < text.to }
     ensures step { IfOk result (λ s. spec.IsStep (block_of view.now) level.old.at level.new.at s) }
-    ensures kept { IfOk result (λ _. level.new.depth ≡ level.old.depth) }
     ensures read { let B = block_of view.now in
         let X = drop level.old.at B in
         let node = target_node (option_map (excerpt (front_text X)) name) (spelled (lines_in B text)) (first_number X) in
@@ -221,10 +218,8 @@ fn comment(
     pass: &mut Pass,
 ) -> Result<Step>
     requires text { IsBlock (block_of view.now) text }
-    requires inside { level.old.at < length (block_of view.now) }
     requires later { level.old.at < text.to }
     ensures step { IfOk result (λ s. spec.IsStep (block_of view.now) level.old.at level.new.at s) }
-    ensures kept { IfOk result (λ _. level.new.depth ≡ level.old.depth) }
     ensures read { let B = block_of view.now in
         let line = first_number (drop level.old.at B) in
         let node = preserved_node CommentTag line (spelled (lines_in B text)) in
@@ -251,7 +246,6 @@ fn empty_comment(
 ) -> Result<Step>
     requires later { level.old.at < end }
     ensures step { IfOk result (λ s. spec.IsStep (block_of view.now) level.old.at level.new.at s) }
-    ensures kept { IfOk result (λ _. level.new.depth ≡ level.old.depth) }
     ensures read { let B = block_of view.now in
         let node = preserved_node CommentTag (first_number (drop level.old.at B)) [] in
         Keeps result (λ s. comes level.new B s pass.new.numbers) (reads_with level.old B (just (node ∷ [])) end pass.old.numbers) }
@@ -277,28 +271,10 @@ fn label_text(
     excerpt(alloc, view.line(at, looks), place)
 }
 
-/// Opens the block of a footnote or citation.
-fn noted(level: &mut OpenBlock, element: Node, body: Part) -> Step
-    requires later { level.old.at < body.to }
-    ensures step { (B : Block) → IsBlock B body → spec.IsStep B level.old.at level.new.at result }
-    ensures opened { result ≡ Open (Element element) body None }
-    ensures at { level.new.at ≡ body.to }
-    ensures moved { blocks.IsMoved level.old level.new }
-    ensures paid { (B : Block) (looks : ℕ) → Opens 0 level.old level.new B (lines_in B body ∷ []) body.to result looks looks }
-{
-    level.go_to(body.to);
-    Step::Open {
-        waits: Waits::Element(element),
-        first: body,
-        second: None,
-    }
-}
-
 /// Puts a node behind the last, in a block that goes on at place `end`.
 pub(crate) fn put(level: &mut OpenBlock, node: Node, end: usize) -> Result<Step>
     requires later { level.old.at < end }
     ensures step { (B : Block) → IfOk result (λ s. spec.IsStep B level.old.at level.new.at s) }
-    ensures kept { IfOk result (λ _. level.new.depth ≡ level.old.depth) }
     ensures read { (B : Block) (number : ℕ)
         → Keeps result (λ s. comes level.new B s number) (reads_with level.old B (just (node ∷ [])) end number) }
     ensures paid { (B : Block) (before after : ℕ) → capped before ≤ after

@@ -56,7 +56,6 @@ pub(crate) fn substitution_definition(
     requires later { level.old.at < end }
     requires begins { IfSome held (λ call. (level.old.at ≤ call.block.from) × (call.block.to ≤ end)) }
     ensures step { IfOk result (λ s. spec.IsStep (block_of view.now) level.old.at level.new.at s) }
-    ensures kept { IfOk result (λ _. level.new.depth ≡ level.old.depth) }
     ensures read { let B = block_of view.now in
         let within = within_at level.old.depth in
         let nodes = directives.substitution_nodes within B (record { start = level.old.at; stop = end }) written.now held in
@@ -103,11 +102,9 @@ fn holding(
     pass: &mut Pass,
 ) -> Result<Step>
     requires call { IsCall (block_of view.now) level.old.at invocation.now }
-    requires inside { level.old.at < length (block_of view.now) }
     requires later { level.old.at < end }
     requires begins { (level.old.at ≤ invocation.now.block.from) × (invocation.now.block.to ≤ end) }
     ensures step { IfOk result (λ s. spec.IsStep (block_of view.now) level.old.at level.new.at s) }
-    ensures kept { IfOk result (λ _. level.new.depth ≡ level.old.depth) }
     ensures read { let B = block_of view.now in
         let within = within_at level.old.depth in
         let outcome = directives.called within B level.old.at invocation.now Substitution in
@@ -178,7 +175,6 @@ fn replacement(
     requires inside { level.old.at < length (block_of view.now) }
     requires later { level.old.at < end }
     ensures step { IfOk result (λ s. spec.IsStep (block_of view.now) level.old.at level.new.at s) }
-    ensures kept { IfOk result (λ _. level.new.depth ≡ level.old.depth) }
     ensures read { let B = block_of view.now in
         let line = first_number (drop level.old.at B) in
         let source = texts.source_of B (record { start = level.old.at; stop = end }) in

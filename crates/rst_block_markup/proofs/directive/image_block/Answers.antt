@@ -27,23 +27,6 @@ returns-then-is_figure-clause-read c = λ n.
     (ap (λ (read : Numbered (List Node)). reads_with l B read f.end n) (figure_right f.name c.is_figure.result t (within_at l.depth) B line (read_of f) lines c.is_figure.ensures c.if-is_figure.true (encodes-chars t c.utf8.uri)))
     (c.figure_block.ensures.read n)
 
-pub returns-clause-step : goal.returns-clause-step
-returns-clause-step c = c.put.ensures.step (block_of c.args.view.now)
-
-pub returns-clause-read : goal.returns-clause-read
-returns-clause-read c = λ n.
-    let B = block_of c.args.view.now in
-    let l = c.args.level.now in
-    let f = c.args.found.now in
-    let t = c.args.uri.now in
-    let line = first_number (drop l.at B) in
-    let lines = source_of B (span_to l.at f.end) in
-    keeps_as c.put.result _ _ _
-    (ap (λ (read : Numbered (List Node)). reads_with l B read f.end n)
-    (image_is c.in_ok-node.node t c.as_slice.result.now f.options.items c.number_at-line.result line c.in_ok-node.ensures c.as_slice.ensures.value c.number_at-line.ensures
-    ∙ image_right f.name c.is_figure.result t (within_at l.depth) B line (read_of f) lines c.is_figure.ensures c.if-is_figure.false (encodes-chars t c.utf8.uri)))
-    (c.put.ensures.read B n)
-
 pub returns-then-is_figure-clause-paid : goal.returns-then-is_figure-clause-paid
 returns-then-is_figure-clause-paid c = λ looks.
     let B : Block = block_of c.args.view.now in
@@ -51,8 +34,20 @@ returns-then-is_figure-clause-paid c = λ looks.
     opened_after _ _ _ _ B _ _ _ looks looks looks c.figure_block.result (omega arith) (omega arith) (figure_content f.name c.is_figure.result (chars c.args.uri.now) B f.content c.is_figure.ensures c.if-is_figure.true)
     (c.figure_block.ensures.paid looks)
 
-pub returns-clause-paid : goal.returns-clause-paid
-returns-clause-paid c = λ looks.
+pub returns : goal.returns
+returns c =
     let B : Block = block_of c.args.view.now in
+    let l = c.args.level.now in
     let f = c.args.found.now in
-    opened_within _ _ _ B _ _ _ _ _ c.put.result (omega arith) (omega arith) (image_content f.name c.is_figure.result (chars c.args.uri.now) B f.content c.is_figure.ensures c.if-is_figure.false) (c.put.ensures.paid B _ _)
+    let t = c.args.uri.now in
+    let line = first_number (drop l.at B) in
+    let lines = source_of B (span_to l.at f.end) in
+    record {
+      step = c.put.ensures.step B;
+      read = λ n. keeps_as c.put.result _ _ _
+          (ap (λ (read : Numbered (List Node)). reads_with l B read f.end n)
+          (image_is c.in_ok-node.node t c.as_slice.result.now f.options.items c.number_at-line.result line c.in_ok-node.ensures c.as_slice.ensures.value c.number_at-line.ensures
+          ∙ image_right f.name c.is_figure.result t (within_at l.depth) B line (read_of f) lines c.is_figure.ensures c.if-is_figure.false (encodes-chars t c.utf8.uri)))
+          (c.put.ensures.read B n);
+      paid = λ looks. opened_within _ _ _ B _ _ _ _ _ c.put.result (omega arith) (omega arith) (image_content f.name c.is_figure.result (chars t) B f.content c.is_figure.ensures c.if-is_figure.false) (c.put.ensures.paid B _ _);
+    }

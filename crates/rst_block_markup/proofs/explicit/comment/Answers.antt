@@ -16,10 +16,6 @@ comment_is : (cause : CommentCause) (line at : ℕ) (t u : List ℕ) (node : Nod
     → node ∷ cause_notes cause line ≡ preserved_node CommentTag at u ∷ cause_notes cause at
 comment_is cause line at t u node e h l = rw (e, h, l) refl
 
-pub returns-clause-kept : goal.returns-clause-kept
-returns-clause-kept c =
-    c.in_ok-put_cause.ensures.more.depth ∙ c.in_ok-push.ensures.more.depth ∙ c.go_to.ensures.moved.depth
-
 pub returns-clause-read : goal.returns-clause-read
 returns-clause-read c =
     let B = block_of c.args.view.now in

@@ -4,9 +4,10 @@ use Rattle.rst_text.specs.Shown.{block_of}
 use Rattle.rst_block_sections.specs.Sections.{filled}
 use Rattle.rst_block_state.specs.Markup.{labelled_node, noted}
 use Rattle.rst_block_markup.specs.MarkupSteps.{reads_with}
-use Rattle.rst_block_state.specs.Meanings.{comes, within_at}
+use Rattle.rst_block_state.specs.Meanings.{within_at}
 use Rattle.rst_block_state.specs.Texts.{excerpt}
 use Rattle.rst_block_state.specs.declared.waits.Waits.TheVariants.{Element}
+use Rattle.rst_block_markup.proofs.MarkupPaid.{opens_part}
 use Rattle.rst_block_markup.proofs.MarkupReads.{part_comes}
 use Rattle.rst_block_state.proofs.PaidSteps.{opens_after}
 use Rattle.rst_block_markup.proofs.explicit.labelled_block.Goals as goal
@@ -18,8 +19,7 @@ returns-clause-read c =
     let n = c.args.pass.now.numbers in
     let body = c.args.body in
     let node = c.in_ok-element.element in
-    ap (λ s. comes c.noted.new.level B s n) c.noted.ensures.opened
-    ∙ part_comes B (Element node) body (λ ns. filled node ns ∷ []) n c.noted.ensures.moved c.noted.ensures.at (λ ns. refl)
+    part_comes B (Element node) body (λ ns. filled node ns ∷ []) n c.go_to.ensures.moved (c.go_to.ensures.there c.requires.later) (λ ns. refl)
     ∙ ap (λ e. reads_with l B (noted (within_at l.depth) B e body) body.to n)
     (c.in_ok-element.ensures
     ∙ ap (λ label. labelled_node c.args.kind label c.number_at-line.result) (c.as_str.ensures.value ∙ c.in_ok-label.ensures.text)
@@ -27,4 +27,5 @@ returns-clause-read c =
 
 pub returns-clause-paid : goal.returns-clause-paid
 returns-clause-paid c =
-    opens_after (c.noted.ensures.paid (block_of c.args.view.now) c.label_text.new.looks) (omega (arith, c.label_text.ensures.looks)) (omega (arith, c.label_text.ensures.looks))
+    opens_after (opens_part (block_of c.args.view.now) c.in_ok-element.element c.args.body c.label_text.new.looks c.go_to.ensures.moved (c.go_to.ensures.there c.requires.later))
+    (omega (arith, c.label_text.ensures.looks)) (omega (arith, c.label_text.ensures.looks))

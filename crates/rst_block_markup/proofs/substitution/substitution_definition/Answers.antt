@@ -16,27 +16,21 @@ use Rattle.rst_block_state.proofs.NextConstructs.{span_to}
 use Rattle.rst_block_markup.proofs.SubstitutionReads.{none_holds}
 use Rattle.rst_block_markup.proofs.substitution.substitution_definition.Goals as goal
 
-pub returns-in_default-clause-step : goal.returns-in_default-clause-step
-returns-in_default-clause-step c = c.put.ensures.step (block_of c.args.view.now)
-
-pub returns-in_default-clause-read : goal.returns-in_default-clause-read
-returns-in_default-clause-read c =
-    let B = block_of c.args.view.now in
+pub returns-in_default : goal.returns-in_default
+returns-in_default c =
+    let B : Block = block_of c.args.view.now in
     let l = c.args.level.now in
     let end = c.args.end in
     let n = c.args.pass.now.numbers in
     let s = span_to l.at end in
-    let node = c.in_ok-warning.warning in
-    keeps_as c.put.result _ _ _
-    (ap (λ (read : Numbered (List Node)). reads_with l B read end n)
-    (none_holds (within_at l.depth) B s c.args.written.now (string_bytes c.in_ok-name.name) c.as_str.result.now c.as_str-in_default.result.now c.as_str-in_default-2.result.now c.number_at-line.result node c.as_str.ensures.value
-    c.in_ok-name.ensures (c.as_str-in_default.ensures.value ∙ c.in_ok-text.ensures) (c.as_str-in_default-2.ensures.value ∙ c.in_ok-lines.ensures.bytes) c.number_at-line.ensures c.in_ok-warning.ensures
-    ∙ ap (substitution_nodes (within_at l.depth) B s c.args.written.now) (sym c.in_default.is)))
-    (c.put.ensures.read B n)
-
-pub returns-in_default-clause-paid : goal.returns-in_default-clause-paid
-returns-in_default-clause-paid c =
-    let B : Block = block_of c.args.view.now in
-    let l = c.args.level.now in
-    opened_within _ _ _ B _ _ _ _ _ c.put.result (omega (arith, c.in_ok-lines.ensures.each)) (omega (arith, c.source.ensures.most, c.requires.later))
-    (ap (λ (held : Option Invocation). substitution_blocks held (unread_at l.depth) B l.at) (sym c.in_default.is)) (c.put.ensures.paid B _ _)
+    record {
+      step = c.put.ensures.step B;
+      read = keeps_as c.put.result _ _ _
+          (ap (λ (read : Numbered (List Node)). reads_with l B read end n)
+          (none_holds (within_at l.depth) B s c.args.written.now (string_bytes c.in_ok-name.name) c.as_str.result.now c.as_str-in_default.result.now c.as_str-in_default-2.result.now c.number_at-line.result c.in_ok-warning.warning
+          c.as_str.ensures.value c.in_ok-name.ensures (c.as_str-in_default.ensures.value ∙ c.in_ok-text.ensures) (c.as_str-in_default-2.ensures.value ∙ c.in_ok-lines.ensures.bytes) c.number_at-line.ensures c.in_ok-warning.ensures
+          ∙ ap (substitution_nodes (within_at l.depth) B s c.args.written.now) (sym c.in_default.is)))
+          (c.put.ensures.read B n);
+      paid = opened_within _ _ _ B _ _ _ _ _ c.put.result (omega (arith, c.in_ok-lines.ensures.each)) (omega (arith, c.source.ensures.most, c.requires.later))
+          (ap (λ (held : Option Invocation). substitution_blocks held (unread_at l.depth) B l.at) (sym c.in_default.is)) (c.put.ensures.paid B _ _);
+    }
