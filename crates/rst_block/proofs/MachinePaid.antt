@@ -128,14 +128,14 @@ none_open (ListRun l) h = cc
 none_open (Lines lines end) h = cc
 none_open (Explicit end) h = cc
 
--- The looks so far are one to 128 for each of the lines of a text and of all inside, but for those that are left: in the blocks that wait, and in the one
+-- So many looks were left, and those so far leave what the lines may take of them that are left: in the blocks that wait, and in the one
 -- that is read, by what comes next in it.
-abbrev pub IsPaidFor : (all : ℕ) (S : Block) (fs : List Frame) (l : OpenBlock) (B : Block) (s : Step) (before now : ℕ) → Type 0
-IsPaidFor all S fs l B s before now = Takes (128 * all) all before (most_in S fs + most_left l B s) (least_in S fs + least_left l B s) now
+abbrev pub IsPaidFor : (most least : ℕ) (S : Block) (fs : List Frame) (l : OpenBlock) (B : Block) (s : Step) (before now : ℕ) → Type 0
+IsPaidFor most least S fs l B s before now = Takes most least before (most_in S fs + most_left l B s) (least_in S fs + least_left l B s) now
 
 -- before the first line of a text all is left
 pub text_begins : (S : Block) (fs : List Frame) (l : OpenBlock) (B : Block) (depth before : ℕ) → fs ≡ [] → IsNew l → l.depth ≡ depth → depth ≤ deepest
-    → IsPaidFor (total_at depth B) S fs l B Next before before
+    → IsPaidFor (128 * total_at depth B) (total_at depth B) S fs l B Next before before
 unfolding most_in least_in sum_of
 text_begins S fs l B depth before e new d h =
     let b = begun depth B h in
@@ -147,18 +147,18 @@ text_begins S fs l B depth before e new d h =
     }
 
 -- the block that is read takes looks
-pub block_goes_on : (all : ℕ) (S : Block) (fs : List Frame) (old new : OpenBlock) (B : Block) (s t : Step) (before now after : ℕ) → IsPaidFor all S fs old B s before now
-    → Takes (most_left old B s) (least_left old B s) now (most_left new B t) (least_left new B t) after → IsPaidFor all S fs new B t before after
-block_goes_on all S fs old new B s t before now after h k = record {
+pub block_goes_on : (most least : ℕ) (S : Block) (fs : List Frame) (old new : OpenBlock) (B : Block) (s t : Step) (before now after : ℕ) → IsPaidFor most least S fs old B s before now
+    → Takes (most_left old B s) (least_left old B s) now (most_left new B t) (least_left new B t) after → IsPaidFor most least S fs new B t before after
+block_goes_on most least S fs old new B s t before now after h k = record {
   no_more = omega (arith, h.no_more, k.no_more);
   no_less = omega (arith, h.no_less, k.no_less);
 }
 
 -- it waits for a block inside, which is read next
-pub block_opens : (all : ℕ) (S : Block) (fs : List Frame) (f : Frame) (old l : OpenBlock) (B X : Block) (w : Waits) (first : Part) (second : Option Part) (before now : ℕ)
+pub block_opens : (most least : ℕ) (S : Block) (fs : List Frame) (f : Frame) (old l : OpenBlock) (B X : Block) (w : Waits) (first : Part) (second : Option Part) (before now : ℕ)
     → f.level ≡ old → placement_block S f.placement ≡ B → f.waits ≡ w → f.second ≡ second → X ≡ lines_in B first → l.depth ≡ suc old.depth → old.depth < deepest → IsNew l
-    → IsPaidFor all S fs old B (Open w first second) before now → IsPaidFor all S (fs ++ f ∷ []) l X Next before now
-block_opens all S fs f old l B X w first second before now a b c d x i j new h =
+    → IsPaidFor most least S fs old B (Open w first second) before now → IsPaidFor most least S (fs ++ f ∷ []) l X Next before now
+block_opens most least S fs f old l B X w first second before now a b c d x i j new h =
     let P : Block = placement_block S f.placement in
     let k = counted S fs f in
     let o = opened old l B w first second j i new.at (none_open l.run new.run) in
@@ -172,10 +172,10 @@ block_opens all S fs f old l B X w first second before now a b c d x i j new h =
     }
 
 -- a block was read, and the one that waited for it goes on
-pub block_ends : (all : ℕ) (S : Block) (fs : List Frame) (f : Frame) (old new : OpenBlock) (B C : Block) (s : Step) (before now after : ℕ) → IsPaidFor all S (fs ++ f ∷ []) old B Done before now
+pub block_ends : (most least : ℕ) (S : Block) (fs : List Frame) (f : Frame) (old new : OpenBlock) (B C : Block) (s : Step) (before now after : ℕ) → IsPaidFor most least S (fs ++ f ∷ []) old B Done before now
     → Takes (most_after f.level (placement_block S f.placement) f.waits f.second) (least_after f.level (placement_block S f.placement) f.waits f.second) now (most_left new C s) (least_left new C s) after
-    → IsPaidFor all S fs new C s before after
-block_ends all S fs f old new B C s before now after h t =
+    → IsPaidFor most least S fs new C s before after
+block_ends most least S fs f old new B C s before now after h t =
     let k = counted S fs f in
     record {
       no_more = omega (arith, h.no_more, t.no_more, k.most);
@@ -183,11 +183,11 @@ block_ends all S fs f old new B C s before now after h t =
     }
 
 -- or it waits for another part, which is read next
-pub block_waits : (all : ℕ) (S : Block) (fs : List Frame) (f g : Frame) (old new : OpenBlock) (B C : Block) (before now after : ℕ) → IsPaidFor all S (fs ++ f ∷ []) old B Done before now
+pub block_waits : (most least : ℕ) (S : Block) (fs : List Frame) (f g : Frame) (old new : OpenBlock) (B C : Block) (before now after : ℕ) → IsPaidFor most least S (fs ++ f ∷ []) old B Done before now
     → Takes (most_after f.level (placement_block S f.placement) f.waits f.second) (least_after f.level (placement_block S f.placement) f.waits f.second) now
     (most_after g.level (placement_block S g.placement) g.waits g.second + most_left new C Next) (least_after g.level (placement_block S g.placement) g.waits g.second + least_left new C Next) after
-    → IsPaidFor all S (fs ++ g ∷ []) new C Next before after
-block_waits all S fs f g old new B C before now after h t =
+    → IsPaidFor most least S (fs ++ g ∷ []) new C Next before after
+block_waits most least S fs f g old new B C before now after h t =
     let k = counted S fs f in
     let j = counted S fs g in
     record {
@@ -196,7 +196,7 @@ block_waits all S fs f g old new B C before now after h t =
     }
 
 -- where no block waits, a text is read once its first block is
-pub text_ends : (all : ℕ) (S : Block) (fs : List Frame) (l : OpenBlock) (B : Block) (before now : ℕ) → fs ≡ [] → IsPaidFor all S fs l B Done before now → TakesFor all before now
+pub text_ends : (all : ℕ) (S : Block) (fs : List Frame) (l : OpenBlock) (B : Block) (before now : ℕ) → fs ≡ [] → IsPaidFor (128 * all) all S fs l B Done before now → TakesFor all before now
 unfolding most_in least_in
 text_ends all S fs l B before now e h = record {
   no_more = omega (arith, h.no_more);

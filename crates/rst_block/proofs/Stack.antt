@@ -9,27 +9,15 @@ use Rattle.rst_block_state.specs.Steps.{IsTable, IsStep, IsNext, IsResumed}
 use Rattle.rst_block_state.specs.declared.frame.Frame.{Frame}
 use Rattle.rst_block_state.specs.declared.step.Step.{Step}
 use Rattle.rst_block_state.specs.declared.step.Step.TheVariants.{Next, Open, Cells, Done}
-use Rattle.rst_block.proofs.Work.{work, less, more, last}
+use Rattle.rst_block.specs.Reading.{cost, parts_left, left, all_left}
+use Rattle.rst_block.proofs.Work.{less, more, last}
 
--- what is left in a block of n lines that goes on at a place, by what comes next
-abbrev pub cost : ℕ → ℕ → Step → ℕ
-cost n at Next = 5 * (n - at) + 2
-cost n at (Open w first second) = 5 * (n - at) + 5
-cost n at (Cells table) = 5 * (n - at) + 1
-cost n at Done = 0
+-- what is less than what was no more
+pub below : {a b c : ℕ} → a < b → b ≤ c → a < c
+below h k = omega (arith, h, k)
 
--- more is left where another part comes
-abbrev pub parts_left : Option Part → ℕ
-parts_left None = 3
-parts_left (Some p) = 4
-
--- what is left in a block that waits
-abbrev pub left : Block → Frame → ℕ
-left S f = 5 * (length (placement_block S f.placement) - f.level.at) + parts_left f.second
-
--- all that is left where a text has n lines, there is room for so many blocks, and these wait
-abbrev pub all_left : ℕ → ℕ → Block → List Frame → ℕ → ℕ → Step → ℕ
-all_left n room S fs lines at now = work (5 * n + 6) room (map (left S) fs) (cost lines at now)
+pub still : {a b c : ℕ} → a < b → b ≤ c → a ≤ c
+still h k = omega (arith, h, k)
 
 -- a step behind others
 pub next_of_step : (B : Block) (at on to : ℕ) (s : Step) → at ≤ on → on < length B → IsStep B on to s → IsNext B at to s

@@ -2,17 +2,7 @@
 use Rattle.std.proofs.Common.{◌≡◌, ℕ, zero, suc, ◌+◌, ◌*◌, ◌<◌, ◌≤◌, ◌++◌, List, [], ◌∷◌, length, arith, refl, ap, ◌∙◌}
 use Rattle.std.proofs.Math.Nat.{mul-add, mul_comm, mul-lt-mul_of_pos_left}
 use Rattle.std.proofs.lemmas.Nat.{mul-add-lt}
-
--- as much, with more levels inside
-abbrev pub scale : ℕ → ℕ → ℕ → ℕ
-scale m zero w = w
-scale m (suc l) w = scale m l (m * w)
-
--- what is left in the block that is read, and in those that wait for it, the outermost first
-abbrev pub work : ℕ → ℕ → List ℕ → ℕ → ℕ
-work m zero ws w = w
-work m (suc l) [] w = scale m (suc l) w
-work m (suc l) (v ∷ ws) w = scale m (suc l) v + work m l ws w
+use Rattle.rst_block.specs.Reading.{scale, work}
 
 scale-lt : (m l : ℕ) {a b : ℕ} → 0 < m → a < b → scale m l a < scale m l b
 scale-lt m zero p h = h

@@ -1,17 +1,18 @@
 //! The machine: the constructs of a block one after the other, and the blocks inside them.
-ghost use Rattle.std.specs.Prelude.{◌≡◌, Ok, suc, ◌+◌, ◌-◌, ◌<◌, ◌≤◌, ◌∷◌, [], length, IfOk, IsTrue};
+ghost use Rattle.std.specs.Prelude.{◌≡◌, Ok, suc, ◌+◌, ◌-◌, ◌<◌, ◌≤◌, ◌∷◌, [], drop, length, take, IfNone, IfOk, IsTrue};
 ghost use Rattle.rst_text.specs.Lines.{are_lines};
 ghost use Rattle.rst_text.specs.Looked.{capped};
-ghost use Rattle.rst_text.specs.Shown.{block_of};
+ghost use Rattle.rst_text.specs.Shown.{block_of, source_of};
 ghost use Rattle.rst_markup_blocks.specs.Parts.{IsBlock};
-ghost use Rattle.rst_block_state.specs.Meanings.{Keeps, TellsBlank, comes, deepest, done_of, reads, text_items, within_at};
+ghost use Rattle.rst_block_state.specs.Meanings.{Keeps, TellsBlank, comes, deepest, done_of, plug, reads, text_items, within_at};
 ghost use Rattle.rst_block_state.specs.Steps as spec;
 ghost use Rattle.rst_block_state.specs.declared.step.Step.TheVariants.{Next, Open, Cells};
 ghost use Rattle.rst_block_state.specs.Nodes.{block_items};
 ghost use Rattle.rst_block_state.specs.Numbered.{each, just};
 ghost use Rattle.rst_block_state.specs.Tables as tables;
-ghost use Rattle.rst_block_state.specs.Ledger.{Takes, TakesFor, least_left, most_left, total_at, totals};
+ghost use Rattle.rst_block_state.specs.Ledger.{Takes, TakesFor, least_in, least_left, most_in, most_left, total_at, totals};
 ghost use Rattle.rst_block_state.specs.Inside.{cell_blocks};
+ghost use Rattle.rst_block.specs.Reading.{IsReading, found_step, text_left};
 ghost use Rattle.rst_markup_tables.specs.declared.results.TableResult.TheVariants.{Table};
 
 use super::ended::closed;
@@ -73,36 +74,76 @@ fn read_blocks(
     let base = frames.len();
     let mut view = whole;
     let mut level = OpenBlock::new(pass.alloc, depth);
+    loop {
+        match read_on(&whole, &mut view, &mut level, depth, base, frames, pass)? {
+            None => return Ok(level),
+            Some(table) => {
+                let inner = depth + (frames.len() - base) + 1;
+                cells(&view, &mut level, table, inner, frames, pass)?;
+            }
+        }
+    }
+}
+
+/// Reads on up to the cells of a table, or to the end of a text that stands in as many blocks as `depth` says, behind the first
+/// blocks that wait, as many as `base` says.
+// What it keeps is off the stack while the cells of a table are read.
+#[inline(never)]
+fn read_on<'a>(
+    whole: &View<'a>,
+    view: &mut View<'a>,
+    level: &mut OpenBlock,
+    depth: usize,
+    base: usize,
+    frames: &mut Frames,
+    pass: &mut Pass,
+) -> Result<Option<TableResult>>
+    requires reading { IsReading depth base (source_of whole.now) frames.old level.old view.old Next }
+    ensures reading { IfOk result (λ found. IsReading depth base (source_of whole.now) frames.new level.new view.new (found_step found)) }
+    ensures outer { IfOk result (λ _. take base frames.new ≡ take base frames.old) }
+    ensures last { IfOk result (λ found. IfNone found (length frames.new ≡ base)) }
+    ensures less { let S = source_of whole.now in
+        IfOk result (λ found. text_left depth base S frames.new level.new view.new (found_step found) ≤ text_left depth base S frames.old level.old view.old Next) }
+    ensures read { let S = source_of whole.now in
+        Keeps result (λ found. plug S (drop base frames.new) (comes level.new (block_of view.new) (found_step found)) pass.new.numbers)
+        (plug S (drop base frames.old) (reads level.old (block_of view.old)) pass.old.numbers) }
+    ensures paid { let S = source_of whole.now in
+        let most = most_in S (drop base frames.old) + most_left level.old (block_of view.old) Next in
+        let least = least_in S (drop base frames.old) + least_left level.old (block_of view.old) Next in
+        IfOk result (λ found. let B = block_of view.new in
+        let s = found_step found in
+        Takes most least pass.old.looks (most_in S (drop base frames.new) + most_left level.new B s) (least_in S (drop base frames.new) + least_left level.new B s) pass.new.looks) }
+{
     let mut now = Step::Next;
     loop {
         let inner = depth + (frames.len() - base) + 1;
         now = match now {
-            Step::Next => next(&view, &mut level, pass)?,
-            Step::Cells(table) => cells(&view, &mut level, table, inner, frames, pass)?,
+            Step::Next => next(view, level, pass)?,
+            Step::Cells(table) => return Ok(Some(table)),
             Step::Open {
                 waits,
                 first,
                 second,
             } => {
                 if inner > DEEPEST {
-                    flat(&view, &mut level, waits, first, second, pass)?
+                    flat(view, level, waits, first, second, pass)?
                 } else {
-                    let frame = opened(pass.alloc, &view, &mut level, waits, second, inner);
+                    let frame = opened(pass.alloc, view, level, waits, second, inner);
                     frames.push(pass.alloc, frame)?;
-                    view = inside(&view, first);
+                    *view = inside(view, first);
                     Step::Next
                 }
             }
             Step::Done => match frames.pop(base) {
-                None => return Ok(level),
-                Some(frame) => match closed(&whole, frame, &mut level, inner - 1, pass)? {
+                None => return Ok(None),
+                Some(frame) => match closed(whole, frame, level, inner - 1, pass)? {
                     Ended::Waiting(frame, part) => {
                         frames.push(pass.alloc, frame)?;
-                        view = part;
+                        *view = part;
                         Step::Next
                     }
                     Ended::GoesOn(outer, next) => {
-                        view = outer;
+                        *view = outer;
                         next
                     }
                 },
@@ -188,22 +229,21 @@ fn cells(
     depth: usize,
     frames: &mut Frames,
     pass: &mut Pass,
-) -> Result<Step>
+) -> Result<()>
     requires inside { level.old.at < length (block_of view.now) }
     requires depth { depth ≤ 251 }
     requires room { length frames.old ≤ depth }
     requires level { depth ≡ suc level.old.depth }
     requires table { spec.IsTable level.old.at found }
     ensures frames { IfOk result (λ _. frames.new ≡ frames.old) }
-    ensures next { IfOk result (λ s. s ≡ Next) }
     ensures later { IfOk result (λ _. level.old.at < level.new.at) }
     ensures kept { IfOk result (λ _. level.new.depth ≡ level.old.depth) }
-    ensures read { Keeps result (λ s. comes level.new (block_of view.now) s pass.new.numbers)
+    ensures read { Keeps result (λ _. reads level.new (block_of view.now) pass.new.numbers)
         (comes level.old (block_of view.now) (Cells found) pass.old.numbers) }
     ensures paid { let B = block_of view.now in
         let most = most_left level.old B (Cells found) in
         let least = least_left level.old B (Cells found) in
-        IfOk result (λ s. Takes most least pass.old.looks (most_left level.new B s) (least_left level.new B s) pass.new.looks) }
+        IfOk result (λ _. Takes most least pass.old.looks (most_left level.new B Next) (least_left level.new B Next) pass.new.looks) }
 {
     let TableResult::Table {
         cols,
@@ -220,7 +260,7 @@ fn cells(
     level.go_to(end);
     level.push_marked(table)?;
     after_table(view, level, pass)?;
-    Ok(Step::Next)
+    Ok(())
 }
 
 /// The rows of a table, whose cells stand in as many blocks as `depth` says.

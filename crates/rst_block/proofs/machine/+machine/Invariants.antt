@@ -1,18 +1,18 @@
-use Rattle.std.proofs.Common.{◌≡◌, ◌+◌, ◌-◌, ◌*◌, ◌^◌, ◌≤◌, [], length, take, drop}
+use Rattle.std.proofs.Common.{◌≡◌, ◌+◌, ◌-◌, ◌*◌, [], drop, take}
 use Rattle.std.specs.Vec.Iter.{into_iter_items}
 use Rattle.rst_text.specs.Shown.{block_of, source_of}
 use Rattle.rst_markup_tables.specs.Results.{cells_of}
-use Rattle.rst_block_state.specs.Frames.{AreFrames, AreNested, IsNow}
 use Rattle.rst_markup_tables.specs.declared.results.TableResult.TheVariants.{Table}
 use Rattle.rst_block_state.specs.Inside.{cell_blocks}
 use Rattle.rst_block_state.specs.Ledger.{total_at, totals}
-use Rattle.rst_block_state.specs.Meanings.{comes, plug, within_at}
+use Rattle.rst_block_state.specs.Meanings.{plug, reads, within_at}
 use Rattle.rst_block_state.specs.Nodes.{block_items}
 use Rattle.rst_block_state.specs.Numbered.{each}
 use Rattle.rst_block_state.specs.Tables.{entry_of, row_of}
+use Rattle.rst_block_state.specs.declared.step.Step.TheVariants.{Next}
+use Rattle.rst_block.specs.Reading.{IsReading, text_left}
 use Rattle.rst_block.proofs.CellsRead.{each_after}
 use Rattle.rst_block.proofs.MachinePaid.{AreLeft, cell_lines, row_lines, IsPaidFor}
-use Rattle.rst_block.proofs.Stack.{all_left}
 use Rattle.rst_block.proofs.machine.+machine.Given as goal
 
 abbrev pub decreases-read : goal.decreases-read
@@ -30,24 +30,17 @@ decreases-rows_of l = 5 * (251 - l.depth) + 4
 abbrev pub decreases-row_of : goal.decreases-row_of
 decreases-row_of l = 5 * (251 - l.depth) + 3
 
--- the blocks that wait make of what comes in the block that is read all that the text gives
-abbrev pub invariant-read_blocks-loop-now : goal.invariant-read_blocks-loop-now
-invariant-read_blocks-loop-now l = record {
-  base : l.base ≤ length l.frames;
-  under : l.base ≤ l.depth;
-  room : l.depth + (length l.frames - l.base) ≤ 250;
+-- the blocks that wait make of what is left in the block that is read all that the text gives
+abbrev pub invariant-read_blocks-loop-level : goal.invariant-read_blocks-loop-level
+invariant-read_blocks-loop-level l = record {
+  reading : IsReading l.depth l.base (source_of l.whole) l.frames l.level l.view Next;
   outer : take l.base l.frames ≡ l.fn.frames;
-  waiting : AreFrames (source_of l.whole) (drop l.base l.frames);
-  text : source_of l.view ≡ source_of l.whole;
-  now : IsNow (block_of l.view) l.level.at l.now;
-  depth : l.level.depth ≡ l.depth + (length l.frames - l.base);
-  nested : AreNested l.depth (drop l.base l.frames);
-  read : plug (source_of l.whole) (drop l.base l.frames) (comes l.level (block_of l.view) l.now) l.pass.numbers ≡ block_items (within_at l.depth) (block_of l.whole) l.fn.pass.numbers;
-  paid : IsPaidFor (total_at l.depth (block_of l.whole)) (source_of l.whole) (drop l.base l.frames) l.level (block_of l.view) l.now l.fn.pass.looks l.pass.looks;
+  read : plug (source_of l.whole) (drop l.base l.frames) (reads l.level (block_of l.view)) l.pass.numbers ≡ block_items (within_at l.depth) (block_of l.whole) l.fn.pass.numbers;
+  paid : IsPaidFor (128 * total_at l.depth (block_of l.whole)) (total_at l.depth (block_of l.whole)) (source_of l.whole) (drop l.base l.frames) l.level (block_of l.view) Next l.fn.pass.looks l.pass.looks;
 }
 
-abbrev pub decreases-read_blocks-loop-now : goal.decreases-read_blocks-loop-now
-decreases-read_blocks-loop-now l = all_left (2 ^ 64) (250 - l.depth) (source_of l.whole) (drop l.base l.frames) (length (block_of l.view)) l.level.at l.now
+abbrev pub decreases-read_blocks-loop-level : goal.decreases-read_blocks-loop-level
+decreases-read_blocks-loop-level l = text_left l.depth l.base (source_of l.whole) l.frames l.level l.view Next
 
 abbrev pub invariant-rows_of-loop-cells : goal.invariant-rows_of-loop-cells
 invariant-rows_of-loop-cells l = record {
