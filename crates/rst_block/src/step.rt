@@ -61,7 +61,6 @@ fn marked_step(
     requires filled { begun ≢ Blank }
     requires mark { begun ≢ Text }
     ensures step { IfOk result (λ s. spec.IsStep (block_of view.now) level.old.at level.new.at s) }
-    ensures kept { IfOk result (λ _. level.new.depth ≡ level.old.depth) }
     ensures read { Keeps result (λ s. comes level.new (block_of view.now) s pass.new.numbers)
         (reads level.old (block_of view.now) pass.old.numbers) }
     ensures paid { IfOk result (λ s. IsPaid 29 level.old level.new (block_of view.now) s pass.old.looks pass.new.looks) }

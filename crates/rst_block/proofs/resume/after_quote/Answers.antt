@@ -1,8 +1,13 @@
 use Rattle.std.proofs.lemmas.Result.{IfOk-weaker}
 use Rattle.rst_text.specs.Shown.{block_of}
+use Rattle.rst_block_state.specs.Ledger.{AreQuotesPaid}
 use Rattle.rst_block_body.proofs.QuoteSteps.{quote_ends}
 use Rattle.rst_block_body.proofs.QuotesPaid.{further_paid, last_paid}
 use Rattle.rst_block.proofs.resume.after_quote.Goals as goal
+
+pub returns-in-Some-clause-kept : goal.returns-in-Some-clause-kept
+returns-in-Some-clause-kept c =
+    IfOk-weaker c.quote_part.result (λ s. AreQuotesPaid c.args.level.now c.quote_part.new.level (block_of c.args.view.now) c.in-Some.rest c.in-Some.rest.to s _ _) _ (λ _ h. h.depth) c.quote_part.ensures.paid
 
 pub returns-in_ok-warn-in-None-clause-kept : goal.returns-in_ok-warn-in-None-clause-kept
 returns-in_ok-warn-in-None-clause-kept c = c.in_ok-warn-in-None.ensures.more.depth

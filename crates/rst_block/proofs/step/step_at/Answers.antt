@@ -1,5 +1,6 @@
 use Rattle.std.proofs.Common.{◌≡◌, ◌+◌, ◌≤◌, suc, [], ◌∷◌, length, length-drop, arith, rules, refl, ap, ◌∙◌}
 use Rattle.std.proofs.lemmas.List.{drop-drop}
+use Rattle.std.proofs.lemmas.Result.{IfOk-weaker}
 use Rattle.std.specs.Prelude.{◌≢◌, drop}
 use Rattle.rst_text.specs.Block.{Block}
 use Rattle.rst_text.specs.Shown.{block_of}
@@ -10,6 +11,7 @@ use Rattle.rst_markup_blocks.specs.Lines.{lines_while}
 use Rattle.rst_markup_blocks.specs.declared.kind.Kind.TheVariants as kinds
 use Rattle.rst_markup_blocks.specs.declared.lines.LineTest.TheVariants.{Blank as BlankTest}
 use Rattle.rst_markup_blocks.proofs.RowLemmas.{row_at}
+use Rattle.rst_block_state.specs.Ledger.{IsPaid}
 use Rattle.rst_block_state.proofs.LedgerLemmas.{blank_lines}
 use Rattle.rst_block_state.proofs.NextConstructs.{IsFilled, are_blank, blank_reads, next_of}
 use Rattle.rst_block_body.proofs.StepsPaid.{step_taken, text_taken}
@@ -42,8 +44,14 @@ returns-in-Blank c =
           (omega (arith, end, all, c.begun_at.ensures.looks, c.lines_end.ensures.few)) (omega (arith, end, all, c.begun_at.ensures.low, c.lines_end.ensures.low));
     }
 
+pub returns-in-Text-clause-kept : goal.returns-in-Text-clause-kept
+returns-in-Text-clause-kept c = IfOk-weaker c.text_line.result (λ s. IsPaid 27 c.args.level.now c.text_line.new.level (block_of c.args.view.now) s _ _) _ (λ _ h. h.depth) c.text_line.ensures.paid
+
 pub returns-in-Text-clause-paid : goal.returns-in-Text-clause-paid
 returns-in-Text-clause-paid c = text_taken _ _ _ _ _ _ c.text_line.result c.requires.inside c.in-Text.ensures.begun c.begun_at.ensures.low c.begun_at.ensures.looks c.text_line.ensures.paid
+
+pub returns-in_default-clause-kept : goal.returns-in_default-clause-kept
+returns-in_default-clause-kept c = IfOk-weaker c.marked_step.result (λ s. IsPaid 29 c.args.level.now c.marked_step.new.level (block_of c.args.view.now) s _ _) _ (λ _ h. h.depth) c.marked_step.ensures.paid
 
 -- what begins at a line that isn't blank
 filled : (begun : Begun) → begun ≢ Blank → IsFilled begun
