@@ -2,11 +2,10 @@
 use Rattle.std.proofs.Common.{◌≡◌, ℕ, zero, suc, true, ◌-◌, ◌≤◌, List, [], ◌∷◌, ◌++◌, drop, map, Result, Ok, Err, arith, refl, sym, ◌∙◌, ap, append_assoc, append-nil, subst}
 use Rattle.rst_text.specs.Block.{Block, first_number}
 use Rattle.rst_tree.specs.declared.node.Node.{Node}
-use Rattle.rst_tree.specs.declared.tag.Tag.TheVariants.{Row}
 use Rattle.rst_markup_tables.specs.declared.results.Cell.{Cell}
 use Rattle.rst_markup_tables.specs.declared.results.TableResult.{TableResult}
 use Rattle.rst_markup_tables.specs.declared.results.TableResult.TheVariants.{Table}
-use Rattle.rst_block_nodes.specs.Elements.{element_of, entry_node}
+use Rattle.rst_block_nodes.specs.Elements.{entry_node}
 use Rattle.rst_block_sections.specs.Sections.{filled}
 use Rattle.rst_block_state.specs.Constructs.{grid}
 use Rattle.rst_block_state.specs.Joins.{alone_ending}
@@ -67,7 +66,7 @@ each_keeps f x left rest made n all (TooDeep line) g h l inv k = sym inv ∙ ap 
 each_keeps f x left rest made n all NoMemory g h l inv k = tt
 
 -- where what is read first is refused, so is what follows
-then_keeps : {A B C D : Type 0} (r : Result (A × ℕ) ℕ) (f : A → Numbered B) (e : BlockFault) (g : C → Result (A × ℕ) ℕ) (h : D → Result (B × ℕ) ℕ) → Keeps (Err e) g r → Keeps (Err e) h (then_read f r)
+pub then_keeps : {A B C D : Type 0} (r : Result (A × ℕ) ℕ) (f : A → Numbered B) (e : BlockFault) (g : C → Result (A × ℕ) ℕ) (h : D → Result (B × ℕ) ℕ) → Keeps (Err e) g r → Keeps (Err e) h (then_read f r)
 then_keeps r f (TooDeep line) g h k = ap (then_read f) k
 then_keeps r f NoMemory g h k = tt
 
@@ -115,16 +114,14 @@ entry_keeps depth cell B n NoMemory f g low high b h = tt
 
 -- ---- rows
 
--- where a cell is refused, so is its row
-pub row_keeps : {A : Type 0} (depth : ℕ) (cells left rest : List Cell) (cell : Cell) (B : Block) (made : List Node) (n m : ℕ) (e : BlockFault)
-    (f : OpenBlock → Result (List Item × ℕ) ℕ) (g : A → Result (Node × ℕ) ℕ) → 1 ≤ depth → depth ≤ 251 → left ≡ cell ∷ rest → B ≡ cell.lines
+-- where a cell is refused, so are all entries of its row
+pub entries_keep : {A : Type 0} (depth : ℕ) (cells left rest : List Cell) (cell : Cell) (B : Block) (made : List Node) (n m : ℕ) (e : BlockFault)
+    (f : OpenBlock → Result (List Item × ℕ) ℕ) (g : A → Result (List Node × ℕ) ℕ) → 1 ≤ depth → depth ≤ 251 → left ≡ cell ∷ rest → B ≡ cell.lines
     → each_after (entry_of (within_at (depth - 1))) made left m ≡ each (entry_of (within_at (depth - 1))) cells n → Keeps (Err e) f (text_items depth B m)
-    → Keeps (Err e) g (row_of (within_at (depth - 1)) cells n)
-row_keeps depth cells left rest cell B made n m e f g low high l b inv k =
-    let E : Cell → Numbered Node = entry_of (within_at (depth - 1)) in
+    → Keeps (Err e) g (each (entry_of (within_at (depth - 1))) cells n)
+entries_keep depth cells left rest cell B made n m e f g low high l b inv k =
     let F : Node → Result (Node × ℕ) ℕ = λ node. just node m in
-    let G : List Node → Result (List Node × ℕ) ℕ = λ nodes. just nodes m in
-    then_keeps (each E cells n) (λ entries. just (element_of Row [] entries 0)) e G g (each_keeps E cell left rest made m (each E cells n) e F G l inv (entry_keeps depth cell B m e f F low high b k))
+    each_keeps (entry_of (within_at (depth - 1))) cell left rest made m _ e F g l inv (entry_keeps depth cell B m e f F low high b k)
 
 -- ---- tables
 

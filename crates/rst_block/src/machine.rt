@@ -1,10 +1,14 @@
 //! The machine: the constructs of a block one after the other, and the blocks inside them.
-ghost use Rattle.std.specs.Prelude.{◌≡◌, Ok, suc, ◌+◌, ◌-◌, ◌<◌, ◌≤◌, ◌∷◌, [], drop, length, take, IfNone, IfOk, IsTrue};
+ghost use Rattle.std.specs.Prelude.{◌≡◌, Ok, suc, ◌+◌, ◌-◌, ◌<◌, ◌≤◌, ◌++◌, ◌∷◌, [], drop, length, take, IfNone, IfOk, IsTrue};
 ghost use Rattle.rst_text.specs.Lines.{are_lines};
 ghost use Rattle.rst_text.specs.Looked.{capped};
 ghost use Rattle.rst_text.specs.Shown.{block_of, source_of};
 ghost use Rattle.rst_markup_blocks.specs.Parts.{IsBlock};
+ghost use Rattle.rst_tree.specs.declared.tag.Tag.TheVariants.{Row};
+ghost use Rattle.rst_block_nodes.specs.Elements.{element_of, entry_node};
+ghost use Rattle.rst_block_sections.specs.Sections.{filled};
 ghost use Rattle.rst_block_state.specs.Meanings.{Keeps, TellsBlank, comes, deepest, done_of, plug, reads, text_items, within_at};
+ghost use Rattle.rst_block_state.specs.OpenBlocks.{Gives, HasMore};
 ghost use Rattle.rst_block_state.specs.Steps as spec;
 ghost use Rattle.rst_block_state.specs.declared.step.Step.TheVariants.{Next, Open, Cells};
 ghost use Rattle.rst_block_state.specs.Nodes.{block_items};
@@ -27,7 +31,7 @@ use rst_markup_blocks::{LineTest, Part, lines_end};
 use rst_markup_tables::{Cell, Rows, TableResult};
 use rst_text::{Lines, View};
 use rst_tree::{Attrs, Tag};
-use rst_tree_index::{Marked, MarkedNodes};
+use rst_tree_index::MarkedNodes;
 use std::alloc::Global;
 
 /// Reads the lines of a text: of a document, or of a table's cell, that stands in as many blocks as `depth` says. The blocks that
@@ -78,7 +82,7 @@ fn read_blocks(
         match read_on(&whole, &mut view, &mut level, depth, base, frames, pass)? {
             None => return Ok(level),
             Some(table) => {
-                let inner = depth + (frames.len() - base) + 1;
+                let inner = level.depth + 1;
                 cells(&view, &mut level, table, inner, frames, pass)?;
             }
         }
@@ -256,11 +260,26 @@ fn cells(
     };
     let line = view.number(level.at);
     let made = rows_of(rows, depth, frames, pass)?;
-    let table = table_of(pass.alloc, line, cols.as_slice(), head, made)?;
     level.go_to(end);
-    level.push_marked(table)?;
+    put_table(pass.alloc, level, line, cols.as_slice(), head, made)?;
     after_table(view, level, pass)?;
     Ok(())
+}
+
+/// Puts a table of these rows behind the last node.
+// What it keeps is off the stack while cells are read, as with the next two.
+#[inline(never)]
+fn put_table(
+    alloc: Global,
+    level: &mut OpenBlock,
+    line: usize,
+    widths: &[usize],
+    head: usize,
+    rows: MarkedNodes,
+) -> Result<()>
+    ensures { Gives (λ _. HasMore level.old level.new (tables.table_node widths.now head rows line ∷ [])) result }
+{
+    level.push_marked(table_of(alloc, line, widths, head, rows)?)
 }
 
 /// The rows of a table, whose cells stand in as many blocks as `depth` says.
@@ -276,20 +295,35 @@ fn rows_of(rows: Rows, depth: usize, frames: &mut Frames, pass: &mut Pass) -> Re
 {
     let mut made = MarkedNodes::none(pass.alloc);
     for cells in rows.into_rows() {
-        made.push(row_of(cells, depth, frames, pass)?)?;
+        let entries = entries_of(cells, depth, frames, pass)?;
+        put_row(pass.alloc, &mut made, entries)?;
     }
     Ok(made)
 }
 
-/// A row of cells that stand in as many blocks as `depth` says. The lines of a cell are kept once, and only until they are read, so a
-/// line inside several tables is kept once for each of them.
+/// Puts a row of these entries behind the others.
+#[inline(never)]
+fn put_row(alloc: Global, rows: &mut MarkedNodes, entries: MarkedNodes) -> Result<()>
+    ensures { Gives (λ _. rows.new ≡ rows.old ++ element_of Row [] entries 0 ∷ []) result }
+{
+    rows.push(entries.into_element(Tag::Row, Attrs::new(alloc), 0)?)?;
+    Ok(())
+}
+
+/// The entries of a row, whose cells stand in as many blocks as `depth` says. The lines of a cell are kept once, and only until they
+/// are read, so a line inside several tables is kept once for each of them.
 #[cycle(machine)]
-fn row_of(cells: Vec<Cell>, depth: usize, frames: &mut Frames, pass: &mut Pass) -> Result<Marked>
+fn entries_of(
+    cells: Vec<Cell>,
+    depth: usize,
+    frames: &mut Frames,
+    pass: &mut Pass,
+) -> Result<MarkedNodes>
     requires depth { depth ≤ 251 }
     requires room { length frames.old ≤ depth }
     requires inner { 1 ≤ depth }
     ensures frames { IfOk result (λ _. frames.new ≡ frames.old) }
-    ensures row { Keeps result (λ node. Ok (node, pass.new.numbers)) (tables.row_of (within_at (depth - 1)) cells.items pass.old.numbers) }
+    ensures entries { Keeps result (λ entries. Ok (entries, pass.new.numbers)) (each (tables.entry_of (within_at (depth - 1))) cells.items pass.old.numbers) }
     ensures paid { let inner = cell_blocks (Table [] 0 (cells.items ∷ []) 0) in
         IfOk result (λ _. TakesFor (totals (depth - 1) inner) pass.old.looks pass.new.looks) }
 {
@@ -302,8 +336,22 @@ fn row_of(cells: Vec<Cell>, depth: usize, frames: &mut Frames, pass: &mut Pass) 
         } = cell;
         let lines = lines.into_lines(pass.alloc)?;
         let nodes = read(&lines, depth, frames, pass)?.nodes;
-        entries.push(entry_of(pass.alloc, morerows, morecols, nodes)?)?;
+        put_entry(pass.alloc, &mut entries, morerows, morecols, nodes)?;
     }
-    let row = entries.into_element(Tag::Row, Attrs::new(pass.alloc), 0)?;
-    Ok(row)
+    Ok(entries)
+}
+
+/// Puts the entry of a cell with these nodes behind the others.
+#[inline(never)]
+fn put_entry(
+    alloc: Global,
+    entries: &mut MarkedNodes,
+    morerows: usize,
+    morecols: usize,
+    nodes: MarkedNodes,
+) -> Result<()>
+    ensures { Gives (λ _. entries.new ≡ entries.old ++ filled (entry_node morerows morecols 0) nodes ∷ []) result }
+{
+    entries.push(entry_of(alloc, morerows, morecols, nodes)?)?;
+    Ok(())
 }

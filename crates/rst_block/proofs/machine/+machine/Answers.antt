@@ -20,7 +20,7 @@ use Rattle.rst_block_state.specs.Tables.{entry_of, row_of, table_node}
 use Rattle.rst_block_state.specs.declared.frame.Frame.{Frame}
 use Rattle.rst_block_state.specs.declared.step.Step.TheVariants.{Next, Cells}
 use Rattle.rst_block_state.proofs.Calls.{refuses}
-use Rattle.rst_block.proofs.CellsRead.{each_begins, each_ends, each_goes_on, each_keeps, entry_next, row_keeps, table_keeps, table_reads}
+use Rattle.rst_block.proofs.CellsRead.{each_begins, each_ends, each_goes_on, each_keeps, entries_keep, entry_next, table_keeps, then_keeps, table_reads}
 use Rattle.rst_block.proofs.LastLevel.{flat_text, flat_text_fails}
 use Rattle.rst_block.proofs.MachinePaid.{none_read, some_read, next_cell, row_paid, next_row, rows_paid, table_paid, text_begins, block_goes_on, text_ends, flat_paid}
 use Rattle.rst_block.proofs.Stack.{below, goes_on}
@@ -137,24 +137,24 @@ cells-returns-in_err-made-clause-read t c =
     c.in_err-made.ensures.rows)
 
 pub cells-returns-clause-kept : goal.cells-returns-clause-kept
-cells-returns-clause-kept t c = c.in_ok-after_table.ensures.more.depth ∙ c.in_ok-push_marked.ensures.more.depth ∙ c.go_to.ensures.moved.depth
+cells-returns-clause-kept t c = c.in_ok-after_table.ensures.more.depth ∙ c.in_ok-put_table.ensures.depth ∙ c.go_to.ensures.moved.depth
 
 pub cells-returns-clause-read : goal.cells-returns-clause-read
 cells-returns-clause-read t c =
     let B : Block = block_of c.args.view.now in
     let behind = rw c.in-Table.is at c.requires.table in
     ap (λ k. reads c.after_table.new.level B k) c.in_ok-after_table.ensures.numbers
-    ∙ table_reads c.args.level.now c.go_to.new.self c.push_marked.new.self c.after_table.new.level B c.args.depth c.args.found c.in-Table.cols c.in-Table.head c.in-Table.end c.in-Table.rows c.in_ok-made.made c.in_ok-table.table
+    ∙ table_reads c.args.level.now c.go_to.new.self c.put_table.new.level c.after_table.new.level B c.args.depth c.args.found c.in-Table.cols c.in-Table.head c.in-Table.end c.in-Table.rows c.in_ok-made.made (table_node c.as_slice.result.now c.in-Table.head c.in_ok-made.made c.number-line.result)
     c.args.pass.now.numbers c.rows_of.new.pass.numbers c.in-Table.is c.requires.level (sym c.in_ok-made.ensures.rows)
-    (c.in_ok-table.ensures ∙ ap (λ widths. table_node widths c.in-Table.head c.in_ok-made.made c.number-line.result) c.as_slice.ensures
+    (ap (λ widths. table_node widths c.in-Table.head c.in_ok-made.made c.number-line.result) c.as_slice.ensures
     ∙ ap (λ line. table_node c.in-Table.cols c.in-Table.head c.in_ok-made.made line) c.number-line.ensures.value)
-    c.go_to.ensures.moved (c.go_to.ensures.there behind) c.in_ok-push_marked.ensures.more c.in_ok-after_table.ensures.more
+    c.go_to.ensures.moved (c.go_to.ensures.there behind) c.in_ok-put_table.ensures c.in_ok-after_table.ensures.more
 
 pub cells-returns-clause-paid : goal.cells-returns-clause-paid
 cells-returns-clause-paid t c =
     let behind = rw c.in-Table.is at c.requires.table in
-    table_paid c.args.level.now c.go_to.new.self c.push_marked.new.self c.after_table.new.level (block_of c.args.view.now) c.args.depth c.args.found c.in-Table.cols c.in-Table.head c.in-Table.end c.in-Table.rows
-    _ _ _ _ _ c.in-Table.is c.requires.level c.in_ok-made.ensures.paid c.go_to.ensures.moved (c.go_to.ensures.there behind) c.in_ok-push_marked.ensures.more
+    table_paid c.args.level.now c.go_to.new.self c.put_table.new.level c.after_table.new.level (block_of c.args.view.now) c.args.depth c.args.found c.in-Table.cols c.in-Table.head c.in-Table.end c.in-Table.rows
+    _ _ _ _ _ c.in-Table.is c.requires.level c.in_ok-made.ensures.paid c.go_to.ensures.moved (c.go_to.ensures.there behind) c.in_ok-put_table.ensures
     c.in_ok-after_table.ensures.more c.in_ok-after_table.ensures.low c.in_ok-after_table.ensures.looks
 
 pub rows_of-loop-cells-init : goal.rows_of-loop-cells-init
@@ -166,18 +166,19 @@ rows_of-loop-cells-init t c =
       paid = none_read _ _ _ (ap (λ rows. totals (c.args.depth - 1) (cell_blocks (Table [] 0 rows 0))) start);
     }
 
-pub rows_of-returns-in_err-row_of-clause-rows : goal.rows_of-returns-in_err-row_of-clause-rows
-rows_of-returns-in_err-row_of-clause-rows t c =
-    refuses c.from_residual.result c.in_err-row_of.field-0.0 _ _ (search rules)
-    (each_keeps (row_of (within_at (c.args.depth - 1))) c.in-Some.cells.items (cells_of (into_iter_items c.loop-cells.cells-iterator)) _ c.loop-cells.made c.loop-cells.pass.numbers _ c.in_err-row_of.field-0.0 _ _
-    (ap cells_of c.in-Some.ensures.steps.0) c.loop-cells.invariant.made c.in_err-row_of.ensures.row)
+pub rows_of-returns-in_err-entries-clause-rows : goal.rows_of-returns-in_err-entries-clause-rows
+rows_of-returns-in_err-entries-clause-rows t c =
+    refuses c.from_residual.result c.in_err-entries.field-0.0 _ _ (search rules)
+    (each_keeps (row_of (within_at (c.args.depth - 1))) c.in-Some.cells.items (cells_of (into_iter_items c.loop-cells.cells-iterator)) _ c.loop-cells.made c.loop-cells.pass.numbers _ c.in_err-entries.field-0.0 _ _
+    (ap cells_of c.in-Some.ensures.steps.0) c.loop-cells.invariant.made
+    (then_keeps _ (λ entries. just (element_of Row [] entries 0)) c.in_err-entries.field-0.0 _ (λ (n : Node). just n 0) c.in_err-entries.ensures.entries))
 
 pub rows_of-loop-cells-preserved : goal.rows_of-loop-cells-preserved
 rows_of-loop-cells-preserved t c = record {
-  frames = c.in_ok-row_of.ensures.frames ∙ c.loop-cells.invariant.frames;
-  made = each_goes_on (row_of (within_at (c.args.depth - 1))) c.in-Some.cells.items (cells_of (into_iter_items c.loop-cells.cells-iterator)) _ c.loop-cells.made c.push.new.self c.in_ok-row_of.field-0 c.loop-cells.pass.numbers
-      c.row_of.new.pass.numbers _ (ap cells_of c.in-Some.ensures.steps.0) c.in_ok-row_of.ensures.row c.in_ok-push.ensures c.loop-cells.invariant.made;
-  paid = some_read _ _ _ _ _ _ _ c.loop-cells.invariant.paid (next_row (c.args.depth - 1) (into_iter_items c.loop-cells.cells-iterator) _ c.in-Some.cells c.in-Some.ensures.steps.0) c.in_ok-row_of.ensures.paid;
+  frames = c.in_ok-entries.ensures.frames ∙ c.loop-cells.invariant.frames;
+  made = each_goes_on (row_of (within_at (c.args.depth - 1))) c.in-Some.cells.items (cells_of (into_iter_items c.loop-cells.cells-iterator)) _ c.loop-cells.made c.put_row.new.rows (element_of Row [] c.in_ok-entries.entries 0) c.loop-cells.pass.numbers
+      c.entries_of.new.pass.numbers _ (ap cells_of c.in-Some.ensures.steps.0) (ap (then_read (λ (entries : List Node). just (element_of Row [] entries 0))) c.in_ok-entries.ensures.entries) c.in_ok-put_row.ensures c.loop-cells.invariant.made;
+  paid = some_read _ _ _ _ _ _ _ c.loop-cells.invariant.paid (next_row (c.args.depth - 1) (into_iter_items c.loop-cells.cells-iterator) _ c.in-Some.cells c.in-Some.ensures.steps.0) c.in_ok-entries.ensures.paid;
 }
 
 pub rows_of-returns-clause-rows : goal.rows_of-returns-clause-rows
@@ -190,38 +191,37 @@ rows_of-returns-clause-paid t c =
     let none : into_iter_items c.loop-cells.cells-iterator ≡ [] = nil_from_length _ (sym c.loop-cells.cells-iterator.rest.ok.0 ∙ c.in-None.ensures.steps.0) in
     rows_paid (c.args.depth - 1) c.args.rows (into_iter_items c.loop-cells.cells-iterator) _ _ none c.loop-cells.invariant.paid
 
-pub row_of-returns-in_err-nodes-clause-row : goal.row_of-returns-in_err-nodes-clause-row
-row_of-returns-in_err-nodes-clause-row t c =
+pub entries_of-returns-in_err-nodes-clause-entries : goal.entries_of-returns-in_err-nodes-clause-entries
+entries_of-returns-in_err-nodes-clause-entries t c =
     refuses c.from_residual-in_err-nodes.result c.in_err-nodes.field-0.0 _ _ (search rules)
-    (row_keeps c.args.depth c.args.cells.items (into_iter_items c.loop-cell.cell-iterator) _ c.in-Some.cell c.in_ok-lines.lines c.loop-cell.entries c.args.pass.now.numbers c.loop-cell.pass.numbers c.in_err-nodes.field-0.0 _ _
+    (entries_keep c.args.depth c.args.cells.items (into_iter_items c.loop-cell.cell-iterator) _ c.in-Some.cell c.in_ok-lines.lines c.loop-cell.entries c.args.pass.now.numbers c.loop-cell.pass.numbers c.in_err-nodes.field-0.0 _ _
     c.requires.inner c.requires.depth c.in-Some.ensures.steps.0 c.in_ok-lines.ensures c.loop-cell.invariant.made c.in_err-nodes.ensures.read)
 
 -- the lines of a cell are dropped in one of two ways: with the places of those that have text, or without any
-pub row_of-loop-cell-preserved : goal.row_of-loop-cell-preserved
-row_of-loop-cell-preserved t c = record {
+pub entries_of-loop-cell-preserved : goal.entries_of-loop-cell-preserved
+entries_of-loop-cell-preserved t c = record {
   frames = c.in_ok-nodes.ensures.frames ∙ c.loop-cell.invariant.frames;
-  made = entry_next c.args.depth c.in-Some.cell c.in_ok-lines.lines (into_iter_items c.loop-cell.cell-iterator) _ c.in_ok-nodes.field-0 c.loop-cell.entries c.push.new.self c.in_ok-entry_of.field-0 c.loop-cell.pass.numbers
-      c.read.new.pass.numbers _ c.requires.inner c.requires.depth c.in_ok-nodes.ensures.depth c.in-Some.ensures.steps.0 c.in_ok-lines.ensures c.in_ok-nodes.ensures.read c.in_ok-entry_of.ensures c.in_ok-push.ensures c.loop-cell.invariant.made;
+  made = entry_next c.args.depth c.in-Some.cell c.in_ok-lines.lines (into_iter_items c.loop-cell.cell-iterator) _ c.in_ok-nodes.field-0 c.loop-cell.entries c.put_entry.new.entries _ c.loop-cell.pass.numbers
+      c.read.new.pass.numbers _ c.requires.inner c.requires.depth c.in_ok-nodes.ensures.depth c.in-Some.ensures.steps.0 c.in_ok-lines.ensures c.in_ok-nodes.ensures.read refl c.in_ok-put_entry.ensures c.loop-cell.invariant.made;
   paid = some_read _ _ _ _ _ _ _ c.loop-cell.invariant.paid (next_cell c.args.depth (into_iter_items c.loop-cell.cell-iterator) _ c.in-Some.cell c.in_ok-lines.lines c.requires.inner c.in-Some.ensures.steps.0 c.in_ok-lines.ensures)
       c.in_ok-nodes.ensures.paid;
 }
 
-pub row_of-loop-cell-preserved-in_ok-push : goal.row_of-loop-cell-preserved-in_ok-push
-row_of-loop-cell-preserved-in_ok-push t c = record {
+pub entries_of-loop-cell-preserved-in_ok-put_entry : goal.entries_of-loop-cell-preserved-in_ok-put_entry
+entries_of-loop-cell-preserved-in_ok-put_entry t c = record {
   frames = c.in_ok-nodes.ensures.frames ∙ c.loop-cell.invariant.frames;
-  made = entry_next c.args.depth c.in-Some.cell c.in_ok-lines.lines (into_iter_items c.loop-cell.cell-iterator) _ c.in_ok-nodes.field-0 c.loop-cell.entries c.push.new.self c.in_ok-entry_of.field-0 c.loop-cell.pass.numbers
-      c.read.new.pass.numbers _ c.requires.inner c.requires.depth c.in_ok-nodes.ensures.depth c.in-Some.ensures.steps.0 c.in_ok-lines.ensures c.in_ok-nodes.ensures.read c.in_ok-entry_of.ensures c.in_ok-push.ensures c.loop-cell.invariant.made;
+  made = entry_next c.args.depth c.in-Some.cell c.in_ok-lines.lines (into_iter_items c.loop-cell.cell-iterator) _ c.in_ok-nodes.field-0 c.loop-cell.entries c.put_entry.new.entries _ c.loop-cell.pass.numbers
+      c.read.new.pass.numbers _ c.requires.inner c.requires.depth c.in_ok-nodes.ensures.depth c.in-Some.ensures.steps.0 c.in_ok-lines.ensures c.in_ok-nodes.ensures.read refl c.in_ok-put_entry.ensures c.loop-cell.invariant.made;
   paid = some_read _ _ _ _ _ _ _ c.loop-cell.invariant.paid (next_cell c.args.depth (into_iter_items c.loop-cell.cell-iterator) _ c.in-Some.cell c.in_ok-lines.lines c.requires.inner c.in-Some.ensures.steps.0 c.in_ok-lines.ensures)
       c.in_ok-nodes.ensures.paid;
 }
 
-pub row_of-returns-clause-row : goal.row_of-returns-clause-row
-row_of-returns-clause-row t c =
+pub entries_of-returns-clause-entries : goal.entries_of-returns-clause-entries
+entries_of-returns-clause-entries t c =
     let none : into_iter_items c.loop-cell.cell-iterator ≡ [] = nil_from_length _ (sym c.loop-cell.cell-iterator.rest.ok.0 ∙ c.in-None.ensures.steps.0) in
-    let all = each_ends (entry_of (within_at (c.args.depth - 1))) (into_iter_items c.loop-cell.cell-iterator) c.loop-cell.entries c.loop-cell.pass.numbers _ none c.loop-cell.invariant.made in
-    ap (λ (node : Node). just node c.loop-cell.pass.numbers) (rw c.new.ensures at c.in_ok-row.ensures) ∙ sym (ap (then_read (λ (entries : List Node). just (element_of Row [] entries 0))) all)
+    sym (each_ends (entry_of (within_at (c.args.depth - 1))) (into_iter_items c.loop-cell.cell-iterator) c.loop-cell.entries c.loop-cell.pass.numbers _ none c.loop-cell.invariant.made)
 
-pub row_of-returns-clause-paid : goal.row_of-returns-clause-paid
-row_of-returns-clause-paid t c =
+pub entries_of-returns-clause-paid : goal.entries_of-returns-clause-paid
+entries_of-returns-clause-paid t c =
     let none : into_iter_items c.loop-cell.cell-iterator ≡ [] = nil_from_length _ (sym c.loop-cell.cell-iterator.rest.ok.0 ∙ c.in-None.ensures.steps.0) in
     row_paid (c.args.depth - 1) c.args.cells.items (into_iter_items c.loop-cell.cell-iterator) _ _ none c.loop-cell.invariant.paid

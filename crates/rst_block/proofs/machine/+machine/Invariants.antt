@@ -27,8 +27,8 @@ decreases-cells l = 5 * (251 - l.depth) + 5
 abbrev pub decreases-rows_of : goal.decreases-rows_of
 decreases-rows_of l = 5 * (251 - l.depth) + 4
 
-abbrev pub decreases-row_of : goal.decreases-row_of
-decreases-row_of l = 5 * (251 - l.depth) + 3
+abbrev pub decreases-entries_of : goal.decreases-entries_of
+decreases-entries_of l = 5 * (251 - l.depth) + 3
 
 -- the blocks that wait make of what is left in the block that is read all that the text gives
 abbrev pub invariant-read_blocks-loop-level : goal.invariant-read_blocks-loop-level
@@ -49,8 +49,8 @@ invariant-rows_of-loop-cells l = record {
   paid : AreLeft (totals (l.depth - 1) (cell_blocks (Table [] 0 l.fn.rows 0))) (totals (l.depth - 1) (row_lines (into_iter_items l.cells-iterator))) l.fn.pass.looks l.pass.looks;
 }
 
-abbrev pub invariant-row_of-loop-cell : goal.invariant-row_of-loop-cell
-invariant-row_of-loop-cell l = record {
+abbrev pub invariant-entries_of-loop-cell : goal.invariant-entries_of-loop-cell
+invariant-entries_of-loop-cell l = record {
   frames : l.frames ≡ l.fn.frames;
   made : each_after (entry_of (within_at (l.depth - 1))) l.entries (into_iter_items l.cell-iterator) l.pass.numbers ≡ each (entry_of (within_at (l.depth - 1))) l.fn.cells.items l.fn.pass.numbers;
   paid : AreLeft (totals (l.depth - 1) (cell_lines l.fn.cells.items)) (totals (l.depth - 1) (cell_lines (into_iter_items l.cell-iterator))) l.fn.pass.looks l.pass.looks;
