@@ -2,10 +2,11 @@
 use Rattle.std.proofs.Common.{◌≡◌, ℕ, zero, suc, true, ◌-◌, ◌≤◌, List, [], ◌∷◌, ◌++◌, drop, map, Result, Ok, Err, arith, refl, sym, ◌∙◌, ap, append_assoc, append-nil, subst}
 use Rattle.rst_text.specs.Block.{Block, first_number}
 use Rattle.rst_tree.specs.declared.node.Node.{Node}
+use Rattle.rst_tree.specs.declared.tag.Tag.TheVariants.{Row}
 use Rattle.rst_markup_tables.specs.declared.results.Cell.{Cell}
 use Rattle.rst_markup_tables.specs.declared.results.TableResult.{TableResult}
 use Rattle.rst_markup_tables.specs.declared.results.TableResult.TheVariants.{Table}
-use Rattle.rst_block_nodes.specs.Elements.{entry_node}
+use Rattle.rst_block_nodes.specs.Elements.{element_of, entry_node}
 use Rattle.rst_block_sections.specs.Sections.{filled}
 use Rattle.rst_block_state.specs.Constructs.{grid}
 use Rattle.rst_block_state.specs.Joins.{alone_ending}
@@ -115,8 +116,8 @@ entry_keeps depth cell B n NoMemory f g low high b h = tt
 -- ---- rows
 
 -- where a cell is refused, so are all entries of its row
-pub entries_keep : {A : Type 0} (depth : ℕ) (cells left rest : List Cell) (cell : Cell) (B : Block) (made : List Node) (n m : ℕ) (e : BlockFault)
-    (f : OpenBlock → Result (List Item × ℕ) ℕ) (g : A → Result (List Node × ℕ) ℕ) → 1 ≤ depth → depth ≤ 251 → left ≡ cell ∷ rest → B ≡ cell.lines
+pub entries_keep : {A C : Type 0} (depth : ℕ) (cells left rest : List Cell) (cell : Cell) (B : Block) (made : List Node) (n m : ℕ) (e : BlockFault)
+    (f : C → Result (List Item × ℕ) ℕ) (g : A → Result (List Node × ℕ) ℕ) → 1 ≤ depth → depth ≤ 251 → left ≡ cell ∷ rest → B ≡ cell.lines
     → each_after (entry_of (within_at (depth - 1))) made left m ≡ each (entry_of (within_at (depth - 1))) cells n → Keeps (Err e) f (text_items depth B m)
     → Keeps (Err e) g (each (entry_of (within_at (depth - 1))) cells n)
 entries_keep depth cells left rest cell B made n m e f g low high l b inv k =

@@ -7,7 +7,7 @@ ghost use Rattle.rst_markup_blocks.specs.Parts.{IsBlock};
 ghost use Rattle.rst_tree.specs.declared.tag.Tag.TheVariants.{Row};
 ghost use Rattle.rst_block_nodes.specs.Elements.{element_of, entry_node};
 ghost use Rattle.rst_block_sections.specs.Sections.{filled};
-ghost use Rattle.rst_block_state.specs.Meanings.{Keeps, TellsBlank, comes, deepest, done_of, plug, reads, text_items, within_at};
+ghost use Rattle.rst_block_state.specs.Meanings.{IsNew, Keeps, TellsBlank, comes, deepest, done_of, plug, reads, text_items, within_at};
 ghost use Rattle.rst_block_state.specs.OpenBlocks.{Gives, HasMore};
 ghost use Rattle.rst_block_state.specs.Steps as spec;
 ghost use Rattle.rst_block_state.specs.declared.step.Step.TheVariants.{Next, Open, Cells};
@@ -34,56 +34,58 @@ use rst_tree::{Attrs, Tag};
 use rst_tree_index::MarkedNodes;
 use std::alloc::Global;
 
-/// Reads the lines of a text: of a document, or of a table's cell, that stands in as many blocks as `depth` says. The blocks that
-/// wait, those of the text behind those round it, stand in `frames`.
+/// Reads the lines of a text: of a document, or of a table's cell. The level, of which nothing was read, becomes what was read of
+/// them. The blocks that wait, those of the text behind those round it, stand in `frames`.
 #[cycle(machine)]
 pub(crate) fn read(
     lines: &Lines,
-    depth: usize,
+    level: &mut OpenBlock,
     frames: &mut Frames,
     pass: &mut Pass,
-) -> Result<OpenBlock>
-    requires depth { depth ≤ 251 }
-    requires room { length frames.old ≤ depth }
+) -> Result<()>
+    requires depth { level.old.depth ≤ 251 }
+    requires new { IsNew level.old }
+    requires room { length frames.old ≤ level.old.depth }
     ensures frames { IfOk result (λ _. frames.new ≡ frames.old) }
-    ensures depth { IfOk result (λ level. level.depth ≡ depth) }
-    ensures read { Keeps result (λ level. just (done_of level) pass.new.numbers) (text_items depth lines.now pass.old.numbers) }
-    ensures paid { IfOk result (λ _. TakesFor (total_at depth lines.now) pass.old.looks pass.new.looks) }
+    ensures depth { IfOk result (λ _. level.new.depth ≡ level.old.depth) }
+    ensures read { Keeps result (λ _. just (done_of level.new) pass.new.numbers) (text_items level.old.depth lines.now pass.old.numbers) }
+    ensures paid { IfOk result (λ _. TakesFor (total_at level.old.depth lines.now) pass.old.looks pass.new.looks) }
     ensures lines { IfOk result (λ _. IsTrue (are_lines lines.now)) }
 {
     let whole = View::whole(lines);
-    if 0 < whole.len() && depth <= DEEPEST {
-        return read_blocks(whole, depth, frames, pass);
+    if 0 < whole.len() && level.depth <= DEEPEST {
+        return read_blocks(&whole, level, frames, pass);
     }
     not_blank(&whole, pass)?;
-    Ok(OpenBlock::new(pass.alloc, depth))
+    Ok(())
 }
 
 /// The same where there are lines, and not too deep.
 #[cycle(machine)]
 fn read_blocks(
-    whole: View<'_>,
-    depth: usize,
+    whole: &View<'_>,
+    level: &mut OpenBlock,
     frames: &mut Frames,
     pass: &mut Pass,
-) -> Result<OpenBlock>
-    requires depth { depth ≤ 250 }
-    requires room { length frames.old ≤ depth }
+) -> Result<()>
+    requires depth { level.old.depth ≤ 250 }
+    requires new { IsNew level.old }
+    requires room { length frames.old ≤ level.old.depth }
     ensures frames { IfOk result (λ _. frames.new ≡ frames.old) }
-    ensures depth { IfOk result (λ level. level.depth ≡ depth) }
-    ensures read { Keeps result (λ level. just (done_of level) pass.new.numbers)
-        (block_items (within_at depth) (block_of whole.entry) pass.old.numbers) }
-    ensures paid { IfOk result (λ _. TakesFor (total_at depth (block_of whole.entry)) pass.old.looks pass.new.looks) }
+    ensures depth { IfOk result (λ _. level.new.depth ≡ level.old.depth) }
+    ensures read { Keeps result (λ _. just (done_of level.new) pass.new.numbers)
+        (block_items (within_at level.old.depth) (block_of whole.now) pass.old.numbers) }
+    ensures paid { IfOk result (λ _. TakesFor (total_at level.old.depth (block_of whole.now)) pass.old.looks pass.new.looks) }
 {
+    let depth = level.depth;
     let base = frames.len();
-    let mut view = whole;
-    let mut level = OpenBlock::new(pass.alloc, depth);
+    let mut view = *whole;
     loop {
-        match read_on(&whole, &mut view, &mut level, depth, base, frames, pass)? {
-            None => return Ok(level),
+        match read_on(whole, &mut view, level, depth, base, frames, pass)? {
+            None => return Ok(()),
             Some(table) => {
                 let inner = level.depth + 1;
-                cells(&view, &mut level, table, inner, frames, pass)?;
+                cells(&view, level, table, inner, frames, pass)?;
             }
         }
     }
@@ -335,8 +337,9 @@ fn entries_of(
             lines,
         } = cell;
         let lines = lines.into_lines(pass.alloc)?;
-        let nodes = read(&lines, depth, frames, pass)?.nodes;
-        put_entry(pass.alloc, &mut entries, morerows, morecols, nodes)?;
+        let mut level = OpenBlock::new(pass.alloc, depth);
+        read(&lines, &mut level, frames, pass)?;
+        put_entry(pass.alloc, &mut entries, morerows, morecols, level.nodes)?;
     }
     Ok(entries)
 }

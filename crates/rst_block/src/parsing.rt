@@ -10,7 +10,7 @@ use super::frames::Frames;
 use super::machine::read;
 use rst_block_nodes::Numbers;
 use rst_block_sections::document;
-use rst_block_state::{Pass, Result};
+use rst_block_state::{OpenBlock, Pass, Result};
 use rst_text::{Lines, Looks};
 use rst_tree::{Node, TreeFault};
 use rst_tree_index::Marked;
@@ -56,7 +56,8 @@ pub fn parse(alloc: Global, lines: &Lines) -> Result<Parsed>
         numbers: Numbers::none(),
     };
     let mut frames = Frames::none(alloc);
-    let level = read(lines, 0, &mut frames, &mut pass)?;
+    let mut level = OpenBlock::new(alloc, 0);
+    read(lines, &mut level, &mut frames, &mut pass)?;
     Ok(Parsed {
         document: document(alloc, level.nodes, level.headings)?,
         messages: pass.numbers.given(),

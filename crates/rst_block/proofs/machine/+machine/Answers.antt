@@ -1,10 +1,10 @@
-use Rattle.std.proofs.Common.{◌≡◌, ◌⊎◌, inl, inr, ℕ, suc, ◌-◌, ◌^◌, ◌≤◌, List, [], length, drop, arith, rules, refl, sym, ap, ◌∙◌}
-use Rattle.std.proofs.lemmas.List.{drop_all, nil_from_length, take_all}
+use Rattle.std.proofs.Common.{◌≡◌, ◌⊎◌, inl, inr, ℕ, suc, ◌+◌, ◌-◌, ◌*◌, ◌^◌, ◌<◌, ◌≤◌, List, [], ◌∷◌, length, length-append, length-drop, drop, arith, rules, refl, sym, ap, ◌∙◌}
+use Rattle.std.proofs.lemmas.List.{drop-append-le, drop_all, nil_from_length, take_all}
 use Rattle.std.proofs.lemmas.Result.{IfOk-weaker}
 use Rattle.std.specs.Vec.Iter.{into_iter_items}
 use Rattle.rst_text.specs.Block.{Block}
 use Rattle.rst_text.specs.Lines.{are_lines}
-use Rattle.rst_text.specs.Shown.{block_of, source_of}
+use Rattle.rst_text.specs.Shown.{block_of, source_of, placement_block}
 use Rattle.rst_text.proofs.Cuts.{are_lines-block_of}
 use Rattle.rst_tree.specs.declared.node.Node.{Node}
 use Rattle.rst_tree.specs.declared.tag.Tag.TheVariants.{Row}
@@ -18,19 +18,23 @@ use Rattle.rst_block_state.specs.Nodes.{block_items}
 use Rattle.rst_block_state.specs.Numbered.{just, then_read}
 use Rattle.rst_block_state.specs.Tables.{entry_of, row_of, table_node}
 use Rattle.rst_block_state.specs.declared.frame.Frame.{Frame}
-use Rattle.rst_block_state.specs.declared.step.Step.TheVariants.{Next, Cells}
+use Rattle.rst_block_state.specs.declared.open_block.OpenBlock.{OpenBlock}
+use Rattle.rst_block_state.specs.declared.step.Step.{Step}
+use Rattle.rst_block_state.specs.declared.step.Step.TheVariants.{Next, Open, Cells}
 use Rattle.rst_block_state.proofs.Calls.{refuses}
 use Rattle.rst_block.proofs.CellsRead.{each_begins, each_ends, each_goes_on, each_keeps, entries_keep, entry_next, table_keeps, then_keeps, table_reads}
+use Rattle.rst_block_state.proofs.Changes.{moved_more, more_more}
 use Rattle.rst_block.proofs.LastLevel.{flat_text, flat_text_fails}
-use Rattle.rst_block.proofs.MachinePaid.{none_read, some_read, next_cell, row_paid, next_row, rows_paid, table_paid, text_begins, block_goes_on, text_ends, flat_paid}
+use Rattle.rst_block.proofs.MachinePaid.{none_read, some_read, next_cell, row_paid, next_row, rows_paid, table_paid, text_begins, block_goes_on, block_opens, block_ends, block_waits, text_ends, flat_paid}
 use Rattle.rst_block.proofs.Stack.{below, goes_on}
 use Rattle.rst_block_body.proofs.StepsPaid.{takes_then}
-use Rattle.rst_block.proofs.Waiting.{plug_begins, plug_fails, plug_goes_on, plug_over}
-use Rattle.rst_block.proofs.machine.+machine.Goals.{read-else-len-gt0-via-then-len-gt0+else-depth-le-DEEPEST, read-else-len-gt0-via-else-len-gt0}
+use Rattle.rst_block_state.proofs.Views.{few_lines}
+use Rattle.rst_block.proofs.Waiting.{plug_begins, plug_end_fails, plug_ends, plug_fails, plug_goes_on, plug_opens, plug_over, plug_waits}
+use Rattle.rst_block.proofs.machine.+machine.Goals.{read-else-len-gt0-via-then-len-gt0+else-level-le-DEEPEST, read-else-len-gt0-via-else-len-gt0}
 use Rattle.rst_block.proofs.machine.+machine.Goals as goal
 
-pub read_blocks-loop-level-init : goal.read_blocks-loop-level-init
-read_blocks-loop-level-init t c =
+pub read_blocks-loop-table-init : goal.read_blocks-loop-table-init
+read_blocks-loop-table-init t c =
     let base : ℕ = c.len-base.result in
     let all : length c.args.frames.now ≤ base = omega (arith, c.len-base.ensures) in
     let none : drop base c.args.frames.now ≡ [] = drop_all base c.args.frames.now all in
@@ -42,25 +46,25 @@ read_blocks-loop-level-init t c =
         waiting = rw none tt;
         text = refl;
         now = tt;
-        depth = omega (arith, c.len-base.ensures, c.new-level.ensures.depth);
+        depth = omega (arith, c.len-base.ensures);
         nested = rw none tt;
       };
       outer = take_all base c.args.frames.now all;
-      read = plug_begins (source_of c.args.whole) (drop base c.args.frames.now) c.new-level.result (block_of c.args.whole) c.args.depth c.args.pass.now.numbers none c.new-level.ensures.begun c.new-level.ensures.depth;
-      paid = text_begins (source_of c.args.whole) (drop base c.args.frames.now) c.new-level.result (block_of c.args.whole) c.args.depth c.args.pass.now.looks none c.new-level.ensures.begun c.new-level.ensures.depth c.requires.depth;
+      read = plug_begins (source_of c.args.whole.now) (drop base c.args.frames.now) c.args.level.now (block_of c.args.whole.now) c.args.level.now.depth c.args.pass.now.numbers none c.requires.new refl;
+      paid = text_begins (source_of c.args.whole.now) (drop base c.args.frames.now) c.args.level.now (block_of c.args.whole.now) c.args.level.now.depth c.args.pass.now.looks none c.requires.new refl c.requires.depth;
     }
 
-pub read_blocks-loop-level-smaller : goal.read_blocks-loop-level-smaller
-read_blocks-loop-level-smaller t c =
+pub read_blocks-loop-table-smaller : goal.read_blocks-loop-table-smaller
+read_blocks-loop-table-smaller t c =
     let h = rw c.in-Some.is at c.in_ok-read_on.ensures.reading in
     let less = rw c.in-Some.is at c.in_ok-read_on.ensures.less in
     let n : ℕ = length (block_of c.read_on.new.view) in
-    rw c.in_ok-cells-in-Some.ensures.frames (below (goes_on (2 ^ 64) (250 - c.args.depth) (source_of c.args.whole) (drop c.len-base.result c.read_on.new.frames)
+    rw c.in_ok-cells-in-Some.ensures.frames (below (goes_on (2 ^ 64) (250 - c.args.level.now.depth) (source_of c.args.whole.now) (drop c.len-base.result c.read_on.new.frames)
     n c.read_on.new.level.at n c.cells.new.level.at (Cells c.in-Some.table) Next (omega (arith, h.now.0, c.in_ok-cells-in-Some.ensures.later))) less)
 
-pub read_blocks-loop-level-preserved : goal.read_blocks-loop-level-preserved
-read_blocks-loop-level-preserved t c =
-    let S : Block = source_of c.args.whole in
+pub read_blocks-loop-table-preserved : goal.read_blocks-loop-table-preserved
+read_blocks-loop-table-preserved t c =
+    let S : Block = source_of c.args.whole.now in
     let B : Block = block_of c.read_on.new.view in
     let fs : List Frame = drop c.len-base.result c.read_on.new.frames in
     let h = rw c.in-Some.is at c.in_ok-read_on.ensures.reading in
@@ -69,10 +73,10 @@ read_blocks-loop-level-preserved t c =
     let same : c.cells.new.frames ≡ c.read_on.new.frames = c.in_ok-cells-in-Some.ensures.frames in
     record {
       reading = rw same (record { base = h.base; under = h.under; room = h.room; waiting = h.waiting; text = h.text; now = tt; depth = c.in_ok-cells-in-Some.ensures.kept ∙ h.depth; nested = h.nested });
-      outer = rw same (c.in_ok-read_on.ensures.outer ∙ c.loop-level.invariant.outer);
+      outer = rw same (c.in_ok-read_on.ensures.outer ∙ c.loop-table.invariant.outer);
       read = rw same (plug_goes_on S fs (reads c.cells.new.level B) (comes c.read_on.new.level B (Cells c.in-Some.table)) c.cells.new.pass.numbers c.read_on.new.pass.numbers _ c.in_ok-cells-in-Some.ensures.read
-          (read ∙ c.loop-level.invariant.read));
-      paid = rw same (block_goes_on _ _ S fs c.read_on.new.level c.cells.new.level B (Cells c.in-Some.table) Next _ _ _ (takes_then c.loop-level.invariant.paid paid) c.in_ok-cells-in-Some.ensures.paid);
+          (read ∙ c.loop-table.invariant.read));
+      paid = rw same (block_goes_on _ _ S fs c.read_on.new.level c.cells.new.level B (Cells c.in-Some.table) Next _ _ _ (takes_then c.loop-table.invariant.paid paid) c.in_ok-cells-in-Some.ensures.paid);
     }
 
 pub read_blocks-returns-in-None-clause-read : goal.read_blocks-returns-in-None-clause-read
@@ -80,51 +84,51 @@ read_blocks-returns-in-None-clause-read t c =
     let last = rw c.in-None.is at c.in_ok-read_on.ensures.last in
     let read = rw c.in-None.is at c.in_ok-read_on.ensures.read in
     let none : drop c.len-base.result c.read_on.new.frames ≡ [] = drop_all c.len-base.result c.read_on.new.frames (omega (arith, last)) in
-    plug_over (source_of c.args.whole) (drop c.len-base.result c.read_on.new.frames) c.read_on.new.level c.read_on.new.pass.numbers (block_items (within_at c.args.depth) (block_of c.args.whole) c.args.pass.now.numbers) none
-    (read ∙ c.loop-level.invariant.read)
+    plug_over (source_of c.args.whole.now) (drop c.len-base.result c.read_on.new.frames) c.read_on.new.level c.read_on.new.pass.numbers (block_items (within_at c.args.level.now.depth) (block_of c.args.whole.now) c.args.pass.now.numbers) none
+    (read ∙ c.loop-table.invariant.read)
 
 pub read_blocks-returns-in-None-clause-paid : goal.read_blocks-returns-in-None-clause-paid
 read_blocks-returns-in-None-clause-paid t c =
     let last = rw c.in-None.is at c.in_ok-read_on.ensures.last in
     let paid = rw c.in-None.is at c.in_ok-read_on.ensures.paid in
     let none : drop c.len-base.result c.read_on.new.frames ≡ [] = drop_all c.len-base.result c.read_on.new.frames (omega (arith, last)) in
-    text_ends _ (source_of c.args.whole) (drop c.len-base.result c.read_on.new.frames) c.read_on.new.level (block_of c.read_on.new.view) _ _ none (takes_then c.loop-level.invariant.paid paid)
+    text_ends _ (source_of c.args.whole.now) (drop c.len-base.result c.read_on.new.frames) c.read_on.new.level (block_of c.read_on.new.view) _ _ none (takes_then c.loop-table.invariant.paid paid)
 
 pub read_blocks-returns-in_err-cells-in-Some-clause-read : goal.read_blocks-returns-in_err-cells-in-Some-clause-read
 read_blocks-returns-in_err-cells-in-Some-clause-read t c =
     let read = rw c.in-Some.is at c.in_ok-read_on.ensures.read in
     refuses _ c.in_err-cells-in-Some.field-0.0 _ _ (search rules)
-    (plug_fails (source_of c.args.whole) (drop c.len-base.result c.read_on.new.frames) (comes c.read_on.new.level (block_of c.read_on.new.view) (Cells c.in-Some.table)) c.read_on.new.pass.numbers
-    (block_items (within_at c.args.depth) (block_of c.args.whole) c.args.pass.now.numbers) c.in_err-cells-in-Some.field-0.0 _ _ (read ∙ c.loop-level.invariant.read) c.in_err-cells-in-Some.ensures.read)
+    (plug_fails (source_of c.args.whole.now) (drop c.len-base.result c.read_on.new.frames) (comes c.read_on.new.level (block_of c.read_on.new.view) (Cells c.in-Some.table)) c.read_on.new.pass.numbers
+    (block_items (within_at c.args.level.now.depth) (block_of c.args.whole.now) c.args.pass.now.numbers) c.in_err-cells-in-Some.field-0.0 _ _ (read ∙ c.loop-table.invariant.read) c.in_err-cells-in-Some.ensures.read)
 
 pub read-returns-in_err-not_blank-clause-read : goal.read-returns-in_err-not_blank-clause-read
 read-returns-in_err-not_blank-clause-read t c =
-    let flat : (length c.args.lines.now ≡ 0) ⊎ (c.args.depth ≡ suc deepest) = elim c.else-len-gt0.branch [
-      | read-else-len-gt0-via-then-len-gt0+else-depth-le-DEEPEST w ↦ inr (omega (arith, w.if-depth-le-DEEPEST.false, c.requires.depth))
+    let flat : (length c.args.lines.now ≡ 0) ⊎ (c.args.level.now.depth ≡ suc deepest) = elim c.else-len-gt0.branch [
+      | read-else-len-gt0-via-then-len-gt0+else-level-le-DEEPEST w ↦ inr (omega (arith, w.if-level-le-DEEPEST.false, c.requires.depth))
       | read-else-len-gt0-via-else-len-gt0 w ↦ inl (omega (arith, w.if-len-gt0.false, c.len.ensures, ap length c.whole-whole.ensures))
     ] in
     refuses c.from_residual.result c.in_err-not_blank.field-0.0 _ _ (search rules)
-    (flat_text_fails c.args.depth (block_of c.whole-whole.result) c.args.lines.now c.args.pass.now.numbers c.in_err-not_blank.field-0.0 _ flat c.whole-whole.ensures c.in_err-not_blank.ensures.blank)
+    (flat_text_fails c.args.level.now.depth (block_of c.whole-whole.result) c.args.lines.now c.args.pass.now.numbers c.in_err-not_blank.field-0.0 _ flat c.whole-whole.ensures c.in_err-not_blank.ensures.blank)
 
 pub read-returns-clause-read : goal.read-returns-clause-read
 read-returns-clause-read t c =
-    let flat : (length c.args.lines.now ≡ 0) ⊎ (c.args.depth ≡ suc deepest) = elim c.else-len-gt0.branch [
-      | read-else-len-gt0-via-then-len-gt0+else-depth-le-DEEPEST w ↦ inr (omega (arith, w.if-depth-le-DEEPEST.false, c.requires.depth))
+    let flat : (length c.args.lines.now ≡ 0) ⊎ (c.args.level.now.depth ≡ suc deepest) = elim c.else-len-gt0.branch [
+      | read-else-len-gt0-via-then-len-gt0+else-level-le-DEEPEST w ↦ inr (omega (arith, w.if-level-le-DEEPEST.false, c.requires.depth))
       | read-else-len-gt0-via-else-len-gt0 w ↦ inl (omega (arith, w.if-len-gt0.false, c.len.ensures, ap length c.whole-whole.ensures))
     ] in
-    ap (λ k. just (done_of c.new.result) k) c.in_ok-not_blank.ensures.numbers
-    ∙ flat_text c.args.depth (block_of c.whole-whole.result) c.args.lines.now c.new.result c.args.pass.now.numbers c.in_ok-not_blank.field-0 c.requires.depth flat c.whole-whole.ensures c.in_ok-not_blank.ensures.blank c.new.ensures.begun
+    ap (λ k. just (done_of c.args.level.now) k) c.in_ok-not_blank.ensures.numbers
+    ∙ flat_text c.args.level.now.depth (block_of c.whole-whole.result) c.args.lines.now c.args.level.now c.args.pass.now.numbers c.in_ok-not_blank.field-0 c.requires.depth flat c.whole-whole.ensures c.in_ok-not_blank.ensures.blank c.requires.new
 
 pub read-returns-clause-paid : goal.read-returns-clause-paid
 read-returns-clause-paid t c =
-    let flat : (length c.args.lines.now ≡ 0) ⊎ (c.args.depth ≡ suc deepest) = elim c.else-len-gt0.branch [
-      | read-else-len-gt0-via-then-len-gt0+else-depth-le-DEEPEST w ↦ inr (omega (arith, w.if-depth-le-DEEPEST.false, c.requires.depth))
+    let flat : (length c.args.lines.now ≡ 0) ⊎ (c.args.level.now.depth ≡ suc deepest) = elim c.else-len-gt0.branch [
+      | read-else-len-gt0-via-then-len-gt0+else-level-le-DEEPEST w ↦ inr (omega (arith, w.if-level-le-DEEPEST.false, c.requires.depth))
       | read-else-len-gt0-via-else-len-gt0 w ↦ inl (omega (arith, w.if-len-gt0.false, c.len.ensures, ap length c.whole-whole.ensures))
     ] in
-    flat_paid c.args.depth (block_of c.whole-whole.result) c.args.lines.now _ _ flat c.whole-whole.ensures c.in_ok-not_blank.ensures.most c.in_ok-not_blank.ensures.each
+    flat_paid c.args.level.now.depth (block_of c.whole-whole.result) c.args.lines.now _ _ flat c.whole-whole.ensures c.in_ok-not_blank.ensures.most c.in_ok-not_blank.ensures.each
 
-pub read-returns-then-depth-le-DEEPEST-clause-lines : goal.read-returns-then-depth-le-DEEPEST-clause-lines
-read-returns-then-depth-le-DEEPEST-clause-lines t c =
+pub read-returns-then-level-le-DEEPEST-clause-lines : goal.read-returns-then-level-le-DEEPEST-clause-lines
+read-returns-then-level-le-DEEPEST-clause-lines t c =
     IfOk-weaker c.read_blocks.result _ _ (λ _ _. ap are_lines (sym c.whole-whole.ensures) ∙ are_lines-block_of c.whole-whole.result) c.read_blocks.ensures.paid
 
 pub read-returns-clause-lines : goal.read-returns-clause-lines
@@ -191,29 +195,29 @@ rows_of-returns-clause-paid t c =
     let none : into_iter_items c.loop-cells.cells-iterator ≡ [] = nil_from_length _ (sym c.loop-cells.cells-iterator.rest.ok.0 ∙ c.in-None.ensures.steps.0) in
     rows_paid (c.args.depth - 1) c.args.rows (into_iter_items c.loop-cells.cells-iterator) _ _ none c.loop-cells.invariant.paid
 
-pub entries_of-returns-in_err-nodes-clause-entries : goal.entries_of-returns-in_err-nodes-clause-entries
-entries_of-returns-in_err-nodes-clause-entries t c =
-    refuses c.from_residual-in_err-nodes.result c.in_err-nodes.field-0.0 _ _ (search rules)
-    (entries_keep c.args.depth c.args.cells.items (into_iter_items c.loop-cell.cell-iterator) _ c.in-Some.cell c.in_ok-lines.lines c.loop-cell.entries c.args.pass.now.numbers c.loop-cell.pass.numbers c.in_err-nodes.field-0.0 _ _
-    c.requires.inner c.requires.depth c.in-Some.ensures.steps.0 c.in_ok-lines.ensures c.loop-cell.invariant.made c.in_err-nodes.ensures.read)
+pub entries_of-returns-in_err-read-clause-entries : goal.entries_of-returns-in_err-read-clause-entries
+entries_of-returns-in_err-read-clause-entries t c =
+    refuses c.from_residual-in_err-read.result c.in_err-read.field-0.0 _ _ (search rules)
+    (entries_keep c.args.depth c.args.cells.items (into_iter_items c.loop-cell.cell-iterator) _ c.in-Some.cell c.in_ok-lines.lines c.loop-cell.entries c.args.pass.now.numbers c.loop-cell.pass.numbers c.in_err-read.field-0.0 _ _
+    c.requires.inner c.requires.depth c.in-Some.ensures.steps.0 c.in_ok-lines.ensures c.loop-cell.invariant.made (rw c.new-level.ensures.depth at c.in_err-read.ensures.read))
 
 -- the lines of a cell are dropped in one of two ways: with the places of those that have text, or without any
 pub entries_of-loop-cell-preserved : goal.entries_of-loop-cell-preserved
 entries_of-loop-cell-preserved t c = record {
-  frames = c.in_ok-nodes.ensures.frames ∙ c.loop-cell.invariant.frames;
-  made = entry_next c.args.depth c.in-Some.cell c.in_ok-lines.lines (into_iter_items c.loop-cell.cell-iterator) _ c.in_ok-nodes.field-0 c.loop-cell.entries c.put_entry.new.entries _ c.loop-cell.pass.numbers
-      c.read.new.pass.numbers _ c.requires.inner c.requires.depth c.in_ok-nodes.ensures.depth c.in-Some.ensures.steps.0 c.in_ok-lines.ensures c.in_ok-nodes.ensures.read refl c.in_ok-put_entry.ensures c.loop-cell.invariant.made;
+  frames = c.in_ok-read.ensures.frames ∙ c.loop-cell.invariant.frames;
+  made = entry_next c.args.depth c.in-Some.cell c.in_ok-lines.lines (into_iter_items c.loop-cell.cell-iterator) _ c.read.new.level c.loop-cell.entries c.put_entry.new.entries _ c.loop-cell.pass.numbers
+      c.read.new.pass.numbers _ c.requires.inner c.requires.depth (c.in_ok-read.ensures.depth ∙ c.new-level.ensures.depth) c.in-Some.ensures.steps.0 c.in_ok-lines.ensures (rw c.new-level.ensures.depth at c.in_ok-read.ensures.read) refl c.in_ok-put_entry.ensures c.loop-cell.invariant.made;
   paid = some_read _ _ _ _ _ _ _ c.loop-cell.invariant.paid (next_cell c.args.depth (into_iter_items c.loop-cell.cell-iterator) _ c.in-Some.cell c.in_ok-lines.lines c.requires.inner c.in-Some.ensures.steps.0 c.in_ok-lines.ensures)
-      c.in_ok-nodes.ensures.paid;
+      (rw c.new-level.ensures.depth at c.in_ok-read.ensures.paid);
 }
 
 pub entries_of-loop-cell-preserved-in_ok-put_entry : goal.entries_of-loop-cell-preserved-in_ok-put_entry
 entries_of-loop-cell-preserved-in_ok-put_entry t c = record {
-  frames = c.in_ok-nodes.ensures.frames ∙ c.loop-cell.invariant.frames;
-  made = entry_next c.args.depth c.in-Some.cell c.in_ok-lines.lines (into_iter_items c.loop-cell.cell-iterator) _ c.in_ok-nodes.field-0 c.loop-cell.entries c.put_entry.new.entries _ c.loop-cell.pass.numbers
-      c.read.new.pass.numbers _ c.requires.inner c.requires.depth c.in_ok-nodes.ensures.depth c.in-Some.ensures.steps.0 c.in_ok-lines.ensures c.in_ok-nodes.ensures.read refl c.in_ok-put_entry.ensures c.loop-cell.invariant.made;
+  frames = c.in_ok-read.ensures.frames ∙ c.loop-cell.invariant.frames;
+  made = entry_next c.args.depth c.in-Some.cell c.in_ok-lines.lines (into_iter_items c.loop-cell.cell-iterator) _ c.read.new.level c.loop-cell.entries c.put_entry.new.entries _ c.loop-cell.pass.numbers
+      c.read.new.pass.numbers _ c.requires.inner c.requires.depth (c.in_ok-read.ensures.depth ∙ c.new-level.ensures.depth) c.in-Some.ensures.steps.0 c.in_ok-lines.ensures (rw c.new-level.ensures.depth at c.in_ok-read.ensures.read) refl c.in_ok-put_entry.ensures c.loop-cell.invariant.made;
   paid = some_read _ _ _ _ _ _ _ c.loop-cell.invariant.paid (next_cell c.args.depth (into_iter_items c.loop-cell.cell-iterator) _ c.in-Some.cell c.in_ok-lines.lines c.requires.inner c.in-Some.ensures.steps.0 c.in_ok-lines.ensures)
-      c.in_ok-nodes.ensures.paid;
+      (rw c.new-level.ensures.depth at c.in_ok-read.ensures.paid);
 }
 
 pub entries_of-returns-clause-entries : goal.entries_of-returns-clause-entries

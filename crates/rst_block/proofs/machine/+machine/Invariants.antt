@@ -16,10 +16,10 @@ use Rattle.rst_block.proofs.MachinePaid.{AreLeft, cell_lines, row_lines, IsPaidF
 use Rattle.rst_block.proofs.machine.+machine.Given as goal
 
 abbrev pub decreases-read : goal.decreases-read
-decreases-read l = 5 * (251 - l.depth) + 2
+decreases-read l = 5 * (251 - l.level.now.depth) + 2
 
 abbrev pub decreases-read_blocks : goal.decreases-read_blocks
-decreases-read_blocks l = 5 * (251 - l.depth) + 1
+decreases-read_blocks l = 5 * (251 - l.level.now.depth) + 1
 
 abbrev pub decreases-cells : goal.decreases-cells
 decreases-cells l = 5 * (251 - l.depth) + 5
@@ -31,16 +31,16 @@ abbrev pub decreases-entries_of : goal.decreases-entries_of
 decreases-entries_of l = 5 * (251 - l.depth) + 3
 
 -- the blocks that wait make of what is left in the block that is read all that the text gives
-abbrev pub invariant-read_blocks-loop-level : goal.invariant-read_blocks-loop-level
-invariant-read_blocks-loop-level l = record {
-  reading : IsReading l.depth l.base (source_of l.whole) l.frames l.level l.view Next;
+abbrev pub invariant-read_blocks-loop-table : goal.invariant-read_blocks-loop-table
+invariant-read_blocks-loop-table l = record {
+  reading : IsReading l.depth l.base (source_of l.fn.whole) l.frames l.level l.view Next;
   outer : take l.base l.frames ≡ l.fn.frames;
-  read : plug (source_of l.whole) (drop l.base l.frames) (reads l.level (block_of l.view)) l.pass.numbers ≡ block_items (within_at l.depth) (block_of l.whole) l.fn.pass.numbers;
-  paid : IsPaidFor (128 * total_at l.depth (block_of l.whole)) (total_at l.depth (block_of l.whole)) (source_of l.whole) (drop l.base l.frames) l.level (block_of l.view) Next l.fn.pass.looks l.pass.looks;
+  read : plug (source_of l.fn.whole) (drop l.base l.frames) (reads l.level (block_of l.view)) l.pass.numbers ≡ block_items (within_at l.depth) (block_of l.fn.whole) l.fn.pass.numbers;
+  paid : IsPaidFor (128 * total_at l.depth (block_of l.fn.whole)) (total_at l.depth (block_of l.fn.whole)) (source_of l.fn.whole) (drop l.base l.frames) l.level (block_of l.view) Next l.fn.pass.looks l.pass.looks;
 }
 
-abbrev pub decreases-read_blocks-loop-level : goal.decreases-read_blocks-loop-level
-decreases-read_blocks-loop-level l = text_left l.depth l.base (source_of l.whole) l.frames l.level l.view Next
+abbrev pub decreases-read_blocks-loop-table : goal.decreases-read_blocks-loop-table
+decreases-read_blocks-loop-table l = text_left l.depth l.base (source_of l.fn.whole) l.frames l.level l.view Next
 
 abbrev pub invariant-rows_of-loop-cells : goal.invariant-rows_of-loop-cells
 invariant-rows_of-loop-cells l = record {
