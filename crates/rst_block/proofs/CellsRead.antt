@@ -2,11 +2,10 @@
 use Rattle.std.proofs.Common.{◌≡◌, ℕ, zero, suc, true, ◌-◌, ◌≤◌, List, [], ◌∷◌, ◌++◌, drop, map, Result, Ok, Err, arith, refl, sym, ◌∙◌, ap, append_assoc, append-nil, subst}
 use Rattle.rst_text.specs.Block.{Block, first_number}
 use Rattle.rst_tree.specs.declared.node.Node.{Node}
-use Rattle.rst_tree.specs.declared.tag.Tag.TheVariants.{Row}
 use Rattle.rst_markup_tables.specs.declared.results.Cell.{Cell}
 use Rattle.rst_markup_tables.specs.declared.results.TableResult.{TableResult}
 use Rattle.rst_markup_tables.specs.declared.results.TableResult.TheVariants.{Table}
-use Rattle.rst_block_nodes.specs.Elements.{element_of, entry_node}
+use Rattle.rst_block_nodes.specs.Elements.{entry_node}
 use Rattle.rst_block_sections.specs.Sections.{filled}
 use Rattle.rst_block_state.specs.Constructs.{grid}
 use Rattle.rst_block_state.specs.Joins.{alone_ending}

@@ -1,5 +1,5 @@
 -- What is put at a place and taken from it.
-use Rattle.std.proofs.Common.{◌≡◌, ℕ, ◌+◌, ◌<◌, ◌≤◌, List, [], ◌∷◌, ◌++◌, length, length-append, Option, Some, None, Box, box_value, Global, arith, refl, ap, sym, ◌∙◌}
+use Rattle.std.proofs.Common.{◌≡◌, ◌≤◌, List, [], ◌∷◌, ◌++◌, length, length-append, Option, Some, None, Box, box_value, Global, arith, refl, ap, ◌∙◌}
 use Rattle.rst_block_state.specs.declared.frame.Frame.{Frame}
 use Rattle.rst_block.specs.Places.{frames_at}
 

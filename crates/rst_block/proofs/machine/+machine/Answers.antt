@@ -1,10 +1,10 @@
-use Rattle.std.proofs.Common.{◌≡◌, ◌⊎◌, inl, inr, ℕ, suc, ◌+◌, ◌-◌, ◌*◌, ◌^◌, ◌<◌, ◌≤◌, List, [], ◌∷◌, length, length-append, length-drop, drop, arith, rules, refl, sym, ap, ◌∙◌}
-use Rattle.std.proofs.lemmas.List.{drop-append-le, drop_all, nil_from_length, take_all}
+use Rattle.std.proofs.Common.{◌≡◌, ◌⊎◌, inl, inr, ℕ, suc, ◌-◌, ◌^◌, ◌≤◌, List, [], length, drop, arith, rules, refl, sym, ap, ◌∙◌}
+use Rattle.std.proofs.lemmas.List.{drop_all, nil_from_length, take_all}
 use Rattle.std.proofs.lemmas.Result.{IfOk-weaker}
 use Rattle.std.specs.Vec.Iter.{into_iter_items}
 use Rattle.rst_text.specs.Block.{Block}
 use Rattle.rst_text.specs.Lines.{are_lines}
-use Rattle.rst_text.specs.Shown.{block_of, source_of, placement_block}
+use Rattle.rst_text.specs.Shown.{block_of, source_of}
 use Rattle.rst_text.proofs.Cuts.{are_lines-block_of}
 use Rattle.rst_tree.specs.declared.node.Node.{Node}
 use Rattle.rst_tree.specs.declared.tag.Tag.TheVariants.{Row}
@@ -18,18 +18,14 @@ use Rattle.rst_block_state.specs.Nodes.{block_items}
 use Rattle.rst_block_state.specs.Numbered.{just, then_read}
 use Rattle.rst_block_state.specs.Tables.{entry_of, row_of, table_node}
 use Rattle.rst_block_state.specs.declared.frame.Frame.{Frame}
-use Rattle.rst_block_state.specs.declared.open_block.OpenBlock.{OpenBlock}
-use Rattle.rst_block_state.specs.declared.step.Step.{Step}
-use Rattle.rst_block_state.specs.declared.step.Step.TheVariants.{Next, Open, Cells}
+use Rattle.rst_block_state.specs.declared.step.Step.TheVariants.{Next, Cells}
 use Rattle.rst_block_state.proofs.Calls.{refuses}
 use Rattle.rst_block.proofs.CellsRead.{each_begins, each_ends, each_goes_on, each_keeps, entries_keep, entry_next, table_keeps, then_keeps, table_reads}
-use Rattle.rst_block_state.proofs.Changes.{moved_more, more_more}
 use Rattle.rst_block.proofs.LastLevel.{flat_text, flat_text_fails}
-use Rattle.rst_block.proofs.MachinePaid.{none_read, some_read, next_cell, row_paid, next_row, rows_paid, table_paid, text_begins, block_goes_on, block_opens, block_ends, block_waits, text_ends, flat_paid}
+use Rattle.rst_block.proofs.MachinePaid.{none_read, some_read, next_cell, row_paid, next_row, rows_paid, table_paid, text_begins, block_goes_on, text_ends, flat_paid}
 use Rattle.rst_block.proofs.Stack.{below, goes_on}
 use Rattle.rst_block_body.proofs.StepsPaid.{takes_then}
-use Rattle.rst_block_state.proofs.Views.{few_lines}
-use Rattle.rst_block.proofs.Waiting.{plug_begins, plug_end_fails, plug_ends, plug_fails, plug_goes_on, plug_opens, plug_over, plug_waits}
+use Rattle.rst_block.proofs.Waiting.{plug_begins, plug_fails, plug_goes_on, plug_over}
 use Rattle.rst_block.proofs.machine.+machine.Goals.{read-else-len-gt0-via-then-len-gt0+else-level-le-DEEPEST, read-else-len-gt0-via-else-len-gt0}
 use Rattle.rst_block.proofs.machine.+machine.Goals as goal
 

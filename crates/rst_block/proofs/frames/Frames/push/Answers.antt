@@ -1,4 +1,3 @@
-use Rattle.std.proofs.Common.{◌++◌, ◌∷◌, [], ap, ◌∙◌}
 use Rattle.rst_block.proofs.Places.{put}
 use Rattle.rst_block.proofs.frames.Frames.push.Goals as goal
 
