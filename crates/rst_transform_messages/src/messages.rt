@@ -50,7 +50,7 @@ pub struct Messages {
 impl Messages {
     ghost use Rattle.std.specs.Prelude.{[], ◌∷◌, List, map};
     ghost use Rattle.rst_transform_messages.specs.Messages.{until_halt, notes_of, is_number_shown, Numbered};
-    ghost use Rattle.rst_transform_messages.specs.MessagesIn.{messages_among};
+    ghost use Rattle.rst_transform_messages.specs.MessagesIn.{message_said, messages_among};
     ghost use Rattle.rst_transform_messages.specs.Listed.{report_said, Adds, Lists, KeepsLevels};
 
     /// No message, in a list with room for so many, of a run that halts at a threshold and shows messages from another one on.
@@ -89,6 +89,23 @@ impl Messages {
         Ok(())
     }
 
+    /// Adds the message that a `system_message` with these attributes and nodes on a line tells.
+    // What it keeps is off the stack while nodes are gone through.
+    #[inline(never)]
+    fn push_said(
+        &mut self,
+        alloc: Global,
+        attrs: &Attrs,
+        children: &Children,
+        line: usize,
+    ) -> Result<()>
+        ensures levels { KeepsLevels self.old self.new }
+        ensures adds { Gives (λ _. Adds (message_said attrs.now children.now line ∷ []) self.old self.new) result }
+    {
+        let note = note_of(alloc, attrs, children, line)?;
+        self.push(note, attrs.number(Key::Message))
+    }
+
     /// Adds the messages among nodes and in them, in preorder. A message holds no other. Where it returns `false`, the first transforms
     /// have nothing to act on there.
     pub fn add_all(&mut self, alloc: Global, nodes: &Children) -> Result<bool>
@@ -108,8 +125,7 @@ impl Messages {
                 } => {
                     early |= is_early(*tag, attrs);
                     if is_message(*tag) {
-                        let note = note_of(alloc, attrs, children, *line)?;
-                        self.push(note, attrs.number(Key::Message))?;
+                        self.push_said(alloc, attrs, children, *line)?;
                         early |= may_be_early(children);
                         continue;
                     }

@@ -28,9 +28,9 @@ loop-node-preserved-in-Text t c = record {
 pub loop-node-preserved-then-is_message : goal.loop-node-preserved-then-is_message
 loop-node-preserved-then-is_message t c = record {
   levels = search rules;
-  adds = past_message c.as_slice-node-items.result.now c.loop-node.node-index c.node-item.result c.in-Element.tag c.in-Element.attrs c.in-Element.children c.in-Element.line _ c.loop-node.self c.push.new.self
+  adds = past_message c.as_slice-node-items.result.now c.loop-node.node-index c.node-item.result c.in-Element.tag c.in-Element.attrs c.in-Element.children c.in-Element.line _ c.loop-node.self c.push_said.new.self
       c.loop-node-test.true c.node-item.is c.in-Element.is (sym c.if-is_message.true ∙ c.is_message.ensures) c.loop-node.invariant.adds
-      (rw (c.in_ok-note-in-Element.ensures, c.number.ensures) at c.in_ok-push-in-Element.ensures.adds);
+      c.in_ok-push_said-in-Element.ensures.adds;
   early = past_element c.as_slice-node-items.result.now c.loop-node.node-index c.node-item.result _ c.loop-node-test.true c.node-item.is c.in-Element.tag c.in-Element.attrs c.in-Element.children c.in-Element.line c.loop-node.early c.is_early.result _ c.in-Element.is
       c.is_early.ensures c.may_be_early.ensures c.loop-node.invariant.early;
 }
