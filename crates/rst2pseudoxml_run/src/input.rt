@@ -11,6 +11,8 @@ use std::alloc::Global;
 const LIMIT: usize = 16_777_216;
 
 /// All bytes of the input. Reading stops once they are too many.
+// What it keeps is off the stack while the input is read as a document.
+#[inline(never)]
 pub fn read_input<R: ReadCall>(alloc: Global, input: &mut Counted<R>) -> Result<Vec<u8>, End>
     requires { has_failed input.old ≡ false }
     ensures bytes { (bytes : List ℕ) × HandsOut (between R.remaining input.old input.new) bytes
