@@ -55,8 +55,8 @@ tables() { # COUNT: tables of one cell, one inside another
     }'
 }
 tables 250 >deepest
-(ulimit -s 2048 && "$top/rst2pseudoxml" deepest) >out 2>err
-same 'the deepest tables, with a stack of 2 MiB' '0 abc' "$? $(cat err)$(tail -n 1 out | tr -d ' ')"
+(ulimit -s 512 && "$top/rst2pseudoxml" deepest) >out 2>err
+same 'the deepest tables, with a stack of 512 KiB' '0 abc' "$? $(cat err)$(tail -n 1 out | tr -d ' ')"
 same 'tables that are too deep' '1 rst2pseudoxml: line 252: nesting too deep' "$(answer "$(tables 251)")"
 same 'by a link' "$hello" "$(printf 'Hello, world' | ./linked)"
 head -c 16777216 /dev/zero | tr '\0' '\n' | "$top/rst2pseudoxml" >out 2>err
