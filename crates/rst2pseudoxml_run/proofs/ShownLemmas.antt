@@ -39,7 +39,7 @@ module _ (profile : Profile) (settings : Settings) (source bytes : List ℕ) whe
   read_result None read is = absurd is
   read_result (Some text) read is = ap (result_of_read profile settings source) is
 
-  made_result : (finished : Finished) → length bytes ≤ 16777216 → IsMade profile settings (text_of bytes) finished → Given ≡ Ok (parts_of settings source finished.document finished.notes.items)
+  made_result : (finished : Finished) → length bytes ≤ 16777216 → IsMade profile settings (text_of bytes) finished → Given ≡ Ok (parts_of settings source finished.tree finished.notes.items)
   made_result finished short made =
       short_result short ∙ read_result (text_of bytes) (Ok made.0.0) made.0.1 ∙ ap (λ left. Ok (parts_of settings source left.0 left.1)) made.0.2
 
@@ -82,7 +82,7 @@ module _ (profile : Profile) (settings : Settings) (source : List ℕ) (input ou
   -- a run over bytes of which a document was made
   pub ends_read : {A : Type 0} (finished : Finished) (taken : Vec ℕ A) (end : End)
       → ((bytes : List ℕ) × HandsOut input bytes × Takes input bytes (Ok taken)) → Reads profile settings taken.items (Ok finished)
-      → Shows (parts_of settings source finished.document finished.notes.items) out err end → Headline (result_of profile settings source) input out err end
+      → Shows (parts_of settings source finished.tree finished.notes.items) out err end → Headline (result_of profile settings source) input out err end
   ends_read finished taken end (bytes, handed, (read, same, short)) reads shows =
       let made : Reads profile settings bytes (Ok finished) = subst (λ l. Reads profile settings l (Ok finished)) same reads in
       (bytes, handed, ends_shown _ _ input out err end read (made_result profile settings source bytes finished short made) shows)

@@ -2,7 +2,7 @@
 use Rattle.std.specs.Prelude.{◌≡◌, ℕ, ◌≤◌, List, [], ◌∷◌, ◌++◌, Option, None, Some, Result, Ok, Err, codes}
 use Rattle.std.specs.Fmt.{decimal}
 use Rattle.std.specs.Str.Lossy.{utf8_valid_len}
-use Rattle.rst_block.specs.declared.parsing.Parsed.{Parsed}
+use Rattle.rst_tree_index.specs.declared.parsed.Parsed.{Parsed}
 use Rattle.rst_block.specs.Documents.{document}
 use Rattle.rst_settings.specs.Profile.{Profile}
 use Rattle.rst_settings.specs.declared.Settings.{Settings}
@@ -57,7 +57,7 @@ Refuses profile settings bytes _ = ⊥
 
 -- a document was read of the bytes, or they were refused, or memory ran out
 abbrev pub Parses : Profile → Settings → List ℕ → Result Parsed End → Type 0
-Parses profile settings bytes (Ok parsed) = IsReadOf profile settings (text_of bytes) (Ok (parsed.document, parsed.messages))
+Parses profile settings bytes (Ok parsed) = IsReadOf profile settings (text_of bytes) (Ok (parsed.tree, parsed.messages))
 Parses profile settings bytes (Err end) = Refuses profile settings bytes end
 
 -- a document and messages are left of the document that is read of a text
@@ -69,7 +69,7 @@ IsLeftOf profile settings text document notes =
 abbrev pub IsMade : Profile → Settings → Option (List ℕ) → Finished → Type 0
 IsMade profile settings text finished =
     let notes = finished.notes.items in
-    IsLeftOf profile settings text finished.document notes × (finished.highest ≡ highest_level notes) × (finished.highest ≤ 4)
+    IsLeftOf profile settings text finished.tree notes × (finished.highest ≡ highest_level notes) × (finished.highest ≤ 4)
 
 -- a document was made of the bytes, or they were refused, or memory ran out
 abbrev pub Reads : Profile → Settings → List ℕ → Result Finished End → Type 0

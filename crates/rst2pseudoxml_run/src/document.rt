@@ -21,7 +21,7 @@ pub fn document_of(alloc: Global, settings: &Settings, bytes: Vec<u8>) -> Result
     ensures { spec.Reads (profile_of settings.now) settings.now bytes.items result }
 {
     let parsed = parsed_of(alloc, settings, bytes)?;
-    match finish(alloc, parsed.document, parsed.messages, settings) {
+    match finish(alloc, parsed, settings) {
         Ok(finished) => Ok(finished),
         Err(_) => Err(End::NoMemory),
     }
@@ -70,7 +70,7 @@ fn long_text(alloc: Global, line: usize) -> Result<String, AllocError>
 /// The document of lines of which the one with this number is too long: the message that says so (Configuration,
 /// `line_length_limit`).
 fn long_line(alloc: Global, line: usize) -> Result<Parsed, TreeFault>
-    ensures document { Gives (λ parsed. parsed.document ≡ spec.long_document line) result }
+    ensures tree { Gives (λ parsed. parsed.tree ≡ spec.long_document line) result }
     ensures messages { Gives (λ parsed. parsed.messages ≡ 0) result }
 {
     let text = long_text(alloc, line)?;

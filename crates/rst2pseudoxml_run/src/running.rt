@@ -74,7 +74,7 @@ pub fn show<O: WriteCall, E: WriteCall>(
     requires few { finished.now.highest ≤ 4 }
     requires out { has_failed out.old ≡ false }
     requires err { has_failed err.old ≡ false }
-    ensures shows { Shows (parts_of settings.now source.now finished.now.document finished.now.notes.items)
+    ensures shows { Shows (parts_of settings.now source.now finished.now.tree finished.now.notes.items)
         (between O.contents out.old out.new)
         (between E.contents err.old err.new) result }
     ensures err { (text : List ℕ) × IsSent E.call_takes E.contents err.old err.new text }
@@ -91,7 +91,7 @@ pub fn show<O: WriteCall, E: WriteCall>(
     if halting(notes, settings).is_some() {
         return End::Done(1);
     }
-    match print_with_source(&finished.document, source, out) {
+    match print_with_source(&finished.tree, source, out) {
         Ok(()) => End::Done(status_of(finished.highest, settings)),
         Err(PrintFault::Write { done }) => End::WriteOut { done },
     }

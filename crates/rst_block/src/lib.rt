@@ -10,5 +10,6 @@ mod parsing;
 mod resume;
 mod step;
 
-pub use parsing::{Parsed, parse};
+pub use parsing::parse;
 pub use rst_block_state::BlockFault;
+pub use rst_tree_index::Parsed;

@@ -5,7 +5,7 @@ use Rattle.rst_text.specs.Block.{Block, is_blank, indentation}
 use Rattle.rst_text.specs.Extent.{extent, extent_of}
 use Rattle.rst_text.specs.MayCut.{is_indented}
 use Rattle.rst_text.proofs.CutLaws.{take_of}
-use Rattle.rst_text.proofs.Indented.{is_indented-drop, is_indented-take, is_indented-extent, is_indented-rest}
+use Rattle.rst_text.proofs.Indented.{is_indented-extent, is_indented-part, is_indented-rest, is_indented-take}
 use Rattle.rst_text.proofs.Reaches.{extent_indented}
 use Rattle.rst_markup_lines.specs.declared.marker.Marker.{Marker}
 use Rattle.rst_markup_blocks.specs.Parts.{IsBlock}
@@ -13,14 +13,6 @@ use Rattle.rst_markup_blocks.proofs.RowLaws.{extent_le, below_le}
 use Rattle.rst_markup_blocks.specs.Sizes.{item_size, least_below}
 use Rattle.rst_markup_blocks.specs.declared.part.Part.{Part}
 use Rattle.rst_text.specs.declared.view.Extent.{Extent}
-
-pub uncut : (X : Block) → is_indented 0 X ≡ true
-uncut [] = refl
-uncut (l ∷ ls) = rw (le-leb 0 (indentation l.text) (omega arith)) (by (is_blank l.text) (uncut ls))
-  where
-    by : (b : Bool) → is_indented 0 ls ≡ true → ((b || true) && is_indented 0 ls) ≡ true
-    by true h = h
-    by false h = h
 
 -- the indented lines from a place on
 pub indented_block : (B : Block) (from : ℕ) (e : Extent) → from ≤ length B → e ≡ extent_of from 1 (drop from B)
@@ -62,15 +54,6 @@ front_block B p k b h = record {
       ∙ is_indented-take p.rest_cut (p.from + k - (p.from + 1)) (take (p.to - (p.from + 1)) (drop (p.from + 1) B)) b.indented;
 }
 
-indented_from : (r j n : ℕ) (Y : Block) → is_indented r (take n Y) ≡ true → is_indented r (take (n - j) (drop j Y)) ≡ true
-indented_from r j n Y h = by (n - j) refl
-  where
-    by : (m : ℕ) → n - j ≡ m → is_indented r (take m (drop j Y)) ≡ true
-    by zero e = refl
-    by (suc m) e =
-        ap (λ Z. is_indented r Z) (sym (take_of j (suc m) n Y (omega (arith, e))))
-        ∙ is_indented-take r (suc m) (drop j (take n Y)) (is_indented-drop r j (take n Y) h)
-
 -- the lines of a block behind its first ones
 pub rest_block : (B : Block) (p : Part) (k : ℕ) → IsBlock B p → p.from + k < p.to
     → let q : Part = record { from = p.from + k; to = p.to; first_cut = p.rest_cut; rest_cut = p.rest_cut } in IsBlock B q
@@ -81,5 +64,5 @@ rest_block B p k b h =
     record {
       ordered = omega arith;
       within = b.within;
-      indented = rw place (rw lines (indented_from p.rest_cut k (p.to - (p.from + 1)) Y b.indented));
+      indented = rw place (rw lines (is_indented-part p.rest_cut k (p.to - (p.from + 1)) (p.to - (p.from + 1)) Y (omega arith) b.indented));
     }

@@ -12,7 +12,6 @@ use rst_markup_blocks::Part;
 use rst_text::{Placement, View};
 use rst_tree_index::MarkedNodes;
 use std::alloc::Global;
-use std::default::MadeWith;
 use std::mem;
 
 /// A block that waits for one inside it.
@@ -35,18 +34,6 @@ pub enum Ended<'a> {
     Waiting(Frame, View<'a>),
     /// The other goes on: in these lines, with this.
     GoesOn(View<'a>, Step),
-}
-
-impl MadeWith<Global> for Frame {
-    fn made_with(alloc: Global) -> Frame {
-        Frame {
-            placement: Placement::none(),
-            level: OpenBlock::new(alloc, 0),
-            waits: Waits::ListItem { line: 0 },
-            second: None,
-            nodes: MarkedNodes::none(alloc),
-        }
-    }
 }
 
 /// The block that is being read as one that waits for its parts, of which `second` is read behind another. In its place a level

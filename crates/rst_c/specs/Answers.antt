@@ -134,7 +134,7 @@ Answers options wanted Leaves = (settings : Option Settings) × SetsIf options s
 abbrev pub Finds : Settings → List ℕ → Result Finished End → Type 0
 Finds settings bytes (Ok finished) =
     let notes = finished.notes.items in
-    (left_of settings bytes ≡ Ok (finished.document, notes)) × (finished.highest ≡ highest_level notes) × (finished.highest ≤ 4)
+    (left_of settings bytes ≡ Ok (finished.tree, notes)) × (finished.highest ≡ highest_level notes) × (finished.highest ≤ 4)
 Finds settings bytes (Err NoMemory) = length bytes ≤ 16777216
 Finds settings bytes (Err end) = left_of settings bytes ≡ Err end
 

@@ -90,16 +90,16 @@ fn bytes_as(
     settings: &Settings,
     form: Form,
 ) -> Result<Vec<u8>, TreeFault>
-    ensures { IfOk result (λ bytes. bytes.items ≡ bytes_as form settings.now (finished.now.document, finished.now.notes.items)) }
+    ensures { IfOk result (λ bytes. bytes.items ≡ bytes_as form settings.now (finished.now.tree, finished.now.notes.items)) }
 {
     let mut bytes = Vec::new(alloc);
     match form {
         Form::DocumentJson => {
-            put_node(alloc, &finished.document, &mut bytes)?;
+            put_node(alloc, &finished.tree, &mut bytes)?;
             Ok(bytes)
         }
         Form::DocumentRecords => {
-            put_record(alloc, &finished.document, &mut bytes)?;
+            put_record(alloc, &finished.tree, &mut bytes)?;
             Ok(bytes)
         }
         Form::MessagesJson => notes_json(alloc, finished.notes.as_slice(), settings),

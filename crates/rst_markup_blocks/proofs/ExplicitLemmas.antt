@@ -1,14 +1,12 @@
 -- Explicit markup: its parts stand in its block, and it ends where its size says.
 use Rattle.std.proofs.Common.{◌≡◌, ℕ, suc, ◌+◌, ◌-◌, ◌^◌, ◌<◌, ◌≤◌, Bool, true, false, cond, ◌&&◌, ◌||◌, List, [], ◌∷◌, min, length, take, drop, length-drop, Option, None, Some, arith, refl, sym, ap, ◌∙◌, leb, zero}
-use Rattle.std.proofs.lemmas.Bool.{le-leb}
 use Rattle.std.specs.Prelude.{option_map, unwrap_or}
 use Rattle.std.specs.Option.{option_and_then}
 use Rattle.rst_text.specs.Block.{Block, front_text, is_blank, indentation}
-use Rattle.rst_text.proofs.CutLaws.{take_of}
 use Rattle.rst_text.specs.Extent.{extent}
 use Rattle.rst_text.specs.Reach.{reach}
 use Rattle.rst_text.specs.MayCut.{is_indented}
-use Rattle.rst_text.proofs.Indented.{is_indented-drop, is_indented-take, is_indented-least}
+use Rattle.rst_text.proofs.Indented.{is_indented-least, is_indented-part, is_indented-zero}
 use Rattle.rst_markup_lines.specs.ExplicitMarks.{dots, underscores, label_of, target_of, substitution_of, directive_of}
 use Rattle.rst_markup_lines.specs.declared.explicit_marks.DirectiveMark.{DirectiveMark}
 use Rattle.rst_markup_lines.specs.declared.explicit_marks.LabelKind.{LabelKind}
@@ -98,15 +96,6 @@ below_indented : (i : ℕ) (B : Block) → is_indented (least_of (drop 1 (drop i
 below_indented i B =
     rw (drop_one i B) (is_indented-least (take (extent 1 (drop 1 (drop i B))) (drop 1 (drop i B))))
 
-indented_from : (r j n : ℕ) (Y : Block) → is_indented r (take n Y) ≡ true → is_indented r (take (n - j) (drop j Y)) ≡ true
-indented_from r j n Y h = by (n - j) refl
-  where
-    by : (m : ℕ) → n - j ≡ m → is_indented r (take m (drop j Y)) ≡ true
-    by zero e = refl
-    by (suc m) e =
-        ap (λ Z. is_indented r Z) (sym (take_of j (suc m) n Y (omega (arith, e))))
-        ∙ is_indented-take r (suc m) (drop j (take n Y)) (is_indented-drop r j (take n Y) h)
-
 text_block : (B : Block) (i cut : ℕ) → i < length B → IsBlock B (hanging_part i cut false (drop i B))
 unfolding hanging_part
 text_block B i cut h =
@@ -134,26 +123,18 @@ bare_block B i cut h =
       indented = ap (λ m. is_indented r (take m (drop (i + 1 + k + 1) B))) lines
           ∙ ap (λ j. is_indented r (take (n - (k + 1)) (drop j B))) place
           ∙ ap (λ Y. is_indented r (take (n - (k + 1)) Y)) (drop_far (i + 1) (k + 1) B)
-          ∙ indented_from r (k + 1) n (drop (i + 1) B) (below_indented i B);
+          ∙ is_indented-part r (k + 1) n n (drop (i + 1) B) (omega arith) (below_indented i B);
     }
 
 pub hanging_block : (B : Block) (i cut : ℕ) (bare : Bool) → i < length B → IsBlock B (hanging_part i cut bare (drop i B))
 hanging_block B i cut true h = bare_block B i cut h
 hanging_block B i cut false h = text_block B i cut h
 
-uncut : (X : Block) → is_indented 0 X ≡ true
-uncut [] = refl
-uncut (l ∷ ls) = by (is_blank l.text) (uncut ls)
-  where
-    by : (b : Bool) → is_indented 0 ls ≡ true → ((b || leb 0 (indentation l.text)) && is_indented 0 ls) ≡ true
-    by true h = h
-    by false h = rw (le-leb 0 (indentation l.text) (omega arith)) h
-
 target_block : (B : Block) (i n : ℕ) → i < length B → IsBlock B (target_part i n (drop i B))
 target_block B i n h = record {
   ordered = omega arith;
   within = indented_le B i h;
-  indented = uncut (take (i + indented_size (drop i B) - (i + 1)) (drop (i + 1) B));
+  indented = is_indented-zero (take (i + indented_size (drop i B) - (i + 1)) (drop (i + 1) B));
 }
 
 -- ---- labels, names and directives

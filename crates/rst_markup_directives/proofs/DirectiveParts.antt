@@ -6,8 +6,7 @@ use Rattle.std.proofs.lemmas.List.Folds.{length-prefix_len}
 use Rattle.rst_text.specs.Block.{Line, Block, cut, is_blank}
 use Rattle.rst_text.specs.MayCut.{is_indented}
 use Rattle.rst_text.specs.Names.{normalized_white}
-use Rattle.rst_text.proofs.CutLaws.{take_of}
-use Rattle.rst_text.proofs.Indented.{is_indented-drop, is_indented-take}
+use Rattle.rst_text.proofs.Indented.{is_indented-part}
 use Rattle.rst_inline_scan.specs.Characters.{is_among}
 use Rattle.rst_markup_blocks.specs.Parts.{IsBlock}
 use Rattle.rst_markup_blocks.specs.declared.part.Part.{Part}
@@ -39,16 +38,6 @@ use Rattle.rst_markup_directives.proofs.Parts.{length-cut}
 
 -- ---- lines of a block
 
--- the lines but the first of a part, indented as the block's are
-indented_part : (r j k n : ℕ) (Y : Block) → k ≤ n → is_indented r (take n Y) ≡ true → is_indented r (take (k - j) (drop j Y)) ≡ true
-indented_part r j k n Y within h = by (k - j) refl
-  where
-    by : (m : ℕ) → k - j ≡ m → is_indented r (take m (drop j Y)) ≡ true
-    by zero e = refl
-    by (suc m) e =
-        ap (is_indented r) (sym (take_of j (suc m) n Y (omega (arith, e))))
-        ∙ is_indented-take r (suc m) (drop j (take n Y)) (is_indented-drop r j (take n Y) h)
-
 part_block : (B : Block) (block : Part) (from to : ℕ) → IsBlock B block → from ≤ to → block.from + to ≤ block.to → IsBlock B (part_of block from to)
 part_block B block from to b ordered within =
     let Y : Block = drop (block.from + 1) B in
@@ -58,7 +47,7 @@ part_block B block from to b ordered within =
     record {
       ordered = omega arith;
       within = omega (arith, b.within);
-      indented = rw place (rw lines (indented_part block.rest_cut from (to - 1) (block.to - (block.from + 1)) Y (omega arith) b.indented));
+      indented = rw place (rw lines (is_indented-part block.rest_cut from (to - 1) (block.to - (block.from + 1)) Y (omega arith) b.indented));
     }
 
 -- where the parts of a block of `all` lines end

@@ -12,6 +12,7 @@ use Rattle.rst_text.specs.Shown.{block_of, without_bytes, byte_cut}
 use Rattle.rst_text.specs.MayCut.{may_cut_at, each_may_cut, is_indented, are_texts}
 use Rattle.rst_text.specs.declared.view.View.{View}
 use Rattle.rst_text.specs.Lines.{is_line_text, are_lines}
+use Rattle.rst_text.proofs.CutLaws.{take_of}
 use Rattle.rst_text.proofs.TextLemmas.{and_true}
 use Rattle.rst_text.proofs.LineTexts.{is_line_text-front, is_line_text-nil, is_line_text-suffix, are_lines-drop, are_lines-take}
 
@@ -139,12 +140,6 @@ first_number-take : (m : ℕ) (xs : Block) → 0 < m → first_number (take m xs
 first_number-take zero xs h = absurd (omega arith)
 first_number-take (suc m) [] h = refl
 first_number-take (suc m) (x ∷ xs) h = refl
-
--- the first lines of what is left of the first n lines
-take_of : (i m n : ℕ) (xs : Block) → i + m ≤ n → take m (drop i (take n xs)) ≡ take m (drop i xs)
-take_of i m n xs h =
-    let e : n ≡ i + (n - i) = omega arith in
-    rw (e) (rw drop-take (take-take m (n - i) (drop i xs) (omega arith)))
 
 -- the lines that a view shows
 abbrev kept : View → Block

@@ -9,60 +9,11 @@ use Rattle.rst_text.specs.Block.{Block, is_blank, indentation}
 use Rattle.rst_text.specs.Lines.{is_line_text, ends_white}
 use Rattle.rst_text.specs.MayCut.{is_indented}
 use Rattle.rst_text.specs.Extent.{extent, extent_of, least_indent}
+use Rattle.rst_text.proofs.CutLaws.{take_of}
 use Rattle.rst_text.proofs.Least.{least_from, least_from-all}
 use Rattle.rst_text.proofs.TextLemmas.{and_true}
 use Rattle.rst_text.proofs.LineTexts.{is_line_text-parts}
 use Rattle.rst_text.proofs.PlacesLemmas.{cases_bool}
-
-indentation-space : (c : ℕ) (cs : List ℕ) → (c == 32) ≡ true → indentation (c ∷ cs) ≡ suc (indentation cs)
-indentation-space c cs e = rw e refl
-
-indentation-none : (c : ℕ) (cs : List ℕ) → (c == 32) ≡ false → indentation (c ∷ cs) ≡ 0
-indentation-none c cs e = rw e refl
-
--- a text that isn't only white, without r of its spaces
-pub indentation-drop : (r : ℕ) (cs : List ℕ) → r ≤ indentation cs → r + indentation (drop r cs) ≡ indentation cs
-indentation-drop zero cs h = omega arith
-indentation-drop (suc r) [] h = absurd (omega arith)
-indentation-drop (suc r) (c ∷ cs) h = ⊎_elim
-    (λ space. let one = indentation-space c cs space in let rest : r + indentation (drop r cs) ≡ indentation cs = indentation-drop r cs (omega arith) in omega arith)
-    (λ other. absurd (let none = indentation-none c cs other in omega arith))
-    (cases_bool (c == 32))
-
--- a text of spaces alone ends in one
-spaces-end_white : (r : ℕ) (cs : List ℕ) → 0 < length cs → r ≤ indentation cs → drop r cs ≡ [] → ends_white cs ≡ true
-spaces-end_white r [] some h gone = absurd (omega arith)
-spaces-end_white zero (c ∷ cs) some h gone = absurd (omega (arith, ap length gone))
-spaces-end_white (suc r) (c ∷ []) some h gone = ⊎_elim
-    (λ space. ap (λ x. (is_whitespace x && true) || false) (eqb-true c 32 space))
-    (λ other. absurd (let none = indentation-none c [] other in omega arith))
-    (cases_bool (c == 32))
-spaces-end_white (suc r) (c ∷ d ∷ ds) some h gone = ⊎_elim
-    (λ space.
-    let one = indentation-space c (d ∷ ds) space in
-    let rest : ends_white (d ∷ ds) ≡ true = spaces-end_white r (d ∷ ds) (omega arith) (omega arith) gone in
-    rw rest (either (is_whitespace c && false)))
-    (λ other. absurd (let none = indentation-none c (d ∷ ds) other in omega arith))
-    (cases_bool (c == 32))
-  where
-    either : (a : Bool) → (a || true) ≡ true
-    either true = refl
-    either false = refl
-
--- one line: blank or indented by r, and without these spaces blank or indented by s
-line-both : (r s : ℕ) (cs : List ℕ) → is_line_text cs ≡ true → (is_blank cs || leb r (indentation cs)) ≡ true → (is_blank (drop r cs) || leb s (indentation (drop r cs))) ≡ true
-    → (is_blank cs || leb (r + s) (indentation cs)) ≡ true
-line-both r s [] text h k = refl
-line-both r s (c ∷ cs) text h k = by (drop r (c ∷ cs)) refl k
-  where
-    deep : r ≤ indentation (c ∷ cs)
-    deep = leb-true r (indentation (c ∷ cs)) h
-
-    by : (ds : List ℕ) → drop r (c ∷ cs) ≡ ds → (is_blank ds || leb s (indentation ds)) ≡ true → leb (r + s) (indentation (c ∷ cs)) ≡ true
-    by [] e k = absurd (let white = spaces-end_white r (c ∷ cs) (omega arith) deep e in let f : true ≡ false = sym white ∙ (is_line_text-parts (c ∷ cs) text).1 in cc)
-    by (d ∷ ds) e k =
-        let more : s ≤ indentation (d ∷ ds) = leb-true s (indentation (d ∷ ds)) k in
-        le-leb (r + s) (indentation (c ∷ cs)) (omega (arith, indentation-drop r (c ∷ cs) deep, ap indentation e))
 
 pub is_indented-drop : (r n : ℕ) (B : Block) → is_indented r B ≡ true → is_indented r (drop n B) ≡ true
 is_indented-drop r zero B h = h
@@ -75,7 +26,23 @@ is_indented-take r (suc n) [] h = refl
 is_indented-take r (suc n) (l ∷ ls) h =
     let t = and_true (is_blank l.text || leb r (indentation l.text)) (is_indented r ls) h in rw (t.0, is_indented-take r n ls t.1) refl
 
--- ---- a text behind its spaces
+pub is_indented-part : (r j k n : ℕ) (B : Block) → k ≤ n → is_indented r (take n B) ≡ true → is_indented r (take (k - j) (drop j B)) ≡ true
+is_indented-part r j k n B within h = by (k - j) refl
+  where
+    by : (m : ℕ) → k - j ≡ m → is_indented r (take m (drop j B)) ≡ true
+    by zero e = refl
+    by (suc m) e =
+        ap (is_indented r) (sym (take_of j (suc m) n B (omega (arith, e))))
+        ∙ is_indented-take r (suc m) (drop j (take n B)) (is_indented-drop r j (take n B) h)
+
+-- no cut at all
+pub is_indented-zero : (B : Block) → is_indented 0 B ≡ true
+is_indented-zero [] = refl
+is_indented-zero (l ∷ ls) = rw (le-leb 0 (indentation l.text) (omega arith), is_indented-zero ls) (by (is_blank l.text))
+  where
+    by : (b : Bool) → ((b || true) && true) ≡ true
+    by true = refl
+    by false = refl
 
 -- ---- the least indentation
 

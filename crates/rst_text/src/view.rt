@@ -35,25 +35,6 @@ pub struct Placement {
     rest: usize,
 }
 
-impl Placement {
-    ghost use Rattle.std.specs.Prelude.{[]};
-    ghost use Rattle.rst_text.specs.Block.{Block};
-    ghost use Rattle.rst_text.specs.Shown.{placement_block};
-
-    /// The placement of any text that has no line.
-    #[tactic(auto, unfolding(crate::specs::Shown::placement_block))]
-    pub fn none() -> Placement
-        ensures { (lines : Block) → placement_block lines result ≡ [] }
-    {
-        Placement {
-            from: 0,
-            to: 0,
-            first: 0,
-            rest: 0,
-        }
-    }
-}
-
 /// Lines that are blank or indented: the place after the last of them that isn't blank, the least indentation of
 /// those that aren't blank (in spaces, 0 if there is none), and whether a blank line or the end of the view follows.
 #[derive(Debug, Clone, Copy, PartialEq, Eq)]

@@ -79,5 +79,5 @@ leaves messages profile settings document =
 -- what is left of it is given, or memory ran out
 abbrev pub Finishes : ℕ → Profile → Settings → Node → Result Finished TreeFault → Type 0
 Finishes messages profile settings document (Ok done) =
-    let left = leaves messages profile settings document in (done.document ≡ left.0) × (done.notes.items ≡ left.1)
+    let left = leaves messages profile settings document in (done.tree ≡ left.0) × (done.notes.items ≡ left.1)
 Finishes messages profile settings document (Err NoMemory) = Unit {0}

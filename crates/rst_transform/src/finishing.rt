@@ -28,36 +28,32 @@ use rst_transform_structure::transitions::transitions;
 use rst_transform_substitutions::expand::expand;
 use rst_transform_work::{Context, Document};
 use rst_tree::{Node, Note, Result};
-use rst_tree_index::Marked;
+use rst_tree_index::Parsed;
 use std::alloc::Global;
 
 /// A document as it is printed, and the messages of the run.
 #[derive(Debug, Drop)]
 pub struct Finished {
     /// The document, without what isn't shown, and without `source`, which is added where it is printed.
-    pub document: Node,
+    pub tree: Node,
     /// The messages in order, up to the first that halts the run.
     pub notes: Vec<Note>,
     /// The number of the highest level among these, 0 where there are none.
     pub highest: u8,
 }
 
-/// Finishes a parsed document, in which `messages` numbers were given to messages: names and ids, then all transforms, the last
-/// section, and the messages below the report level taken out (Document Tree, 'Introduction').
+/// Finishes a parsed document: names and ids, then all transforms, the last section, and the messages below the report level taken out
+/// (Document Tree, 'Introduction').
 ///
 /// The only refusal is want of memory.
-pub fn finish(
-    alloc: Global,
-    document: Marked,
-    messages: u64,
-    settings: &Settings,
-) -> Result<Finished>
-    requires document { IsDocument document }
-    ensures finishes { Finishes messages (profile_of settings.now) settings.now document result }
+pub fn finish(alloc: Global, parsed: Parsed, settings: &Settings) -> Result<Finished>
+    requires document { IsDocument parsed.tree }
+    ensures finishes { Finishes parsed.messages (profile_of settings.now) settings.now parsed.tree result }
     ensures highest { IfOk result (λ done. done.highest ≡ highest_level done.notes.items) }
     ensures few { IfOk result (λ done. done.highest ≤ 4) }
 {
-    let registered = register(alloc, document, messages)?;
+    let messages = parsed.messages;
+    let registered = register(alloc, parsed.tree, messages)?;
     let mut context = Context {
         alloc,
         ids: registered.ids,
@@ -75,7 +71,7 @@ pub fn finish(
     let shown = filter(alloc, sectioned, settings.report, list.shown())?;
     let (notes, highest) = list.end();
     Ok(Finished {
-        document: shown.into_node(),
+        tree: shown.into_node(),
         notes,
         highest,
     })

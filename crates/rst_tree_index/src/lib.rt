@@ -5,8 +5,10 @@ mod linked;
 mod marked;
 mod marked_nodes;
 mod marks;
+mod parsed;
 mod registered;
 
 pub use linked::{is_internal, is_linked_tag};
 pub use marked::{Element, Marked};
 pub use marked_nodes::{MarkedIter, MarkedNodes};
+pub use parsed::Parsed;

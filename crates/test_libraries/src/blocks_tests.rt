@@ -44,7 +44,7 @@ fn reads_documents(rt: HostRuntime) -> Result<(), Fail> {
         let lines = Lines::of(alloc, text, 8)?;
         let parsed = parse(alloc, &lines)?;
         let mut out = Counted::of(Vec::new(alloc));
-        print_with_source(parsed.document.root(), "s", &mut out)?;
+        print_with_source(parsed.tree.root(), "s", &mut out)?;
         let got = str::from_utf8(out.inner().as_slice())?;
         assert_eq!(rt; got, want, "{text}");
     }

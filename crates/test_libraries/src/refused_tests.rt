@@ -13,7 +13,7 @@ use rst_settings::Settings;
 use rst_text::{Counted, Lines, Looks, TextFault, View, decode, id_of, name_of, normalized_white};
 use rst_transform::finish;
 use rst_tree::{Key, Node, Tree, TreeFault, Value, print};
-use rst_tree_index::Marked;
+use rst_tree_index::{Marked, Parsed};
 use std::alloc::{AllocError, Global};
 use std::process::Abort;
 
@@ -449,10 +449,10 @@ fn finishes_documents(rt: HostRuntime) {
         let Ok(parsed) = unresolved(alloc) else {
             return;
         };
-        let Ok(parsed) = Marked::of(alloc, parsed.into_node()) else {
+        let Ok(parsed) = Parsed::of(alloc, parsed.into_node()) else {
             return;
         };
-        match finish(alloc, parsed, 0, &settings) {
+        match finish(alloc, parsed, &settings) {
             Ok(finished) => {
                 assert_eq!(rt; (finished.notes.len(), finished.highest), (2, 3));
             }

@@ -4,7 +4,7 @@ use rst_settings::Settings;
 use rst_transform::{Finished, finish};
 use rst_transform_work::Document;
 use rst_tree::{Attrs, Children, Key, Node, Tag, TreeFault};
-use rst_tree_index::Marked;
+use rst_tree_index::Parsed;
 use std::alloc::Global;
 use std::process::Abort;
 use std::test::Fail;
@@ -48,13 +48,9 @@ pub fn unresolved(alloc: Global) -> Result<Document, TreeFault> {
 
 /// Ends the test where a document isn't finished as wanted: its tree as it is printed, and behind it each message.
 fn judge(rt: &impl Abort, alloc: Global, document: Document, want: &str) -> Result<(), Fail> {
-    let marked = Marked::of(alloc, document.into_node())?;
-    let Finished {
-        document,
-        notes,
-        ..
-    } = finish(alloc, marked, 0, &Settings::usual())?;
-    let mut got = printed(alloc, document)?;
+    let parsed = Parsed::of(alloc, document.into_node())?;
+    let Finished { tree, notes, .. } = finish(alloc, parsed, &Settings::usual())?;
+    let mut got = printed(alloc, tree)?;
     for note in &notes {
         let level = note.level.name();
         let said = note.text.as_str();

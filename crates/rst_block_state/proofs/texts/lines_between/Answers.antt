@@ -1,13 +1,13 @@
 use Rattle.std.proofs.Common.{◌+◌, ◌-◌, drop, take, length, ap, ◌∙◌, arith}
 use Rattle.rst_text.specs.Shown.{block_of}
 use Rattle.rst_text.proofs.CutLaws.{length-cut}
-use Rattle.rst_block_state.proofs.Blocks.{uncut}
+use Rattle.rst_text.proofs.Indented.{is_indented-zero}
 use Rattle.rst_block_state.proofs.Spelling.{uncut_block, lines_there}
 use Rattle.rst_block_state.proofs.texts.lines_between.Goals as goal
 
 pub part-requires-clause-spaces : goal.part-requires-clause-spaces
 part-requires-clause-spaces c =
-    uncut (take (c.min-to.result - (c.min-from.result + 1)) (drop (c.min-from.result + 1) (block_of c.args.view.now)))
+    is_indented-zero (take (c.min-to.result - (c.min-from.result + 1)) (drop (c.min-from.result + 1) (block_of c.args.view.now)))
 
 pub returns-clause-lines : goal.returns-clause-lines
 returns-clause-lines c =

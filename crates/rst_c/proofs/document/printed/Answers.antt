@@ -14,10 +14,10 @@ pub returns-in-Done : goal.returns-in-Done
 returns-in-Done c =
     let shows = c.in-Done.ensures.shows in
     rw c.in-Some.is
-    (text_printed c.in-Some.settings c.args.source.now c.args.text.now c.in_ok-finished.finished.document c.in_ok-finished.finished.notes.items c.in-Ok.source.now
+    (text_printed c.in-Some.settings c.args.source.now c.args.text.now c.in_ok-finished.finished.tree c.in_ok-finished.finished.notes.items c.in-Ok.source.now
     (inner_of c.of-tree.result).items (inner_of c.of-messages.result).items (inner_of c.show.new.out).items (inner_of c.show.new.err).items c.in-Done.status
     c.in-Ok.ensures.cases.1 c.in_ok-finished.ensures.0 c.in-Ok.ensures.cases.0
     (rw c.of-tree.ensures.inner c.new.ensures.items) (rw c.of-messages.ensures.inner c.new-2.ensures.items) shows.2.0 shows.1.0 shows.0)
 
 pub returns : goal.returns
-returns c = rw c.in-Some.is (memory_gone c.in-Some.settings c.args.source.now c.args.text.now c.in_ok-finished.finished.document c.in_ok-finished.finished.notes.items c.in-Ok.ensures.cases.1 c.in_ok-finished.ensures.0)
+returns c = rw c.in-Some.is (memory_gone c.in-Some.settings c.args.source.now c.args.text.now c.in_ok-finished.finished.tree c.in_ok-finished.finished.notes.items c.in-Ok.ensures.cases.1 c.in_ok-finished.ensures.0)

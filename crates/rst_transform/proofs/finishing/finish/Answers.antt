@@ -17,15 +17,15 @@ use Rattle.rst_transform.proofs.finishing.finish.Goals as goal
 
 pub of-start-requires : goal.of-start-requires
 of-start-requires c =
-    same_kind c.in_ok-registered.registered.root (registration c.args.messages c.args.document).root c.args.document c.in_ok-registered.ensures.root
-    (registered_kind c.args.messages c.args.document) c.requires.document
+    same_kind c.in_ok-registered.registered.root (registration c.args.parsed.messages c.args.parsed.tree).root c.args.parsed.tree c.in_ok-registered.ensures.root
+    (registered_kind c.args.parsed.messages c.args.parsed.tree) c.requires.document
 
 pub returns-clause-finishes : goal.returns-clause-finishes
 returns-clause-finishes c =
     let settings = c.args.settings.now in
     let profile = profile_of settings in
-    let r = registration c.args.messages c.args.document in
-    let known = known_at_first c.args.messages r in
+    let r = registration c.args.parsed.messages c.args.parsed.tree in
+    let known = known_at_first c.args.parsed.messages r in
     let start : c.of-start.result ≡ document_in r.root = ap document_in c.of-start.ensures ∙ ap document_in c.in_ok-registered.ensures.root in
     let after : Document → Document × Known = λ d. let done = transformed profile settings d known in with_last_section settings.report done.0 done.1 in
     let made = makes_then (transformed profile settings c.of-start.result) (with_last_section settings.report) _ c.transformed.new.context

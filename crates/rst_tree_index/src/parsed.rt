@@ -1,0 +1,33 @@
+//! A document that was read, before its transforms.
+ghost use Rattle.std.specs.Prelude.{◌≡◌};
+ghost use Rattle.rst_tree.specs.Faults.{Gives};
+
+use crate::marked::Marked;
+use rst_tree::{Node, Result};
+use std::alloc::Global;
+
+/// What was read of a document.
+#[derive(Debug, Drop)]
+pub struct Parsed {
+    /// The document, with the places of the elements that registration needs.
+    pub tree: Marked,
+    /// How many numbers its messages and problematics have among them.
+    pub messages: u64,
+    /// How many looks at lines were taken.
+    pub looks: u128,
+}
+
+impl Parsed {
+    /// A document that was made, and not read from lines: no message in it has a number, and no look at a line was taken.
+    pub fn of(alloc: Global, root: Node) -> Result<Parsed>
+        ensures tree { Gives (λ parsed. parsed.tree ≡ root) result }
+        ensures messages { Gives (λ parsed. parsed.messages ≡ 0) result }
+        ensures looks { Gives (λ parsed. parsed.looks ≡ 0) result }
+    {
+        Ok(Parsed {
+            tree: Marked::of(alloc, root)?,
+            messages: 0,
+            looks: 0,
+        })
+    }
+}
