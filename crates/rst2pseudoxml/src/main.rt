@@ -10,7 +10,7 @@ use rst2pseudoxml_run::{Stop, report, run};
 use std::alloc::{AllocError, Global};
 use std::env;
 use std::fs::File;
-use std::io::{ErrorKind, Write};
+use std::io::{Error, ErrorKind, Write};
 use std::process::ExitCode;
 
 /// The size of a large block, below the 32 MiB from which on the C library learns nothing.
@@ -49,13 +49,20 @@ fn started<E: Write>(rt: &HostRuntime, err: &mut Counted<E>) -> Stop
         let mut input = Counted::of(rt.stdin());
         return Stop::Ran(run(alloc, &settings, "<stdin>", &mut input, &mut out, err));
     };
-    match File::open(rt, source.as_str()) {
+    match opened(rt, source.as_str()) {
         Ok(file) => {
             let mut input = Counted::of(file);
             Stop::Ran(run(alloc, &settings, source.as_str(), &mut input, &mut out, err))
         }
         Err(_) => Stop::Open(source),
     }
+}
+
+/// The file of this name, opened to be read.
+// The room for its path is off the stack while a document is read.
+#[inline(never)]
+fn opened(rt: &HostRuntime, name: &str) -> Result<File, Error> {
+    File::open(rt, name)
 }
 
 /// The words after the program's name.

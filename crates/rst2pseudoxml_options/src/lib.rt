@@ -21,6 +21,8 @@ use std::alloc::Global;
 ///
 /// Faults are looked for in the order [`OptionFault::Usage`], [`OptionFault::BadLevel`], [`OptionFault::BadTab`],
 /// [`OptionFault::BadLimit`], [`OptionFault::TwoLevels`]; [`OptionFault::NoMemory`] comes where a growth is refused.
+// What the description of the options takes is off the stack while a document is read.
+#[inline(never)]
 pub fn options(alloc: Global, words: &[String]) -> Result<(Settings, Option<String>), OptionFault>
     ensures { Chooses (map string_bytes words.now) result }
 {
