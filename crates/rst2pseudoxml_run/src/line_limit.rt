@@ -1,6 +1,5 @@
 //! Which line of a text is too long, asked before the lines are made: a tab that is counted takes no memory, an expanded one does.
-ghost use Rattle.std.specs.Prelude.{◌≡◌, ◌≤◌, ◌==◌, ◌&&◌, None, IsTrue, length};
-ghost use Rattle.std.specs.Str.{chars};
+ghost use Rattle.std.specs.Prelude.{◌≡◌, ◌≤◌, ◌==◌, ◌&&◌, None, IsTrue, length, chars};
 ghost use Rattle.rst_text.specs.Lines.{begins_with, first_longer, lines_of};
 
 use memchr::memrchr;

@@ -25,7 +25,7 @@ use Rattle.rst_block_nodes.specs.Elements.{bullet_list_node}
 use Rattle.rst_block_state.specs.Constructs.{ItemMark, bullet_item, enumerated_item, definition_item, field_item, option_item, item_of_list, Found}
 use Rattle.rst_block_state.specs.Joins.{Joining, list_joining_after}
 use Rattle.rst_block_state.specs.Lists.{item_by, list_item, item_with, option_group, infos_of, empty_list}
-use Rattle.rst_block_state.specs.Meanings.{joining_in, open_of, list_kind_in, within_at, done_of, reads, comes, Keeps}
+use Rattle.rst_block_state.specs.Meanings.{joining_in, open_of, list_kind_in, within_at, done_of, reads, comes}
 use Rattle.rst_block_state.specs.NextLine.{IsText, IsNextConstruct}
 use Rattle.rst_block_state.specs.Numbered.{Numbered, then_read, ◌>>=◌, just, before}
 use Rattle.rst_block_state.specs.OpenBlocks.{joined_at, begun_at, IsMoved, HasRun, IsClosed, Closes, Gives, with_infos}
@@ -43,9 +43,12 @@ use Rattle.rst_block_state.specs.declared.run.ListKind.TheVariants.{Bullet, Defi
 use Rattle.rst_block_state.specs.declared.run.Run.{Run}
 use Rattle.rst_block_state.specs.declared.run.Run.TheVariants.{None as NoRun, List as ListRun, Lines, Explicit}
 use Rattle.rst_block_state.specs.declared.step.Step.{Step}
+use Rattle.rst_block_state.specs.declared.texts.Pass.{Pass}
 use Rattle.rst_block_state.specs.declared.step.Step.TheVariants.{Open}
 use Rattle.rst_block_state.proofs.Changes.{run_then, closed_then, done_same, done_moved}
 use Rattle.rst_block_state.proofs.MeaningLemmas.{item_means}
+use Rattle.rst_block_body.specs.ReadSteps.{IsRead}
+use Rattle.rst_block_body.proofs.ReadLemmas.{refused}
 use Rattle.rst_block_state.proofs.NextConstructs.{next_of, next_of_form, next_some, span_to, next_reads, run_of, closed_reads, close_refused}
 use Rattle.rst_block_state.proofs.NumberedLemmas.{before_then, same_before}
 use Rattle.rst_block_state.proofs.RestLemmas.{item_joins, item_begins}
@@ -428,14 +431,14 @@ opened_depth {old = old} {kind = kind} mark plain opened = elim (plain_joins mar
 ]
 
 -- where the run before the list is nested too deeply, so is all
-pub plain_refused : {C : Type 0} {l : OpenBlock} {B : Block} {mark : ItemMark} {stop : ℕ} (result : Result C BlockFault) (fault : BlockFault) (follows : C → Result (List Item × ℕ) ℕ) (kind : ListKind) (n : ℕ)
+pub plain_refused : {each : ℕ} {B : Block} {l new : OpenBlock} {before after : Pass} {mark : ItemMark} {stop : ℕ} {result : Result Step BlockFault} (fault : BlockFault) (kind : ListKind)
     → result ≡ Err fault → IsPlain mark kind → IsNextItem l B mark stop → (list_kind_in l.run ≡ Some kind → Gives {A = Unit {0}} (λ _. Unit {0}) (Err fault))
-    → ((list_kind_in l.run ≡ Some kind → ⊥) → Closes {A = Unit {0}} (run_of l B n) l l 0 no_run (Err fault)) → Keeps result follows (reads l B n)
-plain_refused result NoMemory follows kind n r plain found joins begins = rw r tt
-plain_refused {l = l} {mark = mark} {stop = stop} result (TooDeep line) follows kind n r plain found joins begins = rw r (
+    → ((list_kind_in l.run ≡ Some kind → ⊥) → Closes {A = Unit {0}} (run_of l B before.numbers) l l 0 no_run (Err fault)) → IsRead each B l before new after result
+plain_refused NoMemory kind r plain found joins begins = refused r tt
+plain_refused {l = l} {before = before} {mark = mark} {stop = stop} (TooDeep line) kind r plain found joins begins = refused r (
     elim (plain_joins mark kind (list_kind_in l.run) plain) [
       | inl e ↦ absurd (joins e.0)
-      | inr e ↦ item_refused n found (joining_by_kind l.run mark (span_to l.at stop) ∙ e.1) (begins e.0)
+      | inr e ↦ item_refused before.numbers found (joining_by_kind l.run mark (span_to l.at stop) ∙ e.1) (begins e.0)
     ])
 
 -- a field is made of its name, whose text was read, and of its hanging block

@@ -13,7 +13,7 @@ use Rattle.rst_markup_blocks.specs.declared.attribution.Attribution.{Attribution
 use Rattle.rst_markup_blocks.specs.Lines.{lines_while}
 use Rattle.rst_markup_blocks.specs.declared.lines.LineTest.TheVariants.{Filled}
 use Rattle.rst_markup_blocks.specs.declared.part.Part.{Part}
-use Rattle.rst_markup_blocks.proofs.LineLemmas.{drop_one}
+use Rattle.rst_text.proofs.Ends.{drop_one}
 
 map_more : (n : ℕ) (o : Option ℕ) → option_map (λ m. n + m) (option_map (λ m. suc m) o) ≡ option_map (λ m. n + 1 + m) o
 map_more n None = refl

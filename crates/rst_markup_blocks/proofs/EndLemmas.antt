@@ -1,5 +1,5 @@
 -- Where literal blocks and paragraphs end, and what is looked at for that.
-use Rattle.std.proofs.Common.{◌≡◌, ℕ, suc, ◌+◌, ◌-◌, ◌*◌, ◌<◌, ◌≤◌, ◌==◌, ◌⊎◌, inl, inr, Bool, true, false, cond, None, Some, List, [], ◌∷◌, length, drop, refl, sym, ap, ◌∙◌, arith}
+use Rattle.std.proofs.Common.{◌≡◌, ℕ, suc, ◌+◌, ◌-◌, ◌*◌, ◌<◌, ◌≤◌, ◌==◌, ◌⊎◌, inl, inr, Bool, true, false, cond, None, Some, List, [], ◌∷◌, drop, refl, sym, ap, ◌∙◌, arith}
 use Rattle.std.proofs.lemmas.Bool.{lt-ltb}
 use Rattle.rst_text.specs.Block.{Block, front_text}
 use Rattle.rst_text.specs.Extent.{extent}
@@ -19,7 +19,6 @@ use Rattle.rst_markup_blocks.specs.Forms.{text_form}
 use Rattle.rst_markup_blocks.specs.Conditions.{next_text}
 use Rattle.rst_markup_blocks.specs.declared.form.TextForm.TheVariants.{Paragraph, ShortUnderline, Definition, Title}
 use Rattle.rst_markup_lines.specs.Closing.{ends_in_colons}
-use Rattle.rst_markup_lines.specs.Adornment.{adornment_of}
 use Rattle.rst_markup_lines.specs.Front.{begins_with}
 use Rattle.rst_markup_blocks.proofs.LineLemmas.{blanks_through, filled_through, begins_while, reach_behind}
 
@@ -115,19 +114,6 @@ size_definition X e = rw e refl
 pub size_title : (X : Block) (short : Bool) → text_form (front_text X) (next_text X) ≡ Title short → text_size X ≡ 2
 unfolding text_size
 size_title X short e = rw e refl
-
-no_adornment : adornment_of [] ≡ None
-unfolding adornment_of
-no_adornment = refl
-
-nothing_next : (t : List ℕ) → text_form t [] ≡ Paragraph
-unfolding text_form
-nothing_next t = rw no_adornment refl
-
-pub title_there : (X : Block) (t : List ℕ) (short : Bool) → text_form t (next_text X) ≡ Title short → 2 ≤ length X
-title_there [] t short e = let no : Paragraph ≡ Title short = sym (nothing_next t) ∙ e in cc
-title_there (l ∷ []) t short e = let no : Paragraph ≡ Title short = sym (nothing_next t) ∙ e in cc
-title_there (l ∷ m ∷ ms) t short e = omega arith
 
 spaced : (t next : List ℕ) → begins_with 32 next ≡ true → text_form t next ≡ Definition
 unfolding text_form

@@ -1,10 +1,9 @@
 -- Explicit markup: its parts stand in its block, and it ends where its size says.
-use Rattle.std.proofs.Common.{◌≡◌, ℕ, suc, ◌+◌, ◌-◌, ◌^◌, ◌<◌, ◌≤◌, Bool, true, false, cond, ◌&&◌, ◌||◌, List, [], ◌∷◌, min, length, take, drop, length-drop, Option, None, Some, arith, refl, sym, ap, ◌∙◌, leb, zero}
+use Rattle.std.proofs.Common.{◌≡◌, ℕ, ◌+◌, ◌-◌, ◌^◌, ◌<◌, ◌≤◌, Bool, true, false, cond, List, min, length, take, drop, length-drop, Option, None, Some, arith, refl, ap, ◌∙◌}
 use Rattle.std.specs.Prelude.{option_map, unwrap_or}
 use Rattle.std.specs.Option.{option_and_then}
-use Rattle.rst_text.specs.Block.{Block, front_text, is_blank, indentation}
+use Rattle.rst_text.specs.Block.{Block, front_text, is_blank}
 use Rattle.rst_text.specs.Extent.{extent}
-use Rattle.rst_text.specs.Reach.{reach}
 use Rattle.rst_text.specs.MayCut.{is_indented}
 use Rattle.rst_text.proofs.Indented.{is_indented-least, is_indented-part, is_indented-zero}
 use Rattle.rst_markup_lines.specs.ExplicitMarks.{dots, underscores, label_of, target_of, substitution_of, directive_of}
@@ -28,14 +27,14 @@ use Rattle.rst_markup_blocks.proofs.RowLaws.{below_le, while_le}
 use Rattle.rst_markup_blocks.specs.Sizes.{hanging_size, indented_size, run_size}
 use Rattle.rst_markup_blocks.specs.declared.explicit_markup.ExplicitForm.{ExplicitForm}
 use Rattle.rst_markup_blocks.specs.declared.explicit_markup.ExplicitForm.TheVariants.{Label, Target as TargetForm, Substitution as SubstitutionForm, Directive as DirectiveForm, Comment as CommentForm}
-use Rattle.rst_markup_blocks.specs.declared.forms.CommentCause.{CommentCause}
 use Rattle.rst_markup_blocks.specs.declared.forms.CommentCause.TheVariants.{Plain}
 use Rattle.rst_markup_blocks.specs.declared.forms.Explicit.{Explicit}
 use Rattle.rst_markup_blocks.specs.declared.forms.Explicit.TheVariants.{Comment, EmptyComment, Substitution}
 use Rattle.rst_markup_blocks.specs.declared.forms.Invocation.{Invocation}
 use Rattle.rst_markup_blocks.specs.declared.lines.LineTest.TheVariants.{Blank, Indented}
 use Rattle.rst_markup_blocks.specs.declared.part.Part.{Part}
-use Rattle.rst_markup_blocks.proofs.LineLemmas.{drop_one, drop_far}
+use Rattle.rst_text.proofs.Ends.{drop_one}
+use Rattle.rst_markup_blocks.proofs.LineLemmas.{drop_far}
 use Rattle.rst_markup_blocks.proofs.PartLemmas.{hanging_is}
 use Rattle.rst_markup_lines.proofs.MarkBounds.{TargetWithin, dots_within, label_within, target_within, substitution_within, directive_within}
 
@@ -288,30 +287,23 @@ target_short n t (Named from len m) w h s = (omega (arith, w.0, length-drop n t)
 target_short n t (AnonymousMark m) w h s = omega (arith, w, length-drop n t)
 
 -- ---- how far the lines are looked at
--- the end of a form that is this one
-pub end_reach : (n : ℕ) (f g : ExplicitForm) (m : Marker) (X : Block) → f ≡ g → explicit_end 0 (explicit_by g 0 m X) ≡ n → reach (explicit_end 0 (explicit_by f 0 m X)) X ≡ reach n X
-end_reach n f g m X e to = ap (λ x. reach (explicit_end 0 (explicit_by x 0 m X)) X) e ∙ ap (λ k. reach k X) to
+-- how many lines markup of a form has
+abbrev pub lines_of : ExplicitForm → Block → ℕ
+lines_of (TargetForm mark) X = indented_size X
+lines_of form X = hanging_size X
 
-pub label_to : (l : LabelMark) (m : Marker) (X : Block) → explicit_end 0 (explicit_by (Label l) 0 m X) ≡ hanging_size X
-label_to l m X =
-    let n : ℕ = m.cut + l.marker.cut in
-    omega (arith, label_end 0 l.kind (place_of (m.cut + 1) l.len) (hanging_part 0 n l.marker.bare X), hanging_to 0 n l.marker.bare X)
-
-pub target_to : (mark : TargetMark) (m : Marker) (X : Block) → explicit_end 0 (explicit_by (TargetForm mark) 0 m X) ≡ indented_size X
-target_to (Named from len x) m X = omega arith
-target_to (AnonymousMark x) m X = omega arith
-
-pub directive_to : (d : DirectiveMark) (m : Marker) (X : Block) → explicit_end 0 (explicit_by (DirectiveForm d) 0 m X) ≡ hanging_size X
-directive_to d m X = omega (arith, hanging_to 0 (m.cut + d.marker.cut) d.marker.bare X)
-
-pub comment_to : (cause : CommentCause) (m : Marker) (X : Block) → explicit_end 0 (explicit_by (CommentForm cause) 0 m X) ≡ hanging_size X
-comment_to cause m X = omega (arith, hanging_to 0 m.cut false X)
-
-pub alone_reach : (m : Marker) (X : Block) → is_blank (next_text X) ≡ false → reach (explicit_end 0 (dots_alone 0 m X)) X ≡ reach (hanging_size X) X
-alone_reach m X e = rw e (ap (λ k. reach k X) (omega (arith, hanging_to 0 m.cut true X)))
-
-pub end_size : (n : ℕ) (f g : ExplicitForm) (m : Marker) (X : Block) → f ≡ g → explicit_end 0 (explicit_by g 0 m X) ≡ n → explicit_end 0 (explicit_by f 0 m X) ≡ n
-end_size n f g m X e to = ap (λ x. explicit_end 0 (explicit_by x 0 m X)) e ∙ to
+pub form_lines : (f g : ExplicitForm) (m : Marker) (X : Block) → f ≡ g → explicit_end 0 (explicit_by f 0 m X) ≡ lines_of g X
+form_lines f g m X e = ap (λ x. explicit_end 0 (explicit_by x 0 m X)) e ∙ go g
+  where
+    go : (g : ExplicitForm) → explicit_end 0 (explicit_by g 0 m X) ≡ lines_of g X
+    go (Label l) =
+        let n : ℕ = m.cut + l.marker.cut in
+        omega (arith, label_end 0 l.kind (place_of (m.cut + 1) l.len) (hanging_part 0 n l.marker.bare X), hanging_to 0 n l.marker.bare X)
+    go (TargetForm (Named from len x)) = omega arith
+    go (TargetForm (AnonymousMark x)) = omega arith
+    go (SubstitutionForm len x) = omega arith
+    go (DirectiveForm d) = omega (arith, hanging_to 0 (m.cut + d.marker.cut) d.marker.bare X)
+    go (CommentForm cause) = omega (arith, hanging_to 0 m.cut false X)
 
 pub alone_size : (m : Marker) (X : Block) → is_blank (next_text X) ≡ false → explicit_end 0 (dots_alone 0 m X) ≡ hanging_size X
 alone_size m X e = rw e (omega (arith, hanging_to 0 m.cut true X))

@@ -4,14 +4,12 @@ use Rattle.std.proofs.lemmas.List.{drop-drop, drop_all}
 use Rattle.rst_text.specs.Block.{Block, is_blank, front_text}
 use Rattle.rst_text.specs.Extent.{extent}
 use Rattle.rst_text.specs.Reach.{blank_len, reach, through_text, looked}
+use Rattle.rst_text.proofs.Ends.{drop_one}
 use Rattle.rst_text.proofs.Reaches.{looked_is, through_blank, through_some}
 use Rattle.rst_markup_blocks.specs.declared.lines.LineTest.{LineTest}
 use Rattle.rst_markup_blocks.specs.declared.lines.LineTest.TheVariants.{Blank, Begins}
 use Rattle.rst_markup_lines.specs.Front.{first, begins_with}
 use Rattle.rst_markup_blocks.specs.Lines.{passes, lines_while}
-
-pub drop_one : (i : ℕ) (B : Block) → drop (i + 1) B ≡ drop 1 (drop i B)
-drop_one i B = sym (drop-drop 1 i B ∙ ap (λ k. drop k B) (let e : i + 1 ≡ i + 1 = refl in e))
 
 pub while_more : (i : ℕ) (test : LineTest) (B : Block) → i < length B → passes test (front_text (drop i B)) ≡ true
     → i + lines_while test (drop i B) ≡ i + 1 + lines_while test (drop (i + 1) B)

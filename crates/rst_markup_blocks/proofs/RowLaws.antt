@@ -191,7 +191,7 @@ unfolding text_form adornment_of
 nothing_below t = refl
 
 -- a title has its underline below it, so its block has two lines or more
-two_lines : (X : Block) (t : List ℕ) (short : Bool) → text_form t (next_text X) ≡ Title short → 2 ≤ length X
+pub two_lines : (X : Block) (t : List ℕ) (short : Bool) → text_form t (next_text X) ≡ Title short → 2 ≤ length X
 two_lines [] t short e = let no : Paragraph ≡ Title short = sym (nothing_below t) ∙ e in cc
 two_lines (l ∷ []) t short e = let no : Paragraph ≡ Title short = sym (nothing_below t) ∙ e in cc
 two_lines (l ∷ m ∷ ms) t short e = omega arith
