@@ -1,19 +1,15 @@
 -- Lines that are indented enough for two cuts.
 use Rattle.std.proofs.Common.{◌≡◌, ⊎_elim, ℕ, zero, suc, ◌+◌, ◌-◌, ◌<◌, ◌≤◌, ◌==◌, Bool, true, false, cond, ◌&&◌, ◌||◌, List, [], ◌∷◌, length, take, drop, refl, sym, ap, ◌∙◌, arith, leb}
 use Rattle.std.specs.Prelude.{unwrap_or}
-use Rattle.std.specs.Char.{is_whitespace}
 use Rattle.std.proofs.Common.{min, Some, None}
-use Rattle.std.proofs.lemmas.Bool.{eqb-true, le-leb, leb-true}
+use Rattle.std.proofs.lemmas.Bool.{le-leb}
 use Rattle.std.proofs.lemmas.List.{drop-drop}
 use Rattle.rst_text.specs.Block.{Block, is_blank, indentation}
-use Rattle.rst_text.specs.Lines.{is_line_text, ends_white}
 use Rattle.rst_text.specs.MayCut.{is_indented}
 use Rattle.rst_text.specs.Extent.{extent, extent_of, least_indent}
 use Rattle.rst_text.proofs.CutLaws.{take_of}
 use Rattle.rst_text.proofs.Least.{least_from, least_from-all}
 use Rattle.rst_text.proofs.TextLemmas.{and_true}
-use Rattle.rst_text.proofs.LineTexts.{is_line_text-parts}
-use Rattle.rst_text.proofs.PlacesLemmas.{cases_bool}
 
 pub is_indented-drop : (r n : ℕ) (B : Block) → is_indented r B ≡ true → is_indented r (drop n B) ≡ true
 is_indented-drop r zero B h = h
