@@ -1,12 +1,11 @@
 -- Lemmas on lines.
-use Rattle.std.proofs.Common.{◌≡◌, ℕ, zero, suc, ◌+◌, ◌-◌, ◌%◌, ◌<◌, ◌≤◌, ◌==◌, nat_eq, Bool, true, false, cond, ◌&&◌, ◌||◌, List, [], ◌∷◌, ◌++◌, length, take, map, replicate, refl, sym, ap, ◌∙◌, subst, arith, append-nil, mod-lt, Option, None, Some, MatchOption, Bor, unwrap_or, Result, Ok, Err, IfOk, String}
+use Rattle.std.proofs.Common.{◌≡◌, ℕ, zero, suc, ◌+◌, ◌-◌, ◌%◌, ◌<◌, ◌≤◌, ◌==◌, nat_eq, Bool, true, false, cond, ◌&&◌, ◌||◌, List, [], ◌∷◌, ◌++◌, length, take, map, replicate, refl, sym, ap, ◌∙◌, subst, arith, append-nil, mod-lt, Option, None, Some, MatchOption, Bor, unwrap_or}
 use Rattle.std.specs.Char.{is_whitespace}
 use Rattle.std.specs.Str.{IsUtf8, chars, NonePass, trim_end, drop_trailing_whitespace}
 use Rattle.std.specs.Str.Pattern.{FindsCharPrefix, StripsPrefix}
 use Rattle.std.proofs.Math.Utf8.{scalar, scalars, encode, encodes}
 use Rattle.std.proofs.lemmas.Bool.{eqb-true}
 use Rattle.std.proofs.lemmas.Str.{chars_past_char, encodes-chars, chars-encodes, scalars-chars, length-le-encodes}
-use Rattle.rst_text.specs.Text.{chars_of}
 use Rattle.rst_text.specs.Lines.{is_line_end, begins_with, pieces, shown, expanded, tidied}
 use Rattle.std.specs.List.{onto_first}
 use Rattle.rst_text.proofs.Tabs.{expanded_from, expanded_from-start}
@@ -198,17 +197,12 @@ pub chars-trim_end : (text trimmed : List ℕ) → IsUtf8 text → trimmed ≡ t
 unfolding trim_end
 chars-trim_end text trimmed good e = ap chars e ∙ chars-encodes (drop_trailing_whitespace (chars text)) (scalars-trimmed (chars text) (scalars-chars text good))
 
-tidied-trim_end : (tab : ℕ) (piece trimmed : List ℕ) → IsUtf8 piece → trimmed ≡ trim_end piece → 0 < tab → expanded tab (chars trimmed) ≡ tidied tab (chars piece)
+pub tidied-trim_end : (tab : ℕ) (piece trimmed : List ℕ) → IsUtf8 piece → trimmed ≡ trim_end piece → 0 < tab → expanded tab (chars trimmed) ≡ tidied tab (chars piece)
 tidied-trim_end tab piece trimmed good e wide =
     ap (expanded tab) (chars-trim_end piece trimmed good e)
     ∙ sym (expanded_from-start tab (drop_trailing_whitespace (chars piece)) wide)
     ∙ sym (trim-expanded tab 0 (chars piece) wide)
     ∙ ap drop_trailing_whitespace (expanded_from-start tab (chars piece) wide)
-
-pub tidies : {A E : Type 0} (tab : ℕ) (piece trimmed : List ℕ) (r : Result (String A) E) → IsUtf8 piece → trimmed ≡ trim_end piece → 0 < tab
-    → IfOk r (λ line. chars_of line ≡ expanded tab (chars trimmed)) → IfOk r (λ line. chars_of line ≡ tidied tab (chars piece))
-tidies tab piece trimmed (Ok line) good e wide h = h ∙ tidied-trim_end tab piece trimmed good e wide
-tidies tab piece trimmed (Err x) good e wide h = tt
 
 -- ---- the texts so far, and those to come
 
