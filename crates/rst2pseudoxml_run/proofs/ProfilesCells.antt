@@ -103,10 +103,8 @@ dropped [] (suc n) = (0, inl refl)
 dropped (c ∷ cs) (suc n) = dropped_by _ (is_double c) n c cs (λ ps. refl) (λ j. dropped cs j)
 
 take_twice : (n m : ℕ) (t : List ℕ) → (k : ℕ) × (take n (take m t) ≡ take k t)
-take_twice zero m t = (0, refl)
-take_twice (suc n) zero t = (0, refl)
-take_twice (suc n) (suc m) [] = (0, refl)
 take_twice (suc n) (suc m) (c ∷ cs) = let r = take_twice n m cs in (suc r.0, ap (λ l. c ∷ l) r.1)
+take_twice _ _ _ = (0, refl)
 
 trimmed : (t : List ℕ) → (k : ℕ) × (drop_trailing_whitespace t ≡ take k t)
 trimmed [] = (0, refl)

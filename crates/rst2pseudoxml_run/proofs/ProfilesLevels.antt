@@ -83,22 +83,11 @@ module _ (P : Block → Type 0) (agree : CallsAgreeUnder P) (opened : OpenedKeep
         piece_again titles levels more g h B f n (agree B f.span.start keeps) (all_again P g h reads _ (opened c B f keeps)) (all_again P g h reads _ (cells B f keeps))
 
     whole_again : (what : Construct) (run : Run Found) (items : List Item) (n : ℕ) → Again (whole_by what c B run items n) (whole_by what d B run items n)
-    whole_again nothing run items n = refl
-    whole_again block_quote run items n = refl
-    whole_again (item_of_list mark) run items n = refl
-    whole_again doctest_block run items n = refl
     whole_again (bar_line m) run items n =
         let ls : List IndentedLine = indented_lines B 0 (members run) in
         same_again (then_read (λ (made : Node × List Node). just (made.0 ∷ made.1)) (line_block levels ls n)) (then_read (λ (made : Node × List Node). just (made.0 ∷ made.1)) (line_block more ls n)) _
         (same_again (line_block levels ls n) (line_block more ls n) _ (lines_again levels more within ls n))
-    whole_again grid run items n = refl
-    whole_again simple run items n = refl
-    whole_again explicit_markup run items n = refl
-    whole_again transition run items n = refl
-    whole_again (overlined_title mark short) run items n = refl
-    whole_again (misplaced_lines level text) run items n = refl
-    whole_again (underlined_title infos short) run items n = refl
-    whole_again (paragraph infos) run items n = refl
+    whole_again _ run items n = refl
 
     ended_again : (run : Run Found) (items : List Item) (n : ℕ) → Again (ended c B run items n) (ended d B run items n)
     ended_again run items n = same_again (whole_by run.first.what c B run items n) (whole_by run.first.what d B run items n) _ (whole_again run.first.what run items n)

@@ -118,8 +118,6 @@ module _ (titles : Bool) (levels more : ℕ) (g h : Block → Numbered (List Nod
   item_with_again B item content line part heads notes n i = same_again (g (lines_in B part) n) (h (lines_in B part) n) _ (i.0 n)
 
   item_again : (B : Block) (at : ℕ) (mark : ItemMark) (X : Block) (n : ℕ) → Inside (lines_in B (part_of_item at mark X) ∷ []) → Again (item_by c B at mark X n) (item_by d B at mark X n)
-  item_again B at (bullet_item ch m) X n i = same_again (g (lines_in B (part_of_item at (bullet_item ch m) X)) n) (h (lines_in B (part_of_item at (bullet_item ch m) X)) n) _ (i.0 n)
-  item_again B at (enumerated_item e) X n i = same_again (g (lines_in B (part_of_item at (enumerated_item e) X)) n) (h (lines_in B (part_of_item at (enumerated_item e) X)) n) _ (i.0 n)
   item_again B at (definition_item infos) X n i =
       after_again (termed (front_text X) (first_number X) n)
       (λ (made : List Node × List Node). item_with c B DefinitionListItem Definition (first_number X) (indented_part (at + 1) (drop 1 X)) made.0 made.1)
@@ -130,7 +128,7 @@ module _ (titles : Bool) (levels more : ℕ) (g h : Block → Numbered (List Nod
       (λ (made : Node × List Node). item_with c B Field FieldBody (first_number X) (hanging at m.marker X) (made.0 ∷ []) made.1)
       (λ (made : Node × List Node). item_with d B Field FieldBody (first_number X) (hanging at m.marker X) (made.0 ∷ []) made.1)
       (λ made k. item_with_again B Field FieldBody (first_number X) (hanging at m.marker X) (made.0 ∷ []) made.1 k i)
-  item_again B at (option_item m) X n i = same_again (g (lines_in B (part_of_item at (option_item m) X)) n) (h (lines_in B (part_of_item at (option_item m) X)) n) _ (i.0 n)
+  item_again B at mark X n i = same_again (g (lines_in B (part_of_item at mark X)) n) (h (lines_in B (part_of_item at mark X)) n) _ (i.0 n)
 
   -- ---- directives
 
@@ -147,7 +145,6 @@ module _ (titles : Bool) (levels more : ℕ) (g h : Block → Numbered (List Nod
 
   right_again : (given : Given) (name : Name) (B : Block) (line : ℕ) (read : Read) (lines : List ℕ) (n : ℕ) → Inside (directive_content given name B read.content)
       → Again (right_by given name c B line read lines n) (right_by given name d B line read lines n)
-  right_again no_argument Code B line read lines n i = refl
   right_again no_argument name B line read lines n i = content_then B read.content _ n i
   right_again (title part) name B line read lines n i =
       let rest : Node × List Node → List Node → Numbered (List Node) = λ made nodes. just (filled (titled_element read.name (directive_element read.name read.options line) made.0) (made.0 ∷ made.1 ++ nodes) ∷ []) in
@@ -155,8 +152,7 @@ module _ (titles : Bool) (levels more : ℕ) (g h : Block → Numbered (List Nod
       after_again (texted TitleTag (number_or line X) (joined X) (number_or line X) n) (λ (made : Node × List Node). content_nodes c B read.content >>= rest made) (λ (made : Node × List Node). content_nodes d B read.content >>= rest made)
       (λ made k. content_then B read.content (rest made) k i)
   right_again (uri address) Figure B line read lines n i = content_then B read.content _ n i
-  right_again (uri address) name B line read lines n i = refl
-  right_again (language word) name B line read lines n i = refl
+  right_again _ _ B line read lines n i = refl
 
   directive_again : (o : Outcome) (B : Block) (s : Span) (name : List ℕ) (n : ℕ) → Inside (directive_blocks o B) → Again (directive_by o c B s name n) (directive_by o d B s name n)
   directive_again (found read) B s name n i = right_again read.argument read.name B (first_number (drop s.start B)) read _ n i
@@ -185,15 +181,11 @@ module _ (titles : Bool) (levels more : ℕ) (g h : Block → Numbered (List Nod
   markup_again : (x : Explicit) (B : Block) (s : Span) (X : Block) (n : ℕ) → CallsAgree B s.start x → Inside (markup_blocks x c B s.start) → Again (markup_by x c B s X n) (markup_by x d B s X n)
   markup_again (Footnote label body) B s X n agree i = same_again (g (lines_in B body) n) (h (lines_in B body) n) _ (i.0 n)
   markup_again (Citation label body) B s X n agree i = same_again (g (lines_in B body) n) (h (lines_in B body) n) _ (i.0 n)
-  markup_again (Target name text) B s X n agree i = refl
-  markup_again (Anonymous text) B s X n agree i = refl
-  markup_again (Substitution name None end) B s X n agree i = refl
   markup_again (Substitution name (Some call) end) B s X n agree i =
       held_again (called c B s.start call InDefinition) (called d B s.start call InDefinition) (called_alike B s.start call InDefinition agree) B s _ _ n i
   markup_again (Directive call) B s X n agree i =
       called_again (called c B s.start call (cond titles Top Body)) (called d B s.start call (cond titles Top Body)) (called_alike B s.start call (cond titles Top Body) agree) B s _ n i
-  markup_again (Comment text cause) B s X n agree i = refl
-  markup_again EmptyComment B s X n agree i = refl
+  markup_again _ B s X n agree i = refl
 
   -- ---- tables
 
@@ -229,23 +221,19 @@ module _ (titles : Bool) (levels more : ℕ) (g h : Block → Numbered (List Nod
 
   construct_again : (what : Construct) (B : Block) (s : Span) (X : Block) (n : ℕ) → X ≡ drop s.start B → CallsAgree B s.start (explicit_of s.start (drop s.start B))
       → Inside (opened_by what c B s.start X) → Inside (cells_by what B s.start) → Again (piece_by what c B s X n) (piece_by what d B s X n)
-  construct_again nothing B s X n e agree i k = refl
   construct_again block_quote B s X n e agree i k =
       let Q : Block = lines_in B (indented_part s.start X) in plainly_again (quotes c (length Q) Q) (quotes d (length Q) Q) n (quotes_again (length Q) Q n i)
   construct_again (item_of_list mark) B s X n e agree i k = plainly_again (item_by c B s.start mark X) (item_by d B s.start mark X) n (item_again B s.start mark X n i)
-  construct_again doctest_block B s X n e agree i k = refl
-  construct_again (bar_line m) B s X n e agree i k = refl
   construct_again grid B s X n e agree i k = plainly_again (table_nodes c B s (grid_table B s.start)) (table_nodes d B s (grid_table B s.start)) n (table_again B s (grid_table B s.start) n k)
   construct_again simple B s X n e agree i k = plainly_again (table_nodes c B s (simple_table B s.start)) (table_nodes d B s (simple_table B s.start)) n (table_again B s (simple_table B s.start) n k)
   construct_again explicit_markup B s X n e agree i k =
       let x : Explicit = explicit_of s.start (drop s.start B) in
       plainly_again (markup_by x c B s (drop s.start B)) (markup_by x d B s (drop s.start B)) n
       (markup_again x B s (drop s.start B) n agree (subst (λ Y. Inside (markup_blocks (explicit_of s.start Y) c B s.start)) e i))
-  construct_again transition B s X n e agree i k = refl
   construct_again (overlined_title mark short) B s X n e agree i k = again (piece_by (overlined_title mark short) c B s X n)
-  construct_again (misplaced_lines level text) B s X n e agree i k = refl
   construct_again (underlined_title infos short) B s X n e agree i k = again (piece_by (underlined_title infos short) c B s X n)
   construct_again (paragraph infos) B s X n e agree i k = again (piece_by (paragraph infos) c B s X n)
+  construct_again _ B s X n e agree i k = refl
 
   pub piece_again : (B : Block) (f : Found) (n : ℕ) → CallsAgree B f.span.start (explicit_of f.span.start (drop f.span.start B)) → Inside (opened_of c B f) → Inside (cells_with B f)
       → Again (piece_of c B f n) (piece_of d B f n)

@@ -77,8 +77,6 @@ module _ (c : Within) (g : Block → Numbered (List Node)) where
   item_with_agrees B item content line part heads notes n h = ap (then_read _) (h.0 n)
 
   item_agrees : (B : Block) (i : ℕ) (mark : ItemMark) (X : Block) (n : ℕ) → Agree (lines_in B (part_of_item i mark X) ∷ []) → item_by c B i mark X n ≡ item_by d B i mark X n
-  item_agrees B i (bullet_item ch m) X n h = ap (then_read _) (h.0 n)
-  item_agrees B i (enumerated_item e) X n h = ap (then_read _) (h.0 n)
   item_agrees B i (definition_item infos) X n h =
       same_after (termed (front_text X) (first_number X) n)
       (λ (made : List Node × List Node). item_with c B DefinitionListItem Definition (first_number X) (indented_part (i + 1) (drop 1 X)) made.0 made.1)
@@ -89,7 +87,7 @@ module _ (c : Within) (g : Block → Numbered (List Node)) where
       (λ (made : Node × List Node). item_with c B Field FieldBody (first_number X) (hanging i m.marker X) (made.0 ∷ []) made.1)
       (λ (made : Node × List Node). item_with d B Field FieldBody (first_number X) (hanging i m.marker X) (made.0 ∷ []) made.1)
       (λ made k. item_with_agrees B Field FieldBody (first_number X) (hanging i m.marker X) (made.0 ∷ []) made.1 k h)
-  item_agrees B i (option_item m) X n h = ap (then_read _) (h.0 n)
+  item_agrees B i _ X n h = ap (then_read _) (h.0 n)
 
   -- ---- directives
 
@@ -106,7 +104,6 @@ module _ (c : Within) (g : Block → Numbered (List Node)) where
 
   right_agrees : (given : Given) (name : Name) (B : Block) (line : ℕ) (read : Read) (lines : List ℕ) (n : ℕ) → Agree (directive_content given name B read.content)
       → right_by given name c B line read lines n ≡ right_by given name d B line read lines n
-  right_agrees no_argument Code B line read lines n h = refl
   right_agrees no_argument name B line read lines n h = content_then B read.content _ n h
   right_agrees (title part) name B line read lines n h =
       let rest : Node × List Node → List Node → Numbered (List Node) = λ made nodes. just (filled (titled_element read.name (directive_element read.name read.options line) made.0) (made.0 ∷ made.1 ++ nodes) ∷ []) in
@@ -114,8 +111,7 @@ module _ (c : Within) (g : Block → Numbered (List Node)) where
       same_after (texted TitleTag (number_or line X) (joined X) (number_or line X) n) (λ (made : Node × List Node). content_nodes c B read.content >>= rest made) (λ (made : Node × List Node). content_nodes d B read.content >>= rest made)
       (λ made k. content_then B read.content (rest made) k h)
   right_agrees (uri address) Figure B line read lines n h = content_then B read.content _ n h
-  right_agrees (uri address) name B line read lines n h = refl
-  right_agrees (language word) name B line read lines n h = refl
+  right_agrees _ _ B line read lines n h = refl
 
   directive_agrees : (o : Outcome) (B : Block) (s : Span) (name : List ℕ) (n : ℕ) → Agree (directive_blocks o B) → directive_by o c B s name n ≡ directive_by o d B s name n
   directive_agrees (found read) B s name n h = right_agrees read.argument read.name B (first_number (drop s.start B)) read _ n h
@@ -135,13 +131,9 @@ module _ (c : Within) (g : Block → Numbered (List Node)) where
   markup_agrees : (x : Explicit) (B : Block) (s : Span) (X : Block) (n : ℕ) → Agree (markup_blocks x c B s.start) → markup_by x c B s X n ≡ markup_by x d B s X n
   markup_agrees (Footnote label body) B s X n h = ap (then_read _) (h.0 n)
   markup_agrees (Citation label body) B s X n h = ap (then_read _) (h.0 n)
-  markup_agrees (Target name text) B s X n h = refl
-  markup_agrees (Anonymous text) B s X n h = refl
-  markup_agrees (Substitution name None end) B s X n h = refl
   markup_agrees (Substitution name (Some call) end) B s X n h = holding_agrees (called c B s.start call InDefinition) B s _ _ n h
   markup_agrees (Directive call) B s X n h = directive_agrees (called c B s.start call (cond c.titles Top Body)) B s _ n h
-  markup_agrees (Comment text cause) B s X n h = refl
-  markup_agrees EmptyComment B s X n h = refl
+  markup_agrees _ B s X n h = refl
 
   -- ---- tables
 
@@ -173,21 +165,14 @@ module _ (c : Within) (g : Block → Numbered (List Node)) where
 
   construct_agrees : (what : Construct) (B : Block) (s : Span) (X : Block) (n : ℕ) → X ≡ drop s.start B → Agree (opened_by what c B s.start X) → Agree (cells_by what B s.start)
       → piece_by what c B s X n ≡ piece_by what d B s X n
-  construct_agrees nothing B s X n e h k = refl
   construct_agrees block_quote B s X n e h k = let Q : Block = lines_in B (indented_part s.start X) in plainly_agrees (quotes c (length Q) Q) (quotes d (length Q) Q) n (quotes_agree (length Q) Q n h)
   construct_agrees (item_of_list mark) B s X n e h k = plainly_agrees (item_by c B s.start mark X) (item_by d B s.start mark X) n (item_agrees B s.start mark X n h)
-  construct_agrees doctest_block B s X n e h k = refl
-  construct_agrees (bar_line m) B s X n e h k = refl
   construct_agrees grid B s X n e h k = plainly_agrees (table_nodes c B s (grid_table B s.start)) (table_nodes d B s (grid_table B s.start)) n (table_agrees B s (grid_table B s.start) n k)
   construct_agrees simple B s X n e h k = plainly_agrees (table_nodes c B s (simple_table B s.start)) (table_nodes d B s (simple_table B s.start)) n (table_agrees B s (simple_table B s.start) n k)
   construct_agrees explicit_markup B s X n e h k =
       let x : Explicit = explicit_of s.start (drop s.start B) in
       plainly_agrees (markup_by x c B s (drop s.start B)) (markup_by x d B s (drop s.start B)) n (markup_agrees x B s (drop s.start B) n (subst (λ Y. Agree (markup_blocks (explicit_of s.start Y) c B s.start)) e h))
-  construct_agrees transition B s X n e h k = refl
-  construct_agrees (overlined_title mark short) B s X n e h k = refl
-  construct_agrees (misplaced_lines level text) B s X n e h k = refl
-  construct_agrees (underlined_title infos short) B s X n e h k = refl
-  construct_agrees (paragraph infos) B s X n e h k = refl
+  construct_agrees _ B s X n e h k = refl
 
 pub inside_is_read : (c : Within) (g : Block → Numbered (List Node)) (B : Block) (f : Found) (n : ℕ) → AgreeOn c.inner g (opened_of c B f) → AgreeOn c.inner g (cells_with B f)
     → piece_of c B f n ≡ piece_of (reading c g) B f n

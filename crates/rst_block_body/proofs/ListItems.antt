@@ -152,9 +152,7 @@ next_definition l B infos {part} h f e = record { lines = hanging_size (drop l.a
 joining_by_kind : (run : Run) (mark : ItemMark) (s : Span)
     → joining_with (open_of run) (found_as (item_of_list mark) s) ≡ option_and_then (λ (kind : ListKind). list_joining_after (joining_in kind) mark) (list_kind_in run)
 joining_by_kind NoRun mark s = refl
-joining_by_kind (ListRun l) mark s = refl
-joining_by_kind (Lines lines end) mark s = refl
-joining_by_kind (Explicit end) mark s = refl
+joining_by_kind _ mark s = refl
 
 -- what joins a list of a kind, or no list, next after an item
 abbrev pub next_joining : ItemMark → Option ListKind → Option Joining
@@ -204,12 +202,10 @@ other_bullet c m _ h = refl
 
 -- no messages change nothing
 after_none : (o : OpenRun) → with_infos [] o ≡ o
-after_none no_run = refl
-after_none (open_lines end lines) = refl
-after_none (open_markup end) = refl
 after_none (open_list l) =
     ap (λ (notes : List Node). open_list (record { joining = l.joining; end = l.end; notes_before = notes; element = l.element; items = l.items; notes_after = l.notes_after }))
     (append-nil l.notes_before)
+after_none _ = refl
 
 -- the list after an item that joins it
 after_joined : (j : Joining) (o : OpenRun) (B : Block) (mark : ItemMark) (s : Span) → joining_with o (found_as (item_of_list mark) s) ≡ Some j
@@ -274,12 +270,10 @@ pub record IsList (o : OpenRun) : Type 0 where
 -- an item joins nothing but a list
 joined_is_list : (o : OpenRun) (B : Block) (mark : ItemMark) (j : Joining) (s : Span) → joining_with o (found_as (item_of_list mark) s) ≡ Some j
     → IsList (joined_run j o B (found_as (item_of_list mark) s))
-joined_is_list no_run B mark j s h = absurd (cc)
-joined_is_list (open_lines end lines) B mark j s h = absurd (cc)
-joined_is_list (open_markup end) B mark j s h = absurd (cc)
 joined_is_list (open_list l) B mark j s h =
     let r : ListSoFar = record { joining = j; end = s.stop; notes_before = l.notes_before ++ infos_of (item_of_list mark); element = l.element; items = l.items; notes_after = l.notes_after } in
     record { list = r; is = refl }
+joined_is_list _ B mark j s h = absurd (cc)
 
 -- the step of an item gives the item in its list, and what comes after it
 step_reads : (old mid new : OpenBlock) (B : Block) (mark : ItemMark) (s : Step) (item : Within → Numbered (List Node)) (stop k m : ℕ) (o : OpenRun) → IsList o
@@ -388,9 +382,7 @@ plain_begun : (mark : ItemMark) (kind : ListKind) (B X : Block) (s : Span) → I
     → with_infos (infos_of (item_of_list mark)) (begun_at (joining_in kind) s.stop (empty_list mark X)) ≡ begun_run (item_of_list mark) B s X
 plain_begun (bullet_item c m) kind B X s h = absurd h
 plain_begun (enumerated_item e) kind B X s h = absurd h
-plain_begun (definition_item infos) kind B X s h = rw h refl
-plain_begun (field_item m) kind B X s h = rw h refl
-plain_begun (option_item m) kind B X s h = rw h refl
+plain_begun _ kind B X s h = rw h refl
 
 -- a list of a kind is open: that of before, or a new one, before which the open run has ended
 pub record IsOpened (old mid : OpenBlock) (B : Block) (kind : ListKind) (element : Node) (stop n k : ℕ) : Type 0 where

@@ -172,10 +172,8 @@ item_same : (old new : OpenBlock) (item : Node) → HasItem old new item → (ne
 item_same old new item h = by old.run refl h
   where
     by : (r : Run) → old.run ≡ r → HasItemIn (open_of r) old new item → (new.depth ≡ old.depth) × (new.at ≡ old.at) × (run_looks new.run ≤ run_looks r)
-    by NoRun e h = (h.depth, h.at, omega (arith, ap run_looks (h.run ∙ e)))
     by (ListRun l) e h = (h.depth, h.at, one_look new.run)
-    by (Lines lines end) e h = (h.depth, h.at, omega (arith, ap run_looks (h.run ∙ e)))
-    by (ExplicitRun end) e h = (h.depth, h.at, omega (arith, ap run_looks (h.run ∙ e)))
+    by _ e h = (h.depth, h.at, omega (arith, ap run_looks (h.run ∙ e)))
 
 -- it gets an item, and no look is taken
 pub item_paid : (old new last : OpenBlock) (B : Block) (item : Node) (waits : Waits) (looks : ℕ) → WaitsForOne waits → HasItem old new item → last ≡ new

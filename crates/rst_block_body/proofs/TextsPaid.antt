@@ -38,37 +38,20 @@ IsFlat _ = ⊥
 -- it opens no block
 opens_none : (what : Construct) (c : Within) (B : Block) (i : ℕ) (X : Block) → IsFlat what → opened_by what c B i X ≡ []
 opens_none transition c B i X h = refl
-opens_none (overlined_title mark short) c B i X h = refl
-opens_none (misplaced_lines level text) c B i X h = refl
-opens_none (underlined_title infos short) c B i X h = refl
-opens_none (paragraph infos) c B i X h = refl
 opens_none _ c B i X h = absurd h
+opens_none _ c B i X h = refl
 
 -- it has no cells
 no_cells : (what : Construct) (B : Block) (i : ℕ) → IsFlat what → cells_by what B i ≡ []
 no_cells transition B i h = refl
-no_cells (overlined_title mark short) B i h = refl
-no_cells (misplaced_lines level text) B i h = refl
-no_cells (underlined_title infos short) B i h = refl
-no_cells (paragraph infos) B i h = refl
 no_cells _ B i h = absurd h
+no_cells _ B i h = refl
 
 -- it is no table
 own_row : (k : Kind) (titles : Bool) (X : Block) → IsFlat (construct_by k titles X) → row_reach k titles X ≡ reach (row_size k titles X) X
 own_row Grid titles X h = absurd h
 own_row Simple titles X h = absurd h
-own_row Blank titles X h = refl
-own_row Quote titles X h = refl
-own_row Bullet titles X h = refl
-own_row Enumerator titles X h = refl
-own_row Field titles X h = refl
-own_row OptionItem titles X h = refl
-own_row Doctest titles X h = refl
-own_row Line titles X h = refl
-own_row Explicit titles X h = refl
-own_row Anonymous titles X h = refl
-own_row Adornment titles X h = refl
-own_row Text titles X h = refl
+own_row _ titles X h = refl
 
 -- its reach
 flat_reach : {l : OpenBlock} {B : Block} {what : Construct} {lines : ℕ} → IsNextConstruct l B what lines → IsFlat what → reach_at (l.depth == 0) (drop l.at B) ≡ reach lines (drop l.at B)

@@ -25,21 +25,8 @@ IsFree name = (empty : Bool) (place : Place) (p q : Bool) → content_fault name
 
 free_of : (name : Name) → is_replacement (Some name) ≡ false → IsFree name
 unfolding content_fault
-free_of Attention h empty place p q = refl
-free_of Caution h empty place p q = refl
-free_of Danger h empty place p q = refl
-free_of Error h empty place p q = refl
-free_of Hint h empty place p q = refl
-free_of Important h empty place p q = refl
-free_of Note h empty place p q = refl
-free_of Tip h empty place p q = refl
-free_of Warning h empty place p q = refl
-free_of Admonition h empty place p q = refl
-free_of Topic h empty place p q = refl
-free_of Image h empty place p q = refl
-free_of Figure h empty place p q = refl
 free_of Replace h empty place p q = let no : true ≡ false = h in cc
-free_of Code h empty place p q = refl
+free_of _ h empty place p q = refl
 
 -- ---- a directive that is read has the name that it is called by
 
@@ -70,13 +57,11 @@ unfolding permitted
 free_named None place n w h = by (is_substitution place) h
   where
     by : (b : Bool) → told (cond b (Err NotInSubstitution) (Err Unknown)) ≡ Ok n → IsFree n
-    by true h = let no : ⊥ = cc in absurd no
-    by false h = let no : ⊥ = cc in absurd no
 free_named (Some name) place n w h = by (is_substitution place && not (is_substitutable name)) h
   where
     by : (b : Bool) → told (cond b (Err NotInSubstitution) (Ok name)) ≡ Ok n → IsFree n
-    by true h = let no : ⊥ = cc in absurd no
     by false h = let e : name ≡ n = cc in subst IsFree e (free_of name w)
+    by _ h = let no : ⊥ = cc in absurd no
 
 read_free : (name : Result Name Fault) (B : Block) (at : ℕ) (block : Part) (r : Read) → ((n : Name) → name ≡ Ok n → IsFree n) → and_then (read_at B at block) name ≡ Ok r → IsFree r.name
 read_free (Err fault) B at block r w h = let no : ⊥ = cc in absurd no

@@ -144,13 +144,7 @@ alone_joins j (item_of_list mark) s h = absurd h
 alone_joins j (bar_line m) s h = absurd h
 alone_joins j explicit_markup s h = absurd h
 alone_joins (bullets c) what s h = refl
-alone_joins (enumerators f q last) what s h = refl
-alone_joins definitions what s h = refl
-alone_joins fields what s h = refl
-alone_joins options what s h = refl
-alone_joins (lines_from end) what s h = refl
-alone_joins explicits what s h = refl
-alone_joins none what s h = refl
+alone_joins _ what s h = refl
 
 -- what is still to come from a construct on that is alone
 rest_alone : Within → Block → OpenRun → Found → Numbered (List Item)
