@@ -30,7 +30,8 @@ use Rattle.rst_markup_blocks.specs.declared.part.Part.{Part}
 use Rattle.rst_markup_directives.specs.Characters.{Text}
 use Rattle.rst2pseudoxml_run.specs.CodeCalls.{begins_call, begins_colons, holds_code, IsWithoutCode}
 use Rattle.rst2pseudoxml_run.proofs.ProfilesCode.{and_right, both, directive_alike, or_left, or_right, IsCalledIn}
-use Rattle.rst2pseudoxml_run.proofs.ProfilesNeeds.{CallsAgree, CallsAgreeUnder}
+use Rattle.rst2pseudoxml_run.proofs.ProfilesNeeds.{CallsAgreeUnder}
+use Rattle.rst_block.proofs.InsideReads.{CallsAgree}
 
 -- nothing is no mark
 none_is : {A B : Type 0} (x : A) → None ≡ Some x → B
@@ -156,7 +157,7 @@ front_free [] (suc i) free = refl
 front_free (l ∷ ls) zero free = free.0
 front_free (l ∷ ls) (suc i) free = front_free ls i free.1
 
-agree_by : (B : Block) (i : ℕ) (markup : Explicit) → holds_code (front_text (drop i B)) ≡ false → IsMarkupIn (front_text (drop i B)) markup → CallsAgree B i markup
+agree_by : (B : Block) (i : ℕ) (markup : Explicit) → holds_code (front_text (drop i B)) ≡ false → IsMarkupIn (front_text (drop i B)) markup → CallsAgree false true B i markup
 agree_by B i (Directive call) free called = λ place paragraph. directive_alike false true B i call place paragraph called free
 agree_by B i (Substitution name (Some call) end) free called = λ place paragraph. directive_alike false true B i call place paragraph called free
 agree_by B i _ free called = tt
