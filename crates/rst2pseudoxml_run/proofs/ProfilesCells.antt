@@ -20,32 +20,10 @@ use Rattle.rst_markup_tables.specs.Tiling.{grid_by, grid_table, tiling_of}
 use Rattle.rst_markup_tables.specs.declared.results.Cell.{Cell}
 use Rattle.rst_markup_tables.specs.declared.results.TableDetail.{TableDetail}
 use Rattle.rst_markup_tables.proofs.CellLemmas.{characters-places, cut-keeps}
+use Rattle.rst_markup_tables.proofs.Dashes.{IsDash, dashed-characters}
 use Rattle.rst2pseudoxml_run.specs.CodeCalls.{begins_code, holds_code, IsWithoutCode}
 use Rattle.rst2pseudoxml_run.proofs.ProfilesCode.{and_left, and_right, drop_free, part_free}
 use Rattle.rst2pseudoxml_run.proofs.ProfilesLists.{all_any, all_drop, all_flat, all_map, all_set, all_take}
-
--- ---- places
-
--- the members of the lists that a function takes
-abbrev Member : {A B : Type 0} → (List A → B) → Type 0
-Member {A} f = A
-
--- a place of a row, whose type the crate of tables keeps to itself
-abbrev Place : Type 0
-Place = Member characters
-
--- a list has a first member
-abbrev HasFirst : {A : Type 0} → List A → Type 0
-HasFirst [] = ⊥
-HasFirst (x ∷ xs) = Unit {0}
-
-abbrev first_member : {A : Type 0} (xs : List A) → HasFirst xs → A
-first_member [] h = absurd h
-first_member (x ∷ xs) h = x
-
--- the place where a character begins
-abbrev place_with : ℕ → Place
-place_with c = first_member (places_of (c ∷ [])) tt
 
 -- ---- parts of lines
 
@@ -86,13 +64,6 @@ cell_free left right G free =
 
 -- ---- the rule between head and body
 
--- `-` or `+`
-abbrev IsDash : ℕ → Type 0
-IsDash c = (c ≡ 45) ⊎ (c ≡ 43)
-
-abbrev IsDashAt : Place → Type 0
-IsDashAt p = (ps : List Place) → AllByRecursion IsDash (characters ps) → AllByRecursion IsDash (characters (p ∷ ps))
-
 not_code : (c : ℕ) (cs : List ℕ) → IsDash c → begins_code (c ∷ cs) ≡ false
 unfolding begins_code
 not_code c cs (inl is) = subst (λ d. begins_code (d ∷ cs) ≡ false) (sym is) refl
@@ -102,33 +73,6 @@ dashes_free : (t : List ℕ) → AllByRecursion IsDash t → holds_code t ≡ fa
 dashes_free [] h = refl
 dashes_free (c ∷ cs) h = ap (λ b. b || holds_code cs) (not_code c cs h.0) ∙ dashes_free cs h.1
 
-characters_dashed : (ps : List Place) → AllByRecursion IsDashAt ps → AllByRecursion IsDash (characters ps)
-characters_dashed [] h = tt
-characters_dashed (p ∷ ps) h = h.0 ps (characters_dashed ps h.1)
-
-dash_by : (p q : Place) (b : Bool) → IsDashAt p → (b ≡ false → IsDashAt q) → IsDashAt (cond b p q)
-dash_by p q true h k = h
-dash_by p q false h k = k refl
-
-other_of : (a b : Bool) → (a || b) ≡ true → a ≡ false → b ≡ true
-other_of true b h k = absurd (true≢false k)
-other_of false b h k = h
-
-rest_dashed : (p : Place) (b : Bool) (ps : List Place) → (mark_of p == 61 || mark_of p == 43) ≡ false → consists_of 61 43 (cond b (p ∷ ps) ps) ≡ true → (consists_of 61 43 ps ≡ true → AllByRecursion IsDashAt (map dash ps)) → AllByRecursion IsDashAt (map dash (cond b (p ∷ ps) ps))
-rest_dashed p true ps none h k = absurd (true≢false (sym (and_left _ _ h) ∙ none))
-rest_dashed p false ps none h k = k h
-
-dash_all : (t : List ℕ) → consists_of 61 43 (places_of t) ≡ true → AllByRecursion IsDashAt (map dash (places_of t))
-dash_all [] h = tt
-dash_all (c ∷ cs) h = (
-  dash_by (place_with 45) (place_with c) (c == 61) (λ ps k. (inl refl, k)) (λ e ps k. (inr (eqb-true c 43 (other_of (c == 61) (c == 43) (and_left _ _ h) e)), k)),
-  rest_dashed _ (is_double c) (places_of cs) refl (and_right _ _ h) (λ k. dash_all cs k),
-)
-
-cut_dashed : (left : ℕ) (right : Option ℕ) (ps : List Place) → AllByRecursion IsDashAt ps → AllByRecursion IsDashAt (cut_places left right ps)
-cut_dashed left None ps h = all_drop IsDashAt left ps h
-cut_dashed left (Some right) ps h = all_take IsDashAt (right - left) (drop left ps) (all_drop IsDashAt left ps h)
-
 -- the last of six conditions
 sixth : (a b c d e f : Bool) → (a && (b && (c && (d && (e && f))))) ≡ true → f ≡ true
 sixth a b c d e f h = and_right e f (and_right d (e && f) (and_right c (d && (e && f)) (and_right b (c && (d && (e && f))) (and_right a (b && (c && (d && (e && f)))) h))))
@@ -136,13 +80,12 @@ sixth a b c d e f h = and_right e f (and_right d (e && f) (and_right c (d && (e 
 rule_free : (l : Line) → is_head_rule (row_of l).places ≡ true → IsRowFree (dashed (row_of l))
 unfolding is_head_rule
 rule_free l rule left right =
-    let ps : List Place = map dash (places_of l.text) in
-    let t : List ℕ = characters (cut_places left right ps) in
+    let row = places_of l.text in
+    let t : List ℕ = characters (cut_places left right (map dash row)) in
     let k = trimmed t in
-    let row : List Place = places_of l.text in
     let parts : consists_of 61 43 row ≡ true =
     sixth (nat_le 4 (length row)) (mark_at row 0 == 43) (mark_at row 1 == 61) (mark_at row (length row - 2) == 61) (mark_at row (length row - 1) == 43) (consists_of 61 43 row) rule in
-    let all : AllByRecursion IsDash t = characters_dashed (cut_places left right ps) (cut_dashed left right ps (dash_all l.text parts)) in
+    let all = cut-keeps (AllByRecursion IsDash) (λ n cs h. all_take IsDash n cs h) (λ n cs h. all_drop IsDash n cs h) left right (map dash row) (dashed-characters row parts) in
     ap holds_code k.1 ∙ dashes_free (take k.0 t) (all_take IsDash k.0 t all)
 
 rule_at_free : (B : Block) (k : ℕ) → is_head_rule (row_at (rows_of B) k) ≡ true → IsRowFree (dashed (get_or (rows_of B) k no_row))
