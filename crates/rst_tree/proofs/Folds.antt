@@ -27,9 +27,7 @@ module _ {S : Type 0} (takes : S → Option ℕ → Node → S → Option ℕ �
   none_read : (level : Option ℕ) (c : Forest) (s : S) → are_plain c ≡ true → AreRead takes level c s s
   none_read level bare s plain = refl
   none_read level (words t bare) s plain = refl
-  none_read level (words t (words u r)) s plain = cc
-  none_read level (words t (element u a c l r)) s plain = cc
-  none_read level (element t a c l r) s plain = cc
+  none_read level _ s plain = cc
 
   -- the elements among those that are left are taken in
   abbrev pub LeftRead : List Left → S → S → Type 0
@@ -64,12 +62,7 @@ module _ {S : Type 0} (takes : S → Option ℕ → Node → S → Option ℕ �
 
     pub read_whole : (rest : List Node) (left : List Left) → length rest ≡ 0 → length left ≡ 0 → Reading level all old rest at left now → AreRead takes level all old now
     read_whole [] [] none last before = before now now refl refl
-    read_whole [] (one ∷ left) none last before = absurd (omega arith)
-    read_whole (n ∷ ns) left none last before = absurd (omega arith)
-
--- what is pushed, or popped
-pub weight_of : (left then : List Left) (one : Left) → left ≡ then ++ one ∷ [] → left_weight (reverse left) ≡ weight (forest_of one.nodes.now) + left_weight (reverse then)
-weight_of left then one is = rw (is, reverse-append then (one ∷ [])) refl
+    read_whole _ _ none last before = absurd (omega arith)
 
 -- an element's own, what is in it, and what is behind it, one added after the other
 pub three_added : {A : Type 0} (old own inside behind x y z : List A) → x ≡ old ++ own → y ≡ x ++ inside → z ≡ y ++ behind → z ≡ old ++ (own ++ (inside ++ behind))
