@@ -5,8 +5,8 @@ use Rattle.rst_text.specs.Shown.{block_of}
 use Rattle.rst_markup_blocks.specs.Conditions.{next_text}
 use Rattle.rst_markup_blocks.specs.Forms.{text_form}
 use Rattle.rst_markup_blocks.specs.declared.form.TextForm.{TextForm}
-use Rattle.rst_markup_blocks.specs.declared.form.TextForm.TheVariants.{Paragraph, ShortUnderline}
-use Rattle.rst_markup_blocks.proofs.EndLemmas.{size_definition, size_title, next_plain, paragraph_len_is, hanging_some, size_text, text_isnt_definition}
+use Rattle.rst_markup_blocks.specs.declared.form.TextForm.TheVariants.{Paragraph, ShortUnderline, Title}
+use Rattle.rst_markup_blocks.proofs.EndLemmas.{size_definition, size_by, next_plain, paragraph_len_is, hanging_some, size_text, text_isnt_definition}
 use Rattle.rst_markup_blocks.proofs.RowLaws.{two_lines}
 use Rattle.rst_markup_blocks.proofs.ends.text_end.Goals as goal
 
@@ -29,7 +29,7 @@ returns-in-Definition c =
 pub returns-in-Title : goal.returns-in-Title
 returns-in-Title c =
     let X : Block = drop c.args.i (block_of c.args.view.now) in
-    let size = size_title X c.in-Title.short (form X _ _ _ _ c.requires.text c.requires.next c.text_form.ensures c.in-Title.is) in
+    let size = size_by X (Title c.in-Title.short) (form X _ _ _ _ c.requires.text c.requires.next c.text_form.ensures c.in-Title.is) in
     search (arith, size, ap (λ n. reach n X) size)
 
 -- the same, for one of two forms
