@@ -1,15 +1,16 @@
 -- A Roman numeral is read digit by digit: each of the 5000 is read as its number, which is computed for all of them.
-use Rattle.std.proofs.Common.{◌≡◌, ⊎_elim, ℕ, zero, suc, ◌+◌, ◌-◌, ◌*◌, ◌<◌, ◌≤◌, Bool, true, false, ◌==◌, cond, List, [], ◌∷◌, ◌++◌, length, map, get_or, take, drop, Option, Some, None, refl, sym, ap, ap₂, ◌∙◌, arith}
+use Rattle.std.proofs.Common.{◌≡◌, ⊎_elim, inl, inr, ℕ, zero, suc, ◌+◌, ◌-◌, ◌*◌, ◌<◌, ◌≤◌, Bool, true, false, ◌==◌, cond, List, [], ◌∷◌, ◌++◌, length, get_or, take, drop, Option, Some, None, refl, sym, ap, ◌∙◌, arith}
 use Rattle.std.proofs.Math.Utf8.{encodes}
 use Rattle.std.specs.Prelude.{◌/◌, ◌%◌, unwrap_or}
 use Rattle.std.specs.Str.{bytes_eq, chars, IsUtf8}
-use Rattle.std.proofs.lemmas.Bool.{and_parts, eqb-true, eq-eqb}
-use Rattle.std.proofs.lemmas.List.{take-append-drop, append-nil}
-use Rattle.std.proofs.lemmas.List.Sums.{prefix_len-le-length}
+use Rattle.std.proofs.lemmas.Bool.{eqb-true}
+use Rattle.std.proofs.lemmas.List.{take-append-drop, append-nil, nil_from_length}
+use Rattle.std.specs.Cmp.Lexicographic.{bytes_decides}
 use Rattle.std.proofs.lemmas.Str.{encode_ascii, encodes-chars}
 use Rattle.rst_text.specs.Places.{all_from, IsFirst}
 use Rattle.rst_text.proofs.PlacesLemmas.{all_from-at, cases_bool, first_from-is}
 use Rattle.rst_markup_lines.proofs.Runs.{run_cons}
+use Rattle.rst_markup_lines.proofs.OptionLemmas.{run_le}
 use Rattle.rst_markup_lines.proofs.TextLemmas.{length-chars}
 use Rattle.rst_markup_lines.specs.Class.{is_in, run}
 use Rattle.rst_markup_lines.specs.Roman.{digits, digit_at, digit_to, letters_of, numeral_of, roman}
@@ -28,16 +29,7 @@ read_numeral case t =
     cond (length i.1 == 0) (Some (m.0 * 1000 + h.0 * 100 + x.0 * 10 + i.0)) None
 
 pub same_bytes : (a b : List ℕ) → bytes_eq a b ≡ true → a ≡ b
-same_bytes [] [] h = refl
-same_bytes [] (y ∷ ys) h = cc
-same_bytes (x ∷ xs) [] h = cc
-same_bytes (x ∷ xs) (y ∷ ys) h =
-    let parts = and_parts (x == y) (bytes_eq xs ys) h in
-    let first : x ≡ y = eqb-true x y parts.0 in rw (first, same_bytes xs ys parts.1) refl
-
-bytes_same : (a : List ℕ) → bytes_eq a a ≡ true
-bytes_same [] = refl
-bytes_same (x ∷ xs) = let same : (x == x) ≡ true = eq-eqb x x refl in rw (same, bytes_same xs) refl
+same_bytes a b h = (bytes_decides a b).0 h
 
 -- ---- what is read is written
 
@@ -45,21 +37,13 @@ bytes_same (x ∷ xs) = let same : (x == x) ≡ true = eq-eqb x x refl in rw (sa
 found : (ds : List (List ℕ)) (d : ℕ) (t : List ℕ) → (letters_of ds (digit_to ds d t).0 ++ (digit_to ds d t).1 ≡ t) × ((digit_to ds d t).0 ≤ d)
 unfolding digit_to
 found ds zero t = (refl, omega arith)
-found ds (suc d) t = by (bytes_eq (take (length letters) t) letters) refl (found ds d t)
-  where
-    letters : List ℕ
-    letters = letters_of ds (suc d)
-
-    by : (b : Bool) → bytes_eq (take (length letters) t) letters ≡ b → (letters_of ds (digit_to ds d t).0 ++ (digit_to ds d t).1 ≡ t) × ((digit_to ds d t).0 ≤ d)
-        → let r = cond b (suc d, drop (length letters) t) (digit_to ds d t) in (letters_of ds r.0 ++ r.1 ≡ t) × (r.0 ≤ suc d)
-    by true e rest = (ap (λ l. l ++ drop (length letters) t) (sym (same_bytes _ _ e)) ∙ take-append-drop (length letters) t, omega arith)
-    by false e rest = (rest.0, omega (arith, rest.1))
-
--- an item of a list that was gone over
-pub map_at : {A : Type 0} (f : A → List ℕ) (xs : List A) (k : ℕ) (x : A) → k < length xs → get_or (map f xs) k [] ≡ f (get_or xs k x)
-map_at f [] k x less = absurd (omega arith)
-map_at f (y ∷ ys) zero x less = refl
-map_at f (y ∷ ys) (suc k) x less = map_at f ys k x (omega arith)
+found ds (suc d) t =
+    let letters : List ℕ = letters_of ds (suc d) in
+    let rest = found ds d t in
+    elim (cases_bool (bytes_eq (take (length letters) t) letters)) [
+      | inl e ↦ rw e (ap (λ l. l ++ drop (length letters) t) (sym (same_bytes (take (length letters) t) letters e)) ∙ take-append-drop (length letters) t, omega arith)
+      | inr e ↦ rw e (rest.0, omega (arith, rest.1))
+    ]
 
 -- a digit whose letters stand first, or else one of those before it
 pub digit_step : (ds : List (List ℕ)) (d : ℕ) (t l : List ℕ) (b : Bool) → 0 < d → l ≡ get_or ds (d - 1) [] → bytes_eq (take (length l) t) l ≡ b
@@ -90,10 +74,6 @@ written case m h x i a b c d =
     let tens : v / 10 % 10 ≡ x = omega arith in
     let ones : v % 10 ≡ i = omega arith in rw (thousands, hundreds, tens, ones) refl
 
-nothing : (l : List ℕ) → length l ≡ 0 → l ≡ []
-nothing [] e = refl
-nothing (y ∷ ys) e = absurd (omega (arith, e))
-
 read_sound : (case : Case) (v : ℕ) (t : List ℕ) → read_numeral case t ≡ Some v → (v < 5000) × (numeral_of case v ≡ t)
 read_sound case v t e = by (length i.1 == 0) refl e
   where
@@ -118,7 +98,7 @@ read_sound case v t e = by (length i.1 == 0) refl e
         let d = found (digits case Ones) (length (digits case Ones)) x.1 in
         let most = few case in
         let value : v ≡ m.0 * 1000 + h.0 * 100 + x.0 * 10 + i.0 = cc in
-        let end : i.1 ≡ [] = nothing i.1 (eqb-true (length i.1) 0 none) in
+        let end : i.1 ≡ [] = nil_from_length i.1 (eqb-true (length i.1) 0 none) in
         let last : letters_of (digits case Ones) i.0 ≡ x.1 = sym (append-nil _) ∙ ap (λ l. letters_of (digits case Ones) i.0 ++ l) (sym end) ∙ d.0 in (
           omega (arith, value, a.1, b.1, c.1, d.1, most.0, most.1, most.2, most.3),
           ap (numeral_of case) value ∙ written case m.0 h.0 x.0 i.0 (omega (arith, a.1, most.0)) (omega (arith, b.1, most.1)) (omega (arith, c.1, most.2)) (omega (arith, d.1, most.3))
@@ -161,7 +141,7 @@ roman_is case t = sym (first_from-is test 0 5000 (read_numeral case t) (by (read
     by None e = λ k low below. no k below (λ read. let both : None ≡ Some k = sym e ∙ read in cc)
     by (Some v) e =
         let sound = read_sound case v t e in
-        let found : test v ≡ true = ap (λ l. bytes_eq l t) sound.1 ∙ bytes_same t in
+        let found : test v ≡ true = ap (λ l. bytes_eq l t) sound.1 ∙ (bytes_decides t t).1 refl in
         (omega arith, sound.0, found, λ k low below. no k (omega (arith, below, sound.0)) (λ read. let both : Some v ≡ Some k = sym e ∙ read in let same : v ≡ k = cc in absurd (omega (arith, below, same))))
 
 -- ---- letters are bytes
@@ -177,14 +157,10 @@ letters_first (c ∷ cs) =
     by true e rest = ap (λ l. take (suc (run Letter cs)) (l ++ encodes cs)) (encode_ascii c (grind arith)) ∙ ap (λ l. c ∷ l) rest
     by false e rest = refl
 
-run_le : (t : List ℕ) → run Letter t ≤ length t
-unfolding run
-run_le t = prefix_len-le-length (is_in Letter) t
-
 pub letters_in : (s : List ℕ) (n : ℕ) → IsUtf8 s → n ≡ run Letter (chars s) → (take n s ≡ take n (chars s)) × (n ≤ length s)
 letters_in s n u e = (
   ap (take n) (sym (encodes-chars s u)) ∙ ap (λ k. take k (encodes (chars s))) e ∙ letters_first (chars s) ∙ ap (λ k. take k (chars s)) (sym e),
-  omega (arith, e, run_le (chars s), length-chars s u),
+  omega (arith, e, run_le Letter (chars s), length-chars s u),
 )
 
 -- what is read of the letters of a text, by the digits that are found and what is behind each
