@@ -88,7 +88,7 @@ module _ {S : Type 0} (entered : S → Node → S) (becomes : S → Node → Rew
       let whole = rewritten-steps entered becomes start (nodes_of children) in
       let e = forest_of-nodes_of children in (
         sym (forest_of-nodes_of now) ∙ ap forest_of (sym (append-nil (nodes_of now)) ∙ (rw (take_all i (nodes_of now) all, drop_all i (nodes_of now) all) at left.nodes))
-        ∙ (rw e at (ap (λ (p : List Node × S). forest_of p.0) (sym whole))) ∙ forest_of-nodes_of (turned start children).0,
+            ∙ (rw e at (ap (λ (p : List Node × S). forest_of p.0) (sym whole))) ∙ forest_of-nodes_of (turned start children).0,
         (rw (drop_all i (nodes_of now) all) at left.done) ∙ (rw e at (ap (λ (p : List Node × S). p.1) (sym whole))),
       )
 
