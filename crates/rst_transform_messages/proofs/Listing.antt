@@ -1,9 +1,11 @@
 -- The list of messages, one message after another.
-use Rattle.std.proofs.Common.{◌≡◌, ℕ, List, [], ◌∷◌, ◌++◌, length, Bool, true, false, append_assoc, arith, refl, ap, sym, ◌∙◌}
+use Rattle.std.proofs.Common.{◌≡◌, ℕ, List, [], ◌∷◌, ◌++◌, length, Bool, true, false, append_assoc, arith, refl, ap, sym, ◌∙◌, ⊎_elim}
 use Rattle.std.specs.Prelude.{◌&&◌, ◌||◌, if◌then◌else◌, slice_get, Option, Some, None, Result}
 use Rattle.std.specs.List.{list_any}
+use Rattle.std.proofs.lemmas.Bool.{cases_Bool}
 use Rattle.std.proofs.lemmas.List.{append-nil, map-append}
 use Rattle.std.proofs.lemmas.List.Folds.{list_any-append}
+use mathlib.Core.Bool.{or-false, or_assoc}
 use Rattle.rst_settings.specs.declared.Threshold.{Threshold}
 use Rattle.rst_settings.specs.Threshold.{is_reached}
 use Rattle.rst_tree.specs.declared.attrs.Attr.{Attr}
@@ -29,48 +31,26 @@ use Rattle.rst_transform_messages.specs.MessagesIn.{message_said, messages_among
 -- whether a run halts follows from the messages up to the halt
 halts_until : (halt : Threshold) (notes : List Note) → has_halt halt (until_halt halt notes) ≡ has_halt halt notes
 halts_until halt [] = refl
-halts_until halt (note ∷ more) = by (halts halt note) (halts_until halt more)
-  where
-    by : (b : Bool) → has_halt halt (until_halt halt more) ≡ has_halt halt more → (b || has_halt halt (if b then [] else until_halt halt more)) ≡ (b || has_halt halt more)
-    by true same = refl
-    by false same = same
+halts_until halt (note ∷ more) = ⊎_elim (λ t. rw t refl) (λ f. rw f (halts_until halt more)) (cases_Bool (halts halt note))
 
 -- a message after a halt isn't in the list
 until_past : (halt : Threshold) (notes : List Note) (note : Note) → has_halt halt notes ≡ true → until_halt halt (notes ++ note ∷ []) ≡ until_halt halt notes
 until_past halt [] note halted = cc
-until_past halt (first ∷ more) note halted = by (halts halt first) (until_past halt more note) halted
-  where
-    by : (b : Bool) → (has_halt halt more ≡ true → until_halt halt (more ++ note ∷ []) ≡ until_halt halt more) → (b || has_halt halt more) ≡ true → first ∷ (if b then [] else until_halt halt (more ++ note ∷ [])) ≡ first ∷ (if b then [] else until_halt halt more)
-    by true same h = refl
-    by false same h = ap (λ notes. first ∷ notes) (same h)
-
-last_alone : (note : Note) (b : Bool) → note ∷ (if b then [] else []) ≡ note ∷ []
-last_alone note true = refl
-last_alone note false = refl
+until_past halt (first ∷ more) note halted =
+    ⊎_elim (λ t. rw t refl) (λ f. rw f (ap (λ notes. first ∷ notes) (until_past halt more note (rw f at halted)))) (cases_Bool (halts halt first))
 
 -- one before it is the last of the list
 until_more : (halt : Threshold) (notes : List Note) (note : Note) → has_halt halt notes ≡ false → until_halt halt (notes ++ note ∷ []) ≡ until_halt halt notes ++ note ∷ []
-until_more halt [] note runs = last_alone note (halts halt note)
-until_more halt (first ∷ more) note runs = by (halts halt first) (until_more halt more note) runs
-  where
-    by : (b : Bool) → (has_halt halt more ≡ false → until_halt halt (more ++ note ∷ []) ≡ until_halt halt more ++ note ∷ []) → (b || has_halt halt more) ≡ false → first ∷ (if b then [] else until_halt halt (more ++ note ∷ [])) ≡ first ∷ (if b then [] else until_halt halt more) ++ note ∷ []
-    by true same h = cc
-    by false same h = ap (λ notes. first ∷ notes) (same h)
-
-or_none : (b : Bool) → (b || false) ≡ b
-or_none true = refl
-or_none false = refl
-
-or_false : (a b : Bool) → (a || (b || false)) ≡ (a || b)
-or_false true b = refl
-or_false false true = refl
-or_false false false = refl
+until_more halt [] note runs = ⊎_elim (λ t. rw t refl) (λ f. rw f refl) (cases_Bool (halts halt note))
+until_more halt (first ∷ more) note runs = ⊎_elim
+    (λ t. let halted = rw t at runs in absurd (cc))
+    (λ f. rw f (ap (λ notes. first ∷ notes) (until_more halt more note (rw f at runs)))) (cases_Bool (halts halt first))
 
 -- the numbers that are shown with one message more
 shown_more : (report : Threshold) (all : List Numbered) (note : Note) (number : Option ℕ) (n : ℕ)
     → is_number_shown report (all ++ (note, number) ∷ []) n ≡ (is_number_shown report all n || (is_reached report (level_number note.level) && has_number n number))
 shown_more report all note number n =
-    list_any-append (is_shown_as report n) all ((note, number) ∷ []) ∙ or_false (list_any (is_shown_as report n) all) (is_reached report (level_number note.level) && has_number n number)
+    list_any-append (is_shown_as report n) all ((note, number) ∷ []) ∙ ap (λ b. list_any (is_shown_as report n) all || b) (or-false (is_reached report (level_number note.level) && has_number n number))
 
 -- the marks with those of one message more
 abbrev pub Marks : Messages → Messages → Note → Option ℕ → Type 0
@@ -129,21 +109,8 @@ past_text (Some within) t r = refl
 
 past_element : (level : Option ℕ) (t : Tag) (a : List Attr) (c : Forest) (l : ℕ) (r : Forest)
     → own_message level t a c l ++ (among (if is_message t then Some 0 else level) c ++ among level r) ≡ among level (element t a c l r)
-past_element None t a c l r = by (is_message t)
-  where
-    by : (b : Bool) → (if b then message_said a c l ∷ [] else []) ++ (among (if b then Some 0 else None) c ++ messages_among r) ≡ (if b then message_said a c l ∷ [] else messages_among c) ++ messages_among r
-    by true = refl
-    by false = refl
-past_element (Some within) t a c l r = by (is_message t)
-  where
-    by : (b : Bool) → among (if b then Some 0 else Some within) c ++ [] ≡ []
-    by true = refl
-    by false = refl
-
-four_or : (a b c d : Bool) → (((a || b) || c) || d) ≡ (a || (b || (c || d)))
-four_or true b c d = refl
-four_or false true c d = refl
-four_or false false c d = refl
+past_element None t a c l r = ⊎_elim (λ b. rw b refl) (λ b. rw b refl) (cases_Bool (is_message t))
+past_element (Some within) t a c l r = ⊎_elim (λ b. rw b refl) (λ b. rw b refl) (cases_Bool (is_message t))
 
 -- what was read of nodes
 pub record AreListed (level : Option ℕ) (f : Forest) (old new : Messages) : Type 0 where
@@ -152,7 +119,7 @@ pub record AreListed (level : Option ℕ) (f : Forest) (old new : Messages) : Ty
   pub early : new.early ≡ (old.early || list_any is_early (items f))
 
 pub messages_read : (level : Option ℕ) (f : Forest) (old new : Messages) → AreRead TakesMessage level f old new → AreListed level f old new
-messages_read level bare old new read = rw read (record { levels = (refl, refl); adds = none_more level old; early = sym (or_none old.early) })
+messages_read level bare old new read = rw read (record { levels = (refl, refl); adds = none_more level old; early = sym (or-false old.early) })
 messages_read level (words t r) old new read =
     let rest = messages_read level r old new read in
     record { levels = rest.levels; adds = rw (← past_text level t r) rest.adds; early = rest.early }
@@ -165,7 +132,7 @@ messages_read level (element t a c l r) old new read =
       levels = (behind.levels.0 ∙ inside.levels.0 ∙ read.3.0.0, behind.levels.1 ∙ inside.levels.1 ∙ read.3.0.1);
       adds = rw (← past_element level t a c l r) (Adds-more own (among (if is_message t then Some 0 else level) c ++ among level r) old read.0 new read.3.1
           (Adds-more (among (if is_message t then Some 0 else level) c) (among level r) read.0 read.2 new its behind.adds));
-      early = rw (behind.early, inside.early, read.3.2, list_any-append is_early (items c) (items r)) (four_or old.early (is_early (item t a l)) (list_any is_early (items c)) (list_any is_early (items r)));
+      early = rw (behind.early, inside.early, read.3.2, list_any-append is_early (items c) (items r)) (or_assoc (old.early || is_early (item t a l)) (list_any is_early (items c)) _ ∙ or_assoc old.early (is_early (item t a l)) _);
     }
 
 same_lists : (all : List Numbered) (old now : Messages) → now.notes ≡ old.notes → now.halt ≡ old.halt → now.report ≡ old.report → now.shown ≡ old.shown → Lists all old → Lists all now
