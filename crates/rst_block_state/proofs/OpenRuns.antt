@@ -52,8 +52,11 @@ early what B run items = at_once what items ++ map plain (ending_notes (alone_en
 
 abbrev pub is_list : Joining → Bool
 is_list (bullets c) = true
+is_list (enumerators f q last) = true
+is_list definitions = true
+is_list fields = true
+is_list options = true
 is_list _ = false
-is_list _ = true
 
 -- this joins a run that begins with a construct and ends at a place
 abbrev pub Fits : Construct → ℕ → Joining → Type 0
