@@ -38,14 +38,20 @@ IsFlat _ = ⊥
 -- it opens no block
 opens_none : (what : Construct) (c : Within) (B : Block) (i : ℕ) (X : Block) → IsFlat what → opened_by what c B i X ≡ []
 opens_none transition c B i X h = refl
+opens_none (overlined_title mark short) c B i X h = refl
+opens_none (misplaced_lines level text) c B i X h = refl
+opens_none (underlined_title infos short) c B i X h = refl
+opens_none (paragraph infos) c B i X h = refl
 opens_none _ c B i X h = absurd h
-opens_none _ c B i X h = refl
 
 -- it has no cells
 no_cells : (what : Construct) (B : Block) (i : ℕ) → IsFlat what → cells_by what B i ≡ []
 no_cells transition B i h = refl
+no_cells (overlined_title mark short) B i h = refl
+no_cells (misplaced_lines level text) B i h = refl
+no_cells (underlined_title infos short) B i h = refl
+no_cells (paragraph infos) B i h = refl
 no_cells _ B i h = absurd h
-no_cells _ B i h = refl
 
 -- it is no table
 own_row : (k : Kind) (titles : Bool) (X : Block) → IsFlat (construct_by k titles X) → row_reach k titles X ≡ reach (row_size k titles X) X
