@@ -60,6 +60,7 @@ content_free : (B : Block) (content : Content) → IsWithoutCode B → AreFree (
 content_free B content free = (part_free_in B content.first free, (part_free_in B content.second free, tt))
 
 directive_content_free : (given : Given) (name : Name) (B : Block) (content : Content) → IsWithoutCode B → AreFree (directive_content given name B content)
+directive_content_free no_argument Code B content free = tt
 directive_content_free no_argument name B content free = content_free B content free
 directive_content_free (title part) name B content free = content_free B content free
 directive_content_free (uri address) Figure B content free = content_free B content free

@@ -78,6 +78,7 @@ grid_trimmed B i = by (grid_fault (grid_bottom X) T)
     T = rows_of (take (grid_size X) X)
 
     by : (o : Option TableDetail) → AreTrimmed (cell_blocks (grid_by (first_number X) i T o))
+    by (Some detail) = tt
     by None = let G : Grid = with_dashes T (head_of T) in tiled_trimmed (first_number X) i (head_of T) G (tiling_of G)
 
 simple_trimmed : (B : Block) (i : ℕ) → AreTrimmed (cell_blocks (simple_table B i))
@@ -90,6 +91,7 @@ simple_trimmed B i = by (simple_fault X T)
     T = rows_of (take (simple_size X) X)
 
     by : (o : Option TableDetail) → AreTrimmed (cell_blocks (simple_by (first_number X) i (head_border X) T o))
+    by (Some detail) = tt
     by None =
         rows_trimmed (row_entries T)
         (λ r. let spans = row_spans T r in row_trimmed (entry (lines_of_row T r) spans) (λ k. block_trimmed (span_of spans k).from (right_of spans k) (lines_of_row T r)) (range_with_len 0 (length spans)))

@@ -152,6 +152,7 @@ module _ (all code later titles : Bool) (levels more : ℕ) (g h : Block → Num
 
   right_alike : (given : Given) (name : Name) (B : Block) (line : ℕ) (read : Read) (lines : List ℕ) (n : ℕ) → Inside (directive_content given name B read.content)
       → Alike all (right_by given name c B line read lines n) (right_by given name d B line read lines n)
+  right_alike no_argument Code B line read lines n i = alike all _
   right_alike no_argument name B line read lines n i = content_then B read.content _ n i
   right_alike (title part) name B line read lines n i =
       let rest : Node × List Node → List Node → Numbered (List Node) = λ made nodes. just (filled (titled_element read.name (directive_element read.name read.options line) made.0) (made.0 ∷ made.1 ++ nodes) ∷ []) in

@@ -164,6 +164,7 @@ pub more_within : (n m : ℕ) (Cs : List Block) → n ≤ m → AreWithin n Cs �
 more_within n m Cs h w = record { few = omega (arith, h, w.few); fronted = w.fronted }
 
 content_by : (n : ℕ) (B : Block) (given : Given) (name : Name) (content : Content) → AreWithin n (content_blocks B content) → AreWithin n (directive_content given name B content)
+content_by n B nothing Code content h = none_within n
 content_by n B nothing name content h = h
 content_by n B (title part) name content h = h
 content_by n B (uri address) Figure content h = h

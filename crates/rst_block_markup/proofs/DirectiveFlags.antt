@@ -57,11 +57,13 @@ unfolding permitted
 free_named None place n w h = by (is_substitution place) h
   where
     by : (b : Bool) → told (cond b (Err NotInSubstitution) (Err Unknown)) ≡ Ok n → IsFree n
+    by true h = let no : ⊥ = cc in absurd no
+    by false h = let no : ⊥ = cc in absurd no
 free_named (Some name) place n w h = by (is_substitution place && not (is_substitutable name)) h
   where
     by : (b : Bool) → told (cond b (Err NotInSubstitution) (Ok name)) ≡ Ok n → IsFree n
+    by true h = let no : ⊥ = cc in absurd no
     by false h = let e : name ≡ n = cc in subst IsFree e (free_of name w)
-    by _ h = let no : ⊥ = cc in absurd no
 
 read_free : (name : Result Name Fault) (B : Block) (at : ℕ) (block : Part) (r : Read) → ((n : Name) → name ≡ Ok n → IsFree n) → and_then (read_at B at block) name ≡ Ok r → IsFree r.name
 read_free (Err fault) B at block r w h = let no : ⊥ = cc in absurd no

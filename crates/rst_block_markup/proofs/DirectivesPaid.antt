@@ -71,6 +71,8 @@ language_short n (t ∷ ts) = by (is_among words 32)
     words = normalized_white (joined (t ∷ ts))
 
     by : (b : Bool) → MayBeShort n (cond b (Err many_arguments) (Ok (language words)))
+    by true = tt
+    by false = tt
 
 -- a title ends before the first option, within the run of lines that the block begins with
 run_title : (n : ℕ) (block : Part) (run : List Text) → length run ≤ n → MayBeShort n (title_of (take (before_field run) run) (part_of block 0 (before_field run)))
@@ -105,6 +107,7 @@ judged_short n place paragraph source (Err w) h = tt
 judged_short n place paragraph source (Ok read) h = by (content_fault read.name (is_empty read.content) place paragraph)
   where
     by : (fault : Option DirectiveFault) → AreOutcomeShort n (outcome_at source (unless (option_map fault_in fault) (Ok read)))
+    by (Some fault) = tt
     by None = h
 
 outcome_short : (n : ℕ) (c : Within) (B : Block) (i : ℕ) (call : Invocation) (place : Place) → length (lines_in B call.block) ≤ n → AreOutcomeShort n (called c B i call place)
@@ -116,7 +119,7 @@ outcome_short n c B i call place few = by (named (called_at c.code B i call) pla
 
     by : (r : Result Name Fault) → AreOutcomeShort n (outcome_at (lines_at i call.block) (and_then (judged place paragraph) (and_then (read_at B i call.block) r)))
     by (Ok name) = judged_short n place paragraph (lines_at i call.block) (read_block name (is_late i call.block) call.block (lines_in B call.block)) (block_short n name (is_late i call.block) call.block (lines_in B call.block) few)
-    by _ = tt
+    by (Err w) = tt
 
 -- a directive's title, and its content after the options, have no more lines than this
 abbrev pub AreFew : ℕ → Directive → Type 0

@@ -121,7 +121,7 @@ read-returns-clause-paid t c =
       | read-else-len-gt0-via-then-len-gt0+else-level-le-DEEPEST w ↦ inr (omega (arith, w.if-level-le-DEEPEST.false, c.requires.depth))
       | read-else-len-gt0-via-else-len-gt0 w ↦ inl (omega (arith, w.if-len-gt0.false, c.len.ensures, ap length c.whole-whole.ensures))
     ] in
-    flat_paid c.args.level.now.depth (block_of c.whole-whole.result) c.args.lines.now _ _ flat c.whole-whole.ensures c.in_ok-not_blank.ensures.most c.in_ok-not_blank.ensures.each
+    flat_paid c.args.level.now.depth (block_of c.whole-whole.result) c.args.lines.now _ _ flat c.whole-whole.ensures c.in_ok-not_blank.ensures.looked.1 c.in_ok-not_blank.ensures.each
 
 pub read-returns-then-level-le-DEEPEST-clause-lines : goal.read-returns-then-level-le-DEEPEST-clause-lines
 read-returns-then-level-le-DEEPEST-clause-lines t c =
