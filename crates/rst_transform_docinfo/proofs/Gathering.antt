@@ -21,13 +21,17 @@ use Rattle.rst_transform_work.specs.declared.report.Report.{Report}
 -- two nodes are the name and the body of a field
 pub two_parts : (a : List Attr) (xs : List Node) (l : ℕ) (name body : Node) → length xs ≡ 2 → body ≡ slice_index_or xs 1 body → name ≡ slice_index_or (remove xs 1) 0 name
     → field_of a xs l ≡ Some (field a name body l)
+two_parts a [] l name body two b n = absurd (omega arith)
+two_parts a (x ∷ []) l name body two b n = absurd (omega arith)
 two_parts a (x ∷ y ∷ []) l name body two b n = rw (n, b) refl
-two_parts a _ l name body two b n = absurd (omega arith)
+two_parts a (x ∷ y ∷ z ∷ zs) l name body two b n = absurd (omega arith)
 
 -- any other number of nodes is no field
 pub no_parts : (a : List Attr) (xs : List Node) (l : ℕ) → (length xs ≡ 2 → ⊥) → field_of a xs l ≡ None
+no_parts a [] l other = refl
+no_parts a (x ∷ []) l other = refl
 no_parts a (x ∷ y ∷ []) l other = absurd (other refl)
-no_parts a _ l other = refl
+no_parts a (x ∷ y ∷ z ∷ zs) l other = refl
 
 -- the only one of some nodes
 pub lone_one : (f : Forest) (xs : List Node) (n : Node) → f ≡ forest_of xs → length xs ≡ 1 → n ≡ slice_index_or xs 0 n → lone f ≡ Some n
@@ -37,8 +41,12 @@ lone_one f (Text t ∷ []) n e one at = rw (e, at) refl
 lone_one f (x ∷ y ∷ zs) n e one at = absurd (omega arith)
 
 pub lone_none : (f : Forest) (xs : List Node) → f ≡ forest_of xs → (length xs ≡ 1 → ⊥) → lone f ≡ None
+lone_none f [] e other = ap lone e
 lone_none f (x ∷ []) e other = absurd (other refl)
-lone_none f _ e other = ap lone e
+lone_none f (Element t a c l ∷ Element u b d m ∷ zs) e other = ap lone e
+lone_none f (Element t a c l ∷ Text u ∷ zs) e other = ap lone e
+lone_none f (Text t ∷ Element u b d m ∷ zs) e other = ap lone e
+lone_none f (Text t ∷ Text u ∷ zs) e other = ap lone e
 
 -- ---- the authors that a field names
 
