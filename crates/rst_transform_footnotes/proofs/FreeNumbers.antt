@@ -65,8 +65,10 @@ unsaid (Some mark) h = no_number mark h
 
 one_more : (b : Bool) (said : Option ℕ) (one : Held) (rest : List Held) (numbers : List ℕ) (count : ℕ) → (b ≡ true → said ≡ None) → length numbers + length rest ≤ count
     → length (cons_option said numbers) + length (if b then one ∷ rest else rest) ≤ suc count
+one_more true None one rest numbers count none h = omega (arith, h)
 one_more true (Some n) one rest numbers count none h = absurd (let e : Some n ≡ None = none refl in cc)
-one_more _ _ one rest numbers count _ h = omega (arith, h)
+one_more false None one rest numbers count none h = omega (arith, h)
+one_more false (Some n) one rest numbers count none h = omega (arith, h)
 
 numbers_apart : (linked : List Held) → length (numbers_in linked) + length (to_number linked) ≤ length linked
 numbers_apart [] = omega arith
