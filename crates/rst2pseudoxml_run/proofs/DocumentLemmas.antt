@@ -18,31 +18,12 @@ use Rattle.rst_block_sections.specs.Sections.{document_of, Item}
 use Rattle.rst_transform_work.specs.States.{node_tag, IsDocument}
 use Rattle.rst2pseudoxml_run.specs.Reading.{read_by, read_of, IsReadOf}
 
--- characters are no more without a mark
-unmarked_short : (cs : List ℕ) → length (without_mark cs) ≤ length cs
-unmarked_short [] = omega arith
-unmarked_short (c ∷ cs) = by (c == 0xFEFF)
-  where
-    by : (b : Bool) → length (cond b cs (c ∷ cs)) ≤ suc (length cs)
-    by true = omega arith
-    by false = omega arith
-
--- a text has no more characters than the bytes that spell it
-pub text_short : (bytes text : List ℕ) → text_of bytes ≡ Some text → length text ≤ length bytes
-text_short bytes text is = by (is_utf8 bytes) refl is
-  where
-    by : (b : Bool) → is_utf8 bytes ≡ b → cond b (Some (without_mark (chars bytes))) None ≡ Some text → length text ≤ length bytes
-    by true good e =
-        let same : without_mark (chars bytes) ≡ text = cc in
-        omega (arith, ap length same, unmarked_short (chars bytes), length-chars bytes (IsUtf8-from_is_utf8 bytes good))
-    by false good e = absurd cc
-
 -- what is read of a text without a line that is too long is the document of its lines, or the line at which blocks are nested too deeply
 pub read_short : (settings : Settings) (bytes text : List ℕ) (lines : Block) (read : Result (Node × ℕ) ℕ) → text_of bytes ≡ Some text → lines ≡ lines_of settings.tab text
-    → first_longer settings.limit (lines_of settings.tab text) ≡ None → document (profile_of settings) lines 0 ≡ read → IsReadOf (profile_of settings) settings (text_of bytes) read
+    → first_longer settings.limit lines ≡ None → document (profile_of settings) lines 0 ≡ read → IsReadOf (profile_of settings) settings (text_of bytes) read
 read_short settings bytes text lines read is made short found =
     subst (λ t. IsReadOf (profile_of settings) settings t read) (sym is)
-    (ap (λ long. read_by long (profile_of settings) (lines_of settings.tab text)) short ∙ ap (λ ls. document (profile_of settings) ls 0) (sym made) ∙ found)
+    (ap (read_of (profile_of settings)) (sym made) ∙ ap (λ long. read_by long (profile_of settings) lines) short ∙ found)
 
 -- the kind of what is read, if it is an element
 abbrev read_tag : Result (Node × ℕ) ℕ → Option Tag

@@ -55,10 +55,7 @@ module _ (profile : Profile) (settings : Settings) (source text : List ℕ) wher
       let front = handed input.before input.after text bytes e h in
       let all : 16777216 < length text = omega (arith, too_long profile settings source bytes ends.0, ap length front.1, length-append bytes front.0) in
       of_all text (Err TooLong) out err TooLong refl (long_result profile settings source text all) (refl, gains_nothing out.before out.after ends.1, gains_nothing err.before err.after ends.2)
-  shown input out err bytes Read e h own ends = absurd (cc)
-  shown input out err bytes NoMemory e h own ends = absurd (cc)
-  shown input out err bytes (WriteErr done) e h own ends = absurd (cc)
-  shown input out err bytes (WriteOut done) e h own ends = absurd (cc)
+  shown input out err bytes _ e h own ends = absurd (cc)
 
   alike : (result : Result Parts End) (out err also_out also_err : Stream) (end also : End) → Shows result out err end → Shows result also_out also_err also → EndAlike out err also_out also_err end also
   alike (Ok parts) out err also_out also_err end also f g =

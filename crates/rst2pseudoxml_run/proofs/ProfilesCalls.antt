@@ -30,7 +30,8 @@ use Rattle.rst_markup_blocks.specs.declared.part.Part.{Part}
 use Rattle.rst_markup_directives.specs.Characters.{Text}
 use Rattle.rst2pseudoxml_run.specs.CodeCalls.{begins_call, begins_colons, holds_code, IsWithoutCode}
 use Rattle.rst2pseudoxml_run.proofs.ProfilesCode.{and_right, both, directive_alike, or_left, or_right, IsCalledIn}
-use Rattle.rst2pseudoxml_run.proofs.ProfilesNeeds.{CallsAgree, CallsAgreeUnder}
+use Rattle.rst2pseudoxml_run.proofs.ProfilesNeeds.{CallsAgreeUnder}
+use Rattle.rst_block.proofs.InsideReads.{CallsAgree}
 
 -- nothing is no mark
 none_is : {A B : Type 0} (x : A) → None ≡ Some x → B
@@ -121,12 +122,10 @@ module _ (i : ℕ) (X : Block) where
   rows_called m cause (Some label) g s d h = label_called label.kind (place_of (m.cut + 1) label.len) (hanging_part i (m.cut + label.marker.cut) label.marker.bare X)
   rows_called m cause None (Some target) s d h = target_called m.cut target
   rows_called m cause None None (Some (NamedSubstitution len marker)) d h = substitution_called (m.cut + marker.cut) (place_of (m.cut + 1) len)
-  rows_called m cause None None (Some Unclosed) None h = tt
   rows_called m cause None None (Some Unclosed) (Some mark) h = called_after m.cut true mark h
-  rows_called m cause None None (Some Tight) None h = tt
   rows_called m cause None None (Some Tight) (Some mark) h = called_after m.cut true mark h
-  rows_called m cause None None None None h = tt
   rows_called m cause None None None (Some mark) h = called_after m.cut true mark h
+  rows_called m cause _ _ _ _ h = tt
 
   form_called : (m : Marker) → IsMarkupIn t (explicit_by (explicit_form (drop m.cut t)) i m X)
   unfolding explicit_form
@@ -158,16 +157,10 @@ front_free [] (suc i) free = refl
 front_free (l ∷ ls) zero free = free.0
 front_free (l ∷ ls) (suc i) free = front_free ls i free.1
 
-agree_by : (B : Block) (i : ℕ) (markup : Explicit) → holds_code (front_text (drop i B)) ≡ false → IsMarkupIn (front_text (drop i B)) markup → CallsAgree B i markup
+agree_by : (B : Block) (i : ℕ) (markup : Explicit) → holds_code (front_text (drop i B)) ≡ false → IsMarkupIn (front_text (drop i B)) markup → CallsAgree false true B i markup
 agree_by B i (Directive call) free called = λ place paragraph. directive_alike false true B i call place paragraph called free
 agree_by B i (Substitution name (Some call) end) free called = λ place paragraph. directive_alike false true B i call place paragraph called free
-agree_by B i (Substitution name None end) free called = tt
-agree_by B i (Footnote label body) free called = tt
-agree_by B i (Citation label body) free called = tt
-agree_by B i (Target name text) free called = tt
-agree_by B i (Anonymous text) free called = tt
-agree_by B i (Comment text cause) free called = tt
-agree_by B i EmptyComment free called = tt
+agree_by B i _ free called = tt
 
 -- explicit markup in a block without calls of program code calls the same directive with and without it
 pub calls_agree : CallsAgreeUnder IsWithoutCode

@@ -6,7 +6,6 @@ use Rattle.std.specs.Char.{is_whitespace}
 use Rattle.std.specs.List.{range_with_len, AllByRecursion}
 use Rattle.std.specs.Str.{drop_trailing_whitespace}
 use Rattle.std.proofs.lemmas.Bool.{eqb-true}
-use Rattle.std.proofs.lemmas.List.{take_all}
 use Rattle.rst_text.specs.Block.{Line, Block, shorten, first_number}
 use Rattle.rst_text.specs.Extent.{least_indent}
 use Rattle.rst_text.specs.Places.{first_from}
@@ -20,93 +19,13 @@ use Rattle.rst_markup_tables.specs.SimpleTable.{entry, lines_of_row, right_of, r
 use Rattle.rst_markup_tables.specs.Tiling.{grid_by, grid_table, tiling_of}
 use Rattle.rst_markup_tables.specs.declared.results.Cell.{Cell}
 use Rattle.rst_markup_tables.specs.declared.results.TableDetail.{TableDetail}
+use Rattle.rst_markup_tables.proofs.CellLemmas.{characters-places, cut-keeps}
+use Rattle.rst_markup_tables.proofs.Dashes.{IsDash, dashed-characters}
 use Rattle.rst2pseudoxml_run.specs.CodeCalls.{begins_code, holds_code, IsWithoutCode}
 use Rattle.rst2pseudoxml_run.proofs.ProfilesCode.{and_left, and_right, drop_free, part_free}
 use Rattle.rst2pseudoxml_run.proofs.ProfilesLists.{all_any, all_drop, all_flat, all_map, all_set, all_take}
 
--- ---- places
-
--- the members of the lists that a function takes
-abbrev Member : {A B : Type 0} → (List A → B) → Type 0
-Member {A} f = A
-
--- a place of a row, whose type the crate of tables keeps to itself
-abbrev Place : Type 0
-Place = Member characters
-
--- no character begins at a place
-abbrev IsSecond : Place → Type 0
-IsSecond p = (ps : List Place) → characters (p ∷ ps) ≡ characters ps
-
--- a list has a first member
-abbrev HasFirst : {A : Type 0} → List A → Type 0
-HasFirst [] = ⊥
-HasFirst (x ∷ xs) = Unit {0}
-
-abbrev first_member : {A : Type 0} (xs : List A) → HasFirst xs → A
-first_member [] h = absurd h
-first_member (x ∷ xs) h = x
-
--- the place where a character begins
-abbrev place_with : ℕ → Place
-place_with c = first_member (places_of (c ∷ [])) tt
-
 -- ---- parts of lines
-
--- a text is a part of another: some of its characters, one after another
-abbrev IsPartOf : List ℕ → List ℕ → Type 0
-IsPartOf part t = (from : ℕ) × (count : ℕ) × (part ≡ take count (drop from t))
-
--- all places of a text
-whole_by : (p : Place) (b : Bool) (c : ℕ) (cs : List ℕ) → IsSecond p → characters (places_of cs) ≡ cs → (c ∷ characters (cond b (p ∷ places_of cs) (places_of cs))) ≡ c ∷ cs
-whole_by p true c cs second h = ap (λ l. c ∷ l) (second (places_of cs) ∙ h)
-whole_by p false c cs second h = ap (λ l. c ∷ l) h
-
-whole : (t : List ℕ) → characters (places_of t) ≡ t
-whole [] = refl
-whole (c ∷ cs) = whole_by _ (is_double c) c cs (λ ps. refl) (whole cs)
-
--- the first places of a text
-abbrev Taken : ℕ → List ℕ → Type 0
-Taken n t = (m : ℕ) × (characters (take n (places_of t)) ≡ take m t)
-
-taken_by : (p : Place) (b : Bool) (k c : ℕ) (cs : List ℕ) → IsSecond p → ((j : ℕ) → Taken j cs) → (m : ℕ) × ((c ∷ characters (take k (cond b (p ∷ places_of cs) (places_of cs)))) ≡ take m (c ∷ cs))
-taken_by p false k c cs second h = let r = h k in (suc r.0, ap (λ l. c ∷ l) r.1)
-taken_by p true zero c cs second h = (1, refl)
-taken_by p true (suc k) c cs second h = let r = h k in (suc r.0, ap (λ l. c ∷ l) (second (take k (places_of cs)) ∙ r.1))
-
-taken : (t : List ℕ) (n : ℕ) → Taken n t
-taken t zero = (0, refl)
-taken [] (suc n) = (0, refl)
-taken (c ∷ cs) (suc n) = taken_by _ (is_double c) n c cs (λ ps. refl) (λ j. taken cs j)
-
--- the same after the second place of a character
-after_second : (p : Place) (n : ℕ) (t : List ℕ) → IsSecond p → (m : ℕ) × (characters (take n (p ∷ places_of t)) ≡ take m t)
-after_second p zero t second = (0, refl)
-after_second p (suc n) t second = let r = taken t n in (r.0, second (take n (places_of t)) ∙ r.1)
-
--- the places from one on: those of the rest of the text, maybe after the second place of a character
-abbrev IsRest : List Place → List ℕ → Type 0
-IsRest ps t = (ps ≡ places_of t) ⊎ ((p : Place) × IsSecond p × (ps ≡ p ∷ places_of t))
-
-abbrev Dropped : ℕ → List ℕ → Type 0
-Dropped n t = (m : ℕ) × IsRest (drop n (places_of t)) (drop m t)
-
-dropped_by : (p : Place) (b : Bool) (k c : ℕ) (cs : List ℕ) → IsSecond p → ((j : ℕ) → Dropped j cs) → (m : ℕ) × IsRest (drop k (cond b (p ∷ places_of cs) (places_of cs))) (drop m (c ∷ cs))
-dropped_by p false k c cs second h = let r = h k in (suc r.0, r.1)
-dropped_by p true zero c cs second h = (1, inr (p, second, refl))
-dropped_by p true (suc k) c cs second h = let r = h k in (suc r.0, r.1)
-
-dropped : (t : List ℕ) (n : ℕ) → Dropped n t
-dropped t zero = (0, inl refl)
-dropped [] (suc n) = (0, inl refl)
-dropped (c ∷ cs) (suc n) = dropped_by _ (is_double c) n c cs (λ ps. refl) (λ j. dropped cs j)
-
-take_twice : (n m : ℕ) (t : List ℕ) → (k : ℕ) × (take n (take m t) ≡ take k t)
-take_twice zero m t = (0, refl)
-take_twice (suc n) zero t = (0, refl)
-take_twice (suc n) (suc m) [] = (0, refl)
-take_twice (suc n) (suc m) (c ∷ cs) = let r = take_twice n m cs in (suc r.0, ap (λ l. c ∷ l) r.1)
 
 trimmed : (t : List ℕ) → (k : ℕ) × (drop_trailing_whitespace t ≡ take k t)
 trimmed [] = (0, refl)
@@ -115,27 +34,6 @@ trimmed (c ∷ cs) = let r = trimmed cs in by (is_whitespace c && length (drop_t
     by : (b : Bool) (k : ℕ) → drop_trailing_whitespace cs ≡ take k cs → (j : ℕ) × (cond b [] (c ∷ drop_trailing_whitespace cs) ≡ take j (c ∷ cs))
     by true k h = (0, refl)
     by false k h = (suc k, ap (λ l. c ∷ l) h)
-
--- the first of the rest
-rest_taken : (n : ℕ) (ps : List Place) (t : List ℕ) → IsRest ps t → (m : ℕ) × (characters (take n ps) ≡ take m t)
-rest_taken n ps t (inl e) = let r = taken t n in (r.0, ap (λ l. characters (take n l)) e ∙ r.1)
-rest_taken n ps t (inr (p, second, e)) = let r = after_second p n t second in (r.0, ap (λ l. characters (take n l)) e ∙ r.1)
-
-rest_whole : (ps : List Place) (t : List ℕ) → IsRest ps t → (m : ℕ) × (characters ps ≡ take m t)
-rest_whole ps t (inl e) = (length t, ap characters e ∙ whole t ∙ sym (take_all (length t) t (omega arith)))
-rest_whole ps t (inr (p, second, e)) = (length t, ap characters e ∙ second (places_of t) ∙ whole t ∙ sym (take_all (length t) t (omega arith)))
-
-cut_is_part : (left : ℕ) (right : Option ℕ) (t : List ℕ) → IsPartOf (characters (cut_places left right (places_of t))) t
-cut_is_part left None t = let d = dropped t left in let r = rest_whole (drop left (places_of t)) (drop d.0 t) d.1 in (d.0, r.0, r.1)
-cut_is_part left (Some right) t = let d = dropped t left in let r = rest_taken (right - left) (drop left (places_of t)) (drop d.0 t) d.1 in (d.0, r.0, r.1)
-
--- a line of a cell is a part of the line that it is cut from
-cell_is_part : (left : ℕ) (right : Option ℕ) (l : Line) → IsPartOf (cell_line left right (row_of l)).text l.text
-cell_is_part left right l =
-    let p = cut_is_part left right l.text in
-    let k = trimmed (characters (cut_places left right (places_of l.text))) in
-    let two = take_twice k.0 p.1 (drop p.0 l.text) in
-    (p.0, two.0, k.1 ∙ ap (take k.0) p.2 ∙ two.1)
 
 -- ---- rows
 
@@ -152,8 +50,9 @@ IsLineFree l = holds_code l.text ≡ false
 
 line_free : (l : Line) → IsLineFree l → IsRowFree (row_of l)
 line_free l free left right =
-    let p = cell_is_part left right l in
-    ap holds_code p.2 ∙ part_free p.0 p.1 l.text free
+    let cut = cut-keeps (λ t. holds_code t ≡ false) (λ n t h. part_free 0 n t h) drop_free left right (places_of l.text) (ap holds_code (characters-places l.text) ∙ free) in
+    let k = trimmed (characters (cut_places left right (places_of l.text))) in
+    ap holds_code k.1 ∙ part_free 0 k.0 _ cut
 
 rows_free : (B : Block) → IsWithoutCode B → AreRowsFree (rows_of B)
 rows_free B free = all_map IsLineFree IsRowFree row_of line_free B free
@@ -165,13 +64,6 @@ cell_free left right G free =
 
 -- ---- the rule between head and body
 
--- `-` or `+`
-abbrev IsDash : ℕ → Type 0
-IsDash c = (c ≡ 45) ⊎ (c ≡ 43)
-
-abbrev IsDashAt : Place → Type 0
-IsDashAt p = (ps : List Place) → AllByRecursion IsDash (characters ps) → AllByRecursion IsDash (characters (p ∷ ps))
-
 not_code : (c : ℕ) (cs : List ℕ) → IsDash c → begins_code (c ∷ cs) ≡ false
 unfolding begins_code
 not_code c cs (inl is) = subst (λ d. begins_code (d ∷ cs) ≡ false) (sym is) refl
@@ -181,33 +73,6 @@ dashes_free : (t : List ℕ) → AllByRecursion IsDash t → holds_code t ≡ fa
 dashes_free [] h = refl
 dashes_free (c ∷ cs) h = ap (λ b. b || holds_code cs) (not_code c cs h.0) ∙ dashes_free cs h.1
 
-characters_dashed : (ps : List Place) → AllByRecursion IsDashAt ps → AllByRecursion IsDash (characters ps)
-characters_dashed [] h = tt
-characters_dashed (p ∷ ps) h = h.0 ps (characters_dashed ps h.1)
-
-dash_by : (p q : Place) (b : Bool) → IsDashAt p → (b ≡ false → IsDashAt q) → IsDashAt (cond b p q)
-dash_by p q true h k = h
-dash_by p q false h k = k refl
-
-other_of : (a b : Bool) → (a || b) ≡ true → a ≡ false → b ≡ true
-other_of true b h k = absurd (true≢false k)
-other_of false b h k = h
-
-rest_dashed : (p : Place) (b : Bool) (ps : List Place) → (mark_of p == 61 || mark_of p == 43) ≡ false → consists_of 61 43 (cond b (p ∷ ps) ps) ≡ true → (consists_of 61 43 ps ≡ true → AllByRecursion IsDashAt (map dash ps)) → AllByRecursion IsDashAt (map dash (cond b (p ∷ ps) ps))
-rest_dashed p true ps none h k = absurd (true≢false (sym (and_left _ _ h) ∙ none))
-rest_dashed p false ps none h k = k h
-
-dash_all : (t : List ℕ) → consists_of 61 43 (places_of t) ≡ true → AllByRecursion IsDashAt (map dash (places_of t))
-dash_all [] h = tt
-dash_all (c ∷ cs) h = (
-  dash_by (place_with 45) (place_with c) (c == 61) (λ ps k. (inl refl, k)) (λ e ps k. (inr (eqb-true c 43 (other_of (c == 61) (c == 43) (and_left _ _ h) e)), k)),
-  rest_dashed _ (is_double c) (places_of cs) refl (and_right _ _ h) (λ k. dash_all cs k),
-)
-
-cut_dashed : (left : ℕ) (right : Option ℕ) (ps : List Place) → AllByRecursion IsDashAt ps → AllByRecursion IsDashAt (cut_places left right ps)
-cut_dashed left None ps h = all_drop IsDashAt left ps h
-cut_dashed left (Some right) ps h = all_take IsDashAt (right - left) (drop left ps) (all_drop IsDashAt left ps h)
-
 -- the last of six conditions
 sixth : (a b c d e f : Bool) → (a && (b && (c && (d && (e && f))))) ≡ true → f ≡ true
 sixth a b c d e f h = and_right e f (and_right d (e && f) (and_right c (d && (e && f)) (and_right b (c && (d && (e && f))) (and_right a (b && (c && (d && (e && f)))) h))))
@@ -215,13 +80,12 @@ sixth a b c d e f h = and_right e f (and_right d (e && f) (and_right c (d && (e 
 rule_free : (l : Line) → is_head_rule (row_of l).places ≡ true → IsRowFree (dashed (row_of l))
 unfolding is_head_rule
 rule_free l rule left right =
-    let ps : List Place = map dash (places_of l.text) in
-    let t : List ℕ = characters (cut_places left right ps) in
+    let row = places_of l.text in
+    let t : List ℕ = characters (cut_places left right (map dash row)) in
     let k = trimmed t in
-    let row : List Place = places_of l.text in
     let parts : consists_of 61 43 row ≡ true =
     sixth (nat_le 4 (length row)) (mark_at row 0 == 43) (mark_at row 1 == 61) (mark_at row (length row - 2) == 61) (mark_at row (length row - 1) == 43) (consists_of 61 43 row) rule in
-    let all : AllByRecursion IsDash t = characters_dashed (cut_places left right ps) (cut_dashed left right ps (dash_all l.text parts)) in
+    let all = cut-keeps (AllByRecursion IsDash) (λ n cs h. all_take IsDash n cs h) (λ n cs h. all_drop IsDash n cs h) left right (map dash row) (dashed-characters row parts) in
     ap holds_code k.1 ∙ dashes_free (take k.0 t) (all_take IsDash k.0 t all)
 
 rule_at_free : (B : Block) (k : ℕ) → is_head_rule (row_at (rows_of B) k) ≡ true → IsRowFree (dashed (get_or (rows_of B) k no_row))

@@ -64,8 +64,7 @@ directive_content_free no_argument Code B content free = tt
 directive_content_free no_argument name B content free = content_free B content free
 directive_content_free (title part) name B content free = content_free B content free
 directive_content_free (uri address) Figure B content free = content_free B content free
-directive_content_free (uri address) name B content free = tt
-directive_content_free (language word) name B content free = tt
+directive_content_free _ _ B content free = tt
 
 directive_free : (o : Outcome) (B : Block) → IsWithoutCode B → AreFree (directive_blocks o B)
 directive_free (found read) B free = directive_content_free read.argument read.name B read.content free
@@ -82,13 +81,9 @@ definition_free (wrong fault part) B free = tt
 markup_free : (markup : Explicit) (c : Within) (B : Block) (i : ℕ) → IsWithoutCode B → AreFree (markup_blocks markup c B i)
 markup_free (Footnote label body) c B i free = (part_free_in B body free, tt)
 markup_free (Citation label body) c B i free = (part_free_in B body free, tt)
-markup_free (Substitution name None end) c B i free = tt
 markup_free (Substitution name (Some call) end) c B i free = definition_free (called c B i call InDefinition) B free
 markup_free (Directive call) c B i free = directive_free (called c B i call (cond c.titles Top Body)) B free
-markup_free (Target name text) c B i free = tt
-markup_free (Anonymous text) c B i free = tt
-markup_free (Comment text cause) c B i free = tt
-markup_free EmptyComment c B i free = tt
+markup_free _ c B i free = tt
 
 -- ---- constructs
 

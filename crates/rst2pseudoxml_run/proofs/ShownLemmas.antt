@@ -49,22 +49,14 @@ module _ (profile : Profile) (settings : Settings) (source bytes : List ℕ) whe
       (read, short_result short ∙ ap (result_of_text profile settings source bytes) refuses.0 ∙ ap (λ n. Err (NotUtf8 n)) (sym refuses.1), no_out, no_err)
   refused input out err (TooDeep line) read short refuses no_out no_err = (read, short_result short ∙ read_result (text_of bytes) (Err line) refuses, no_out, no_err)
   refused input out err NoMemory read short refuses no_out no_err = (no_out, no_err)
-  refused input out err Read read short refuses no_out no_err = absurd refuses
-  refused input out err TooLong read short refuses no_out no_err = absurd refuses
-  refused input out err (Done status) read short refuses no_out no_err = absurd refuses
-  refused input out err (WriteErr done) read short refuses no_out no_err = absurd refuses
-  refused input out err (WriteOut done) read short refuses no_out no_err = absurd refuses
+  refused input out err _ read short refuses no_out no_err = absurd refuses
 
   -- the end of a run whose bytes weren't all read
   unread : (input out err : Stream) (end : End) → IsUnread input bytes end → Untouched out → Untouched err → Ends Given input out err end
   unread input out err TooLong long no_out no_err = (long_result long, no_out, no_err)
   unread input out err Read failed no_out no_err = (failed, no_out, no_err)
   unread input out err NoMemory ground no_out no_err = (no_out, no_err)
-  unread input out err (NotUtf8 at) ground no_out no_err = absurd ground
-  unread input out err (TooDeep line) ground no_out no_err = absurd ground
-  unread input out err (Done status) ground no_out no_err = absurd ground
-  unread input out err (WriteErr done) ground no_out no_err = absurd ground
-  unread input out err (WriteOut done) ground no_out no_err = absurd ground
+  unread input out err _ ground no_out no_err = absurd ground
 
 -- the end of a run over bytes whose result is some parts
 ends_shown : (result : Result Parts End) (parts : Parts) (input out err : Stream) (end : End)
@@ -73,10 +65,7 @@ ends_shown result parts input out err (Done status) read is shows = (read, parts
 ends_shown result parts input out err (WriteErr done) read is shows = (read, parts, is, shows)
 ends_shown result parts input out err (WriteOut done) read is shows = (read, parts, is, shows)
 ends_shown result parts input out err NoMemory read is shows = shows
-ends_shown result parts input out err Read read is shows = absurd shows
-ends_shown result parts input out err TooLong read is shows = absurd shows
-ends_shown result parts input out err (NotUtf8 at) read is shows = absurd shows
-ends_shown result parts input out err (TooDeep line) read is shows = absurd shows
+ends_shown result parts input out err _ read is shows = absurd shows
 
 module _ (profile : Profile) (settings : Settings) (source : List ℕ) (input out err : Stream) where
   -- a run over bytes of which a document was made

@@ -2,6 +2,7 @@
 use Rattle.std.proofs.Common.{◌≡◌, ℕ, ◌+◌, List, ◌++◌, ◌∷◌, [], length, take, drop, None, Some, Option, sym, ap, ◌∙◌, subst, append_assoc, arith, ◌<◌, ◌≤◌, suc, length-append, get_or, Bor, take-append-drop, map, refl, add-zero, zero-add, add_assoc, length-drop, append-nil}
 use Rattle.rst_text.specs.Counted.{Stream, IsCutShort, Written, inner_of}
 use Rattle.rst_text.specs.declared.counted.Counted.{Counted}
+use Rattle.rst_tree.proofs.Sending.{Appends-append}
 use Rattle.rst2pseudoxml_run.specs.Headline.{IsSent}
 use Rattle.rst_text.specs.Counted.Written.{all, empty, some, last}
 use Rattle.std.specs.List.{flat_map, concat}
@@ -21,12 +22,6 @@ Consumes-more (Some x) None c bs cs p q = absurd p
 Consumes-more (Some x) (Some y) None bs cs p q = absurd q
 Consumes-more (Some x) (Some y) (Some z) bs cs p q = p ∙ ap (λ l. bs ++ l) q ∙ sym (append_assoc bs cs z)
 
-pub Appends-both : (a b c : Option (List ℕ)) (bs cs : List ℕ) → Appends a b bs → Appends b c cs → Appends a c (bs ++ cs)
-Appends-both None b c bs cs p q = tt
-Appends-both (Some x) None c bs cs p q = absurd p
-Appends-both (Some x) (Some y) None bs cs p q = absurd q
-Appends-both (Some x) (Some y) (Some z) bs cs p q = q ∙ ap (λ l. l ++ cs) p ∙ append_assoc x bs cs
-
 -- the pieces before one, that piece, and those after it
 pieces-at : (pieces : List (Bor (List ℕ))) (i : ℕ) (d : Bor (List ℕ)) → i < length pieces
     → flat_map (λ (piece : Bor (List ℕ)). piece.now) pieces ≡ flat_map (λ (piece : Bor (List ℕ)). piece.now) (take i pieces) ++ ((get_or pieces i d).now ++ flat_map (λ (piece : Bor (List ℕ)). piece.now) (drop (suc i) pieces))
@@ -44,7 +39,7 @@ sent_part a s pieces i done d text within same before now =
     let short : done ≤ length text = omega (arith, now.0) in
     let cut : take (length front + done) (flat_map (λ (p : Bor (List ℕ)). p.now) pieces) ≡ front ++ take done text =
     ap (take (length front + done)) (pieces-at pieces i d within ∙ ap (λ l. front ++ (l ++ rest)) (sym same)) ∙ take-append-add front (text ++ rest) done ∙ ap (λ l. front ++ l) (take-append-le done text rest short) in
-    subst (Appends a s.after) (sym cut) (Appends-both a s.before s.after front (take done text) before now.1)
+    subst (Appends a s.after) (sym cut) (Appends-append a s.before s.after front (take done text) before now.1)
 
 -- every piece was written
 pub sent_whole : (a c : Option (List ℕ)) (pieces : List (Bor (List ℕ))) (i : ℕ) → length pieces ≤ i

@@ -5,12 +5,11 @@ ghost use Rattle.rst_tree.specs.Faults.{Gives};
 ghost use Rattle.rst2pseudoxml_run.specs.Reading as spec;
 
 use crate::end::End;
-use crate::line_limit::first_longer;
 use itoa::Buffer;
 use rst_block::{BlockFault, Parsed, parse};
 use rst_block_nodes::message;
 use rst_settings::Settings;
-use rst_text::{Lines, TextFault, text_in};
+use rst_text::{LineFault, Lines, TextFault, text_in};
 use rst_transform::{Finished, finish};
 use rst_tree::{Attrs, Children, Level, Node, Tag, TreeFault};
 use std::alloc::{AllocError, Global};
@@ -37,15 +36,15 @@ fn parsed_of(alloc: Global, settings: &Settings, bytes: Vec<u8>) -> Result<Parse
         Err(TextFault::NotUtf8 { at }) => return Err(End::NotUtf8 { at }),
         Err(TextFault::NoMemory) => return Err(End::NoMemory),
     };
-    if let Some(line) = first_longer(text, settings.tab, settings.limit) {
-        return match long_line(alloc, line) {
-            Ok(parsed) => Ok(parsed),
-            Err(_) => Err(End::NoMemory),
-        };
-    }
-    let lines = match Lines::of(alloc, text, settings.tab) {
+    let lines = match Lines::within(alloc, text, settings.tab, settings.limit) {
         Ok(lines) => lines,
-        Err(_) => return Err(End::NoMemory),
+        Err(LineFault::TooLong { line }) => {
+            return match long_line(alloc, line) {
+                Ok(parsed) => Ok(parsed),
+                Err(_) => Err(End::NoMemory),
+            };
+        }
+        Err(LineFault::NoMemory) => return Err(End::NoMemory),
     };
     // Each form of the input is given up before the next is made, so that memory holds few at once.
     drop(bytes);

@@ -6,7 +6,6 @@ mod end;
 mod error_text;
 mod input;
 pub mod laws;
-mod line_limit;
 mod reporting;
 pub mod rows;
 mod running;

@@ -1,6 +1,5 @@
 //! The line by which a fault is reported.
-ghost use Rattle.std.specs.Prelude.{◌≡◌, ◌++◌, decimal};
-ghost use Rattle.std.specs.List.{flat_map};
+ghost use Rattle.std.specs.Prelude.{◌≡◌, ◌++◌, decimal, flat_map};
 ghost use Rattle.rst2pseudoxml_run.specs.Headline.{IsSent};
 ghost use Rattle.rst2pseudoxml_run.specs.Report.{line_of, status_of, option_message, fault_line};
 

@@ -1,6 +1,7 @@
--- What a construct gives depends on no other block than those that it opens and its cells.
-use Rattle.std.proofs.Common.{◌≡◌, ℕ, zero, suc, ◌+◌, cond, List, [], ◌∷◌, ◌++◌, map, take, drop, length, Option, None, Some, refl, ap, ◌∙◌, subst}
+-- A construct gives the same where the blocks that it opens and its cells do, and where its directives mean the same.
+use Rattle.std.proofs.Common.{◌≡◌, ℕ, zero, suc, ◌+◌, cond, Bool, true, false, List, [], ◌∷◌, ◌++◌, map, take, drop, length, Option, None, Some, Result, Ok, Err, refl, sym, ap, ◌∙◌, subst}
 use Rattle.std.specs.Prelude.{flat_map, slice_range}
+use Rattle.std.specs.List.{AllByRecursion}
 use Rattle.rst_text.specs.Block.{Block, front_text, first_number}
 use Rattle.rst_tree.specs.declared.node.Node.{Node}
 use Rattle.rst_tree.specs.declared.tag.Tag.{Tag}
@@ -11,10 +12,12 @@ use Rattle.rst_markup_blocks.specs.Partition.{Span}
 use Rattle.rst_markup_blocks.specs.declared.attribution.Attribution.{Attribution}
 use Rattle.rst_markup_blocks.specs.declared.forms.Explicit.{Explicit}
 use Rattle.rst_markup_blocks.specs.declared.forms.Explicit.TheVariants.{Footnote, Citation, Target, Anonymous, Substitution, Directive, Comment, EmptyComment}
+use Rattle.rst_markup_blocks.specs.declared.forms.Invocation.{Invocation}
 use Rattle.rst_markup_blocks.specs.declared.part.Part.{Part}
 use Rattle.rst_markup_directives.specs.Argument.{Given, nothing as no_argument, title, uri, language}
-use Rattle.rst_markup_directives.specs.Directive.{Read, Outcome, found, wrong}
+use Rattle.rst_markup_directives.specs.Directive.{Read, Outcome, directive_at, found, wrong}
 use Rattle.rst_markup_directives.specs.declared.found.Content.{Content}
+use Rattle.rst_markup_directives.specs.declared.found.Place.{Place}
 use Rattle.rst_markup_directives.specs.declared.found.Place.TheVariants.{Top, Body, Substitution as InDefinition}
 use Rattle.rst_markup_directives.specs.declared.name.Name.{Name}
 use Rattle.rst_markup_directives.specs.declared.name.Name.TheVariants.{Figure, Code}
@@ -23,172 +26,223 @@ use Rattle.rst_markup_tables.specs.Tiling.{grid_table}
 use Rattle.rst_markup_tables.specs.declared.results.Cell.{Cell}
 use Rattle.rst_markup_tables.specs.declared.results.TableResult.{TableResult}
 use Rattle.rst_markup_tables.specs.declared.results.TableResult.TheVariants.{Table, Malformed}
-use Rattle.rst_block_state.specs.Constructs.{ItemMark, bullet_item, enumerated_item, definition_item, field_item, option_item, Construct, nothing, block_quote, item_of_list, doctest_block, bar_line, grid, simple, explicit_markup, transition, overlined_title, misplaced_lines, underlined_title, paragraph, Found}
 use Rattle.rst_block_nodes.specs.Options.{directive_element}
 use Rattle.rst_block_sections.specs.Sections.{filled}
+use Rattle.rst_block_state.specs.Constructs.{ItemMark, bullet_item, enumerated_item, definition_item, field_item, option_item, Construct, nothing, block_quote, item_of_list, doctest_block, bar_line, grid, simple, explicit_markup, transition, overlined_title, misplaced_lines, underlined_title, paragraph, Found}
 use Rattle.rst_block_state.specs.Directives.{content_nodes, called, titled_element, right_by, directive_by, definition_by, holding}
 use Rattle.rst_block_state.specs.Inside.{quoted_by, quoted, part_of_item, content_blocks, directive_content, directive_blocks, definition_content, definition_blocks, markup_blocks, opened_by, opened_of, cell_blocks, cells_by, cells_with}
-use Rattle.rst_block.specs.InsideLaws.{AgreeOn, reading}
 use Rattle.rst_block_state.specs.LineRuns.{number_or}
 use Rattle.rst_block_state.specs.Lists.{item_by, item_with}
 use Rattle.rst_block_state.specs.Markup.{markup_by}
 use Rattle.rst_block_state.specs.Nodes.{piece_by, piece_of, plainly}
 use Rattle.rst_block_state.specs.Numbered.{Numbered, then_read, ◌>>=◌, just, each}
+use Rattle.rst_block_state.specs.Paragraphs.{is_single_paragraph}
 use Rattle.rst_block_state.specs.Quotes.{first_attribution, quote_after, quote_node, quotes_by, quotes}
 use Rattle.rst_block_state.specs.Tables.{entry_of, row_of, table_nodes}
 use Rattle.rst_block_state.specs.Texts.{joined, lines_in, texted, termed}
 use Rattle.rst_block_state.specs.Within.{Within, hanging, indented_part}
+use Rattle.rst_block.specs.InsideLaws.{InsideIsRead}
 use Rattle.rst_block_state.proofs.NumberedLemmas.{same_after}
 
-module _ (c : Within) (g : Block → Numbered (List Node)) where
-  abbrev d : Within
-  d = reading c g
+-- What is read twice is the same. Or, if refusals don't count, what was read is read again, and of what was refused nothing is said.
+abbrev pub Alike : {A : Type 0} → Bool → Result (A × ℕ) ℕ → Result (A × ℕ) ℕ → Type 0
+Alike true r s = r ≡ s
+Alike false (Ok x) s = s ≡ Ok x
+Alike false (Err line) s = Unit {0}
 
-  abbrev Agree : List Block → Type 0
-  Agree Cs = AgreeOn c.inner g Cs
+pub alike : {A : Type 0} (all : Bool) (r : Result (A × ℕ) ℕ) → Alike all r r
+alike true r = refl
+alike false (Ok x) = refl
+alike false (Err line) = tt
+
+-- what follows is read alike, so all is
+pub then_alike : {A C : Type 0} (all : Bool) (r s : Result (A × ℕ) ℕ) (f g : A → Numbered C) → Alike all r s → ((a : A) (n : ℕ) → Alike all (f a n) (g a n)) → Alike all (then_read f r) (then_read g s)
+then_alike true r s f g e h = same_after r f g h ∙ ap (then_read g) e
+then_alike false (Ok (a, n)) s f g e h = subst (λ t. Alike false (f a n) (then_read g t)) (sym e) (h a n)
+then_alike false (Err line) s f g e h = tt
+
+pub same_alike : {A C : Type 0} (all : Bool) (r s : Result (A × ℕ) ℕ) (f : A → Numbered C) → Alike all r s → Alike all (then_read f r) (then_read f s)
+same_alike all r s f e = then_alike all r s f f e (λ a n. alike all (f a n))
+
+after_alike : {A C : Type 0} (all : Bool) (r : Result (A × ℕ) ℕ) (f g : A → Numbered C) → ((a : A) (n : ℕ) → Alike all (f a n) (g a n)) → Alike all (then_read f r) (then_read g r)
+after_alike all r f g h = then_alike all r r f g (alike all r) h
+
+-- each of some blocks is read alike
+abbrev pub ReadAlike : Bool → (Block → Numbered (List Node)) → (Block → Numbered (List Node)) → List Block → Type 0
+ReadAlike all g h Cs = AllByRecursion (λ C. (n : ℕ) → Alike all (g C n) (h C n)) Cs
+
+-- a directive means the same, whether or not `code` is one
+abbrev pub AgreesAt : Bool → Bool → Block → ℕ → Invocation → Type 0
+AgreesAt code later B i call = (place : Place) (paragraph : Bool) → directive_at code B i call place paragraph ≡ directive_at later B i call place paragraph
+
+-- so does the directive that explicit markup in line i calls, if it calls one
+abbrev pub CallsAgree : Bool → Bool → Block → ℕ → Explicit → Type 0
+CallsAgree code later B i (Directive call) = AgreesAt code later B i call
+CallsAgree code later B i (Substitution name (Some call) end) = AgreesAt code later B i call
+CallsAgree code later B i _ = Unit {0}
+
+same_calls : (code : Bool) (B : Block) (i : ℕ) (x : Explicit) → CallsAgree code code B i x
+same_calls code B i (Directive call) = λ place paragraph. refl
+same_calls code B i (Substitution name (Some call) end) = λ place paragraph. refl
+same_calls code B i _ = tt
+
+module _ (all code later titles : Bool) (levels more : ℕ) (g h : Block → Numbered (List Node)) where
+  abbrev c : Within
+  c = record { titles = titles; code = code; levels = levels; inner = g }
+
+  abbrev d : Within
+  d = record { titles = titles; code = later; levels = more; inner = h }
+
+  abbrev Inside : List Block → Type 0
+  Inside Cs = ReadAlike all g h Cs
 
   -- ---- block quotes
 
-  quotes_agree : (m : ℕ) (Q : Block) (n : ℕ) → Agree (quoted m Q) → quotes c m Q n ≡ quotes d m Q n
-  quotes_agree zero Q n h = refl
-  quotes_agree (suc m) [] n h = refl
-  quotes_agree (suc m) (l ∷ ls) n h = by (first_attribution (l ∷ ls)) h (λ a. quotes_agree m (quote_after (l ∷ ls) a))
+  quotes_alike : (m : ℕ) (Q : Block) (n : ℕ) → Inside (quoted m Q) → Alike all (quotes c m Q n) (quotes d m Q n)
+  quotes_alike zero Q n i = alike all _
+  quotes_alike (suc m) [] n i = alike all _
+  quotes_alike (suc m) (l ∷ ls) n i = by (first_attribution (l ∷ ls)) i (λ a. quotes_alike m (quote_after (l ∷ ls) a))
     where
       Q : Block
       Q = l ∷ ls
 
-      by : (o : Option (ℕ × Attribution)) → Agree (quoted_by (quoted m) Q o) → ((a : Attribution) (i : ℕ) → Agree (quoted m (quote_after Q a)) → quotes c m (quote_after Q a) i ≡ quotes d m (quote_after Q a) i)
-          → quotes_by c (quotes c m) Q o n ≡ quotes_by d (quotes d m) Q o n
-      by None h others = ap (then_read (λ nodes. just (quote_node Q nodes ∷ []))) (h.0 n)
-      by (Some (k, a)) h others =
-          same_after (texted AttributionTag (first_number (drop k Q)) (joined (lines_in Q (attribution_part k a))) (first_number (drop k Q)) n)
-          (λ (made : Node × List Node). c.inner (take k Q) >>= λ nodes. quotes c m (quote_after Q a) >>= λ more. just (quote_node Q (nodes ++ made.0 ∷ []) ∷ made.1 ++ more))
-          (λ (made : Node × List Node). g (take k Q) >>= λ nodes. quotes d m (quote_after Q a) >>= λ more. just (quote_node Q (nodes ++ made.0 ∷ []) ∷ made.1 ++ more))
-          (λ made i.
-          ap (then_read (λ nodes. quotes c m (quote_after Q a) >>= λ more. just (quote_node Q (nodes ++ made.0 ∷ []) ∷ made.1 ++ more))) (h.0 i)
-          ∙ same_after (g (take k Q) i)
-          (λ nodes. quotes c m (quote_after Q a) >>= λ more. just (quote_node Q (nodes ++ made.0 ∷ []) ∷ made.1 ++ more))
-          (λ nodes. quotes d m (quote_after Q a) >>= λ more. just (quote_node Q (nodes ++ made.0 ∷ []) ∷ made.1 ++ more))
-          (λ nodes j. ap (then_read (λ more. just (quote_node Q (nodes ++ made.0 ∷ []) ∷ made.1 ++ more))) (others a j h.1)))
+      by : (o : Option (ℕ × Attribution)) → Inside (quoted_by (quoted m) Q o)
+          → ((a : Attribution) (j : ℕ) → Inside (quoted m (quote_after Q a)) → Alike all (quotes c m (quote_after Q a) j) (quotes d m (quote_after Q a) j))
+          → Alike all (quotes_by c (quotes c m) Q o n) (quotes_by d (quotes d m) Q o n)
+      by None i others = same_alike all (g Q n) (h Q n) (λ nodes. just (quote_node Q nodes ∷ [])) (i.0 n)
+      by (Some (k, a)) i others =
+          let end : Node × List Node → List Node → List Node → Numbered (List Node) = λ made nodes more. just (quote_node Q (nodes ++ made.0 ∷ []) ∷ made.1 ++ more) in
+          after_alike all (texted AttributionTag (first_number (drop k Q)) (joined (lines_in Q (attribution_part k a))) (first_number (drop k Q)) n)
+          (λ (made : Node × List Node). g (take k Q) >>= λ nodes. quotes c m (quote_after Q a) >>= end made nodes)
+          (λ (made : Node × List Node). h (take k Q) >>= λ nodes. quotes d m (quote_after Q a) >>= end made nodes)
+          (λ made j. then_alike all (g (take k Q) j) (h (take k Q) j) (λ nodes. quotes c m (quote_after Q a) >>= end made nodes) (λ nodes. quotes d m (quote_after Q a) >>= end made nodes) (i.0 j)
+          (λ nodes k. same_alike all (quotes c m (quote_after Q a) k) (quotes d m (quote_after Q a) k) (end made nodes) (others a k i.1)))
 
   -- ---- items
 
-  item_with_agrees : (B : Block) (item content : Tag) (line : ℕ) (part : Part) (heads notes : List Node) (n : ℕ) → Agree (lines_in B part ∷ []) → item_with c B item content line part heads notes n ≡ item_with d B item content line part heads notes n
-  item_with_agrees B item content line part heads notes n h = ap (then_read _) (h.0 n)
+  item_with_alike : (B : Block) (item content : Tag) (line : ℕ) (part : Part) (heads notes : List Node) (n : ℕ) → Inside (lines_in B part ∷ [])
+      → Alike all (item_with c B item content line part heads notes n) (item_with d B item content line part heads notes n)
+  item_with_alike B item content line part heads notes n i = same_alike all (g (lines_in B part) n) (h (lines_in B part) n) _ (i.0 n)
 
-  item_agrees : (B : Block) (i : ℕ) (mark : ItemMark) (X : Block) (n : ℕ) → Agree (lines_in B (part_of_item i mark X) ∷ []) → item_by c B i mark X n ≡ item_by d B i mark X n
-  item_agrees B i (bullet_item ch m) X n h = ap (then_read _) (h.0 n)
-  item_agrees B i (enumerated_item e) X n h = ap (then_read _) (h.0 n)
-  item_agrees B i (definition_item infos) X n h =
-      same_after (termed (front_text X) (first_number X) n)
-      (λ (made : List Node × List Node). item_with c B DefinitionListItem Definition (first_number X) (indented_part (i + 1) (drop 1 X)) made.0 made.1)
-      (λ (made : List Node × List Node). item_with d B DefinitionListItem Definition (first_number X) (indented_part (i + 1) (drop 1 X)) made.0 made.1)
-      (λ made k. item_with_agrees B DefinitionListItem Definition (first_number X) (indented_part (i + 1) (drop 1 X)) made.0 made.1 k h)
-  item_agrees B i (field_item m) X n h =
-      same_after (texted FieldName (first_number X) (slice_range (front_text X) m.name.from m.name.to) (first_number X) n)
-      (λ (made : Node × List Node). item_with c B Field FieldBody (first_number X) (hanging i m.marker X) (made.0 ∷ []) made.1)
-      (λ (made : Node × List Node). item_with d B Field FieldBody (first_number X) (hanging i m.marker X) (made.0 ∷ []) made.1)
-      (λ made k. item_with_agrees B Field FieldBody (first_number X) (hanging i m.marker X) (made.0 ∷ []) made.1 k h)
-  item_agrees B i (option_item m) X n h = ap (then_read _) (h.0 n)
+  item_alike : (B : Block) (at : ℕ) (mark : ItemMark) (X : Block) (n : ℕ) → Inside (lines_in B (part_of_item at mark X) ∷ []) → Alike all (item_by c B at mark X n) (item_by d B at mark X n)
+  item_alike B at (definition_item infos) X n i =
+      after_alike all (termed (front_text X) (first_number X) n)
+      (λ (made : List Node × List Node). item_with c B DefinitionListItem Definition (first_number X) (indented_part (at + 1) (drop 1 X)) made.0 made.1)
+      (λ (made : List Node × List Node). item_with d B DefinitionListItem Definition (first_number X) (indented_part (at + 1) (drop 1 X)) made.0 made.1)
+      (λ made k. item_with_alike B DefinitionListItem Definition (first_number X) (indented_part (at + 1) (drop 1 X)) made.0 made.1 k i)
+  item_alike B at (field_item m) X n i =
+      after_alike all (texted FieldName (first_number X) (slice_range (front_text X) m.name.from m.name.to) (first_number X) n)
+      (λ (made : Node × List Node). item_with c B Field FieldBody (first_number X) (hanging at m.marker X) (made.0 ∷ []) made.1)
+      (λ (made : Node × List Node). item_with d B Field FieldBody (first_number X) (hanging at m.marker X) (made.0 ∷ []) made.1)
+      (λ made k. item_with_alike B Field FieldBody (first_number X) (hanging at m.marker X) (made.0 ∷ []) made.1 k i)
+  item_alike B at mark X n i = same_alike all (g (lines_in B (part_of_item at mark X)) n) (h (lines_in B (part_of_item at mark X)) n) _ (i.0 n)
 
   -- ---- directives
 
-  content_agrees : (B : Block) (content : Content) (n : ℕ) → Agree (content_blocks B content) → content_nodes c B content n ≡ content_nodes d B content n
-  content_agrees B content n h =
-      ap (then_read (λ some. c.inner (lines_in B content.second) >>= λ more. just (some ++ more))) (h.0 n)
-      ∙ same_after (g (lines_in B content.first) n)
-      (λ some. c.inner (lines_in B content.second) >>= λ more. just (some ++ more))
+  content_alike : (B : Block) (content : Content) (n : ℕ) → Inside (content_blocks B content) → Alike all (content_nodes c B content n) (content_nodes d B content n)
+  content_alike B content n i =
+      then_alike all (g (lines_in B content.first) n) (h (lines_in B content.first) n)
       (λ some. g (lines_in B content.second) >>= λ more. just (some ++ more))
-      (λ some m. ap (then_read (λ more. just (some ++ more))) (h.1.0 m))
+      (λ some. h (lines_in B content.second) >>= λ more. just (some ++ more))
+      (i.0 n) (λ some m. same_alike all (g (lines_in B content.second) m) (h (lines_in B content.second) m) (λ more. just (some ++ more)) (i.1.0 m))
 
-  content_then : {A : Type 0} (B : Block) (content : Content) (k : List Node → Numbered A) (n : ℕ) → Agree (content_blocks B content) → (content_nodes c B content >>= k) n ≡ (content_nodes d B content >>= k) n
-  content_then B content k n h = ap (then_read k) (content_agrees B content n h)
+  content_then : {A : Type 0} (B : Block) (content : Content) (k : List Node → Numbered A) (n : ℕ) → Inside (content_blocks B content)
+      → Alike all ((content_nodes c B content >>= k) n) ((content_nodes d B content >>= k) n)
+  content_then B content k n i = same_alike all (content_nodes c B content n) (content_nodes d B content n) k (content_alike B content n i)
 
-  right_agrees : (given : Given) (name : Name) (B : Block) (line : ℕ) (read : Read) (lines : List ℕ) (n : ℕ) → Agree (directive_content given name B read.content)
-      → right_by given name c B line read lines n ≡ right_by given name d B line read lines n
-  right_agrees no_argument Code B line read lines n h = refl
-  right_agrees no_argument name B line read lines n h = content_then B read.content _ n h
-  right_agrees (title part) name B line read lines n h =
+  right_alike : (given : Given) (name : Name) (B : Block) (line : ℕ) (read : Read) (lines : List ℕ) (n : ℕ) → Inside (directive_content given name B read.content)
+      → Alike all (right_by given name c B line read lines n) (right_by given name d B line read lines n)
+  right_alike no_argument Code B line read lines n i = alike all _
+  right_alike no_argument name B line read lines n i = content_then B read.content _ n i
+  right_alike (title part) name B line read lines n i =
       let rest : Node × List Node → List Node → Numbered (List Node) = λ made nodes. just (filled (titled_element read.name (directive_element read.name read.options line) made.0) (made.0 ∷ made.1 ++ nodes) ∷ []) in
       let X : Block = lines_in B part in
-      same_after (texted TitleTag (number_or line X) (joined X) (number_or line X) n) (λ (made : Node × List Node). content_nodes c B read.content >>= rest made) (λ (made : Node × List Node). content_nodes d B read.content >>= rest made)
-      (λ made k. content_then B read.content (rest made) k h)
-  right_agrees (uri address) Figure B line read lines n h = content_then B read.content _ n h
-  right_agrees (uri address) name B line read lines n h = refl
-  right_agrees (language word) name B line read lines n h = refl
+      after_alike all (texted TitleTag (number_or line X) (joined X) (number_or line X) n) (λ (made : Node × List Node). content_nodes c B read.content >>= rest made) (λ (made : Node × List Node). content_nodes d B read.content >>= rest made)
+      (λ made k. content_then B read.content (rest made) k i)
+  right_alike (uri address) Figure B line read lines n i = content_then B read.content _ n i
+  right_alike _ _ B line read lines n i = alike all _
 
-  directive_agrees : (o : Outcome) (B : Block) (s : Span) (name : List ℕ) (n : ℕ) → Agree (directive_blocks o B) → directive_by o c B s name n ≡ directive_by o d B s name n
-  directive_agrees (found read) B s name n h = right_agrees read.argument read.name B (first_number (drop s.start B)) read _ n h
-  directive_agrees (wrong fault part) B s name n h = refl
+  directive_alike : (o : Outcome) (B : Block) (s : Span) (name : List ℕ) (n : ℕ) → Inside (directive_blocks o B) → Alike all (directive_by o c B s name n) (directive_by o d B s name n)
+  directive_alike (found read) B s name n i = right_alike read.argument read.name B (first_number (drop s.start B)) read _ n i
+  directive_alike (wrong fault part) B s name n i = alike all _
 
-  definition_agrees : (given : Given) (B : Block) (line : ℕ) (name : List ℕ) (read : Read) (lines : List ℕ) (n : ℕ) → Agree (definition_content given B read.content)
-      → definition_by given c B line name read lines n ≡ definition_by given d B line name read lines n
-  definition_agrees (uri address) B line name read lines n h = refl
-  definition_agrees _ B line name read lines n h = content_then B read.content _ n h
+  definition_alike : (given : Given) (B : Block) (line : ℕ) (name : List ℕ) (read : Read) (lines : List ℕ) (n : ℕ) → Inside (definition_content given B read.content)
+      → Alike all (definition_by given c B line name read lines n) (definition_by given d B line name read lines n)
+  definition_alike (uri address) B line name read lines n i = alike all _
+  definition_alike _ B line name read lines n i = content_then B read.content _ n i
 
-  holding_agrees : (o : Outcome) (B : Block) (s : Span) (name written : List ℕ) (n : ℕ) → Agree (definition_blocks o B) → holding o c B s name written n ≡ holding o d B s name written n
-  holding_agrees (found read) B s name written n h = definition_agrees read.argument B (first_number (drop s.start B)) name read _ n h
-  holding_agrees (wrong fault part) B s name written n h = refl
+  holding_alike : (o : Outcome) (B : Block) (s : Span) (name written : List ℕ) (n : ℕ) → Inside (definition_blocks o B) → Alike all (holding o c B s name written n) (holding o d B s name written n)
+  holding_alike (found read) B s name written n i = definition_alike read.argument B (first_number (drop s.start B)) name read _ n i
+  holding_alike (wrong fault part) B s name written n i = alike all _
 
   -- ---- explicit markup
 
-  markup_agrees : (x : Explicit) (B : Block) (s : Span) (X : Block) (n : ℕ) → Agree (markup_blocks x c B s.start) → markup_by x c B s X n ≡ markup_by x d B s X n
-  markup_agrees (Footnote label body) B s X n h = ap (then_read _) (h.0 n)
-  markup_agrees (Citation label body) B s X n h = ap (then_read _) (h.0 n)
-  markup_agrees (Target name text) B s X n h = refl
-  markup_agrees (Anonymous text) B s X n h = refl
-  markup_agrees (Substitution name None end) B s X n h = refl
-  markup_agrees (Substitution name (Some call) end) B s X n h = holding_agrees (called c B s.start call InDefinition) B s _ _ n h
-  markup_agrees (Directive call) B s X n h = directive_agrees (called c B s.start call (cond c.titles Top Body)) B s _ n h
-  markup_agrees (Comment text cause) B s X n h = refl
-  markup_agrees EmptyComment B s X n h = refl
+  same_call : (B : Block) (at : ℕ) (call : Invocation) (place : Place) → AgreesAt code later B at call → called c B at call place ≡ called d B at call place
+  same_call B at call place agree = agree place (is_single_paragraph (lines_in B call.block))
+
+  held_alike : (o p : Outcome) → o ≡ p → (B : Block) (s : Span) (name written : List ℕ) (n : ℕ) → Inside (definition_blocks o B) → Alike all (holding o c B s name written n) (holding p d B s name written n)
+  held_alike o p e B s name written n i = subst (λ q. Alike all (holding o c B s name written n) (holding q d B s name written n)) e (holding_alike o B s name written n i)
+
+  called_alike : (o p : Outcome) → o ≡ p → (B : Block) (s : Span) (name : List ℕ) (n : ℕ) → Inside (directive_blocks o B) → Alike all (directive_by o c B s name n) (directive_by p d B s name n)
+  called_alike o p e B s name n i = subst (λ q. Alike all (directive_by o c B s name n) (directive_by q d B s name n)) e (directive_alike o B s name n i)
+
+  markup_alike : (x : Explicit) (B : Block) (s : Span) (X : Block) (n : ℕ) → CallsAgree code later B s.start x → Inside (markup_blocks x c B s.start) → Alike all (markup_by x c B s X n) (markup_by x d B s X n)
+  markup_alike (Footnote label body) B s X n agree i = same_alike all (g (lines_in B body) n) (h (lines_in B body) n) _ (i.0 n)
+  markup_alike (Citation label body) B s X n agree i = same_alike all (g (lines_in B body) n) (h (lines_in B body) n) _ (i.0 n)
+  markup_alike (Substitution name (Some call) end) B s X n agree i =
+      held_alike (called c B s.start call InDefinition) (called d B s.start call InDefinition) (same_call B s.start call InDefinition agree) B s _ _ n i
+  markup_alike (Directive call) B s X n agree i =
+      called_alike (called c B s.start call (cond titles Top Body)) (called d B s.start call (cond titles Top Body)) (same_call B s.start call (cond titles Top Body) agree) B s _ n i
+  markup_alike _ B s X n agree i = alike all _
 
   -- ---- tables
 
-  row_agrees : (cells : List Cell) (n : ℕ) → Agree (map (λ (cell : Cell). cell.lines) cells) → each (entry_of c) cells n ≡ each (entry_of d) cells n
-  row_agrees [] n h = refl
-  row_agrees (cell ∷ cells) n h =
-      ap (then_read _) (ap (then_read _) (h.0 n))
-      ∙ same_after (entry_of d cell n) _ _ (λ entry k. ap (then_read _) (row_agrees cells k h.1))
+  entry_alike : (cell : Cell) (n : ℕ) → ((k : ℕ) → Alike all (g cell.lines k) (h cell.lines k)) → Alike all (entry_of c cell n) (entry_of d cell n)
+  entry_alike cell n i = same_alike all (g cell.lines n) (h cell.lines n) _ (i n)
 
-  split : (cells others : List Cell) → Agree (map (λ (cell : Cell). cell.lines) (cells ++ others)) → Agree (map (λ (cell : Cell). cell.lines) cells) × Agree (map (λ (cell : Cell). cell.lines) others)
-  split [] others h = (tt, h)
-  split (cell ∷ cells) others h = let r = split cells others h.1 in ((h.0, r.0), r.1)
+  row_alike : (cells : List Cell) (n : ℕ) → Inside (map (λ (cell : Cell). cell.lines) cells) → Alike all (each (entry_of c) cells n) (each (entry_of d) cells n)
+  row_alike [] n i = alike all _
+  row_alike (cell ∷ cells) n i =
+      then_alike all (entry_of c cell n) (entry_of d cell n) (λ entry. each (entry_of c) cells >>= λ others. just (entry ∷ others)) (λ entry. each (entry_of d) cells >>= λ others. just (entry ∷ others))
+      (entry_alike cell n i.0) (λ entry k. same_alike all (each (entry_of c) cells k) (each (entry_of d) cells k) (λ others. just (entry ∷ others)) (row_alike cells k i.1))
 
-  rows_agree : (rows : List (List Cell)) (n : ℕ) → Agree (map (λ (cell : Cell). cell.lines) (flat_map (λ (row : List Cell). row) rows)) → each (row_of c) rows n ≡ each (row_of d) rows n
-  rows_agree [] n h = refl
-  rows_agree (row ∷ rows) n h =
-      let r = split row (flat_map (λ (row : List Cell). row) rows) h in
-      ap (then_read _) (ap (then_read _) (row_agrees row n r.0))
-      ∙ same_after (row_of d row n) _ _ (λ made k. ap (then_read _) (rows_agree rows k r.1))
+  split : (cells others : List Cell) → Inside (map (λ (cell : Cell). cell.lines) (cells ++ others)) → Inside (map (λ (cell : Cell). cell.lines) cells) × Inside (map (λ (cell : Cell). cell.lines) others)
+  split [] others i = (tt, i)
+  split (cell ∷ cells) others i = let r = split cells others i.1 in ((i.0, r.0), r.1)
 
-  table_agrees : (B : Block) (s : Span) (t : TableResult) (n : ℕ) → Agree (cell_blocks t) → table_nodes c B s t n ≡ table_nodes d B s t n
-  table_agrees B s (Table widths m rows end) n h = ap (then_read _) (rows_agree rows n h)
-  table_agrees B s (Malformed end fault) n h = refl
+  rows_alike : (rows : List (List Cell)) (n : ℕ) → Inside (map (λ (cell : Cell). cell.lines) (flat_map (λ (row : List Cell). row) rows)) → Alike all (each (row_of c) rows n) (each (row_of d) rows n)
+  rows_alike [] n i = alike all _
+  rows_alike (row ∷ rows) n i =
+      let r = split row (flat_map (λ (row : List Cell). row) rows) i in
+      then_alike all (row_of c row n) (row_of d row n) (λ made. each (row_of c) rows >>= λ others. just (made ∷ others)) (λ made. each (row_of d) rows >>= λ others. just (made ∷ others))
+      (same_alike all (each (entry_of c) row n) (each (entry_of d) row n) _ (row_alike row n r.0))
+      (λ made k. same_alike all (each (row_of c) rows k) (each (row_of d) rows k) (λ others. just (made ∷ others)) (rows_alike rows k r.1))
+
+  table_alike : (B : Block) (s : Span) (t : TableResult) (n : ℕ) → Inside (cell_blocks t) → Alike all (table_nodes c B s t n) (table_nodes d B s t n)
+  table_alike B s (Table widths m rows end) n i = same_alike all (each (row_of c) rows n) (each (row_of d) rows n) _ (rows_alike rows n i)
+  table_alike B s (Malformed end fault) n i = alike all _
 
   -- ---- all constructs
 
-  plainly_agrees : (r s : Numbered (List Node)) (n : ℕ) → r n ≡ s n → plainly r n ≡ plainly s n
-  plainly_agrees r s n h = ap (then_read _) h
+  plainly_alike : (r s : Numbered (List Node)) (n : ℕ) → Alike all (r n) (s n) → Alike all (plainly r n) (plainly s n)
+  plainly_alike r s n e = same_alike all (r n) (s n) _ e
 
-  construct_agrees : (what : Construct) (B : Block) (s : Span) (X : Block) (n : ℕ) → X ≡ drop s.start B → Agree (opened_by what c B s.start X) → Agree (cells_by what B s.start)
-      → piece_by what c B s X n ≡ piece_by what d B s X n
-  construct_agrees nothing B s X n e h k = refl
-  construct_agrees block_quote B s X n e h k = let Q : Block = lines_in B (indented_part s.start X) in plainly_agrees (quotes c (length Q) Q) (quotes d (length Q) Q) n (quotes_agree (length Q) Q n h)
-  construct_agrees (item_of_list mark) B s X n e h k = plainly_agrees (item_by c B s.start mark X) (item_by d B s.start mark X) n (item_agrees B s.start mark X n h)
-  construct_agrees doctest_block B s X n e h k = refl
-  construct_agrees (bar_line m) B s X n e h k = refl
-  construct_agrees grid B s X n e h k = plainly_agrees (table_nodes c B s (grid_table B s.start)) (table_nodes d B s (grid_table B s.start)) n (table_agrees B s (grid_table B s.start) n k)
-  construct_agrees simple B s X n e h k = plainly_agrees (table_nodes c B s (simple_table B s.start)) (table_nodes d B s (simple_table B s.start)) n (table_agrees B s (simple_table B s.start) n k)
-  construct_agrees explicit_markup B s X n e h k =
+  construct_alike : (what : Construct) (B : Block) (s : Span) (X : Block) (n : ℕ) → X ≡ drop s.start B → CallsAgree code later B s.start (explicit_of s.start (drop s.start B))
+      → Inside (opened_by what c B s.start X) → Inside (cells_by what B s.start) → Alike all (piece_by what c B s X n) (piece_by what d B s X n)
+  construct_alike block_quote B s X n e agree i k =
+      let Q : Block = lines_in B (indented_part s.start X) in plainly_alike (quotes c (length Q) Q) (quotes d (length Q) Q) n (quotes_alike (length Q) Q n i)
+  construct_alike (item_of_list mark) B s X n e agree i k = plainly_alike (item_by c B s.start mark X) (item_by d B s.start mark X) n (item_alike B s.start mark X n i)
+  construct_alike grid B s X n e agree i k = plainly_alike (table_nodes c B s (grid_table B s.start)) (table_nodes d B s (grid_table B s.start)) n (table_alike B s (grid_table B s.start) n k)
+  construct_alike simple B s X n e agree i k = plainly_alike (table_nodes c B s (simple_table B s.start)) (table_nodes d B s (simple_table B s.start)) n (table_alike B s (simple_table B s.start) n k)
+  construct_alike explicit_markup B s X n e agree i k =
       let x : Explicit = explicit_of s.start (drop s.start B) in
-      plainly_agrees (markup_by x c B s (drop s.start B)) (markup_by x d B s (drop s.start B)) n (markup_agrees x B s (drop s.start B) n (subst (λ Y. Agree (markup_blocks (explicit_of s.start Y) c B s.start)) e h))
-  construct_agrees transition B s X n e h k = refl
-  construct_agrees (overlined_title mark short) B s X n e h k = refl
-  construct_agrees (misplaced_lines level text) B s X n e h k = refl
-  construct_agrees (underlined_title infos short) B s X n e h k = refl
-  construct_agrees (paragraph infos) B s X n e h k = refl
+      plainly_alike (markup_by x c B s (drop s.start B)) (markup_by x d B s (drop s.start B)) n
+      (markup_alike x B s (drop s.start B) n agree (subst (λ Y. Inside (markup_blocks (explicit_of s.start Y) c B s.start)) e i))
+  construct_alike _ B s X n e agree i k = alike all _
 
-pub inside_is_read : (c : Within) (g : Block → Numbered (List Node)) (B : Block) (f : Found) (n : ℕ) → AgreeOn c.inner g (opened_of c B f) → AgreeOn c.inner g (cells_with B f)
-    → piece_of c B f n ≡ piece_of (reading c g) B f n
-inside_is_read c g B f n h k = construct_agrees c g f.what B f.span (drop f.span.start B) n refl h k
+  pub piece_alike : (B : Block) (f : Found) (n : ℕ) → CallsAgree code later B f.span.start (explicit_of f.span.start (drop f.span.start B)) → Inside (opened_of c B f) → Inside (cells_with B f)
+      → Alike all (piece_of c B f n) (piece_of d B f n)
+  piece_alike B f n agree i k = construct_alike f.what B f.span (drop f.span.start B) n refl agree i k
+
+pub inside_is_read : InsideIsRead
+inside_is_read c g B f n h k = piece_alike true c.code c.code c.titles c.levels c.levels c.inner g B f n (same_calls c.code B f.span.start _) h k

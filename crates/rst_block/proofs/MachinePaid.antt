@@ -124,9 +124,7 @@ table_paid old moved mid new B depth found cols head end rows more last before n
 -- a run that ended is none
 none_open : (r : Run) → open_of r ≡ no_run → r ≡ NoRun
 none_open NoRun h = refl
-none_open (ListRun l) h = cc
-none_open (Lines lines end) h = cc
-none_open (Explicit end) h = cc
+none_open _ h = cc
 
 -- So many looks were left, and those so far leave what the lines may take of them that are left: in the blocks that wait, and in the one
 -- that is read, by what comes next in it.

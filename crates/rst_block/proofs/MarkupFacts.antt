@@ -126,14 +126,13 @@ form_is c B i m (Label l) h inside tells =
     let f : IsFronted (lines_in B p) = hanging_fronted B i cut l.marker.bare h (shifted_tells m.cut (front_text X) l.marker tells) in
     more_within (hanging_size X) (explicit_end i (label_with l.kind place p) - i) _ (omega (arith, label_end i l.kind place p, (hanging_from i cut l.marker.bare X).1)) (label_is c B i l.kind place p f (hanging_le B X i cut l.marker.bare))
 form_is c B i m (Target (Named from len k)) h inside tells = none_within _
-form_is c B i m (Target (Anonymous k)) h inside tells = none_within _
 form_is c B i m (Substitution len x) h inside tells = more_within (hanging_size (drop i B)) (i + hanging_size (drop i B) - i) _ (omega arith) (held_is c B i (m.cut + x.cut) h inside)
 form_is c B i m (Directive d) h inside tells =
     let X : Block = drop i B in
     let call : Invocation = call_of i m.cut d X in
     let k = call_is B i m.cut d h inside tells in
     more_within (length (lines_in B call.block)) (call.block.to - i) _ (omega (arith, k.2, (hanging_from i (m.cut + d.marker.cut) d.marker.bare X).1)) (directive_within c B i call (cond c.titles Top Body) k.0 k.1)
-form_is c B i m (Comment cause) h inside tells = none_within _
+form_is c B i m _ h inside tells = none_within _
 
 -- ---- explicit markup
 

@@ -174,10 +174,6 @@ no_mark o e h = let no : false ≡ true = sym (ap is_some e) ∙ h in cc
 construct_opens : (c : Within) (B : Block) (i : ℕ) (k : Kind) → is_trimmed B ≡ true → i < length B → kind_at (drop i B) ≡ k → row_holds k (drop i B) ≡ true
     → AreWithin (row_size k c.titles (drop i B)) (opened_by (construct_by k c.titles (drop i B)) c B i (drop i B))
 unfolding adornment_size
-construct_opens c B i Blank h inside e row = none_within _
-construct_opens c B i Doctest h inside e row = none_within _
-construct_opens c B i Grid h inside e row = none_within _
-construct_opens c B i Simple h inside e row = none_within _
 construct_opens c B i Explicit h inside e row = markup_within c B i h inside
 construct_opens c B i Anonymous h inside e row = anonymous_within c B i _ (no_dots (drop i B) e)
 construct_opens c B i Quote h inside e row =
@@ -248,18 +244,13 @@ construct_opens c B i AdornmentKind h inside e row = by (adornment_of (front_tex
     form mark AdornedText = text []
     form mark ShortOverline = text _
     form mark ShortAdornment = text _
-    form mark Transition = none_within _
-    form mark (AdornedTitle short) = none_within _
-    form mark InvalidMarker = none_within _
-    form mark Incomplete = none_within _
-    form mark (MissingUnderline blank) = none_within _
-    form mark Mismatch = none_within _
-    form mark Unexpected = none_within _
+    form mark _ = none_within _
 
     by : (o : Option Adornment) → AreWithin (option_map_or (λ mark. adorned_size (adorned_form c.titles mark (next_text X) (third_text X)) X) o (text_size X)) (opened_by (option_map_or (adorned c.titles X) o (plain_text c.titles X)) c B i X)
     by None = text []
     by (Some mark) = form mark (adorned_form c.titles mark (next_text X) (third_text X))
 construct_opens c B i Text h inside e row = text_opens c.titles [] c B i (text_size (drop i B)) h (λ d. omega (arith, size_definition (drop i B) d))
+construct_opens c B i _ h _ e row = none_within _
 
 pub opened_within : (c : Within) (B : Block) (i : ℕ) → is_trimmed B ≡ true → i < length B → AreWithin (construct_size c.titles (drop i B)) (opened_of c B (found_in c.titles B i))
 unfolding construct_size

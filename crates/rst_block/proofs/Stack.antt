@@ -45,10 +45,8 @@ cost_of_resumed B at to (Cells table) h = absurd h
 cost_of_resumed B at to Done h = absurd h
 
 cost_of_next : (B : Block) (at to : ℕ) (s : Step) → IsNext B at to s → cost (length B) to s < 5 * (length B - at) + 2
-cost_of_next B at to Next h = omega (arith, h.0, h.1)
-cost_of_next B at to (Open w first second) h = omega (arith, h.0, h.1)
-cost_of_next B at to (Cells table) h = omega (arith, h.0, h.1)
 cost_of_next B at to Done h = omega arith
+cost_of_next B at to _ h = omega (arith, h.0, h.1)
 
 cost_of_begin : (n m : ℕ) → m ≤ n → cost m 0 Next < 5 * n + 6
 cost_of_begin n m i = omega arith

@@ -21,10 +21,18 @@ use Rattle.rst_block_state.specs.declared.open_block.OpenBlock.{OpenBlock}
 use Rattle.rst_block_state.specs.declared.waits.Waits.{Waits}
 use Rattle.rst_block_state.specs.declared.step.Step.{Step}
 use Rattle.rst_block_state.specs.declared.step.Step.TheVariants.{Open}
+use Rattle.rst_block_state.specs.declared.texts.Pass.{Pass}
+use Rattle.rst_block.specs.Reading.{Continues}
 use Rattle.rst_block_state.proofs.Changes.{more_is_read, item_is_read}
 use Rattle.rst_block_state.proofs.MeaningLemmas.{part_means, done_means, plug_none, plug_same, plug_refused, reads_all}
 use Rattle.rst_block_state.proofs.NumberedLemmas.{at_number}
 use Rattle.rst_block_state.proofs.RestLemmas.{nodes_among_plain}
+
+-- ---- a call that can't go on
+
+pub stops : {B : Block} {old new : OpenBlock} {before after : Pass} {given : Numbered (List Item)} {most least : ℕ} {result : Result Step BlockFault} (fault : BlockFault) → result ≡ Err fault
+    → Keeps (Err fault) (λ s. comes new B s after.numbers) (given before.numbers) → Continues B old before given most least new after result
+stops fault e h = record { kept = rw e tt; read = rw e h; paid = rw e tt }
 
 -- ---- the nodes of the one inside
 

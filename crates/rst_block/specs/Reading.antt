@@ -1,20 +1,37 @@
 -- What is read of a text, and what is left of it, between the tables in it.
-use Rattle.std.specs.Prelude.{◌≡◌, ℕ, zero, suc, ◌+◌, ◌-◌, ◌*◌, ◌^◌, ◌≤◌, List, [], ◌∷◌, length, drop, map, Option, Some, None}
+use Rattle.std.specs.Prelude.{◌≡◌, ℕ, zero, suc, ◌+◌, ◌-◌, ◌*◌, ◌^◌, ◌≤◌, List, [], ◌∷◌, length, drop, map, Option, Some, None, Result, IfOk}
 use Rattle.rst_text.specs.Block.{Block}
 use Rattle.rst_text.specs.Shown.{block_of, source_of, placement_block}
 use Rattle.rst_text.specs.declared.view.View.{View}
 use Rattle.rst_markup_blocks.specs.declared.part.Part.{Part}
 use Rattle.rst_markup_tables.specs.declared.results.TableResult.{TableResult}
 use Rattle.rst_block_state.specs.Frames.{AreFrames, AreNested, IsNow}
+use Rattle.rst_block_state.specs.Ledger.{Takes, least_left, most_left}
+use Rattle.rst_block_state.specs.Meanings.{Keeps, comes}
+use Rattle.rst_block_state.specs.Numbered.{Numbered}
+use Rattle.rst_block_state.specs.Titles.{Item}
+use Rattle.rst_block_state.specs.declared.fault.BlockFault.{BlockFault}
 use Rattle.rst_block_state.specs.declared.frame.Frame.{Frame}
 use Rattle.rst_block_state.specs.declared.open_block.OpenBlock.{OpenBlock}
 use Rattle.rst_block_state.specs.declared.step.Step.{Step}
 use Rattle.rst_block_state.specs.declared.step.Step.TheVariants.{Next, Open, Cells, Done}
+use Rattle.rst_block_state.specs.declared.texts.Pass.{Pass}
 
 -- what comes next: the cells of a table that was found, or nothing
 abbrev pub found_step : Option TableResult → Step
 found_step None = Done
 found_step (Some table) = Cells table
+
+-- A block goes on after a call: it is as deep as before, what still comes is what was given before, and of the looks that may be taken and have to be
+-- taken the call took some.
+pub record Continues (B : Block) (old : OpenBlock) (before : Pass) (given : Numbered (List Item)) (most least : ℕ) (new : OpenBlock) (after : Pass) (result : Result Step BlockFault) : Type 0 where
+  pub kept : IfOk result (λ _. new.depth ≡ old.depth)
+  pub read : Keeps result (λ s. comes new B s after.numbers) (given before.numbers)
+  pub paid : IfOk result (λ s. Takes most least before.looks (most_left new B s) (least_left new B s) after.looks)
+
+-- the same where this came next in it
+abbrev pub ContinuesFrom : Block → OpenBlock → Step → Pass → OpenBlock → Pass → Result Step BlockFault → Type 0
+ContinuesFrom B old s before new after result = Continues B old before (comes old B s) (most_left old B s) (least_left old B s) new after result
 
 -- A text is being read that stands in so many blocks: behind so many first blocks those of the text wait, and this comes next in the one that is read.
 pub record IsReading (outer first : ℕ) (S : Block) (fs : List Frame) (l : OpenBlock) (view : View) (step : Step) : Type 0 where

@@ -1,7 +1,7 @@
 //! The machine: the constructs of a block one after the other, and the blocks inside them.
 ghost use Rattle.std.specs.Prelude.{◌≡◌, Ok, suc, ◌+◌, ◌-◌, ◌<◌, ◌≤◌, ◌++◌, ◌∷◌, [], drop, length, take, IfNone, IfOk, IsTrue};
 ghost use Rattle.rst_text.specs.Lines.{are_lines};
-ghost use Rattle.rst_text.specs.Looked.{capped};
+ghost use Rattle.rst_text.specs.Looked.{Looked, capped};
 ghost use Rattle.rst_text.specs.Shown.{block_of, source_of};
 ghost use Rattle.rst_markup_blocks.specs.Parts.{IsBlock};
 ghost use Rattle.rst_tree.specs.declared.tag.Tag.TheVariants.{Row};
@@ -16,7 +16,7 @@ ghost use Rattle.rst_block_state.specs.Numbered.{each, just};
 ghost use Rattle.rst_block_state.specs.Tables as tables;
 ghost use Rattle.rst_block_state.specs.Ledger.{Takes, TakesFor, least_in, least_left, most_in, most_left, total_at, totals};
 ghost use Rattle.rst_block_state.specs.Inside.{cell_blocks};
-ghost use Rattle.rst_block.specs.Reading.{IsReading, found_step, text_left};
+ghost use Rattle.rst_block.specs.Reading.{ContinuesFrom, IsReading, found_step, text_left};
 ghost use Rattle.rst_markup_tables.specs.declared.results.TableResult.TheVariants.{Table};
 
 use super::ended::closed;
@@ -162,13 +162,7 @@ fn read_on<'a>(
 #[tactic(auto, using(rst_block_state::proofs::Views::few_lines, crate::proofs::Stack::next_of_step))]
 fn next(view: &View<'_>, level: &mut OpenBlock, pass: &mut Pass) -> Result<Step>
     ensures next { IfOk result (λ s. spec.IsNext (block_of view.now) level.old.at level.new.at s) }
-    ensures kept { IfOk result (λ _. level.new.depth ≡ level.old.depth) }
-    ensures read { Keeps result (λ s. comes level.new (block_of view.now) s pass.new.numbers)
-        (reads level.old (block_of view.now) pass.old.numbers) }
-    ensures paid { let B = block_of view.now in
-        let most = most_left level.old B Next in
-        let least = least_left level.old B Next in
-        IfOk result (λ s. Takes most least pass.old.looks (most_left level.new B s) (least_left level.new B s) pass.new.looks) }
+    ensures goes { ContinuesFrom (block_of view.now) level.old Next pass.old level.new pass.new result }
 {
     while level.at < view.len() {
         match step_at(view, level, pass)? {
@@ -185,8 +179,7 @@ fn not_blank(view: &View<'_>, pass: &mut Pass) -> Result<()>
     ensures blank { TellsBlank (block_of view.now) result }
     ensures numbers { pass.new.numbers ≡ pass.old.numbers }
     ensures each { IfOk result (λ _. capped (pass.old.looks + length (block_of view.now)) ≤ pass.new.looks) }
-    ensures most { pass.new.looks ≤ pass.old.looks + length (block_of view.now) }
-    ensures low { capped pass.old.looks ≤ pass.new.looks }
+    ensures looked { Looked 0 (length (block_of view.now)) pass.old.looks pass.new.looks }
 {
     let first = lines_end(view, 0, LineTest::Blank, &mut pass.looks);
     if first < view.len() {
@@ -211,13 +204,7 @@ fn flat(
     requires waits { spec.IsWaiting (block_of view.now) level.old.at waits }
     requires deepest { level.old.depth ≡ deepest }
     ensures step { IfOk result (λ s. spec.IsResumed (block_of view.now) level.old.at level.new.at s) }
-    ensures kept { IfOk result (λ _. level.new.depth ≡ level.old.depth) }
-    ensures read { Keeps result (λ s. comes level.new (block_of view.now) s pass.new.numbers)
-        (comes level.old (block_of view.now) (Open waits first second) pass.old.numbers) }
-    ensures paid { let B = block_of view.now in
-        let most = most_left level.old B (Open waits first second) in
-        let least = least_left level.old B (Open waits first second) in
-        IfOk result (λ s. Takes most least pass.old.looks (most_left level.new B s) (least_left level.new B s) pass.new.looks) }
+    ensures goes { ContinuesFrom (block_of view.now) level.old (Open waits first second) pass.old level.new pass.new result }
 {
     not_blank(&inside(view, first), pass)?;
     if let Some(second) = second {

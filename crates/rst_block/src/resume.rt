@@ -4,9 +4,10 @@ ghost use Rattle.rst_text.specs.Shown.{block_of};
 ghost use Rattle.rst_tree.specs.Faults as faults;
 ghost use Rattle.rst_block_nodes.specs.Elements.{element_of};
 ghost use Rattle.rst_block_state.specs.Steps as spec;
-ghost use Rattle.rst_block_state.specs.Meanings.{Keeps, after_quote, comes, quote_by, resumed};
+ghost use Rattle.rst_block_state.specs.Meanings.{after_quote, quote_by, resumed};
 ghost use Rattle.rst_block_state.specs.OpenBlocks.{Gives, HasMore};
-ghost use Rattle.rst_block_state.specs.Ledger.{Takes, least_after, least_left, most_after, most_left};
+ghost use Rattle.rst_block_state.specs.Ledger.{least_after, most_after};
+ghost use Rattle.rst_block.specs.Reading.{Continues};
 ghost use Rattle.std.specs.declared.alloc.Global.{Global};
 ghost use Rattle.rst_block_nodes.specs.declared.texted.Texted.{Texted};
 ghost use Rattle.rst_block_state.specs.declared.waits.Waits.TheVariants.{Quote};
@@ -32,13 +33,10 @@ pub(crate) fn resume(
 ) -> Result<Step>
     requires waits { spec.IsWaiting (block_of view.now) level.old.at waits }
     ensures step { IfOk result (λ s. spec.IsResumed (block_of view.now) level.old.at level.new.at s) }
-    ensures kept { IfOk result (λ _. level.new.depth ≡ level.old.depth) }
-    ensures read { Keeps result (λ s. comes level.new (block_of view.now) s pass.new.numbers)
-        (resumed level.old (block_of view.now) waits nodes pass.old.numbers) }
-    ensures paid { let B = block_of view.now in
+    ensures goes { let B = block_of view.now in
         let most = most_after level.old B waits None in
         let least = least_after level.old B waits None in
-        IfOk result (λ s. Takes most least pass.old.looks (most_left level.new B s) (least_left level.new B s) pass.new.looks) }
+        Continues B level.old pass.old (resumed level.old B waits nodes) most least level.new pass.new result }
 {
     match waits {
         Waits::ListItem { line } => {
@@ -130,14 +128,11 @@ fn after_quote(
 ) -> Result<Step>
     requires rest { spec.IsRest (block_of view.now) level.old.at rest }
     ensures step { IfOk result (λ s. spec.IsResumed (block_of view.now) level.old.at level.new.at s) }
-    ensures kept { IfOk result (λ _. level.new.depth ≡ level.old.depth) }
-    ensures read { Keeps result (λ s. comes level.new (block_of view.now) s pass.new.numbers)
-        (after_quote level.old (block_of view.now) [] rest end pass.old.numbers) }
-    ensures paid { (line : ℕ) (made : Option (Box Texted Global))
+    ensures goes { (line : ℕ) (made : Option (Box Texted Global))
         → let B = block_of view.now in
         let most = most_after level.old B (Quote line made rest end) None in
         let least = least_after level.old B (Quote line made rest end) None in
-        IfOk result (λ s. Takes most least pass.old.looks (most_left level.new B s) (least_left level.new B s) pass.new.looks) }
+        Continues B level.old pass.old (after_quote level.old B [] rest end) most least level.new pass.new result }
 {
     match rest {
         Some(rest) => quote_part(view, level, rest, pass),

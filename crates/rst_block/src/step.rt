@@ -1,11 +1,10 @@
 //! One step: the construct at the next line of a block.
-ghost use Rattle.std.specs.Prelude.{◌≡◌, ◌≢◌, ◌<◌, drop, length, IfOk};
+ghost use Rattle.std.specs.Prelude.{◌≢◌, ◌<◌, length, IfOk};
 ghost use Rattle.rst_text.specs.Shown.{block_of};
-ghost use Rattle.rst_markup_blocks.specs.Begun.{IsBegun};
 ghost use Rattle.rst_markup_blocks.specs.declared.begun.Begun.TheVariants.{Blank, Text};
 ghost use Rattle.rst_block_state.specs.Steps as spec;
-ghost use Rattle.rst_block_state.specs.Meanings.{Keeps, comes, reads};
-ghost use Rattle.rst_block_state.specs.Ledger.{IsPaid, Takes, least_left, most_left};
+ghost use Rattle.rst_block.specs.Reading.{ContinuesFrom};
+ghost use Rattle.rst_block_body.specs.ReadSteps.{BeginsAt, IsRead};
 ghost use Rattle.rst_block_state.specs.declared.step.Step.TheVariants.{Next};
 
 use rst_block_body::adornment::adornment;
@@ -29,13 +28,7 @@ use std::alloc::Global;
 pub(crate) fn step_at(view: &View<'_>, level: &mut OpenBlock, pass: &mut Pass) -> Result<Step>
     requires inside { level.old.at < length (block_of view.now) }
     ensures step { IfOk result (λ s. spec.IsStep (block_of view.now) level.old.at level.new.at s) }
-    ensures kept { IfOk result (λ _. level.new.depth ≡ level.old.depth) }
-    ensures read { Keeps result (λ s. comes level.new (block_of view.now) s pass.new.numbers)
-        (reads level.old (block_of view.now) pass.old.numbers) }
-    ensures paid { let B = block_of view.now in
-        let most = most_left level.old B Next in
-        let least = least_left level.old B Next in
-        IfOk result (λ s. Takes most least pass.old.looks (most_left level.new B s) (least_left level.new B s) pass.new.looks) }
+    ensures goes { ContinuesFrom (block_of view.now) level.old Next pass.old level.new pass.new result }
 {
     let at = level.at;
     match begun_at(view, at, &mut pass.looks) {
@@ -56,14 +49,10 @@ fn marked_step(
     begun: Begun,
     pass: &mut Pass,
 ) -> Result<Step>
-    requires inside { level.old.at < length (block_of view.now) }
-    requires begun { IsBegun (drop level.old.at (block_of view.now)) begun }
+    requires here { BeginsAt (block_of view.now) level.old begun }
     requires filled { begun ≢ Blank }
     requires mark { begun ≢ Text }
-    ensures step { IfOk result (λ s. spec.IsStep (block_of view.now) level.old.at level.new.at s) }
-    ensures read { Keeps result (λ s. comes level.new (block_of view.now) s pass.new.numbers)
-        (reads level.old (block_of view.now) pass.old.numbers) }
-    ensures paid { IfOk result (λ s. IsPaid 29 level.old level.new (block_of view.now) s pass.old.looks pass.new.looks) }
+    ensures { IsRead 29 (block_of view.now) level.old pass.old level.new pass.new result }
 {
     let at = level.at;
     match begun {
@@ -74,14 +63,8 @@ fn marked_step(
         Begun::Enumerator(enumerator) => enumerated_item(view, level, enumerator, pass),
         Begun::Field(mark) => field(view, level, mark, pass),
         Begun::OptionItem(marker) => option_item(view, level, marker, pass),
-        Begun::Doctest => {
-            doctest_block(view, level, pass)?;
-            Ok(Step::Next)
-        }
-        Begun::Line(marker) => {
-            bar_line(view, level, marker, pass)?;
-            Ok(Step::Next)
-        }
+        Begun::Doctest => doctest_block(view, level, pass),
+        Begun::Line(marker) => bar_line(view, level, marker, pass),
         Begun::Grid => {
             let found = grid(pass.alloc, view, at, &mut pass.looks)?;
             table(view, level, found, pass)

@@ -9,6 +9,7 @@ pub mod ParagraphLemmas
 pub mod ParagraphsPaid
 pub mod QuoteSteps
 pub mod QuotesPaid
+pub mod ReadLemmas
 pub mod StepsPaid
 pub mod TableSteps
 pub mod TextLines

@@ -115,20 +115,15 @@ line_pushed bars more bar end e h = ap (λ bs. open_lines end (indented bs)) h �
 
 -- a run that is no line block stays
 pub other_stays : (run : Run) (bar : BarText) (end : ℕ) → ((lines : _) (e : ℕ) → run ≡ Lines lines e → ⊥) → open_of run ≡ line_added bar end (open_of run)
-other_stays NoRun bar end h = refl
-other_stays (ListRun l) bar end h = refl
 other_stays (Lines lines e) bar end h = absurd (h lines e refl)
-other_stays (Explicit e) bar end h = refl
+other_stays _ bar end h = refl
 
 -- ---- what the block gives
 
 -- a line joins no list
 no_list : (kind : ListKind) (m : Marker) (s : Span) → joining_after (joining_in kind) (bar_line m) s ≡ None
 no_list (Bullet c) m s = refl
-no_list (Enumerated q) m s = refl
-no_list Definition m s = refl
-no_list Field m s = refl
-no_list OptionItem m s = refl
+no_list _ m s = refl
 
 -- a line joins no run but a line block that ends where the line begins
 begins : (run : Run) (m : Marker) (s : Span) → lines_end_at s.start (open_of run) ≡ false → joining_with (open_of run) (found_as (bar_line m) s) ≡ None
@@ -152,9 +147,7 @@ joins_by (open_lines end ls) old new B m bar lines n e h next line g at =
     ∙ same_before (done_of old) (rest_with (within_at old.depth) B (open_lines end ls) f)
     (rest (within_at old.depth) B (old.at + lines) (open_lines (old.at + lines) (ls ++ indented_lines B (last_indent 0 ls) (f ∷ []))))
     n (line_joins (within_at old.depth) B end ls m f.span n h))
-joins_by no_run old new B m bar lines n e h next line g at = cc
-joins_by (open_list l) old new B m bar lines n e h next line g at = cc
-joins_by (open_markup end) old new B m bar lines n e h next line g at = cc
+joins_by _ old new B m bar lines n e h next line g at = cc
 
 -- the same, whatever run is open
 pub line_joined : {old new : OpenBlock} {B : Block} {m : Marker} {lines : ℕ} (bar : BarText) (n : ℕ) → lines_end_at old.at (open_of old.run) ≡ true → IsNextConstruct old B (bar_line m) lines

@@ -25,7 +25,7 @@ use Rattle.rst_block_nodes.specs.Elements.{bullet_list_node}
 use Rattle.rst_block_state.specs.Constructs.{ItemMark, bullet_item, enumerated_item, definition_item, field_item, option_item, item_of_list, Found}
 use Rattle.rst_block_state.specs.Joins.{Joining, list_joining_after}
 use Rattle.rst_block_state.specs.Lists.{item_by, list_item, item_with, option_group, infos_of, empty_list}
-use Rattle.rst_block_state.specs.Meanings.{joining_in, open_of, list_kind_in, within_at, done_of, reads, comes, Keeps}
+use Rattle.rst_block_state.specs.Meanings.{joining_in, open_of, list_kind_in, within_at, done_of, reads, comes}
 use Rattle.rst_block_state.specs.NextLine.{IsText, IsNextConstruct}
 use Rattle.rst_block_state.specs.Numbered.{Numbered, then_read, ◌>>=◌, just, before}
 use Rattle.rst_block_state.specs.OpenBlocks.{joined_at, begun_at, IsMoved, HasRun, IsClosed, Closes, Gives, with_infos}
@@ -43,9 +43,12 @@ use Rattle.rst_block_state.specs.declared.run.ListKind.TheVariants.{Bullet, Defi
 use Rattle.rst_block_state.specs.declared.run.Run.{Run}
 use Rattle.rst_block_state.specs.declared.run.Run.TheVariants.{None as NoRun, List as ListRun, Lines, Explicit}
 use Rattle.rst_block_state.specs.declared.step.Step.{Step}
+use Rattle.rst_block_state.specs.declared.texts.Pass.{Pass}
 use Rattle.rst_block_state.specs.declared.step.Step.TheVariants.{Open}
 use Rattle.rst_block_state.proofs.Changes.{run_then, closed_then, done_same, done_moved}
 use Rattle.rst_block_state.proofs.MeaningLemmas.{item_means}
+use Rattle.rst_block_body.specs.ReadSteps.{IsRead}
+use Rattle.rst_block_body.proofs.ReadLemmas.{refused}
 use Rattle.rst_block_state.proofs.NextConstructs.{next_of, next_of_form, next_some, span_to, next_reads, run_of, closed_reads, close_refused}
 use Rattle.rst_block_state.proofs.NumberedLemmas.{before_then, same_before}
 use Rattle.rst_block_state.proofs.RestLemmas.{item_joins, item_begins}
@@ -149,9 +152,7 @@ next_definition l B infos {part} h f e = record { lines = hanging_size (drop l.a
 joining_by_kind : (run : Run) (mark : ItemMark) (s : Span)
     → joining_with (open_of run) (found_as (item_of_list mark) s) ≡ option_and_then (λ (kind : ListKind). list_joining_after (joining_in kind) mark) (list_kind_in run)
 joining_by_kind NoRun mark s = refl
-joining_by_kind (ListRun l) mark s = refl
-joining_by_kind (Lines lines end) mark s = refl
-joining_by_kind (Explicit end) mark s = refl
+joining_by_kind _ mark s = refl
 
 -- what joins a list of a kind, or no list, next after an item
 abbrev pub next_joining : ItemMark → Option ListKind → Option Joining
@@ -201,12 +202,10 @@ other_bullet c m _ h = refl
 
 -- no messages change nothing
 after_none : (o : OpenRun) → with_infos [] o ≡ o
-after_none no_run = refl
-after_none (open_lines end lines) = refl
-after_none (open_markup end) = refl
 after_none (open_list l) =
     ap (λ (notes : List Node). open_list (record { joining = l.joining; end = l.end; notes_before = notes; element = l.element; items = l.items; notes_after = l.notes_after }))
     (append-nil l.notes_before)
+after_none _ = refl
 
 -- the list after an item that joins it
 after_joined : (j : Joining) (o : OpenRun) (B : Block) (mark : ItemMark) (s : Span) → joining_with o (found_as (item_of_list mark) s) ≡ Some j
@@ -271,12 +270,10 @@ pub record IsList (o : OpenRun) : Type 0 where
 -- an item joins nothing but a list
 joined_is_list : (o : OpenRun) (B : Block) (mark : ItemMark) (j : Joining) (s : Span) → joining_with o (found_as (item_of_list mark) s) ≡ Some j
     → IsList (joined_run j o B (found_as (item_of_list mark) s))
-joined_is_list no_run B mark j s h = absurd (cc)
-joined_is_list (open_lines end lines) B mark j s h = absurd (cc)
-joined_is_list (open_markup end) B mark j s h = absurd (cc)
 joined_is_list (open_list l) B mark j s h =
     let r : ListSoFar = record { joining = j; end = s.stop; notes_before = l.notes_before ++ infos_of (item_of_list mark); element = l.element; items = l.items; notes_after = l.notes_after } in
     record { list = r; is = refl }
+joined_is_list _ B mark j s h = absurd (cc)
 
 -- the step of an item gives the item in its list, and what comes after it
 step_reads : (old mid new : OpenBlock) (B : Block) (mark : ItemMark) (s : Step) (item : Within → Numbered (List Node)) (stop k m : ℕ) (o : OpenRun) → IsList o
@@ -385,9 +382,7 @@ plain_begun : (mark : ItemMark) (kind : ListKind) (B X : Block) (s : Span) → I
     → with_infos (infos_of (item_of_list mark)) (begun_at (joining_in kind) s.stop (empty_list mark X)) ≡ begun_run (item_of_list mark) B s X
 plain_begun (bullet_item c m) kind B X s h = absurd h
 plain_begun (enumerated_item e) kind B X s h = absurd h
-plain_begun (definition_item infos) kind B X s h = rw h refl
-plain_begun (field_item m) kind B X s h = rw h refl
-plain_begun (option_item m) kind B X s h = rw h refl
+plain_begun _ kind B X s h = rw h refl
 
 -- a list of a kind is open: that of before, or a new one, before which the open run has ended
 pub record IsOpened (old mid : OpenBlock) (B : Block) (kind : ListKind) (element : Node) (stop n k : ℕ) : Type 0 where
@@ -428,14 +423,14 @@ opened_depth {old = old} {kind = kind} mark plain opened = elim (plain_joins mar
 ]
 
 -- where the run before the list is nested too deeply, so is all
-pub plain_refused : {C : Type 0} {l : OpenBlock} {B : Block} {mark : ItemMark} {stop : ℕ} (result : Result C BlockFault) (fault : BlockFault) (follows : C → Result (List Item × ℕ) ℕ) (kind : ListKind) (n : ℕ)
+pub plain_refused : {each : ℕ} {B : Block} {l new : OpenBlock} {before after : Pass} {mark : ItemMark} {stop : ℕ} {result : Result Step BlockFault} (fault : BlockFault) (kind : ListKind)
     → result ≡ Err fault → IsPlain mark kind → IsNextItem l B mark stop → (list_kind_in l.run ≡ Some kind → Gives {A = Unit {0}} (λ _. Unit {0}) (Err fault))
-    → ((list_kind_in l.run ≡ Some kind → ⊥) → Closes {A = Unit {0}} (run_of l B n) l l 0 no_run (Err fault)) → Keeps result follows (reads l B n)
-plain_refused result NoMemory follows kind n r plain found joins begins = rw r tt
-plain_refused {l = l} {mark = mark} {stop = stop} result (TooDeep line) follows kind n r plain found joins begins = rw r (
+    → ((list_kind_in l.run ≡ Some kind → ⊥) → Closes {A = Unit {0}} (run_of l B before.numbers) l l 0 no_run (Err fault)) → IsRead each B l before new after result
+plain_refused NoMemory kind r plain found joins begins = refused r tt
+plain_refused {l = l} {before = before} {mark = mark} {stop = stop} (TooDeep line) kind r plain found joins begins = refused r (
     elim (plain_joins mark kind (list_kind_in l.run) plain) [
       | inl e ↦ absurd (joins e.0)
-      | inr e ↦ item_refused n found (joining_by_kind l.run mark (span_to l.at stop) ∙ e.1) (begins e.0)
+      | inr e ↦ item_refused before.numbers found (joining_by_kind l.run mark (span_to l.at stop) ∙ e.1) (begins e.0)
     ])
 
 -- a field is made of its name, whose text was read, and of its hanging block

@@ -3,7 +3,7 @@ use Rattle.std.proofs.Common.{◌≡◌, ℕ, ◌+◌, ◌-◌, ◌*◌, ◌<◌
 use Rattle.std.proofs.lemmas.Bool.{cases_lt}
 use Rattle.rst_text.specs.Block.{Block}
 use Rattle.rst_text.specs.Extent.{extent}
-use Rattle.rst_text.specs.Looked.{capped}
+use Rattle.rst_text.specs.Looked.{Looked, capped}
 use Rattle.rst_text.specs.Reach.{reach}
 use Rattle.rst_tree.specs.declared.node.Node.{Node}
 use Rattle.rst_markup_blocks.specs.Begun.{IsBegun}
@@ -41,9 +41,9 @@ use Rattle.rst_block_state.proofs.WaitingLooks.{one_quote, split_quotes, resumed
 
 -- A part without an attribution is one quote. L are its lines: five looks are taken at each of them at most, and one more.
 pub plain_paid : (old new : OpenBlock) (B : Block) (p : Part) (line before after : ℕ) (L : Block) → L ≡ lines_in B p → None ≡ first_attribution L → length L ≡ p.to - p.from → p.from < p.to
-    → IsMoved old new → new.at ≡ p.to → after ≤ before + 5 * length L + 1 → capped before ≤ after
+    → IsMoved old new → new.at ≡ p.to → Looked (length L) (5 * length L + 1) before after
     → AreQuotesPaid old new B p p.to (Open (Quote line None None p.to) p None) before after
-plain_paid old new B p line before after L is none size filled moved at few low =
+plain_paid old new B p line before after L is none size filled moved at looked =
     let run : run_looks new.run ≡ run_looks old.run = ap run_looks moved.run in
     let some : 1 ≤ length (lines_in B p) = omega (arith, ap length is, size, filled) in
     record {
@@ -53,8 +53,8 @@ plain_paid old new B p line before after L is none size filled moved at few low 
       place = at;
       blocks = sym (ap (totals old.depth) (one_quote B p line (ap first_attribution (sym is) ∙ sym none) some));
       cells = refl;
-      most = omega (arith, run, few, size, filled);
-      least = low;
+      most = omega (arith, run, looked.1, size, filled);
+      least = omega (arith, looked.0);
     }
 
 -- where lines are left of a part, the block goes on after them; where none are left, it is there already
@@ -75,18 +75,18 @@ left_looks p next line made = elim (cases_lt (p.from + next) p.to) [
 -- each of them through the attribution's end, one more at each line of the attribution, and one at each blank line behind it and at the line after these.
 pub attributed_paid : (old new : OpenBlock) (B : Block) (p : Part) (k next line before found read after : ℕ) (a : Attribution) (box : Box Texted Global) (left : Option Part) (L : Block)
     → left ≡ rest_of p next → L ≡ lines_in B p → Some (k, a) ≡ first_attribution L → next ≡ a.end + lines_while Blank (drop a.end L) → length L ≡ p.to - p.from → p.from < p.to → p.to ≤ length B → 0 < k
-    → IsMoved old new → new.at ≡ p.from + next → found ≤ before + 5 * a.end → capped before ≤ found → read ≤ found + (a.end - k) → capped (found + (a.end - k)) ≤ read
-    → after ≤ read + lines_while Blank (drop a.end L) + 1 → capped (read + lines_while Blank (drop a.end L)) ≤ after
+    → IsMoved old new → new.at ≡ p.from + next → Looked a.end (5 * a.end) before found → read ≤ found + (a.end - k) → capped (found + (a.end - k)) ≤ read
+    → Looked (lines_while Blank (drop a.end L)) (lines_while Blank (drop a.end L) + 1) read after
     → AreQuotesPaid old new B p p.to (Open (Quote line (Some box) left p.to) (front_of p k) None) before after
-attributed_paid old new B p k next line before found read after a box left L rest is first behind size filled within behind_text moved at through from each all few low = rw rest (record {
+attributed_paid old new B p k next line before found read after a box left L rest is first behind size filled within behind_text moved at looked each all blanks = rw rest (record {
   goes = tt;
   depth = moved.depth;
   run = run;
   place = left_goes_on new p next line (Some box) at ends;
   blocks = sym (ap (totals old.depth) (split_quotes B p k next line a (Some box) attributed (behind ∙ ap (λ (Q : Block). a.end + lines_while Blank (drop a.end Q)) is) within));
   cells = refl;
-  most = omega (arith, run, left_looks p next line (Some box), ends, behind, inside.0, behind_text, through, each, few, filled);
-  least = omega (arith, from, all, low);
+  most = omega (arith, run, left_looks p next line (Some box), ends, behind, inside.0, behind_text, looked.1, each, blanks.1, filled);
+  least = omega (arith, looked.0, all, blanks.0);
 })
   where
     run : run_looks new.run ≡ run_looks old.run
@@ -172,10 +172,8 @@ item_same : (old new : OpenBlock) (item : Node) → HasItem old new item → (ne
 item_same old new item h = by old.run refl h
   where
     by : (r : Run) → old.run ≡ r → HasItemIn (open_of r) old new item → (new.depth ≡ old.depth) × (new.at ≡ old.at) × (run_looks new.run ≤ run_looks r)
-    by NoRun e h = (h.depth, h.at, omega (arith, ap run_looks (h.run ∙ e)))
     by (ListRun l) e h = (h.depth, h.at, one_look new.run)
-    by (Lines lines end) e h = (h.depth, h.at, omega (arith, ap run_looks (h.run ∙ e)))
-    by (ExplicitRun end) e h = (h.depth, h.at, omega (arith, ap run_looks (h.run ∙ e)))
+    by _ e h = (h.depth, h.at, omega (arith, ap run_looks (h.run ∙ e)))
 
 -- it gets an item, and no look is taken
 pub item_paid : (old new last : OpenBlock) (B : Block) (item : Node) (waits : Waits) (looks : ℕ) → WaitsForOne waits → HasItem old new item → last ≡ new

@@ -1,23 +1,20 @@
 -- Lines of text: what the block gives after a paragraph or a title over its underline.
 use Rattle.std.proofs.Common.{◌≡◌, ℕ, ◌+◌, Bool, true, false, List, [], ◌∷◌, ◌++◌, drop, map, codes, Option, Result, Ok, refl, sym, ◌∙◌, ap, subst, append_assoc, append-nil}
 use Rattle.std.specs.Prelude.{◌==◌, unwrap_or}
-use Rattle.rst_text.specs.Block.{Block, is_blank, front_text, first_number}
+use Rattle.rst_text.specs.Block.{Block, front_text, first_number}
 use Rattle.rst_tree.specs.declared.node.Node.{Node}
 use Rattle.rst_tree.specs.declared.note.Level.TheVariants.{Info}
-use Rattle.rst_markup_lines.specs.Front.{first, begins_with, is_loose}
+use Rattle.rst_markup_lines.specs.Front.{first}
 use Rattle.rst_markup_blocks.specs.Conditions.{next_text}
 use Rattle.rst_markup_blocks.specs.Forms.{text_form}
-use Rattle.rst_markup_blocks.specs.Kinds.{kind_at, first_kind}
 use Rattle.rst_markup_blocks.specs.Sizes.{paragraph_size}
 use Rattle.rst_markup_blocks.specs.declared.form.TextForm.{TextForm}
-use Rattle.rst_markup_blocks.specs.declared.form.TextForm.TheVariants.{Paragraph, ShortUnderline, Definition, Title}
-use Rattle.rst_markup_blocks.specs.declared.kind.Kind.TheVariants as kinds
 use Rattle.rst_block_sections.specs.declared.heading.Heading.{Heading}
 use Rattle.rst_block_sections.specs.Sections.{title_of}
-use Rattle.rst_block_state.specs.Constructs.{block_quote, paragraph, underlined_title, short_underline, text_by, construct_by}
+use Rattle.rst_block_state.specs.Constructs.{paragraph, underlined_title, short_underline}
 use Rattle.rst_block_state.specs.Literals.{paragraph_nodes}
 use Rattle.rst_block_state.specs.Meanings.{done_of, reads}
-use Rattle.rst_block_state.specs.NextLine.{IsText, IsNextConstruct}
+use Rattle.rst_block_state.specs.NextLine.{IsNextConstruct}
 use Rattle.rst_block_state.specs.Nodes.{plainly}
 use Rattle.rst_block_state.specs.Numbered.{Numbered, then_read, just}
 use Rattle.rst_block_state.specs.OpenBlocks.{IsMoved, HasMoreAt, HasMore, HasTitle, ReadsNodes, ReadsItems}
@@ -30,29 +27,6 @@ use Rattle.rst_block_state.proofs.NextConstructs.{lines_after, HasEnded, next_it
 use Rattle.rst_block_body.proofs.ParagraphLemmas.{after_infos}
 
 -- ---- a line of text
-
-quote_kind : (X : Block) → is_blank (front_text X) ≡ false → begins_with 32 (front_text X) ≡ true → kind_at X ≡ kinds.Quote
-unfolding kind_at first_kind
-quote_kind X h k = rw (h, k) refl
-
-no_quote : (form : TextForm) (titles : Bool) (infos : List Node) (X : Block) → block_quote ≡ text_by form titles infos X → ⊥
-no_quote Paragraph titles infos X e = cc
-no_quote ShortUnderline titles infos X e = cc
-no_quote Definition titles infos X e = cc
-no_quote (Title short) titles infos X e = cc
-
-is_loose_by : (t : List ℕ) → is_blank t ≡ false → begins_with 32 t ≡ false → is_loose t ≡ false
-is_loose_by [] h k = absurd (let no : true ≡ false = h in cc)
-is_loose_by (c ∷ cs) h k = k
-
--- a line of text isn't indented
-pub text_plain : (l : OpenBlock) (B : Block) (infos : List Node) → IsText l B infos → is_loose (front_text (drop l.at B)) ≡ false
-text_plain l B infos h = by (begins_with 32 (front_text (drop l.at B))) refl
-  where
-    by : (b : Bool) → begins_with 32 (front_text (drop l.at B)) ≡ b → is_loose (front_text (drop l.at B)) ≡ false
-    by false e = is_loose_by (front_text (drop l.at B)) h.filled e
-    by true e = absurd (no_quote (text_form (front_text (drop l.at B)) (next_text (drop l.at B))) (l.depth == 0) infos (drop l.at B)
-        (ap (λ k. construct_by k (l.depth == 0) (drop l.at B)) (sym (quote_kind (drop l.at B) h.filled e)) ∙ h.construct))
 
 -- the form of the text at a line, as it was found
 pub form_here : (B : Block) (i : ℕ) {t u : List ℕ} {found form : TextForm} → t ≡ front_text (drop i B) → u ≡ front_text (drop 1 (drop i B)) → found ≡ text_form t u → found ≡ form

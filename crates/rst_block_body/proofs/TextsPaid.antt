@@ -1,17 +1,16 @@
 -- Texts and lines of one punctuation character are paid for. But for an item of a definition list they open no block, and their reach goes no further
 -- than through the first line after them that isn't blank.
-use Rattle.std.proofs.Common.{◌≡◌, ℕ, ◌+◌, ◌-◌, ◌*◌, ◌<◌, ◌≤◌, Bool, List, [], Result, length, length-drop, length-take, drop, slice_range, min, arith, refl, sym, ap, ◌∙◌, subst}
+use Rattle.std.proofs.Common.{◌≡◌, ℕ, ◌+◌, ◌-◌, ◌*◌, ◌≤◌, Bool, List, [], Result, length, length-drop, length-take, drop, slice_range, min, arith, refl, sym, ap, ◌∙◌, subst}
 use Rattle.std.specs.Prelude.{◌==◌}
 use Rattle.rst_text.specs.Block.{Block}
-use Rattle.rst_text.specs.Looked.{capped}
+use Rattle.rst_text.specs.Looked.{Looked, capped}
 use Rattle.rst_text.specs.Reach.{reach}
 use Rattle.rst_markup_blocks.specs.Ends.{row_size, row_reach}
 use Rattle.rst_markup_blocks.specs.Kinds.{kind_at}
 use Rattle.rst_markup_blocks.specs.Partition.{construct_size}
-use Rattle.rst_markup_blocks.specs.Sizes.{overline_looks, paragraph_size}
+use Rattle.rst_markup_blocks.specs.Sizes.{paragraph_size}
 use Rattle.rst_markup_blocks.specs.declared.kind.Kind.{Kind}
 use Rattle.rst_markup_blocks.specs.declared.kind.Kind.TheVariants.{Blank, Quote, Bullet, Enumerator, Field, OptionItem, Doctest, Line, Grid, Simple, Explicit, Anonymous, Adornment, Text}
-use Rattle.rst_markup_blocks.proofs.PartitionLemmas.{end_inside}
 use Rattle.rst_block_state.specs.Constructs.{Construct, transition, overlined_title, misplaced_lines, underlined_title, paragraph, construct_by}
 use Rattle.rst_block_state.specs.Inside.{opened_by, cells_by}
 use Rattle.rst_block_state.specs.Ledger.{unread_at, totals, run_looks, IsPaid}
@@ -22,9 +21,7 @@ use Rattle.rst_block_state.specs.Rest.{no_run}
 use Rattle.rst_block_state.specs.Titles.{Item}
 use Rattle.rst_block_state.specs.Within.{Within}
 use Rattle.rst_block_state.specs.declared.open_block.OpenBlock.{OpenBlock}
-use Rattle.rst_block_state.specs.declared.step.Step.{Step}
 use Rattle.rst_block_state.specs.declared.step.Step.TheVariants.{Next}
-use Rattle.rst_block_state.proofs.LedgerLemmas.{size_reached}
 use Rattle.rst_block_state.proofs.PaidSteps.{ended_looks, paid_next}
 
 -- ---- texts and lines of one punctuation character
@@ -60,18 +57,7 @@ no_cells _ B i h = absurd h
 own_row : (k : Kind) (titles : Bool) (X : Block) → IsFlat (construct_by k titles X) → row_reach k titles X ≡ reach (row_size k titles X) X
 own_row Grid titles X h = absurd h
 own_row Simple titles X h = absurd h
-own_row Blank titles X h = refl
-own_row Quote titles X h = refl
-own_row Bullet titles X h = refl
-own_row Enumerator titles X h = refl
-own_row Field titles X h = refl
-own_row OptionItem titles X h = refl
-own_row Doctest titles X h = refl
-own_row Line titles X h = refl
-own_row Explicit titles X h = refl
-own_row Anonymous titles X h = refl
-own_row Adornment titles X h = refl
-own_row Text titles X h = refl
+own_row _ titles X h = refl
 
 -- its reach
 flat_reach : {l : OpenBlock} {B : Block} {what : Construct} {lines : ℕ} → IsNextConstruct l B what lines → IsFlat what → reach_at (l.depth == 0) (drop l.at B) ≡ reach lines (drop l.at B)
@@ -93,29 +79,6 @@ paid_flat each {l} {closed} new {B} {what} {lines} before after h flat cl depth 
 
 -- ---- looks
 
--- up to two looks before a construct are paid for with it
-paid_later : (each : ℕ) {l new : OpenBlock} {B : Block} {s : Step} {before mid after : ℕ} → l.at < length B → capped before ≤ mid → mid ≤ before + 2 → IsPaid each l new B s mid after → IsPaid (each + 2) l new B s before after
-paid_later each {l} {new} {B} {s} {before} {mid} {after} inside low high h =
-    let far : 1 ≤ reach_at (l.depth == 0) (drop l.at B) = omega (arith, size_reached (l.depth == 0) (drop l.at B), (end_inside (l.depth == 0) B l.at inside).0) in
-    record {
-      goes = h.goes;
-      depth = h.depth;
-      place = h.place;
-      blocks = h.blocks;
-      cells = h.cells;
-      most = omega (arith, h.most, high, far);
-      least = omega (arith, h.least, low);
-    }
-
--- so are the looks at the line of a text and at the one below it
-pub paid_text : {l new : OpenBlock} {B : Block} {s : Step} {before line mid after : ℕ} → l.at < length B → line ≡ capped (before + 1) → capped line ≤ mid → mid ≤ line + 1 → IsPaid 25 l new B s mid after → IsPaid 27 l new B s before after
-paid_text inside first low high h = paid_later 25 inside (omega (arith, first, low)) (omega (arith, first, high)) h
-
--- and those at the two lines below a line of one punctuation character
-pub paid_adorned : {l new : OpenBlock} {B : Block} {s : Step} {before next mid after : ℕ} (t : List ℕ) → l.at < length B → capped before ≤ next → next ≤ before + 1 → capped next ≤ mid → mid ≤ next + overline_looks t
-    → IsPaid 27 l new B s mid after → IsPaid 29 l new B s before after
-paid_adorned t inside low high least most h = paid_later 27 inside (omega (arith, low, least)) (omega (arith, high, most)) h
-
 -- how many lines there are between two places of a block
 pub lines_looked : (B : Block) (i stop : ℕ) {at lines : ℕ} → i ≡ at → stop ≡ at + lines → at + lines ≤ length B → length (slice_range B i stop) ≡ lines
 lines_looked B i stop e s within =
@@ -124,9 +87,9 @@ lines_looked B i stop e s within =
 
 -- the looks at a paragraph, and those before it at the end of the open run
 pub paragraph_looks : (B : Block) (i run before : ℕ) {at closed after : ℕ} → i ≡ at → capped before ≤ closed → closed ≤ before + run
-    → after ≤ closed + 20 * reach (paragraph_size (drop i B)) (drop i B) → capped (closed + paragraph_size (drop i B)) ≤ after
+    → Looked (paragraph_size (drop i B)) (20 * reach (paragraph_size (drop i B)) (drop i B)) closed after
     → (after ≤ before + run + 25 * reach (paragraph_size (drop at B)) (drop at B)) × (capped (before + (paragraph_size (drop at B) - 1)) ≤ after)
-paragraph_looks B i run before {at} e low high most least =
+paragraph_looks B i run before {at} e low high looked =
     let size : paragraph_size (drop i B) ≡ paragraph_size (drop at B) = ap (λ k. paragraph_size (drop k B)) e in
     let far : reach (paragraph_size (drop i B)) (drop i B) ≡ reach (paragraph_size (drop at B)) (drop at B) = ap (λ k. reach (paragraph_size (drop k B)) (drop k B)) e in
-    (omega (arith, high, most, far), omega (arith, low, least, size))
+    (omega (arith, high, looked.1, far), omega (arith, low, looked.0, size))

@@ -1,1 +1,2 @@
+pub mod ReadSteps
 pub mod TextSteps

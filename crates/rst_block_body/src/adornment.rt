@@ -1,19 +1,15 @@
 //! Lines of one punctuation character: transitions, titles with an overline, and what is neither (Markup
 //! Specification, 'Sections', 'Transitions').
-ghost use Rattle.std.specs.Prelude.{◌≡◌, ◌<◌, ◌∷◌, [], length, drop, Some, IfOk};
+ghost use Rattle.std.specs.Prelude.{◌≡◌, ◌<◌, ◌∷◌, [], length, drop, Some};
 ghost use Rattle.rst_text.specs.Block.{first_number};
 ghost use Rattle.rst_text.specs.Shown.{block_of};
 ghost use Rattle.rst_tree.specs.declared.note.Level.TheVariants.{Info};
 ghost use Rattle.rst_markup_blocks.specs.Sizes.{fixed_size};
-ghost use Rattle.rst_block_state.specs.Steps as spec;
-ghost use Rattle.rst_markup_blocks.specs.Begun.{IsBegun};
 ghost use Rattle.rst_markup_blocks.specs.declared.begun.Begun.TheVariants as marks;
 ghost use Rattle.rst_block_state.specs.Constructs.{transition, overlined_title, misplaced_lines};
-ghost use Rattle.rst_block_state.specs.Meanings.{Keeps, comes, reads};
 ghost use Rattle.rst_block_state.specs.NextLine.{IsText, IsNextConstruct, IsWrong, IsMessageOn};
 ghost use Rattle.rst_block_state.specs.Texts.{said};
-ghost use Rattle.rst_block_state.specs.Ledger.{IsPaid};
-ghost use Rattle.rst_block_state.specs.declared.step.Step.TheVariants.{Next};
+ghost use Rattle.rst_block_body.specs.ReadSteps.{BeginsAt, IsRead};
 
 use super::text::text_line;
 use rst_block_nodes::message;
@@ -34,12 +30,8 @@ pub fn adornment(
     mark: Adornment,
     pass: &mut Pass,
 ) -> Result<Step>
-    requires inside { level.old.at < length (block_of view.now) }
-    requires begun { IsBegun (drop level.old.at (block_of view.now)) (marks.Adornment mark) }
-    ensures step { IfOk result (λ s. spec.IsStep (block_of view.now) level.old.at level.new.at s) }
-    ensures read { Keeps result (λ s. comes level.new (block_of view.now) s pass.new.numbers)
-        (reads level.old (block_of view.now) pass.old.numbers) }
-    ensures paid { IfOk result (λ s. IsPaid 29 level.old level.new (block_of view.now) s pass.old.looks pass.new.looks) }
+    requires { BeginsAt (block_of view.now) level.old (marks.Adornment mark) }
+    ensures { IsRead 29 (block_of view.now) level.old pass.old level.new pass.new result }
 {
     let at = level.at;
     let next = below_text(view, at, 1, &mut pass.looks);
@@ -47,18 +39,9 @@ pub fn adornment(
         Adorned::Text => text_line(view, level, Vec::new(pass.alloc), pass),
         Adorned::ShortOverline => short(view, level, SHORT_OVERLINE, pass),
         Adorned::ShortAdornment => short(view, level, SHORT_ADORNMENT, pass),
-        Adorned::Transition => {
-            transition(view, level, pass)?;
-            Ok(Step::Next)
-        }
-        Adorned::Title { short } => {
-            overlined(view, level, mark, short, pass)?;
-            Ok(Step::Next)
-        }
-        form => {
-            wrong(view, level, wrong_form(form), pass)?;
-            Ok(Step::Next)
-        }
+        Adorned::Transition => transition(view, level, pass),
+        Adorned::Title { short } => overlined(view, level, mark, short, pass),
+        form => wrong(view, level, wrong_form(form), pass),
     }
 }
 
@@ -105,29 +88,24 @@ fn wrong_form(form: Adorned) -> WrongForm
 }
 
 /// A transition.
-fn transition(view: &View<'_>, level: &mut OpenBlock, pass: &mut Pass) -> Result<()>
+fn transition(view: &View<'_>, level: &mut OpenBlock, pass: &mut Pass) -> Result<Step>
     requires inside { level.old.at < length (block_of view.now) }
     requires found { IsNextConstruct level.old (block_of view.now) transition 1 }
-    ensures later { IfOk result (λ _. level.old.at < level.new.at) }
-    ensures read { Keeps result (λ _. reads level.new (block_of view.now) pass.new.numbers)
-        (reads level.old (block_of view.now) pass.old.numbers) }
-    ensures paid { IfOk result (λ _. IsPaid 27 level.old level.new (block_of view.now) Next pass.old.looks pass.new.looks) }
+    ensures { IsRead 27 (block_of view.now) level.old pass.old level.new pass.new result }
 {
     level.close(view, pass)?;
     let at = level.at;
     let node = Node::element(pass.alloc, Tag::Transition, number_at(view, at));
     level.go_to(at.saturating_add(1));
-    level.push(node)
+    level.push(node)?;
+    Ok(Step::Next)
 }
 
 /// A short line that is taken as text, behind a message that says so.
 fn short(view: &View<'_>, level: &mut OpenBlock, text: &str, pass: &mut Pass) -> Result<Step>
     requires inside { level.old.at < length (block_of view.now) }
     requires text { IsText level.old (block_of view.now) (said Info (first_number (drop level.old.at (block_of view.now))) text.now ∷ []) }
-    ensures step { IfOk result (λ s. spec.IsStep (block_of view.now) level.old.at level.new.at s) }
-    ensures read { Keeps result (λ s. comes level.new (block_of view.now) s pass.new.numbers)
-        (reads level.old (block_of view.now) pass.old.numbers) }
-    ensures paid { IfOk result (λ s. IsPaid 27 level.old level.new (block_of view.now) s pass.old.looks pass.new.looks) }
+    ensures { IsRead 27 (block_of view.now) level.old pass.old level.new pass.new result }
 {
     let alloc = pass.alloc;
     let info = message(alloc, Level::Info, number_at(view, level.at), text, None)?;
@@ -135,13 +113,10 @@ fn short(view: &View<'_>, level: &mut OpenBlock, text: &str, pass: &mut Pass) ->
 }
 
 /// The message on some lines that are neither a title nor a transition.
-fn wrong(view: &View<'_>, level: &mut OpenBlock, form: WrongForm, pass: &mut Pass) -> Result<()>
+fn wrong(view: &View<'_>, level: &mut OpenBlock, form: WrongForm, pass: &mut Pass) -> Result<Step>
     requires inside { level.old.at < length (block_of view.now) }
     requires found { IsNextConstruct level.old (block_of view.now) (misplaced_lines form.gravity form.text.now) form.lines }
-    ensures later { IfOk result (λ _. level.old.at < level.new.at) }
-    ensures read { Keeps result (λ _. reads level.new (block_of view.now) pass.new.numbers)
-        (reads level.old (block_of view.now) pass.old.numbers) }
-    ensures paid { IfOk result (λ _. IsPaid 27 level.old level.new (block_of view.now) Next pass.old.looks pass.new.looks) }
+    ensures { IsRead 27 (block_of view.now) level.old pass.old level.new pass.new result }
 {
     let alloc = pass.alloc;
     level.close(view, pass)?;
@@ -151,7 +126,8 @@ fn wrong(view: &View<'_>, level: &mut OpenBlock, form: WrongForm, pass: &mut Pas
     let line = number_at(view, at);
     let node = message(alloc, form.gravity, line, form.text, Some(block.as_str()))?;
     level.go_to(end);
-    level.push(node)
+    level.push(node)?;
+    Ok(Step::Next)
 }
 
 /// A title between its overline and its underline.
@@ -161,14 +137,11 @@ fn overlined(
     mark: Adornment,
     short: bool,
     pass: &mut Pass,
-) -> Result<()>
+) -> Result<Step>
     requires inside { level.old.at < length (block_of view.now) }
     requires found { IsNextConstruct level.old (block_of view.now) (overlined_title mark short) 3 }
     requires titles { level.old.depth ≡ 0 }
-    ensures later { IfOk result (λ _. level.old.at < level.new.at) }
-    ensures read { Keeps result (λ _. reads level.new (block_of view.now) pass.new.numbers)
-        (reads level.old (block_of view.now) pass.old.numbers) }
-    ensures paid { IfOk result (λ _. IsPaid 27 level.old level.new (block_of view.now) Next pass.old.looks pass.new.looks) }
+    ensures { IsRead 27 (block_of view.now) level.old pass.old level.new pass.new result }
 {
     level.close(view, pass)?;
     let at = level.at;
@@ -190,5 +163,6 @@ fn overlined(
     let text = skip(text, indentation(text));
     let heading = heading_of(style, text, line, warning, lines, pass)?;
     level.go_to(end);
-    level.push_heading(pass.alloc, heading)
+    level.push_heading(pass.alloc, heading)?;
+    Ok(Step::Next)
 }

@@ -1,15 +1,14 @@
 //! Items of definition lists (Markup Specification, 'Definition Lists').
-ghost use Rattle.std.specs.Prelude.{◌≡◌, ◌<◌, length, drop, IfOk};
+ghost use Rattle.std.specs.Prelude.{◌≡◌, ◌<◌, length, drop};
 ghost use Rattle.rst_text.specs.Shown.{block_of};
-ghost use Rattle.rst_block_state.specs.Steps as spec;
 ghost use Rattle.rst_text.specs.Block.{front_text};
 ghost use Rattle.rst_markup_blocks.specs.Conditions.{next_text};
 ghost use Rattle.rst_markup_blocks.specs.Forms.{text_form};
 ghost use Rattle.rst_markup_blocks.specs.declared.form.TextForm.TheVariants.{Definition};
-ghost use Rattle.rst_block_state.specs.Meanings.{Keeps, comes, open_of, reads};
+ghost use Rattle.rst_block_state.specs.Meanings.{open_of};
 ghost use Rattle.rst_block_state.specs.NextLine.{IsText};
 ghost use Rattle.rst_block_state.specs.OpenBlocks.{Gives, HasRun, with_infos};
-ghost use Rattle.rst_block_state.specs.Ledger.{IsPaid};
+ghost use Rattle.rst_block_body.specs.ReadSteps.{IsRead};
 
 use super::field::join_list;
 use rst_block_nodes::term_and_classifiers;
@@ -29,10 +28,7 @@ pub(crate) fn definition(
     requires inside { level.old.at < length (block_of view.now) }
     requires text { IsText level.old (block_of view.now) infos.items }
     requires form { let X = drop level.old.at (block_of view.now) in text_form (front_text X) (next_text X) ≡ Definition }
-    ensures step { IfOk result (λ s. spec.IsStep (block_of view.now) level.old.at level.new.at s) }
-    ensures read { Keeps result (λ s. comes level.new (block_of view.now) s pass.new.numbers)
-        (reads level.old (block_of view.now) pass.old.numbers) }
-    ensures paid { IfOk result (λ s. IsPaid 25 level.old level.new (block_of view.now) s pass.old.looks pass.new.looks) }
+    ensures { IsRead 25 (block_of view.now) level.old pass.old level.new pass.new result }
 {
     let at = level.at;
     let line = number_at(view, at);
@@ -58,7 +54,6 @@ pub(crate) fn definition(
 
 /// Puts messages before the list that is open.
 fn put_before(level: &mut OpenBlock, infos: Vec<Node>) -> Result<()>
-    ensures at { level.new.at ≡ level.old.at }
     ensures run { Gives (λ _. HasRun level.old level.new (with_infos infos.items (open_of level.old.run))) result }
 {
     match &mut level.run {

@@ -1,17 +1,15 @@
 //! Fields (Markup Specification, 'Field Lists').
-ghost use Rattle.std.specs.Prelude.{◌≡◌, suc, ◌+◌, ◌-◌, ◌<◌, ◌≤◌, [], length, drop, IfOk, Some};
+ghost use Rattle.std.specs.Prelude.{◌≡◌, suc, ◌-◌, ◌<◌, [], drop, Some};
 ghost use Rattle.rst_text.specs.Block.{first_number};
-ghost use Rattle.rst_text.specs.Looked.{capped};
+ghost use Rattle.rst_text.specs.Looked.{Looked};
 ghost use Rattle.rst_text.specs.Shown.{block_of};
 ghost use Rattle.rst_tree.specs.Forest.{bare};
 ghost use Rattle.rst_tree.specs.declared.node.Node.TheVariants.{Element};
-ghost use Rattle.rst_block_state.specs.Meanings.{Keeps, comes, deepest, joining_in, list_kind_in, open_of, reads};
+ghost use Rattle.rst_block_state.specs.Meanings.{deepest, joining_in, list_kind_in, open_of};
 ghost use Rattle.rst_block_state.specs.OpenBlocks.{Closes, Gives, HasRun, begun_at, joined_at};
 ghost use Rattle.rst_block_state.specs.Rest.{closed_run};
-ghost use Rattle.rst_block_state.specs.Steps as spec;
-ghost use Rattle.rst_markup_blocks.specs.Begun.{IsBegun};
 ghost use Rattle.rst_markup_blocks.specs.declared.begun.Begun.TheVariants.{Field};
-ghost use Rattle.rst_block_state.specs.Ledger.{IsPaid};
+ghost use Rattle.rst_block_body.specs.ReadSteps.{BeginsAt, IsRead};
 
 use rst_block_nodes::with_text;
 use rst_block_state::{
@@ -29,12 +27,8 @@ pub fn field(
     mark: FieldMark,
     pass: &mut Pass,
 ) -> Result<Step>
-    requires inside { level.old.at < length (block_of view.now) }
-    requires begun { IsBegun (drop level.old.at (block_of view.now)) (Field mark) }
-    ensures step { IfOk result (λ s. spec.IsStep (block_of view.now) level.old.at level.new.at s) }
-    ensures read { Keeps result (λ s. comes level.new (block_of view.now) s pass.new.numbers)
-        (reads level.old (block_of view.now) pass.old.numbers) }
-    ensures paid { IfOk result (λ s. IsPaid 29 level.old level.new (block_of view.now) s pass.old.looks pass.new.looks) }
+    requires { BeginsAt (block_of view.now) level.old (Field mark) }
+    ensures { IsRead 29 (block_of view.now) level.old pass.old level.new pass.new result }
 {
     let at = level.at;
     let line = number_at(view, at);
@@ -83,8 +77,7 @@ pub(crate) fn join_list(
         let closed = closed_run (suc deepest - level.old.depth) B (open_of level.old.run) pass.old.numbers in
         let run = begun_at (joining_in kind) end (Element tag [] bare (first_number (drop level.old.at B))) in
         (list_kind_in level.old.run ≡ Some kind → ⊥) → Closes closed level.old level.new pass.new.numbers run result }
-    ensures looks { pass.new.looks ≤ pass.old.looks + 1 }
-    ensures low { capped pass.old.looks ≤ pass.new.looks }
+    ensures looked { Looked 0 1 pass.old.looks pass.new.looks }
 {
     if level.run.list_kind() == Some(kind) {
         level.join(kind, end);

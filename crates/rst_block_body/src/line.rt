@@ -1,23 +1,22 @@
 //! Lines of line blocks (Markup Specification, 'Line Blocks').
-ghost use Rattle.std.specs.Prelude.{◌≡◌, ℕ, ◌+◌, ◌-◌, ◌*◌, ◌^◌, ◌<◌, ◌≤◌, length, drop, unwrap_or, IfOk};
+ghost use Rattle.std.specs.Prelude.{◌≡◌, ℕ, ◌+◌, ◌-◌, ◌*◌, ◌^◌, ◌<◌, length, unwrap_or, IfOk};
 ghost use Rattle.std.specs.Str.{chars};
-ghost use Rattle.rst_text.specs.Looked.{capped};
+ghost use Rattle.rst_text.specs.Looked.{Looked};
 ghost use Rattle.rst_text.specs.Shown.{block_of};
 ghost use Rattle.rst_text.specs.Text.{chars_of};
 ghost use Rattle.rst_block_nodes.specs.LineBlocks.{indented_by};
-ghost use Rattle.rst_markup_blocks.specs.Begun.{IsBegun};
 ghost use Rattle.rst_markup_blocks.specs.declared.begun.Begun.TheVariants.{Line};
 ghost use Rattle.rst_block_state.specs.LineRuns.{indented_line, indentation_of};
 ghost use Rattle.rst_block_body.specs.TextSteps.{text_over};
-ghost use Rattle.rst_block_state.specs.Meanings.{Keeps, reads, open_of};
+ghost use Rattle.rst_block_state.specs.Meanings.{open_of};
 ghost use Rattle.rst_block_state.specs.OpenBlocks.{Gives, HasLine, line_added, lines_end_at};
 ghost use Rattle.rst_block_state.specs.Texts.{joined};
-ghost use Rattle.rst_block_state.specs.Ledger.{IsPaid};
-ghost use Rattle.rst_block_state.specs.declared.step.Step.TheVariants.{Next};
+ghost use Rattle.rst_block_body.specs.ReadSteps.{BeginsAt, IsRead};
 
 use rst_block_nodes::BarText;
 use rst_block_state::{
-    OpenBlock, Pass, Result, Run, first_line_or, indented, inside, joined, lines_between, number_at,
+    OpenBlock, Pass, Result, Run, Step, first_line_or, indented, inside, joined, lines_between,
+    number_at,
 };
 use rst_markup_blocks::indented_end;
 use rst_markup_lines::Marker;
@@ -30,26 +29,24 @@ pub fn bar_line(
     level: &mut OpenBlock,
     marker: Marker,
     pass: &mut Pass,
-) -> Result<()>
-    requires inside { level.old.at < length (block_of view.now) }
-    requires begun { IsBegun (drop level.old.at (block_of view.now)) (Line marker) }
-    ensures later { IfOk result (λ _. level.old.at < level.new.at) }
-    ensures read { Keeps result (λ _. reads level.new (block_of view.now) pass.new.numbers)
-        (reads level.old (block_of view.now) pass.old.numbers) }
-    ensures paid { IfOk result (λ _. IsPaid 29 level.old level.new (block_of view.now) Next pass.old.looks pass.new.looks) }
+) -> Result<Step>
+    requires { BeginsAt (block_of view.now) level.old (Line marker) }
+    ensures { IsRead 29 (block_of view.now) level.old pass.old level.new pass.new result }
 {
     let at = level.at;
     let end = indented_end(view, at, &mut pass.looks);
     let text = bar_text(view, at, end, marker, pass)?;
     if lines_end_at(&level.run, at) {
-        return add_line(level, text, end);
+        add_line(level, text, end)?;
+        return Ok(Step::Next);
     }
     level.close(view, pass)?;
     level.run = Run::Lines {
         lines: Vec::new(pass.alloc),
         end: at,
     };
-    add_line(level, text, end)
+    add_line(level, text, end)?;
+    Ok(Step::Next)
 }
 
 /// Whether the open run is a line block that ends at this place.
@@ -87,8 +84,7 @@ fn bar_text(
     ensures line { IfOk result (λ text. (last : ℕ) → indented_by (unwrap_or text.indent last) text
         ≡ indented_line (indentation_of last marker) (block_of view.now) marker (record { start = at; stop = end })) }
     ensures numbers { pass.new.numbers ≡ pass.old.numbers }
-    ensures most { IfOk result (λ _. pass.new.looks ≤ pass.old.looks + 1 + 2 * (end - (at + 1))) }
-    ensures low { IfOk result (λ _. capped pass.old.looks ≤ pass.new.looks) }
+    ensures looked { IfOk result (λ _. Looked 0 (1 + 2 * (end - (at + 1))) pass.old.looks pass.new.looks) }
 {
     let line = number_at(view, at);
     let below = lines_between(view, at + 1, end);

@@ -1,9 +1,9 @@
 //! Items of bullet lists and of enumerated lists (Markup Specification, 'Bullet Lists', 'Enumerated Lists').
-ghost use Rattle.std.specs.Prelude.{◌≡◌, ◌+◌, ◌-◌, ◌^◌, ◌<◌, ◌≤◌, length, drop, string_bytes, IfOk, [], ◌∷◌, None, option_map};
+ghost use Rattle.std.specs.Prelude.{◌≡◌, ◌-◌, ◌^◌, ◌<◌, length, drop, string_bytes, IfOk, [], ◌∷◌, None, option_map};
 ghost use Rattle.std.specs.Option.{option_and_then, option_to_list};
 ghost use Rattle.std.specs.Str.{chars};
 ghost use Rattle.rst_text.specs.Block.{Block};
-ghost use Rattle.rst_text.specs.Looked.{capped};
+ghost use Rattle.rst_text.specs.Looked.{Looked};
 ghost use Rattle.rst_text.specs.Shown.{block_of};
 ghost use Rattle.rst_tree.specs.Faults.{Gives};
 ghost use Rattle.rst_markup_lines.specs.Enumerator.{first_reading};
@@ -11,17 +11,16 @@ ghost use Rattle.rst_markup_blocks.specs.Parts.{IsBlock};
 ghost use Rattle.rst_block_state.specs.Lists as lists;
 ghost use Rattle.rst_block_state.specs.Steps as spec;
 ghost use Rattle.rst_block_state.specs.Texts.{excerpt};
-ghost use Rattle.rst_markup_blocks.specs.Begun.{IsBegun};
 ghost use Rattle.rst_markup_blocks.specs.declared.begun.Begun.TheVariants.{Bullet, Enumerator as ItemEnumerator};
 ghost use Rattle.rst_block_state.specs.Constructs.{enumerated_item, item_of_list};
 ghost use Rattle.rst_block_state.specs.Joins.{list_joining_after};
-ghost use Rattle.rst_block_state.specs.Meanings.{Keeps, comes, joining_in, list_kind_in, open_of, reads};
+ghost use Rattle.rst_block_state.specs.Meanings.{joining_in, list_kind_in, open_of};
 ghost use Rattle.rst_block_state.specs.OpenBlocks as blocks;
 ghost use Rattle.rst_block_state.specs.OpenBlocks.{HasRun, IsMoved, with_notes};
 ghost use Rattle.rst_block_state.specs.Rest.{begun_run};
 ghost use Rattle.rst_block_state.specs.declared.waits.Waits.TheVariants.{ListItem};
 ghost use Rattle.rst_block_state.specs.declared.step.Step.TheVariants.{Open};
-ghost use Rattle.rst_block_state.specs.Ledger.{IsPaid};
+ghost use Rattle.rst_block_body.specs.ReadSteps.{BeginsAt, IsRead};
 
 use rst_block_nodes::{bullet_list, enumerated_list, start_message};
 use rst_block_state::{
@@ -58,12 +57,8 @@ pub fn bullet_item(
     marker: Marker,
     pass: &mut Pass,
 ) -> Result<Step>
-    requires inside { level.old.at < length (block_of view.now) }
-    requires begun { IsBegun (drop level.old.at (block_of view.now)) (Bullet mark marker) }
-    ensures step { IfOk result (λ s. spec.IsStep (block_of view.now) level.old.at level.new.at s) }
-    ensures read { Keeps result (λ s. comes level.new (block_of view.now) s pass.new.numbers)
-        (reads level.old (block_of view.now) pass.old.numbers) }
-    ensures paid { IfOk result (λ s. IsPaid 29 level.old level.new (block_of view.now) s pass.old.looks pass.new.looks) }
+    requires { BeginsAt (block_of view.now) level.old (Bullet mark marker) }
+    ensures { IsRead 29 (block_of view.now) level.old pass.old level.new pass.new result }
 {
     let alloc = pass.alloc;
     let at = level.at;
@@ -86,12 +81,8 @@ pub fn enumerated_item(
     enumerator: Enumerator,
     pass: &mut Pass,
 ) -> Result<Step>
-    requires inside { level.old.at < length (block_of view.now) }
-    requires begun { IsBegun (drop level.old.at (block_of view.now)) (ItemEnumerator enumerator) }
-    ensures step { IfOk result (λ s. spec.IsStep (block_of view.now) level.old.at level.new.at s) }
-    ensures read { Keeps result (λ s. comes level.new (block_of view.now) s pass.new.numbers)
-        (reads level.old (block_of view.now) pass.old.numbers) }
-    ensures paid { IfOk result (λ s. IsPaid 29 level.old level.new (block_of view.now) s pass.old.looks pass.new.looks) }
+    requires { BeginsAt (block_of view.now) level.old (ItemEnumerator enumerator) }
+    ensures { IsRead 29 (block_of view.now) level.old pass.old level.new pass.new result }
 {
     let at = level.at;
     let line = number_at(view, at);
@@ -125,14 +116,12 @@ fn begin_enumerated_list(
     pass: &mut Pass,
 ) -> Result<()>
     requires inside { level.old.at < length (block_of view.now) }
-    ensures at { level.new.at ≡ level.old.at }
     ensures run { let B = block_of view.now in
         let X = drop level.old.at B in
         let run = begun_run (item_of_list (enumerated_item enumerator)) B (record { start = level.old.at; stop = end }) X in
         blocks.Gives (λ _. HasRun level.old level.new run) result }
     ensures numbers { pass.new.numbers ≡ pass.old.numbers }
-    ensures looks { pass.new.looks ≤ pass.old.looks + 1 }
-    ensures low { capped pass.old.looks ≤ pass.new.looks }
+    ensures looked { Looked 0 1 pass.old.looks pass.new.looks }
 {
     let at = level.at;
     let kind = ListKind::Enumerated(Sequel::of(enumerator));
@@ -146,7 +135,6 @@ fn begin_enumerated_list(
 
 /// Puts a message behind the list that is open.
 fn put_behind(level: &mut OpenBlock, note: Node) -> Result<()>
-    ensures at { level.new.at ≡ level.old.at }
     ensures run { blocks.Gives (λ _. HasRun level.old level.new (with_notes (note ∷ []) (open_of level.old.run))) result }
 {
     match &mut level.run {
@@ -166,8 +154,7 @@ fn start_note(
     requires inside { at < length (block_of view.now) }
     ensures note { Gives (λ note. option_to_list note
         ≡ lists.start_note enumerator (first_reading enumerator.written.ordinals) (drop at (block_of view.now))) result }
-    ensures looks { looks.new ≤ looks.old + 1 }
-    ensures low { capped looks.old ≤ looks.new }
+    ensures looked { Looked 0 1 looks.old looks.new }
 {
     let ordinal = first_reading(enumerator.written.ordinals).ordinal;
     if ordinal == 1 {

@@ -1,14 +1,11 @@
 //! Items of option lists (Markup Specification, 'Option Lists').
-ghost use Rattle.std.specs.Prelude.{◌≡◌, ◌<◌, length, drop, IfOk};
+ghost use Rattle.std.specs.Prelude.{◌≡◌, ◌<◌, drop};
 ghost use Rattle.std.specs.Str.{chars};
 ghost use Rattle.rst_text.specs.Shown.{block_of};
 ghost use Rattle.rst_tree.specs.Faults.{Gives};
 ghost use Rattle.rst_block_state.specs.Lists as lists;
-ghost use Rattle.rst_block_state.specs.Steps as spec;
-ghost use Rattle.rst_markup_blocks.specs.Begun.{IsBegun};
 ghost use Rattle.rst_markup_blocks.specs.declared.begun.Begun.TheVariants.{OptionItem};
-ghost use Rattle.rst_block_state.specs.Meanings.{Keeps, comes, reads};
-ghost use Rattle.rst_block_state.specs.Ledger.{IsPaid};
+ghost use Rattle.rst_block_body.specs.ReadSteps.{BeginsAt, IsRead};
 
 use super::field::join_list;
 use rst_block_nodes::{element_of, option};
@@ -27,12 +24,8 @@ pub fn option_item(
     marker: Marker,
     pass: &mut Pass,
 ) -> Result<Step>
-    requires inside { level.old.at < length (block_of view.now) }
-    requires begun { IsBegun (drop level.old.at (block_of view.now)) (OptionItem marker) }
-    ensures step { IfOk result (λ s. spec.IsStep (block_of view.now) level.old.at level.new.at s) }
-    ensures read { Keeps result (λ s. comes level.new (block_of view.now) s pass.new.numbers)
-        (reads level.old (block_of view.now) pass.old.numbers) }
-    ensures paid { IfOk result (λ s. IsPaid 29 level.old level.new (block_of view.now) s pass.old.looks pass.new.looks) }
+    requires { BeginsAt (block_of view.now) level.old (OptionItem marker) }
+    ensures { IsRead 29 (block_of view.now) level.old pass.old level.new pass.new result }
 {
     let at = level.at;
     let line = number_at(view, at);

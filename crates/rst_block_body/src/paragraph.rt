@@ -1,14 +1,10 @@
 //! Paragraphs, literal blocks and doctest blocks (Markup Specification, 'Paragraphs', 'Literal Blocks', 'Doctest
 //! Blocks').
-ghost use Rattle.std.specs.Prelude.{◌≡◌, [], ◌+◌, ◌-◌, ◌*◌, ◌<◌, ◌≤◌, length, drop, min, codes, slice_range, true, false, IfOk};
+ghost use Rattle.std.specs.Prelude.{◌≡◌, [], ◌+◌, ◌-◌, ◌*◌, ◌<◌, ◌≤◌, length, drop, min, codes, slice_range, true, IfOk};
 ghost use Rattle.std.specs.Cow.{cow_str_bytes};
 ghost use Rattle.std.specs.Str.{chars};
 ghost use Rattle.rst_text.specs.Shown.{block_of};
-ghost use Rattle.rst_markup_blocks.specs.Begun.{IsBegun};
 ghost use Rattle.rst_markup_blocks.specs.declared.begun.Begun.TheVariants.{Doctest};
-ghost use Rattle.rst_block_state.specs.Ledger.{IsPaid};
-ghost use Rattle.rst_block_state.specs.Meanings.{Keeps, reads};
-ghost use Rattle.rst_block_state.specs.declared.step.Step.TheVariants.{Next};
 ghost use Rattle.rst_block_state.specs.OpenBlocks.{Gives, ReadsNodes, HasMoreAt};
 ghost use Rattle.rst_block_state.specs.Literals as literals;
 ghost use Rattle.rst_block_state.specs.Texts.{joined, unless_blank};
@@ -17,15 +13,16 @@ ghost use Rattle.rst_block_body.specs.TextSteps as parts;
 ghost use Rattle.rst_markup_blocks.specs.Lines.{lines_while};
 ghost use Rattle.rst_markup_blocks.specs.Sizes.{paragraph_size, literal_size};
 ghost use Rattle.rst_markup_blocks.specs.declared.lines.LineTest.TheVariants.{Begins};
-ghost use Rattle.rst_markup_lines.specs.Front.{begins_with, is_loose};
+ghost use Rattle.rst_markup_lines.specs.Front.{begins_with};
 ghost use Rattle.rst_text.specs.Block.{first_number, front_text};
 ghost use Rattle.rst_text.specs.Extent.{extent};
-ghost use Rattle.rst_text.specs.Looked.{capped};
+ghost use Rattle.rst_text.specs.Looked.{Looked, capped};
 ghost use Rattle.rst_text.specs.Reach.{reach};
+ghost use Rattle.rst_block_body.specs.ReadSteps.{BeginsAt, IsRead};
 
 use rst_block_nodes::{message, preserved, with_text};
 use rst_block_state::{
-    OpenBlock, Pass, Result, announced, indented, inside, joined, number_at, source,
+    OpenBlock, Pass, Result, Step, announced, indented, inside, joined, number_at, source,
 };
 use rst_markup_blocks::{LineTest, lines_end, text_at};
 use rst_markup_lines::{begins_with, ends_in_colons, front, is_blank, is_punctuation};
@@ -35,13 +32,9 @@ use std::alloc::{AllocError, Global};
 use std::borrow::CowStr;
 
 /// A doctest block: the lines up to a blank one.
-pub fn doctest_block(view: &View<'_>, level: &mut OpenBlock, pass: &mut Pass) -> Result<()>
-    requires inside { level.old.at < length (block_of view.now) }
-    requires begun { IsBegun (drop level.old.at (block_of view.now)) Doctest }
-    ensures later { IfOk result (λ _. level.old.at < level.new.at) }
-    ensures read { Keeps result (λ _. reads level.new (block_of view.now) pass.new.numbers)
-        (reads level.old (block_of view.now) pass.old.numbers) }
-    ensures paid { IfOk result (λ _. IsPaid 29 level.old level.new (block_of view.now) Next pass.old.looks pass.new.looks) }
+pub fn doctest_block(view: &View<'_>, level: &mut OpenBlock, pass: &mut Pass) -> Result<Step>
+    requires { BeginsAt (block_of view.now) level.old Doctest }
+    ensures { IsRead 29 (block_of view.now) level.old pass.old level.new pass.new result }
 {
     let alloc = pass.alloc;
     level.close(view, pass)?;
@@ -50,20 +43,18 @@ pub fn doctest_block(view: &View<'_>, level: &mut OpenBlock, pass: &mut Pass) ->
     let text = source(alloc, view, at, end, &mut pass.looks)?;
     let node = preserved(alloc, Tag::DoctestBlock, number_at(view, at), text.as_str())?;
     level.go_to(end);
-    level.push(node)
+    level.push(node)?;
+    Ok(Step::Next)
 }
 
 /// A paragraph, with the literal block that it announces. Of the level the open run has ended.
 pub(crate) fn paragraph(view: &View<'_>, level: &mut OpenBlock, pass: &mut Pass) -> Result<()>
     requires inside { level.old.at < length (block_of view.now) }
-    requires plain { is_loose (front_text (drop level.old.at (block_of view.now))) ≡ false }
-    ensures later { IfOk result (λ _. level.old.at < level.new.at) }
     ensures read { let X = drop level.old.at (block_of view.now) in
         let nodes = literals.paragraph_nodes [] X pass.old.numbers in
         Gives (λ _. ReadsNodes nodes level.old level.new (level.old.at + paragraph_size X) pass.new.numbers) result }
-    ensures most { let X = drop level.old.at (block_of view.now) in
-        IfOk result (λ _. pass.new.looks ≤ pass.old.looks + 20 * reach (paragraph_size X) X) }
-    ensures low { IfOk result (λ _. capped (pass.old.looks + paragraph_size (drop level.old.at (block_of view.now))) ≤ pass.new.looks) }
+    ensures looked { let X = drop level.old.at (block_of view.now) in
+        IfOk result (λ _. Looked (paragraph_size X) (20 * reach (paragraph_size X) X) pass.old.looks pass.new.looks) }
 {
     let at = level.at;
     let end = lines_end(view, at + 1, LineTest::Plain, &mut pass.looks);
@@ -106,11 +97,9 @@ fn put_paragraph(
     end: usize,
     pass: &mut Pass,
 ) -> Result<()>
-    ensures at { level.new.at ≡ level.old.at }
     ensures read { let nodes = parts.shown_paragraph (chars text.now) level.old.at end (block_of view.now) pass.old.numbers in
         Gives (λ _. ReadsNodes nodes level.old level.new level.old.at pass.new.numbers) result }
-    ensures looks { IfOk result (λ _. pass.new.looks ≤ pass.old.looks + 1) }
-    ensures low { IfOk result (λ _. capped pass.old.looks ≤ pass.new.looks) }
+    ensures looked { IfOk result (λ _. Looked 0 1 pass.old.looks pass.new.looks) }
 {
     if is_blank(text) {
         return put_indentation_error(view, level, end, pass);
@@ -130,12 +119,10 @@ fn put_indentation_error(
     end: usize,
     pass: &mut Pass,
 ) -> Result<()>
-    ensures at { level.new.at ≡ level.old.at }
     ensures error { let nodes = unless_blank Error (codes "Unexpected indentation.") (drop end (block_of view.now)) in
         Gives (λ _. HasMoreAt level.old level.new nodes level.old.at) result }
     ensures numbers { pass.new.numbers ≡ pass.old.numbers }
-    ensures looks { IfOk result (λ _. pass.new.looks ≤ pass.old.looks + 1) }
-    ensures low { IfOk result (λ _. capped pass.old.looks ≤ pass.new.looks) }
+    ensures looked { IfOk result (λ _. Looked 0 1 pass.old.looks pass.new.looks) }
 {
     if is_blank(text_at(view, end, &mut pass.looks)) {
         return Ok(());
@@ -151,15 +138,13 @@ fn literal(view: &View<'_>, level: &mut OpenBlock, end: usize, pass: &mut Pass) 
     requires end { end ≤ length (block_of view.now) }
     requires inside { level.old.at < length (block_of view.now) }
     requires behind { level.old.at < end }
-    ensures later { IfOk result (λ _. level.old.at < level.new.at) }
     ensures gone { let B = block_of view.now in
         let Z = drop end B in
         let nodes = literals.literal_nodes (first_number (drop (end - 1) B)) Z in
         Gives (λ _. HasMoreAt level.old level.new nodes (end + literal_size Z)) result }
     ensures numbers { pass.new.numbers ≡ pass.old.numbers }
-    ensures most { let Z = drop end (block_of view.now) in
-        IfOk result (λ _. pass.new.looks ≤ pass.old.looks + 8 * reach (literal_size Z) Z) }
-    ensures low { IfOk result (λ _. capped (pass.old.looks + literal_size (drop end (block_of view.now))) ≤ pass.new.looks) }
+    ensures looked { let Z = drop end (block_of view.now) in
+        IfOk result (λ _. Looked (literal_size Z) (8 * reach (literal_size Z) Z) pass.old.looks pass.new.looks) }
 {
     let alloc = pass.alloc;
     let start = lines_end(view, end, LineTest::Blank, &mut pass.looks);
@@ -193,13 +178,11 @@ fn indented_literal(
     requires start { start ≤ length (block_of view.now) }
     requires inside { level.old.at < length (block_of view.now) }
     requires behind { level.old.at < start }
-    ensures later { IfOk result (λ _. level.old.at < level.new.at) }
     ensures gone { let Z = drop start (block_of view.now) in
         Gives (λ _. HasMoreAt level.old level.new (literals.indented_literal Z) (start + extent 1 Z)) result }
     ensures numbers { pass.new.numbers ≡ pass.old.numbers }
-    ensures most { let Z = drop start (block_of view.now) in
-        IfOk result (λ _. pass.new.looks ≤ pass.old.looks + 1 + 2 * reach (extent 1 Z) Z) }
-    ensures low { IfOk result (λ _. capped (pass.old.looks + extent 1 (drop start (block_of view.now))) ≤ pass.new.looks) }
+    ensures looked { let Z = drop start (block_of view.now) in
+        IfOk result (λ _. Looked (extent 1 Z) (1 + 2 * reach (extent 1 Z) Z) pass.old.looks pass.new.looks) }
 {
     let lines = indented(view, start, &mut pass.looks);
     let text = joined(pass.alloc, &inside(view, lines), &mut pass.looks)?;
@@ -227,15 +210,12 @@ fn quoted_literal(
     requires inside { level.old.at < length (block_of view.now) }
     requires behind { level.old.at < start }
     requires quoted { begins_with quote (front_text (drop start (block_of view.now))) ≡ true }
-    ensures later { IfOk result (λ _. level.old.at < level.new.at) }
     ensures gone { let Z = drop start (block_of view.now) in
         let size = lines_while (Begins quote) Z in
         Gives (λ _. HasMoreAt level.old level.new (literals.quoted_literal size Z) (start + size)) result }
     ensures numbers { pass.new.numbers ≡ pass.old.numbers }
-    ensures most { IfOk result (λ _.
-        pass.new.looks ≤ pass.old.looks + 2 + 2 * lines_while (Begins quote) (drop start (block_of view.now))) }
-    ensures low { IfOk result (λ _.
-        capped (pass.old.looks + lines_while (Begins quote) (drop start (block_of view.now))) ≤ pass.new.looks) }
+    ensures looked { let size = lines_while (Begins quote) (drop start (block_of view.now)) in
+        IfOk result (λ _. Looked size (2 + 2 * size) pass.old.looks pass.new.looks) }
 {
     let end = lines_end(view, start, LineTest::Begins(quote), &mut pass.looks);
     let text = source(pass.alloc, view, start, end, &mut pass.looks)?;

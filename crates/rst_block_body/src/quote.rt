@@ -1,7 +1,7 @@
 //! Block quotes with their attributions (Markup Specification, 'Block Quotes').
 ghost use Rattle.std.specs.Prelude.{◌≡◌, [], ◌+◌, ◌-◌, ◌*◌, ◌<◌, ◌≤◌, length, drop, Ok, IfOk, IfSome, IfNone};
 ghost use Rattle.rst_text.specs.Block.{first_number};
-ghost use Rattle.rst_text.specs.Looked.{capped};
+ghost use Rattle.rst_text.specs.Looked.{Looked, capped};
 ghost use Rattle.rst_text.specs.Shown.{block_of};
 ghost use Rattle.rst_tree.specs.Faults.{Gives};
 ghost use Rattle.rst_tree.specs.declared.tag.Tag.TheVariants.{Attribution as AttributionTag};
@@ -10,10 +10,10 @@ ghost use Rattle.rst_markup_blocks.specs.Attributions.{attribution_part};
 ghost use Rattle.rst_block_state.specs.Quotes as quotes;
 ghost use Rattle.rst_block_state.specs.Steps as spec;
 ghost use Rattle.rst_block_state.specs.Texts.{joined, lines_in, texted};
-ghost use Rattle.rst_markup_blocks.specs.Begun.{IsBegun};
 ghost use Rattle.rst_markup_blocks.specs.declared.begun.Begun.TheVariants.{Quote};
-ghost use Rattle.rst_block_state.specs.Meanings.{Keeps, comes, quotes_from, reads};
-ghost use Rattle.rst_block_state.specs.Ledger.{AreQuotesPaid, IsPaid};
+ghost use Rattle.rst_block_state.specs.Meanings.{Keeps, comes, quotes_from};
+ghost use Rattle.rst_block_state.specs.Ledger.{AreQuotesPaid};
+ghost use Rattle.rst_block_body.specs.ReadSteps.{BeginsAt, IsRead};
 
 use rst_block_nodes::{Texted, with_text};
 use rst_block_state::{OpenBlock, Pass, Result, Step, Waits, indented, inside, joined, number_at};
@@ -24,12 +24,8 @@ use std::alloc::Global;
 
 /// A block quote.
 pub fn block_quote(view: &View<'_>, level: &mut OpenBlock, pass: &mut Pass) -> Result<Step>
-    requires inside { level.old.at < length (block_of view.now) }
-    requires begun { IsBegun (drop level.old.at (block_of view.now)) Quote }
-    ensures step { IfOk result (λ s. spec.IsStep (block_of view.now) level.old.at level.new.at s) }
-    ensures read { Keeps result (λ s. comes level.new (block_of view.now) s pass.new.numbers)
-        (reads level.old (block_of view.now) pass.old.numbers) }
-    ensures paid { IfOk result (λ s. IsPaid 29 level.old level.new (block_of view.now) s pass.old.looks pass.new.looks) }
+    requires { BeginsAt (block_of view.now) level.old Quote }
+    ensures { IsRead 29 (block_of view.now) level.old pass.old level.new pass.new result }
 {
     level.close(view, pass)?;
     let quote = indented(view, level.at, &mut pass.looks);
@@ -113,10 +109,8 @@ fn first_attribution(lines: &View<'_>, looks: &mut Looks) -> Option<(usize, Attr
     ensures first { result ≡ quotes.first_attribution (block_of lines.now) }
     ensures place { IfSome result (λ found. (0 < found.0) × (found.0 ≤ found.1.end)) }
     ensures within { IfSome result (λ found. IsBlock (block_of lines.now) (attribution_part found.0 found.1)) }
-    ensures through { IfSome result (λ found. looks.new ≤ looks.old + 5 * found.1.end) }
-    ensures all { IfNone result (looks.new ≤ looks.old + 5 * length (block_of lines.now) + 1) }
-    ensures each { IfSome result (λ found. capped (looks.old + found.1.end) ≤ looks.new) }
-    ensures low { IfNone result (capped (looks.old + length (block_of lines.now)) ≤ looks.new) }
+    ensures through { IfSome result (λ found. Looked found.1.end (5 * found.1.end) looks.old looks.new) }
+    ensures all { let lines = length (block_of lines.now) in IfNone result (Looked lines (5 * lines + 1) looks.old looks.new) }
 {
     let mut end = lines_end(lines, 0, LineTest::Filled, looks);
     while end < lines.len() {

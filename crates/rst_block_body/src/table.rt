@@ -1,7 +1,7 @@
 //! Tables (Markup Specification, 'Tables').
 ghost use Rattle.std.specs.Prelude.{◌≡◌, ◌+◌, ◌-◌, ◌<◌, ◌≤◌, ◌==◌, [], ◌∷◌, codes, length, drop, slice_range, nat_lt, if◌then◌else◌, IfOk, ℕ, ◌*◌};
 ghost use Rattle.rst_text.specs.Block.{first_number};
-ghost use Rattle.rst_text.specs.Looked.{capped};
+ghost use Rattle.rst_text.specs.Looked.{Looked, capped};
 ghost use Rattle.rst_text.specs.Shown.{block_of};
 ghost use Rattle.rst_tree.specs.Faults.{Gives};
 ghost use Rattle.rst_tree.specs.declared.note.Level.TheVariants.{Error};
@@ -92,8 +92,7 @@ pub fn after_table(view: &View<'_>, level: &mut OpenBlock, pass: &mut Pass) -> R
     ensures more { let notes = warned (codes "Blank line required after table.") (drop level.old.at (block_of view.now)) in
         blocks.Gives (λ _. blocks.HasMore level.old level.new notes) result }
     ensures numbers { pass.new.numbers ≡ pass.old.numbers }
-    ensures looks { pass.new.looks ≤ pass.old.looks + 1 }
-    ensures low { capped pass.old.looks ≤ pass.new.looks }
+    ensures looked { Looked 0 1 pass.old.looks pass.new.looks }
 {
     let end = level.at;
     level.warn(view, end, "Blank line required after table.", pass)

@@ -1,9 +1,7 @@
 //! Lines of text: titles, items of definition lists and paragraphs.
-ghost use Rattle.std.specs.Prelude.{◌≡◌, ◌+◌, ◌<◌, ◌≤◌, ◌==◌, length, drop, string_bytes, IfOk};
-ghost use Rattle.rst_text.specs.Looked.{capped};
+ghost use Rattle.std.specs.Prelude.{◌≡◌, ◌+◌, ◌<◌, ◌==◌, length, drop, string_bytes, IfOk};
+ghost use Rattle.rst_text.specs.Looked.{Looked};
 ghost use Rattle.rst_text.specs.Shown.{block_of};
-ghost use Rattle.rst_block_state.specs.Steps as spec;
-ghost use Rattle.rst_block_state.specs.Meanings.{Keeps, comes, reads};
 ghost use Rattle.rst_block_state.specs.NextLine.{IsText};
 ghost use Rattle.rst_block_state.specs.OpenBlocks.{Gives, ReadsItems, HasMoreAt, HasMore};
 ghost use Rattle.rst_block_state.specs.Constructs as constructs;
@@ -12,7 +10,7 @@ ghost use Rattle.rst_block_state.specs.Titles as titles;
 ghost use Rattle.rst_block_body.specs.TextSteps.{under_style, unexpected_notes};
 ghost use Rattle.rst_text.specs.Block.{front_text, first_number};
 ghost use Rattle.std.specs.Option.{option_to_list};
-ghost use Rattle.rst_block_state.specs.Ledger.{IsPaid};
+ghost use Rattle.rst_block_body.specs.ReadSteps.{IsRead};
 
 use super::definition::definition;
 use super::paragraph::paragraph;
@@ -36,10 +34,7 @@ pub fn text_line(
 ) -> Result<Step>
     requires inside { level.old.at < length (block_of view.now) }
     requires text { IsText level.old (block_of view.now) infos.items }
-    ensures step { IfOk result (λ s. spec.IsStep (block_of view.now) level.old.at level.new.at s) }
-    ensures read { Keeps result (λ s. comes level.new (block_of view.now) s pass.new.numbers)
-        (reads level.old (block_of view.now) pass.old.numbers) }
-    ensures paid { IfOk result (λ s. IsPaid 27 level.old level.new (block_of view.now) s pass.old.looks pass.new.looks) }
+    ensures { IsRead 27 (block_of view.now) level.old pass.old level.new pass.new result }
 {
     let at = level.at;
     let text = view.line(at, &mut pass.looks);
@@ -71,7 +66,6 @@ pub fn text_line(
 /// Puts the message on a possible underline behind the last node, where titles may stand.
 fn put_short_underline(alloc: Global, view: &View<'_>, level: &mut OpenBlock) -> Result<()>
     requires inside { level.old.at < length (block_of view.now) }
-    ensures at { level.new.at ≡ level.old.at }
     ensures more { let notes = constructs.short_underline (level.old.depth == 0) (drop level.old.at (block_of view.now)) in
         Gives (λ _. HasMore level.old level.new notes) result }
 {
@@ -93,13 +87,11 @@ fn put_short_underline(alloc: Global, view: &View<'_>, level: &mut OpenBlock) ->
 /// A title over its underline, or the messages on one where none may stand.
 fn underlined(view: &View<'_>, level: &mut OpenBlock, short: bool, pass: &mut Pass) -> Result<()>
     requires inside { level.old.at + 1 < length (block_of view.now) }
-    ensures later { IfOk result (λ _. level.old.at < level.new.at) }
     ensures read { let B = block_of view.now in
         let lines = source_of B (record { start = level.old.at; stop = level.old.at + 2 }) in
         let item = titles.underline_item (level.old.depth == 0) short lines (drop level.old.at B) pass.old.numbers in
         Gives (λ _. ReadsItems item level.old level.new (level.old.at + 2) pass.new.numbers) result }
-    ensures most { pass.new.looks ≤ pass.old.looks + 4 }
-    ensures low { IfOk result (λ _. capped (pass.old.looks + 2) ≤ pass.new.looks) }
+    ensures looked { IfOk result (λ _. Looked 2 4 pass.old.looks pass.new.looks) }
 {
     let at = level.at;
     let end = at.saturating_add(2);
@@ -128,12 +120,10 @@ fn put_title(
 ) -> Result<()>
     requires inside { level.old.at + 1 < length (block_of view.now) }
     requires titles { level.old.depth ≡ 0 }
-    ensures later { IfOk result (λ _. level.old.at < level.new.at) }
     ensures read { let X = drop level.old.at (block_of view.now) in
         let item = titles.title_item (under_style X) (front_text X) (first_number X) warning (string_bytes lines) pass.old.numbers in
         Gives (λ _. ReadsItems item level.old level.new (level.old.at + 2) pass.new.numbers) result }
-    ensures looks { pass.new.looks ≤ pass.old.looks + 2 }
-    ensures low { capped pass.old.looks ≤ pass.new.looks }
+    ensures looked { Looked 0 2 pass.old.looks pass.new.looks }
 {
     let at = level.at;
     let under = text_at(view, at.saturating_add(1), &mut pass.looks);
@@ -157,7 +147,6 @@ fn put_unexpected(
     lines: &str,
 ) -> Result<()>
     requires inside { level.old.at + 1 < length (block_of view.now) }
-    ensures later { IfOk result (λ _. level.old.at < level.new.at) }
     ensures gone { let notes = unexpected_notes warning lines.now (drop level.old.at (block_of view.now)) in
         Gives (λ _. HasMoreAt level.old level.new notes (level.old.at + 2)) result }
 {
@@ -171,7 +160,6 @@ fn put_unexpected(
 
 /// Puts a node behind the last, if there is one.
 fn push_if_any(level: &mut OpenBlock, node: Option<Node>) -> Result<()>
-    ensures at { level.new.at ≡ level.old.at }
     ensures more { Gives (λ _. HasMore level.old level.new (option_to_list node)) result }
 {
     match node {

@@ -168,8 +168,7 @@ content_by n B nothing Code content h = none_within n
 content_by n B nothing name content h = h
 content_by n B (title part) name content h = h
 content_by n B (uri address) Figure content h = h
-content_by n B (uri address) name content h = none_within n
-content_by n B (language word) name content h = none_within n
+content_by n B _ _ content h = none_within n
 
 definition_by : (n : ℕ) (B : Block) (given : Given) (content : Content) → AreWithin n (content_blocks B content) → AreWithin n (definition_content given B content)
 definition_by n B (uri address) content h = none_within n

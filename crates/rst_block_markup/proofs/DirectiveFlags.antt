@@ -25,21 +25,8 @@ IsFree name = (empty : Bool) (place : Place) (p q : Bool) → content_fault name
 
 free_of : (name : Name) → is_replacement (Some name) ≡ false → IsFree name
 unfolding content_fault
-free_of Attention h empty place p q = refl
-free_of Caution h empty place p q = refl
-free_of Danger h empty place p q = refl
-free_of Error h empty place p q = refl
-free_of Hint h empty place p q = refl
-free_of Important h empty place p q = refl
-free_of Note h empty place p q = refl
-free_of Tip h empty place p q = refl
-free_of Warning h empty place p q = refl
-free_of Admonition h empty place p q = refl
-free_of Topic h empty place p q = refl
-free_of Image h empty place p q = refl
-free_of Figure h empty place p q = refl
 free_of Replace h empty place p q = let no : true ≡ false = h in cc
-free_of Code h empty place p q = refl
+free_of _ h empty place p q = refl
 
 -- ---- a directive that is read has the name that it is called by
 

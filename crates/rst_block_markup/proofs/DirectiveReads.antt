@@ -1,15 +1,15 @@
 -- What a block gives once a directive in it is read.
-use Rattle.std.proofs.Common.{◌≡◌, ℕ, Bool, true, false, List, [], ◌∷◌, Some, None, Ok, refl, sym, ◌∙◌, ap}
-use Rattle.std.specs.Prelude.{encode_utf8_all, string_bytes}
+use Rattle.std.proofs.Common.{◌≡◌, ℕ, ◌≤◌, Result, arith, subst, true, false, List, [], ◌∷◌, Some, None, Ok, refl, sym, ◌∙◌, ap}
+use Rattle.std.specs.Prelude.{encode_utf8_all}
 use Rattle.std.specs.Str.{chars}
-use Rattle.std.specs.declared.string.String.{String}
 use Rattle.rst_text.specs.Block.{Block}
 use Rattle.rst_tree.specs.declared.node.Node.{Node}
 use Rattle.rst_tree.specs.declared.tag.Tag.TheVariants.{Title as TitleTag}
-use Rattle.rst_markup_directives.specs.Argument.{nothing, uri, language, given_in}
+use Rattle.rst_markup_directives.specs.Argument.{Given, nothing, uri, given_in}
 use Rattle.rst_markup_directives.specs.Directive.{Read, is_code_name}
 use Rattle.rst_markup_directives.specs.Options.{choices_in}
 use Rattle.rst_markup_directives.specs.declared.argument.Argument.{Argument}
+use Rattle.rst_markup_directives.specs.declared.found.Content.{Content}
 use Rattle.rst_markup_directives.specs.declared.name.Name.{Name}
 use Rattle.rst_markup_directives.specs.declared.name.Name.TheVariants.{Figure, Code}
 use Rattle.rst_markup_directives.specs.declared.options.Setting.{Setting}
@@ -17,40 +17,55 @@ use Rattle.rst_block_nodes.specs.Options.{directive_element, figure_element, ima
 use Rattle.rst_block_sections.specs.Sections.{filled}
 use Rattle.rst_block_state.specs.Directives.{content_nodes, titled_element, titled_nodes, plain_nodes, figure_of, code_nodes, right_by}
 use Rattle.rst_block_state.specs.Figures.{caption_error, figure_nodes}
+use Rattle.rst_block_state.specs.Inside.{content_blocks, directive_content}
 use Rattle.rst_block_state.specs.LineRuns.{number_or}
-use Rattle.rst_block_markup.specs.MarkupSteps.{is_figure, made_of, reads_with}
+use Rattle.rst_block_markup.specs.MarkupSteps.{IsDirectiveRead, is_figure, made_of, reads_with}
+use Rattle.rst_block_markup.specs.declared.directive.Found.{Found}
 use Rattle.rst_block_state.specs.Meanings.{within_at, reads_from, comes}
-use Rattle.rst_block_state.specs.Numbered.{then_read, just}
+use Rattle.rst_block_state.specs.Numbered.{Numbered, then_read, just}
 use Rattle.rst_block_state.specs.OpenBlocks.{IsMoved}
 use Rattle.rst_block_state.specs.Texts.{joined, texted}
 use Rattle.rst_block_state.specs.Within.{Within}
+use Rattle.rst_block_state.specs.declared.fault.BlockFault.{BlockFault}
 use Rattle.rst_block_state.specs.declared.open_block.OpenBlock.{OpenBlock}
 use Rattle.rst_block_state.specs.declared.waits.Waits.TheVariants.{Element}
 use Rattle.rst_block_state.specs.declared.step.Step.{Step}
 use Rattle.rst_block_state.specs.declared.step.Step.TheVariants.{Open}
+use Rattle.rst_block_state.specs.declared.texts.Pass.{Pass}
 use Rattle.rst_block_markup.proofs.MarkupReads.{content_comes, titled_then}
+use Rattle.rst_block_markup.proofs.PartLemmas.{part_as}
 
 -- ---- a directive by its argument and its name
 
-pub figure_right : (name : Name) (figure : Bool) (t : List ℕ) (c : Within) (B : Block) (line : ℕ) (read : Read) (lines : List ℕ) → figure ≡ is_figure name → figure ≡ true → encode_utf8_all (chars t) ≡ t
-    → figure_of c B line read t lines ≡ right_by (uri (chars t)) name c B line read lines
-figure_right Figure figure t c B line read lines e h u = ap (λ a. figure_of c B line read a lines) (sym u)
-figure_right _ figure t c B line read lines e h u = let no : true ≡ false = sym h ∙ e in cc
+-- what such a directive leaves, and the blocks of its content
+abbrev IsRightBy : Given → Name → Within → Block → ℕ → Read → List ℕ → Content → Numbered (List Node) → List Block → Type 0
+IsRightBy given name c B line read lines content nodes inner = (nodes ≡ right_by given name c B line read lines) × (inner ≡ directive_content given name B content)
 
-pub image_right : (name : Name) (figure : Bool) (t : List ℕ) (c : Within) (B : Block) (line : ℕ) (read : Read) (lines : List ℕ) → figure ≡ is_figure name → figure ≡ false → encode_utf8_all (chars t) ≡ t
-    → just (image_element t read.options line false None ∷ []) ≡ right_by (uri (chars t)) name c B line read lines
-image_right Figure figure t c B line read lines e h u = let no : false ≡ true = sym h ∙ e in cc
-image_right _ figure t c B line read lines e h u = ap (λ a. just (image_element a read.options line false None ∷ [])) (sym u)
+pub figure_right : (name : Name) (t : List ℕ) (c : Within) (B : Block) (line : ℕ) (read : Read) (lines : List ℕ) (content : Content) → is_figure name ≡ true → encode_utf8_all (chars t) ≡ t
+    → IsRightBy (uri (chars t)) name c B line read lines content (figure_of c B line read t lines) (content_blocks B content)
+figure_right Figure t c B line read lines content h u = (ap (λ a. figure_of c B line read a lines) (sym u), refl)
+figure_right _ t c B line read lines content h u = absurd (let no : false ≡ true = h in cc)
 
-pub code_right : (name : Name) (code : Bool) (c : Within) (B : Block) (line : ℕ) (read : Read) (lines : List ℕ) → code ≡ is_code_name name → code ≡ true
-    → just (code_nodes B line read None) ≡ right_by nothing name c B line read lines
-code_right Code code c B line read lines e h = refl
-code_right _ code c B line read lines e h = let no : true ≡ false = sym h ∙ e in cc
+pub image_right : (name : Name) (t : List ℕ) (c : Within) (B : Block) (line : ℕ) (read : Read) (lines : List ℕ) (content : Content) → is_figure name ≡ false → encode_utf8_all (chars t) ≡ t
+    → IsRightBy (uri (chars t)) name c B line read lines content (just (image_element t read.options line false None ∷ [])) []
+image_right Figure t c B line read lines content h u = absurd (let no : true ≡ false = h in cc)
+image_right _ t c B line read lines content h u = (ap (λ a. just (image_element a read.options line false None ∷ [])) (sym u), refl)
 
-pub plain_right : (name : Name) (code : Bool) (c : Within) (B : Block) (line : ℕ) (read : Read) (lines : List ℕ) → code ≡ is_code_name name → code ≡ false
-    → plain_nodes c B line read ≡ right_by nothing name c B line read lines
-plain_right Code code c B line read lines e h = let no : false ≡ true = sym h ∙ e in cc
-plain_right _ code c B line read lines e h = refl
+pub code_right : (name : Name) (c : Within) (B : Block) (line : ℕ) (read : Read) (lines : List ℕ) (content : Content) → is_code_name name ≡ true
+    → IsRightBy nothing name c B line read lines content (just (code_nodes B line read None)) []
+code_right Code c B line read lines content h = (refl, refl)
+code_right _ c B line read lines content h = absurd (let no : false ≡ true = h in cc)
+
+pub plain_right : (name : Name) (c : Within) (B : Block) (line : ℕ) (read : Read) (lines : List ℕ) (content : Content) → is_code_name name ≡ false
+    → IsRightBy nothing name c B line read lines content (plain_nodes c B line read) (content_blocks B content)
+plain_right Code c B line read lines content h = absurd (let no : true ≡ false = h in cc)
+plain_right _ c B line read lines content h = (refl, refl)
+
+-- a directive whose argument is this one
+pub given_read : {few more : ℕ} {B : Block} {old new : OpenBlock} {before after : Pass} {argument : Argument} {result : Result Step BlockFault} (f : Found) (given : Given)
+    → IsDirectiveRead few B old before f given new after result → given ≡ given_in argument → f.argument ≡ argument → few ≤ more → IsDirectiveRead more B old before f (given_in f.argument) new after result
+given_read {few} {more} {B} {old} {new} {before} {after} {argument} {result} f given h g is enough =
+    subst (λ x. IsDirectiveRead more B old before f x new after result) (g ∙ ap given_in (sym is)) (part_as h refl refl refl (omega arith) (omega (arith, enough)))
 
 -- ---- what comes
 
@@ -93,8 +108,3 @@ figure_is c B read t lines line at slice element shown figure inner e s i f o l 
     ∙ ap (λ x. filled x (image_element t read.options line true None ∷ [])) (e ∙ ap (λ os. figure_element os line) o) in
     ap (λ x. made_of c B read.content (figure_nodes x (caption_error at lines))) whole
     ∙ ap (λ k. made_of c B read.content (figure_nodes (filled (figure_element read.options k) (image_element t read.options k true None ∷ [])) (caption_error at lines))) l
-
-pub language_right : {A : Type 0} (argument : Argument) (word : String A) (t : List ℕ) (name : Name) (c : Within) (B : Block) (line : ℕ) (read : Read) (lines : List ℕ) → given_in argument ≡ language (chars (string_bytes word))
-    → t ≡ string_bytes word → encode_utf8_all (chars t) ≡ t → just (code_nodes B line read (Some t)) ≡ right_by (given_in argument) name c B line read lines
-language_right argument word t name c B line read lines e h u =
-    ap (λ w. just (code_nodes B line read (Some w))) (sym u ∙ ap (λ w. encode_utf8_all (chars w)) h) ∙ ap (λ g. right_by g name c B line read lines) (sym e)

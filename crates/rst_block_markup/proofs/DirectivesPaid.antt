@@ -1,16 +1,15 @@
 -- What directives and substitution definitions take of looks: the blocks that they open, and how many lines their parts have.
-use Rattle.std.proofs.Common.{◌≡◌, ℕ, ◌+◌, ◌-◌, ◌≤◌, Bool, true, false, not, cond, List, [], ◌∷◌, length, take, drop, Option, None, Some, option_map, Result, Ok, Err, IfOk, arith, refl, sym, ap, ◌∙◌, subst}
+use Rattle.std.proofs.Common.{◌≡◌, ℕ, ◌-◌, ◌≤◌, Bool, true, false, not, cond, List, [], ◌∷◌, length, take, drop, Option, None, Some, option_map, Result, Ok, Err, arith, sym, subst}
 use Rattle.std.proofs.lemmas.List.Sums.{prefix_len-le-length}
-use Rattle.rst_text.specs.Looked.{capped}
 use Rattle.rst_text.specs.Block.{Block}
 use Rattle.rst_text.specs.Names.{normalized_white}
 use Rattle.rst_inline_scan.specs.Characters.{is_among}
 use Rattle.rst_markup_blocks.specs.declared.forms.Invocation.{Invocation}
 use Rattle.rst_markup_blocks.specs.declared.part.Part.{Part}
-use Rattle.rst_markup_directives.specs.Argument.{Given, nothing, title, uri, language, title_of, uri_of, word_of, language_of, argument_of}
+use Rattle.rst_markup_directives.specs.Argument.{Given, title, language, title_of, uri_of, word_of, language_of, argument_of}
 use Rattle.rst_markup_directives.specs.Call.{called_at, part_of, content_of, is_empty}
 use Rattle.rst_markup_directives.specs.Characters.{Text}
-use Rattle.rst_markup_directives.specs.Directive.{Read, Outcome, found, wrong, run_in, is_code_name, options_of, outcome_of, read_parts, read_by, read_block, read_at, outcome_at, of_block, judged, named, lines_at, is_late, directive_of}
+use Rattle.rst_markup_directives.specs.Directive.{Read, Outcome, found, wrong, run_in, options_of, outcome_of, read_parts, read_by, read_block, read_at, outcome_at, of_block, judged, named, lines_at, is_late, directive_of}
 use Rattle.rst_markup_directives.specs.Judgement.{content_fault}
 use Rattle.rst_markup_directives.specs.Layout.{begins_field, before_field, layout_at, layout_of}
 use Rattle.rst_markup_directives.specs.Lines.{behind_blank, joined}
@@ -25,68 +24,12 @@ use Rattle.rst_markup_directives.specs.declared.found.Place.{Place}
 use Rattle.rst_markup_directives.specs.declared.name.Name.{Name}
 use Rattle.rst_markup_directives.specs.declared.name.Name.TheVariants.{Admonition, Topic, Image, Figure, Code}
 use Rattle.rst_block_state.specs.Directives.{called}
-use Rattle.rst_block_state.specs.Inside.{content_blocks, directive_content}
-use Rattle.rst_block_state.specs.Ledger.{Opens, WaitsForOne, argument_lines, waiting_looks, run_looks, totals}
-use Rattle.rst_block_markup.specs.MarkupSteps.{is_figure}
-use Rattle.rst_block_state.specs.OpenBlocks.{IsMoved}
+use Rattle.rst_block_state.specs.Ledger.{argument_lines}
 use Rattle.rst_block_state.specs.Paragraphs.{is_single_paragraph}
 use Rattle.rst_block_state.specs.Texts.{lines_in}
 use Rattle.rst_block_state.specs.Within.{Within}
-use Rattle.rst_block_state.specs.declared.fault.BlockFault.{BlockFault}
-use Rattle.rst_block_state.specs.declared.open_block.OpenBlock.{OpenBlock}
-use Rattle.rst_block_state.specs.declared.waits.Waits.{Waits}
-use Rattle.rst_block_state.specs.declared.step.Step.{Step}
-use Rattle.rst_block_state.specs.declared.step.Step.TheVariants.{Open}
 use Rattle.rst_block_markup.proofs.ContentFacts.{run_in-le}
-use Rattle.rst_block_state.proofs.PaidSteps.{opened_after}
 use Rattle.rst_block_state.proofs.PartFacts.{part_le}
-use Rattle.rst_block_state.proofs.WaitingLooks.{alone}
-
--- ---- what a call opens
-
--- what is opened at the price of all looks before it, and of some that come later, is opened in no more looks than these
-pub opened_later : (more later : ℕ) (old new : OpenBlock) (B : Block) (Cs Ds : List Block) (end before after : ℕ) (result : Result Step BlockFault) → capped before ≤ after → after - before + later ≤ more → Cs ≡ Ds
-    → (capped before ≤ after → IfOk result (λ s. Opens (after - before + later) old new B Cs end s before after)) → IfOk result (λ s. Opens more old new B Ds end s before after)
-opened_later more later old new B Cs Ds end before after result low high same h = opened_after (after - before + later) more old new B Cs Ds end before before after result (omega arith) (omega (arith, high)) same (h low)
-
--- the same where none come later
-pub opened_within : (more : ℕ) (old new : OpenBlock) (B : Block) (Cs Ds : List Block) (end before after : ℕ) (result : Result Step BlockFault) → capped before ≤ after → after ≤ before + more → Cs ≡ Ds
-    → (capped before ≤ after → IfOk result (λ s. Opens (after - before) old new B Cs end s before after)) → IfOk result (λ s. Opens more old new B Ds end s before after)
-opened_within more old new B Cs Ds end before after result low high same h = opened_after (after - before) more old new B Cs Ds end before before after result (omega arith) (omega (arith, low, high)) same (h low)
-
--- the content of a directive is opened after some looks
-pub content_opened : (old new : OpenBlock) (B : Block) (w : Waits) (content : Content) (end before after : ℕ) → WaitsForOne w → IsMoved old new → new.at ≡ end → capped before ≤ after
-    → Opens (after - before + waiting_looks w) old new B (content_blocks B content) end (Open w content.first (Some content.second)) before after
-content_opened old new B w content end before after h moved at le =
-    let none = alone new B w h in
-    record {
-      goes = tt;
-      depth = moved.depth;
-      run = ap run_looks moved.run;
-      place = none.1 ∙ at;
-      blocks = ap (λ (Cs : List Block). totals old.depth (lines_in B content.first ∷ lines_in B content.second ∷ Cs)) none.0;
-      cells = refl;
-      most = omega (arith, ap run_looks moved.run, le);
-      least = le;
-    }
-
--- ---- the content of a directive, by its argument and its name
-
-pub code_content : (name : Name) (code : Bool) (B : Block) (content : Content) → code ≡ is_code_name name → code ≡ true → [] ≡ directive_content nothing name B content
-code_content Code code B content e h = refl
-code_content _ code B content e h = let no : true ≡ false = sym h ∙ e in cc
-
-pub plain_content : (name : Name) (code : Bool) (B : Block) (content : Content) → code ≡ is_code_name name → code ≡ false → content_blocks B content ≡ directive_content nothing name B content
-plain_content Code code B content e h = let no : false ≡ true = sym h ∙ e in cc
-plain_content _ code B content e h = refl
-
-pub figure_content : (name : Name) (figure : Bool) (address : Text) (B : Block) (content : Content) → figure ≡ is_figure name → figure ≡ true → content_blocks B content ≡ directive_content (uri address) name B content
-figure_content Figure figure address B content e h = refl
-figure_content _ figure address B content e h = let no : true ≡ false = sym h ∙ e in cc
-
-pub image_content : (name : Name) (figure : Bool) (address : Text) (B : Block) (content : Content) → figure ≡ is_figure name → figure ≡ false → [] ≡ directive_content (uri address) name B content
-image_content Figure figure address B content e h = let no : false ≡ true = sym h ∙ e in cc
-image_content _ figure address B content e h = refl
 
 -- ---- the lines of a directive's parts
 
@@ -175,8 +118,8 @@ outcome_short n c B i call place few = by (named (called_at c.code B i call) pla
     paragraph = is_single_paragraph (lines_in B call.block)
 
     by : (r : Result Name Fault) → AreOutcomeShort n (outcome_at (lines_at i call.block) (and_then (judged place paragraph) (and_then (read_at B i call.block) r)))
-    by (Err w) = tt
     by (Ok name) = judged_short n place paragraph (lines_at i call.block) (read_block name (is_late i call.block) call.block (lines_in B call.block)) (block_short n name (is_late i call.block) call.block (lines_in B call.block) few)
+    by (Err w) = tt
 
 -- a directive's title, and its content after the options, have no more lines than this
 abbrev pub AreFew : ℕ → Directive → Type 0
@@ -184,11 +127,9 @@ AreFew n (FoundDirective name argument options content) = (argument_lines argume
 AreFew n (WrongDirective fault source) = Unit {0}
 
 kept_few : (n : ℕ) (d : Directive) → AreOutcomeShort n (outcome_of d) → AreFew n d
-kept_few n (FoundDirective name Absent options content) h = (omega arith, h.1)
 kept_few n (FoundDirective name (Title part) options content) h = h
-kept_few n (FoundDirective name (Uri text) options content) h = (omega arith, h.1)
-kept_few n (FoundDirective name (Language text) options content) h = (omega arith, h.1)
 kept_few n (WrongDirective fault source) h = tt
+kept_few n _ h = (omega arith, h.1)
 
 -- they have no more lines than its block
 pub directive_few : (c : Within) (B : Block) (i : ℕ) (call : Invocation) (place : Place) (d : Directive) → outcome_of d ≡ called c B i call place → AreFew (call.block.to - call.block.from) d

@@ -4,4 +4,5 @@ pub mod DirectiveReads
 pub mod DirectivesPaid
 pub mod MarkupPaid
 pub mod MarkupReads
+pub mod PartLemmas
 pub mod SubstitutionReads

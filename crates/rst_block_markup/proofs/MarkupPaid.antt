@@ -1,5 +1,5 @@
 -- Explicit markup is paid for: what its parts open, and that they stand in its lines.
-use Rattle.std.proofs.Common.{◌≡◌, ℕ, ◌+◌, ◌-◌, ◌*◌, ◌≤◌, ◌<◌, Bool, true, false, cond, List, [], ◌∷◌, length, drop, Option, None, Some, Result, IfOk, arith, refl, sym, ap, ◌∙◌, subst}
+use Rattle.std.proofs.Common.{◌≡◌, ℕ, ◌+◌, ◌-◌, ◌*◌, ◌≤◌, ◌<◌, Bool, true, false, cond, [], ◌∷◌, length, drop, Option, None, Some, Result, IfOk, arith, refl, sym, ap, ◌∙◌, subst}
 use Rattle.std.specs.Prelude.{◌==◌, IfSome}
 use Rattle.std.proofs.lemmas.Result.{IfOk-weaker}
 use Rattle.rst_text.specs.Block.{Block, front_text, is_blank}
@@ -37,33 +37,24 @@ use Rattle.rst_block_state.specs.Begins.{construct_with}
 use Rattle.rst_block_state.specs.Constructs.{explicit_markup}
 use Rattle.rst_block_state.specs.Inside.{markup_blocks, opened_by, cells_by}
 use Rattle.rst_block_state.specs.Ledger.{unread_at, totals, next_blocks, run_looks, IsPaid, Opens}
-use Rattle.rst_block_state.specs.OpenBlocks.{IsMoved, HasMoreAt}
+use Rattle.rst_block_state.specs.Markup.{markup_by}
+use Rattle.rst_block_state.specs.Meanings.{within_at}
+use Rattle.rst_block_state.specs.OpenBlocks.{IsMoved}
 use Rattle.rst_block_state.specs.Texts.{lines_in}
 use Rattle.rst_block_state.specs.declared.fault.BlockFault.{BlockFault}
 use Rattle.rst_block_state.specs.declared.open_block.OpenBlock.{OpenBlock}
+use Rattle.rst_block_state.specs.declared.texts.Pass.{Pass}
 use Rattle.rst_block_state.specs.declared.waits.Waits.TheVariants.{Element}
 use Rattle.rst_block_state.specs.declared.step.Step.{Step}
-use Rattle.rst_block_state.specs.declared.step.Step.TheVariants.{Next, Open}
+use Rattle.rst_block_state.specs.declared.step.Step.TheVariants.{Open}
+use Rattle.rst_block_markup.specs.MarkupSteps.{IsPartRead}
 use Rattle.rst_block_markup.proofs.MarkupReads.{explicit_some, no_dots}
-use Rattle.rst_block_state.proofs.NextConstructs.{IsFilled}
-use Rattle.rst_block_state.proofs.PaidSteps.{opened_after, paid_begun}
+use Rattle.rst_block_markup.proofs.PartLemmas.{part_as}
+use Rattle.rst_block_state.proofs.NextConstructs.{IsFilled, span_to}
+use Rattle.rst_block_state.proofs.PaidSteps.{paid_begun}
 use Rattle.rst_block_state.proofs.PartFacts.{hanging_from}
 
 -- ---- what a part of a construct opens
-
--- nodes came, and no block comes next
-pub opens_none : {old new : OpenBlock} {more : List Node} {end : ℕ} (few : ℕ) (B : Block) (before after : ℕ) → HasMoreAt old new more end → capped before ≤ after → after ≤ before + few
-    → Opens few old new B [] end Next before after
-opens_none few B before after h some enough = record {
-  goes = tt;
-  depth = h.depth;
-  run = ap run_looks h.run;
-  place = h.at;
-  blocks = refl;
-  cells = refl;
-  most = omega (arith, enough, ap run_looks h.run);
-  least = some;
-}
 
 -- the lines of a part come next, whose nodes an element waits for
 pub opens_part : {old new : OpenBlock} (B : Block) (element : Node) (body : Part) (looks : ℕ) → IsMoved old new → new.at ≡ body.to
@@ -152,15 +143,16 @@ held_in i end stop X found name held e is ends =
 
 -- ---- what explicit markup opens
 
--- what its form opens, where this takes no more than 20 looks for each of its lines
-pub form_opens : (few : ℕ) (found form : Markup) (old new : OpenBlock) (B : Block) (place end : ℕ) (result : Result Step BlockFault) (before mid after : ℕ) → found ≡ form → place ≡ end
-    → IfOk result (λ s. Opens few old new B (markup_blocks form (unread_at old.depth) B old.at) place s mid after) → capped before ≤ mid → mid + few ≤ before + 20 * (end - old.at)
-    → IfOk result (λ s. Opens (20 * (end - old.at)) old new B (markup_blocks found (unread_at old.depth) B old.at) end s before after)
-form_opens few found form old new B place end result before mid after is stop h start enough =
-    let Of : Markup → ℕ → Type 0 = λ x e. IfOk result (λ s. Opens few old new B (markup_blocks x (unread_at old.depth) B old.at) e s mid after) in
+-- it is read as its form is, where this takes no more than 20 looks for each of its lines
+pub form_read : {few : ℕ} {B : Block} {old new : OpenBlock} {before mid after : Pass} {found form : Markup} {place end : ℕ} {result : Result Step BlockFault}
+    → IsPartRead few B old mid (markup_by form (within_at old.depth) B (span_to old.at place) (drop old.at B)) (markup_blocks form (unread_at old.depth) B old.at) place new after result
+    → found ≡ form → place ≡ end → mid.numbers ≡ before.numbers → capped before.looks ≤ mid.looks → mid.looks + few ≤ before.looks + 20 * (end - old.at)
+    → IsPartRead (20 * (end - old.at)) B old before (markup_by found (within_at old.depth) B (span_to old.at end) (drop old.at B)) (markup_blocks found (unread_at old.depth) B old.at) end new after result
+form_read {few} {B} {old} {new} {before} {mid} {after} {found} {form} {place} {end} {result} h is stop same start enough =
+    let Of : Markup → ℕ → Type 0 = λ x e. IsPartRead few B old mid (markup_by x (within_at old.depth) B (span_to old.at e) (drop old.at B)) (markup_blocks x (unread_at old.depth) B old.at) e new after result in
     let there : Of form end = subst (Of form) stop h in
     let all : Of found end = subst (λ x. Of x end) (sym is) there in
-    opened_after few (20 * (end - old.at)) old new B (markup_blocks found (unread_at old.depth) B old.at) (markup_blocks found (unread_at old.depth) B old.at) end before mid after result start enough refl all
+    part_as all refl refl same start enough
 
 -- it is paid for, once its lines were looked at and the run of it has begun
 step_paid : (old mid new : OpenBlock) (B : Block) (found : Markup) (end : ℕ) (s : Step) (before looked begun after : ℕ) → old.at < length B → is_explicit_kind (kind_at (drop old.at B)) ≡ true

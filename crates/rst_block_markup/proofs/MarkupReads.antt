@@ -105,10 +105,7 @@ titled_then (Err line) E read node m h = cc
 
 joins_no_list : (k : ListKind) (s : Span) → joining_after (joining_in k) explicit_markup s ≡ None
 joins_no_list (Bullet c) s = refl
-joins_no_list (Enumerated q) s = refl
-joins_no_list Definition s = refl
-joins_no_list Field s = refl
-joins_no_list OptionItem s = refl
+joins_no_list _ s = refl
 
 -- explicit markup joins no other run
 new_run : (run : Run) (s : Span) → is_markup (open_of run) ≡ false → joining_with (open_of run) (found_as explicit_markup s) ≡ None
@@ -118,10 +115,8 @@ new_run (Lines lines end) s h = refl
 new_run (ExplicitRun end) s h = cc
 
 is_open_markup : (o : OpenRun) → is_markup o ≡ true → o ≡ open_markup (end_of_run o)
-is_open_markup no_run h = cc
-is_open_markup (open_list l) h = cc
-is_open_markup (open_lines end lines) h = cc
 is_open_markup (open_markup end) h = refl
+is_open_markup _ h = cc
 
 -- what is still to come after explicit markup
 markup_rest : ℕ → Block → ℕ → Numbered (List Item)

@@ -1,8 +1,8 @@
 -- Explicit markup, step by step: what a block gives where it stands at its next line, and directives as they are kept. No rule of markup.
-use Rattle.std.specs.Prelude.{ℕ, ◌<◌, length, Bool, true, false, List, Option, Some, if◌then◌else◌}
-use Rattle.rst_text.specs.Block.{Block}
+use Rattle.std.specs.Prelude.{ℕ, ◌<◌, length, drop, Bool, true, false, List, Option, Some, Result, IfOk, if◌then◌else◌}
+use Rattle.rst_text.specs.Block.{Block, first_number}
 use Rattle.rst_tree.specs.declared.node.Node.{Node}
-use Rattle.rst_markup_directives.specs.Argument.{given_in}
+use Rattle.rst_markup_directives.specs.Argument.{Given, given_in}
 use Rattle.rst_markup_directives.specs.Call.{IsContentIn}
 use Rattle.rst_markup_directives.specs.Directive.{Read}
 use Rattle.rst_markup_directives.specs.Options.{choices_in}
@@ -12,18 +12,25 @@ use Rattle.rst_markup_directives.specs.declared.found.Place.TheVariants.{Top, Bo
 use Rattle.rst_markup_directives.specs.declared.name.Name.{Name}
 use Rattle.rst_markup_directives.specs.declared.name.Name.TheVariants.{Figure, Replace}
 use Rattle.rst_block_state.specs.Constructs.{explicit_markup}
-use Rattle.rst_block_state.specs.Directives.{content_nodes}
+use Rattle.rst_block_state.specs.Directives.{content_nodes, right_by}
 use Rattle.rst_block_state.specs.Figures.{Beginning, caption, no_caption, neither}
-use Rattle.rst_block_state.specs.Meanings.{open_of, within_at, done_of, reads_from}
+use Rattle.rst_block_state.specs.Inside.{directive_content}
+use Rattle.rst_block_state.specs.Ledger.{Opens}
+use Rattle.rst_block_state.specs.Meanings.{Keeps, comes, open_of, within_at, done_of, reads_from}
 use Rattle.rst_block_state.specs.Numbered.{Numbered, ◌>>=◌, just, before}
 use Rattle.rst_block_state.specs.Rest.{OpenRun, open_markup, rest_with}
 use Rattle.rst_block_state.specs.RestLaws.{found_as}
+use Rattle.rst_block_state.specs.Steps.{IsStep}
+use Rattle.rst_block_state.specs.Texts.{source_of}
 use Rattle.rst_block_state.specs.Titles.{Item}
 use Rattle.rst_block_state.specs.Within.{Within}
 use Rattle.rst_block_markup.specs.declared.directive.Found.{Found}
 use Rattle.rst_block_markup.specs.declared.figure.Front.{Front}
 use Rattle.rst_block_markup.specs.declared.figure.Front.TheVariants.{Caption, Missing, Wrong}
+use Rattle.rst_block_state.specs.declared.fault.BlockFault.{BlockFault}
 use Rattle.rst_block_state.specs.declared.open_block.OpenBlock.{OpenBlock}
+use Rattle.rst_block_state.specs.declared.step.Step.{Step}
+use Rattle.rst_block_state.specs.declared.texts.Pass.{Pass}
 
 -- the open run is explicit markup
 abbrev pub is_markup : OpenRun → Bool
@@ -40,6 +47,13 @@ abbrev pub reads_with : OpenBlock → Block → Numbered (List Node) → ℕ →
 reads_with l B read at = do
   ns ← read
   reads_from l B ns at
+
+-- Part of a construct was read: the step leads to a later line, the block gives these nodes next and goes on at this line, and these blocks are opened
+-- in so many looks.
+pub record IsPartRead (few : ℕ) (B : Block) (old : OpenBlock) (before : Pass) (nodes : Numbered (List Node)) (inner : List Block) (end : ℕ) (new : OpenBlock) (after : Pass) (result : Result Step BlockFault) : Type 0 where
+  pub step : IfOk result (λ s. IsStep B old.at new.at s)
+  pub read : Keeps result (λ s. comes new B s after.numbers) (reads_with old B nodes end before.numbers)
+  pub paid : IfOk result (λ s. Opens few old new B inner end s before.looks after.looks)
 
 -- what is made of the nodes of a content
 abbrev pub made_of : Within → Block → Content → (List Node → List Node) → Numbered (List Node)
@@ -72,6 +86,13 @@ pub record IsRight (B : Block) (at : ℕ) (found : Found) : Type 0 where
   pub content : IsContentIn B found.content
   pub inside : at < length B
   pub later : at < found.end
+
+-- a right directive with an argument was read, which stands at the next line of a block
+abbrev pub IsDirectiveRead : ℕ → Block → OpenBlock → Pass → Found → Given → OpenBlock → Pass → Result Step BlockFault → Type 0
+IsDirectiveRead few B old before f given new after result =
+    let lines = source_of B (record { start = old.at; stop = f.end }) in
+    let nodes = right_by given f.name (within_at old.depth) B (first_number (drop old.at B)) (read_of f) lines in
+    IsPartRead few B old before nodes (directive_content given f.name B f.content) f.end new after result
 
 -- what the content of a figure begins with, as it is kept
 abbrev pub beginning_in : Front → Beginning

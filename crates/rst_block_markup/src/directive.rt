@@ -2,7 +2,7 @@
 ghost use Rattle.std.specs.Prelude.{◌≡◌, ℕ, ◌+◌, ◌-◌, ◌*◌, ◌<◌, ◌≤◌, ◌==◌, [], ◌∷◌, true, length, drop, slice_range, option_map, Some, Ok, IfOk};
 ghost use Rattle.std.specs.Str.{chars};
 ghost use Rattle.rst_text.specs.Block.{Block, first_number};
-ghost use Rattle.rst_text.specs.Looked.{capped};
+ghost use Rattle.rst_text.specs.Looked.{Looked, capped};
 ghost use Rattle.rst_text.specs.Shown.{block_of};
 ghost use Rattle.rst_tree.specs.Faults as faults;
 ghost use Rattle.rst_tree.specs.declared.note.Level.TheVariants.{Error};
@@ -17,19 +17,19 @@ ghost use Rattle.rst_block_sections.specs.Sections.{filled};
 ghost use Rattle.rst_block_state.specs.Directives as meaning;
 ghost use Rattle.rst_block_state.specs.Directives.{titled_element};
 ghost use Rattle.rst_block_state.specs.LineRuns.{number_or};
-ghost use Rattle.rst_block_markup.specs.MarkupSteps.{IsRight, is_figure, is_replacement, place_in, read_of, reads_with};
-ghost use Rattle.rst_block_state.specs.Meanings.{Keeps, comes, within_at};
+ghost use Rattle.rst_block_markup.specs.MarkupSteps.{IsDirectiveRead, IsPartRead, IsRight, is_figure, is_replacement, place_in, read_of};
+ghost use Rattle.rst_block_state.specs.Meanings.{within_at};
 ghost use Rattle.rst_block_state.specs.Numbered.{then_read, just};
 ghost use Rattle.rst_markup_directives.specs.Call.{IsArgumentIn, IsDirectiveIn};
 ghost use Rattle.rst_markup_directives.specs.declared.found.Place.{Place};
 ghost use Rattle.rst_markup_blocks.specs.Parts.{IsBlock, IsCall};
 ghost use Rattle.rst_block_state.specs.OpenBlocks.{Gives, IsMoved};
 ghost use Rattle.rst_block_state.specs.Paragraphs.{is_single_paragraph};
-ghost use Rattle.rst_block_state.specs.Steps as spec;
 ghost use Rattle.rst_block_state.specs.Texts.{joined, lines_in, shown, source_of, texted};
 ghost use Rattle.rst_block_state.specs.declared.step.Step.TheVariants.{Open};
-ghost use Rattle.rst_block_state.specs.Ledger.{Opens, WaitsForOne, argument_lines, waiting_looks, unread_at};
-ghost use Rattle.rst_block_state.specs.Inside.{content_blocks, directive_blocks, directive_content};
+ghost use Rattle.rst_block_state.specs.declared.texts.Pass.{Pass};
+ghost use Rattle.rst_block_state.specs.Ledger.{argument_lines, unread_at};
+ghost use Rattle.rst_block_state.specs.Inside.{directive_blocks};
 
 use super::explicit::put;
 use super::single::is_single_paragraph;
@@ -63,8 +63,8 @@ pub(crate) fn directive_at(
         ≡ meaning.called (within_at 0) (block_of view.now) at invocation.now place) result }
     ensures parts { IfOk result (IsDirectiveIn (block_of view.now)) }
     ensures numbers { pass.new.numbers ≡ pass.old.numbers }
-    ensures most { IfOk result (λ _. pass.new.looks ≤ pass.old.looks + 8 + 2 * (invocation.now.block.to - invocation.now.block.from)) }
-    ensures low { IfOk result (λ _. capped (pass.old.looks + 1) ≤ pass.new.looks) }
+    ensures looked { let lines = invocation.now.block.to - invocation.now.block.from in
+        IfOk result (λ _. Looked 1 (8 + 2 * lines) pass.old.looks pass.new.looks) }
 {
     let name = called(pass.alloc, view, at, invocation, &mut pass.looks)?;
     let block = invocation.block;
@@ -93,8 +93,7 @@ fn is_paragraph(name: Option<Name>, view: &View<'_>, block: Part, looks: &mut Lo
     requires block { IsBlock (block_of view.now) block }
     ensures flag { (B : Block) (at : ℕ) (place : Place) → directives.directive_of name B at block place result
         ≡ directives.directive_of name B at block place (is_single_paragraph (lines_in (block_of view.now) block)) }
-    ensures most { looks.new ≤ looks.old + (block.to - block.from) + 6 }
-    ensures low { capped looks.old ≤ looks.new }
+    ensures looked { Looked 0 (block.to - block.from + 6) looks.old looks.new }
 {
     if is_replacement(name) {
         return is_single_paragraph(&inside(view, block), looks);
@@ -112,16 +111,12 @@ pub(crate) fn directive_block(
     requires call { IsCall (block_of view.now) level.old.at invocation.now }
     requires later { level.old.at < invocation.now.block.to }
     requires begins { level.old.at ≤ invocation.now.block.from }
-    ensures step { IfOk result (λ s. spec.IsStep (block_of view.now) level.old.at level.new.at s) }
-    ensures read { let B = block_of view.now in
+    ensures { let B = block_of view.now in
         let end = invocation.now.block.to in
         let nodes = meaning.directive_nodes (within_at level.old.depth) B (record { start = level.old.at; stop = end }) invocation.now in
-        Keeps result (λ s. comes level.new B s pass.new.numbers) (reads_with level.old B nodes end pass.old.numbers) }
-    ensures paid { let B = block_of view.now in
-        let end = invocation.now.block.to in
         let outcome = meaning.called (unread_at level.old.depth) B level.old.at invocation.now (place_in (level.old.depth == 0)) in
-        let inner = directive_blocks outcome B in
-        IfOk result (λ s. Opens (18 * (end - level.old.at)) level.old level.new B inner end s pass.old.looks pass.new.looks) }
+        let few = 18 * (end - level.old.at) in
+        IsPartRead few B level.old pass.old nodes (directive_blocks outcome B) end level.new pass.new result }
 {
     let at = level.at;
     let end = invocation.block.to;
@@ -217,18 +212,10 @@ fn directive_nodes(
 ) -> Result<Step>
     requires right { IsRight (block_of view.now) level.old.at found.now }
     requires argument { IsArgumentIn (block_of view.now) found.now.argument }
-    ensures step { IfOk result (λ s. spec.IsStep (block_of view.now) level.old.at level.new.at s) }
-    ensures read { let B = block_of view.now in
-        let line = first_number (drop level.old.at B) in
-        let source = source_of B (record { start = level.old.at; stop = found.now.end }) in
-        let argument = given.given_in found.now.argument in
-        let nodes = meaning.right_by argument found.now.name (within_at level.old.depth) B line (read_of found.now) source in
-        Keeps result (λ s. comes level.new B s pass.new.numbers) (reads_with level.old B nodes found.now.end pass.old.numbers) }
-    ensures paid { let B = block_of view.now in
-        let content = found.now.content in
+    ensures { let content = found.now.content in
         let few = argument_lines found.now.argument + (content.second.to - content.second.from) + (found.now.end - level.old.at) in
-        let inner = directive_content (given.given_in found.now.argument) found.now.name B content in
-        IfOk result (λ s. Opens few level.old level.new B inner found.now.end s pass.old.looks pass.new.looks) }
+        let argument = given.given_in found.now.argument in
+        IsDirectiveRead few (block_of view.now) level.old pass.old found.now argument level.new pass.new result }
 {
     match &found.argument {
         Argument::Title(title) => titled_block(view, level, found, *title, pass),
@@ -251,14 +238,8 @@ fn titled_block(
 ) -> Result<Step>
     requires right { IsRight (block_of view.now) level.old.at found.now }
     requires title { IsBlock (block_of view.now) title }
-    ensures step { IfOk result (λ s. spec.IsStep (block_of view.now) level.old.at level.new.at s) }
-    ensures read { let B = block_of view.now in
-        let line = first_number (drop level.old.at B) in
-        let nodes = meaning.titled_nodes (within_at level.old.depth) B line (read_of found.now) (lines_in B title) in
-        Keeps result (λ s. comes level.new B s pass.new.numbers) (reads_with level.old B nodes found.now.end pass.old.numbers) }
-    ensures paid { let B = block_of view.now in
-        let inner = content_blocks B found.now.content in
-        IfOk result (λ s. Opens (title.to - title.from) level.old level.new B inner found.now.end s pass.old.looks pass.new.looks) }
+    ensures { let few = title.to - title.from in
+        IsDirectiveRead few (block_of view.now) level.old pass.old found.now (given.title title) level.new pass.new result }
 {
     let line = number_at(view, level.at);
     let node = titled(view, found, title, line, pass)?;
@@ -273,17 +254,8 @@ fn plain_block(
     pass: &mut Pass,
 ) -> Result<Step>
     requires { IsRight (block_of view.now) level.old.at found.now }
-    ensures step { IfOk result (λ s. spec.IsStep (block_of view.now) level.old.at level.new.at s) }
-    ensures read { let B = block_of view.now in
-        let line = first_number (drop level.old.at B) in
-        let source = source_of B (record { start = level.old.at; stop = found.now.end }) in
-        let nodes = meaning.right_by given.nothing found.now.name (within_at level.old.depth) B line (read_of found.now) source in
-        Keeps result (λ s. comes level.new B s pass.new.numbers) (reads_with level.old B nodes found.now.end pass.old.numbers) }
-    ensures paid { let B = block_of view.now in
-        let content = found.now.content in
-        let few = content.second.to - content.second.from in
-        let inner = directive_content given.nothing found.now.name B content in
-        IfOk result (λ s. Opens few level.old level.new B inner found.now.end s pass.old.looks pass.new.looks) }
+    ensures { let few = found.now.content.second.to - found.now.content.second.from in
+        IsDirectiveRead few (block_of view.now) level.old pass.old found.now given.nothing level.new pass.new result }
 {
     if is_code(found.name) {
         return code_nodes(view, level, found, None, pass);
@@ -302,16 +274,8 @@ fn image_block(
     uri: &str,
 ) -> Result<Step>
     requires { IsRight (block_of view.now) level.old.at found.now }
-    ensures step { IfOk result (λ s. spec.IsStep (block_of view.now) level.old.at level.new.at s) }
-    ensures read { (number : ℕ) → let B = block_of view.now in
-        let line = first_number (drop level.old.at B) in
-        let source = source_of B (record { start = level.old.at; stop = found.now.end }) in
-        let read = read_of found.now in
-        let nodes = meaning.right_by (given.uri (chars uri.now)) found.now.name (within_at level.old.depth) B line read source in
-        Keeps result (λ s. comes level.new B s number) (reads_with level.old B nodes found.now.end number) }
-    ensures paid { (looks : ℕ) → let B = block_of view.now in
-        let inner = directive_content (given.uri (chars uri.now)) found.now.name B found.now.content in
-        IfOk result (λ s. Opens (found.now.end - level.old.at) level.old level.new B inner found.now.end s looks looks) }
+    ensures { (pass : Pass) → let few = found.now.end - level.old.at in
+        IsDirectiveRead few (block_of view.now) level.old pass found.now (given.uri (chars uri.now)) level.new pass result }
 {
     if is_figure(found.name) {
         return figure_block(alloc, view, level, found, uri);
@@ -324,12 +288,9 @@ fn image_block(
 /// Opens the content of a directive, for whose nodes its block waits.
 fn opened(level: &mut OpenBlock, waits: Waits, found: &Found) -> Step
     requires later { level.old.at < found.now.end }
-    requires waits { WaitsForOne waits }
     ensures opened { result ≡ Open waits found.now.content.first (Some found.now.content.second) }
     ensures at { level.new.at ≡ found.now.end }
     ensures moved { IsMoved level.old level.new }
-    ensures paid { (B : Block) (before after : ℕ) → capped before ≤ after
-        → Opens (after - before + waiting_looks waits) level.old level.new B (content_blocks B found.now.content) found.now.end result before after }
 {
     level.go_to(found.end);
     Step::Open {
@@ -347,16 +308,10 @@ fn figure_block(
     found: &Found,
     uri: &str,
 ) -> Result<Step>
-    requires { IsRight (block_of view.now) level.old.at found.now }
-    ensures step { IfOk result (λ s. spec.IsStep (block_of view.now) level.old.at level.new.at s) }
-    ensures read { (number : ℕ) → let B = block_of view.now in
-        let line = first_number (drop level.old.at B) in
-        let source = source_of B (record { start = level.old.at; stop = found.now.end }) in
-        let nodes = meaning.figure_of (within_at level.old.depth) B line (read_of found.now) uri.now source in
-        Keeps result (λ s. comes level.new B s number) (reads_with level.old B nodes found.now.end number) }
-    ensures paid { (looks : ℕ) → let B = block_of view.now in
-        let inner = content_blocks B found.now.content in
-        IfOk result (λ s. Opens (found.now.end - level.old.at) level.old level.new B inner found.now.end s looks looks) }
+    requires right { IsRight (block_of view.now) level.old.at found.now }
+    requires figure { is_figure found.now.name ≡ true }
+    ensures { (pass : Pass) → let few = found.now.end - level.old.at in
+        IsDirectiveRead few (block_of view.now) level.old pass found.now (given.uri (chars uri.now)) level.new pass result }
 {
     let at = level.at;
     let line = number_at(view, at);
@@ -380,14 +335,11 @@ fn code_nodes(
     pass: &mut Pass,
 ) -> Result<Step>
     requires { IsRight (block_of view.now) level.old.at found.now }
-    ensures step { IfOk result (λ s. spec.IsStep (block_of view.now) level.old.at level.new.at s) }
-    ensures read { let B = block_of view.now in
+    ensures { let B = block_of view.now in
         let line = first_number (drop level.old.at B) in
-        let nodes = just (meaning.code_nodes B line (read_of found.now) (option_map (λ word. word.now) language.entry)) in
-        Keeps result (λ s. comes level.new B s pass.new.numbers) (reads_with level.old B nodes found.now.end pass.old.numbers) }
-    ensures paid { let content = found.now.content in
-        let few = content.second.to - content.second.from in
-        IfOk result (λ s. Opens few level.old level.new (block_of view.now) [] found.now.end s pass.old.looks pass.new.looks) }
+        let nodes = meaning.code_nodes B line (read_of found.now) (option_map (λ word. word.now) language.entry) in
+        let few = found.now.content.second.to - found.now.content.second.from in
+        IsPartRead few B level.old pass.old (just nodes) [] found.now.end level.new pass.new result }
 {
     let alloc = pass.alloc;
     let line = number_at(view, level.at);

@@ -1,7 +1,7 @@
 //! Explicit markup blocks (Markup Specification, 'Explicit Markup Blocks').
-ghost use Rattle.std.specs.Prelude.{◌≡◌, ℕ, ◌+◌, ◌-◌, ◌*◌, ◌<◌, ◌≤◌, [], ◌∷◌, length, drop, string_bytes, option_map, IfOk, IsTrue};
-ghost use Rattle.rst_text.specs.Block.{Block, first_number, front_text};
-ghost use Rattle.rst_text.specs.Looked.{capped};
+ghost use Rattle.std.specs.Prelude.{◌≡◌, ◌+◌, ◌-◌, ◌*◌, ◌<◌, ◌≤◌, [], ◌∷◌, length, drop, string_bytes, option_map, IfOk, IsTrue};
+ghost use Rattle.rst_text.specs.Block.{first_number, front_text};
+ghost use Rattle.rst_text.specs.Looked.{Looked, capped};
 ghost use Rattle.rst_text.specs.Shown.{block_of};
 ghost use Rattle.rst_markup_blocks.specs.Parts.{IsBlock};
 ghost use Rattle.rst_tree.specs.Faults as faults;
@@ -12,13 +12,14 @@ ghost use Rattle.rst_markup_blocks.specs.Kinds.{kind_of};
 ghost use Rattle.rst_block_nodes.specs.Elements.{preserved_node};
 ghost use Rattle.rst_block_nodes.specs.Targets.{target_node};
 ghost use Rattle.rst_block_state.specs.Markup as markup;
-ghost use Rattle.rst_block_markup.specs.MarkupSteps.{is_markup, markup_reads, reads_with};
+ghost use Rattle.rst_block_markup.specs.MarkupSteps.{IsPartRead, is_markup, markup_reads, reads_with};
 ghost use Rattle.rst_block_state.specs.Meanings.{Keeps, comes, open_of, reads, within_at};
 ghost use Rattle.rst_block_state.specs.Numbered.{just};
 ghost use Rattle.rst_block_state.specs.OpenBlocks as blocks;
+ghost use Rattle.rst_block_state.specs.declared.step.Step.TheVariants.{Next};
 ghost use Rattle.rst_block_state.specs.Steps as spec;
 ghost use Rattle.rst_block_state.specs.Texts.{excerpt, lines_in, said, spelled};
-ghost use Rattle.rst_block_state.specs.Ledger.{IsPaid, Opens, run_looks, unread_at};
+ghost use Rattle.rst_block_state.specs.Ledger.{IsPaid, run_looks, unread_at};
 ghost use Rattle.rst_block_state.specs.Inside.{markup_blocks};
 
 use super::directive::directive_block;
@@ -89,14 +90,10 @@ fn markup_of(
     requires inside { level.old.at < length (block_of view.now) }
     requires later { level.old.at < end }
     requires explicit { found ≡ explicit_of level.old.at (drop level.old.at (block_of view.now)) }
-    ensures step { IfOk result (λ s. spec.IsStep (block_of view.now) level.old.at level.new.at s) }
-    ensures read { let B = block_of view.now in
-        let X = drop level.old.at B in
-        let nodes = markup.markup_by found (within_at level.old.depth) B (record { start = level.old.at; stop = end }) X in
-        Keeps result (λ s. comes level.new B s pass.new.numbers) (reads_with level.old B nodes end pass.old.numbers) }
-    ensures paid { let B = block_of view.now in
+    ensures { let B = block_of view.now in
+        let nodes = markup.markup_by found (within_at level.old.depth) B (record { start = level.old.at; stop = end }) (drop level.old.at B) in
         let inner = markup_blocks found (unread_at level.old.depth) B level.old.at in
-        IfOk result (λ s. Opens (20 * (end - level.old.at)) level.old level.new B inner end s pass.old.looks pass.new.looks) }
+        IsPartRead (20 * (end - level.old.at)) B level.old pass.old nodes inner end level.new pass.new result }
 {
     match found {
         Explicit::Footnote { label, body } => {
@@ -130,14 +127,11 @@ fn labelled_block(
 ) -> Result<Step>
     requires body { IsBlock (block_of view.now) body }
     requires later { level.old.at < body.to }
-    ensures step { IfOk result (λ s. spec.IsStep (block_of view.now) level.old.at level.new.at s) }
-    ensures read { let B = block_of view.now in
+    ensures { let B = block_of view.now in
         let X = drop level.old.at B in
         let element = markup.labelled_node kind (excerpt (front_text X) label) (first_number X) in
         let nodes = markup.noted (within_at level.old.depth) B element body in
-        Keeps result (λ s. comes level.new B s pass.new.numbers) (reads_with level.old B nodes body.to pass.old.numbers) }
-    ensures paid { let B = block_of view.now in
-        IfOk result (λ s. Opens 1 level.old level.new B (lines_in B body ∷ []) body.to s pass.old.looks pass.new.looks) }
+        IsPartRead 1 B level.old pass.old nodes (lines_in B body ∷ []) body.to level.new pass.new result }
 {
     let line = number_at(view, level.at);
     let label = label_text(pass.alloc, view, level.at, label, &mut pass.looks)?;
@@ -170,13 +164,10 @@ fn target_block(
 ) -> Result<Step>
     requires text { IsBlock (block_of view.now) text }
     requires later { level.old.at < text.to }
-    ensures step { IfOk result (λ s. spec.IsStep (block_of view.now) level.old.at level.new.at s) }
-    ensures read { let B = block_of view.now in
+    ensures { let B = block_of view.now in
         let X = drop level.old.at B in
         let node = target_node (option_map (excerpt (front_text X)) name) (spelled (lines_in B text)) (first_number X) in
-        Keeps result (λ s. comes level.new B s pass.new.numbers) (reads_with level.old B (just (node ∷ [])) text.to pass.old.numbers) }
-    ensures paid { IfOk result (λ s.
-        Opens (1 + (text.to - text.from)) level.old level.new (block_of view.now) [] text.to s pass.old.looks pass.new.looks) }
+        IsPartRead (1 + (text.to - text.from)) B level.old pass.old (just (node ∷ [])) [] text.to level.new pass.new result }
 {
     let alloc = pass.alloc;
     let lines = joined(alloc, &inside(view, text), &mut pass.looks)?;
@@ -196,8 +187,7 @@ fn target_of(
     requires inside { at < length (block_of view.now) }
     ensures node { let X = drop at (block_of view.now) in
         blocks.Gives (λ node. node ≡ target_node (option_map (excerpt (front_text X)) name) text.now (first_number X)) result }
-    ensures looks { looks.new ≤ looks.old + 1 }
-    ensures low { capped looks.old ≤ looks.new }
+    ensures looked { Looked 0 1 looks.old looks.new }
 {
     let line = number_at(view, at);
     match name {
@@ -219,14 +209,10 @@ fn comment(
 ) -> Result<Step>
     requires text { IsBlock (block_of view.now) text }
     requires later { level.old.at < text.to }
-    ensures step { IfOk result (λ s. spec.IsStep (block_of view.now) level.old.at level.new.at s) }
-    ensures read { let B = block_of view.now in
+    ensures { let B = block_of view.now in
         let line = first_number (drop level.old.at B) in
-        let node = preserved_node CommentTag line (spelled (lines_in B text)) in
-        let notes = markup.cause_notes cause line in
-        Keeps result (λ s. comes level.new B s pass.new.numbers) (reads_with level.old B (just (node ∷ notes)) text.to pass.old.numbers) }
-    ensures paid { IfOk result (λ s.
-        Opens (text.to - text.from) level.old level.new (block_of view.now) [] text.to s pass.old.looks pass.new.looks) }
+        let nodes = preserved_node CommentTag line (spelled (lines_in B text)) ∷ markup.cause_notes cause line in
+        IsPartRead (text.to - text.from) B level.old pass.old (just nodes) [] text.to level.new pass.new result }
 {
     let line = number_at(view, level.at);
     let lines = joined(pass.alloc, &inside(view, text), &mut pass.looks)?;
@@ -245,12 +231,9 @@ fn empty_comment(
     pass: &mut Pass,
 ) -> Result<Step>
     requires later { level.old.at < end }
-    ensures step { IfOk result (λ s. spec.IsStep (block_of view.now) level.old.at level.new.at s) }
-    ensures read { let B = block_of view.now in
+    ensures { let B = block_of view.now in
         let node = preserved_node CommentTag (first_number (drop level.old.at B)) [] in
-        Keeps result (λ s. comes level.new B s pass.new.numbers) (reads_with level.old B (just (node ∷ [])) end pass.old.numbers) }
-    ensures paid { IfOk result (λ s. Opens (0) level.old level.new (block_of view.now) ([]) end s pass.old.looks pass.new.looks) }
-    ensures looks { pass.new.looks ≡ pass.old.looks }
+        IsPartRead 0 B level.old pass.old (just (node ∷ [])) [] end level.new pass.new result }
 {
     let node = preserved(pass.alloc, Tag::Comment, number_at(view, level.at), "")?;
     put(level, node, end)
@@ -274,11 +257,7 @@ fn label_text(
 /// Puts a node behind the last, in a block that goes on at place `end`.
 pub(crate) fn put(level: &mut OpenBlock, node: Node, end: usize) -> Result<Step>
     requires later { level.old.at < end }
-    ensures step { (B : Block) → IfOk result (λ s. spec.IsStep B level.old.at level.new.at s) }
-    ensures read { (B : Block) (number : ℕ)
-        → Keeps result (λ s. comes level.new B s number) (reads_with level.old B (just (node ∷ [])) end number) }
-    ensures paid { (B : Block) (before after : ℕ) → capped before ≤ after
-        → IfOk result (λ s. Opens (after - before) level.old level.new B [] end s before after) }
+    ensures { blocks.Gives (λ s. (s ≡ Next) × blocks.HasMoreAt level.old level.new (node ∷ []) end) result }
 {
     level.go_to(end);
     level.push(node)?;
@@ -287,7 +266,6 @@ pub(crate) fn put(level: &mut OpenBlock, node: Node, end: usize) -> Result<Step>
 
 /// Puts the message on a comment that isn't meant as one behind the last node.
 fn put_cause(alloc: Global, level: &mut OpenBlock, cause: CommentCause, line: usize) -> Result<()>
-    ensures at { level.new.at ≡ level.old.at }
     ensures more { blocks.Gives (λ _. blocks.HasMore level.old level.new (markup.cause_notes cause line)) result }
 {
     match cause {
@@ -309,7 +287,6 @@ fn put_cause(alloc: Global, level: &mut OpenBlock, cause: CommentCause, line: us
 
 /// Puts a warning behind the last node.
 fn put_warning(alloc: Global, level: &mut OpenBlock, line: usize, text: &str) -> Result<()>
-    ensures at { level.new.at ≡ level.old.at }
     ensures more { blocks.Gives (λ _. blocks.HasMore level.old level.new (said Warning line text.now ∷ [])) result }
 {
     level.push(message(alloc, Level::Warning, line, text, None)?)

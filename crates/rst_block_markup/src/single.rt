@@ -1,7 +1,7 @@
 //! Blocks in blocks that are one paragraph (Directives, 'Replacement Text').
 ghost use Rattle.std.specs.Prelude.{◌≡◌, ◌+◌, ◌-◌, ◌<◌, ◌≤◌, length, true, false};
 ghost use Rattle.std.specs.Str.{chars};
-ghost use Rattle.rst_text.specs.Looked.{capped};
+ghost use Rattle.rst_text.specs.Looked.{Looked, capped};
 ghost use Rattle.rst_text.specs.Shown.{block_of};
 ghost use Rattle.rst_markup_blocks.specs.Conditions.{next_text};
 ghost use Rattle.rst_block_state.specs.Paragraphs as paragraphs;
@@ -18,8 +18,7 @@ use rst_text::{Looks, View};
 /// than there are lines.
 pub(crate) fn is_single_paragraph(view: &View<'_>, looks: &mut Looks) -> bool
     ensures paragraph { result ≡ paragraphs.is_single_paragraph (block_of view.now) }
-    ensures most { looks.new ≤ looks.old + length (block_of view.now) + 6 }
-    ensures low { capped looks.old ≤ looks.new }
+    ensures looked { Looked 0 (length (block_of view.now) + 6) looks.old looks.new }
     ensures each { result ≡ true → capped (looks.old + length (block_of view.now)) ≤ looks.new }
 {
     if view.len() == 0 || !begins_paragraph(view, looks) {
@@ -36,8 +35,7 @@ pub(crate) fn is_single_paragraph(view: &View<'_>, looks: &mut Looks) -> bool
 fn begins_paragraph(view: &View<'_>, looks: &mut Looks) -> bool
     requires inside { 0 < length (block_of view.now) }
     ensures paragraph { result ≡ paragraphs.begins_paragraph (block_of view.now) }
-    ensures looks { looks.new ≤ looks.old + 5 + overline_looks (next_text (block_of view.now)) }
-    ensures low { capped (looks.old + 2) ≤ looks.new }
+    ensures looked { Looked 2 (5 + overline_looks (next_text (block_of view.now))) looks.old looks.new }
 {
     let text = view.line(0, looks);
     let next = below_text(view, 0, 1, looks);
@@ -53,8 +51,7 @@ fn begins_text(view: &View<'_>, next: &str, looks: &mut Looks) -> bool
     requires inside { 0 < length (block_of view.now) }
     requires next { chars next.now ≡ next_text (block_of view.now) }
     ensures text { result ≡ paragraphs.begins_text (block_of view.now) }
-    ensures looks { looks.new ≤ looks.old + 3 + overline_looks (next_text (block_of view.now)) }
-    ensures low { capped (looks.old + 1) ≤ looks.new }
+    ensures looked { Looked 1 (3 + overline_looks (next_text (block_of view.now))) looks.old looks.new }
 {
     match begun_at(view, 0, looks) {
         Begun::Text => true,

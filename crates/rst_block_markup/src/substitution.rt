@@ -17,12 +17,11 @@ ghost use Rattle.rst_markup_directives.specs.Call.{IsContentIn};
 ghost use Rattle.rst_markup_blocks.specs.Parts.{IsCall};
 ghost use Rattle.rst_block_sections.specs.Sections.{filled};
 ghost use Rattle.rst_block_state.specs.Directives as directives;
-ghost use Rattle.rst_block_markup.specs.MarkupSteps.{made_of, reads_with};
-ghost use Rattle.rst_block_state.specs.Meanings.{Keeps, comes, within_at};
+ghost use Rattle.rst_block_markup.specs.MarkupSteps.{IsPartRead, made_of};
+ghost use Rattle.rst_block_state.specs.Meanings.{within_at};
 ghost use Rattle.rst_block_state.specs.OpenBlocks as blocks;
-ghost use Rattle.rst_block_state.specs.Steps as spec;
 ghost use Rattle.rst_block_state.specs.Texts as texts;
-ghost use Rattle.rst_block_state.specs.Ledger.{Opens, unread_at};
+ghost use Rattle.rst_block_state.specs.Ledger.{unread_at};
 ghost use Rattle.rst_block_state.specs.Inside.{content_blocks, definition_blocks, substitution_blocks};
 
 use super::directive::{directive_at, wrong_directive};
@@ -55,14 +54,10 @@ pub(crate) fn substitution_definition(
     requires inside { level.old.at < length (block_of view.now) }
     requires later { level.old.at < end }
     requires begins { IfSome held (λ call. (level.old.at ≤ call.block.from) × (call.block.to ≤ end)) }
-    ensures step { IfOk result (λ s. spec.IsStep (block_of view.now) level.old.at level.new.at s) }
-    ensures read { let B = block_of view.now in
-        let within = within_at level.old.depth in
-        let nodes = directives.substitution_nodes within B (record { start = level.old.at; stop = end }) written.now held in
-        Keeps result (λ s. comes level.new B s pass.new.numbers) (reads_with level.old B nodes end pass.old.numbers) }
-    ensures paid { let B = block_of view.now in
+    ensures { let B = block_of view.now in
+        let nodes = directives.substitution_nodes (within_at level.old.depth) B (record { start = level.old.at; stop = end }) written.now held in
         let inner = substitution_blocks held (unread_at level.old.depth) B level.old.at in
-        IfOk result (λ s. Opens (18 * (end - level.old.at)) level.old level.new B inner end s pass.old.looks pass.new.looks) }
+        IsPartRead (18 * (end - level.old.at)) B level.old pass.old nodes inner end level.new pass.new result }
 {
     let name = substitution_name(pass.alloc, written)?;
     let Some(invocation) = held else {
@@ -104,16 +99,13 @@ fn holding(
     requires call { IsCall (block_of view.now) level.old.at invocation.now }
     requires later { level.old.at < end }
     requires begins { (level.old.at ≤ invocation.now.block.from) × (invocation.now.block.to ≤ end) }
-    ensures step { IfOk result (λ s. spec.IsStep (block_of view.now) level.old.at level.new.at s) }
-    ensures read { let B = block_of view.now in
+    ensures { let B = block_of view.now in
         let within = within_at level.old.depth in
         let outcome = directives.called within B level.old.at invocation.now Substitution in
         let written = texts.excerpt (front_text (drop level.old.at B)) invocation.now.name in
         let nodes = directives.holding outcome within B (record { start = level.old.at; stop = end }) (string_bytes name) written in
-        Keeps result (λ s. comes level.new B s pass.new.numbers) (reads_with level.old B nodes end pass.old.numbers) }
-    ensures paid { let B = block_of view.now in
-        let inner = definition_blocks (directives.called (unread_at level.old.depth) B level.old.at invocation.now Substitution) B in
-        IfOk result (λ s. Opens (18 * (end - level.old.at)) level.old level.new B inner end s pass.old.looks pass.new.looks) }
+        let few = 18 * (end - level.old.at) in
+        IsPartRead few B level.old pass.old nodes (definition_blocks outcome B) end level.new pass.new result }
 {
     let at = level.at;
     let line = number_at(view, at);
@@ -174,16 +166,13 @@ fn replacement(
     requires content { IsContentIn (block_of view.now) content }
     requires inside { level.old.at < length (block_of view.now) }
     requires later { level.old.at < end }
-    ensures step { IfOk result (λ s. spec.IsStep (block_of view.now) level.old.at level.new.at s) }
-    ensures read { let B = block_of view.now in
+    ensures { let B = block_of view.now in
         let line = first_number (drop level.old.at B) in
         let source = texts.source_of B (record { start = level.old.at; stop = end }) in
-        let read = made_of (within_at level.old.depth) B content
+        let nodes = made_of (within_at level.old.depth) B content
         (λ nodes. directives.replacement (string_bytes name) line source (directives.first_paragraph nodes) ∷ []) in
-        Keeps result (λ s. comes level.new B s pass.new.numbers) (reads_with level.old B read end pass.old.numbers) }
-    ensures paid { let B = block_of view.now in
-        let inner = content_blocks B content in
-        IfOk result (λ s. Opens (end - level.old.at) level.old level.new B inner end s pass.old.looks pass.new.looks) }
+        let few = end - level.old.at in
+        IsPartRead few B level.old pass.old nodes (content_blocks B content) end level.new pass.new result }
 {
     let at = level.at;
     let replacement = OpenReplacement {

@@ -69,8 +69,7 @@ struct IndentedText {
 }
 
 impl Model for IndentedText {
-    ghost use Rattle.std.specs.Prelude.{string_bytes};
-    ghost use Rattle.std.specs.Str.{chars};
+    ghost use Rattle.std.specs.Prelude.{string_bytes, chars};
     ghost use Rattle.rst_block_nodes.specs.LineBlocks.{IndentedLine};
 
     ghost Value = { IndentedLine };

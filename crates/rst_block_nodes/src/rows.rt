@@ -1,8 +1,7 @@
 //! Worked examples of elements, as theorems on the definitions alone: the prover computes what blocks of texts and numbers that are written out say.
 #![tactic(auto, unfolding(crate::proofs::Computing::rst_block_nodes))]
 
-ghost use Rattle.std.specs.Prelude.{◌≡◌, [], ◌∷◌, map, option_map, true, false, None, Some, Err, codes};
-ghost use Rattle.std.specs.Option.{option_to_list};
+ghost use Rattle.std.specs.Prelude.{◌≡◌, [], ◌∷◌, map, option_map, true, false, None, Some, Err, codes, option_to_list};
 ghost use Rattle.rst_tree.specs.declared.note.Level.TheVariants.{Warning as WarningLevel};
 ghost use Rattle.rst_tree.specs.declared.tag.Tag.TheVariants as tag;
 ghost use Rattle.rst_inline.specs.Results.{nodes_behind};

@@ -1,6 +1,5 @@
 //! Terms of definition lists, with their classifiers.
-ghost use Rattle.std.specs.Prelude.{◌≡◌, ◌≤◌, false, [], ◌∷◌, map, length, IfOk, Ok};
-ghost use Rattle.std.specs.Str.{chars};
+ghost use Rattle.std.specs.Prelude.{◌≡◌, ◌≤◌, false, [], ◌∷◌, map, length, IfOk, Ok, chars};
 ghost use Rattle.rst_tree.specs.Faults.{Gives};
 ghost use Rattle.rst_tree.specs.Sends.{counted_on};
 ghost use Rattle.rst_block_nodes.specs.Readings.{termed};

@@ -1,6 +1,5 @@
 //! Elements that hold a text with inline markup.
-ghost use Rattle.std.specs.Prelude.{◌≡◌, length, Ok};
-ghost use Rattle.std.specs.Str.{chars};
+ghost use Rattle.std.specs.Prelude.{◌≡◌, length, Ok, chars};
 ghost use Rattle.rst_tree.specs.Faults.{Gives};
 ghost use Rattle.rst_tree.specs.Sends.{counted_on};
 ghost use Rattle.rst_block_nodes.specs.Texts.{counting, messages_from};

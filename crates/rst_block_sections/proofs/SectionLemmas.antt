@@ -1,7 +1,7 @@
 -- Sections that are opened and closed one after the other are those of the definition.
-use Rattle.std.proofs.Common.{◌≡◌, ℕ, suc, ◌+◌, ◌-◌, ◌≤◌, Bool, true, false, cond, List, [], ◌∷◌, ◌++◌, ◌<◌, length, map, take, drop, drop-cons, add-one, length-drop, get_or, Result, Ok, Err, refl, sym, ◌∙◌, ap, ap₂, subst, arith}
-use Rattle.std.proofs.lemmas.List.{append-nil, append_assoc, length_push, map-append, length-map, at_drop_more, at_drop_all, take_all, take_more, drop_all}
-use Rattle.std.proofs.lemmas.Bool.{le-leb, lt-leb}
+use Rattle.std.proofs.Common.{◌≡◌, ℕ, suc, ◌+◌, ◌≤◌, Bool, true, false, cond, List, [], ◌∷◌, ◌++◌, ◌<◌, length, map, drop, get_or, Result, Ok, Err, refl, sym, ◌∙◌, ap, ap₂, subst, arith}
+use Rattle.std.proofs.lemmas.List.{append-nil, append_assoc, length_push, map-append, length-map, at_drop_more, at_drop_all}
+use Rattle.std.proofs.lemmas.Bool.{cond_both, le-leb, lt-leb}
 use Rattle.std.specs.Prelude.{nat_le, nat_lt}
 use Rattle.rst_tree.specs.declared.node.Node.{Node}
 use Rattle.rst_tree.specs.declared.node.Node.TheVariants.{Element}
@@ -73,9 +73,6 @@ closes level (p ∷ os) o c ms none stays =
 
 -- ---- a section begins
 
-not_within : (level : ℕ) → nat_le (level + 1) level ≡ false
-not_within level = lt-leb (level + 1) level (omega arith)
-
 pub enters : (level : ℕ) (os : List Open) (c new : Open) (ms : List Member)
     → close level (os ++ c ∷ []) new ms
     ≡ close level os c (section_at (level + suc (length os)) (filled new.element (new.nodes ++ inside (level + suc (length os)) ms)) ∷ behind (level + suc (length os)) ms)
@@ -83,7 +80,7 @@ unfolding close inside behind
 enters level [] c new ms =
     let e : level + 1 ≡ level + suc 0 = omega arith in
     subst (λ n. put_inside level c (close (level + 1) [] new ms) ≡ close level [] c (section_at n (filled new.element (new.nodes ++ inside n ms)) ∷ behind n ms)) e
-    (rw (not_within level) refl)
+    (rw (lt-leb (level + 1) level (omega arith)) refl)
 enters level (o ∷ os) c new ms =
     let e : (level + 1) + suc (length os) ≡ level + suc (suc (length os)) = omega arith in
     ap (put_inside level o) (enters (level + 1) os c new ms
@@ -93,23 +90,16 @@ pub stops_at_none : (level : ℕ) → StopsAt level []
 unfolding inside behind
 stops_at_none level deeper h = (refl, refl)
 
-within : (a b : ℕ) → a ≤ b → nat_le a b ≡ true
-within a b h = le-leb a b h
-
 pub stops_at_section : (level : ℕ) (n : Node) (ms : List Member) → StopsAt level (section_at level n ∷ ms)
 unfolding inside behind
-stops_at_section level n ms deeper h = rw (within level deeper h) (refl, refl)
+stops_at_section level n ms deeper h = rw (le-leb level deeper h) (refl, refl)
 
 -- ---- levels
 
 pub level_positive : (s : Style) (styles : List Style) → 1 ≤ level_of s styles
 unfolding level_of
 level_positive s [] = omega arith
-level_positive s (t ∷ ts) = by (same_style t s)
-  where
-    by : (b : Bool) → 1 ≤ cond b 1 (suc (level_of s ts))
-    by true = omega arith
-    by false = omega arith
+level_positive s (t ∷ ts) = cond_both (same_style t s) 1 (suc (level_of s ts)) (λ n. 1 ≤ n) (λ _. omega arith) (λ _. omega arith)
 
 -- ---- all of a document stands in it
 
@@ -128,24 +118,17 @@ deep_behind : (level : ℕ) (ms : List Member) → AreDeep ms → AreDeep (behin
 unfolding behind AreDeep
 deep_behind level [] h = h
 deep_behind level (loose n ∷ ms) h = deep_behind level ms h
-deep_behind level (section_at own n ∷ ms) h = by (nat_le own level) (deep_behind level ms h.1)
-  where
-    by : (b : Bool) → AreDeep (behind level ms) → AreDeep (cond b (section_at own n ∷ ms) (behind level ms))
-    by true rest = h
-    by false rest = rest
+deep_behind level (section_at own n ∷ ms) h = cond_both (nat_le own level) (section_at own n ∷ ms) (behind level ms) AreDeep (λ _. h) (λ _. deep_behind level ms h.1)
 
 deep_judged : (items : List Item) (styles : List Style) (current : ℕ) → AreDeep (members (judged styles current items))
 unfolding judged members AreDeep
 deep_judged [] styles current = tt
 deep_judged (plain n ∷ items) styles current = deep_judged items styles current
 deep_judged (titled h ∷ items) styles current =
-    by (nat_lt (current + 1) (level_of h.style styles)) (deep_judged items styles current) (deep_judged items (with_style h.style styles) (level_of h.style styles))
-  where
-    by : (b : Bool) → AreDeep (members (judged styles current items)) → AreDeep (members (judged (with_style h.style styles) (level_of h.style styles) items))
-        → AreDeep (members (cond b (alone (inconsistent h) ∷ judged styles current items)
-        (under (level_of h.style styles) h ∷ judged (with_style h.style styles) (level_of h.style styles) items)))
-    by true same rest = same
-    by false same rest = (level_positive h.style styles, deep_behind (level_of h.style styles) (members (judged (with_style h.style styles) (level_of h.style styles) items)) rest)
+    let level = level_of h.style styles in
+    let next = judged (with_style h.style styles) level items in
+    cond_both (nat_lt (current + 1) level) (alone (inconsistent h) ∷ judged styles current items) (under level h ∷ next) (λ es. AreDeep (members es))
+    (λ _. deep_judged items styles current) (λ _. (level_positive h.style styles, deep_behind level (members next) (deep_judged items (with_style h.style styles) level)))
 
 pub all_of_document : (items : List Item) (styles : List Style) (current : ℕ)
     → inside 0 (members (judged styles current items)) ≡ map node_of (members (judged styles current items))
@@ -176,36 +159,23 @@ entered all outer c new h ms is element nodes =
     ∙ ap (λ n. close 0 (map open_of outer) (open_of c) (section_at n (filled new.element (new.nodes ++ inside n ms)) ∷ behind n ms)) e
     ∙ ap₂ (λ x xs. close 0 (map open_of outer) (open_of c) (section_at (length outer + 1) (filled x (xs ++ inside (length outer + 1) ms)) ∷ behind (length outer + 1) ms)) element nodes
 
--- a title whose level is inconsistent gives its message
-judged_refused : (styles : List Style) (current : ℕ) (h : Title) (items : List Item) → nat_lt (current + 1) (level_of h.style styles) ≡ true
-    → judged styles current (titled h ∷ items) ≡ alone (inconsistent h) ∷ judged styles current items
+-- a title whose level is inconsistent gives its message, and any other begins a section
+judged_titled : (styles : List Style) (current : ℕ) (h : Title) (items : List Item) (b : Bool) → nat_lt (current + 1) (level_of h.style styles) ≡ b
+    → judged styles current (titled h ∷ items)
+    ≡ cond b (alone (inconsistent h) ∷ judged styles current items) (under (level_of h.style styles) h ∷ judged (with_style h.style styles) (level_of h.style styles) items)
 unfolding judged
-judged_refused styles current h items high =
-    ap (λ b. cond b (alone (inconsistent h) ∷ judged styles current items) (under (level_of h.style styles) h ∷ judged (with_style h.style styles) (level_of h.style styles) items)) high
-
-judged_accepted : (styles : List Style) (current : ℕ) (h : Title) (items : List Item) → nat_lt (current + 1) (level_of h.style styles) ≡ false
-    → judged styles current (titled h ∷ items) ≡ under (level_of h.style styles) h ∷ judged (with_style h.style styles) (level_of h.style styles) items
-unfolding judged
-judged_accepted styles current h items low =
-    ap (λ b. cond b (alone (inconsistent h) ∷ judged styles current items) (under (level_of h.style styles) h ∷ judged (with_style h.style styles) (level_of h.style styles) items)) low
-
-members_alone : (n : Node) (es : List Entry) → members (alone n ∷ es) ≡ loose n ∷ members es
-unfolding members
-members_alone n es = refl
-
-members_under : (level : ℕ) (h : Title) (es : List Entry)
-    → members (under level h ∷ es) ≡ section_at level (section_of h (inside level (members es))) ∷ behind level (members es)
-unfolding members
-members_under level h es = refl
+judged_titled styles current h items b is =
+    ap (λ b. cond b (alone (inconsistent h) ∷ judged styles current items) (under (level_of h.style styles) h ∷ judged (with_style h.style styles) (level_of h.style styles) items)) is
 
 pub refused : (os : List Open) (element n : Node) (nodes : List Node) (styles : List Style) (current : ℕ) (h : Title) (items : List Item)
     → n ≡ inconsistent h → nat_lt (current + 1) (level_of h.style styles) ≡ true
     → (close 0 os (opened element (nodes ++ n ∷ [])) (members (judged styles current items))).0
     ≡ (close 0 os (opened element nodes) (members (judged styles current (titled h ∷ items)))).0
+unfolding members
 refused os element n nodes styles current h items is high =
     ap (λ r. r.0) (with_nodes 0 os element nodes (n ∷ []) (members (judged styles current items)))
     ∙ ap (λ x. (close 0 os (opened element nodes) (loose x ∷ members (judged styles current items))).0) is
-    ∙ ap (λ (ms : List Member). (close 0 os (opened element nodes) ms).0) (sym (ap members (judged_refused styles current h items high) ∙ members_alone (inconsistent h) (judged styles current items)))
+    ∙ ap (λ (ms : List Member). (close 0 os (opened element nodes) ms).0) (sym (ap members (judged_titled styles current h items true high)))
 
 -- a title that is accepted begins its section, where those of its level or a deeper one have ended
 pub accepted : (s m t : Sections) (h : Title) (items : List Item) (level : ℕ) → level ≡ level_of h.style s.styles.items
@@ -214,17 +184,18 @@ pub accepted : (s m t : Sections) (h : Title) (items : List Item) (level : ℕ) 
     → ((ms : List Member) → closed_with t ms ≡ closed_with m (section_at (length m.outer.items + 1) (section_of h (inside (length m.outer.items + 1) ms)) ∷ behind (length m.outer.items + 1) ms))
     → length t.outer.items ≡ length m.outer.items + 1 → t.styles.items ≡ with_style h.style s.styles.items
     → goes_on t items ≡ goes_on s (titled h ∷ items)
+unfolding members
 accepted s m t h items level is low ends len begins more styles =
     let es : List Entry = judged (with_style h.style s.styles.items) level items in
     let e : length t.outer.items ≡ level = more ∙ len in
     let judge : nat_lt (length s.outer.items + 1) (level_of h.style s.styles.items) ≡ false = ap (λ n. nat_lt (length s.outer.items + 1) n) (sym is) ∙ low in
     let same : under level h ∷ es ≡ judged s.styles.items (length s.outer.items) (titled h ∷ items) =
-    ap (λ n. under n h ∷ judged (with_style h.style s.styles.items) n items) is ∙ sym (judged_accepted s.styles.items (length s.outer.items) h items judge) in
+    ap (λ n. under n h ∷ judged (with_style h.style s.styles.items) n items) is ∙ sym (judged_titled s.styles.items (length s.outer.items) h items false judge) in
     ap₂ (λ ss n. (closed_with t (members (judged ss n items))).0) styles e
     ∙ ap (λ r. r.0) (begins (members es))
     ∙ ap (λ n. (closed_with m (section_at n (section_of h (inside n (members es))) ∷ behind n (members es))).0) len
     ∙ ap (λ r. r.0) (ends (section_at level (section_of h (inside level (members es))) ∷ behind level (members es)) (stops_at_section level (section_of h (inside level (members es))) (behind level (members es))))
-    ∙ ap (λ ms. (closed_with s ms).0) (sym (members_under level h es) ∙ ap members same)
+    ∙ ap (λ ms. (closed_with s ms).0) (ap members same)
 
 -- the same where the last call can want memory
 pub accepted_gives : {A : Type 0} (r : Result A TreeFault) (s m t : Sections) (h : Title) (level : ℕ) → level ≡ level_of h.style s.styles.items
@@ -239,18 +210,10 @@ accepted_gives (Err NoMemory) s m t h level is low ends len more begins deeper s
 
 -- ---- the place of a style
 
-level_from : (s : Style) (styles : List Style) (i : ℕ) (d : Style) → i < length styles
-    → level_of s (drop i styles) ≡ cond (same_style (get_or styles i d) s) 1 (suc (level_of s (drop (i + 1) styles)))
+pub level_at : (s : Style) (styles : List Style) (i : ℕ) (d : Style) (same b : Bool) → i < length styles → same ≡ same_style (get_or styles i d) s → same ≡ b
+    → level_of s (drop i styles) ≡ cond b 1 (suc (level_of s (drop (i + 1) styles)))
 unfolding level_of
-level_from s styles i d here = at_drop_more (level_of s) styles i d here
-
-pub level_here : (s : Style) (styles : List Style) (i : ℕ) (d : Style) (same : Bool) → i < length styles → same ≡ same_style (get_or styles i d) s → same ≡ true
-    → level_of s (drop i styles) ≡ 1
-level_here s styles i d same here is same_true = level_from s styles i d here ∙ ap (λ b. cond b 1 (suc (level_of s (drop (i + 1) styles)))) (sym is ∙ same_true)
-
-pub level_later : (s : Style) (styles : List Style) (i : ℕ) (d : Style) (same : Bool) → i < length styles → same ≡ same_style (get_or styles i d) s → same ≡ false
-    → level_of s (drop i styles) ≡ suc (level_of s (drop (i + 1) styles))
-level_later s styles i d same here is same_false = level_from s styles i d here ∙ ap (λ b. cond b 1 (suc (level_of s (drop (i + 1) styles)))) (sym is ∙ same_false)
+level_at s styles i d same b here is so = at_drop_more (level_of s) styles i d here ∙ ap (λ b. cond b 1 (suc (level_of s (drop (i + 1) styles)))) (sym is ∙ so)
 
 pub level_behind : (s : Style) (styles : List Style) (i : ℕ) → length styles ≤ i → level_of s (drop i styles) ≡ 1
 unfolding level_of
@@ -258,17 +221,13 @@ level_behind s styles i h = at_drop_all (level_of s) styles i h
 
 -- ---- the whole document
 
-none_open : (ms : List Member) → (close 0 [] (opened (Element Document [] (forest_of []) 0) []) ms).0 ≡ Element Document [] (forest_of (inside 0 ms)) 0
-unfolding close
-none_open ms = refl
-
 -- a document without nodes
 pub begins : (s : Sections) (items : List Item) → s.outer.items ≡ [] → s.styles.items ≡ [] → s.current.element ≡ Element Document [] (forest_of []) 0 → s.current.nodes ≡ []
     → goes_on s items ≡ document_of items
+unfolding close
 begins s items outer styles element nodes =
     ap₂ (λ (os : List OpenSection) (ss : List Style). (close 0 (map open_of os) (open_of s.current) (members (judged ss (length os) items))).0) outer styles
     ∙ ap₂ (λ x (xs : List Node). (close 0 [] (opened x xs) (members (judged [] 0 items))).0) element nodes
-    ∙ none_open (members (judged [] 0 items))
     ∙ ap (λ xs. Element Document [] (forest_of xs) 0) (all_of_document items [] 0)
 
 alone_closed : (os : List OpenSection) (c : OpenSection) → length os + 1 ≤ 1 → (close 0 (map open_of os) (open_of c) []).0 ≡ filled c.element c.nodes
@@ -276,14 +235,11 @@ unfolding close inside
 alone_closed [] c h = ap (filled c.element) (append-nil c.nodes)
 alone_closed (o ∷ os) c h = absurd (omega arith)
 
-goes_on_none : (s : Sections) → (closed_with s []).0 ≡ goes_on s []
-unfolding judged members
-goes_on_none s = refl
-
 -- all sections have ended
 pub all_closed : (s t : Sections) → ((ms : List Member) → StopsAt 1 ms → closed_with t ms ≡ closed_with s ms) → length t.outer.items + 1 ≤ 1
     → filled t.current.element t.current.nodes ≡ goes_on s []
-all_closed s t ends few = sym (alone_closed t.outer.items t.current few) ∙ ap (λ r. r.0) (ends [] (stops_at_none 1)) ∙ goes_on_none s
+unfolding judged members
+all_closed s t ends few = sym (alone_closed t.outer.items t.current few) ∙ ap (λ r. r.0) (ends [] (stops_at_none 1))
 
 -- the innermost section holds these nodes
 abbrev pub holding : Sections → List Node → Sections

@@ -9,8 +9,6 @@ use Rattle.rst_block_state.specs.Begins.{construct_with}
 use Rattle.rst_block_state.specs.Constructs.{bullet_item, enumerated_item, field_item, option_item, item_of_list, bar_line, adorned, bullet_with, plain_text, construct_at, construct_by}
 
 pub marks_tell_constructs : (begun : Begun) (titles : Bool) (X : Block) → IsBegun X begun → construct_at titles X ≡ construct_with begun titles X
-marks_tell_constructs Blank titles X h = ap (λ k. construct_by k titles X) (sym h.kind)
-marks_tell_constructs Quote titles X h = ap (λ k. construct_by k titles X) (sym h.kind)
 marks_tell_constructs (Bullet mark marker) titles X h =
     ap (λ k. construct_by k titles X) (sym h.kind)
     ∙ ap (λ o. option_map_or (bullet_with titles X) o (plain_text titles X)) h.mark.0
@@ -21,13 +19,8 @@ marks_tell_constructs (Field m) titles X h =
     ap (λ k. construct_by k titles X) (sym h.kind) ∙ ap (λ o. option_map_or (λ m. item_of_list (field_item m)) o (plain_text titles X)) h.mark
 marks_tell_constructs (OptionItem marker) titles X h =
     ap (λ k. construct_by k titles X) (sym h.kind) ∙ ap (λ o. option_map_or (λ m. item_of_list (option_item m)) o (plain_text titles X)) h.mark
-marks_tell_constructs Doctest titles X h = ap (λ k. construct_by k titles X) (sym h.kind)
 marks_tell_constructs (Line marker) titles X h =
     ap (λ k. construct_by k titles X) (sym h.kind) ∙ ap (λ o. option_map_or bar_line o (plain_text titles X)) h.mark
-marks_tell_constructs Grid titles X h = ap (λ k. construct_by k titles X) (sym h.kind)
-marks_tell_constructs Simple titles X h = ap (λ k. construct_by k titles X) (sym h.kind)
-marks_tell_constructs Explicit titles X h = ap (λ k. construct_by k titles X) (sym h.kind)
-marks_tell_constructs Anonymous titles X h = ap (λ k. construct_by k titles X) (sym h.kind)
 marks_tell_constructs (Adornment mark) titles X h =
     ap (λ k. construct_by k titles X) (sym h.kind) ∙ ap (λ o. option_map_or (adorned titles X) o (plain_text titles X)) h.mark
-marks_tell_constructs Text titles X h = ap (λ k. construct_by k titles X) (sym h.kind)
+marks_tell_constructs _ titles X h = ap (λ k. construct_by k titles X) (sym h.kind)

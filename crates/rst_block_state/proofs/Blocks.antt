@@ -1,5 +1,5 @@
 -- Parts of a view are blocks of it.
-use Rattle.std.proofs.Common.{◌≡◌, ℕ, zero, suc, ◌+◌, ◌-◌, ◌<◌, ◌≤◌, Bool, true, false, [], ◌∷◌, ◌||◌, ◌&&◌, length, take, drop, length-drop, arith, refl, sym, ap, ◌∙◌, le-leb}
+use Rattle.std.proofs.Common.{◌≡◌, ℕ, zero, suc, ◌+◌, ◌-◌, ◌<◌, ◌≤◌, Bool, true, false, [], ◌∷◌, ◌||◌, ◌&&◌, length, take, drop, length-drop, arith, refl, sym, ap, ◌∙◌}
 use Rattle.std.proofs.lemmas.List.{drop-drop}
 use Rattle.rst_text.specs.Block.{Block, is_blank, indentation}
 use Rattle.rst_text.specs.Extent.{extent, extent_of}

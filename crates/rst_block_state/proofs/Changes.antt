@@ -105,9 +105,7 @@ done_title {old} {new} {heading} m =
 -- a block is as deep after an item
 item_depth_in : (o : OpenRun) (old new : OpenBlock) (item : Node) → HasItemIn o old new item → new.depth ≡ old.depth
 item_depth_in (open_list l) old new item h = h.depth
-item_depth_in no_run old new item h = h.depth
-item_depth_in (open_lines end lines) old new item h = h.depth
-item_depth_in (open_markup end) old new item h = h.depth
+item_depth_in _ old new item h = h.depth
 
 pub item_depth : (old new : OpenBlock) (item : Node) → HasItem old new item → new.depth ≡ old.depth
 item_depth old new item h = item_depth_in (open_of old.run) old new item h
@@ -141,9 +139,7 @@ more_is_read {new = new} B m = reads_is new B (done_more m) m.depth m.at (ap ope
 
 item_at : (o : OpenRun) (old new : OpenBlock) (B : Block) (item : Node) → open_of old.run ≡ o → HasItemIn o old new item → reads new B ≡ with_item old B item o
 item_at (open_list l) old new B item e m = reads_is new B (done_same old new m.nodes m.headings) m.depth m.at m.run
-item_at no_run old new B item e m = reads_is new B (done_more m) m.depth m.at (ap open_of m.run ∙ e)
-item_at (open_lines end lines) old new B item e m = reads_is new B (done_more m) m.depth m.at (ap open_of m.run ∙ e)
-item_at (open_markup end) old new B item e m = reads_is new B (done_more m) m.depth m.at (ap open_of m.run ∙ e)
+item_at _ old new B item e m = reads_is new B (done_more m) m.depth m.at (ap open_of m.run ∙ e)
 
 -- after an item the block gives it in its list
 pub item_is_read : (old new : OpenBlock) (B : Block) (item : Node) → HasItem old new item → reads new B ≡ with_item old B item (open_of old.run)

@@ -4,19 +4,11 @@ use Rattle.rst_text.specs.Block.{Block, is_blank}
 use Rattle.rst_text.specs.Reach.{reach, through_text}
 use Rattle.rst_markup_lines.specs.declared.marker.Marker.{Marker}
 use Rattle.rst_markup_blocks.specs.Conditions.{next_text}
+use Rattle.rst_markup_blocks.proofs.ReachLaws.{reach_within}
 use Rattle.rst_markup_blocks.specs.Sizes.{hanging_size, item_size, least_below, overline_looks}
 
-through_le : (X : Block) → through_text X ≤ length X
-unfolding through_text
-through_le [] = omega arith
-through_le (l ∷ ls) = by (is_blank l.text) (through_le ls)
-  where
-    by : (b : Bool) → through_text ls ≤ length ls → cond b (suc (through_text ls)) 1 ≤ suc (length ls)
-    by true h = omega arith
-    by false h = omega arith
-
 pub reach_le : (n : ℕ) (X : Block) → n ≤ length X → reach n X ≤ length X
-reach_le n X h = omega (arith, through_le (drop n X), length-drop n X)
+reach_le n X h = (reach_within n X h).1
 
 -- an item whose marker is bare has the lines of a hanging block
 pub bare_item : (m : Marker) (X : Block) → m.bare ≡ true → item_size m X ≡ hanging_size X

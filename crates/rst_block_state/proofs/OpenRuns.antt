@@ -71,54 +71,17 @@ fits_first (item_of_list (enumerated_item e)) s = (refl, refl)
 fits_first (item_of_list (definition_item infos)) s = (refl, refl)
 fits_first (item_of_list (field_item m)) s = (refl, refl)
 fits_first (item_of_list (option_item m)) s = (refl, refl)
-fits_first (bar_line m) s = refl
-fits_first explicit_markup s = refl
-fits_first nothing s = refl
-fits_first block_quote s = refl
-fits_first doctest_block s = refl
-fits_first grid s = refl
-fits_first simple s = refl
-fits_first transition s = refl
-fits_first (overlined_title mark short) s = refl
-fits_first (misplaced_lines level text) s = refl
-fits_first (underlined_title infos short) s = refl
-fits_first (paragraph infos) s = refl
+fits_first _ s = refl
 
 -- what joins the open run of some constructs is what joins the constructs
 joining_is : (what : Construct) (B : Block) (j : Joining) (run : Run Found) (items : List Item) → Fits what (stop_of run) j → joining_of_run (open_with what B j run items) ≡ j
 joining_is (item_of_list mark) B j run items h = refl
-joining_is (bar_line m) B j run items h = sym h
-joining_is explicit_markup B j run items h = sym h
-joining_is nothing B j run items h = sym h
-joining_is block_quote B j run items h = sym h
-joining_is doctest_block B j run items h = sym h
-joining_is grid B j run items h = sym h
-joining_is simple B j run items h = sym h
-joining_is transition B j run items h = sym h
-joining_is (overlined_title mark short) B j run items h = sym h
-joining_is (misplaced_lines level text) B j run items h = sym h
-joining_is (underlined_title infos short) B j run items h = sym h
-joining_is (paragraph infos) B j run items h = sym h
+joining_is _ B j run items h = sym h
 
 -- nothing joins a construct that is alone
 none_joins : (what : Construct) (s : Span) → joining_after none what s ≡ None
 none_joins (item_of_list (bullet_item c m)) s = refl
-none_joins (item_of_list (enumerated_item e)) s = refl
-none_joins (item_of_list (definition_item infos)) s = refl
-none_joins (item_of_list (field_item m)) s = refl
-none_joins (item_of_list (option_item m)) s = refl
-none_joins (bar_line m) s = refl
-none_joins explicit_markup s = refl
-none_joins nothing s = refl
-none_joins block_quote s = refl
-none_joins doctest_block s = refl
-none_joins grid s = refl
-none_joins simple s = refl
-none_joins transition s = refl
-none_joins (overlined_title mark short) s = refl
-none_joins (misplaced_lines level text) s = refl
-none_joins (underlined_title infos short) s = refl
-none_joins (paragraph infos) s = refl
+none_joins _ s = refl
 
 -- ---- a construct that joins
 
@@ -176,17 +139,11 @@ joins_list j what s next more h e = absurd (none_some next e)
 
 lines_join_none : (end : ℕ) (mark : ItemMark) → list_joining_after (lines_from end) mark ≡ None
 lines_join_none end (bullet_item c m) = refl
-lines_join_none end (enumerated_item e) = refl
-lines_join_none end (definition_item infos) = refl
-lines_join_none end (field_item m) = refl
-lines_join_none end (option_item m) = refl
+lines_join_none end _ = refl
 
 explicits_join_none : (mark : ItemMark) → list_joining_after explicits mark ≡ None
 explicits_join_none (bullet_item c m) = refl
-explicits_join_none (enumerated_item e) = refl
-explicits_join_none (definition_item infos) = refl
-explicits_join_none (field_item m) = refl
-explicits_join_none (option_item m) = refl
+explicits_join_none _ = refl
 
 -- what joins a line block is a line
 joins_lines : (end : ℕ) (what : Construct) (s : Span) (next : Joining) (more : List Item) → joining_after (lines_from end) what s ≡ Some next
@@ -224,16 +181,7 @@ fits_joined (bar_line m) s fs j x next h e =
     (joins_lines (stop_of (run_with (bar_line m) s fs)) x.what x.span next [] (joins_as j (lines_from (stop_of (run_with (bar_line m) s fs))) x next h e)).2
     ∙ ap lines_from (sym (stop_push (bar_line m) s fs x))
 fits_joined explicit_markup s fs j x next h e = (joins_markup x.what x.span next [] (joins_as j explicits x next h e)).2
-fits_joined nothing s fs j x next h e = joins_none j x next h e
-fits_joined block_quote s fs j x next h e = joins_none j x next h e
-fits_joined doctest_block s fs j x next h e = joins_none j x next h e
-fits_joined grid s fs j x next h e = joins_none j x next h e
-fits_joined simple s fs j x next h e = joins_none j x next h e
-fits_joined transition s fs j x next h e = joins_none j x next h e
-fits_joined (overlined_title mark short) s fs j x next h e = joins_none j x next h e
-fits_joined (misplaced_lines level text) s fs j x next h e = joins_none j x next h e
-fits_joined (underlined_title infos short) s fs j x next h e = joins_none j x next h e
-fits_joined (paragraph infos) s fs j x next h e = joins_none j x next h e
+fits_joined _ s fs j x next h e = joins_none j x next h e
 
 -- the lines of a line block with one more
 line_then : (B : Block) (last : ℕ) (fs : List Found) (x : Found) (what : Construct) (s : Span)
@@ -241,18 +189,7 @@ line_then : (B : Block) (last : ℕ) (fs : List Found) (x : Found) (what : Const
     → indented_lines B last (record { what = what; span = s } ∷ (fs ++ x ∷ []))
     ≡ indented_lines B last (record { what = what; span = s } ∷ fs) ++ indented_lines B (last_indent last (indented_lines B last (record { what = what; span = s } ∷ fs))) (x ∷ [])
 line_then B last fs x (bar_line m) s h = ap (λ ls. indented_line (indentation_of last m) B m s ∷ ls) (h (indentation_of last m))
-line_then B last fs x nothing s h = h last
-line_then B last fs x block_quote s h = h last
-line_then B last fs x (item_of_list mark) s h = h last
-line_then B last fs x doctest_block s h = h last
-line_then B last fs x grid s h = h last
-line_then B last fs x simple s h = h last
-line_then B last fs x explicit_markup s h = h last
-line_then B last fs x transition s h = h last
-line_then B last fs x (overlined_title mark short) s h = h last
-line_then B last fs x (misplaced_lines level text) s h = h last
-line_then B last fs x (underlined_title infos short) s h = h last
-line_then B last fs x (paragraph infos) s h = h last
+line_then B last fs x _ s h = h last
 
 lines_push : (B : Block) (last : ℕ) (fs : List Found) (x : Found)
     → indented_lines B last (fs ++ x ∷ []) ≡ indented_lines B last fs ++ indented_lines B (last_indent last (indented_lines B last fs)) (x ∷ [])
@@ -283,16 +220,7 @@ open_joined (bar_line m) s fs B j items more x next h e =
     ap (λ end. open_lines end (indented_lines B 0 (members (run_with (bar_line m) s (fs ++ x ∷ []))))) (stop_push (bar_line m) s fs x)
     ∙ ap (open_lines x.span.stop) (lines_push B 0 (members (run_with (bar_line m) s fs)) x)
 open_joined explicit_markup s fs B j items more x next h e = ap open_markup (stop_push explicit_markup s fs x)
-open_joined nothing s fs B j items more x next h e = refl
-open_joined block_quote s fs B j items more x next h e = refl
-open_joined doctest_block s fs B j items more x next h e = refl
-open_joined grid s fs B j items more x next h e = refl
-open_joined simple s fs B j items more x next h e = refl
-open_joined transition s fs B j items more x next h e = refl
-open_joined (overlined_title mark short) s fs B j items more x next h e = refl
-open_joined (misplaced_lines level text) s fs B j items more x next h e = refl
-open_joined (underlined_title infos short) s fs B j items more x next h e = refl
-open_joined (paragraph infos) s fs B j items more x next h e = refl
+open_joined _ s fs B j items more x next h e = refl
 
 -- what a construct gives at once that joins a run
 given_is : (B : Block) (x : Found) (more some : List Item) → at_once x.what more ≡ some → alone_ending x.what ≡ None → given_at_once B x more ≡ some
@@ -313,16 +241,7 @@ early_joined explicit_markup s fs B j items more x next h e =
     append-nil (items ++ more)
     ∙ ap (λ once. once ++ more) (sym (append-nil items))
     ∙ ap (λ given. (items ++ []) ++ given) (sym (given_is B x more more k.0 k.1))
-early_joined nothing s fs B j items more x next h e = joins_none j x next h e
-early_joined block_quote s fs B j items more x next h e = joins_none j x next h e
-early_joined doctest_block s fs B j items more x next h e = joins_none j x next h e
-early_joined grid s fs B j items more x next h e = joins_none j x next h e
-early_joined simple s fs B j items more x next h e = joins_none j x next h e
-early_joined transition s fs B j items more x next h e = joins_none j x next h e
-early_joined (overlined_title mark short) s fs B j items more x next h e = joins_none j x next h e
-early_joined (misplaced_lines level text) s fs B j items more x next h e = joins_none j x next h e
-early_joined (underlined_title infos short) s fs B j items more x next h e = joins_none j x next h e
-early_joined (paragraph infos) s fs B j items more x next h e = joins_none j x next h e
+early_joined _ s fs B j items more x next h e = joins_none j x next h e
 
 -- ---- a construct that begins a run
 
@@ -331,18 +250,7 @@ open_begun : (what : Construct) (s : Span) (B : Block) (more : List Item)
 unfolding list_with
 open_begun (item_of_list mark) s B more =
     ap (λ notes. list_with (list_joining mark) s.stop notes (empty_list mark (drop s.start B)) (nodes_among more) (list_notes mark (drop s.start B))) (append-nil (infos_of (item_of_list mark)))
-open_begun (bar_line m) s B more = refl
-open_begun explicit_markup s B more = refl
-open_begun nothing s B more = refl
-open_begun block_quote s B more = refl
-open_begun doctest_block s B more = refl
-open_begun grid s B more = refl
-open_begun simple s B more = refl
-open_begun transition s B more = refl
-open_begun (overlined_title mark short) s B more = refl
-open_begun (misplaced_lines level text) s B more = refl
-open_begun (underlined_title infos short) s B more = refl
-open_begun (paragraph infos) s B more = refl
+open_begun _ s B more = refl
 
 -- ---- the end of a run
 
@@ -373,16 +281,7 @@ ended_is (bar_line m) s fs c B j items n h = ended_lines (line_block c.levels (i
     run = run_with (bar_line m) s fs
 ended_is explicit_markup s fs c B j items n h =
     ap (λ (some : List Item). Ok (some ++ map plain (ending_notes (joined_ending explicits) (drop (stop_of (run_with explicit_markup s fs)) B)), n)) (sym (append-nil items))
-ended_is nothing s fs c B j items n h = alone_is items (ending_notes (alone_ending nothing) (drop (stop_of (run_with nothing s fs)) B)) n
-ended_is block_quote s fs c B j items n h = alone_is items (ending_notes (alone_ending block_quote) (drop (stop_of (run_with block_quote s fs)) B)) n
-ended_is doctest_block s fs c B j items n h = alone_is items (ending_notes (alone_ending doctest_block) (drop (stop_of (run_with doctest_block s fs)) B)) n
-ended_is grid s fs c B j items n h = alone_is items (ending_notes (alone_ending grid) (drop (stop_of (run_with grid s fs)) B)) n
-ended_is simple s fs c B j items n h = alone_is items (ending_notes (alone_ending simple) (drop (stop_of (run_with simple s fs)) B)) n
-ended_is transition s fs c B j items n h = alone_is items (ending_notes (alone_ending transition) (drop (stop_of (run_with transition s fs)) B)) n
-ended_is (overlined_title mark short) s fs c B j items n h = alone_is items (ending_notes (alone_ending (overlined_title mark short)) (drop (stop_of (run_with (overlined_title mark short) s fs)) B)) n
-ended_is (misplaced_lines level text) s fs c B j items n h = alone_is items (ending_notes (alone_ending (misplaced_lines level text)) (drop (stop_of (run_with (misplaced_lines level text) s fs)) B)) n
-ended_is (underlined_title infos short) s fs c B j items n h = alone_is items (ending_notes (alone_ending (underlined_title infos short)) (drop (stop_of (run_with (underlined_title infos short) s fs)) B)) n
-ended_is (paragraph infos) s fs c B j items n h = alone_is items (ending_notes (alone_ending (paragraph infos)) (drop (stop_of (run_with (paragraph infos) s fs)) B)) n
+ended_is what s fs c B j items n h = alone_is items (ending_notes (alone_ending what) (drop (stop_of (run_with what s fs)) B)) n
 
 -- ---- the walk
 

@@ -65,9 +65,7 @@ paid_begun each begun l new B s before after h f goes depth place blocks cells m
 -- a run that has ended takes no more looks
 pub ended_looks : (r : Run) → open_of r ≡ no_run → run_looks r ≡ 0
 ended_looks NoRun h = refl
-ended_looks (ListRun l) h = cc
-ended_looks (Lines lines end) h = cc
-ended_looks (ExplicitRun end) h = cc
+ended_looks _ h = cc
 
 -- a construct that opens no block, of which nodes came after the end of the open run
 pub paid_alone : (each : ℕ) (begun : Begun) (l closed gone new : OpenBlock) (B : Block) (read : Result (List Item × ℕ) ℕ) (m : ℕ) (more : List Node) (before after : ℕ) → IsBegun (drop l.at B) begun → IsFilled begun

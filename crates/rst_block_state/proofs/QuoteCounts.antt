@@ -84,12 +84,9 @@ quotes_same c f g Q n (Some (k, a)) e h =
 
 -- two counts that are large enough give the same quotes
 pub quotes_enough : (c : Within) (m k : ℕ) (Q : Block) (n : ℕ) → length Q ≤ m → length Q ≤ k → quotes c m Q n ≡ quotes c k Q n
-quotes_enough c zero zero Q n h i = refl
-quotes_enough c zero (suc k) [] n h i = refl
 quotes_enough c zero (suc k) (l ∷ ls) n h i = absurd (omega (arith, h))
-quotes_enough c (suc m) zero [] n h i = refl
 quotes_enough c (suc m) zero (l ∷ ls) n h i = absurd (omega (arith, i))
-quotes_enough c (suc m) (suc k) [] n h i = refl
 quotes_enough c (suc m) (suc k) (l ∷ ls) n h i =
     quotes_same c (quotes c m) (quotes c k) (l ∷ ls) n (first_attribution (l ∷ ls)) refl (λ a some j.
     quotes_enough c m k (quote_after (l ∷ ls) a) j (omega (arith, h, some)) (omega (arith, i, some)))
+quotes_enough c _ _ _ n h i = refl

@@ -6,7 +6,8 @@ use Rattle.std.proofs.lemmas.Bool.{cases_lt}
 use Rattle.rst_text.specs.Block.{Block, is_blank, front_text}
 use Rattle.rst_tree.specs.declared.node.Node.{Node}
 use Rattle.rst_markup_blocks.specs.Partition.{Span, spans_from, construct_size, construct_end, AreBlank, IsBlankAt, IsTextAt}
-use Rattle.rst_markup_blocks.proofs.PartitionLemmas.{end_inside}
+use Rattle.rst_markup_blocks.proofs.PartitionLemmas.{past, construct_at, over_blanks, none_past}
+pub use Rattle.rst_markup_blocks.proofs.PartitionLemmas.{span_to}
 use Rattle.rst_markup_lines.specs.declared.marker.Marker.{Marker}
 use Rattle.rst_block_state.specs.Constructs.{Construct, ItemMark, item_of_list, bar_line, explicit_markup, Found, found_at}
 use Rattle.rst_block_state.specs.Joins.{Joining, bullets, enumerators, definitions, fields, options, lines_from, explicits, none, joining_after, alone_ending}
@@ -23,74 +24,23 @@ use Rattle.rst_block_state.proofs.NumberedLemmas.{same_after, after_after, befor
 
 -- ---- the constructs from a line on
 
--- lines of a construct that begins before give none
-skipped : (titles : Bool) (i n : ℕ) (X : Block) → spans_from titles i n X ≡ spans_from titles (i + n) 0 (drop n X)
-unfolding spans_from
-skipped titles i zero X = let e : i ≡ i + 0 = omega arith in ap (λ j. spans_from titles j 0 X) e
-skipped titles i (suc n) [] = refl
-skipped titles i (suc n) (l ∷ ls) =
-    let e : suc i + n ≡ i + suc n = omega arith in
-    skipped titles (suc i) n ls ∙ ap (λ j. spans_from titles j 0 (drop n ls)) e
-
--- nor does a blank line
-blank_skipped : (titles : Bool) (i : ℕ) (X : Block) → is_blank (front_text X) ≡ true → spans_from titles i 0 X ≡ spans_from titles (suc i) 0 (drop 1 X)
-unfolding spans_from
-blank_skipped titles i [] h = refl
-blank_skipped titles i (l ∷ ls) h = rw h refl
-
--- the lines from one place to another
-abbrev pub span_to : ℕ → ℕ → Span
-span_to i j = record { start = i; stop = j }
-
-begun : (titles : Bool) (i : ℕ) (X : Block) → is_blank (front_text X) ≡ false → 1 ≤ construct_size titles X
-    → spans_from titles i 0 X ≡ span_to i (i + construct_size titles X) ∷ spans_from titles (i + construct_size titles X) 0 (drop (construct_size titles X) X)
-unfolding spans_from
-begun titles i [] h some = let no : true ≡ false = h in cc
-begun titles i (l ∷ ls) h some = rw h (ap (λ (S : List Span). span_to i (i + construct_size titles (l ∷ ls)) ∷ S) (by (construct_size titles (l ∷ ls)) some))
-  where
-    by : (n : ℕ) → 1 ≤ n → spans_from titles (suc i) (n - 1) ls ≡ spans_from titles (i + n) 0 (drop n (l ∷ ls))
-    by zero some = absurd (omega (arith, some))
-    by (suc n) some =
-        let e : suc n - 1 ≡ n = omega arith in
-        let f : suc i + n ≡ i + suc n = omega arith in
-        ap (λ k. spans_from titles (suc i) k ls) e ∙ skipped titles (suc i) n ls ∙ ap (λ j. spans_from titles j 0 (drop n ls)) f
-
 -- the lines after the first ones of those from a place on
 pub lines_after : (B : Block) (i n j : ℕ) → j ≡ i + n → drop n (drop i B) ≡ drop j B
 lines_after B i n j e = drop-drop n i B ∙ ap (λ k. drop k B) (sym e)
 
--- a line that isn't blank is there
-there : (B : Block) (i : ℕ) → IsTextAt B i → i < length B
-there B i h = elim (cases_lt i (length B)) [
-  | inl inside ↦ inside
-  | inr over ↦ (let no : true ≡ false = sym (ap (λ X. is_blank (front_text X)) (drop_all i B over)) ∙ h in cc)
-]
-
 pub found_over : (titles : Bool) (B : Block) (i : ℕ) → length B ≤ i → found_from titles B i ≡ []
-unfolding spans_from
-found_over titles B i h = ap (λ X. map (found_at titles B) (spans_from titles i 0 X)) (drop_all i B h)
+found_over titles B i h = ap (map (found_at titles B)) (none_past titles i B h)
 
 pub found_blank : (titles : Bool) (B : Block) (i : ℕ) → IsBlankAt B i → found_from titles B i ≡ found_from titles B (suc i)
-found_blank titles B i h =
-    ap (map (found_at titles B)) (blank_skipped titles i (drop i B) h ∙ ap (spans_from titles (suc i) 0) (lines_after B i 1 (suc i) (omega arith)))
-
-found_past : (n : ℕ) (titles : Bool) (B : Block) (i : ℕ) → AreBlank B i (i + n) → found_from titles B i ≡ found_from titles B (i + n)
-found_past zero titles B i h = let same : i + 0 ≡ i = omega arith in rw same refl
-found_past (suc n) titles B i h =
-    let same : i + suc n ≡ suc i + n = omega arith in
-    rw same (found_blank titles B i (h i (omega arith) (omega arith)) ∙ found_past n titles B (suc i) (λ k low high. h k (omega arith) (omega arith)))
+found_blank titles B i h = ap (map (found_at titles B)) (past titles i B h)
 
 pub found_blanks : (titles : Bool) (B : Block) (i j : ℕ) → i ≤ j → AreBlank B i j → found_from titles B i ≡ found_from titles B j
 found_blanks titles B i j le h =
     let same : i + (j - i) ≡ j = omega arith in
-    rw same at (found_past (j - i) titles B i (λ k low high. h k low (omega arith)))
+    rw same at (ap (map (found_at titles B)) (over_blanks titles B (j - i) i (λ k low high. h k low (omega arith))))
 
 pub found_text : (titles : Bool) (B : Block) (i : ℕ) → IsTextAt B i → found_from titles B i ≡ found_in titles B i ∷ found_from titles B (construct_end titles B i)
-found_text titles B i h =
-    let w = end_inside titles B i (there B i h) in
-    ap (map (found_at titles B))
-    (begun titles i (drop i B) h (omega (arith, w.0))
-    ∙ ap (λ X. span_to i (construct_end titles B i) ∷ spans_from titles (construct_end titles B i) 0 X) (drop-drop (construct_size titles (drop i B)) i B))
+found_text titles B i h = ap (map (found_at titles B)) (construct_at titles i B h)
 
 -- ---- what is still to come
 
@@ -194,13 +144,7 @@ alone_joins j (item_of_list mark) s h = absurd h
 alone_joins j (bar_line m) s h = absurd h
 alone_joins j explicit_markup s h = absurd h
 alone_joins (bullets c) what s h = refl
-alone_joins (enumerators f q last) what s h = refl
-alone_joins definitions what s h = refl
-alone_joins fields what s h = refl
-alone_joins options what s h = refl
-alone_joins (lines_from end) what s h = refl
-alone_joins explicits what s h = refl
-alone_joins none what s h = refl
+alone_joins _ what s h = refl
 
 -- what is still to come from a construct on that is alone
 rest_alone : Within → Block → OpenRun → Found → Numbered (List Item)

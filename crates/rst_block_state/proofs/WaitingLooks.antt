@@ -45,14 +45,11 @@ quoted_same f g Q (Some (k, a)) e h = ap (λ (Cs : List Block). take k Q ∷ Cs)
 
 -- counts that are large enough give the same quotes
 quoted_enough : (m k : ℕ) (Q : Block) → length Q ≤ m → length Q ≤ k → quoted m Q ≡ quoted k Q
-quoted_enough zero zero Q h i = refl
-quoted_enough zero (suc k) [] h i = refl
 quoted_enough zero (suc k) (l ∷ ls) h i = absurd (omega (arith, h))
-quoted_enough (suc m) zero [] h i = refl
 quoted_enough (suc m) zero (l ∷ ls) h i = absurd (omega (arith, i))
-quoted_enough (suc m) (suc k) [] h i = refl
 quoted_enough (suc m) (suc k) (l ∷ ls) h i =
     quoted_same (quoted m) (quoted k) (l ∷ ls) (first_attribution (l ∷ ls)) refl (λ a some. quoted_enough m k (quote_after (l ∷ ls) a) (omega (arith, h, some)) (omega (arith, i, some)))
+quoted_enough _ _ _ h i = refl
 
 isnt_zero : (n : ℕ) → 1 ≤ n → (n == 0) ≡ false
 isnt_zero zero h = absurd (omega (arith, h))
@@ -101,13 +98,8 @@ split_quotes B p k next line a made e behind within =
 -- ---- what a block does that waited
 
 pub alone : (l : OpenBlock) (B : Block) (w : Waits) → WaitsForOne w → (quotes_left B w ≡ []) × (goes_on_at l w ≡ l.at)
-alone l B (ListItem line) h = (refl, refl)
-alone l B (ListedBody line item content heads notes) h = (refl, refl)
-alone l B (Quote line made None end) h = (refl, refl)
 alone l B (Quote line made (Some p) end) h = absurd h
-alone l B (Element e) h = (refl, refl)
-alone l B (Figure figure start end) h = (refl, refl)
-alone l B (Replacement d) h = (refl, refl)
+alone l B _ h = (refl, refl)
 
 pub resumed : (l new : OpenBlock) (B : Block) (w : Waits) (before after : ℕ) → WaitsForOne w → new.depth ≡ l.depth → new.at ≡ l.at → run_looks new.run ≤ run_looks l.run
     → after ≤ before + waiting_looks w → capped before ≤ after
@@ -148,10 +140,8 @@ quotes_go_on l new B line end made p s before after h = by s h.goes h.place h.bl
 
     by : (t : Step) → GoesOn t → place_after new t ≡ p.to → totals D (next_blocks B t) ≡ totals D quotes → next_cells t ≡ [] → after + end_looks new t ≤ before + run_looks l.run + (1 + 16 * (p.to - p.from))
         → Takes (most_after l B (Quote line made (Some p) end) None) (least_after l B (Quote line made (Some p) end) None) before (most_left new B t) (least_left new B t) after
-    by Next g place blocks cells few = same Next place blocks cells few
-    by (Open w first second) g place blocks cells few = same (Open w first second) place blocks cells few
-    by (Cells t) g place blocks cells few = same (Cells t) place blocks cells few
     by Done g place blocks cells few = absurd g
+    by t g place blocks cells few = same t place blocks cells few
 
 -- ---- below the last level
 

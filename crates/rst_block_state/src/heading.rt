@@ -1,6 +1,5 @@
 //! Titles of sections, as they are read.
-ghost use Rattle.std.specs.Prelude.{◌≡◌, ◌∷◌, [], Ok, string_bytes};
-ghost use Rattle.std.specs.Str.{chars};
+ghost use Rattle.std.specs.Prelude.{◌≡◌, ◌∷◌, [], Ok, string_bytes, chars};
 ghost use Rattle.rst_tree.specs.Faults.{Gives};
 ghost use Rattle.rst_block_sections.specs.Sections.{title_of};
 ghost use Rattle.rst_block_state.specs.Titles.{short_warning, title_item, titled};

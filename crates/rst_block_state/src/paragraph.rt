@@ -1,6 +1,5 @@
 //! What a paragraph shows of its text (Markup Specification, 'Literal Blocks').
-ghost use Rattle.std.specs.Prelude.{◌≡◌};
-ghost use Rattle.std.specs.Str.{chars};
+ghost use Rattle.std.specs.Prelude.{◌≡◌, chars};
 ghost use Rattle.rst_block_state.specs.Literals as spec;
 
 use rst_markup_lines::{ends_in_colons, is_blank};

@@ -1,9 +1,6 @@
 //! Parts of a view that are blocks inside.
 ghost use Rattle.std.specs.Prelude.{◌≡◌, ◌+◌, ◌-◌, ◌*◌, ◌<◌, ◌≤◌, length, drop};
-ghost use Rattle.rst_text.specs.Extent.{extent};
-ghost use Rattle.rst_text.specs.Looked.{capped};
-ghost use Rattle.rst_text.specs.Reach.{reach};
-ghost use Rattle.rst_text.specs.Shown.{block_of, source_of};
+ghost use Rattle.rst_markup_blocks.specs.Prelude.{extent, capped, reach, block_of, source_of};
 ghost use Rattle.rst_markup_blocks.specs.Parts.{IsBlock};
 ghost use Rattle.rst_markup_blocks.specs.Sizes.{hanging_size, item_size};
 ghost use Rattle.rst_block_state.specs.Texts.{lines_in};

@@ -1,6 +1,5 @@
 //! References to footnotes and citations.
-ghost use Rattle.std.specs.Prelude.{◌≡◌};
-ghost use Rattle.std.specs.Str.{chars};
+ghost use Rattle.std.specs.Prelude.{◌≡◌, chars};
 ghost use Rattle.std.specs.List.{list_all};
 ghost use Rattle.rst_inline.specs.Elements.{is_digit, label_tag, manual_reference_node, autonumbered_reference_node, autosymbol_reference_node, label_reference_node};
 ghost use Rattle.rst_tree.specs.Faults.{Gives};

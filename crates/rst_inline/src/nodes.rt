@@ -1,6 +1,5 @@
 //! The nodes and the messages of a text.
-ghost use Rattle.std.specs.Prelude.{All};
-ghost use Rattle.std.specs.Str.{chars};
+ghost use Rattle.std.specs.Prelude.{All, chars};
 ghost use Rattle.rst_tree.specs.Faults.{Gives};
 ghost use Rattle.rst_inline_scan.specs.Pieces.{IsWithin};
 ghost use Rattle.rst_inline.specs.Results.{Reads, IsRead};

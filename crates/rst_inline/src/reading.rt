@@ -1,6 +1,5 @@
 //! What pieces mean.
-ghost use Rattle.std.specs.Prelude.{◌<◌, ◌≤◌, ◌+◌, true, ◌≡◌, [], length, IfOk};
-ghost use Rattle.std.specs.Str.{chars};
+ghost use Rattle.std.specs.Prelude.{◌<◌, ◌≤◌, ◌+◌, true, ◌≡◌, [], length, IfOk, chars};
 ghost use Rattle.std.specs.Cow.{cow_str_bytes};
 ghost use Rattle.rst_tree.specs.Faults.{Gives};
 ghost use Rattle.rst_tree.specs.declared.note.Level.TheVariants.{Warning};

@@ -1,6 +1,5 @@
 //! References, and the substitutions that they stand round.
-ghost use Rattle.std.specs.Prelude.{◌≡◌, ◌∷◌, []};
-ghost use Rattle.std.specs.Str.{chars};
+ghost use Rattle.std.specs.Prelude.{◌≡◌, ◌∷◌, [], chars};
 ghost use Rattle.rst_inline.specs.Elements.{reference_node, embedded_node, substitution_node, outer_attrs, outer_node};
 ghost use Rattle.rst_tree.specs.Attributes.{attr};
 ghost use Rattle.rst_tree.specs.Faults.{Gives};

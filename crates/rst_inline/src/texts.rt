@@ -1,6 +1,5 @@
 //! Characters as texts of the tree.
-ghost use Rattle.std.specs.Prelude.{◌≡◌, string_bytes, IfOk};
-ghost use Rattle.std.specs.Str.{chars};
+ghost use Rattle.std.specs.Prelude.{◌≡◌, string_bytes, IfOk, chars};
 ghost use Rattle.rst_text.specs.Names as names;
 ghost use Rattle.rst_text.specs.Text.{chars_of};
 ghost use Rattle.rst_inline_scan.specs.Escapes.{unescaped};

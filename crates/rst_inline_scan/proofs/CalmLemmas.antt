@@ -15,7 +15,8 @@ use Rattle.rst_inline_scan.specs.Tails.{name_tail}
 use Rattle.rst_inline_scan.specs.Calm.{AreBytesOf, byte_of, is_calm, is_calm_at, AreCalm, is_of_name, IsStep}
 use Rattle.rst_inline_scan.specs.Pieces.{piece_at, HasNoStart}
 use Rattle.rst_inline_scan.proofs.EscapeLemmas.{other-bare, is_escaped-bare}
-use Rattle.rst_inline_scan.proofs.WordLemmas.{letter-low, differs, absent, letter-behind, unmarked, no-label, no-letter-at, no-underscore, IsBarred, no-piece-barred}
+use Rattle.rst_inline_scan.proofs.WordLemmas.{letter-low, differs, absent, letter-behind, unmarked, no-label, no-letter-at, IsBarred, no-piece-barred}
+use Rattle.rst_inline_scan.proofs.NameLemmas.{no-underscore}
 
 -- from one place up to another all are calm, and the last is none of a name, or the other is the text's end
 pub record IsCalm (t : Text) (from to : ℕ) : Type 0 where

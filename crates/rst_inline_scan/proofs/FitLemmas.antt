@@ -1,7 +1,7 @@
 -- Pieces lie within the text, and are not empty.
 use Rattle.std.proofs.Common.{◌≡◌, ℕ, ◌+◌, ◌<◌, ◌≤◌, Bool, true, false, ◌&&◌, cond, Option, Some, None, length, refl, sym, subst, arith}
 use Rattle.std.specs.Option.{option_or}
-use Rattle.std.proofs.lemmas.Bool.{ltb-true, and_parts}
+use Rattle.std.proofs.lemmas.Bool.{ltb-true, and_parts, cond_both}
 use Rattle.rst_inline_scan.specs.Characters.{Text, has, is_free_behind}
 use Rattle.rst_inline_scan.specs.Tails.{anonymous_tail, named_tail, name_tail, role_tail, bare_tail}
 use Rattle.rst_inline_scan.specs.declared.piece.Piece.{Piece}
@@ -30,8 +30,7 @@ pub Some-None : {X : Type 0} {x : X} → Some x ≡ None → ⊥
 Some-None h = cc
 
 pub either : {X : Type 0} (b : Bool) (r s : X) (P : X → Type 0) → (b ≡ true → P r) → P s → P (cond b r s)
-either true r s P h k = h refl
-either false r s P h k = k
+either b r s P h k = cond_both b r s P h (λ e. k)
 
 pub chosen : {X : Type 0} (b : Bool) (r : Option X) (x : X) → cond b r None ≡ Some x → (b ≡ true) × (r ≡ Some x)
 chosen true r x h = (refl, h)
@@ -53,53 +52,34 @@ Fit-or t i None s first second p h = second p h
 abbrev pub TailFits : Text → ℕ → Option Tail → Type 0
 TailFits t e r = (tail : Tail) → r ≡ Some tail → (e ≤ tail.to) × (tail.to ≤ length t)
 
-one_tail : (t : Text) (e : ℕ) (made : Tail) → e ≤ made.to → made.to ≤ length t → TailFits t e (Some made)
-one_tail t e made above within tail h = subst (λ (tail : Tail). (e ≤ tail.to) × (tail.to ≤ length t)) (Some-same h) (above, within)
-
 no_tail : (t : Text) (e : ℕ) → TailFits t e None
 no_tail t e tail h = absurd (Some-None (sym h))
+
+tail_if : (t : Text) (e : ℕ) (b : Bool) (made : Tail) → (b ≡ true → (e ≤ made.to) × (made.to ≤ length t)) → TailFits t e (cond b (Some made) None)
+tail_if t e b made fits = either b (Some made) None (TailFits t e) (λ yes tail h. subst (λ (tail : Tail). (e ≤ tail.to) × (tail.to ≤ length t)) (Some-same h) (fits yes)) (no_tail t e)
 
 pub TailFits-or : (t : Text) (e : ℕ) (r s : Option Tail) → TailFits t e r → TailFits t e s → TailFits t e (option_or r s)
 TailFits-or t e (Some q) s first second tail h = first tail h
 TailFits-or t e None s first second tail h = second tail h
 
 pub bare_tail-fits : (t : Text) (e : ℕ) → e ≤ length t → TailFits t e (bare_tail t e)
-bare_tail-fits t e h = either (is_free_behind t e) (Some (record { suffix = Bare; to = e })) None (TailFits t e) (λ free. one_tail t e _ (omega arith) h) (no_tail t e)
+bare_tail-fits t e h = tail_if t e (is_free_behind t e) (record { suffix = Bare; to = e }) (λ free. (omega arith, h))
 
 named_tail-fits : (t : Text) (e : ℕ) → TailFits t e (named_tail t e)
-named_tail-fits t e = either (has t e 95 && is_free_behind t (e + 1)) (Some (record { suffix = Named; to = e + 1 })) None (TailFits t e)
-    (λ fits. let l : e < length t = has-lt t e 95 (and_parts (has t e 95) (is_free_behind t (e + 1)) fits).0 in one_tail t e _ (omega arith) (omega arith))
-    (no_tail t e)
+named_tail-fits t e = tail_if t e (has t e 95 && is_free_behind t (e + 1)) (record { suffix = Named; to = e + 1 })
+    (λ fits. let l : e < length t = has-lt t e 95 (and_parts (has t e 95) (is_free_behind t (e + 1)) fits).0 in (omega arith, omega arith))
 
 anonymous_tail-fits : (t : Text) (e : ℕ) → TailFits t e (anonymous_tail t e)
-anonymous_tail-fits t e = either (has t e 95 && (has t (e + 1) 95 && is_free_behind t (e + 2))) (Some (record { suffix = Anonymous; to = e + 2 })) None (TailFits t e)
+anonymous_tail-fits t e = tail_if t e (has t e 95 && (has t (e + 1) 95 && is_free_behind t (e + 2))) (record { suffix = Anonymous; to = e + 2 })
     (λ fits.
     let second = (and_parts (has t e 95) (has t (e + 1) 95 && is_free_behind t (e + 2)) fits).1 in
     let l : e + 1 < length t = has-lt t (e + 1) 95 (and_parts (has t (e + 1) 95) (is_free_behind t (e + 2)) second).0 in
-    one_tail t e _ (omega arith) (omega arith))
-    (no_tail t e)
+    (omega arith, omega arith))
 
 pub name_tail-fits : (t : Text) (e : ℕ) → TailFits t e (name_tail t e)
 unfolding name_tail
 name_tail-fits t e = TailFits-or t e (anonymous_tail t e) (named_tail t e) (anonymous_tail-fits t e) (named_tail-fits t e)
 
 pub role_tail-fits : (t : Text) (e : ℕ) (r : Option ℕ) → ((k : ℕ) → r ≡ Some k → (e < k) × (k ≤ length t)) → TailFits t e (role_tail t r)
-role_tail-fits t e (Some k) h = either (is_free_behind t k) (Some (record { suffix = Role; to = k })) None (TailFits t e)
-    (λ free. let above : e < k = (h k refl).0 in one_tail t e _ (omega arith) (h k refl).1)
-    (no_tail t e)
+role_tail-fits t e (Some k) h = tail_if t e (is_free_behind t k) (record { suffix = Role; to = k }) (λ free. let above : e < k = (h k refl).0 in (omega arith, (h k refl).1))
 role_tail-fits t e None h = no_tail t e
-
--- where underscores fit, one stands there
-pub name_tail-below : (t : Text) (e : ℕ) (tail : Tail) → name_tail t e ≡ Some tail → e < length t
-unfolding name_tail
-name_tail-below t e tail h = first (anonymous_tail t e) (anonymous_tail-below t e) h
-  where
-    named_tail-below : (made : Tail) → named_tail t e ≡ Some made → e < length t
-    named_tail-below made h = has-lt t e 95 (and_parts (has t e 95) (is_free_behind t (e + 1)) (chosen (has t e 95 && is_free_behind t (e + 1)) (Some (record { suffix = Named; to = e + 1 })) made h).0).0
-
-    anonymous_tail-below : (t : Text) (e : ℕ) (made : Tail) → anonymous_tail t e ≡ Some made → e < length t
-    anonymous_tail-below t e made h = has-lt t e 95 (and_parts (has t e 95) (has t (e + 1) 95 && is_free_behind t (e + 2)) (chosen (has t e 95 && (has t (e + 1) 95 && is_free_behind t (e + 2))) (Some (record { suffix = Anonymous; to = e + 2 })) made h).0).0
-
-    first : (r : Option Tail) → ((made : Tail) → r ≡ Some made → e < length t) → option_or r (named_tail t e) ≡ Some tail → e < length t
-    first (Some q) below h = below q refl
-    first None below h = named_tail-below tail h

@@ -1,5 +1,5 @@
 -- Markup between a start-string and an end-string.
-use Rattle.std.proofs.Common.{◌≡◌, ◌≢◌, ℕ, ◌+◌, ◌-◌, ◌<◌, ◌≤◌, [], ◌∷◌, true, false, not, ◌&&◌, get_or, Option, Some, None, length, unwrap_or, option_map, refl, sym, ap, ◌∙◌, subst, arith}
+use Rattle.std.proofs.Common.{◌≡◌, ◌≢◌, ℕ, ◌+◌, ◌-◌, ◌<◌, ◌≤◌, [], ◌∷◌, true, false, not, ◌&&◌, ◌==◌, get_or, Option, Some, None, length, unwrap_or, option_map, refl, sym, ap, ◌∙◌, subst, arith}
 use Rattle.std.proofs.lemmas.Bool.{and_parts}
 use Rattle.std.proofs.lemmas.Bool.Decides.{nat_tests}
 use Rattle.rst_text.specs.Places.{IsFirst}
@@ -24,21 +24,17 @@ string-fits t [] i some h = absurd (omega arith)
 string-fits t (c ∷ []) i some h = let l : i < length t = has-lt t i c (and_parts (has t i c) true h).0 in omega arith
 string-fits t (c ∷ d ∷ cs) i some h = let rest = string-fits t (d ∷ cs) (i + 1) (omega arith) (and_parts (has t i c) (has_string t (i + 1) (d ∷ cs)) h).1 in omega arith
 
-start-some : (markup : Markup) → 0 < start_len markup
-start-some Strong = omega arith
-start-some Emphasis = omega arith
-start-some Literal = omega arith
-start-some Target = omega arith
-start-some Substitution = omega arith
-start-some Interpreted = omega arith
+-- start-strings and end-strings are not empty, and no start-string begins with a backslash
+strings : (markup : Markup) → (0 < start_len markup) × (0 < end_len markup) × ((get_or (start_string markup) 0 0 == 92) ≡ false)
+strings Strong = (omega arith, omega arith, refl)
+strings Emphasis = (omega arith, omega arith, refl)
+strings Literal = (omega arith, omega arith, refl)
+strings Target = (omega arith, omega arith, refl)
+strings Substitution = (omega arith, omega arith, refl)
+strings Interpreted = (omega arith, omega arith, refl)
 
-end-some : (markup : Markup) → 0 < end_len markup
-end-some Strong = omega arith
-end-some Emphasis = omega arith
-end-some Literal = omega arith
-end-some Target = omega arith
-end-some Substitution = omega arith
-end-some Interpreted = omega arith
+pub start-some : (markup : Markup) → 0 < start_len markup
+start-some markup = (strings markup).0
 
 start-stands : (markup : Markup) (t : Text) (q : ℕ) → has_start markup t q ≡ true → has_string t q (start_string markup) ≡ true
 start-stands markup t q h = (and_parts (has_string t q (start_string markup)) _ h).0
@@ -47,15 +43,14 @@ pub start-fits : (markup : Markup) (t : Text) (q : ℕ) → has_start markup t q
 start-fits markup t q h = string-fits t (start_string markup) q (start-some markup) (start-stands markup t q h)
 
 end-fits : (markup : Markup) (t : Text) (k : ℕ) → has_end markup t k ≡ true → k + end_len markup ≤ length t
-end-fits markup t k h = string-fits t (end_string markup) k (end-some markup) h
+end-fits markup t k h = string-fits t (end_string markup) k (strings markup).1 h
+
+bare-string : (t s : Text) (q : ℕ) → 0 < length s → (get_or s 0 0 == 92) ≡ false → has_string t q s ≡ true → IsBare t q
+bare-string t [] q some other h = absurd (omega arith)
+bare-string t (c ∷ cs) q some other h = has-bare t q c other (and_parts (has t q c) (has_string t (q + 1) cs) h).0
 
 pub start-bare : (markup : Markup) (t : Text) (q : ℕ) → has_start markup t q ≡ true → IsBare t q
-start-bare Strong t q h = has-bare t q 42 refl (and_parts (has t q 42) _ (start-stands Strong t q h)).0
-start-bare Emphasis t q h = has-bare t q 42 refl (and_parts (has t q 42) _ (start-stands Emphasis t q h)).0
-start-bare Literal t q h = has-bare t q 96 refl (and_parts (has t q 96) _ (start-stands Literal t q h)).0
-start-bare Target t q h = has-bare t q 95 refl (and_parts (has t q 95) _ (start-stands Target t q h)).0
-start-bare Substitution t q h = has-bare t q 124 refl (and_parts (has t q 124) _ (start-stands Substitution t q h)).0
-start-bare Interpreted t q h = has-bare t q 96 refl (and_parts (has t q 96) _ (start-stands Interpreted t q h)).0
+start-bare markup t q h = bare-string t (start_string markup) q (start-some markup) (strings markup).2 (start-stands markup t q h)
 
 -- it ends only where the character stands of which its end-string consists
 no-string : (t s : Text) (i : ℕ) → 0 < length s → get_or t i 0 ≢ get_or s 0 0 → has_string t i s ≡ false
@@ -64,7 +59,7 @@ no-string t (c ∷ cs) i some h = grind (arith, nat_tests)
 
 pub no-end : (markup : Markup) (t : Text) (i k : ℕ) → get_or t k 0 ≢ mark markup → ends markup t i k ≡ false
 unfolding ends
-no-end markup t i k h = rw (no-string t (end_string markup) k (end-some markup) h) refl
+no-end markup t i k h = rw (no-string t (end_string markup) k (strings markup).1 h) refl
 
 ends-end : (markup : Markup) (t : Text) (i k : ℕ) → ends markup t i k ≡ true → has_end markup t k ≡ true
 unfolding ends

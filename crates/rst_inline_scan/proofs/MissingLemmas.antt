@@ -5,16 +5,11 @@ use Rattle.rst_inline_scan.specs.Missing.{with_unended, IsUnended, IsMissing}
 use Rattle.rst_inline_scan.specs.declared.piece.Markup.{Markup}
 use Rattle.rst_inline_scan.specs.declared.piece.Markup.TheVariants.{Strong, Emphasis, Literal, Target, Substitution, Interpreted}
 use Rattle.rst_inline_scan.specs.declared.missing.Missing.{Missing}
-use Rattle.rst_inline_scan.proofs.MarkedLemmas.{start-fits}
+use Rattle.rst_inline_scan.proofs.MarkedLemmas.{start-fits, start-some}
 
 -- no start-string stands past the end
 pub none-past : (markup : Markup) (t : Text) → IsUnended markup t (length t)
-none-past Strong t i q order past mark = absurd (let l = start-fits Strong t q mark in omega arith)
-none-past Emphasis t i q order past mark = absurd (let l = start-fits Emphasis t q mark in omega arith)
-none-past Literal t i q order past mark = absurd (let l = start-fits Literal t q mark in omega arith)
-none-past Target t i q order past mark = absurd (let l = start-fits Target t q mark in omega arith)
-none-past Substitution t i q order past mark = absurd (let l = start-fits Substitution t q mark in omega arith)
-none-past Interpreted t i q order past mark = absurd (let l = start-fits Interpreted t q mark in omega arith)
+none-past markup t i q order past mark = absurd (let l = start-fits markup t q mark in let some = start-some markup in omega arith)
 
 pub IsMissing-with : (markup : Markup) (t : Text) (missing : Missing) (place q : ℕ) → IsMissing t missing place → IsUnended markup t q → IsMissing t (with_unended missing markup q) place
 IsMissing-with Strong t missing place q known h = record { strong = h; emphasis = known.emphasis; literal = known.literal; target = known.target; substitution = known.substitution; interpreted = known.interpreted; names = known.names; uris = known.uris }

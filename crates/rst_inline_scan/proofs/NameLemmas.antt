@@ -1,16 +1,16 @@
 -- Simple names, roles and references.
-use Rattle.std.proofs.Common.{◌≡◌, ⊎_elim, ℕ, ltb, ◌+◌, ◌-◌, ◌<◌, ◌≤◌, Bool, true, false, not, ◌&&◌, Option, Some, None, IfSome, length, option_and_then, option_map, refl, sym, ap, ◌∙◌, arith}
-use Rattle.std.proofs.lemmas.Bool.{and_parts, cases_lt}
+use Rattle.std.proofs.Common.{◌≡◌, ◌==◌, get_or, true≢false, ⊎_elim, ℕ, ltb, ◌+◌, ◌-◌, ◌<◌, ◌≤◌, Bool, true, false, not, ◌&&◌, Option, Some, None, IfSome, length, option_and_then, option_map, refl, sym, ap, ◌∙◌, arith}
+use Rattle.std.proofs.lemmas.Bool.{and_left, and_parts, cases_lt, le-ltb}
+use Rattle.std.specs.Prelude.{nat_lt}
 use Rattle.std.proofs.lemmas.Bool.Decides.{nat_tests}
 use Rattle.std.proofs.Math.Bool.{and-true}
-use Rattle.std.specs.Option.{is_some}
 use Rattle.rst_text.specs.Places.{first_from, last_from, all_from, IsFirst, IsLast}
 use Rattle.rst_text.proofs.PlacesLemmas.{first_from-is, first_from-IsFirst, last_from-is, last_from-IsLast, all_from-at, all_from-all, all_from-stop}
 use Rattle.rst_inline_scan.specs.Characters.{Text, has, is_alnum_at}
 use Rattle.rst_inline_scan.specs.Tails.{name_tail}
 use Rattle.rst_inline_scan.specs.Names.{is_name_at, is_simple_name, name_stop, behind_colon, role_end, ends_name, is_reference, name_end, reference_piece, reference_to, reference}
 use Rattle.rst_inline_scan.specs.declared.piece.Tail.{Tail}
-use Rattle.rst_inline_scan.proofs.FitLemmas.{Fit, Fit-none, Fit-some, has-lt, Some-same, Some-None, either, chosen, TailFits, name_tail-fits, name_tail-below}
+use Rattle.rst_inline_scan.proofs.FitLemmas.{Fit, Fit-none, Fit-some, has-lt, Some-same, Some-None, either, chosen, TailFits, name_tail-fits}
 
 -- ---- simple names
 
@@ -79,13 +79,15 @@ is_reference-ends : (t : Text) (i j : ℕ) → is_reference t i j ≡ true → e
 unfolding is_reference
 is_reference-ends t i j h = (and_parts (ends_name t j) (is_alnum_at t i && all_from (is_name_at t) i (j - i)) h).0
 
-some-below : (t : Text) (j : ℕ) (r : Option Tail) → r ≡ name_tail t j → is_some r ≡ true → j < length t
-some-below t j (Some tail) e h = name_tail-below t j tail (sym e)
-some-below t j None e h = absurd (cc)
+pub no-underscore : (t : Text) (j : ℕ) → has t j 95 ≡ false → ends_name t j ≡ false
+unfolding ends_name name_tail
+no-underscore t j h = rw h (grind (arith, nat_tests))
 
 ends_name-below : (t : Text) (j : ℕ) → ends_name t j ≡ true → j < length t
-unfolding ends_name
-ends_name-below t j h = some-below t j (name_tail t j) refl (and_parts (is_some (name_tail t j)) (is_alnum_at t (j - 1)) h).0
+ends_name-below t j h = ⊎_elim
+    (λ inside. inside)
+    (λ past. absurd (true≢false (sym h ∙ no-underscore t j (and_left (nat_lt j (length t)) (get_or t j 0 == 95) (le-ltb j (length t) past)))))
+    (cases_lt j (length t))
 
 pub is_reference-below : (t : Text) (i j : ℕ) → is_reference t i j ≡ true → j < length t
 is_reference-below t i j h = ends_name-below t j (is_reference-ends t i j h)

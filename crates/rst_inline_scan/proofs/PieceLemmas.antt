@@ -1,6 +1,6 @@
 -- The pieces of a text.
-use Rattle.std.proofs.Common.{◌≡◌, ◌⊎◌, inl, inr, ⊎_elim, ℕ, zero, suc, ◌+◌, ◌-◌, ◌<◌, ◌≤◌, List, [], ◌∷◌, ◌++◌, ◌&&◌, cond, Option, Some, None, IfSome, length, option_and_then, append_assoc, append-nil, ap₂, le_of_lt, refl, sym, ap, ◌∙◌, subst, arith}
-use Rattle.std.proofs.lemmas.Bool.{and_parts, cases_lt}
+use Rattle.std.proofs.Common.{◌≡◌, ◌⊎◌, inl, inr, ⊎_elim, ℕ, ◌+◌, ◌-◌, ◌<◌, ◌≤◌, List, [], ◌∷◌, ◌++◌, ◌&&◌, cond, Option, Some, None, IfSome, length, option_and_then, append_assoc, append-nil, ap₂, le_of_lt, refl, sym, ap, ◌∙◌, subst, arith}
+use Rattle.std.proofs.lemmas.Bool.{and_parts}
 use Rattle.std.proofs.lemmas.List.Elements.{All-nil, All-cons}
 use Rattle.std.specs.Prelude.{All}
 use Rattle.rst_text.proofs.PlacesLemmas.{lt_eq_gt}
@@ -143,71 +143,6 @@ IsPieces-unique t from _ _ (plain p r ps a s h) (plain q r′ qs b s′ k) =
     let same = IsPlain-unique t from p q a b (inr (r, s)) (inr (r′, s′)) in
     let next : r ≡ r′ = Some-same (sym s ∙ subst (λ (x : Piece). piece_at t from x.to ≡ Some r′) (sym same) s′) in
     ap₂ (λ p ps. p ∷ ps) same (ap₂ (λ p ps. p ∷ ps) next (IsPieces-unique t r.to ps qs h (subst (λ (x : Piece). IsPieces t x.to qs) (sym next) k)))
-
--- ---- at least one list
-
-found : (r : Option Piece) → ((q : Piece) × (r ≡ Some q)) ⊎ (r ≡ None)
-found (Some q) = inl (q, refl)
-found None = inr refl
-
--- where a plain piece from `from` stops: at the least start from there on, or at the end where there is none
-record Stop (t : Text) (from : ℕ) : Type 0 where
-  at : ℕ
-  above : from ≤ at
-  within : at ≤ length t
-  none : HasNoStart t from from at
-  stops : Stops t from at
-
-HasNoStart-more : (t : Text) (from at : ℕ) → HasNoStart t from from at → piece_at t from at ≡ None → HasNoStart t from from (at + 1)
-HasNoStart-more t from at none here i low high = ⊎_elim
-    (λ less. none i low less)
-    (λ rest. ⊎_elim (λ same. subst (λ n. piece_at t from n ≡ None) (sym same) here) (λ more. absurd (omega arith)) rest)
-    (lt_eq_gt i at)
-
--- the next stop, `left` places before the end
-next_stop : (t : Text) (from left at : ℕ) → at + left ≡ length t → from ≤ at → HasNoStart t from from at → Stop t from
-next_stop t from zero at e above none = record { at = at; above = above; within = omega arith; none = none; stops = inl (omega arith) }
-next_stop t from (suc left) at e above none = ⊎_elim
-    (λ start. record { at = at; above = above; within = omega arith; none = none; stops = inr start })
-    (λ here. next_stop t from left (at + 1) (omega arith) (omega arith) (HasNoStart-more t from at none here))
-    (found (piece_at t from at))
-
--- a text has pieces from the place on
-abbrev pub HasPieces : Text → ℕ → Type 0
-HasPieces t from = (ps : List Piece) × IsPieces t from ps
-
--- the pieces up to a stop, before those behind it
-with_last : (t : Text) (from : ℕ) (stop : Stop t from) → stop.at ≡ length t → HasPieces t from
-with_last t from stop end = ⊎_elim
-    (λ (some : from < stop.at). (plain_from from stop.at ∷ [], last (plain_from from stop.at) (is-plain t from stop.at some stop.within stop.none) end))
-    (λ none. let above = stop.above in ([], nothing (omega arith)))
-    (cases_lt from stop.at)
-
-with_next : (t : Text) (from : ℕ) (stop : Stop t from) (q : Piece) → piece_at t from stop.at ≡ Some q → HasPieces t q.to → HasPieces t from
-with_next t from stop q begins rest = ⊎_elim
-    (λ (some : from < stop.at). (plain_from from stop.at ∷ q ∷ rest.0, plain (plain_from from stop.at) q rest.0 (is-plain t from stop.at some stop.within stop.none) begins rest.1))
-    (λ (none : stop.at ≤ from).
-    let above = stop.above in
-    let same : stop.at ≡ from = omega arith in
-    (q ∷ rest.0, other q rest.0 (subst (λ i. piece_at t from i ≡ Some q) same begins) rest.1))
-    (cases_lt from stop.at)
-
--- no more than `left` places before the end
-pieces_from : (t : Text) (left from : ℕ) → length t ≤ from + left → from ≤ length t → HasPieces t from
-pieces_from t zero from e within = ([], nothing (omega arith))
-pieces_from t (suc left) from e within =
-    let stop : Stop t from = next_stop t from (length t - from) from (omega arith) (omega arith) (λ i low high. absurd (omega arith)) in
-    ⊎_elim
-    (λ end. with_last t from stop end)
-    (λ start.
-    let above = stop.above in
-    let fits = piece_at-fits t from stop.at start.0 stop.within start.1 in
-    let some = fits.some in
-    with_next t from stop start.0 start.1 (pieces_from t left start.0.to (omega arith) fits.within))
-    stop.stops
-
-pub IsPieces-some : (t : Text) (from : ℕ) → from ≤ length t → HasPieces t from
-IsPieces-some t from within = pieces_from t (length t) from (omega arith) within
 
 -- ---- each piece lies within the text
 

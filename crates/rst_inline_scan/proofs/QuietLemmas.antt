@@ -1,10 +1,10 @@
 -- In a quiet text nothing begins.
-use Rattle.std.proofs.Common.{◌≡◌, ⊎_elim, ℕ, ◌+◌, ◌<◌, ◌≤◌, Bool, true, false, ◌||◌, ◌==◌, cond, List, [], ◌∷◌, Option, Some, None, length, option_and_then, get_or, true≢false, refl, sym, ap, ◌∙◌, subst, arith}
+use Rattle.std.proofs.Common.{◌≡◌, ⊎_elim, ℕ, ◌+◌, ◌<◌, ◌≤◌, true, false, ◌||◌, ◌==◌, List, [], ◌∷◌, Option, Some, None, length, option_and_then, get_or, true≢false, refl, sym, ap, ◌∙◌, subst, arith}
 use Rattle.std.specs.Prelude.{nat_lt}
 use Rattle.std.specs.Str.{chars, IsUtf8}
 use Rattle.std.proofs.Math.Utf8.{encode, encodes}
 use Rattle.std.proofs.lemmas.Str.{encode_ascii, encodes-chars}
-use Rattle.std.proofs.lemmas.Bool.{ltb-true, eqb-true, and_parts, and_left, cases_lt}
+use Rattle.std.proofs.lemmas.Bool.{ltb-true, eqb-true, eq-eqb, ne_eqb, and_parts, and_left, cases_lt, cond_both, false_from_ne_true}
 use Rattle.rst_inline_scan.specs.Marked.{markup_of}
 use Rattle.std.proofs.lemmas.Bool.Decides.{nat_tests}
 use Rattle.std.proofs.lemmas.List.Elements.{All-from_get_or}
@@ -18,7 +18,8 @@ use Rattle.rst_inline_scan.specs.Pieces.{piece_at, plain_from, IsPieces, nothing
 use Rattle.rst_text.specs.Runs.{IsRun}
 use Rattle.rst_inline_scan.specs.Quiet.{is_quiet, quiet}
 use Rattle.rst_inline_scan.specs.declared.piece.Piece.{Piece}
-use Rattle.rst_inline_scan.proofs.WordLemmas.{IsBarred, unmarked, differs, no-underscore, no-piece-barred}
+use Rattle.rst_inline_scan.proofs.WordLemmas.{IsBarred, unmarked, differs, no-piece-barred}
+use Rattle.rst_inline_scan.proofs.NameLemmas.{no-underscore}
 
 abbrev IsQuiet : Text → Type 0
 IsQuiet t = quiet t ≡ true
@@ -28,12 +29,9 @@ quiet-at t i h less = ⊎_elim (λ here. here) (λ loud. absurd (true≢false (s
 
 -- a character that isn't quiet stands nowhere
 absent : (t : Text) (c : ℕ) → IsQuiet t → is_quiet c ≡ false → (i : ℕ) → has t i c ≡ false
-absent t c h loud i = ⊎_elim
-    (λ here.
+absent t c h loud i = false_from_ne_true (has t i c) (λ here.
     let parts = and_parts (nat_lt i (length t)) (get_or t i 0 == c) here in
-    absurd (true≢false (sym (quiet-at t i h (ltb-true i (length t) parts.0)) ∙ ap is_quiet (eqb-true (get_or t i 0) c parts.1) ∙ loud)))
-    (λ none. none)
-    (cases_bool (has t i c))
+    true≢false (sym (quiet-at t i h (ltb-true i (length t) parts.0)) ∙ ap is_quiet (eqb-true (get_or t i 0) c parts.1) ∙ loud))
 
 none-marked : (t : Text) (i : ℕ) → IsQuiet t → markup_of t i ≡ None
 none-marked t i h = unmarked t i (absent t 42 h refl i) (absent t 96 h refl i) (and_left _ _ (absent t 95 h refl i)) (absent t 124 h refl i) (absent t 58 h refl i)
@@ -58,11 +56,8 @@ no-label_piece t i None h = refl
 
 no-label : (t : Text) (i : ℕ) → IsQuiet t → label t i ≡ None
 unfolding label
-no-label t i h = ap (λ r. cond (has t i 91) r None) (no-label_piece t i (label_stop t (i + 1)) h) ∙ either (has t i 91)
-  where
-    either : (b : Bool) → cond {A = Option Piece} b None None ≡ None
-    either true = refl
-    either false = refl
+no-label t i h =
+    cond_both (has t i 91) (option_and_then (label_piece t i) (label_stop t (i + 1))) None (λ r. r ≡ None) (λ e. no-label_piece t i (label_stop t (i + 1)) h) (λ e. refl)
 
 -- ---- one plain piece
 
@@ -111,12 +106,6 @@ quiet-plain (c ∷ cs) h =
 -- a text is quiet where its run of quiet characters is all of it
 pub quiet-run : (t : Text) (to : ℕ) → IsRun is_quiet t 0 to → (to == length t) ≡ quiet t
 quiet-run t to run = ⊎_elim
-    (λ less. short less ∙ sym (list_all_at is_quiet t to 0 less (run.stops less)))
-    (λ end. let within = run.within in all (omega arith) ∙ sym (list_all-from_AllPass is_quiet t (All-from_get_or (λ c. is_quiet c ≡ true) t 0 (λ i less. run.pass i (omega arith) (omega arith)))))
+    (λ less. ne_eqb to (length t) (λ e. omega arith) ∙ sym (list_all_at is_quiet t to 0 less (run.stops less)))
+    (λ end. let within = run.within in eq-eqb to (length t) (omega arith) ∙ sym (list_all-from_AllPass is_quiet t (All-from_get_or (λ c. is_quiet c ≡ true) t 0 (λ i less. run.pass i (omega arith) (omega arith)))))
     (cases_lt to (length t))
-  where
-    short : to < length t → (to == length t) ≡ false
-    short less = grind (arith, nat_tests)
-
-    all : to ≡ length t → (to == length t) ≡ true
-    all e = grind (arith, nat_tests)

@@ -1,16 +1,18 @@
 -- Standalone URIs.
-use Rattle.std.proofs.Common.{◌≡◌, ◌↔◌, ⊎_elim, ℕ, zero, suc, ◌+◌, ◌-◌, ◌<◌, ◌≤◌, Bool, true, false, not, ◌&&◌, ◌||◌, ◌==◌, cond, List, [], ◌∷◌, ◌++◌, Option, Some, None, length, option_and_then, option_map, get_or, unwrap_or, true≢false, refl, sym, ap, ap₂, ◌∙◌, subst, arith}
+use Rattle.std.proofs.Common.{◌≡◌, ◌↔◌, ⊎_elim, inl, inr, ℕ, ◌+◌, ◌-◌, ◌<◌, ◌≤◌, Bool, true, false, not, ◌&&◌, ◌==◌, cond, List, [], ◌∷◌, ◌++◌, Option, Some, None, length, option_and_then, option_map, get_or, unwrap_or, true≢false, refl, sym, ap, ap₂, ◌∙◌, subst, arith}
 use Rattle.std.specs.Prelude.{nat_lt, find}
 use Rattle.std.specs.List.{list_all}
-use Rattle.std.specs.Char.{is_ascii_alphanumeric, to_ascii_lowercase}
+use Rattle.std.specs.Char.{to_ascii_lowercase}
 use Rattle.std.specs.Str.{chars, IsUtf8}
 use Rattle.std.proofs.Math.Utf8.{encodes}
 use Rattle.std.proofs.lemmas.Str.{encode_ascii, encodes-chars, chars_from_encodes}
-use Rattle.std.proofs.lemmas.Bool.{ltb-true, lt-ltb, eqb-true, and_parts, cases_lt}
+use Rattle.std.proofs.lemmas.Bool.{ltb-true, lt-ltb, eqb-true, not-false, and_parts, cases_lt}
+use Rattle.std.proofs.lemmas.List.Elements.{All-from_get_or}
+use Rattle.std.proofs.lemmas.List.Sums.{AllPass-from_list_all, list_all-from_AllPass}
 use Rattle.std.proofs.lemmas.Bool.Decides.{nat_tests}
 use Rattle.rst_text.specs.Places.{first_from, last_from, NoneFrom, IsFirst, IsLast}
 use Rattle.rst_text.proofs.PlacesLemmas.{cases_bool, lt_eq_gt, first_from-is, first_from-IsFirst, last_from-is, last_from-last, NoneFrom-within}
-use Rattle.rst_inline_scan.specs.Characters.{Text, is_among, is_free_behind}
+use Rattle.rst_inline_scan.specs.Characters.{Text, is_free_behind}
 use Rattle.rst_inline_scan.specs.Uri.{has_letter, has_any_case, schemes, scheme_end, is_uri_char, is_uri_trail, uri_stop, uri_close, uri_behind, if_free, uri_end, uri_piece, uri, IsUri}
 use Rattle.rst_inline_scan.proofs.FitLemmas.{Fit, Fit-none, Fit-some, Some-same, Some-None, chosen}
 
@@ -28,13 +30,10 @@ upper-uri c high upper = grind (arith, nat_tests)
 
 -- a character is one of a URI, if it is in lower case
 lower-uri : (c : ℕ) → is_uri_char (to_ascii_lowercase c) ≡ true → is_uri_char c ≡ true
-lower-uri c h = ⊎_elim
-    (λ low. subst (λ b. is_uri_char (cond b c (cond (nat_lt c 91) (c + 32) c)) ≡ true) low h)
-    (λ high. ⊎_elim
-    (λ upper. upper-uri c high upper)
-    (λ past. subst (λ b. is_uri_char (cond b (c + 32) c) ≡ true) past (subst (λ b. is_uri_char (cond b c (cond (nat_lt c 91) (c + 32) c)) ≡ true) high h))
-    (cases_bool (nat_lt c 91)))
-    (cases_bool (nat_lt c 65))
+lower-uri c h = elim (cases_bool (nat_lt c 65)) [
+  | inl low ↦ rw low at h
+  | inr high ↦ elim (cases_bool (nat_lt c 91)) [ inl upper ↦ upper-uri c high upper | inr past ↦ rw (high, past) at h ]
+]
 
 abbrev AllUri : List ℕ → Type 0
 AllUri word = list_all is_uri_char word ≡ true
@@ -79,11 +78,12 @@ first-begins : (t : Text) (i : ℕ) (words : List Text) (behind : ℕ) → list_
 first-begins t i [] behind all h = absurd (Some-None (sym h))
 first-begins t i (word ∷ words) behind all h =
     let fits = and_parts (list_all is_uri_char word) (list_all (λ word. list_all is_uri_char word) words) all in
-    found (has_any_case t i word) refl fits.0 (λ rest. first-begins t i words behind fits.1 rest) h
-  where
-    found : (b : Bool) → has_any_case t i word ≡ b → AllUri word → (scheme_of t i words ≡ Some behind → Begins t i behind) → option_map (λ scheme. i + length scheme) (cond b (Some word) (find (has_any_case t i) words)) ≡ Some behind → Begins t i behind
-    found true e here rest h = subst (Begins t i) (Some-same h) (record { above = omega arith; within = λ within. scheme-fits t i word e within; chars = scheme-uri t i word e here })
-    found false e here rest h = rest h
+    elim (cases_bool (has_any_case t i word)) [
+      | inl stands ↦
+          (let same : Some (i + length word) ≡ Some behind = rw stands at h in
+          subst (Begins t i) (Some-same same) (record { above = omega arith; within = λ within. scheme-fits t i word stands within; chars = scheme-uri t i word stands fits.0 }))
+      | inr other ↦ first-begins t i words behind fits.1 (rw other at h)
+    ]
 
 schemes-uri : list_all (λ word. list_all is_uri_char word) schemes ≡ true
 unfolding is_uri_char
@@ -224,36 +224,12 @@ uri-fits t i within = uri_piece-fits t i (uri_end t i) (λ e h. uri_end-fits t i
 
 -- ---- a text that is one URI
 
-each : (p : ℕ → Bool) (cs : List ℕ) → list_all p cs ≡ true → (k : ℕ) → k < length cs → p (get_or cs k 0) ≡ true
-each p [] h k below = absurd (omega arith)
-each p (c ∷ cs) h zero below = (and_parts (p c) (list_all p cs) h).0
-each p (c ∷ cs) h (suc k) below = each p cs (and_parts (p c) (list_all p cs) h).1 k (omega arith)
-
-both_true : (a b : Bool) → a ≡ true → b ≡ true → (a && b) ≡ true
-both_true a b p q = rw (p, q) refl
-
-all_of : (p : ℕ → Bool) (cs : List ℕ) → ((k : ℕ) → k < length cs → p (get_or cs k 0) ≡ true) → list_all p cs ≡ true
-all_of p [] h = refl
-all_of p (c ∷ cs) h = both_true (p c) (list_all p cs) (h zero (omega arith)) (all_of p cs (λ k below. h (suc k) (omega arith)))
-
-among-ascii : (cs : List ℕ) (c : ℕ) → list_all (λ x. nat_lt x 128) cs ≡ true → is_among cs c ≡ true → c < 128
-among-ascii [] c h k = absurd (cc)
-among-ascii (d ∷ ds) c h k =
-    let parts = and_parts (nat_lt d 128) (list_all (λ x. nat_lt x 128) ds) h in
-    ⊎_elim
-    (λ same. let e : c ≡ d = eqb-true c d same in let l : d < 128 = ltb-true d 128 parts.0 in omega arith)
-    (λ other. among-ascii ds c parts.1 (subst (λ b. (b || is_among ds c) ≡ true) other k))
-    (cases_bool (c == d))
+past-uri : (c : ℕ) → 128 ≤ c → is_uri_char c ≡ false
+unfolding is_uri_char
+past-uri c h = grind (arith, nat_tests)
 
 uri-ascii : (c : ℕ) → is_uri_char c ≡ true → c < 128
-unfolding is_uri_char
-uri-ascii c h = ⊎_elim
-    (λ alnum. alnum-ascii c alnum)
-    (λ other. among-ascii (45 ∷ 95 ∷ 46 ∷ 126 ∷ 33 ∷ 42 ∷ 39 ∷ 40 ∷ 41 ∷ 59 ∷ 47 ∷ 63 ∷ 58 ∷ 64 ∷ 38 ∷ 61 ∷ 36 ∷ 43 ∷ 44 ∷ 37 ∷ 35 ∷ 91 ∷ 93 ∷ []) c refl (subst (λ b. (b || is_among (45 ∷ 95 ∷ 46 ∷ 126 ∷ 33 ∷ 42 ∷ 39 ∷ 40 ∷ 41 ∷ 59 ∷ 47 ∷ 63 ∷ 58 ∷ 64 ∷ 38 ∷ 61 ∷ 36 ∷ 43 ∷ 44 ∷ 37 ∷ 35 ∷ 91 ∷ 93 ∷ []) c) ≡ true) other h))
-    (cases_bool (is_ascii_alphanumeric c))
-  where
-    alnum-ascii : (c : ℕ) → is_ascii_alphanumeric c ≡ true → c < 128
-    alnum-ascii c h = grind (arith, nat_tests)
+uri-ascii c h = ⊎_elim (λ low. low) (λ past. absurd (true≢false (sym h ∙ past-uri c past))) (cases_lt c 128)
 
 -- each character of a URI is one byte
 encodes-uri : (cs : List ℕ) → AllUri cs → encodes cs ≡ cs
@@ -287,7 +263,7 @@ IsUri-from t (Some m) scheme h =
     let first = and_parts (nat_lt m (length t)) (list_all is_uri_char t && not (is_uri_trail (get_or t (length t - 1) 0))) h in
     let second = and_parts (list_all is_uri_char t) (not (is_uri_trail (get_or t (length t - 1) 0))) first.1 in
     let less : m < length t = ltb-true m (length t) first.0 in
-    let stop : length t ≡ uri_stop t m = uri_stop-end t m (λ k above below. ap not (each is_uri_char t second.0 k below)) in
+    let stop : length t ≡ uri_stop t m = uri_stop-end t m (λ k above below. ap not (AllPass-from_list_all is_uri_char t second.0 k 0 below)) in
     let close : uri_close t m (uri_stop t m) ≡ Some (length t) =
     ap (uri_close t m) (sym stop) ∙ sym (uri_close-is t m (length t) (Some (length t)) (omega arith, omega arith, second.1, λ k above below. absurd (omega arith))) in
     uri_end-found t 0 m (length t) scheme close (free-at-end t)
@@ -300,16 +276,11 @@ behind-uri t (Some m) scheme h =
     let close = uri_close-last t m (uri_stop t m) (length t) h in
     let above : m + 1 ≤ length t = close.0 in
     let below : length t < uri_stop t m + 1 = close.1 in
-    let all : AllUri t = all_of is_uri_char t (λ k less. ⊎_elim
+    let all : AllUri t = list_all-from_AllPass is_uri_char t (All-from_get_or (λ c. is_uri_char c ≡ true) t 0 (λ k less. ⊎_elim
     (λ front. begins.chars k (omega arith) front)
-    (λ back. uri_from_not (is_uri_char (get_or t k 0)) (run.none k back (omega arith)))
-    (cases_lt k m)) in
-    both_true (nat_lt m (length t)) (list_all is_uri_char t && not (is_uri_trail (get_or t (length t - 1) 0))) (lt-ltb m (length t) (omega arith))
-    (both_true (list_all is_uri_char t) (not (is_uri_trail (get_or t (length t - 1) 0))) all close.2)
-  where
-    uri_from_not : (b : Bool) → not b ≡ false → b ≡ true
-    uri_from_not true h = refl
-    uri_from_not false h = absurd (cc)
+    (λ back. not-false (is_uri_char (get_or t k 0)) (run.none k back (omega arith)))
+    (cases_lt k m))) in
+    rw (lt-ltb m (length t) (omega arith), all) close.2
 behind-uri t None scheme h = absurd (Some-None (sym h))
 
 from-IsUri : (t : Text) → IsUri t → is_ascii_uri t ≡ true
@@ -330,13 +301,12 @@ IsUri-ascii bytes good h =
     let found = from-IsUri (chars bytes) h in
     subst (λ t. is_ascii_uri t ≡ true) (chars-bytes bytes good (all-of-uri (chars bytes) (scheme_end (chars bytes) 0) found)) found
 
-ascii-uri : (bytes : List ℕ) (answer : Bool) → answer ≡ is_ascii_uri bytes → IsUtf8 bytes → (answer ≡ true) ↔ IsUri (chars bytes)
-ascii-uri bytes answer same good = (λ h. is_ascii_uri-is bytes good (sym same ∙ h), λ h. same ∙ IsUri-ascii bytes good h)
-
 -- ---- the answer by what the bytes were found to be
 
 ascii-by : (bytes : List ℕ) (answer : Bool) (r : Option ℕ) → r ≡ scheme_end bytes 0 → answer ≡ is_ascii_uri_from bytes r → IsUtf8 bytes → (answer ≡ true) ↔ IsUri (chars bytes)
-ascii-by bytes answer r scheme same = ascii-uri bytes answer (same ∙ ap (is_ascii_uri_from bytes) scheme)
+ascii-by bytes answer r scheme same good =
+    let is : answer ≡ is_ascii_uri bytes = same ∙ ap (is_ascii_uri_from bytes) scheme in
+    (λ h. is_ascii_uri-is bytes good (sym is ∙ h), λ h. is ∙ IsUri-ascii bytes good h)
 
 pub ascii-none : (bytes : List ℕ) → None ≡ scheme_end bytes 0 → IsUtf8 bytes → (false ≡ true) ↔ IsUri (chars bytes)
 ascii-none bytes scheme = ascii-by bytes false None scheme refl

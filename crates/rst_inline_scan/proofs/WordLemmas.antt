@@ -5,7 +5,7 @@ use Rattle.std.specs.List.{list_all}
 use Rattle.std.specs.Option.{option_or}
 use Rattle.rst_inline_scan.specs.declared.piece.Piece.{Piece}
 use Rattle.std.specs.Char.{is_ascii_alphanumeric, to_ascii_lowercase}
-use Rattle.std.proofs.lemmas.Bool.{lt-ltb, eqb-true, not-true, false_from_ne_true, and_parts, and_left, or_parts, cases_lt}
+use Rattle.std.proofs.lemmas.Bool.{cond_both, ne_eqb, lt-ltb, eqb-true, not-true, false_from_ne_true, and_parts, and_left, or_parts, cases_lt}
 use Rattle.std.proofs.lemmas.Bool.Decides.{nat_tests}
 use Rattle.std.proofs.Math.Bool.{and-true, and-false}
 use Rattle.rst_text.specs.Characters.{is_white}
@@ -14,7 +14,6 @@ use Rattle.rst_text.proofs.CharacterLemmas.{is_alphanumeric-ascii}
 use Rattle.rst_text.proofs.PlacesLemmas.{cases_bool, lt_eq_gt, all_from-at, all_from-stop, last_from-is}
 use Rattle.rst_inline_scan.specs.Characters.{Text, has, may_precede, may_follow, is_alnum_at}
 use Rattle.rst_inline_scan.specs.Escapes.{is_escaped}
-use Rattle.rst_inline_scan.specs.Tails.{name_tail}
 use Rattle.rst_inline_scan.specs.Names.{is_joint, is_name_at, role_end, ends_name, is_reference, name_end, reference_to, reference}
 use Rattle.rst_inline_scan.specs.Marked.{has_start, markup_of, start_of, starts, marked_from, marked}
 use Rattle.rst_inline_scan.specs.Footnotes.{label}
@@ -24,7 +23,7 @@ use Rattle.rst_inline_scan.specs.Pieces.{markup_at, is_free, piece_at, HasNoStar
 use Rattle.rst_inline_scan.specs.declared.piece.Markup.{Markup}
 use Rattle.rst_inline_scan.specs.declared.piece.Markup.TheVariants.{Strong, Emphasis, Literal, Target, Substitution, Interpreted}
 use Rattle.rst_inline_scan.proofs.EscapeLemmas.{IsBare, other-bare, is_escaped-bare}
-use Rattle.rst_inline_scan.proofs.NameLemmas.{not_reference, is_reference-past}
+use Rattle.rst_inline_scan.proofs.NameLemmas.{no-underscore, not_reference, is_reference-past}
 use Rattle.rst_inline_scan.proofs.UriLemmas.{letter_at, uri_end-none}
 
 -- ---- letters and digits
@@ -58,29 +57,15 @@ letter-behind c h = not-true _ (unless-so _ _ (below (λ c. unless (is_ascii_alp
 
 -- a character that passes a test is none that fails it
 pub differs : (p : ℕ → Bool) (c d : ℕ) → p c ≡ true → p d ≡ false → (c == d) ≡ false
-differs p c d h k = not-true _ (by_case (c == d) refl)
-  where
-    by_case : (same : Bool) → (c == d) ≡ same → not same ≡ true
-    by_case true s = absurd (true≢false (sym h ∙ ap p (eqb-true c d s) ∙ k))
-    by_case false s = refl
-
-letter-is : (c d : ℕ) (b : Bool) → is_ascii_alphanumeric d ≡ b → IsLetter c → b ≡ false → (c == d) ≡ false
-letter-is c d b h k e = differs is_ascii_alphanumeric c d k (h ∙ e)
+differs p c d h k = ne_eqb c d (λ same. true≢false (sym h ∙ ap p same ∙ k))
 
 -- ---- the run
 
-letter-at : (t : Text) (i to k : ℕ) → IsWord t i to → i ≤ k → k < to → IsLetter (get_or t k 0)
-letter-at t i to k word above less = word.letters k above less
-
 other-at : (t : Text) (i to k c : ℕ) → IsWord t i to → i ≤ k → k < to → is_ascii_alphanumeric c ≡ false → has t k c ≡ false
 other-at t i to k c word above less e =
-    rw (letter-is (get_or t k 0) c false e (letter-at t i to k word above less) refl) (grind (arith, nat_tests))
+    rw (differs is_ascii_alphanumeric (get_or t k 0) c (word.letters k above less) e) (grind (arith, nat_tests))
 
 -- ---- references
-
-pub no-underscore : (t : Text) (j : ℕ) → has t j 95 ≡ false → ends_name t j ≡ false
-unfolding ends_name name_tail
-no-underscore t j h = rw h (grind (arith, nat_tests))
 
 -- what stands behind a word that nothing goes on with
 record Ends (t : Text) (i : ℕ) : Type 0 where
@@ -244,11 +229,7 @@ no-markup t i e bar none no_label = rw (markup_at_by t i, none, no_label, no-ref
 -- nothing begins at a place where none of these does
 pub no-piece-barred : (t : Text) (from i e : ℕ) → IsBarred t i e → markup_of t i ≡ None → label t i ≡ None → piece_at t from i ≡ None
 unfolding piece_at
-no-piece-barred t from i e bar none no_label = by_case (is_free t from i)
-  where
-    by_case : (free : Bool) → cond free (markup_at t i) None ≡ None
-    by_case true = no-markup t i e bar none no_label
-    by_case false = refl
+no-piece-barred t from i e bar none no_label = cond_both (is_free t from i) (markup_at t i) None (λ r. r ≡ None) (λ free. no-markup t i e bar none no_label) (λ stuck. refl)
 
 -- nothing begins where a word does, if nothing goes on with it,
 pub no-piece : (t : Text) (from i to : ℕ) → IsWord t i to → i < to → goes_on t to ≡ false → piece_at t from i ≡ None
@@ -275,7 +256,7 @@ HasNoStart-word t from i to run none here k low high =
     (lt_eq_gt k i)
 
 letter-bare : (t : Text) (k : ℕ) → IsLetter (get_or t k 0) → IsBare t k
-letter-bare t k h = other-bare t k (letter-is (get_or t k 0) 92 false refl h refl)
+letter-bare t k h = other-bare t k (differs is_ascii_alphanumeric (get_or t k 0) 92 h refl)
 
 -- a word escapes nothing
 pub unescaped-word : (t : Text) (from i to : ℕ) → from ≤ i → i < to → IsWord t i to → false ≡ is_escaped t from to
@@ -295,14 +276,6 @@ unescaped-behind t from i to escaped order run known = ⊎_elim
 
 -- ---- what goes on with no word
 
-space-joint : (c : ℕ) → c ≡ 32 → is_joint c ≡ false
-unfolding is_joint
-space-joint c h = rw h refl
-
-feed-joint : (c : ℕ) → c ≡ 10 → is_joint c ≡ false
-unfolding is_joint
-feed-joint c h = rw h refl
-
 pub no-letter-at : (t : Text) (i c : ℕ) → get_or t i 0 ≡ c → c < 128 → is_ascii_alphanumeric c ≡ false → is_alnum_at t i ≡ false
 no-letter-at t i c h low e = rw (h, sym (is_alphanumeric-ascii c low) ∙ e) (grind (arith, nat_tests))
 
@@ -311,7 +284,9 @@ unfolding goes_on is_name_at
 quiet t i a b joint letter = rw (a, b, letter, joint) (grind (arith, nat_tests))
 
 pub goes_on-space : (t : Text) (i : ℕ) → get_or t i 0 ≡ 32 → false ≡ goes_on t i
-goes_on-space t i h = quiet t i (ap (λ c. c == 95) h) (ap (λ c. c == 58) h) (space-joint _ h) (no-letter-at t i 32 h (omega arith) refl)
+unfolding is_joint
+goes_on-space t i h = quiet t i (ap (λ c. c == 95) h) (ap (λ c. c == 58) h) (ap is_joint h) (no-letter-at t i 32 h (omega arith) refl)
 
 pub goes_on-feed : (t : Text) (i : ℕ) → get_or t i 0 ≡ 10 → false ≡ goes_on t i
-goes_on-feed t i h = quiet t i (ap (λ c. c == 95) h) (ap (λ c. c == 58) h) (feed-joint _ h) (no-letter-at t i 10 h (omega arith) refl)
+unfolding is_joint
+goes_on-feed t i h = quiet t i (ap (λ c. c == 95) h) (ap (λ c. c == 58) h) (ap is_joint h) (no-letter-at t i 10 h (omega arith) refl)

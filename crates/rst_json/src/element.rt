@@ -1,7 +1,6 @@
 //! Elements with their attributes, and texts.
 
-ghost use Rattle.std.specs.Prelude.{◌≡◌, map, None, Some};
-ghost use Rattle.std.specs.List.{flat_map};
+ghost use Rattle.std.specs.Prelude.{◌≡◌, map, None, Some, flat_map};
 ghost use Rattle.rst_json.specs.Json.{Adds, behind_comma, json_array, json_attr, json_node, json_object, json_string};
 ghost use Rattle.rst_tree.specs.Attributes.{value_of, said_number, with_attr};
 ghost use Rattle.rst_tree.specs.Faults.{Gives};

@@ -1,7 +1,6 @@
 //! Trees as records.
 
-ghost use Rattle.std.specs.Prelude.{◌≡◌, ◌≤◌, ◌+◌, ◌++◌, length, None, take, drop};
-ghost use Rattle.std.specs.List.{flat_map};
+ghost use Rattle.std.specs.Prelude.{◌≡◌, ◌≤◌, ◌+◌, ◌++◌, length, None, take, drop, flat_map};
 ghost use Rattle.rst_json.specs.Json.{Adds};
 ghost use Rattle.rst_json.specs.Records.{attr_record, node_record, sized, value_record, word};
 ghost use Rattle.rst_tree.specs.Entries.{said};

@@ -1,7 +1,6 @@
 //! Strings and numbers.
 
-ghost use Rattle.std.specs.Prelude.{◌≡◌, ◌<◌};
-ghost use Rattle.std.specs.Fmt.{decimal};
+ghost use Rattle.std.specs.Prelude.{◌≡◌, ◌<◌, decimal};
 ghost use Rattle.std.specs.List.{flat_map, list_any};
 ghost use Rattle.rst_json.specs.Json.{Adds, escaped_byte, hex, is_escaped, json_string};
 

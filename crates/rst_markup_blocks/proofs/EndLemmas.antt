@@ -1,5 +1,5 @@
 -- Where literal blocks and paragraphs end, and what is looked at for that.
-use Rattle.std.proofs.Common.{◌≡◌, ℕ, suc, ◌+◌, ◌-◌, ◌*◌, ◌<◌, ◌≤◌, ◌==◌, ◌⊎◌, inl, inr, Bool, true, false, cond, None, Some, List, [], ◌∷◌, length, drop, refl, sym, ap, ◌∙◌, arith}
+use Rattle.std.proofs.Common.{Option, ◌-◌, ◌≡◌, ℕ, ◌+◌, ◌*◌, ◌<◌, ◌≤◌, ◌⊎◌, inl, inr, true, false, None, Some, List, ◌∷◌, drop, refl, sym, ap, ◌∙◌, arith}
 use Rattle.std.proofs.lemmas.Bool.{lt-ltb}
 use Rattle.rst_text.specs.Block.{Block, front_text}
 use Rattle.rst_text.specs.Extent.{extent}
@@ -8,7 +8,7 @@ use Rattle.rst_text.proofs.Reaches.{looked_is}
 use Rattle.rst_markup_lines.specs.Front.{first}
 use Rattle.rst_markup_lines.specs.Adornment.{is_punctuation}
 use Rattle.rst_markup_blocks.specs.declared.lines.LineTest.TheVariants.{Blank, Begins, Plain}
-use Rattle.rst_markup_blocks.specs.Lines.{passes, lines_while}
+use Rattle.rst_markup_blocks.specs.Lines.{lines_while}
 use Rattle.rst_markup_blocks.specs.Sizes.{literal_size, quoted_size, paragraph_size, paragraph_len, run_size, text_size, hanging_size, overline_looks, bullet_size, enumerator_size, item_size}
 use Rattle.rst_markup_lines.specs.Marker.{bullet}
 use Rattle.rst_markup_lines.specs.Enumerator.{enumerator_of}
@@ -17,11 +17,11 @@ use Rattle.rst_markup_lines.specs.declared.enumerator.Enumerator.{Enumerator}
 use Rattle.rst_markup_blocks.specs.declared.form.TextForm.{TextForm}
 use Rattle.rst_markup_blocks.specs.Forms.{text_form}
 use Rattle.rst_markup_blocks.specs.Conditions.{next_text}
-use Rattle.rst_markup_blocks.specs.declared.form.TextForm.TheVariants.{Paragraph, ShortUnderline, Definition, Title}
+use Rattle.rst_markup_blocks.specs.declared.form.TextForm.TheVariants.{Paragraph, ShortUnderline, Definition}
 use Rattle.rst_markup_lines.specs.Closing.{ends_in_colons}
-use Rattle.rst_markup_lines.specs.Adornment.{adornment_of}
 use Rattle.rst_markup_lines.specs.Front.{begins_with}
 use Rattle.rst_markup_blocks.proofs.LineLemmas.{blanks_through, filled_through, begins_while, reach_behind}
+use Rattle.rst_markup_blocks.specs.Sizes.{form_size, quoted_by}
 
 -- an indented literal block
 pub literal_indented : (Y : Block) → 0 < extent 1 Y → literal_size Y ≡ extent 1 Y
@@ -32,17 +32,9 @@ pub literal_other : (Y : Block) → extent 1 Y ≡ 0 → literal_size Y ≡ quot
 unfolding literal_size
 literal_other Y h = rw h refl
 
-pub quoted_there : (b c : ℕ) (Y : Block) → first (front_text (drop b Y)) ≡ Some c → is_punctuation c ≡ true → quoted_size b Y ≡ b + lines_while (Begins c) (drop b Y)
+pub quoted_is : (b : ℕ) (o : Option ℕ) (Y : Block) → first (front_text (drop b Y)) ≡ o → quoted_size b Y ≡ quoted_by o b Y
 unfolding quoted_size
-quoted_there b c Y e p = rw (e, p) refl
-
-pub quoted_other : (b c : ℕ) (Y : Block) → first (front_text (drop b Y)) ≡ Some c → is_punctuation c ≡ false → quoted_size b Y ≡ 0
-unfolding quoted_size
-quoted_other b c Y e p = rw (e, p) refl
-
-pub quoted_none : (b : ℕ) (Y : Block) → first (front_text (drop b Y)) ≡ None → quoted_size b Y ≡ 0
-unfolding quoted_size
-quoted_none b Y e = rw e refl
+quoted_is b o Y e = rw e refl
 
 -- what is looked at for an indented one
 pub looked_indented : (Y : Block) → 0 < extent 1 Y → looked 1 Y ≡ reach (literal_size Y) Y
@@ -55,35 +47,24 @@ looked_none Y h = looked_is 1 Y ∙ ap (λ n. reach n Y) h ∙ (let z : 0 + thro
 pub reach_none : (Y : Block) → literal_size Y ≡ 0 → reach (literal_size Y) Y ≡ through_text Y
 reach_none Y h = ap (λ n. reach n Y) h ∙ (let z : 0 + through_text Y ≡ through_text Y = omega arith in z)
 
-pub blank_reach : (Y : Block) → reach (lines_while Blank Y) Y ≡ through_text Y
-blank_reach Y = blanks_through Y
-
-pub through_behind : (Y : Block) → through_text (drop (lines_while Blank Y) Y) ≤ through_text Y
-through_behind Y = omega (arith, blanks_through Y)
-
 -- a quoted one
 pub looked_quoted : (c : ℕ) (Y : Block) → extent 1 Y ≡ 0 → first (front_text (drop (lines_while Blank Y) Y)) ≡ Some c → is_punctuation c ≡ true
     → (a b d : ℕ) → a ≤ through_text Y → b ≤ 1 → d ≤ reach (lines_while (Begins c) (drop (lines_while Blank Y) Y)) (drop (lines_while Blank Y) Y)
     → looked 1 Y + a + b + d ≤ 4 * reach (literal_size Y) Y
 looked_quoted c Y none e p a b d ha hb hd =
     let Z : Block = drop (lines_while Blank Y) Y in
-    let size : literal_size Y ≡ lines_while Blank Y + lines_while (Begins c) Z = literal_other Y none ∙ quoted_there (lines_while Blank Y) c Y e p in
+    let size : literal_size Y ≡ lines_while Blank Y + lines_while (Begins c) Z = literal_other Y none ∙ quoted_is (lines_while Blank Y) (Some c) Y e ∙ rw p refl in
     let whole : reach (literal_size Y) Y ≡ lines_while Blank Y + reach (lines_while (Begins c) Z) Z = ap (λ n. reach n Y) size ∙ reach_behind (lines_while Blank Y) (lines_while (Begins c) Z) Y in
     omega (arith, whole, looked_none Y none, blanks_through Y, filled_through Z c e, begins_while Z c e)
 
 -- Paragraphs.
-pub paragraph_more : (n : ℕ) (X : Block) → n ≡ run_size Plain X → ends_in_colons (front_text (drop (n - 1) X)) ≡ true → paragraph_size X ≡ n + literal_size (drop n X)
+pub paragraph_more : (X : Block) → ends_in_colons (front_text (drop (run_size Plain X - 1) X)) ≡ true → paragraph_size X ≡ run_size Plain X + literal_size (drop (run_size Plain X) X)
 unfolding paragraph_size paragraph_len
-paragraph_more n X e h =
-    let h' : ends_in_colons (front_text (drop (run_size Plain X - 1) X)) ≡ true = ap (λ k. ends_in_colons (front_text (drop (k - 1) X))) (sym e) ∙ h in
-    rw (e, h') refl
+paragraph_more X h = rw h refl
 
-pub paragraph_only : (n : ℕ) (X : Block) → n ≡ run_size Plain X → ends_in_colons (front_text (drop (n - 1) X)) ≡ false → paragraph_size X ≡ n
+pub paragraph_only : (X : Block) → ends_in_colons (front_text (drop (run_size Plain X - 1) X)) ≡ false → paragraph_size X ≡ run_size Plain X
 unfolding paragraph_size paragraph_len
-paragraph_only n X e h =
-    let h' : ends_in_colons (front_text (drop (run_size Plain X - 1) X)) ≡ false = ap (λ k. ends_in_colons (front_text (drop (k - 1) X))) (sym e) ∙ h in
-    let z : run_size Plain X + cond (ends_in_colons (front_text (drop (run_size Plain X - 1) X))) (literal_size (drop (run_size Plain X) X)) 0 ≡ run_size Plain X + 0 = ap (λ b. run_size Plain X + cond b (literal_size (drop (run_size Plain X) X)) 0) h' in
-    z ∙ (let w : run_size Plain X + 0 ≡ n = omega (arith, e) in w)
+paragraph_only X h = rw h (omega arith)
 
 pub paragraph_len_is : (X : Block) → paragraph_len X ≡ run_size Plain X
 unfolding paragraph_len
@@ -96,66 +77,31 @@ run_size_some X = omega arith
 pub reach_more : (n : ℕ) (X : Block) → paragraph_size X ≡ n + literal_size (drop n X) → reach (paragraph_size X) X ≡ n + reach (literal_size (drop n X)) (drop n X)
 reach_more n X e = ap (λ k. reach k X) e ∙ reach_behind n (literal_size (drop n X)) X
 
-pub reach_only : (n : ℕ) (X : Block) → paragraph_size X ≡ n → n ≤ reach (paragraph_size X) X
-reach_only n X e = omega (arith, e)
-
 -- What a text begins.
-pub size_paragraph : (X : Block) → text_form (front_text X) (next_text X) ≡ Paragraph → text_size X ≡ paragraph_size X
+pub size_by : (X : Block) (f : TextForm) → text_form (front_text X) (next_text X) ≡ f → text_size X ≡ form_size f X
 unfolding text_size
-size_paragraph X e = rw e refl
-
-pub size_short : (X : Block) → text_form (front_text X) (next_text X) ≡ ShortUnderline → text_size X ≡ paragraph_size X
-unfolding text_size
-size_short X e = rw e refl
+size_by X f e = rw e refl
 
 pub size_definition : (X : Block) → text_form (front_text X) (next_text X) ≡ Definition → text_size X ≡ hanging_size X
-unfolding text_size
-size_definition X e = rw e refl
-
-pub size_title : (X : Block) (short : Bool) → text_form (front_text X) (next_text X) ≡ Title short → text_size X ≡ 2
-unfolding text_size
-size_title X short e = rw e refl
-
-no_adornment : adornment_of [] ≡ None
-unfolding adornment_of
-no_adornment = refl
-
-nothing_next : (t : List ℕ) → text_form t [] ≡ Paragraph
-unfolding text_form
-nothing_next t = rw no_adornment refl
-
-pub title_there : (X : Block) (t : List ℕ) (short : Bool) → text_form t (next_text X) ≡ Title short → 2 ≤ length X
-title_there [] t short e = let no : Paragraph ≡ Title short = sym (nothing_next t) ∙ e in cc
-title_there (l ∷ []) t short e = let no : Paragraph ≡ Title short = sym (nothing_next t) ∙ e in cc
-title_there (l ∷ m ∷ ms) t short e = omega arith
+size_definition X e = size_by X Definition e
 
 spaced : (t next : List ℕ) → begins_with 32 next ≡ true → text_form t next ≡ Definition
 unfolding text_form
 spaced t next e = rw e refl
 
-plain_by : (t : List ℕ) (c : ℕ) (cs : List ℕ) (ms : Block) → (text_form t (c ∷ cs) ≡ Definition → ⊥) → (b : Bool) → (c == 32) ≡ b
-    → overline_looks (c ∷ cs) < suc (cond (passes Plain (c ∷ cs)) (suc (lines_while Plain ms)) 0)
-plain_by t c cs ms isnt true e = absurd (isnt (spaced t (c ∷ cs) e))
-plain_by t c cs ms isnt false e = let p : passes Plain (c ∷ cs) ≡ true = rw e refl in rw p (omega arith)
-
 -- a paragraph whose next line isn't blank has that line
 pub next_plain : (X : Block) (t : List ℕ) → (text_form t (next_text X) ≡ Definition → ⊥) → overline_looks (next_text X) < run_size Plain X
 unfolding run_size lines_while
-next_plain [] t isnt = omega arith
-next_plain (l ∷ []) t isnt = omega arith
-next_plain (l ∷ m ∷ ms) t isnt = go m.text isnt
-  where
-    go : (u : List ℕ) → (text_form t u ≡ Definition → ⊥) → overline_looks u < suc (cond (passes Plain u) (suc (lines_while Plain ms)) 0)
-    go [] isnt = omega arith
-    go (c ∷ cs) isnt = plain_by t c cs ms isnt (c == 32) refl
+next_plain (l ∷ m ∷ ms) t isnt = grind (arith, spaced t m.text, isnt)
+next_plain _ t isnt = omega arith
 
 pub hanging_some : (X : Block) → 1 ≤ hanging_size X
 unfolding hanging_size
 hanging_some X = omega arith
 
 pub size_text : (X : Block) → (text_form (front_text X) (next_text X) ≡ Paragraph) ⊎ (text_form (front_text X) (next_text X) ≡ ShortUnderline) → text_size X ≡ paragraph_size X
-size_text X (inl e) = size_paragraph X e
-size_text X (inr e) = size_short X e
+size_text X (inl e) = size_by X Paragraph e
+size_text X (inr e) = size_by X ShortUnderline e
 
 pub text_isnt_definition : (f : TextForm) → (f ≡ Paragraph) ⊎ (f ≡ ShortUnderline) → f ≡ Definition → ⊥
 text_isnt_definition f (inl e) d = cc

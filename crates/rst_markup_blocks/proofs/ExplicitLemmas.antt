@@ -1,10 +1,9 @@
 -- Explicit markup: its parts stand in its block, and it ends where its size says.
-use Rattle.std.proofs.Common.{◌≡◌, ℕ, suc, ◌+◌, ◌-◌, ◌^◌, ◌<◌, ◌≤◌, Bool, true, false, cond, ◌&&◌, ◌||◌, List, [], ◌∷◌, min, length, take, drop, length-drop, Option, None, Some, arith, refl, sym, ap, ◌∙◌, leb, zero}
-use Rattle.std.specs.Prelude.{option_map, unwrap_or}
+use Rattle.std.proofs.Common.{[], ◌∷◌, ◌≡◌, ℕ, ◌+◌, ◌-◌, ◌^◌, ◌<◌, ◌≤◌, Bool, true, false, cond, List, min, length, take, drop, length-drop, Option, None, Some, arith, refl, ap, ◌∙◌}
+use Rattle.std.specs.Prelude.{if◌then◌else◌, option_map}
 use Rattle.std.specs.Option.{option_and_then}
-use Rattle.rst_text.specs.Block.{Block, front_text, is_blank, indentation}
+use Rattle.rst_text.specs.Block.{Block, front_text, is_blank}
 use Rattle.rst_text.specs.Extent.{extent}
-use Rattle.rst_text.specs.Reach.{reach}
 use Rattle.rst_text.specs.MayCut.{is_indented}
 use Rattle.rst_text.proofs.Indented.{is_indented-least, is_indented-part, is_indented-zero}
 use Rattle.rst_markup_lines.specs.ExplicitMarks.{dots, underscores, label_of, target_of, substitution_of, directive_of}
@@ -13,14 +12,14 @@ use Rattle.rst_markup_lines.specs.declared.explicit_marks.LabelKind.{LabelKind}
 use Rattle.rst_markup_lines.specs.declared.explicit_marks.LabelKind.TheVariants.{Footnote as FootnoteLabel, Citation as CitationLabel}
 use Rattle.rst_markup_lines.specs.declared.explicit_marks.LabelMark.{LabelMark}
 use Rattle.rst_markup_lines.specs.declared.explicit_marks.SubstitutionMark.{SubstitutionMark}
-use Rattle.rst_markup_lines.specs.declared.explicit_marks.SubstitutionMark.TheVariants.{Named as NamedSubstitution, Unclosed, Tight}
+use Rattle.rst_markup_lines.specs.declared.explicit_marks.SubstitutionMark.TheVariants.{Named as NamedSubstitution}
 use Rattle.rst_markup_lines.specs.declared.explicit_marks.TargetMark.{TargetMark}
 use Rattle.rst_markup_lines.specs.declared.explicit_marks.TargetMark.TheVariants.{Named, Anonymous as AnonymousMark}
 use Rattle.rst_markup_lines.specs.declared.marker.Marker.{Marker}
 use Rattle.rst_markup_lines.specs.declared.place.Characters.{Characters}
 use Rattle.rst_markup_lines.specs.Place.{place_of}
 use Rattle.rst_markup_blocks.specs.Explicit.{target_part, call_of, call_by, held_of, label_with, substitution_with, explicit_by, dots_alone, behind_dots, cut_of, anonymous_of, explicit_with, explicit_of, explicit_size, explicit_end, IsHeld, IsExplicitIn, IsTargetShort}
-use Rattle.rst_markup_blocks.specs.ExplicitMarkup.{explicit_form, substitution_form, comment_cause, hanging_part, least_of}
+use Rattle.rst_markup_blocks.specs.ExplicitMarkup.{explicit_form, first_form, substitution_form, comment_cause, hanging_part, least_of}
 use Rattle.rst_markup_blocks.specs.Conditions.{next_text}
 use Rattle.rst_markup_blocks.specs.Lines.{lines_while}
 use Rattle.rst_markup_blocks.specs.Parts.{IsBlock, IsPlace, IsCall}
@@ -28,16 +27,17 @@ use Rattle.rst_markup_blocks.proofs.RowLaws.{below_le, while_le}
 use Rattle.rst_markup_blocks.specs.Sizes.{hanging_size, indented_size, run_size}
 use Rattle.rst_markup_blocks.specs.declared.explicit_markup.ExplicitForm.{ExplicitForm}
 use Rattle.rst_markup_blocks.specs.declared.explicit_markup.ExplicitForm.TheVariants.{Label, Target as TargetForm, Substitution as SubstitutionForm, Directive as DirectiveForm, Comment as CommentForm}
-use Rattle.rst_markup_blocks.specs.declared.forms.CommentCause.{CommentCause}
 use Rattle.rst_markup_blocks.specs.declared.forms.CommentCause.TheVariants.{Plain}
 use Rattle.rst_markup_blocks.specs.declared.forms.Explicit.{Explicit}
 use Rattle.rst_markup_blocks.specs.declared.forms.Explicit.TheVariants.{Comment, EmptyComment, Substitution}
 use Rattle.rst_markup_blocks.specs.declared.forms.Invocation.{Invocation}
 use Rattle.rst_markup_blocks.specs.declared.lines.LineTest.TheVariants.{Blank, Indented}
 use Rattle.rst_markup_blocks.specs.declared.part.Part.{Part}
-use Rattle.rst_markup_blocks.proofs.LineLemmas.{drop_one, drop_far}
+use Rattle.rst_text.proofs.Ends.{drop_one}
+use Rattle.rst_markup_blocks.proofs.LineLemmas.{drop_far}
 use Rattle.rst_markup_blocks.proofs.PartLemmas.{hanging_is}
 use Rattle.rst_markup_lines.proofs.MarkBounds.{TargetWithin, dots_within, label_within, target_within, substitution_within, directive_within}
+use Rattle.std.proofs.lemmas.Bool.{cond_both}
 
 -- ---- the marks of a form stand within the text
 abbrev pub FormWithin : List ℕ → ExplicitForm → Type 0
@@ -47,37 +47,17 @@ FormWithin t (SubstitutionForm len m) = (1 + len ≤ length t) × (m.cut ≤ len
 FormWithin t (DirectiveForm d) = (d.len ≤ length t) × (d.marker.cut ≤ length t)
 FormWithin t (CommentForm cause) = Unit {0}
 
--- the rows from the directive on, from the substitution definition on, and from the target on
-abbrev or_directive : List ℕ → ExplicitForm
-or_directive t = unwrap_or (option_map (λ d. DirectiveForm d) (directive_of true t)) (CommentForm (comment_cause t))
-
-abbrev or_substitution : List ℕ → ExplicitForm
-or_substitution t = unwrap_or (option_and_then substitution_form (substitution_of t)) (or_directive t)
-
-abbrev or_target : List ℕ → ExplicitForm
-or_target t = unwrap_or (option_map (λ m. TargetForm m) (target_of t)) (or_substitution t)
-
-within_directive : (t : List ℕ) (o : Option DirectiveMark) → directive_of true t ≡ o → FormWithin t (unwrap_or (option_map (λ d. DirectiveForm d) o) (CommentForm (comment_cause t)))
-within_directive t None e = tt
-within_directive t (Some d) e = directive_within true t d e
-
-within_substitution : (t : List ℕ) (o : Option SubstitutionMark) → substitution_of t ≡ o → FormWithin t (unwrap_or (option_and_then substitution_form o) (or_directive t))
-within_substitution t None e = within_directive t (directive_of true t) refl
-within_substitution t (Some (NamedSubstitution n m)) e = substitution_within t n m e
-within_substitution t (Some Unclosed) e = within_directive t (directive_of true t) refl
-within_substitution t (Some Tight) e = within_directive t (directive_of true t) refl
-
-within_target : (t : List ℕ) (o : Option TargetMark) → target_of t ≡ o → FormWithin t (unwrap_or (option_map (λ m. TargetForm m) o) (or_substitution t))
-within_target t None e = within_substitution t (substitution_of t) refl
-within_target t (Some m) e = target_within t m e
-
-within_label : (t : List ℕ) (o : Option LabelMark) → label_of t ≡ o → FormWithin t (unwrap_or (option_map (λ l. Label l) o) (or_target t))
-within_label t None e = within_target t (target_of t) refl
-within_label t (Some l) e = label_within t l e
-
 pub form_within : (t : List ℕ) → FormWithin t (explicit_form t)
 unfolding explicit_form
-form_within t = within_label t (label_of t) refl
+form_within t = by (label_of t) (target_of t) (substitution_of t) (directive_of true t) refl refl refl refl
+  where
+    by : (l : Option LabelMark) (m : Option TargetMark) (s : Option SubstitutionMark) (d : Option DirectiveMark) → label_of t ≡ l → target_of t ≡ m → substitution_of t ≡ s → directive_of true t ≡ d
+        → FormWithin t (first_form (option_map (λ l. Label l) l ∷ option_map (λ m. TargetForm m) m ∷ option_and_then substitution_form s ∷ option_map (λ d. DirectiveForm d) d ∷ []) (CommentForm (comment_cause t)))
+    by (Some l) m s d is other more last = label_within t l is
+    by None (Some m) s d is other more last = target_within t m other
+    by None None (Some (NamedSubstitution n x)) d is other more last = substitution_within t n x more
+    by None None _ (Some d) is other more last = directive_within true t d last
+    by None None _ None is other more last = tt
 
 pub form_within_at : (t : List ℕ) (f : ExplicitForm) → f ≡ explicit_form t → FormWithin t f
 form_within_at t f e = rw e (form_within t)
@@ -178,19 +158,13 @@ form_in B i m (DirectiveForm d) h s w =
 form_in B i m (CommentForm cause) h s w = hanging_block B i m.cut false h
 
 alone_in : (B : Block) (i : ℕ) (m : Marker) → i < length B → IsExplicitIn B i (dots_alone i m (drop i B))
-alone_in B i m h = by (is_blank (next_text (drop i B)))
-  where
-    by : (b : Bool) → IsExplicitIn B i (cond b EmptyComment (Comment (hanging_part i m.cut true (drop i B)) Plain))
-    by true = tt
-    by false = hanging_block B i m.cut true h
+alone_in B i m h = cond_both (is_blank (next_text (drop i B))) _ _ (IsExplicitIn B i) (λ _. tt) (λ _. hanging_block B i m.cut true h)
 
 behind_in : (B : Block) (i : ℕ) (m : Marker) → i < length B → m.cut ≤ length (front_text (drop i B)) → IsExplicitIn B i (behind_dots i m (drop i B))
 unfolding behind_dots
-behind_in B i m h s = by m.bare
-  where
-    by : (b : Bool) → IsExplicitIn B i (cond b (dots_alone i m (drop i B)) (explicit_by (explicit_form (drop m.cut (front_text (drop i B)))) i m (drop i B)))
-    by true = alone_in B i m h
-    by false = form_in B i m (explicit_form (drop m.cut (front_text (drop i B)))) h s (form_within (drop m.cut (front_text (drop i B))))
+behind_in B i m h s =
+    let t : List ℕ = drop m.cut (front_text (drop i B)) in
+    cond_both m.bare _ _ (IsExplicitIn B i) (λ _. alone_in B i m h) (λ _. form_in B i m (explicit_form t) h s (form_within t))
 
 -- the parts of explicit markup stand in its block
 pub explicit_in : (B : Block) (i : ℕ) → i < length B → IsExplicitIn B i (explicit_of i (drop i B))
@@ -214,34 +188,36 @@ label_end : (i : ℕ) (k : LabelKind) (label : Characters) (body : Part) → exp
 label_end i FootnoteLabel label body = refl
 label_end i CitationLabel label body = refl
 
--- it ends as many lines behind its first as it does where it begins in line 0: for markup of a form
-form_end : (i : ℕ) (m : Marker) (f : ExplicitForm) (X : Block) → explicit_end i (explicit_by f i m X) ≡ i + explicit_end 0 (explicit_by f 0 m X)
+-- how many lines markup of a form has
+abbrev pub lines_of : ExplicitForm → Block → ℕ
+lines_of (TargetForm mark) X = indented_size X
+lines_of form X = hanging_size X
+
+-- for markup of a form
+form_end : (i : ℕ) (m : Marker) (f : ExplicitForm) (X : Block) → explicit_end i (explicit_by f i m X) ≡ i + lines_of f X
 form_end i m (Label l) X =
     let n : ℕ = m.cut + l.marker.cut in
-    omega (arith, label_end i l.kind (place_of (m.cut + 1) l.len) (hanging_part i n l.marker.bare X), label_end 0 l.kind (place_of (m.cut + 1) l.len) (hanging_part 0 n l.marker.bare X), hanging_to i n l.marker.bare X, hanging_to 0 n l.marker.bare X)
+    omega (arith, label_end i l.kind (place_of (m.cut + 1) l.len) (hanging_part i n l.marker.bare X), hanging_to i n l.marker.bare X)
 form_end i m (TargetForm (Named from len x)) X = omega arith
 form_end i m (TargetForm (AnonymousMark x)) X = omega arith
 form_end i m (SubstitutionForm len x) X = omega arith
-form_end i m (DirectiveForm d) X = omega (arith, hanging_to i (m.cut + d.marker.cut) d.marker.bare X, hanging_to 0 (m.cut + d.marker.cut) d.marker.bare X)
-form_end i m (CommentForm cause) X = omega (arith, hanging_to i m.cut false X, hanging_to 0 m.cut false X)
+form_end i m (DirectiveForm d) X = omega (arith, hanging_to i (m.cut + d.marker.cut) d.marker.bare X)
+form_end i m (CommentForm cause) X = omega (arith, hanging_to i m.cut false X)
 
--- for dots alone
-alone_end : (i : ℕ) (m : Marker) (X : Block) → explicit_end i (dots_alone i m X) ≡ i + explicit_end 0 (dots_alone 0 m X)
-alone_end i m X = by (is_blank (next_text X))
-  where
-    by : (b : Bool) → explicit_end i (cond b EmptyComment (Comment (hanging_part i m.cut true X) Plain)) ≡ i + explicit_end 0 (cond b EmptyComment (Comment (hanging_part 0 m.cut true X) Plain))
-    by true = omega arith
-    by false = omega (arith, hanging_to i m.cut true X, hanging_to 0 m.cut true X)
+-- how many lines there are of what dots begin
+abbrev pub behind_lines : Marker → Block → ℕ
+behind_lines m X = if m.bare then (if is_blank (next_text X) then 1 else hanging_size X) else lines_of (explicit_form (drop m.cut (front_text X))) X
 
 -- for what dots begin
-behind_end : (i : ℕ) (m : Marker) (X : Block) → explicit_end i (behind_dots i m X) ≡ i + explicit_end 0 (behind_dots 0 m X)
+pub behind_end : (i : ℕ) (m : Marker) (X : Block) → explicit_end i (behind_dots i m X) ≡ i + behind_lines m X
 unfolding behind_dots
-behind_end i m X = by m.bare
+behind_end i m X = by m.bare (is_blank (next_text X))
   where
-    by : (b : Bool) → explicit_end i (cond b (dots_alone i m X) (explicit_by (explicit_form (drop m.cut (front_text X))) i m X))
-        ≡ i + explicit_end 0 (cond b (dots_alone 0 m X) (explicit_by (explicit_form (drop m.cut (front_text X))) 0 m X))
-    by true = alone_end i m X
-    by false = form_end i m (explicit_form (drop m.cut (front_text X))) X
+    by : (a b : Bool) → explicit_end i (cond a (cond b EmptyComment (Comment (hanging_part i m.cut true X) Plain)) (explicit_by (explicit_form (drop m.cut (front_text X))) i m X))
+        ≡ i + cond a (cond b 1 (hanging_size X)) (lines_of (explicit_form (drop m.cut (front_text X))) X)
+    by true true = refl
+    by true false = hanging_to i m.cut true X
+    by false b = form_end i m (explicit_form (drop m.cut (front_text X))) X
 
 -- explicit markup ends where its size says
 pub explicit_ends : (i : ℕ) (X : Block) → explicit_end i (explicit_of i X) ≡ i + explicit_size X
@@ -250,7 +226,7 @@ explicit_ends i X = by (dots (front_text X))
   where
     by : (o : Option Marker) → explicit_end i (explicit_with o i X) ≡ i + explicit_end 0 (explicit_with o 0 X)
     by None = omega arith
-    by (Some m) = behind_end i m X
+    by (Some m) = omega (arith, behind_end i m X, behind_end 0 m X)
 
 pub explicit_ends_at : (i : ℕ) (X : Block) (x : Explicit) → x ≡ explicit_of i X → explicit_end i x ≡ i + explicit_size X
 explicit_ends_at i X x e = rw e (explicit_ends i X)
@@ -288,30 +264,9 @@ target_short n t (Named from len m) w h s = (omega (arith, w.0, length-drop n t)
 target_short n t (AnonymousMark m) w h s = omega (arith, w, length-drop n t)
 
 -- ---- how far the lines are looked at
--- the end of a form that is this one
-pub end_reach : (n : ℕ) (f g : ExplicitForm) (m : Marker) (X : Block) → f ≡ g → explicit_end 0 (explicit_by g 0 m X) ≡ n → reach (explicit_end 0 (explicit_by f 0 m X)) X ≡ reach n X
-end_reach n f g m X e to = ap (λ x. reach (explicit_end 0 (explicit_by x 0 m X)) X) e ∙ ap (λ k. reach k X) to
 
-pub label_to : (l : LabelMark) (m : Marker) (X : Block) → explicit_end 0 (explicit_by (Label l) 0 m X) ≡ hanging_size X
-label_to l m X =
-    let n : ℕ = m.cut + l.marker.cut in
-    omega (arith, label_end 0 l.kind (place_of (m.cut + 1) l.len) (hanging_part 0 n l.marker.bare X), hanging_to 0 n l.marker.bare X)
-
-pub target_to : (mark : TargetMark) (m : Marker) (X : Block) → explicit_end 0 (explicit_by (TargetForm mark) 0 m X) ≡ indented_size X
-target_to (Named from len x) m X = omega arith
-target_to (AnonymousMark x) m X = omega arith
-
-pub directive_to : (d : DirectiveMark) (m : Marker) (X : Block) → explicit_end 0 (explicit_by (DirectiveForm d) 0 m X) ≡ hanging_size X
-directive_to d m X = omega (arith, hanging_to 0 (m.cut + d.marker.cut) d.marker.bare X)
-
-pub comment_to : (cause : CommentCause) (m : Marker) (X : Block) → explicit_end 0 (explicit_by (CommentForm cause) 0 m X) ≡ hanging_size X
-comment_to cause m X = omega (arith, hanging_to 0 m.cut false X)
-
-pub alone_reach : (m : Marker) (X : Block) → is_blank (next_text X) ≡ false → reach (explicit_end 0 (dots_alone 0 m X)) X ≡ reach (hanging_size X) X
-alone_reach m X e = rw e (ap (λ k. reach k X) (omega (arith, hanging_to 0 m.cut true X)))
-
-pub end_size : (n : ℕ) (f g : ExplicitForm) (m : Marker) (X : Block) → f ≡ g → explicit_end 0 (explicit_by g 0 m X) ≡ n → explicit_end 0 (explicit_by f 0 m X) ≡ n
-end_size n f g m X e to = ap (λ x. explicit_end 0 (explicit_by x 0 m X)) e ∙ to
+pub form_lines : (f g : ExplicitForm) (m : Marker) (X : Block) → f ≡ g → explicit_end 0 (explicit_by f 0 m X) ≡ lines_of g X
+form_lines f g m X e = omega (arith, ap (λ x. explicit_end 0 (explicit_by x 0 m X)) e, form_end 0 m g X)
 
 pub alone_size : (m : Marker) (X : Block) → is_blank (next_text X) ≡ false → explicit_end 0 (dots_alone 0 m X) ≡ hanging_size X
 alone_size m X e = rw e (omega (arith, hanging_to 0 m.cut true X))

@@ -1,9 +1,8 @@
 -- The kind of a line, row by row.
-use Rattle.std.proofs.Common.{◌≡◌, ℕ, Bool, true, false, ◌&&◌, ◌==◌, List, [], ◌∷◌, None, true≢false, refl, sym, ap, subst, ◌∙◌, arith}
+use Rattle.std.proofs.Common.{◌≡◌, ℕ, true, false, ◌==◌, List, [], ◌∷◌, None, true≢false, refl, sym, ap, subst, ◌∙◌, arith}
 use Rattle.std.specs.Prelude.{if◌then◌else◌, is_some}
 use Rattle.std.specs.Char.{is_ascii_alphabetic}
 use Rattle.std.specs.List.{list_all}
-use Rattle.std.proofs.lemmas.Bool.{eqb-true}
 use Rattle.std.proofs.lemmas.Bool.Decides.{nat_tests}
 use Rattle.rst_text.specs.Block.{Block, front_text, is_blank}
 use Rattle.rst_markup_lines.specs.Front.{begins_by, begins_with, first}
@@ -23,6 +22,7 @@ use Rattle.rst_markup_blocks.specs.declared.begun.Begun.{Begun}
 use Rattle.rst_markup_blocks.specs.declared.begun.Begun.TheVariants as begun
 use Rattle.rst_markup_blocks.specs.declared.kind.Kind.{Kind}
 use Rattle.rst_markup_blocks.specs.declared.kind.Kind.TheVariants.{Blank, Quote, Bullet, Enumerator, Field, OptionItem, Doctest, Line, Grid, Simple, Explicit, Anonymous, Adornment, Text}
+use Rattle.std.proofs.lemmas.Bool.{and_right, ne_eqb}
 
 -- by the first rows of the table, and this kind where none of them holds
 abbrev pub kind_by : List ℕ → List ℕ → List ℕ → Kind → Kind
@@ -73,58 +73,27 @@ bullet_is t = refl
 
 -- a letter is none of the characters that the other rows begin with
 other : (c d : ℕ) → is_ascii_alphabetic c ≡ true → is_ascii_alphabetic d ≡ false → (c == d) ≡ false
-other c d h k = by_case (c == d) refl
-  where
-    by_case : (same : Bool) → (c == d) ≡ same → same ≡ false
-    by_case true s = absurd (true≢false (sym h ∙ ap is_ascii_alphabetic (eqb-true c d s) ∙ k))
-    by_case false s = refl
-
-and-false : (b : Bool) → (b && false) ≡ false
-and-false true = refl
-and-false false = refl
+other c d h k = ne_eqb c d (λ e. true≢false (sym h ∙ ap is_ascii_alphabetic e ∙ k))
 
 no-punctuation : (c : ℕ) → is_ascii_alphabetic c ≡ true → is_punctuation c ≡ false
 no-punctuation c h = grind (arith, nat_tests)
 
-no-bullet : (c : ℕ) (cs : List ℕ) → is_ascii_alphabetic c ≡ true → bullet (c ∷ cs) ≡ None
-unfolding bullet
-no-bullet c cs h = rw (other c 42 h refl, other c 43 h refl, other c 45 h refl, other c 0x2022 h refl, other c 0x2023 h refl, other c 0x2043 h refl) refl
-
-no-field : (c : ℕ) (cs : List ℕ) → is_ascii_alphabetic c ≡ true → field_of (c ∷ cs) ≡ None
-unfolding field_of
-no-field c cs h = rw (other c 58 h refl) refl
-
-no-option : (c : ℕ) (cs next after : List ℕ) → is_ascii_alphabetic c ≡ true → item_option (c ∷ cs) next after ≡ None
-unfolding item_option options_from option_at
-no-option c cs next after h = rw (other c 47 h refl, other c 45 h refl, other c 43 h refl) refl
-
-no-doctest : (c : ℕ) (cs : List ℕ) → is_ascii_alphabetic c ≡ true → doctest (c ∷ cs) ≡ None
-unfolding doctest
-no-doctest c cs h = rw (other c 62 h refl) refl
-
-no-bar : (c : ℕ) (cs : List ℕ) → is_ascii_alphabetic c ≡ true → line_bar (c ∷ cs) ≡ None
-unfolding line_bar
-no-bar c cs h = rw (other c 124 h refl) refl
-
-no-grid : (c : ℕ) (cs : List ℕ) → is_ascii_alphabetic c ≡ true → is_grid_border (c ∷ cs) ≡ false
-unfolding is_grid_border
-no-grid c cs h = rw (other c 43 h refl, and-false (list_all (is_in (Either 45 43)) (c ∷ cs))) (and-false _)
-
-no-simple : (c : ℕ) (cs : List ℕ) → is_ascii_alphabetic c ≡ true → is_simple_border (c ∷ cs) ≡ false
-unfolding is_simple_border
-no-simple c cs h = rw (other c 61 h refl) (and-false _)
-
-no-dots : (c : ℕ) (cs : List ℕ) → is_ascii_alphabetic c ≡ true → dots (c ∷ cs) ≡ None
-unfolding dots
-no-dots c cs h = rw (other c 46 h refl) refl
-
-no-underscores : (c : ℕ) (cs : List ℕ) → is_ascii_alphabetic c ≡ true → underscores (c ∷ cs) ≡ None
-unfolding underscores
-no-underscores c cs h = rw (other c 95 h refl) refl
-
-no-adornment : (c : ℕ) (cs : List ℕ) → is_ascii_alphabetic c ≡ true → adornment_of (c ∷ cs) ≡ None
-unfolding adornment_of
-no-adornment c cs h = rw (no-punctuation c h) refl
+-- it begins with no mark
+no-marks : (c : ℕ) (cs next after : List ℕ) → is_ascii_alphabetic c ≡ true → (bullet (c ∷ cs) ≡ None) × (field_of (c ∷ cs) ≡ None) × (item_option (c ∷ cs) next after ≡ None) × (doctest (c ∷ cs) ≡ None)
+    × (line_bar (c ∷ cs) ≡ None) × (is_grid_border (c ∷ cs) ≡ false) × (is_simple_border (c ∷ cs) ≡ false) × (dots (c ∷ cs) ≡ None) × (underscores (c ∷ cs) ≡ None) × (adornment_of (c ∷ cs) ≡ None)
+unfolding bullet field_of item_option options_from option_at doctest line_bar is_grid_border is_simple_border dots underscores adornment_of
+no-marks c cs next after h = (
+  rw (other c 42 h refl, other c 43 h refl, other c 45 h refl, other c 0x2022 h refl, other c 0x2023 h refl, other c 0x2043 h refl) refl,
+  rw (other c 58 h refl) refl,
+  rw (other c 47 h refl, other c 45 h refl, other c 43 h refl) refl,
+  rw (other c 62 h refl) refl,
+  rw (other c 124 h refl) refl,
+  rw (other c 43 h refl, and_right (list_all (is_in (Either 45 43)) (c ∷ cs)) false refl) (and_right _ _ refl),
+  rw (other c 61 h refl) (and_right _ _ refl),
+  rw (other c 46 h refl) refl,
+  rw (other c 95 h refl) refl,
+  rw (no-punctuation c h) refl,
+)
 
 no-item : (t next : List ℕ) → enumerator_of t ≡ None → item_enumerator t next ≡ None
 unfolding item_enumerator
@@ -136,5 +105,6 @@ letter_kind X [] h none a = absurd (true≢false (sym h))
 letter_kind X (c ∷ cs) h none a =
     let next = next_text X in
     let after = after_text X in
+    let marks = no-marks c cs next after h in
     kind_at_is X (c ∷ cs) next after a refl refl
-    ∙ rw (no-item (c ∷ cs) next none, later_kind_is X (c ∷ cs) a, other c 32 h refl, no-bullet c cs h, no-field c cs h, no-option c cs next after h, no-doctest c cs h, no-bar c cs h, no-grid c cs h, no-simple c cs h, no-dots c cs h, no-underscores c cs h, no-adornment c cs h) refl
+    ∙ rw (no-item (c ∷ cs) next none, later_kind_is X (c ∷ cs) a, other c 32 h refl, marks.0, marks.1, marks.2, marks.3, marks.4, marks.5, marks.6, marks.7, marks.8, marks.9) refl

@@ -1,8 +1,9 @@
 -- For each block exactly one list of spans is that of its constructs.
-use Rattle.std.proofs.Common.{◌≡◌, ℕ, zero, suc, ◌+◌, ◌-◌, ◌<◌, ◌≤◌, List, [], ◌∷◌, length, drop, length-drop, refl, sym, ◌∙◌, ap, subst, arith, Bool, true, false, ◌⊎◌, inl, inr}
+use Rattle.std.proofs.Common.{◌≡◌, ℕ, zero, suc, ◌+◌, ◌-◌, ◌<◌, ◌≤◌, List, [], ◌∷◌, length, drop, length-drop, refl, sym, ◌∙◌, ap, subst, arith, Bool, true, false, inl, inr}
 use Rattle.std.proofs.lemmas.List.{drop_all, drop-drop}
 use Rattle.std.proofs.lemmas.Bool.{cases_lt}
 use Rattle.rst_text.specs.Block.{Block, is_blank, front_text}
+use Rattle.rst_text.proofs.PlacesLemmas.{cases_bool}
 use Rattle.rst_markup_blocks.specs.Kinds.{kind_at}
 use Rattle.rst_markup_blocks.specs.Partition.{Span, spans, spans_from, construct_size, construct_end, IsBlankAt, IsTextAt, AreBlank, PartitionFrom, IsPartition}
 use Rattle.rst_markup_blocks.proofs.ConstructLaws.{row_within}
@@ -38,15 +39,16 @@ unfolding spans_from
 blank_skipped titles i [] h = refl
 blank_skipped titles i (l ∷ ls) h = rw h refl
 
-span : ℕ → ℕ → Span
-span i j = record { start = i; stop = j }
+-- the lines from one place to another
+abbrev pub span_to : ℕ → ℕ → Span
+span_to i j = record { start = i; stop = j }
 
 -- a construct, and the spans behind it
 begun : (titles : Bool) (i : ℕ) (X : Block) → is_blank (front_text X) ≡ false
-    → spans_from titles i 0 X ≡ span i (i + construct_size titles X) ∷ spans_from titles (i + construct_size titles X) 0 (drop (construct_size titles X) X)
-unfolding spans_from span
+    → spans_from titles i 0 X ≡ span_to i (i + construct_size titles X) ∷ spans_from titles (i + construct_size titles X) 0 (drop (construct_size titles X) X)
+unfolding spans_from
 begun titles i [] h = let no : true ≡ false = h in cc
-begun titles i (l ∷ ls) h = rw h (ap (λ (S : List Span). span i (i + construct_size titles (l ∷ ls)) ∷ S) (by (construct_size titles (l ∷ ls)) (size_within titles (l ∷ ls) (omega arith)).0))
+begun titles i (l ∷ ls) h = rw h (ap (λ (S : List Span). span_to i (i + construct_size titles (l ∷ ls)) ∷ S) (by (construct_size titles (l ∷ ls)) (size_within titles (l ∷ ls) (omega arith)).0))
   where
     by : (n : ℕ) → 1 ≤ n → spans_from titles (suc i) (n - 1) ls ≡ spans_from titles (i + n) 0 (drop n (l ∷ ls))
     by zero some = absurd (omega (arith, some))
@@ -56,21 +58,21 @@ begun titles i (l ∷ ls) h = rw h (ap (λ (S : List Span). span i (i + construc
         ap (λ k. spans_from titles (suc i) k ls) e ∙ skipped titles (suc i) n ls ∙ ap (λ j. spans_from titles j 0 (drop n ls)) f
 
 -- on places: a blank line
-past : (titles : Bool) (i : ℕ) (B : Block) → IsBlankAt B i → spans_from titles i 0 (drop i B) ≡ spans_from titles (suc i) 0 (drop (suc i) B)
+pub past : (titles : Bool) (i : ℕ) (B : Block) → IsBlankAt B i → spans_from titles i 0 (drop i B) ≡ spans_from titles (suc i) 0 (drop (suc i) B)
 past titles i B h =
     let e : i + 1 ≡ suc i = omega arith in
     blank_skipped titles i (drop i B) h ∙ ap (spans_from titles (suc i) 0) (drop-drop 1 i B) ∙ ap (λ j. spans_from titles (suc i) 0 (drop j B)) e
 
 -- and a construct
-at : (titles : Bool) (i : ℕ) (B : Block) → IsTextAt B i
-    → spans_from titles i 0 (drop i B) ≡ span i (construct_end titles B i) ∷ spans_from titles (construct_end titles B i) 0 (drop (construct_end titles B i) B)
-at titles i B h =
+pub construct_at : (titles : Bool) (i : ℕ) (B : Block) → IsTextAt B i
+    → spans_from titles i 0 (drop i B) ≡ span_to i (construct_end titles B i) ∷ spans_from titles (construct_end titles B i) 0 (drop (construct_end titles B i) B)
+construct_at titles i B h =
     begun titles i (drop i B) h
-    ∙ ap (λ (X : Block). span i (construct_end titles B i) ∷ spans_from titles (construct_end titles B i) 0 X) (drop-drop (construct_size titles (drop i B)) i B)
+    ∙ ap (λ (X : Block). span_to i (construct_end titles B i) ∷ spans_from titles (construct_end titles B i) 0 X) (drop-drop (construct_size titles (drop i B)) i B)
 
 -- ---- there is no other list
 
-over_blanks : (titles : Bool) (B : Block) (n i : ℕ) → AreBlank B i (i + n) → spans_from titles i 0 (drop i B) ≡ spans_from titles (i + n) 0 (drop (i + n) B)
+pub over_blanks : (titles : Bool) (B : Block) (n i : ℕ) → AreBlank B i (i + n) → spans_from titles i 0 (drop i B) ≡ spans_from titles (i + n) 0 (drop (i + n) B)
 over_blanks titles B zero i h = ap (λ j. spans_from titles j 0 (drop j B)) (omega arith)
 over_blanks titles B (suc n) i h =
     let e : suc i + n ≡ i + suc n = omega arith in
@@ -78,12 +80,11 @@ over_blanks titles B (suc n) i h =
     ∙ over_blanks titles B n (suc i) (λ k low high. h k (omega (arith, low)) (omega (arith, high)))
     ∙ ap (λ j. spans_from titles j 0 (drop j B)) e
 
-none_past : (titles : Bool) (i : ℕ) (B : Block) → length B ≤ i → spans_from titles i 0 (drop i B) ≡ []
+pub none_past : (titles : Bool) (i : ℕ) (B : Block) → length B ≤ i → spans_from titles i 0 (drop i B) ≡ []
 unfolding spans_from
 none_past titles i B h = rw (drop_all i B h) refl
 
 pub only : (titles : Bool) (S : List Span) (i : ℕ) (B : Block) → PartitionFrom titles B i S → S ≡ spans_from titles i 0 (drop i B)
-unfolding span
 only titles [] i B h =
     elim (cases_lt i (length B)) [
       | inl below ↦ (let e : i + (length B - i) ≡ length B = omega (arith, below) in
@@ -93,8 +94,8 @@ only titles [] i B h =
 only titles (s ∷ S) i B (low, blanks, text, stop, inside, rest) =
     let e : i + (s.start - i) ≡ s.start = omega (arith, low) in
     sym (over_blanks titles B (s.start - i) i (λ k l h. blanks k l (omega (arith, h, e))) ∙ ap (λ j. spans_from titles j 0 (drop j B)) e
-    ∙ at titles s.start B text
-    ∙ ap (λ j. span s.start j ∷ spans_from titles j 0 (drop j B)) (sym stop)
+    ∙ construct_at titles s.start B text
+    ∙ ap (λ j. span_to s.start j ∷ spans_from titles j 0 (drop j B)) (sym stop)
     ∙ ap (λ (T : List Span). s ∷ T) (sym (only titles S s.stop B rest)))
 
 -- ---- the spans are such a list
@@ -113,21 +114,16 @@ earlier titles B i (s ∷ S) here (low, blanks, text, stop, inside, rest) = (ome
 ended : (titles : Bool) (i : ℕ) (B : Block) → length B ≤ i → PartitionFrom titles B i (spans_from titles i 0 (drop i B))
 ended titles i B h = subst (PartitionFrom titles B i) (sym (none_past titles i B h)) (λ k low high. absurd (omega (arith, h, low, high)))
 
-is_true_or_false : (b : Bool) → (b ≡ true) ⊎ (b ≡ false)
-is_true_or_false true = inl refl
-is_true_or_false false = inr refl
-
 from_on : (titles : Bool) (fuel i : ℕ) (B : Block) → length B ≤ i + fuel → PartitionFrom titles B i (spans_from titles i 0 (drop i B))
-unfolding span
 from_on titles zero i B h = ended titles i B (omega (arith, h))
 from_on titles (suc fuel) i B h =
     elim (cases_lt i (length B)) [
       | inr behind ↦ ended titles i B behind
-      | inl inside ↦ elim (is_true_or_false (is_blank (front_text (drop i B)))) [
+      | inl inside ↦ elim (cases_bool (is_blank (front_text (drop i B)))) [
         | inl blank ↦ subst (PartitionFrom titles B i) (sym (past titles i B blank))
             (earlier titles B i (spans_from titles (suc i) 0 (drop (suc i) B)) blank (from_on titles fuel (suc i) B (omega (arith, h))))
         | inr text ↦ (let w : (i < construct_end titles B i) × (construct_end titles B i ≤ length B) = end_inside titles B i inside in
-            subst (PartitionFrom titles B i) (sym (at titles i B text))
+            subst (PartitionFrom titles B i) (sym (construct_at titles i B text))
             (omega arith, (λ k low high. absurd (omega (arith, low, high))), text, refl, w.1, from_on titles fuel (construct_end titles B i) B (omega (arith, h, w.0))))
       ]
     ]

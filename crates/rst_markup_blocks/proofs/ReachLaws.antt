@@ -1,21 +1,17 @@
 -- A reach has the lines of its construct, and ends within the block.
-use Rattle.std.specs.Prelude.{ℕ, suc, max, ◌<◌, ◌≤◌, Bool, true, false, cond, IsTrue, [], ◌∷◌, length, drop, Option, Some, None, IfSome, unwrap_or}
+use Rattle.std.specs.Prelude.{ℕ, max, ◌≤◌, Bool, IsTrue, [], ◌∷◌, length, drop, unwrap_or}
 use Rattle.std.proofs.Common.{arith, length-drop}
 use Rattle.std.proofs.Math.Nat.{le-max_left, max-le}
-use Rattle.rst_text.specs.Block.{Block, is_blank}
+use Rattle.rst_text.specs.Block.{Block}
 use Rattle.rst_text.specs.Reach.{reach, through_text}
-use Rattle.rst_markup_blocks.specs.TableRows.{through, grid_size, grid_scan, head_border, simple_bottom, simple_size, simple_scan, is_grid_row, is_simple_row, grid_reach, simple_reach}
+use Rattle.rst_markup_blocks.specs.TableRows.{grid_size, grid_scan, head_border, simple_size, simple_scan, is_grid_row, is_simple_row, grid_reach, simple_reach}
 use Rattle.rst_markup_blocks.proofs.TableLaws.{grid_within, border_below_within, simple_within}
 
 -- the lines through the first that isn't blank stand within the block
 through_text_le : (Y : Block) → through_text Y ≤ length Y
 unfolding through_text
 through_text_le [] = omega arith
-through_text_le (l ∷ ls) = by (is_blank l.text) (through_text_le ls)
-  where
-    by : (b : Bool) → through_text ls ≤ length ls → cond b (suc (through_text ls)) 1 ≤ suc (length ls)
-    by true h = omega arith
-    by false h = omega arith
+through_text_le (l ∷ ls) = grind (arith, through_text_le ls)
 
 -- a reach of n lines has them, and ends within the block
 pub reach_within : (n : ℕ) (X : Block) → n ≤ length X → (n ≤ reach n X) × (reach n X ≤ length X)
@@ -35,11 +31,7 @@ grid_scan_le X = omega arith
 -- the scan for a simple table ends within the block
 pub simple_scan_le : (X : Block) → simple_scan X ≤ length X
 unfolding simple_scan
-simple_scan_le X = by (simple_bottom X) (border_below_within X (unwrap_or (head_border X) 0))
-  where
-    by : (o : Option ℕ) → IfSome o (λ j. (unwrap_or (head_border X) 0 < j) × (j < length X)) → through (length X) o ≤ length X
-    by (Some j) h = omega (arith, h.1)
-    by None h = omega arith
+simple_scan_le X = grind (arith, border_below_within X (unwrap_or (head_border X) 0))
 
 -- The reach of a grid table has its lines, and ends within the block.
 pub grid_reaches : (titles : Bool) (X : Block) → 1 ≤ length X → IsTrue (is_grid_row X) → (grid_size X ≤ grid_reach X) × (grid_reach X ≤ length X)

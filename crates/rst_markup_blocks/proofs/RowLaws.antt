@@ -1,16 +1,14 @@
 -- What begins ends within its block, and what a block's first three lines decide.
-use Rattle.std.specs.Prelude.{◌≡◌, ℕ, zero, suc, ◌≤◌, Bool, true, false, cond, is_some, IsTrue, List, [], ◌∷◌, length, take, drop, refl, Option, None, Some}
-use Rattle.std.proofs.Common.{ap, sym, ◌∙◌, arith, leb, ltb, length-drop, ◌+◌}
-use Rattle.std.proofs.lemmas.Bool.{le-leb}
+use Rattle.std.specs.Prelude.{◌≡◌, ℕ, suc, ◌≤◌, Bool, true, false, is_some, IsTrue, List, [], ◌∷◌, length, take, drop, refl, Option, None, Some}
+use Rattle.std.proofs.Common.{ap, sym, ◌∙◌, arith, length-drop}
 use Rattle.std.specs.Option.{option_map_or}
 use Rattle.rst_markup_lines.specs.Front.{first}
-use Rattle.rst_markup_lines.specs.Closing.{ends_in_colons}
-use Rattle.rst_markup_lines.specs.Adornment.{adornment_of, is_punctuation}
+use Rattle.rst_markup_lines.specs.Adornment.{adornment_of}
 use Rattle.rst_markup_blocks.specs.Forms.{text_form}
 use Rattle.rst_markup_blocks.specs.declared.form.TextForm.{TextForm}
 use Rattle.rst_markup_blocks.specs.declared.form.TextForm.TheVariants.{Paragraph, ShortUnderline, Definition, Title}
-use Rattle.rst_text.specs.Block.{Block, front_text, is_blank, indentation}
-use Rattle.rst_text.specs.Extent.{extent, past_blank}
+use Rattle.rst_text.specs.Block.{Block, front_text}
+use Rattle.rst_text.specs.Extent.{extent}
 use Rattle.rst_markup_lines.specs.Front.{begins_with}
 use Rattle.rst_markup_lines.specs.Marker.{bullet, doctest}
 use Rattle.rst_markup_lines.specs.Enumerator.{enumerator_of}
@@ -18,9 +16,9 @@ use Rattle.rst_markup_lines.specs.declared.marker.Marker.{Marker}
 use Rattle.rst_markup_lines.specs.declared.enumerator.Enumerator.{Enumerator}
 use Rattle.rst_markup_blocks.specs.declared.lines.LineTest.{LineTest}
 use Rattle.rst_markup_blocks.specs.declared.lines.LineTest.TheVariants.{Indented, Filled, Blank, Plain, Begins}
-use Rattle.rst_markup_blocks.specs.Lines.{passes, lines_while}
+use Rattle.rst_markup_blocks.specs.Lines.{lines_while}
 use Rattle.rst_markup_blocks.specs.Conditions.{next_text, after_text}
-use Rattle.rst_markup_blocks.specs.Sizes.{bullet_size, enumerator_size, item_size, hanging_size, run_size, indented_size, doctest_size, least_below, literal_size, quoted_size, quoted_by, last_text, paragraph_size, paragraph_len, text_size, form_size}
+use Rattle.rst_markup_blocks.specs.Sizes.{bullet_size, enumerator_size, item_size, hanging_size, run_size, indented_size, doctest_size, least_below, literal_size, quoted_size, quoted_by, paragraph_size, paragraph_len, text_size, form_size}
 use Rattle.rst_markup_blocks.specs.Rows.{is_blank_row, is_quote_row, is_bullet_row, is_enumerator_row, is_doctest_row, is_text_row, blank_size, quote_size}
 
 -- ---- the first lines
@@ -59,26 +57,13 @@ same_after X Y h = sym (after_taken X) ∙ ap (λ B. front_text (drop 2 B)) h �
 pub extent_le : (least : ℕ) (X : Block) → extent least X ≤ length X
 unfolding extent
 extent_le least [] = omega arith
-extent_le least (l ∷ ls) = two (is_blank l.text) (leb least (indentation l.text)) (extent least ls) (length ls) (extent_le least ls)
-  where
-    past : (n m : ℕ) → n ≤ m → past_blank n ≤ suc m
-    past zero m h = omega arith
-    past (suc n) m h = omega arith
-
-    two : (a b : Bool) (n m : ℕ) → n ≤ m → cond a (past_blank n) (cond b (suc n) 0) ≤ suc m
-    two true b n m h = past n m h
-    two false true n m h = omega arith
-    two false false n m h = omega arith
+extent_le least (l ∷ ls) = grind (arith, extent_le least ls)
 
 -- lines that pass a test stand within the block
 pub while_le : (test : LineTest) (X : Block) → lines_while test X ≤ length X
 unfolding lines_while
 while_le test [] = omega arith
-while_le test (l ∷ ls) = by (passes test l.text) (while_le test ls)
-  where
-    by : (b : Bool) → lines_while test ls ≤ length ls → cond b (suc (lines_while test ls)) 0 ≤ suc (length ls)
-    by true h = omega arith
-    by false h = omega arith
+while_le test (l ∷ ls) = grind (arith, while_le test ls)
 
 -- a line with those below it that are blank or indented ends within the block
 pub below_le : (least : ℕ) (X : Block) → 1 ≤ length X → suc (extent least (drop 1 X)) ≤ length X
@@ -92,13 +77,7 @@ blank_within titles X some h = (omega arith, some)
 indented_extent : (X : Block) → begins_with 32 (front_text X) ≡ true → 1 ≤ extent 1 X
 unfolding extent
 indented_extent [] h = cc
-indented_extent (l ∷ ls) h = go l.text h
-  where
-    go : (t : List ℕ) → begins_with 32 t ≡ true → 1 ≤ cond (is_blank t) (past_blank (extent 1 ls)) (cond (leb 1 (indentation t)) (suc (extent 1 ls)) 0)
-    go [] h = cc
-    go (c ∷ cs) h =
-        let d : leb 1 (indentation (c ∷ cs)) ≡ true = rw h (le-leb 1 (suc (indentation cs)) (omega arith)) in
-        rw d (omega arith)
+indented_extent (l ∷ ls) h = grind arith
 
 -- a block quote has a line or more, and ends within the block
 pub quote_within : (titles : Bool) (X : Block) → 1 ≤ length X → IsTrue (is_quote_row X) → (1 ≤ quote_size X) × (quote_size X ≤ length X)
@@ -142,12 +121,8 @@ no_doctest = refl
 -- a doctest block has a line or more
 doctest_some : (X : Block) → is_some (doctest (front_text X)) ≡ true → 1 ≤ lines_while Filled X
 unfolding lines_while
-doctest_some [] h = let no : false ≡ true = sym no_doctest ∙ h in cc
-doctest_some (l ∷ ls) h = go l.text h
-  where
-    go : (t : List ℕ) → is_some (doctest t) ≡ true → 1 ≤ cond (passes Filled t) (suc (lines_while Filled ls)) 0
-    go [] h = let no : false ≡ true = sym no_doctest ∙ h in cc
-    go (c ∷ cs) h = omega arith
+doctest_some [] h = cc no_doctest
+doctest_some (l ∷ ls) h = grind (arith, no_doctest)
 
 -- it ends within the block
 pub doctest_within : (titles : Bool) (X : Block) → 1 ≤ length X → IsTrue (is_doctest_row X) → (1 ≤ doctest_size X) × (doctest_size X ≤ length X)
@@ -157,20 +132,12 @@ doctest_within titles X some h = (doctest_some X h, while_le Filled X)
 -- a quoted literal block ends within the block
 quoted_le : (o : Option ℕ) (b : ℕ) (Y : Block) → b ≤ length Y → quoted_by o b Y ≤ length Y
 quoted_le None b Y h = omega arith
-quoted_le (Some c) b Y h = by (is_punctuation c)
-  where
-    by : (p : Bool) → cond p (b + lines_while (Begins c) (drop b Y)) 0 ≤ length Y
-    by true = omega (arith, while_le (Begins c) (drop b Y), length-drop b Y)
-    by false = omega arith
+quoted_le (Some c) b Y h = grind (arith, while_le (Begins c) (drop b Y), length-drop b Y)
 
 -- a literal block ends within the block
 pub literal_le : (Y : Block) → literal_size Y ≤ length Y
 unfolding literal_size quoted_size
-literal_le Y = by (ltb 0 (extent 1 Y))
-  where
-    by : (p : Bool) → cond p (extent 1 Y) (quoted_by (first (front_text (drop (lines_while Blank Y) Y))) (lines_while Blank Y) Y) ≤ length Y
-    by true = extent_le 1 Y
-    by false = quoted_le (first (front_text (drop (lines_while Blank Y) Y))) (lines_while Blank Y) Y (while_le Blank Y)
+literal_le Y = let quoted = quoted_le (first (front_text (drop (lines_while Blank Y) Y))) (lines_while Blank Y) Y (while_le Blank Y) in grind (arith, extent_le 1 Y, quoted)
 
 -- a paragraph with its literal block has a line or more, and ends within the block
 pub paragraph_within : (X : Block) → 1 ≤ length X → (1 ≤ paragraph_size X) × (paragraph_size X ≤ length X)
@@ -178,12 +145,7 @@ unfolding paragraph_size paragraph_len run_size
 paragraph_within X some =
     let n : ℕ = suc (lines_while Plain (drop 1 X)) in
     let own : n ≤ length X = omega (arith, while_le Plain (drop 1 X), length-drop 1 X) in
-    by (ends_in_colons (last_text X)) own
-  where
-    by : (p : Bool) → suc (lines_while Plain (drop 1 X)) ≤ length X
-        → (1 ≤ suc (lines_while Plain (drop 1 X)) + cond p (literal_size (drop (suc (lines_while Plain (drop 1 X))) X)) 0) × (suc (lines_while Plain (drop 1 X)) + cond p (literal_size (drop (suc (lines_while Plain (drop 1 X))) X)) 0 ≤ length X)
-    by true own = (omega arith, omega (arith, literal_le (drop (suc (lines_while Plain (drop 1 X))) X), length-drop (suc (lines_while Plain (drop 1 X))) X))
-    by false own = (omega arith, omega arith)
+    (omega arith, grind (arith, own, literal_le (drop n X), length-drop n X))
 
 -- a text with nothing below begins a paragraph
 nothing_below : (t : List ℕ) → text_form t [] ≡ Paragraph
@@ -191,10 +153,9 @@ unfolding text_form adornment_of
 nothing_below t = refl
 
 -- a title has its underline below it, so its block has two lines or more
-two_lines : (X : Block) (t : List ℕ) (short : Bool) → text_form t (next_text X) ≡ Title short → 2 ≤ length X
-two_lines [] t short e = let no : Paragraph ≡ Title short = sym (nothing_below t) ∙ e in cc
-two_lines (l ∷ []) t short e = let no : Paragraph ≡ Title short = sym (nothing_below t) ∙ e in cc
+pub two_lines : (X : Block) (t : List ℕ) (short : Bool) → text_form t (next_text X) ≡ Title short → 2 ≤ length X
 two_lines (l ∷ m ∷ ms) t short e = omega arith
+two_lines _ t short e = cc (nothing_below t)
 
 -- what a text begins has a line or more, and ends within the block, by its form
 form_within : (f : TextForm) (X : Block) → 1 ≤ length X → text_form (front_text X) (next_text X) ≡ f → (1 ≤ form_size f X) × (form_size f X ≤ length X)

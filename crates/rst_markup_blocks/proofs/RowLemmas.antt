@@ -1,5 +1,5 @@
 -- A line of a kind fulfils the condition of that kind's row.
-use Rattle.std.proofs.Common.{◌≡◌, Bool, true, false, cond, List, [], ◌∷◌, None, ap, sym, ◌∙◌, refl}
+use Rattle.std.proofs.Common.{◌≡◌, true, false, List, [], ◌∷◌, None, ap, sym, ◌∙◌, refl}
 use Rattle.std.specs.Prelude.{is_some}
 use Rattle.rst_text.specs.Block.{Block, front_text}
 use Rattle.rst_markup_lines.specs.ExplicitMarks.{dots, underscores}
@@ -7,16 +7,13 @@ use Rattle.rst_markup_blocks.specs.Explicit.{is_explicit_kind}
 use Rattle.rst_markup_blocks.specs.Kinds.{row_holds, kinds, first_kind, kind_at}
 use Rattle.rst_markup_blocks.specs.declared.kind.Kind.{Kind}
 use Rattle.rst_markup_blocks.specs.declared.kind.Kind.TheVariants.{Explicit as ExplicitKind, Anonymous as AnonymousKind}
+use Rattle.std.proofs.lemmas.Bool.{cond_both}
 
 -- the row of the first kind whose row holds, or that of a text, holds
 row_of_first : (ks : List Kind) (X : Block) → row_holds (first_kind ks X) X ≡ true
 unfolding first_kind
 row_of_first [] X = refl
-row_of_first (k ∷ ks) X = by (row_holds k X) refl (row_of_first ks X)
-  where
-    by : (b : Bool) → row_holds k X ≡ b → row_holds (first_kind ks X) X ≡ true → row_holds (cond b k (first_kind ks X)) X ≡ true
-    by true e h = e
-    by false e h = h
+row_of_first (k ∷ ks) X = cond_both (row_holds k X) k (first_kind ks X) (λ j. row_holds j X ≡ true) (λ e. e) (λ _. row_of_first ks X)
 
 pub row_of_kind : (X : Block) → row_holds (kind_at X) X ≡ true
 unfolding kind_at

@@ -1,31 +1,25 @@
 -- Tables end within their block.
-use Rattle.std.specs.Prelude.{◌≡◌, ℕ, ◌+◌, ◌-◌, ◌<◌, ◌≤◌, Bool, true, false, cond, IsTrue, List, [], ◌∷◌, length, refl, Option, Some, None, IfSome, unwrap_or}
+use Rattle.std.specs.Prelude.{◌≡◌, ℕ, ◌+◌, ◌-◌, ◌<◌, ◌≤◌, Bool, true, cond, IsTrue, List, [], ◌∷◌, length, Option, Some, None, IfSome, unwrap_or}
 use Rattle.std.specs.Option.{option_or, option_and_then}
 use Rattle.std.proofs.Common.{arith}
-use Rattle.std.proofs.lemmas.Bool.{and_parts}
 use Rattle.rst_text.specs.Block.{Block, front_text}
 use Rattle.rst_text.specs.Places.{IsFirst, IsLast}
 use Rattle.rst_text.proofs.PlacesLemmas.{first_from-IsFirst, last_from-IsLast}
-use Rattle.rst_markup_lines.specs.Front.{begins_with}
 use Rattle.rst_markup_lines.specs.Border.{is_grid_border}
 use Rattle.rst_markup_blocks.specs.declared.lines.LineTest.{LineTest}
 use Rattle.rst_markup_blocks.specs.declared.lines.LineTest.TheVariants.{Drawn}
 use Rattle.rst_markup_blocks.specs.TableLines.{is_drawn}
 use Rattle.rst_markup_blocks.specs.Lines.{passes, lines_while}
 use Rattle.rst_markup_blocks.proofs.RowLaws.{while_le}
-use Rattle.rst_markup_blocks.specs.TableRows.{through, is_border_at, grid_bottom, grid_size, is_lower_border_at, border_below, closes_head, head_border, simple_bottom, simple_size, is_grid_row, is_simple_row}
+use Rattle.rst_markup_blocks.specs.TableRows.{is_border_at, grid_bottom, grid_size, is_lower_border_at, border_below, closes_head, head_border, simple_bottom, simple_size, is_grid_row, is_simple_row}
+use Rattle.std.proofs.lemmas.Bool.{cond_both}
 
 -- ---- grid tables
 
 -- a border of a grid table begins with `+`, as a line of the table may
 pub grid_drawn : (t : List ℕ) → is_grid_border t ≡ true → is_drawn t ≡ true
 unfolding is_grid_border is_drawn
-grid_drawn t h =
-    let a = and_parts _ _ h in
-    let b = and_parts _ _ a.1 in
-    let c = and_parts _ _ b.1 in
-    let plus : begins_with 43 t ≡ true = c.0 in
-    rw plus refl
+grid_drawn t h = grind arith
 
 -- where the first line passes a test, one line or more does
 pub while_some : (test : LineTest) (X : Block) → 1 ≤ length X → passes test (front_text X) ≡ true → 1 ≤ lines_while test X
@@ -44,22 +38,14 @@ grid_bottom_within X = found (grid_bottom X) (last_from-IsLast (is_border_at X) 
 -- a grid table has no more lines than these
 pub grid_size_le : (X : Block) → grid_size X ≤ lines_while Drawn X
 unfolding grid_size
-grid_size_le X = by (grid_bottom X) (grid_bottom_within X)
-  where
-    by : (o : Option ℕ) → IfSome o (λ k. (2 ≤ k) × (k < lines_while Drawn X)) → through (lines_while Drawn X) o ≤ lines_while Drawn X
-    by None inside = omega arith
-    by (Some k) inside = omega (arith, inside.1)
+grid_size_le X = grind (arith, grid_bottom_within X)
 
 -- A grid table has a line or more, and ends within the block.
 pub grid_within : (titles : Bool) (X : Block) → 1 ≤ length X → IsTrue (is_grid_row X) → (1 ≤ grid_size X) × (grid_size X ≤ length X)
 unfolding grid_size
 grid_within titles X some h =
     let one : 1 ≤ lines_while Drawn X = while_some Drawn X some (grid_drawn (front_text X) h) in
-    (by (grid_bottom X) one, omega (arith, grid_size_le X, while_le Drawn X))
-  where
-    by : (o : Option ℕ) → 1 ≤ lines_while Drawn X → 1 ≤ through (lines_while Drawn X) o
-    by None one = one
-    by (Some k) one = omega arith
+    (grind (arith, one), omega (arith, grid_size_le X, while_le Drawn X))
 
 -- ---- simple tables
 
@@ -75,13 +61,9 @@ border_below_within X k = found (border_below X k) (first_from-IsFirst (is_lower
 pub head_border_within : (X : Block) → IfSome (head_border X) (λ k. (0 < k) × (k < length X))
 head_border_within X = by (border_below X 0) (border_below_within X 0)
   where
-    kept : (b : Bool) (k : ℕ) → (0 < k) × (k < length X) → IfSome (cond b (Some k) None) (λ k. (0 < k) × (k < length X))
-    kept true k h = h
-    kept false k h = tt
-
     by : (o : Option ℕ) → IfSome o (λ k. (0 < k) × (k < length X)) → IfSome (option_and_then (λ k. cond (closes_head X k) (Some k) None) o) (λ k. (0 < k) × (k < length X))
     by None h = tt
-    by (Some k) h = kept (closes_head X k) k h
+    by (Some k) h = cond_both (closes_head X k) (Some k) None (λ o. IfSome o (λ k. (0 < k) × (k < length X))) (λ _. h) (λ _. tt)
 
 -- so does the last border of a simple table
 pub simple_border_within : (X : Block) → IfSome (option_or (simple_bottom X) (head_border X)) (λ k. k < length X)
@@ -95,17 +77,9 @@ simple_border_within X = by (simple_bottom X) (head_border X) (border_below_with
 -- a simple table ends within the block
 pub simple_size_le : (X : Block) → simple_size X ≤ length X
 unfolding simple_size
-simple_size_le X = by (option_or (simple_bottom X) (head_border X)) (simple_border_within X)
-  where
-    by : (o : Option ℕ) → IfSome o (λ k. k < length X) → through (length X) o ≤ length X
-    by (Some k) h = omega (arith, h)
-    by None h = omega arith
+simple_size_le X = grind (arith, simple_border_within X)
 
 -- A simple table has a line or more, and ends within the block.
 pub simple_within : (titles : Bool) (X : Block) → 1 ≤ length X → IsTrue (is_simple_row X) → (1 ≤ simple_size X) × (simple_size X ≤ length X)
 unfolding simple_size
-simple_within titles X some h = (by (option_or (simple_bottom X) (head_border X)), simple_size_le X)
-  where
-    by : (o : Option ℕ) → 1 ≤ through (length X) o
-    by (Some k) = omega arith
-    by None = some
+simple_within titles X some h = (grind arith, simple_size_le X)

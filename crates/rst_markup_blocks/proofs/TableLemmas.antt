@@ -97,8 +97,4 @@ scan_reach X = le-max_right (reach (simple_size X) X) (simple_scan X)
 
 pub scan_some : (X : Block) → 1 ≤ length X → 1 ≤ simple_scan X
 unfolding simple_scan
-scan_some X some = by (simple_bottom X)
-  where
-    by : (o : Option ℕ) → 1 ≤ through (length X) o
-    by None = some
-    by (Some k) = omega arith
+scan_some X some = grind arith

@@ -13,3 +13,4 @@ pub mod Kinds
 pub mod Begun
 pub mod Ends
 pub mod Partition
+pub mod Prelude

@@ -1,9 +1,6 @@
 //! Lines of one punctuation character.
-ghost use Rattle.std.specs.Prelude.{◌≡◌, ◌+◌, ◌*◌, ◌<◌, ◌≤◌, length, drop, IsTrue};
-ghost use Rattle.std.specs.Str.{chars};
-ghost use Rattle.rst_text.specs.Looked.{capped};
-ghost use Rattle.rst_text.specs.Reach.{reach};
-ghost use Rattle.rst_text.specs.Shown.{block_of};
+ghost use Rattle.std.specs.Prelude.{◌≡◌, ◌+◌, ◌*◌, ◌<◌, length, drop, IsTrue, chars};
+ghost use Rattle.rst_markup_blocks.specs.Prelude.{Looked, reach, block_of};
 ghost use Rattle.rst_markup_blocks.specs.Forms.{adorned_form};
 ghost use Rattle.rst_markup_blocks.specs.Conditions.{next_text};
 ghost use Rattle.rst_markup_blocks.specs.Rows.{is_adornment_row};
@@ -29,8 +26,7 @@ pub fn adorned_at(
     requires inside { i < length (block_of view.now) }
     requires next { chars next.now ≡ next_text (drop i (block_of view.now)) }
     ensures form { result ≡ adorned_form titles mark (next_text (drop i (block_of view.now))) (spec.third_text (drop i (block_of view.now))) }
-    ensures looks { looks.new ≤ looks.old + spec.overline_looks (next_text (drop i (block_of view.now))) }
-    ensures low { capped looks.old ≤ looks.new }
+    ensures looked { Looked 0 (spec.overline_looks (next_text (drop i (block_of view.now)))) looks.old looks.new }
 {
     if !titles {
         return adorned_below(mark);
@@ -65,8 +61,7 @@ pub(crate) fn adornment_end(view: &View<'_>, i: usize, titles: bool, looks: &mut
     requires inside { i < length (block_of view.now) }
     requires begins { IsTrue (is_adornment_row (drop i (block_of view.now))) }
     ensures end { result ≡ i + spec.adornment_size titles (drop i (block_of view.now)) }
-    ensures looks { looks.new ≤ looks.old + 4 * reach (spec.adornment_size titles (drop i (block_of view.now))) (drop i (block_of view.now)) }
-    ensures low { capped looks.old ≤ looks.new }
+    ensures looked { Looked 0 (4 * reach (spec.adornment_size titles (drop i (block_of view.now))) (drop i (block_of view.now))) looks.old looks.new }
 {
     prove!(i < view.len());
     let text = view.line(i, looks);

@@ -1,7 +1,6 @@
 //! Attributions of block quotes.
 ghost use Rattle.std.specs.Prelude.{◌≡◌, ◌+◌, ◌-◌, ◌<◌, ◌≤◌, IfSome, option_map, length, drop};
-ghost use Rattle.rst_text.specs.Looked.{capped};
-ghost use Rattle.rst_text.specs.Shown.{block_of};
+ghost use Rattle.rst_markup_blocks.specs.Prelude.{Looked, capped, block_of};
 ghost use Rattle.rst_markup_blocks.specs.Attributions as spec;
 ghost use Rattle.rst_markup_blocks.specs.Lines.{lines_while};
 ghost use Rattle.rst_markup_blocks.specs.Parts.{IsBlock};
@@ -26,8 +25,7 @@ pub struct Attribution {
 fn level_end(view: &View<'_>, from: usize, indent: usize, looks: &mut Looks) -> Option<usize>
     requires inside { from ≤ length (block_of view.now) }
     ensures end { result ≡ option_map (λ n. from + n) (spec.level_lines indent (drop from (block_of view.now))) }
-    ensures looks { looks.new ≤ looks.old + lines_while Filled (drop from (block_of view.now)) + 1 }
-    ensures low { capped looks.old ≤ looks.new }
+    ensures looked { Looked 0 (lines_while Filled (drop from (block_of view.now)) + 1) looks.old looks.new }
     ensures each { IfSome result (λ end. capped (looks.old + (end - from)) ≤ looks.new) }
 {
     let len = view.len();
@@ -53,8 +51,7 @@ fn attribution_behind(
     requires inside { k < length (block_of view.now) }
     ensures attribution { result ≡ spec.attribution_behind k marker (drop k (block_of view.now)) }
     ensures text { IfSome result (λ a. IsBlock (block_of view.now) (spec.attribution_part k a)) }
-    ensures looks { looks.new ≤ looks.old + 2 + lines_while Filled (drop 1 (drop k (block_of view.now))) }
-    ensures low { capped looks.old ≤ looks.new }
+    ensures looked { Looked 0 (2 + lines_while Filled (drop 1 (drop k (block_of view.now)))) looks.old looks.new }
     ensures each { IfSome result (λ a. capped (looks.old + (a.end - (k + 1))) ≤ looks.new) }
 {
     prove!(k < view.len());
@@ -78,8 +75,7 @@ pub fn attribution_at(view: &View<'_>, k: usize, looks: &mut Looks) -> Option<At
     requires inside { k < length (block_of view.now) }
     ensures attribution { result ≡ spec.attribution_at k (drop k (block_of view.now)) }
     ensures text { IfSome result (λ a. IsBlock (block_of view.now) (spec.attribution_part k a)) }
-    ensures looks { looks.new ≤ looks.old + 3 + lines_while Filled (drop 1 (drop k (block_of view.now))) }
-    ensures low { capped (looks.old + 1) ≤ looks.new }
+    ensures looked { Looked 1 (3 + lines_while Filled (drop 1 (drop k (block_of view.now)))) looks.old looks.new }
     ensures each { IfSome result (λ a. capped (looks.old + (a.end - k)) ≤ looks.new) }
 {
     let marker = attribution_of(view.line(k, looks))?;

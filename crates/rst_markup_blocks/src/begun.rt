@@ -1,10 +1,7 @@
 //! What begins at a line, with what its mark says.
-ghost use Rattle.std.specs.Prelude.{◌≡◌, ℕ, List, ◌+◌, ◌<◌, ◌≤◌, false, length, drop};
+ghost use Rattle.std.specs.Prelude.{◌≡◌, ℕ, List, ◌<◌, false, length, drop, chars};
 ghost use Rattle.std.specs.Char.{is_ascii_alphabetic};
-ghost use Rattle.std.specs.Str.{chars};
-ghost use Rattle.rst_text.specs.Block.{Block, front_text, is_blank};
-ghost use Rattle.rst_text.specs.Looked.{capped};
-ghost use Rattle.rst_text.specs.Shown.{block_of};
+ghost use Rattle.rst_markup_blocks.specs.Prelude.{Block, front_text, is_blank, Looked, block_of};
 ghost use Rattle.rst_markup_lines.specs.Front.{begins_by};
 ghost use Rattle.rst_markup_blocks.specs.Conditions.{next_text, after_text};
 ghost use Rattle.rst_markup_blocks.specs.Kinds.{first_kind, kind_at, kind_of, later_kinds};
@@ -67,8 +64,7 @@ impl Begun {
 pub fn kind_of(view: &View<'_>, i: usize, looks: &mut Looks) -> Kind
     requires inside { i < length (block_of view.now) }
     ensures kind { result ≡ kind_of (block_of view.now) i }
-    ensures looks { looks.new ≤ looks.old + 3 }
-    ensures low { capped (looks.old + 1) ≤ looks.new }
+    ensures looked { Looked 1 3 looks.old looks.new }
 {
     begun_at(view, i, looks).kind()
 }
@@ -79,8 +75,7 @@ pub fn kind_of(view: &View<'_>, i: usize, looks: &mut Looks) -> Kind
 pub fn begun_at(view: &View<'_>, at: usize, looks: &mut Looks) -> Begun
     requires inside { at < length (block_of view.now) }
     ensures begun { spec.IsBegun (drop at (block_of view.now)) result }
-    ensures looks { looks.new ≤ looks.old + 3 }
-    ensures low { capped (looks.old + 1) ≤ looks.new }
+    ensures looked { Looked 1 3 looks.old looks.new }
 {
     let text = view.line(at, looks);
     if is_blank(text) {

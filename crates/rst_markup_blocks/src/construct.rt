@@ -1,8 +1,6 @@
 //! A construct: where it begins, and where it ends.
-ghost use Rattle.std.specs.Prelude.{◌≡◌, ◌+◌, ◌*◌, ◌<◌, ◌≤◌, ℕ, Bool, drop, length, IsTrue};
-ghost use Rattle.rst_text.specs.Block.{Block};
-ghost use Rattle.rst_text.specs.Looked.{capped};
-ghost use Rattle.rst_text.specs.Shown.{block_of};
+ghost use Rattle.std.specs.Prelude.{◌≡◌, ◌+◌, ◌*◌, ◌<◌, ℕ, Bool, drop, length, IsTrue};
+ghost use Rattle.rst_markup_blocks.specs.Prelude.{Block, Looked, block_of};
 
 use rst_text::{Looks, View};
 
@@ -25,8 +23,7 @@ pub trait Construct {
     fn starts(&self, view: &View<'_>, i: usize, titles: bool, looks: &mut Looks) -> bool
         requires inside { i < length (block_of view.now) }
         ensures holds { result ≡ holds self.now (drop i (block_of view.now)) }
-        ensures looks { looks.new ≤ looks.old + first_looks self.now }
-        ensures low { capped (looks.old + 1) ≤ looks.new };
+        ensures looked { Looked 1 (first_looks self.now) looks.old looks.new };
 
     /// The place after the construct that begins at place `i`. It makes at most four looks for each line of the
     /// construct's reach.
@@ -34,6 +31,5 @@ pub trait Construct {
         requires inside { i < length (block_of view.now) }
         requires begins { IsTrue (holds self.now (drop i (block_of view.now))) }
         ensures end { result ≡ i + size self.now titles (drop i (block_of view.now)) }
-        ensures looks { looks.new ≤ looks.old + 4 * reached self.now titles (drop i (block_of view.now)) }
-        ensures low { capped looks.old ≤ looks.new };
+        ensures looked { Looked 0 (4 * reached self.now titles (drop i (block_of view.now))) looks.old looks.new };
 }

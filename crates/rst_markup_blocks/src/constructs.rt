@@ -1,8 +1,6 @@
 //! The rows of the table of constructs.
-ghost use Rattle.std.specs.Prelude.{◌≡◌, ◌+◌, ◌*◌, ◌<◌, ◌≤◌, length, drop, IsTrue};
-ghost use Rattle.rst_text.specs.Looked.{capped};
-ghost use Rattle.rst_text.specs.Reach.{reach};
-ghost use Rattle.rst_text.specs.Shown.{block_of};
+ghost use Rattle.std.specs.Prelude.{◌≡◌, ◌+◌, ◌*◌, ◌<◌, length, drop, IsTrue};
+ghost use Rattle.rst_markup_blocks.specs.Prelude.{Looked, reach, block_of};
 ghost use Rattle.rst_markup_blocks.specs.Explicit.{explicit_size};
 ghost use Rattle.rst_markup_blocks.specs.Rows.{is_bullet_row, is_explicit_row};
 ghost use Rattle.rst_markup_blocks.specs.Sizes as spec;
@@ -86,8 +84,7 @@ fn bullet_end(view: &View<'_>, i: usize, looks: &mut Looks) -> usize
     requires inside { i < length (block_of view.now) }
     requires begins { IsTrue (is_bullet_row (drop i (block_of view.now))) }
     ensures end { result ≡ i + spec.bullet_size (drop i (block_of view.now)) }
-    ensures looks { looks.new ≤ looks.old + 4 * reach (spec.bullet_size (drop i (block_of view.now))) (drop i (block_of view.now)) }
-    ensures low { capped looks.old ≤ looks.new }
+    ensures looked { Looked 0 (4 * reach (spec.bullet_size (drop i (block_of view.now))) (drop i (block_of view.now))) looks.old looks.new }
 {
     prove!(i < view.len());
     match bullet(view.line(i, looks)) {
@@ -100,8 +97,7 @@ fn bullet_end(view: &View<'_>, i: usize, looks: &mut Looks) -> usize
 fn enumerator_end(view: &View<'_>, i: usize, looks: &mut Looks) -> usize
     requires inside { i < length (block_of view.now) }
     ensures end { result ≡ i + spec.enumerator_size (drop i (block_of view.now)) }
-    ensures looks { looks.new ≤ looks.old + 4 * reach (spec.enumerator_size (drop i (block_of view.now))) (drop i (block_of view.now)) }
-    ensures low { capped looks.old ≤ looks.new }
+    ensures looked { Looked 0 (4 * reach (spec.enumerator_size (drop i (block_of view.now))) (drop i (block_of view.now))) looks.old looks.new }
 {
     prove!(i < view.len());
     match enumerator_of(view.line(i, looks)) {
@@ -115,8 +111,7 @@ fn explicit_end(view: &View<'_>, i: usize, looks: &mut Looks) -> usize
     requires inside { i < length (block_of view.now) }
     requires begins { IsTrue (is_explicit_row (drop i (block_of view.now))) }
     ensures end { result ≡ i + explicit_size (drop i (block_of view.now)) }
-    ensures looks { looks.new ≤ looks.old + 4 * reach (explicit_size (drop i (block_of view.now))) (drop i (block_of view.now)) }
-    ensures low { capped looks.old ≤ looks.new }
+    ensures looked { Looked 0 (4 * reach (explicit_size (drop i (block_of view.now))) (drop i (block_of view.now))) looks.old looks.new }
 {
     prove!(i < view.len());
     let text = view.line(i, looks);

@@ -1,10 +1,6 @@
 //! Where constructs end.
-ghost use Rattle.std.specs.Prelude.{◌≡◌, ◌+◌, ◌-◌, ◌*◌, ◌<◌, ◌≤◌, length, drop};
-ghost use Rattle.std.specs.Str.{chars};
-ghost use Rattle.rst_text.specs.Block.{front_text};
-ghost use Rattle.rst_text.specs.Looked.{capped};
-ghost use Rattle.rst_text.specs.Reach.{reach};
-ghost use Rattle.rst_text.specs.Shown.{block_of};
+ghost use Rattle.std.specs.Prelude.{◌≡◌, ◌+◌, ◌-◌, ◌*◌, ◌<◌, ◌≤◌, length, drop, chars};
+ghost use Rattle.rst_markup_blocks.specs.Prelude.{front_text, Looked, capped, reach, block_of};
 ghost use Rattle.rst_markup_blocks.specs.Conditions.{next_text};
 ghost use Rattle.rst_markup_blocks.specs.Sizes as spec;
 
@@ -18,8 +14,7 @@ use rst_text::{Looks, View};
 pub(crate) fn hanging_end(view: &View<'_>, i: usize, looks: &mut Looks) -> usize
     requires inside { i < length (block_of view.now) }
     ensures end { result ≡ i + spec.hanging_size (drop i (block_of view.now)) }
-    ensures looks { looks.new < looks.old + reach (spec.hanging_size (drop i (block_of view.now))) (drop i (block_of view.now)) }
-    ensures low { capped (looks.old + (spec.hanging_size (drop i (block_of view.now)) - 1)) ≤ looks.new }
+    ensures looked { Looked (spec.hanging_size (drop i (block_of view.now)) - 1) (reach (spec.hanging_size (drop i (block_of view.now))) (drop i (block_of view.now)) - 1) looks.old looks.new }
 {
     below_end(view, i, 1, looks)
 }
@@ -29,8 +24,7 @@ pub(crate) fn hanging_end(view: &View<'_>, i: usize, looks: &mut Looks) -> usize
 pub fn item_end(view: &View<'_>, i: usize, marker: Marker, looks: &mut Looks) -> usize
     requires inside { i < length (block_of view.now) }
     ensures end { result ≡ i + spec.item_size marker (drop i (block_of view.now)) }
-    ensures looks { looks.new < looks.old + reach (spec.item_size marker (drop i (block_of view.now))) (drop i (block_of view.now)) }
-    ensures low { capped (looks.old + (spec.item_size marker (drop i (block_of view.now)) - 1)) ≤ looks.new }
+    ensures looked { Looked (spec.item_size marker (drop i (block_of view.now)) - 1) (reach (spec.item_size marker (drop i (block_of view.now))) (drop i (block_of view.now)) - 1) looks.old looks.new }
 {
     let least = if marker.bare { 1 } else { marker.cut };
     below_end(view, i, least, looks)
@@ -43,8 +37,7 @@ fn run_below_end(view: &View<'_>, i: usize, test: LineTest, looks: &mut Looks) -
     ensures end { result ≡ i + spec.run_size test (drop i (block_of view.now)) }
     ensures within { result ≤ length (block_of view.now) }
     ensures after { i < result }
-    ensures few { looks.new ≤ looks.old + spec.run_size test (drop i (block_of view.now)) }
-    ensures low { capped (looks.old + (spec.run_size test (drop i (block_of view.now)) - 1)) ≤ looks.new }
+    ensures looked { Looked (spec.run_size test (drop i (block_of view.now)) - 1) (spec.run_size test (drop i (block_of view.now))) looks.old looks.new }
 {
     prove!(i < view.len());
     lines_end(view, i + 1, test, looks)
@@ -55,8 +48,7 @@ fn run_below_end(view: &View<'_>, i: usize, test: LineTest, looks: &mut Looks) -
 pub fn indented_end(view: &View<'_>, i: usize, looks: &mut Looks) -> usize
     requires inside { i < length (block_of view.now) }
     ensures end { result ≡ i + spec.indented_size (drop i (block_of view.now)) }
-    ensures few { looks.new ≤ looks.old + spec.indented_size (drop i (block_of view.now)) }
-    ensures low { capped (looks.old + (spec.indented_size (drop i (block_of view.now)) - 1)) ≤ looks.new }
+    ensures looked { Looked (spec.indented_size (drop i (block_of view.now)) - 1) (spec.indented_size (drop i (block_of view.now))) looks.old looks.new }
 {
     run_below_end(view, i, LineTest::Indented, looks)
 }
@@ -66,8 +58,7 @@ pub fn indented_end(view: &View<'_>, i: usize, looks: &mut Looks) -> usize
 fn literal_end(view: &View<'_>, from: usize, looks: &mut Looks) -> usize
     requires inside { from ≤ length (block_of view.now) }
     ensures end { result ≡ from + spec.literal_size (drop from (block_of view.now)) }
-    ensures looks { looks.new ≤ looks.old + 4 * reach (spec.literal_size (drop from (block_of view.now))) (drop from (block_of view.now)) }
-    ensures low { capped looks.old ≤ looks.new }
+    ensures looked { Looked 0 (4 * reach (spec.literal_size (drop from (block_of view.now))) (drop from (block_of view.now))) looks.old looks.new }
 {
     prove!(from <= view.len());
     let indented = view.block_end(from, None, looks).end;

@@ -1,9 +1,6 @@
 //! Explicit markup blocks.
-ghost use Rattle.std.specs.Prelude.{◌≡◌, ◌+◌, ◌-◌, ◌*◌, ◌<◌, ◌≤◌, length, drop};
-ghost use Rattle.std.specs.Str.{chars};
-ghost use Rattle.rst_text.specs.Looked.{capped};
-ghost use Rattle.rst_text.specs.Reach.{reach};
-ghost use Rattle.rst_text.specs.Shown.{block_of};
+ghost use Rattle.std.specs.Prelude.{◌≡◌, ◌-◌, ◌*◌, ◌<◌, length, drop, chars};
+ghost use Rattle.rst_markup_blocks.specs.Prelude.{Looked, reach, block_of};
 ghost use Rattle.rst_markup_blocks.specs.ExplicitMarkup as spec;
 ghost use Rattle.rst_markup_blocks.specs.Sizes.{hanging_size};
 
@@ -65,8 +62,7 @@ pub fn explicit_form(text: &str) -> ExplicitForm
 pub fn hanging_part(view: &View<'_>, i: usize, cut: usize, bare: bool, looks: &mut Looks) -> Part
     requires inside { i < length (block_of view.now) }
     ensures part { result ≡ spec.hanging_part i cut bare (drop i (block_of view.now)) }
-    ensures looks { looks.new + 2 ≤ looks.old + 2 * reach (hanging_size (drop i (block_of view.now))) (drop i (block_of view.now)) }
-    ensures low { capped (looks.old + (hanging_size (drop i (block_of view.now)) - 1)) ≤ looks.new }
+    ensures looked { Looked (hanging_size (drop i (block_of view.now)) - 1) (2 * reach (hanging_size (drop i (block_of view.now))) (drop i (block_of view.now)) - 2) looks.old looks.new }
 {
     prove!(i < view.len());
     let extent = view.block_end(i + 1, None, looks);

@@ -1,10 +1,6 @@
 //! Explicit markup with its extents.
-ghost use Rattle.std.specs.Prelude.{◌≡◌, ◌+◌, ◌-◌, ◌*◌, ◌^◌, ◌<◌, ◌≤◌, Some, is_some, IsTrue, length, drop};
-ghost use Rattle.std.specs.Str.{chars};
-ghost use Rattle.rst_text.specs.Block.{front_text};
-ghost use Rattle.rst_text.specs.Looked.{capped};
-ghost use Rattle.rst_text.specs.Reach.{reach};
-ghost use Rattle.rst_text.specs.Shown.{block_of};
+ghost use Rattle.std.specs.Prelude.{◌≡◌, ◌+◌, ◌-◌, ◌*◌, ◌^◌, ◌<◌, ◌≤◌, Some, is_some, IsTrue, length, drop, chars};
+ghost use Rattle.rst_markup_blocks.specs.Prelude.{front_text, Looked, reach, block_of};
 ghost use Rattle.rst_markup_lines.specs.ExplicitMarks as marks;
 ghost use Rattle.rst_markup_lines.specs.Place as places;
 ghost use Rattle.rst_markup_blocks.specs.Explicit as spec;
@@ -38,8 +34,7 @@ fn place_of(from: usize, len: usize) -> Characters
 fn target_part(view: &View<'_>, i: usize, n: usize, looks: &mut Looks) -> Part
     requires inside { i < length (block_of view.now) }
     ensures part { result ≡ spec.target_part i n (drop i (block_of view.now)) }
-    ensures looks { looks.new ≤ looks.old + indented_size (drop i (block_of view.now)) }
-    ensures low { capped (looks.old + (indented_size (drop i (block_of view.now)) - 1)) ≤ looks.new }
+    ensures looked { Looked (indented_size (drop i (block_of view.now)) - 1) (indented_size (drop i (block_of view.now))) looks.old looks.new }
 {
     Part {
         from: i,
@@ -61,8 +56,7 @@ fn call_of(
     requires name { n + mark.len < 2 ^ 64 }
     requires marker { n + mark.marker.cut < 2 ^ 64 }
     ensures call { result ≡ spec.call_of i n mark (drop i (block_of view.now)) }
-    ensures looks { looks.new + 2 ≤ looks.old + 2 * reach (hanging_size (drop i (block_of view.now))) (drop i (block_of view.now)) }
-    ensures low { capped (looks.old + (hanging_size (drop i (block_of view.now)) - 1)) ≤ looks.new }
+    ensures looked { Looked (hanging_size (drop i (block_of view.now)) - 1) (2 * reach (hanging_size (drop i (block_of view.now))) (drop i (block_of view.now)) - 2) looks.old looks.new }
 {
     let marker = mark.marker;
     Invocation {
@@ -77,8 +71,7 @@ fn label_with(view: &View<'_>, i: usize, n: usize, mark: LabelMark, looks: &mut 
     requires label { n + 1 + mark.len < 2 ^ 64 }
     requires marker { n + mark.marker.cut < 2 ^ 64 }
     ensures explicit { result ≡ spec.label_with mark.kind (places.place_of (n + 1) mark.len) (hanging_part i (n + mark.marker.cut) mark.marker.bare (drop i (block_of view.now))) }
-    ensures looks { looks.new + 2 ≤ looks.old + 2 * reach (hanging_size (drop i (block_of view.now))) (drop i (block_of view.now)) }
-    ensures low { capped (looks.old + (hanging_size (drop i (block_of view.now)) - 1)) ≤ looks.new }
+    ensures looked { Looked (hanging_size (drop i (block_of view.now)) - 1) (2 * reach (hanging_size (drop i (block_of view.now))) (drop i (block_of view.now)) - 2) looks.old looks.new }
 {
     let label = place_of(n + 1, mark.len);
     let marker = mark.marker;
@@ -94,8 +87,7 @@ fn target_with(view: &View<'_>, i: usize, n: usize, mark: TargetMark, looks: &mu
     requires inside { i < length (block_of view.now) }
     requires mark { spec.IsTargetShort n mark }
     ensures explicit { result ≡ spec.target_with i n mark (drop i (block_of view.now)) }
-    ensures looks { looks.new ≤ looks.old + indented_size (drop i (block_of view.now)) }
-    ensures low { capped (looks.old + (indented_size (drop i (block_of view.now)) - 1)) ≤ looks.new }
+    ensures looked { Looked (indented_size (drop i (block_of view.now)) - 1) (indented_size (drop i (block_of view.now))) looks.old looks.new }
 {
     match mark {
         TargetMark::Named { from, len, marker } => Explicit::Target {
@@ -122,8 +114,7 @@ fn substitution_with(
     requires text { chars text.now ≡ front_text (drop i (block_of view.now)) }
     requires behind { n ≤ length (chars text.now) }
     ensures explicit { result ≡ spec.substitution_with i name n (drop i (block_of view.now)) }
-    ensures looks { looks.new + 1 ≤ looks.old + 2 * reach (hanging_size (drop i (block_of view.now))) (drop i (block_of view.now)) }
-    ensures low { capped (looks.old + (hanging_size (drop i (block_of view.now)) - 1)) ≤ looks.new }
+    ensures looked { Looked (hanging_size (drop i (block_of view.now)) - 1) (2 * reach (hanging_size (drop i (block_of view.now))) (drop i (block_of view.now)) - 1) looks.old looks.new }
 {
     match directive_of(false, skip(text, n)) {
         Some(mark) => {
@@ -146,8 +137,7 @@ fn substitution_with(
 fn dots_alone(view: &View<'_>, i: usize, marker: Marker, looks: &mut Looks) -> Explicit
     requires inside { i < length (block_of view.now) }
     ensures explicit { result ≡ spec.dots_alone i marker (drop i (block_of view.now)) }
-    ensures looks { looks.new + 1 ≤ looks.old + 2 * reach (spec.explicit_end 0 (spec.dots_alone 0 marker (drop i (block_of view.now)))) (drop i (block_of view.now)) }
-    ensures low { capped (looks.old + (spec.explicit_end 0 (spec.dots_alone 0 marker (drop i (block_of view.now))) - 1)) ≤ looks.new }
+    ensures looked { Looked (spec.explicit_end 0 (spec.dots_alone 0 marker (drop i (block_of view.now))) - 1) (2 * reach (spec.explicit_end 0 (spec.dots_alone 0 marker (drop i (block_of view.now)))) (drop i (block_of view.now)) - 1) looks.old looks.new }
 {
     if is_blank(below_text(view, i, 1, looks)) {
         return Explicit::EmptyComment;
@@ -172,8 +162,7 @@ fn explicit_by(
     requires form { form ≡ explicit_form (drop marker.cut (chars text.now)) }
     requires marker { marker.cut ≤ length (chars text.now) }
     ensures explicit { result ≡ spec.explicit_by form i marker (drop i (block_of view.now)) }
-    ensures looks { looks.new + 1 ≤ looks.old + 2 * reach (spec.explicit_end 0 (spec.explicit_by form 0 marker (drop i (block_of view.now)))) (drop i (block_of view.now)) }
-    ensures low { capped (looks.old + (spec.explicit_end 0 (spec.explicit_by form 0 marker (drop i (block_of view.now))) - 1)) ≤ looks.new }
+    ensures looked { Looked (spec.explicit_end 0 (spec.explicit_by form 0 marker (drop i (block_of view.now))) - 1) (2 * reach (spec.explicit_end 0 (spec.explicit_by form 0 marker (drop i (block_of view.now)))) (drop i (block_of view.now)) - 1) looks.old looks.new }
 {
     let n = marker.cut;
     match form {
@@ -203,8 +192,7 @@ pub(crate) fn behind_dots(
     requires text { chars text.now ≡ front_text (drop i (block_of view.now)) }
     requires marker { marker.cut ≤ length (chars text.now) }
     ensures explicit { result ≡ spec.behind_dots i marker (drop i (block_of view.now)) }
-    ensures looks { looks.new + 1 ≤ looks.old + 2 * reach (spec.explicit_end 0 (spec.behind_dots 0 marker (drop i (block_of view.now)))) (drop i (block_of view.now)) }
-    ensures low { capped (looks.old + (spec.explicit_end 0 (spec.behind_dots 0 marker (drop i (block_of view.now))) - 1)) ≤ looks.new }
+    ensures looked { Looked (spec.explicit_end 0 (spec.behind_dots 0 marker (drop i (block_of view.now))) - 1) (2 * reach (spec.explicit_end 0 (spec.behind_dots 0 marker (drop i (block_of view.now)))) (drop i (block_of view.now)) - 1) looks.old looks.new }
 {
     if marker.bare {
         return dots_alone(view, i, marker, looks);
@@ -220,8 +208,7 @@ fn anonymous(view: &View<'_>, i: usize, text: &str, looks: &mut Looks) -> Explic
     requires text { chars text.now ≡ front_text (drop i (block_of view.now)) }
     requires begins { IsTrue (is_some (marks.underscores (chars text.now))) }
     ensures explicit { result ≡ spec.anonymous_of i (drop i (block_of view.now)) }
-    ensures looks { looks.new ≤ looks.old + indented_size (drop i (block_of view.now)) }
-    ensures low { capped (looks.old + (indented_size (drop i (block_of view.now)) - 1)) ≤ looks.new }
+    ensures looked { Looked (indented_size (drop i (block_of view.now)) - 1) (indented_size (drop i (block_of view.now))) looks.old looks.new }
 {
     let Some(marker) = underscores(text) else {
         unreachable!()
@@ -240,8 +227,7 @@ pub fn explicit(view: &View<'_>, i: usize, looks: &mut Looks) -> Explicit
     ensures explicit { result ≡ spec.explicit_of i (drop i (block_of view.now)) }
     ensures within { spec.IsExplicitIn (block_of view.now) i result }
     ensures end { spec.explicit_end i result ≡ i + spec.explicit_size (drop i (block_of view.now)) }
-    ensures looks { looks.new ≤ looks.old + 2 * reach (spec.explicit_size (drop i (block_of view.now))) (drop i (block_of view.now)) }
-    ensures low { capped (looks.old + spec.explicit_size (drop i (block_of view.now))) ≤ looks.new }
+    ensures looked { Looked (spec.explicit_size (drop i (block_of view.now))) (2 * reach (spec.explicit_size (drop i (block_of view.now))) (drop i (block_of view.now))) looks.old looks.new }
 {
     let text = view.line(i, looks);
     match dots(text) {

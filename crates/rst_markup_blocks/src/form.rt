@@ -1,6 +1,5 @@
 //! What a line of text, or of one punctuation character, begins.
-ghost use Rattle.std.specs.Prelude.{◌≡◌};
-ghost use Rattle.std.specs.Str.{chars};
+ghost use Rattle.std.specs.Prelude.{◌≡◌, chars};
 ghost use Rattle.rst_markup_blocks.specs.Forms as spec;
 
 use rst_markup_lines::{Adornment, adornment_of, begins_with, is_blank};

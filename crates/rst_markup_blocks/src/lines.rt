@@ -1,11 +1,6 @@
 //! Lines of a view that are looked at one after the other.
-ghost use Rattle.std.specs.Prelude.{◌≡◌, ◌+◌, ◌<◌, ◌≤◌, suc, length, drop};
-ghost use Rattle.std.specs.Str.{chars};
-ghost use Rattle.rst_text.specs.Block.{front_text};
-ghost use Rattle.rst_text.specs.Extent.{extent};
-ghost use Rattle.rst_text.specs.Looked.{capped};
-ghost use Rattle.rst_text.specs.Reach.{reach, through_text};
-ghost use Rattle.rst_text.specs.Shown.{block_of};
+ghost use Rattle.std.specs.Prelude.{◌≡◌, ◌+◌, ◌-◌, ◌<◌, ◌≤◌, suc, length, drop, chars};
+ghost use Rattle.rst_markup_blocks.specs.Prelude.{front_text, extent, Looked, reach, through_text, block_of};
 ghost use Rattle.rst_markup_blocks.specs.Lines.{passes, lines_while};
 
 use super::table_line::is_drawn;
@@ -46,9 +41,8 @@ fn passes(test: LineTest, text: &str) -> bool
 /// The text of the line at place `i`, at the price of one look; an empty text where there is no such line.
 pub fn text_at<'a>(view: &View<'a>, i: usize, looks: &mut Looks) -> &'a str
     ensures text { chars result.now ≡ front_text (drop i (block_of view.now)) }
-    ensures few { looks.new ≤ looks.old + 1 }
+    ensures looked { Looked 0 1 looks.old looks.new }
     ensures looks { looks.new ≤ looks.old + through_text (drop i (block_of view.now)) }
-    ensures low { capped looks.old ≤ looks.new }
 {
     if i < view.len() {
         view.line(i, looks)
@@ -61,8 +55,7 @@ pub fn text_at<'a>(view: &View<'a>, i: usize, looks: &mut Looks) -> &'a str
 pub fn below_text<'a>(view: &View<'a>, i: usize, n: usize, looks: &mut Looks) -> &'a str
     requires inside { i < length (block_of view.now) }
     ensures text { chars result.now ≡ front_text (drop n (drop i (block_of view.now))) }
-    ensures looks { looks.new ≤ looks.old + 1 }
-    ensures low { capped looks.old ≤ looks.new }
+    ensures looked { Looked 0 1 looks.old looks.new }
 {
     if n < view.len() - i {
         view.line(i + n, looks)
@@ -79,9 +72,8 @@ pub fn lines_end(view: &View<'_>, from: usize, test: LineTest, looks: &mut Looks
     requires inside { from ≤ length (block_of view.now) }
     ensures end { result ≡ from + lines_while test (drop from (block_of view.now)) }
     ensures within { result ≤ length (block_of view.now) }
-    ensures few { looks.new ≤ looks.old + lines_while test (drop from (block_of view.now)) + 1 }
+    ensures looked { Looked (lines_while test (drop from (block_of view.now))) (lines_while test (drop from (block_of view.now)) + 1) looks.old looks.new }
     ensures looks { looks.new ≤ looks.old + reach (lines_while test (drop from (block_of view.now))) (drop from (block_of view.now)) }
-    ensures low { capped (looks.old + lines_while test (drop from (block_of view.now))) ≤ looks.new }
 {
     if let LineTest::Blank = test {
         return view.blank_end(from, looks);
@@ -101,8 +93,7 @@ pub fn lines_end(view: &View<'_>, from: usize, test: LineTest, looks: &mut Looks
 pub(crate) fn below_end(view: &View<'_>, i: usize, least: usize, looks: &mut Looks) -> usize
     requires inside { i < length (block_of view.now) }
     ensures end { result ≡ i + suc (extent least (drop 1 (drop i (block_of view.now)))) }
-    ensures looks { looks.new < looks.old + reach (suc (extent least (drop 1 (drop i (block_of view.now))))) (drop i (block_of view.now)) }
-    ensures low { capped (looks.old + extent least (drop 1 (drop i (block_of view.now)))) ≤ looks.new }
+    ensures looked { Looked (extent least (drop 1 (drop i (block_of view.now)))) (reach (suc (extent least (drop 1 (drop i (block_of view.now))))) (drop i (block_of view.now)) - 1) looks.old looks.new }
 {
     prove!(i < view.len());
     view.block_end(i + 1, Some(least), looks).end

@@ -1,6 +1,5 @@
 //! Conditions of the rows of the table of constructs that look below the line.
-ghost use Rattle.std.specs.Prelude.{◌≡◌};
-ghost use Rattle.std.specs.Str.{chars};
+ghost use Rattle.std.specs.Prelude.{◌≡◌, chars};
 ghost use Rattle.rst_markup_blocks.specs.Conditions as spec;
 
 use rst_markup_lines::{

@@ -1,6 +1,5 @@
 //! Lines that tables are told by.
-ghost use Rattle.std.specs.Prelude.{◌≡◌};
-ghost use Rattle.std.specs.Str.{chars};
+ghost use Rattle.std.specs.Prelude.{◌≡◌, chars};
 ghost use Rattle.rst_markup_blocks.specs.TableLines as spec;
 
 use rst_markup_lines::{Class, begins_with, is_blank, run};

@@ -1,8 +1,7 @@
 //! The rows of tables.
 ghost use Rattle.std.specs.Prelude.{◌≡◌, ◌+◌, ◌-◌, ◌*◌, ◌<◌, ◌≤◌, length, drop, IfSome, IsTrue};
 ghost use Rattle.std.specs.Option.{option_or};
-ghost use Rattle.rst_text.specs.Looked.{capped};
-ghost use Rattle.rst_text.specs.Shown.{block_of};
+ghost use Rattle.rst_markup_blocks.specs.Prelude.{Looked, capped, block_of};
 ghost use Rattle.rst_markup_blocks.specs.Lines.{lines_while};
 ghost use Rattle.rst_markup_blocks.specs.TableRows as spec;
 
@@ -18,8 +17,7 @@ fn grid_bottom(view: &View<'_>, i: usize, all: usize, looks: &mut Looks) -> Opti
     requires all { all ≡ lines_while LineTest.Drawn (drop i (block_of view.now)) }
     ensures bottom { result ≡ spec.grid_bottom (drop i (block_of view.now)) }
     ensures within { IfSome result (λ k. k < all) }
-    ensures looks { looks.new ≤ looks.old + all }
-    ensures low { capped looks.old ≤ looks.new }
+    ensures looked { Looked 0 all looks.old looks.new }
 {
     let mut bottom = None;
     for k in 2..all {
@@ -36,8 +34,7 @@ pub(crate) fn grid_end(view: &View<'_>, i: usize, looks: &mut Looks) -> usize
     requires inside { i < length (block_of view.now) }
     requires begins { IsTrue (spec.is_grid_row (drop i (block_of view.now))) }
     ensures end { result ≡ i + spec.grid_size (drop i (block_of view.now)) }
-    ensures looks { looks.new ≤ looks.old + 4 * spec.grid_reach (drop i (block_of view.now)) }
-    ensures low { capped looks.old ≤ looks.new }
+    ensures looked { Looked 0 (4 * spec.grid_reach (drop i (block_of view.now))) looks.old looks.new }
 {
     prove!(i < view.len());
     let end = lines_end(view, i, LineTest::Drawn, looks);
@@ -69,8 +66,7 @@ fn border_below(view: &View<'_>, i: usize, k: usize, looks: &mut Looks) -> Optio
 pub fn is_as_long(view: &View<'_>, i: usize, k: usize, looks: &mut Looks) -> bool
     requires inside { i < length (block_of view.now) }
     ensures value { result ≡ spec.is_as_long (drop i (block_of view.now)) k }
-    ensures looks { looks.new ≤ looks.old + 2 }
-    ensures low { capped (looks.old + 1) ≤ looks.new }
+    ensures looked { Looked 1 2 looks.old looks.new }
 {
     let top = view.line(i, looks);
     let border = below_text(view, i, k, looks);
@@ -82,8 +78,7 @@ fn closes_head(view: &View<'_>, i: usize, k: usize, looks: &mut Looks) -> bool
     requires inside { i < length (block_of view.now) }
     requires line { k < length (drop i (block_of view.now)) }
     ensures value { result ≡ spec.closes_head (drop i (block_of view.now)) k }
-    ensures looks { looks.new ≤ looks.old + 3 }
-    ensures low { capped looks.old ≤ looks.new }
+    ensures looked { Looked 0 3 looks.old looks.new }
 {
     prove!(i < view.len());
     let next = below_text(view, i, k + 1, looks);
@@ -123,8 +118,7 @@ pub fn simple_borders(view: &View<'_>, i: usize, looks: &mut Looks) -> SimpleBor
     ensures head { result.head ≡ spec.head_border (drop i (block_of view.now)) }
     ensures bottom { result.bottom ≡ spec.simple_bottom (drop i (block_of view.now)) }
     ensures within { IfSome (option_or result.bottom result.head) (λ k. k < length (drop i (block_of view.now))) }
-    ensures looks { looks.new ≤ looks.old + 2 + spec.simple_scan (drop i (block_of view.now)) }
-    ensures low { capped (looks.old + (spec.simple_size (drop i (block_of view.now)) - 1)) ≤ looks.new }
+    ensures looked { Looked (spec.simple_size (drop i (block_of view.now)) - 1) (2 + spec.simple_scan (drop i (block_of view.now))) looks.old looks.new }
 {
     let Some(first) = border_below(view, i, 0, looks) else {
         return SimpleBorders {
@@ -148,8 +142,7 @@ pub fn simple_borders(view: &View<'_>, i: usize, looks: &mut Looks) -> SimpleBor
 pub(crate) fn simple_end(view: &View<'_>, i: usize, looks: &mut Looks) -> usize
     requires inside { i < length (block_of view.now) }
     ensures end { result ≡ i + spec.simple_size (drop i (block_of view.now)) }
-    ensures looks { looks.new ≤ looks.old + 4 * spec.simple_reach (drop i (block_of view.now)) }
-    ensures low { capped looks.old ≤ looks.new }
+    ensures looked { Looked 0 (4 * spec.simple_reach (drop i (block_of view.now))) looks.old looks.new }
 {
     prove!(i < view.len());
     i + simple_borders(view, i, looks).size(view.len() - i)

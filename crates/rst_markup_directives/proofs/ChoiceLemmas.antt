@@ -1,5 +1,5 @@
 -- Settings that are made one after the other.
-use Rattle.std.proofs.Common.{List, [], ◌++◌, Result, Ok, Err}
+use Rattle.std.proofs.Common.{List, ◌++◌, Result, Ok, Err}
 use Rattle.rst_markup_directives.specs.Options.{Choice}
 use Rattle.rst_markup_directives.specs.Wrong.{Wrong}
 

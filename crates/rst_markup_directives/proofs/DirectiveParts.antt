@@ -1,10 +1,9 @@
 -- The parts of a directive are blocks of what its block is a part of.
-use Rattle.std.proofs.Common.{◌≡◌, ℕ, zero, suc, ◌+◌, ◌-◌, ◌≤◌, ◌==◌, Bool, true, false, not, cond, ◌&&◌, List, [], ◌∷◌, length, take, drop, length-drop, Option, None, Some, option_map, Result, Ok, Err, arith, refl, sym, ap, ◌∙◌, subst}
+use Rattle.std.proofs.Common.{◌≡◌, ℕ, ◌+◌, ◌-◌, ◌≤◌, ◌==◌, Bool, true, false, not, cond, ◌&&◌, List, [], ◌∷◌, length, take, drop, length-drop, Option, None, Some, option_map, Result, Ok, Err, arith, sym, ap, ◌∙◌, subst}
 use Rattle.std.specs.List.{prefix_len}
 use Rattle.std.proofs.lemmas.List.{drop-drop, length-map, length-take}
 use Rattle.std.proofs.lemmas.List.Folds.{length-prefix_len}
 use Rattle.rst_text.specs.Block.{Line, Block, cut, is_blank}
-use Rattle.rst_text.specs.MayCut.{is_indented}
 use Rattle.rst_text.specs.Names.{normalized_white}
 use Rattle.rst_text.proofs.Indented.{is_indented-part}
 use Rattle.rst_inline_scan.specs.Characters.{is_among}

@@ -1,8 +1,6 @@
 //! Directives as they are called.
 ghost use Rattle.std.specs.Prelude.{◌≡◌, true, ◌+◌, ◌-◌, ◌≤◌, ◌&&◌, length, take, drop};
-ghost use Rattle.rst_text.specs.Block.{cut};
-ghost use Rattle.rst_text.specs.Looked.{capped};
-ghost use Rattle.rst_text.specs.Shown.{block_of};
+ghost use Rattle.rst_markup_blocks.specs.Prelude.{cut, Looked, capped, block_of};
 ghost use Rattle.rst_markup_blocks.specs.Parts.{IsBlock, IsCall};
 ghost use Rattle.rst_markup_directives.specs.Argument as arguments;
 ghost use Rattle.rst_markup_directives.specs.Faults.{Gives};
@@ -62,8 +60,7 @@ pub fn directive(
     requires block { IsBlock (block_of view.now) block }
     ensures outcome { Gives (λ found. directives.outcome_of found ≡ directives.directive_of name (block_of view.now) at block place paragraph) result }
     ensures parts { Gives (λ found. spec.IsDirectiveIn (block_of view.now) found) result }
-    ensures looks { looks.new ≤ looks.old + 1 + (block.to - block.from) }
-    ensures low { capped looks.old ≤ looks.new }
+    ensures looked { Looked 0 (1 + (block.to - block.from)) looks.old looks.new }
 {
     let source = Part {
         from: at,
@@ -127,8 +124,7 @@ fn read(
 ) -> Result<Result<Reading, Detail>, MarkupFault>
     requires block { IsBlock (block_of view.now) block }
     ensures reading { Gives (λ reading. directives.reading_in reading ≡ directives.read_block name late block (cut (block_of view.now) block.from block.to block.first_cut block.rest_cut)) result }
-    ensures looks { looks.new ≤ looks.old + 1 + (block.to - block.from) }
-    ensures low { capped looks.old ≤ looks.new }
+    ensures looked { Looked 0 (1 + (block.to - block.from)) looks.old looks.new }
 {
     let lines = lines_of(view, block);
     let run = run_of(alloc, is_content(name, late), &lines, looks)?;

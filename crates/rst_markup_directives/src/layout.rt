@@ -1,6 +1,5 @@
 //! Where the parts of a directive's block stand.
-ghost use Rattle.std.specs.Prelude.{◌≡◌, ◌≤◌, length};
-ghost use Rattle.std.specs.Str.{chars};
+ghost use Rattle.std.specs.Prelude.{◌≡◌, ◌≤◌, length, chars};
 ghost use Rattle.rst_markup_directives.specs.Lines.{texts_of};
 ghost use Rattle.rst_markup_directives.specs.Layout as spec;
 

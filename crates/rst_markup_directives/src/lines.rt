@@ -1,7 +1,6 @@
 //! The lines of a directive's block.
-ghost use Rattle.std.specs.Prelude.{◌≡◌, ◌+◌, ◌-◌, ◌≤◌, [], length, IfOk, if◌then◌else◌};
-ghost use Rattle.rst_text.specs.Looked.{capped};
-ghost use Rattle.rst_text.specs.Shown.{block_of};
+ghost use Rattle.std.specs.Prelude.{◌≡◌, ◌+◌, ◌≤◌, [], length, IfOk, if◌then◌else◌};
+ghost use Rattle.rst_markup_blocks.specs.Prelude.{Looked, capped, block_of};
 ghost use Rattle.rst_markup_directives.specs.Lines as spec;
 
 use rst_markup_lines::is_blank;
@@ -17,9 +16,8 @@ pub(crate) fn run_of<'a>(
 ) -> Result<Vec<&'a str>, AllocError>
     ensures texts { IfOk result (λ run. spec.texts_of run.items ≡ (if none then [] else spec.first_run (block_of lines.now))) }
     ensures within { IfOk result (λ run. length run.items ≤ length (block_of lines.now)) }
-    ensures looks { looks.new ≤ looks.old + length (block_of lines.now) }
+    ensures looked { Looked 0 (length (block_of lines.now)) looks.old looks.new }
     ensures through { IfOk result (λ run. looks.new ≤ looks.old + length run.items + 1) }
-    ensures low { capped looks.old ≤ looks.new }
     ensures each { IfOk result (λ run. capped (looks.old + length run.items) ≤ looks.new) }
 {
     let mut run = Vec::new(alloc);

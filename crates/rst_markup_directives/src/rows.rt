@@ -2,9 +2,7 @@
 //! definition gives for a text that is written out.
 #![tactic(auto, unfolding(crate::proofs::Computing::rst_markup_directives))]
 
-ghost use Rattle.std.specs.Prelude.{◌≡◌, true, false, Some, None, Ok, Err, codes, ◌∷◌, ◌++◌, [], map};
-ghost use Rattle.std.specs.List.{filter};
-ghost use Rattle.std.specs.Option.{is_some};
+ghost use Rattle.std.specs.Prelude.{◌≡◌, true, false, Some, None, Ok, Err, codes, ◌∷◌, ◌++◌, [], map, filter, is_some};
 ghost use Rattle.rst_text.specs.Written.{block};
 ghost use Rattle.rst_markup_directives.specs.Argument.{language, nothing, title, uri};
 ghost use Rattle.rst_markup_directives.specs.Directive.{directive_at, found, read_block, wrong};

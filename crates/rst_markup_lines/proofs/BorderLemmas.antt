@@ -2,7 +2,8 @@
 use Rattle.std.proofs.Common.{◌≡◌, ⊎_elim, ℕ, suc, ◌-◌, Bool, true, false, ◌&&◌, ◌||◌, ◌==◌, cond, List, [], ◌∷◌, length, drop, refl, sym, ap, ◌∙◌, arith}
 use Rattle.std.specs.Prelude.{nat_lt, nat_le}
 use Rattle.std.specs.List.{list_all, list_any}
-use Rattle.std.proofs.lemmas.Bool.{cases_Bool, and_parts, eqb-true}
+use Rattle.std.proofs.lemmas.Bool.{cases_Bool, cond_both, and_parts, and_right, eqb-true, lt-ltb}
+use Rattle.std.proofs.Math.Bool.{and-false}
 use Rattle.std.proofs.lemmas.Bool.Decides.{nat_tests}
 use Rattle.rst_text.specs.Block.{is_blank}
 use Rattle.rst_markup_lines.specs.Front.{begins_with}
@@ -10,10 +11,6 @@ use Rattle.rst_markup_lines.specs.Class.{is_in, run}
 use Rattle.rst_markup_lines.specs.Border.{is_grid_border, is_simple_border}
 use Rattle.rst_markup_lines.specs.declared.class.Class.TheVariants.{Only, Either}
 use Rattle.rst_markup_lines.proofs.Runs.{run_cons, whole_run, run_whole}
-
-and_false : (a : Bool) → (a && false) ≡ false
-and_false true = refl
-and_false false = refl
 
 -- ---- grid tables
 
@@ -32,7 +29,7 @@ grid_run t = ⊎_elim
     rw (size, all, blank) refl)
     (λ some.
     let more : is_blank (drop (run (Either 45 43) t) t) ≡ false = whole_run (Either 45 43) t ∙ some in
-    rw (some, more) (and_false (nat_le 5 (length t)) ∙ sym (and_false (nat_le 5 (run (Either 45 43) t)))))
+    rw (some, more) (and-false (nat_le 5 (length t)) ∙ sym (and-false (nat_le 5 (run (Either 45 43) t)))))
     (cases_Bool (list_all (is_in (Either 45 43)) t))
 
 -- ---- simple tables
@@ -47,11 +44,9 @@ simple_by_run t =
 first_run : (t : List ℕ) → nat_lt 0 (run (Only 61) t) ≡ begins_with 61 t
 unfolding run is_in
 first_run [] = refl
-first_run (c ∷ cs) = ap (nat_lt 0) (run_cons (Only 61) c cs) ∙ by (c == 61)
-  where
-    by : (b : Bool) → nat_lt 0 (cond b (suc (run (Only 61) cs)) 0) ≡ b
-    by true = grind (arith, nat_tests)
-    by false = refl
+first_run (c ∷ cs) =
+    ap (nat_lt 0) (run_cons (Only 61) c cs)
+    ∙ cond_both (c == 61) (suc (run (Only 61) cs)) 0 (λ n. nat_lt 0 n ≡ (c == 61)) (λ e. lt-ltb 0 (suc (run (Only 61) cs)) (omega arith) ∙ sym e) (λ e. sym e)
 
 -- of `=` and spaces the run of `=` is not all, where there is a space
 spaced_run : (t : List ℕ) → list_all (is_in (Either 61 32)) t ≡ true → nat_lt (run (Only 61) t) (length t) ≡ list_any (λ c. c == 32) t
@@ -79,9 +74,5 @@ simple_run t = ⊎_elim
     rw (size, all, blank, first_run t, spaced_run t all) refl)
     (λ some.
     let more : is_blank (drop (run (Either 61 32) t) t) ≡ false = whole_run (Either 61 32) t ∙ some in
-    rw (some, more) (sym (neither (nat_lt 0 (run (Only 61) t)) (nat_lt (run (Only 61) t) (run (Either 61 32) t)))))
+    rw (some, more) (sym (and_right (nat_lt 0 (run (Only 61) t)) _ (and-false (nat_lt (run (Only 61) t) (run (Either 61 32) t))))))
     (cases_Bool (list_all (is_in (Either 61 32)) t))
-  where
-    neither : (a b : Bool) → (a && (b && false)) ≡ false
-    neither true b = and_false b
-    neither false b = refl

@@ -1,7 +1,9 @@
 -- What closes is looked for from the front.
-use Rattle.std.proofs.Common.{◌≡◌, ℕ, zero, suc, ◌+◌, ◌-◌, ◌<◌, ◌≤◌, ◌==◌, Bool, true, false, not, ltb, ◌&&◌, get_or, List, [], ◌∷◌, ◌++◌, length, length-drop, drop, Option, None, Some, arith, refl, sym, ap, ◌∙◌}
-use Rattle.std.proofs.lemmas.Bool.{and_parts, eqb-true, lt-ltb, le-leb, le-ltb}
-use Rattle.std.proofs.lemmas.List.{drop-drop}
+use Rattle.std.proofs.Common.{◌≡◌, ℕ, ◌+◌, ◌-◌, ◌<◌, ◌≤◌, ◌==◌, Bool, true, false, not, ltb, ◌&&◌, get_or, List, [], ◌∷◌, ◌++◌, length, length-drop, take, drop, Option, None, Some, arith, refl, sym, ap, ap₂, ◌∙◌}
+use Rattle.std.proofs.lemmas.Bool.{and_parts, and_right, eqb-true, lt-ltb, ltb-true, le-leb, le-ltb, true≢false}
+use Rattle.std.proofs.lemmas.Bool.Decides.{nat_tests}
+use Rattle.std.proofs.Math.Bool.{and-true, and-false}
+use Rattle.std.proofs.lemmas.List.{drop-drop, drop_all, drop_more, take-append-drop}
 use Rattle.rst_text.specs.Characters.{is_white}
 use Rattle.rst_text.specs.Block.{is_blank}
 use Rattle.rst_text.specs.Places.{first_from, IsFirst}
@@ -73,15 +75,10 @@ ends-pair t c d m escaped e g =
     let last : length t - 1 ≡ m + 1 = omega arith in
     let next : drop (m + 1) t ≡ d ∷ [] = sym (drop-drop 1 m t) ∙ ap (drop 1) e in
     rw (front, last, le-leb 2 (length t) (omega arith), lt-ltb m (length t) (omega arith), lt-ltb (m + 1) (length t) (omega arith), at-front t (c ∷ d ∷ []) c m e refl, at-front t (d ∷ []) d (m + 1) next refl, ← g)
-    (by (c == 58) (d == 58) escaped)
+    (turned (c == 58) (d == 58) escaped)
   where
-    by : (a b x : Bool) → (a && (b && not x)) ≡ (not x && (a && b))
-    by true true true = refl
-    by true true false = refl
-    by true false true = refl
-    by true false false = refl
-    by false b true = refl
-    by false b false = refl
+    turned : (a b x : Bool) → (a && (b && not x)) ≡ (not x && (a && b))
+    turned a b x = grind (arith, nat_tests)
 
 -- the place at which a rest of a text stands
 abbrev pub place_of_rest : List ℕ → List ℕ → ℕ
@@ -104,40 +101,17 @@ colons-none t [] c escaped e f g h none less = cc
 colons-none t (d ∷ []) c escaped e f g h none less = none (omega arith)
 colons-none t (d ∷ x ∷ []) c escaped e f g h none less =
     let same : d ≡ c = cc in
-    ends-pair t d x (place_of_rest t (d ∷ x ∷ [])) escaped e g ∙ by escaped (d == 58) (x == 58) (ap (λ y. not escaped && (y == 58 && (x == 58 && true))) same ∙ h)
-  where
-    by : (a b x : Bool) → (not a && (b && (x && true))) ≡ false → (not a && (b && x)) ≡ false
-    by true b x h = refl
-    by false true true h = cc
-    by false true false h = refl
-    by false false x h = refl
+    ends-pair t d x (place_of_rest t (d ∷ x ∷ [])) escaped e g ∙ sym (ap (λ y. not escaped && (d == 58 && y)) (and-true (x == 58))) ∙ ap (λ y. not escaped && (y == 58 && (x == 58 && true))) same ∙ h
 colons-none t (d ∷ x ∷ y ∷ ys) c escaped e f g h none less = absurd (omega arith)
 
 pub colons-there : (t cs : List ℕ) (c : ℕ) (escaped : Bool) → drop (place_of_rest t cs) t ≡ cs → first cs ≡ Some c → escaped ≡ is_escaped t 0 (place_of_rest t cs)
     → (not escaped && (c == 58 && (begins_with 58 (drop 1 cs) && is_blank (drop 1 (drop 1 cs))))) ≡ true → true ≡ ends_in_colons t
 colons-there t [] c escaped e f g h = cc
-colons-there t (d ∷ []) c escaped e f g h = absurd (by escaped (c == 58) h)
-  where
-    by : (a b : Bool) → (not a && (b && false)) ≡ true → ⊥
-    by true b h = cc
-    by false true h = cc
-    by false false h = cc
+colons-there t (d ∷ []) c escaped e f g h = absurd (true≢false (sym h ∙ and_right (not escaped) _ (and-false (c == 58))))
 colons-there t (d ∷ x ∷ []) c escaped e f g h =
     let same : d ≡ c = cc in
-    sym (ends-pair t d x (place_of_rest t (d ∷ x ∷ [])) escaped e g ∙ by escaped (d == 58) (x == 58) (ap (λ y. not escaped && (y == 58 && (x == 58 && true))) same ∙ h))
-  where
-    by : (a b x : Bool) → (not a && (b && (x && true))) ≡ true → (not a && (b && x)) ≡ true
-    by true b x h = h
-    by false true true h = refl
-    by false true false h = h
-    by false false x h = h
-colons-there t (d ∷ x ∷ y ∷ ys) c escaped e f g h = absurd (by escaped (c == 58) (x == 58) h)
-  where
-    by : (a b x : Bool) → (not a && (b && (x && false))) ≡ true → ⊥
-    by true b x h = cc
-    by false true true h = cc
-    by false true false h = cc
-    by false false x h = cc
+    sym (ends-pair t d x (place_of_rest t (d ∷ x ∷ [])) escaped e g ∙ sym (ap (λ y. not escaped && (d == 58 && y)) (and-true (x == 58))) ∙ ap (λ y. not escaped && (y == 58 && (x == 58 && true))) same ∙ h)
+colons-there t (d ∷ x ∷ y ∷ ys) c escaped e f g h = absurd (true≢false (sym h ∙ and_right (not escaped) _ (and_right (c == 58) _ (and-false (x == 58)))))
 
 pub colons-end : (t cs : List ℕ) → first cs ≡ None → AreNone t cs → false ≡ ends_in_colons t
 colons-end t [] f none = sym (none (omega arith))
@@ -145,22 +119,12 @@ colons-end t (c ∷ cs) f none = cc
 
 -- such a text has a colon at its end
 last-is : (t : List ℕ) → 0 < length t → get_or t (length t - 1) 0 ≡ 58 → (xs : List ℕ) × (t ≡ xs ++ 58 ∷ [])
-last-is [] some h = absurd (omega arith)
-last-is (c ∷ []) some h =
-    let front : length (c ∷ []) - 1 ≡ 0 = omega arith in
-    let same : c ≡ 58 = ap (λ i. get_or (c ∷ []) i 0) (sym front) ∙ h in
-    ([], rw same refl)
-last-is (c ∷ d ∷ ds) some h =
-    let more : length (c ∷ d ∷ ds) - 1 ≡ suc (length (d ∷ ds) - 1) = omega arith in
-    let rest = last-is (d ∷ ds) (omega arith) (ap (λ i. get_or (c ∷ d ∷ ds) i 0) (sym more) ∙ h) in
-    (c ∷ rest.0, ap (λ ys. c ∷ ys) rest.1)
+last-is t some h =
+    let n : ℕ = length t - 1 in
+    (take n t, sym (take-append-drop n t) ∙ ap (λ l. take n t ++ l) (drop_more t n 0 (omega arith) ∙ ap₂ (λ x l. x ∷ l) h (drop_all (n + 1) t (omega arith))))
 
 pub last-colon : (t : List ℕ) → ends_in_colons t ≡ true → (xs : List ℕ) × (t ≡ xs ++ 58 ∷ [])
 last-colon t h =
     let second = (and_parts _ _ (and_parts _ _ (and_parts _ _ h).1).1).0 in
     let parts = and_parts (ltb (length t - 1) (length t)) (get_or t (length t - 1) 0 == 58) second in
-    last-is t (by (length t) parts.0) (eqb-true (get_or t (length t - 1) 0) 58 parts.1)
-  where
-    by : (n : ℕ) → ltb (n - 1) n ≡ true → 0 < n
-    by zero h = cc
-    by (suc n) h = omega arith
+    last-is t (let less = ltb-true (length t - 1) (length t) parts.0 in omega arith) (eqb-true (get_or t (length t - 1) 0) 58 parts.1)

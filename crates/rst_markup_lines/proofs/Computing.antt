@@ -22,5 +22,5 @@ unfolding
     Rattle.rst_markup_lines.specs.OptionMarker.long_argument Rattle.rst_markup_lines.specs.OptionMarker.long_option
     Rattle.rst_markup_lines.specs.OptionMarker.short_option Rattle.rst_markup_lines.specs.OptionMarker.option_at
     Rattle.rst_markup_lines.specs.OptionMarker.tail_at Rattle.rst_markup_lines.specs.OptionMarker.option_tail
-    Rattle.rst_markup_lines.specs.OptionMarker.options_from Rattle.rst_markup_lines.specs.Roman.roman Rattle.rst_markup_lines.specs.Roman.digit_at
+    Rattle.rst_markup_lines.specs.OptionMarker.options_from Rattle.rst_markup_lines.specs.Roman.roman Rattle.rst_markup_lines.specs.Roman.digit_to
 rst_markup_lines = tt

@@ -3,7 +3,7 @@ use Rattle.std.proofs.Common.{◌≡◌, ℕ, zero, suc, ◌-◌, sub-one, arith
 use Rattle.std.specs.Prelude.{nat_lt, not}
 use Rattle.std.specs.Char.{is_ascii_digit, is_ascii_alphabetic}
 use Rattle.std.specs.List.{list_all}
-use Rattle.std.proofs.lemmas.Bool.{ne_eqb, lt-ltb}
+use Rattle.std.proofs.lemmas.Bool.{ne_eqb, lt-ltb, or_parts, not-true}
 use Rattle.std.proofs.lemmas.Bool.Decides.{nat_tests}
 use Rattle.std.proofs.Math.Dec.{eqb-suc-suc}
 use Rattle.std.specs.Option.{option_and_then}
@@ -72,9 +72,7 @@ letter_not : (c d : ℕ) → is_ascii_alphabetic c ≡ true → is_ascii_alphabe
 letter_not c d h k = ne_eqb c d (λ same. true≢false (sym h ∙ ap is_ascii_alphabetic same ∙ k))
 
 neither : (a b : Bool) → not (a || b) ≡ true → (a ≡ false) × (b ≡ false)
-neither true b h = cc
-neither false true h = cc
-neither false false h = (refl, refl)
+neither a b h = or_parts a b (not-true (a || b) h)
 
 -- a letter alone, with no end of an enumerator behind it
 lone_none : (c : ℕ) (cs : List ℕ) → is_ascii_alphabetic c ≡ true → run Letter cs ≡ 0 → begins_with 41 cs ≡ false → begins_with 46 cs ≡ false

@@ -2,7 +2,8 @@
 use Rattle.std.proofs.Common.{◌≡◌, ⊎_elim, ℕ, zero, suc, ◌+◌, ◌-◌, ◌<◌, ◌≤◌, Bool, true, false, not, ◌&&◌, ◌||◌, ◌==◌, cond, ltb, get_or, unwrap_or, true≢false, List, [], ◌∷◌, length, take, drop, Option, Some, None, if◌then◌else◌, refl, sym, ap, ◌∙◌, arith}
 use Rattle.std.specs.List.{list_all}
 use Rattle.std.proofs.Math.Dec.{eqb-suc-suc}
-use Rattle.std.proofs.lemmas.Bool.{eqb-true, eq-eqb, ne_eqb, lt-ltb, le-ltb, cases_lt}
+use Rattle.std.proofs.lemmas.Bool.{eqb-true, eq-eqb, ne_eqb, lt-ltb, le-ltb, cases_lt, not-true, not-false, true_from_ne_false}
+use Rattle.std.proofs.Math.Bool.{and-false}
 use Rattle.std.proofs.lemmas.List.{get_or-take, length-take-le}
 use Rattle.rst_markup_lines.proofs.Runs.{run_cons}
 use Rattle.rst_text.specs.Block.{is_blank}
@@ -72,12 +73,7 @@ no_name n t h = rw (no_alnum n t h, bracket_at n t h) refl
 
 begun : (t : List ℕ) → is_name_at t 0 ≡ true → is_alnum_at t 0 ≡ true
 unfolding is_name_at
-begun t h = by (is_alnum_at t 0) (is_joint (get_or t 0 0)) h
-  where
-    by : (a j : Bool) → (a || (j && (ltb 0 0 && (is_alnum_at t (0 - 1) && is_alnum_at t (0 + 1))))) ≡ true → a ≡ true
-    by true j h = refl
-    by false true h = cc
-    by false false h = cc
+begun t h = true_from_ne_false (is_alnum_at t 0) (λ none. true≢false (sym (rw none at h) ∙ and-false (is_joint (get_or t 0 0))))
 
 -- ---- the simple name at the front has n characters just where the first n are one
 
@@ -101,14 +97,6 @@ part_name n k t less within none = by (is_alnum_at t 0) (first_from (λ j. not (
     by true (Some e) f = ne_eqb e (suc n) (λ same. no (f.3 k (omega arith) (omega (arith, same))))
     by true None f = absurd (no (f k (omega arith) (omega arith)))
 
-was_true : (b : Bool) → not b ≡ false → b ≡ true
-was_true true h = refl
-was_true false h = cc
-
-was_false : (b : Bool) → not b ≡ true → b ≡ false
-was_false true h = cc
-was_false false h = refl
-
 name_take : (n : ℕ) (t : List ℕ) → Closed (suc n) t → is_simple_name (take (suc n) t) ≡ (simple_name t == suc n)
 name_take n t h = by (first_from (λ k. not (is_name_at t k)) 0 (suc n)) (first_from-IsFirst (λ k. not (is_name_at t k)) 0 (suc n))
   where
@@ -117,11 +105,11 @@ name_take n t h = by (first_from (λ k. not (is_name_at t k)) 0 (suc n)) (first_
 
     by : (r : Option ℕ) → IsFirst (λ k. not (is_name_at t k)) 0 (0 + suc n) r → is_simple_name (take (suc n) t) ≡ (simple_name t == suc n)
     by (Some k) f =
-        let none : is_name_at t k ≡ false = was_false (is_name_at t k) f.2 in
+        let none : is_name_at t k ≡ false = not-true (is_name_at t k) f.2 in
         let less : k < suc n = omega (arith, f.1) in
         not_simple (take (suc n) t) k (omega (arith, len)) (name_in (suc n) k t h less ∙ none) ∙ sym (part_name n k t less (room (suc n) t h) none)
     by None f =
-        let names : (k : ℕ) → k < suc n → is_name_at t k ≡ true = λ k less. was_true (is_name_at t k) (f k (omega arith) (omega (arith, less))) in
+        let names : (k : ℕ) → k < suc n → is_name_at t k ≡ true = λ k less. not-false (is_name_at t k) (f k (omega arith) (omega (arith, less))) in
         let some : ltb 0 (length (take (suc n) t)) ≡ true = rw len (lt-ltb 0 (suc n) (omega arith)) in
         let all : (simple_name t == suc n) ≡ true = eq-eqb (simple_name t) (suc n) (whole_name n t h names) in
         sym (simple-where (take (suc n) t) (suc n) (omega (arith, len)) (λ k less. name_in (suc n) k t h less ∙ names k less)) ∙ some ∙ sym all

@@ -1,8 +1,11 @@
 -- Marks of explicit markup stand within their lines.
-use Rattle.std.proofs.Common.{◌≡◌, ℕ, ◌+◌, ◌≤◌, ◌==◌, Bool, true, false, not, cond, ◌&&◌, ◌||◌, List, length, take, drop, length-drop, Option, None, Some, arith, refl, ap}
+use Rattle.std.proofs.Common.{◌≡◌, inl, inr, ℕ, ◌+◌, ◌≤◌, ◌==◌, Bool, true, false, not, cond, ◌&&◌, ◌||◌, List, length, take, drop, length-drop, Option, None, Some, arith, refl, ap}
+use Rattle.std.proofs.lemmas.Bool.{and_parts, cases_Bool, not-false, or_parts}
 use Rattle.std.specs.Option.{option_and_then}
 use Rattle.rst_text.specs.Block.{is_blank}
 use Rattle.rst_inline_scan.specs.Names.{simple_name}
+use Rattle.rst_inline_scan.proofs.FitLemmas.{chosen}
+use Rattle.rst_markup_lines.specs.declared.explicit_marks.SubstitutionMark.{SubstitutionMark}
 use Rattle.rst_markup_lines.specs.Front.{begins_with}
 use Rattle.rst_markup_lines.specs.Class.{run}
 use Rattle.rst_markup_lines.specs.Closing.{closed}
@@ -25,15 +28,17 @@ pub some_of : {A C : Type 0} (o : Option A) (f : A → Option C) (y : C) → opt
 some_of None f y h = cc
 some_of (Some x) f y h = (x, refl, h)
 
--- ---- dots and underscores
-two_within : (c : ℕ) (t : List ℕ) (m : Marker) (a b : Bool) → begins_with c (drop 1 t) ≡ b → cond (a && b) (marker_of 2 t) None ≡ Some m → m.cut ≤ length t
-two_within c t m true true e h = marker_within 2 t m (omega (arith, there c 1 t e)) h
-two_within c t m true false e h = cc
-two_within c t m false b e h = cc
+-- what stands behind a test that fails
+unless : {X : Type 0} (b : Bool) (r : Option X) (x : X) → cond b None r ≡ Some x → (b ≡ false) × (r ≡ Some x)
+unless true r x h = cc
+unless false r x h = (refl, h)
 
+-- ---- dots
 pub dots_within : (t : List ℕ) (m : Marker) → dots t ≡ Some m → m.cut ≤ length t
 unfolding dots
-dots_within t m h = two_within 46 t m (begins_with 46 t) (begins_with 46 (drop 1 t)) refl h
+dots_within t m h =
+    let d = chosen (begins_with 46 t && begins_with 46 (drop 1 t)) (marker_of 2 t) m h in
+    marker_within 2 t m (omega (arith, there 46 1 t (and_parts (begins_with 46 t) (begins_with 46 (drop 1 t)) d.0).1)) d.1
 
 -- ---- labels
 abbrev label_with : ℕ → LabelKind → Marker → Option LabelMark
@@ -47,25 +52,19 @@ abbrev label_cut : Option LabelMark → ℕ
 label_cut None = 0
 label_cut (Some l) = l.marker.cut
 
-labelled_within : (n : ℕ) (t : List ℕ) (k : Option LabelKind) (l : LabelMark) (b : Bool) → begins_with 93 (drop n (drop 1 t)) ≡ b
-    → cond b (option_and_then (labelled n t) k) None ≡ Some l → (1 + l.len ≤ length t) × (l.marker.cut ≤ length t)
-labelled_within n t k l true e h =
-    let kind = some_of k (labelled n t) l h in
+pub label_within : (t : List ℕ) (l : LabelMark) → label_of t ≡ Some l → (1 + l.len ≤ length t) × (l.marker.cut ≤ length t)
+unfolding label_of
+label_within t l h =
+    let n : ℕ = run Unbracketed (drop 1 t) in
+    let named : Option LabelMark = option_and_then (labelled n t) (label_kind (take n (drop 1 t))) in
+    let closes = chosen (begins_with 93 (drop n (drop 1 t))) named l (chosen (begins_with 91 t) (label_by n t) l h).1 in
+    let kind = some_of (label_kind (take n (drop 1 t))) (labelled n t) l closes.1 in
     let mark = some_of (marker_of (n + 2) t) (label_with n kind.0) l kind.2 in
-    let room : n + 2 ≤ length t = omega (arith, there 93 n (drop 1 t) e, length-drop 1 t) in
+    let room : n + 2 ≤ length t = omega (arith, there 93 n (drop 1 t) closes.0, length-drop 1 t) in
     let whole : label_with n kind.0 mark.0 ≡ Some l = mark.2 in
     let len : n ≡ l.len = ap (λ o. label_len o) whole in
     let cut : mark.0.cut ≡ l.marker.cut = ap (λ o. label_cut o) whole in
     (omega arith, omega (arith, marker_within (n + 2) t mark.0 room mark.1))
-labelled_within n t k l false e h = cc
-
-pub label_within : (t : List ℕ) (l : LabelMark) → label_of t ≡ Some l → (1 + l.len ≤ length t) × (l.marker.cut ≤ length t)
-unfolding label_of
-label_within t l h = by (begins_with 91 t) h
-  where
-    by : (b : Bool) → cond b (label_by (run Unbracketed (drop 1 t)) t) None ≡ Some l → (1 + l.len ≤ length t) × (l.marker.cut ≤ length t)
-    by true h = labelled_within (run Unbracketed (drop 1 t)) t (label_kind (take (run Unbracketed (drop 1 t)) (drop 1 t))) l (begins_with 93 (drop (run Unbracketed (drop 1 t)) (drop 1 t))) refl h
-    by false h = cc
 
 -- ---- targets
 abbrev pub TargetWithin : List ℕ → TargetMark → Type 0
@@ -74,9 +73,8 @@ TargetWithin t (Anonymous m) = m.cut ≤ length t
 
 named_within : (from len n : ℕ) (t : List ℕ) (mark : TargetMark) (b : Bool) → from + len ≤ length t → n ≤ length t
     → cond b None (option_and_then (λ m. Some (Named from len m)) (marker_of n t)) ≡ Some mark → TargetWithin t mark
-named_within from len n t mark true h k e = cc
-named_within from len n t mark false h k e =
-    let m = some_of (marker_of n t) (λ m. Some (Named from len m)) mark e in
+named_within from len n t mark b h k e =
+    let m = some_of (marker_of n t) (λ m. Some (Named from len m)) mark (unless b (option_and_then (λ m. Some (Named from len m)) (marker_of n t)) mark e).1 in
     let whole : Some (Named from len m.0) ≡ Some mark = m.2 in
     let same : Named from len m.0 ≡ mark = cc in
     rw (← same) (h, marker_within n t m.0 k m.1)
@@ -95,27 +93,27 @@ plain_target_within t mark h =
     let room : c.0 + 2 ≤ length t = omega (arith, closed_within Colon (drop 1 t) c.0 c.1, length-drop 1 t) in
     named_within 1 c.0 (c.0 + 2) t mark (c.0 == 0 || begins_white (drop 1 t)) (omega arith) room c.2
 
-anonymous_by : (t : List ℕ) (mark : TargetMark) (b : Bool) → begins_with 58 (drop 2 t) ≡ b → cond b (option_and_then (λ m. Some (Anonymous m)) (marker_of 3 t)) None ≡ Some mark → TargetWithin t mark
-anonymous_by t mark true e h =
-    let m = some_of (marker_of 3 t) (λ m. Some (Anonymous m)) mark h in
-    let whole : Some (Anonymous m.0) ≡ Some mark = m.2 in
-    let same : Anonymous m.0 ≡ mark = cc in
-    rw (← same) (marker_within 3 t m.0 (omega (arith, there 58 2 t e)) m.1)
-anonymous_by t mark false e h = cc
-
 pub anonymous_target_within : (t : List ℕ) (mark : TargetMark) → anonymous_target t ≡ Some mark → TargetWithin t mark
 unfolding anonymous_target
-anonymous_target_within t mark h = anonymous_by t mark (begins_with 58 (drop 2 t)) refl h
+anonymous_target_within t mark h =
+    let d = chosen (begins_with 58 (drop 2 t)) (option_and_then (λ m. Some (Anonymous m)) (marker_of 3 t)) mark h in
+    let m = some_of (marker_of 3 t) (λ m. Some (Anonymous m)) mark d.1 in
+    let whole : Some (Anonymous m.0) ≡ Some mark = m.2 in
+    let same : Anonymous m.0 ≡ mark = cc in
+    rw (← same) (marker_within 3 t m.0 (omega (arith, there 58 2 t d.0)) m.1)
 
 pub target_within : (t : List ℕ) (mark : TargetMark) → target_of t ≡ Some mark → TargetWithin t mark
 unfolding target_of
-target_within t mark h = by (begins_with 95 t) (begins_with 95 (drop 1 t)) (begins_with 96 (drop 1 t)) h
-  where
-    by : (a b d : Bool) → cond a (cond b (anonymous_target t) (cond d (quoted_target t) (plain_target t))) None ≡ Some mark → TargetWithin t mark
-    by true true d h = anonymous_target_within t mark h
-    by true false true h = quoted_target_within t mark h
-    by true false false h = plain_target_within t mark h
-    by false b d h = cc
+target_within t mark h =
+    let named : Option TargetMark = cond (begins_with 96 (drop 1 t)) (quoted_target t) (plain_target t) in
+    let begins = (chosen (begins_with 95 t) (cond (begins_with 95 (drop 1 t)) (anonymous_target t) named) mark h).1 in
+    elim (cases_Bool (begins_with 95 (drop 1 t))) [
+      | inl two ↦ anonymous_target_within t mark (rw two at begins)
+      | inr one ↦ elim (cases_Bool (begins_with 96 (drop 1 t))) [
+        | inl quote ↦ quoted_target_within t mark (rw (one, quote) at begins)
+        | inr other ↦ plain_target_within t mark (rw (one, other) at begins)
+      ]
+    ]
 
 -- ---- substitution definitions
 spaced_within : (t : List ℕ) (n : ℕ) (m : Marker) (o : Option ℕ) → closed SpacedBar (drop 1 t) ≡ o → spaced_bar t o ≡ Some (NamedSubstitution n m) → (1 + n ≤ length t) × (m.cut ≤ length t)
@@ -134,12 +132,11 @@ spaced_within t n m (Some k) e h =
 
 pub substitution_within : (t : List ℕ) (n : ℕ) (m : Marker) → substitution_of t ≡ Some (NamedSubstitution n m) → (1 + n ≤ length t) × (m.cut ≤ length t)
 unfolding substitution_of
-substitution_within t n m h = by (begins_with 124 t) (is_blank (drop 1 t) || begins_white (drop 1 t)) h
-  where
-    by : (a b : Bool) → cond a (cond b None (spaced_bar t (closed SpacedBar (drop 1 t)))) None ≡ Some (NamedSubstitution n m) → (1 + n ≤ length t) × (m.cut ≤ length t)
-    by true true h = cc
-    by true false h = spaced_within t n m (closed SpacedBar (drop 1 t)) refl h
-    by false b h = cc
+substitution_within t n m h =
+    let behind : Option SubstitutionMark = spaced_bar t (closed SpacedBar (drop 1 t)) in
+    let none : Bool = is_blank (drop 1 t) || begins_white (drop 1 t) in
+    let d = chosen (begins_with 124 t) (cond none None behind) (NamedSubstitution n m) h in
+    spaced_within t n m (closed SpacedBar (drop 1 t)) refl (unless none behind (NamedSubstitution n m) d.1).1
 
 -- ---- directives
 abbrev directive_with : ℕ → Marker → Option DirectiveMark
@@ -153,27 +150,26 @@ abbrev directive_cut : Option DirectiveMark → ℕ
 directive_cut None = 0
 directive_cut (Some d) = d.marker.cut
 
-colons_by : (len n : ℕ) (t : List ℕ) (d : DirectiveMark) (a b : Bool) → begins_with 58 (drop (n + 1) t) ≡ b → len ≤ n
-    → cond (not a || not b) None (option_and_then (directive_with len) (marker_of (n + 2) t)) ≡ Some d → (d.len ≤ length t) × (d.marker.cut ≤ length t)
-colons_by len n t d false b e s h = cc
-colons_by len n t d true false e s h = cc
-colons_by len n t d true true e s h =
-    let room : n + 2 ≤ length t = omega (arith, there 58 (n + 1) t e) in
-    let c = some_of (marker_of (n + 2) t) (directive_with len) d h in
+colons_within : (len n : ℕ) (t : List ℕ) (d : DirectiveMark) → len ≤ n → colons len n t ≡ Some d → (d.len ≤ length t) × (d.marker.cut ≤ length t)
+unfolding colons
+colons_within len n t d s h =
+    let first : Bool = not (begins_with 58 (drop n t)) in
+    let second : Bool = not (begins_with 58 (drop (n + 1) t)) in
+    let o = unless (first || second) (option_and_then (directive_with len) (marker_of (n + 2) t)) d h in
+    let room : n + 2 ≤ length t = omega (arith, there 58 (n + 1) t (not-false _ (or_parts first second o.0).1)) in
+    let c = some_of (marker_of (n + 2) t) (directive_with len) d o.1 in
     let whole : directive_with len c.0 ≡ Some d = c.2 in
     let same : len ≡ d.len = ap (λ o. directive_len o) whole in
     let cut : c.0.cut ≡ d.marker.cut = ap (λ o. directive_cut o) whole in
     (omega arith, omega (arith, marker_within (n + 2) t c.0 room c.1))
 
-colons_within : (len n : ℕ) (t : List ℕ) (d : DirectiveMark) → len ≤ n → colons len n t ≡ Some d → (d.len ≤ length t) × (d.marker.cut ≤ length t)
-unfolding colons
-colons_within len n t d s h = colons_by len n t d (begins_with 58 (drop n t)) (begins_with 58 (drop (n + 1) t)) refl s h
-
 pub directive_within : (spaced : Bool) (t : List ℕ) (d : DirectiveMark) → directive_of spaced t ≡ Some d → (d.len ≤ length t) × (d.marker.cut ≤ length t)
 unfolding directive_of
-directive_within spaced t d h = by (simple_name t == 0) (spaced && begins_with 32 (drop (simple_name t) t)) h
-  where
-    by : (a b : Bool) → cond a None (cond b (colons (simple_name t) (simple_name t + 1) t) (colons (simple_name t) (simple_name t) t)) ≡ Some d → (d.len ≤ length t) × (d.marker.cut ≤ length t)
-    by true b h = cc
-    by false true h = colons_within (simple_name t) (simple_name t + 1) t d (omega arith) h
-    by false false h = colons_within (simple_name t) (simple_name t) t d (omega arith) h
+directive_within spaced t d h =
+    let n : ℕ = simple_name t in
+    let space : Bool = spaced && begins_with 32 (drop n t) in
+    let behind = (unless (n == 0) (cond space (colons n (n + 1) t) (colons n n t)) d h).1 in
+    elim (cases_Bool space) [
+      | inl one ↦ colons_within n (n + 1) t d (omega arith) (rw one at behind)
+      | inr none ↦ colons_within n n t d (omega arith) (rw none at behind)
+    ]

@@ -1,5 +1,7 @@
 -- Option markers stand within their lines.
-use Rattle.std.proofs.Common.{◌≡◌, ℕ, ◌+◌, ◌-◌, ◌<◌, ◌≤◌, ◌==◌, Bool, true, false, not, cond, ◌&&◌, ◌||◌, List, [], ◌∷◌, length, drop, length-drop, Option, None, Some, IfSome, arith, refl, ap, ◌∙◌, subst}
+use Rattle.std.proofs.Common.{◌≡◌, ℕ, ◌+◌, ◌-◌, ◌<◌, ◌≤◌, ◌==◌, Bool, true, false, not, cond, ◌&&◌, ◌||◌, List, [], ◌∷◌, length, drop, length-drop, Option, None, Some, IfSome, arith, refl, sym, ap, ◌∙◌, ⊎_elim, subst}
+use Rattle.std.proofs.lemmas.Bool.{cases_lt, cond_both, not-false, or_parts, true≢false}
+use Rattle.std.proofs.lemmas.List.{drop_all}
 use Rattle.std.proofs.lemmas.List.Sums.{prefix_len-le-length}
 use Rattle.rst_markup_lines.specs.Front.{begins_with}
 use Rattle.rst_markup_lines.specs.Class.{run, is_in}
@@ -21,63 +23,42 @@ unfolding run
 run_le class cs = prefix_len-le-length (is_in class) cs
 
 pub there : (c n : ℕ) (t : List ℕ) → begins_with c (drop n t) ≡ true → n < length t
-there c n t h = go (drop n t) h (length-drop n t)
-  where
-    go : (X : List ℕ) → begins_with c X ≡ true → length X ≡ length t - n → n < length t
-    go [] h e = cc
-    go (x ∷ xs) h e = omega arith
+there c n t h = ⊎_elim (λ less. less) (λ past. absurd (true≢false (sym h ∙ ap (begins_with c) (drop_all n t past)))) (cases_lt n (length t))
 
 bracketed_le : (n : ℕ) (t : List ℕ) → bracketed_len n t ≤ length t
-bracketed_le n t = by (n == 0) (begins_with 62 (drop (n + 1) t)) refl
-  where
-    by : (a b : Bool) → begins_with 62 (drop (n + 1) t) ≡ b → cond (a || not b) 0 (n + 2) ≤ length t
-    by true b e = omega arith
-    by false true e = omega (arith, there 62 (n + 1) t e)
-    by false false e = omega arith
+bracketed_le n t = cond_both (n == 0 || not (begins_with 62 (drop (n + 1) t))) 0 (n + 2) (λ m. m ≤ length t)
+    (λ e. omega arith) (λ e. omega (arith, there 62 (n + 1) t (not-false _ (or_parts (n == 0) (not (begins_with 62 (drop (n + 1) t))) e).1)))
 
 argument_le : (t : List ℕ) → argument_len t ≤ length t
 unfolding argument_len
-argument_le t = by (begins_letter t) (begins_with 60 t)
-  where
-    by : (a b : Bool) → cond a (run OptionClass t) (cond b (bracketed_len (run Bracketed (drop 1 t)) t) 0) ≤ length t
-    by true b = run_le OptionClass t
-    by false true = bracketed_le (run Bracketed (drop 1 t)) t
-    by false false = omega arith
+argument_le t = cond_both (begins_letter t) (run OptionClass t) (cond (begins_with 60 t) (bracketed_len (run Bracketed (drop 1 t)) t) 0) (λ m. m ≤ length t)
+    (λ e. run_le OptionClass t)
+    (λ e. cond_both (begins_with 60 t) (bracketed_len (run Bracketed (drop 1 t)) t) 0 (λ m. m ≤ length t) (λ f. bracketed_le (run Bracketed (drop 1 t)) t) (λ f. omega arith))
 
 -- an argument that is there stands within n characters
 abbrev Fits : ℕ → Option Argument → Type 0
 Fits n a = argument_width a ≤ n
 
 behind_fits : (d : Delimiter) (n m : ℕ) → m ≤ n → width_with d m ≤ n → Fits n (with_delimiter d m)
-behind_fits d n m h w = by (m == 0)
-  where
-    by : (b : Bool) → argument_width (cond b None (Some (record { delimiter = d; len = m }))) ≤ n
-    by true = omega arith
-    by false = w
+behind_fits d n m h w = cond_both (m == 0) None (Some (record { delimiter = d; len = m })) (Fits n) (λ e. omega arith) (λ e. w)
+
+-- behind a delimiter of one character
+delimited : (c : ℕ) (d : Delimiter) (t : List ℕ) → width_with d (argument_len (drop 1 t)) ≤ argument_len (drop 1 t) + 1 → begins_with c t ≡ true → Fits (length t) (with_delimiter d (argument_len (drop 1 t)))
+delimited c d t w e =
+    let h : argument_len (drop 1 t) + 1 ≤ length t = omega (arith, argument_le (drop 1 t), length-drop 1 t, there c 0 t e) in
+    behind_fits d (length t) (argument_len (drop 1 t)) (omega arith) (omega arith)
 
 short_fits : (t : List ℕ) → Fits (length t) (short_argument t)
 unfolding short_argument argument_behind
-short_fits t = by (begins_with 32 t) refl
-  where
-    by : (b : Bool) → begins_with 32 t ≡ b → Fits (length t) (cond b (with_delimiter Space (argument_len (drop 1 t))) (with_delimiter Nothing (argument_len t)))
-    by true e =
-        let h : argument_len (drop 1 t) + 1 ≤ length t = omega (arith, argument_le (drop 1 t), length-drop 1 t, there 32 0 t e) in
-        behind_fits Space (length t) (argument_len (drop 1 t)) (omega arith) h
-    by false e = behind_fits Nothing (length t) (argument_len t) (argument_le t) (argument_le t)
+short_fits t = cond_both (begins_with 32 t) (with_delimiter Space (argument_len (drop 1 t))) (with_delimiter Nothing (argument_len t)) (Fits (length t))
+    (λ e. delimited 32 Space t (omega arith) e) (λ e. behind_fits Nothing (length t) (argument_len t) (argument_le t) (argument_le t))
 
 long_fits : (t : List ℕ) → Fits (length t) (long_argument t)
 unfolding long_argument argument_behind
-long_fits t = by (begins_with 32 t) (begins_with 61 t) refl refl
-  where
-    by : (a b : Bool) → begins_with 32 t ≡ a → begins_with 61 t ≡ b
-        → Fits (length t) (cond a (with_delimiter Space (argument_len (drop 1 t))) (cond b (with_delimiter Equals (argument_len (drop 1 t))) None))
-    by true b e f =
-        let h : argument_len (drop 1 t) + 1 ≤ length t = omega (arith, argument_le (drop 1 t), length-drop 1 t, there 32 0 t e) in
-        behind_fits Space (length t) (argument_len (drop 1 t)) (omega arith) h
-    by false true e f =
-        let h : argument_len (drop 1 t) + 1 ≤ length t = omega (arith, argument_le (drop 1 t), length-drop 1 t, there 61 0 t f) in
-        behind_fits Equals (length t) (argument_len (drop 1 t)) (omega arith) h
-    by false false e f = omega arith
+long_fits t =
+    let equals : Option Argument = with_delimiter Equals (argument_len (drop 1 t)) in
+    cond_both (begins_with 32 t) (with_delimiter Space (argument_len (drop 1 t))) (cond (begins_with 61 t) equals None) (Fits (length t))
+    (λ e. delimited 32 Space t (omega arith) e) (λ e. cond_both (begins_with 61 t) equals None (Fits (length t)) (λ f. delimited 61 Equals t (omega arith) f) (λ f. omega arith))
 
 -- an option that is there stands within its text
 abbrev pub Within : ℕ → Option OptionMark → Type 0
@@ -89,36 +70,29 @@ some_alphanumeric (c ∷ cs) h = omega arith
 
 long_within : (n : ℕ) (t : List ℕ) → Within (length t) (long_option n t)
 unfolding long_option
-long_within n t = by (begins_ascii_alphanumeric (drop n t)) refl
-  where
-    by : (b : Bool) → begins_ascii_alphanumeric (drop n t) ≡ b
-        → let m : ℕ = n + 1 + run OptionClass (drop 1 (drop n t)) in Within (length t) (cond b (option_of m (long_argument (drop m t))) None)
-    by true e =
-        let m : ℕ = n + 1 + run OptionClass (drop 1 (drop n t)) in
-        let r : m ≤ length t = omega (arith, run_le OptionClass (drop 1 (drop n t)), length-drop 1 (drop n t), length-drop n t, some_alphanumeric (drop n t) e) in
-        let w : argument_width (long_argument (drop m t)) ≤ length (drop m t) = long_fits (drop m t) in
-        (omega arith, omega (arith, length-drop m t))
-    by false e = tt
+long_within n t =
+    let m : ℕ = n + 1 + run OptionClass (drop 1 (drop n t)) in
+    cond_both (begins_ascii_alphanumeric (drop n t)) (option_of m (long_argument (drop m t))) None (Within (length t))
+    (λ e.
+    let r : m ≤ length t = omega (arith, run_le OptionClass (drop 1 (drop n t)), length-drop 1 (drop n t), length-drop n t, some_alphanumeric (drop n t) e) in
+    let w : argument_width (long_argument (drop m t)) ≤ length (drop m t) = long_fits (drop m t) in
+    (omega arith, omega (arith, length-drop m t)))
+    (λ e. tt)
 
 short_within : (t : List ℕ) → Within (length t) (short_option t)
 unfolding short_option
-short_within t = by (begins_ascii_alphanumeric (drop 1 t)) refl
-  where
-    by : (b : Bool) → begins_ascii_alphanumeric (drop 1 t) ≡ b → Within (length t) (cond b (option_of 2 (short_argument (drop 2 t))) None)
-    by true e =
-        let w : argument_width (short_argument (drop 2 t)) ≤ length (drop 2 t) = short_fits (drop 2 t) in
-        (omega arith, omega (arith, length-drop 1 t, length-drop 2 t, some_alphanumeric (drop 1 t) e))
-    by false e = tt
+short_within t =
+    let w : argument_width (short_argument (drop 2 t)) ≤ length (drop 2 t) = short_fits (drop 2 t) in
+    cond_both (begins_ascii_alphanumeric (drop 1 t)) (option_of 2 (short_argument (drop 2 t))) None (Within (length t))
+    (λ e. (omega arith, omega (arith, length-drop 1 t, length-drop 2 t, some_alphanumeric (drop 1 t) e))) (λ e. tt)
 
 pub option_within : (t : List ℕ) → Within (length t) (option_at t)
 unfolding option_at
-option_within t = by (begins_with 47 t) (begins_with 45 t && begins_with 45 (drop 1 t)) (begins_with 45 t || begins_with 43 t)
-  where
-    by : (a b d : Bool) → Within (length t) (cond a (long_option 1 t) (cond b (long_option 2 t) (cond d (short_option t) None)))
-    by true b d = long_within 1 t
-    by false true d = long_within 2 t
-    by false false true = short_within t
-    by false false false = tt
+option_within t =
+    let short : Option OptionMark = cond (begins_with 45 t || begins_with 43 t) (short_option t) None in
+    let dashes : Bool = begins_with 45 t && begins_with 45 (drop 1 t) in
+    cond_both (begins_with 47 t) (long_option 1 t) (cond dashes (long_option 2 t) short) (Within (length t)) (λ e. long_within 1 t)
+    (λ e. cond_both dashes (long_option 2 t) short (Within (length t)) (λ f. long_within 2 t) (λ f. cond_both (begins_with 45 t || begins_with 43 t) (short_option t) None (Within (length t)) (λ g. short_within t) (λ g. tt)))
 
 -- the option that was read
 pub width_within : (t : List ℕ) (o : OptionMark) → option_at t ≡ Some o → (1 ≤ o.string) × (o.string + argument_width o.argument ≤ length t)

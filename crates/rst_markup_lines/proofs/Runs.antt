@@ -1,7 +1,7 @@
 -- A run of characters is counted one at a time.
-use Rattle.std.proofs.Common.{◌≡◌, ℕ, suc, ◌+◌, ◌&&◌, Bool, true, false, cond, List, [], ◌∷◌, length, drop, None, Some, arith, refl, ap, ◌∙◌}
+use Rattle.std.proofs.Common.{◌≡◌, ℕ, suc, ◌+◌, ◌&&◌, true, false, cond, List, [], ◌∷◌, length, drop, None, Some, arith, refl, ap, ◌∙◌}
 use Rattle.std.specs.List.{list_all}
-use Rattle.std.proofs.lemmas.Bool.{and_parts}
+use Rattle.std.proofs.lemmas.Bool.{and_parts, cond_both}
 use Rattle.rst_text.specs.Block.{is_blank}
 use Rattle.rst_markup_lines.specs.Front.{first}
 use Rattle.rst_markup_lines.specs.declared.class.Class.{Class}
@@ -34,12 +34,9 @@ run_end class (d ∷ ds) n total e t = cc
 pub whole_run : (class : Class) (t : List ℕ) → is_blank (drop (run class t) t) ≡ list_all (is_in class) t
 unfolding run
 whole_run class [] = refl
-whole_run class (c ∷ cs) = ap (λ n. is_blank (drop n (c ∷ cs))) (run_cons class c cs) ∙ by (is_in class c) (whole_run class cs)
-  where
-    by : (b : Bool) → is_blank (drop (run class cs) cs) ≡ list_all (is_in class) cs
-        → is_blank (drop (cond b (suc (run class cs)) 0) (c ∷ cs)) ≡ (b && list_all (is_in class) cs)
-    by true h = h
-    by false h = refl
+whole_run class (c ∷ cs) =
+    ap (λ n. is_blank (drop n (c ∷ cs))) (run_cons class c cs)
+    ∙ cond_both (is_in class c) (suc (run class cs)) 0 (λ n. is_blank (drop n (c ∷ cs)) ≡ (is_in class c && list_all (is_in class) cs)) (λ e. rw e (whole_run class cs)) (λ e. rw e refl)
 
 -- it has then as many characters
 pub run_whole : (class : Class) (t : List ℕ) → list_all (is_in class) t ≡ true → run class t ≡ length t

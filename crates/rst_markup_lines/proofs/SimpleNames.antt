@@ -1,6 +1,6 @@
 -- A simple name is read from its front.
-use Rattle.std.proofs.Common.{◌≡◌, ⊎_elim, ℕ, zero, suc, ◌+◌, ◌-◌, ◌<◌, ◌≤◌, Bool, true, false, not, ltb, ◌&&◌, ◌||◌, get_or, List, [], ◌∷◌, length, length-drop, drop, None, Some, arith, refl, sym, ap, ◌∙◌, subst}
-use Rattle.std.proofs.lemmas.Bool.{and_parts, lt-ltb, le-ltb}
+use Rattle.std.proofs.Common.{◌≡◌, ⊎_elim, inl, inr, ℕ, zero, suc, ◌+◌, ◌-◌, ◌<◌, ◌≤◌, Bool, true, false, not, ltb, ◌&&◌, ◌||◌, get_or, List, [], ◌∷◌, length, length-drop, drop, None, Some, arith, refl, sym, ap, ◌∙◌, subst}
+use Rattle.std.proofs.lemmas.Bool.{and_parts, or_parts, lt-ltb, le-ltb}
 use Rattle.std.proofs.lemmas.List.{drop-drop}
 use Rattle.std.proofs.lemmas.Bool.Decides.{nat_tests}
 use Rattle.rst_text.specs.Characters.{is_alphanumeric}
@@ -38,17 +38,12 @@ alnum-drop t (d ∷ ds) n e = alnum-here (d ∷ ds) (d ∷ ds) d 0 refl refl ∙
 alnum-behind : (t cs : List ℕ) (n : ℕ) → drop n t ≡ cs → is_alnum_at (drop 1 cs) 0 ≡ is_alnum_at t (n + 1)
 alnum-behind t cs n e = alnum-drop t (drop 1 cs) (n + 1) (sym (drop-drop 1 n t) ∙ ap (drop 1) e)
 
-or_right : (a b : Bool) → a ≡ false → (a || b) ≡ true → b ≡ true
-or_right true b e h = cc
-or_right false b e h = h
-
 -- a place of a simple name that holds no letter or number has one behind it
 joint_behind : (t : List ℕ) (m : ℕ) → is_name_at t m ≡ true → is_alnum_at t m ≡ false → is_alnum_at t (m + 1) ≡ true
 unfolding is_name_at
 joint_behind t m h none =
-    let joint = or_right (is_alnum_at t m) (is_joint (get_or t m 0) && (ltb 0 m && (is_alnum_at t (m - 1) && is_alnum_at t (m + 1)))) none h in
-    (and_parts (is_alnum_at t (m - 1)) (is_alnum_at t (m + 1)) (and_parts (ltb 0 m) (is_alnum_at t (m - 1) && is_alnum_at t (m + 1))
-    (and_parts (is_joint (get_or t m 0)) (ltb 0 m && (is_alnum_at t (m - 1) && is_alnum_at t (m + 1))) joint).1).1).1
+    let joint = and_parts (is_joint (get_or t m 0)) (ltb 0 m && (is_alnum_at t (m - 1) && is_alnum_at t (m + 1))) (rw none at h) in
+    (and_parts (is_alnum_at t (m - 1)) (is_alnum_at t (m + 1)) (and_parts (ltb 0 m) (is_alnum_at t (m - 1) && is_alnum_at t (m + 1)) joint.1).1).1
 
 name-alnum : (t : List ℕ) (n : ℕ) → is_alnum_at t n ≡ true → is_name_at t n ≡ true
 unfolding is_name_at
@@ -63,25 +58,18 @@ name-joint t m j before behind =
 
 no-name : (t : List ℕ) (n : ℕ) → is_alnum_at t n ≡ false → (is_joint (get_or t n 0) && is_alnum_at t (n + 1)) ≡ false → is_name_at t n ≡ false
 unfolding is_name_at
-no-name t n none h = by (is_alnum_at t n) (is_joint (get_or t n 0)) (ltb 0 n) (is_alnum_at t (n - 1)) (is_alnum_at t (n + 1)) none h
-  where
-    by : (a j p q r : Bool) → a ≡ false → (j && r) ≡ false → (a || (j && (p && (q && r)))) ≡ false
-    by true j p q r e h = cc
-    by false false p q r e h = refl
-    by false true false q r e h = refl
-    by false true true false r e h = refl
-    by false true true true r e h = h
+no-name t n none h = rw none (grind (arith, nat_tests))
 
 -- The character reached goes on with the name,
 here : (t cs : List ℕ) (c n : ℕ) → drop n t ≡ cs → first cs ≡ Some c → is_alnum_at t 0 ≡ true → ((k : ℕ) → k < n → is_name_at t k ≡ true) → goes_on c (drop 1 cs) ≡ true → is_name_at t n ≡ true
-here t cs c n e f begun names h = ⊎_elim
-    (λ yes. name-alnum t n (alnum-here t cs c n e f ∙ yes))
-    (λ none.
-    let parts = and_parts (is_joint c) (is_alnum_at (drop 1 cs) 0) (or_right (is_alphanumeric c) (is_joint c && is_alnum_at (drop 1 cs) 0) none h) in
-    let behind : is_alnum_at t (n + 1) ≡ true = sym (alnum-behind t cs n e) ∙ parts.1 in
-    let joint : is_joint (get_or t n 0) ≡ true = ap is_joint (at-front t cs c n e f) ∙ parts.0 in
-    by n (alnum-here t cs c n e f ∙ none) joint behind names)
-    (cases_bool (is_alphanumeric c))
+here t cs c n e f begun names h = elim (cases_bool (is_alphanumeric c)) [
+  | inl letter ↦ name-alnum t n (alnum-here t cs c n e f ∙ letter)
+  | inr none ↦
+      (let parts = and_parts (is_joint c) (is_alnum_at (drop 1 cs) 0) (rw none at h) in
+      let behind : is_alnum_at t (n + 1) ≡ true = sym (alnum-behind t cs n e) ∙ parts.1 in
+      let joint : is_joint (get_or t n 0) ≡ true = ap is_joint (at-front t cs c n e f) ∙ parts.0 in
+      by n (alnum-here t cs c n e f ∙ none) joint behind names)
+]
   where
     by : (n : ℕ) → is_alnum_at t n ≡ false → is_joint (get_or t n 0) ≡ true → is_alnum_at t (n + 1) ≡ true → ((k : ℕ) → k < n → is_name_at t k ≡ true) → is_name_at t n ≡ true
     by zero none joint behind names = cc
@@ -105,15 +93,11 @@ pub name-stops : (t cs : List ℕ) (c n : ℕ) → drop n t ≡ cs → first cs 
     → n ≡ simple_name t
 unfolding simple_name
 name-stops t cs c n e f begun names h =
-    let parts = neither (is_alphanumeric c) (is_joint c && is_alnum_at (drop 1 cs) 0) h in
+    let parts = or_parts (is_alphanumeric c) (is_joint c && is_alnum_at (drop 1 cs) 0) h in
     let joint : (is_joint (get_or t n 0) && is_alnum_at t (n + 1)) ≡ false = ap (λ d. is_joint d && is_alnum_at t (n + 1)) (at-front t cs c n e f) ∙ ap (λ b. is_joint c && b) (sym (alnum-behind t cs n e)) ∙ parts.1 in
     let stop : is_name_at t n ≡ false = no-name t n (alnum-here t cs c n e f ∙ parts.0) joint in
     let found : Some n ≡ name_stop t 0 = name_stop-is t 0 (Some n) begun (omega arith, inside t cs c n e f, ap not stop, λ k above below. ap not (names k below)) in
     rw (begun, ← found) refl
-  where
-    neither : (a b : Bool) → (a || b) ≡ false → (a ≡ false) × (b ≡ false)
-    neither true b h = cc
-    neither false b h = (refl, h)
 
 -- or there is none.
 pub name-ends : (t cs : List ℕ) (n : ℕ) → drop n t ≡ cs → first cs ≡ None → n ≤ length t → is_alnum_at t 0 ≡ true → ((k : ℕ) → k < n → is_name_at t k ≡ true) → n ≡ simple_name t

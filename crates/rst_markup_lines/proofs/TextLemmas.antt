@@ -1,32 +1,28 @@
 -- Texts that are read from their front.
-use Rattle.std.proofs.Common.{◌≡◌, ℕ, suc, ◌+◌, ◌≤◌, List, [], ◌∷◌, ◌++◌, length, drop, refl, sym, ap, ◌∙◌, arith, length-drop, IsSome, is_some, None, Bool, true, false, cond, ◌==◌}
+use Rattle.std.proofs.Common.{◌≡◌, ℕ, suc, ◌+◌, ◌≤◌, List, [], ◌∷◌, ◌++◌, length, drop, refl, sym, ap, ◌∙◌, arith, length-drop, IsSome, true, ◌==◌}
 use Rattle.std.specs.Str.{chars, IsUtf8}
 use Rattle.std.proofs.Math.Utf8.{encode}
 use Rattle.rst_markup_lines.specs.Front.{first, begins_with}
-use Rattle.std.proofs.lemmas.Str.{chars_past_char, chars-nil, length-le-encodes, encodes-chars}
+use Rattle.std.proofs.lemmas.Str.{chars_past_char, length-le-encodes, encodes-chars}
+use Rattle.std.proofs.lemmas.Bool.{cond_both, true≢false}
+use Rattle.rst_text.proofs.Indenting.{no_chars}
 use Rattle.rst_text.specs.Block.{indentation}
 
 pub behind_char : (text whole rest after : List ℕ) (c : ℕ) → IsUtf8 text → whole ≡ text → whole ≡ encode c ++ after → rest ≡ after → chars rest ≡ drop 1 (chars text)
 behind_char text whole rest after c good e s r = rw r (sym (ap (λ cs. drop 1 cs) (chars_past_char text after c good (sym e ∙ s))))
 
 pub none_behind : (text : List ℕ) → length text ≡ 0 → chars text ≡ drop 1 (chars text)
-none_behind [] h = rw chars-nil refl
-none_behind (b ∷ bs) h = absurd (omega arith)
+none_behind text h = rw (no_chars text h) refl
 
 pub none_first : (text : List ℕ) (P : Type 0) → length text ≡ 0 → IsSome (first (chars text)) → P
-none_first [] P h some = absurd (let e : first (chars []) ≡ None = rw chars-nil refl in let n : ℕ = 0 in let s : IsSome (first (chars [])) = some in let t : is_some {T = ℕ} None ≡ true = ap is_some (sym e) ∙ s in cc)
-none_first (b ∷ bs) P h some = absurd (omega arith)
+none_first text P h some = absurd (true≢false (sym (rw (no_chars text h) at some)))
 
 pub length-chars : (text : List ℕ) → IsUtf8 text → length (chars text) ≤ length text
 length-chars text good = omega (arith, length-le-encodes (chars text), ap length (encodes-chars text good))
 
 indentation_le : (cs : List ℕ) → indentation cs ≤ length cs
 indentation_le [] = omega arith
-indentation_le (c ∷ cs) = by (c == 32) (indentation_le cs)
-  where
-    by : (b : Bool) → indentation cs ≤ length cs → cond b (suc (indentation cs)) 0 ≤ suc (length cs)
-    by true h = omega arith
-    by false h = omega arith
+indentation_le (c ∷ cs) = cond_both (c == 32) (suc (indentation cs)) 0 (λ n. n ≤ suc (length cs)) (λ e. omega (arith, indentation_le cs)) (λ e. omega arith)
 
 some_there : (cs : List ℕ) → begins_with 32 cs ≡ true → 1 ≤ length cs
 some_there [] h = cc

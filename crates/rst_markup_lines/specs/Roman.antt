@@ -1,44 +1,34 @@
 -- Roman numerals in their canonical form (Markup Specification, 'Enumerated Lists'): a digit each for thousands, hundreds,
 -- tens and ones.
-use Rattle.std.specs.Prelude.{ℕ, ◌+◌, ◌-◌, ◌*◌, ◌/◌, ◌%◌, Bool, ◌&&◌, ◌||◌, ◌==◌, nat_le, nat_lt, List, [], ◌∷◌, ◌++◌, replicate, drop, if◌then◌else◌, Option, None, Some}
+use Rattle.std.specs.Prelude.{ℕ, zero, suc, ◌/◌, ◌%◌, Bool, ◌||◌, ◌==◌, List, [], ◌∷◌, ◌++◌, codes, drop, get_or, if◌then◌else◌, length, map, take, Option}
 use Rattle.std.specs.Str.{bytes_eq}
 use Rattle.rst_text.specs.Places.{first_from}
-use Rattle.rst_markup_lines.specs.Front.{begins_with}
-use Rattle.rst_markup_lines.specs.Class.{run}
-use Rattle.rst_markup_lines.specs.declared.class.Class.TheVariants.{Only}
 use Rattle.rst_markup_lines.specs.declared.enumerator.Case.{Case}
 use Rattle.rst_markup_lines.specs.declared.enumerator.Case.TheVariants.{Lower, Upper}
-use Rattle.rst_markup_lines.specs.declared.roman.RomanDigit.{RomanDigit}
 use Rattle.rst_markup_lines.specs.declared.roman.RomanPlace.{RomanPlace}
+use Rattle.rst_markup_lines.specs.declared.roman.RomanPlace.TheVariants.{Thousands, Hundreds, Tens, Ones}
 
--- the letters for one, five and ten hundreds: c, d, m
-abbrev pub hundreds : Case → RomanPlace
-hundreds Lower = record { one = 99; five = 100; ten = 109 }
-hundreds Upper = record { one = 67; five = 68; ten = 77 }
+-- the letters of the digits from 1 on in a place: 9 is one before ten and 4 is one before five, else there is a five from 5 on, and ones
+abbrev pub digits : Case → RomanPlace → List (List ℕ)
+digits Lower Thousands = map codes ("m" ∷ "mm" ∷ "mmm" ∷ "mmmm" ∷ [])
+digits Lower Hundreds = map codes ("c" ∷ "cc" ∷ "ccc" ∷ "cd" ∷ "d" ∷ "dc" ∷ "dcc" ∷ "dccc" ∷ "cm" ∷ [])
+digits Lower Tens = map codes ("x" ∷ "xx" ∷ "xxx" ∷ "xl" ∷ "l" ∷ "lx" ∷ "lxx" ∷ "lxxx" ∷ "xc" ∷ [])
+digits Lower Ones = map codes ("i" ∷ "ii" ∷ "iii" ∷ "iv" ∷ "v" ∷ "vi" ∷ "vii" ∷ "viii" ∷ "ix" ∷ [])
+digits Upper Thousands = map codes ("M" ∷ "MM" ∷ "MMM" ∷ "MMMM" ∷ [])
+digits Upper Hundreds = map codes ("C" ∷ "CC" ∷ "CCC" ∷ "CD" ∷ "D" ∷ "DC" ∷ "DCC" ∷ "DCCC" ∷ "CM" ∷ [])
+digits Upper Tens = map codes ("X" ∷ "XX" ∷ "XXX" ∷ "XL" ∷ "L" ∷ "LX" ∷ "LXX" ∷ "LXXX" ∷ "XC" ∷ [])
+digits Upper Ones = map codes ("I" ∷ "II" ∷ "III" ∷ "IV" ∷ "V" ∷ "VI" ∷ "VII" ∷ "VIII" ∷ "IX" ∷ [])
 
--- the letters for one, five and ten tens: x, l, c
-abbrev pub tens : Case → RomanPlace
-tens Lower = record { one = 120; five = 108; ten = 99 }
-tens Upper = record { one = 88; five = 76; ten = 67 }
+-- the letters of a digit, of these; 0 has none
+abbrev pub letters_of : List (List ℕ) → ℕ → List ℕ
+letters_of digits zero = []
+letters_of digits (suc d) = get_or digits d []
 
--- the letters for one, five and ten ones: i, v, x
-abbrev pub ones : Case → RomanPlace
-ones Lower = record { one = 105; five = 118; ten = 120 }
-ones Upper = record { one = 73; five = 86; ten = 88 }
-
--- the letters of a digit: 9 is one before ten and 4 is one before five, else there is a five where it is 5 or more, and ones
-abbrev pub digit_letters : RomanPlace → ℕ → List ℕ
-digit_letters place d =
-    if d == 9 then place.one ∷ place.ten ∷ []
-    else if d == 4 then place.one ∷ place.five ∷ []
-    else if nat_le 5 d then place.five ∷ replicate (d - 5) place.one
-    else replicate d place.one
-
--- the numeral of a number: as many times the letter for a thousand as it has thousands, and its three last digits
+-- the numeral of a number below 5000: the letters of its digits
 abbrev pub numeral_of : Case → ℕ → List ℕ
 numeral_of case n =
-    ((replicate (n / 1000) (hundreds case).ten ++ digit_letters (hundreds case) (n / 100 % 10))
-    ++ digit_letters (tens case) (n / 10 % 10)) ++ digit_letters (ones case) (n % 10)
+    letters_of (digits case Thousands) (n / 1000) ++ (letters_of (digits case Hundreds) (n / 100 % 10)
+    ++ (letters_of (digits case Tens) (n / 10 % 10) ++ letters_of (digits case Ones) (n % 10)))
 
 -- the value of letters: the number of which they are the numeral, up to 4999, if there is one
 unfoldable pub roman : Case → List ℕ → Option ℕ
@@ -58,19 +48,14 @@ is_upper_numeral c = (c == 67 || (c == 68 || c == 73)) || ((c == 76 || c == 77) 
 abbrev pub is_numeral_letter : ℕ → Bool
 is_numeral_letter c = is_lower_numeral c || is_upper_numeral c
 
--- ---- a digit at the front of a text
+-- ---- a digit at the front of letters
 
--- a digit of a five or none, and 0 to 3 ones behind it
-abbrev pub with_ones : ℕ → ℕ → Option RomanDigit
-with_ones fives count = if nat_lt 3 count then None else Some (record { value = fives * 5 + count; len = fives + count })
+-- the greatest digit up to one whose letters stand first, and what is behind them
+unfoldable pub digit_to : List (List ℕ) → ℕ → List ℕ → ℕ × List ℕ
+digit_to digits zero t = (0, t)
+digit_to digits (suc d) t =
+    let letters = letters_of digits (suc d) in
+    if bytes_eq (take (length letters) t) letters then (suc d, drop (length letters) t) else digit_to digits d t
 
--- 1 where the letter for five stands first, else 0
-abbrev pub fives_at : RomanPlace → List ℕ → ℕ
-fives_at place t = if begins_with place.five t then 1 else 0
-
--- the digit at the front of a text, in a place with these letters
-unfoldable pub digit_at : RomanPlace → List ℕ → Option RomanDigit
-digit_at place t =
-    if begins_with place.one t && begins_with place.ten (drop 1 t) then Some (record { value = 9; len = 2 })
-    else if begins_with place.one t && begins_with place.five (drop 1 t) then Some (record { value = 4; len = 2 })
-    else with_ones (fives_at place t) (run (Only place.one) (drop (fives_at place t) t))
+abbrev pub digit_at : List (List ℕ) → List ℕ → ℕ × List ℕ
+digit_at digits t = digit_to digits (length digits) t

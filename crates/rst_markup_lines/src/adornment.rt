@@ -1,6 +1,5 @@
 //! Lines of one punctuation character.
-ghost use Rattle.std.specs.Prelude.{◌≡◌};
-ghost use Rattle.std.specs.Str.{chars};
+ghost use Rattle.std.specs.Prelude.{◌≡◌, chars};
 ghost use Rattle.rst_markup_lines.specs.Adornment as spec;
 
 use super::class::{Class, run};

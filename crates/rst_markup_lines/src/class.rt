@@ -1,6 +1,5 @@
 //! Classes of characters, and runs of them at the front of a text.
-ghost use Rattle.std.specs.Prelude.{◌≡◌, ◌≤◌, length};
-ghost use Rattle.std.specs.Str.{chars};
+ghost use Rattle.std.specs.Prelude.{◌≡◌, ◌≤◌, length, chars};
 ghost use Rattle.rst_markup_lines.specs.Class as spec;
 
 use super::text::{after_first, front};

@@ -1,6 +1,5 @@
 //! Enumerators.
-ghost use Rattle.std.specs.Prelude.{◌≡◌, ◌≤◌, ◌<◌, ◌^◌, ◌+◌, length, IfSome};
-ghost use Rattle.std.specs.Str.{chars};
+ghost use Rattle.std.specs.Prelude.{◌≡◌, ◌≤◌, ◌<◌, ◌^◌, ◌+◌, length, IfSome, chars};
 ghost use Rattle.rst_markup_lines.specs.Enumerator as spec;
 
 use super::class::{Class, run};

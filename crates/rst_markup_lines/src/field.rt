@@ -1,6 +1,5 @@
 //! Fields.
-ghost use Rattle.std.specs.Prelude.{◌≡◌};
-ghost use Rattle.std.specs.Str.{chars};
+ghost use Rattle.std.specs.Prelude.{◌≡◌, chars};
 ghost use Rattle.rst_markup_lines.specs.Field as spec;
 
 use super::closing::{Closing, closed};

@@ -1,6 +1,5 @@
 //! Markers: a mark at the front of a line with the spaces behind it.
-ghost use Rattle.std.specs.Prelude.{◌≡◌};
-ghost use Rattle.std.specs.Str.{chars};
+ghost use Rattle.std.specs.Prelude.{◌≡◌, chars};
 ghost use Rattle.rst_markup_lines.specs.Marker as spec;
 
 use super::text::{begins_with, front, is_blank};

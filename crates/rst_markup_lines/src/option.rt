@@ -1,6 +1,5 @@
 //! Option markers.
-ghost use Rattle.std.specs.Prelude.{◌≡◌, ◌≤◌, ◌<◌, ◌+◌, ◌-◌, ◌^◌, length, IfSome};
-ghost use Rattle.std.specs.Str.{chars};
+ghost use Rattle.std.specs.Prelude.{◌≡◌, ◌≤◌, ◌<◌, ◌+◌, ◌-◌, ◌^◌, length, IfSome, chars};
 ghost use Rattle.rst_markup_lines.specs.OptionMarker as spec;
 
 use super::class::{Class, run};

@@ -1,81 +1,51 @@
 //! Roman numerals.
-ghost use Rattle.std.specs.Prelude.{◌≡◌, ◌≤◌, take, IfSome};
-ghost use Rattle.std.specs.Str.{chars};
+ghost use Rattle.std.specs.Prelude.{◌≡◌, ◌≤◌, length, map, take, chars};
 ghost use Rattle.rst_markup_lines.specs.Class as classes;
 ghost use Rattle.rst_markup_lines.specs.declared.class.Class.TheVariants.{Letter};
 ghost use Rattle.rst_markup_lines.specs.Roman as spec;
 
-use super::class::{Class, run};
 use super::enumerator::Case;
-use super::text::begins_with;
-use rst_text::skip;
 
-/// A digit of a Roman numeral: its value and how many letters it has.
+/// The place of a digit in a Roman numeral.
 #[derive(Clone, Copy)]
-struct RomanDigit {
-    pub value: u64,
-    pub len: usize,
+enum RomanPlace {
+    Thousands,
+    Hundreds,
+    Tens,
+    Ones,
 }
 
-/// The letters for one, five and ten of a place of a Roman numeral.
-#[derive(Clone, Copy)]
-struct RomanPlace {
-    pub one: char,
-    pub five: char,
-    pub ten: char,
-}
+// The letters of the digits from 1 on.
+const LOWER_THOUSANDS: [&str; 4] = ["m", "mm", "mmm", "mmmm"];
 
-/// The letters of the hundreds.
-fn hundreds(case: Case) -> RomanPlace
-    ensures { result ≡ spec.hundreds case }
+const LOWER_HUNDREDS: [&str; 9] = ["c", "cc", "ccc", "cd", "d", "dc", "dcc", "dccc", "cm"];
+
+const LOWER_TENS: [&str; 9] = ["x", "xx", "xxx", "xl", "l", "lx", "lxx", "lxxx", "xc"];
+
+const LOWER_ONES: [&str; 9] = ["i", "ii", "iii", "iv", "v", "vi", "vii", "viii", "ix"];
+
+const UPPER_THOUSANDS: [&str; 4] = ["M", "MM", "MMM", "MMMM"];
+
+const UPPER_HUNDREDS: [&str; 9] = ["C", "CC", "CCC", "CD", "D", "DC", "DCC", "DCCC", "CM"];
+
+const UPPER_TENS: [&str; 9] = ["X", "XX", "XXX", "XL", "L", "LX", "LXX", "LXXX", "XC"];
+
+const UPPER_ONES: [&str; 9] = ["I", "II", "III", "IV", "V", "VI", "VII", "VIII", "IX"];
+
+/// The letters of the digits from 1 on in a place.
+fn digits(case: Case, place: RomanPlace) -> &'static [&'static str]
+    ensures letters { map (λ letters. letters.now) result.now ≡ spec.digits case place }
+    ensures few { length result.now ≤ 9 }
 {
-    match case {
-        Case::Lower => RomanPlace {
-            one: 'c',
-            five: 'd',
-            ten: 'm',
-        },
-        Case::Upper => RomanPlace {
-            one: 'C',
-            five: 'D',
-            ten: 'M',
-        },
-    }
-}
-
-/// The letters of the tens.
-fn tens(case: Case) -> RomanPlace
-    ensures { result ≡ spec.tens case }
-{
-    match case {
-        Case::Lower => RomanPlace {
-            one: 'x',
-            five: 'l',
-            ten: 'c',
-        },
-        Case::Upper => RomanPlace {
-            one: 'X',
-            five: 'L',
-            ten: 'C',
-        },
-    }
-}
-
-/// The letters of the ones.
-fn ones(case: Case) -> RomanPlace
-    ensures { result ≡ spec.ones case }
-{
-    match case {
-        Case::Lower => RomanPlace {
-            one: 'i',
-            five: 'v',
-            ten: 'x',
-        },
-        Case::Upper => RomanPlace {
-            one: 'I',
-            five: 'V',
-            ten: 'X',
-        },
+    match (case, place) {
+        (Case::Lower, RomanPlace::Thousands) => &LOWER_THOUSANDS,
+        (Case::Lower, RomanPlace::Hundreds) => &LOWER_HUNDREDS,
+        (Case::Lower, RomanPlace::Tens) => &LOWER_TENS,
+        (Case::Lower, RomanPlace::Ones) => &LOWER_ONES,
+        (Case::Upper, RomanPlace::Thousands) => &UPPER_THOUSANDS,
+        (Case::Upper, RomanPlace::Hundreds) => &UPPER_HUNDREDS,
+        (Case::Upper, RomanPlace::Tens) => &UPPER_TENS,
+        (Case::Upper, RomanPlace::Ones) => &UPPER_ONES,
     }
 }
 
@@ -100,45 +70,35 @@ pub(crate) fn is_numeral_letter(c: char) -> bool
     is_lower_numeral(c) || is_upper_numeral(c)
 }
 
-/// The digit at the front of a text, in a place with these letters; none where more than three ones stand together.
-#[tactic(auto, unfolding(crate::specs::Roman::digit_at))]
-fn digit_at(place: RomanPlace, text: &str) -> Option<RomanDigit>
-    ensures value { result ≡ spec.digit_at place (chars text.now) }
-    ensures small { IfSome result (λ digit. (digit.value ≤ 9) × (digit.len ≤ 4)) }
+/// The greatest digit of a place whose letters stand first, 0 where there is none, and the letters behind it.
+fn digit_at<'a>(case: Case, place: RomanPlace, letters: &'a [u8]) -> (usize, &'a [u8])
+    ensures digit { (result.0, result.1.now) ≡ spec.digit_at (spec.digits case place) letters.now }
+    ensures few { result.0 ≤ 9 }
 {
-    if begins_with(place.one, text) && begins_with(place.ten, skip(text, 1)) {
-        return Some(RomanDigit { value: 9, len: 2 });
+    let digits = digits(case, place);
+    let mut digit = digits.len();
+    while 0 < digit {
+        if let Some(rest) = letters.strip_prefix(digits[digit - 1].as_bytes()) {
+            return (digit, rest);
+        }
+        digit -= 1;
     }
-    if begins_with(place.one, text) && begins_with(place.five, skip(text, 1)) {
-        return Some(RomanDigit { value: 4, len: 2 });
-    }
-    let fives = if begins_with(place.five, text) { 1 } else { 0 };
-    let count = run(Class::Only(place.one), skip(text, fives));
-    if 3 < count {
-        return None;
-    }
-    Some(RomanDigit {
-        value: fives as u64 * 5 + count as u64,
-        len: fives + count,
-    })
+    (0, letters)
 }
 
 /// The value of the letters at the front of a text, of which there are `len`, if they are a Roman numeral in its canonical
 /// form; that is at most 4999.
-#[tactic(auto, using(crate::proofs::RomanLemmas::roman_is))]
 pub(crate) fn roman(case: Case, len: usize, text: &str) -> Option<u64>
     requires { len ≡ classes.run Letter (chars text.now) }
     ensures { result ≡ spec.roman case (take len (chars text.now)) }
 {
-    let thousands = run(Class::Only(hundreds(case).ten), text);
-    if 4 < thousands {
+    let letters = &text.as_bytes()[..len];
+    let (thousands, rest) = digit_at(case, RomanPlace::Thousands, letters);
+    let (hundreds, rest) = digit_at(case, RomanPlace::Hundreds, rest);
+    let (tens, rest) = digit_at(case, RomanPlace::Tens, rest);
+    let (ones, rest) = digit_at(case, RomanPlace::Ones, rest);
+    if !rest.is_empty() {
         return None;
     }
-    let hundred = digit_at(hundreds(case), skip(text, thousands))?;
-    let ten = digit_at(tens(case), skip(text, thousands + hundred.len))?;
-    let one = digit_at(ones(case), skip(text, thousands + hundred.len + ten.len))?;
-    if thousands + hundred.len + ten.len + one.len != len {
-        return None;
-    }
-    Some(thousands as u64 * 1000 + hundred.value * 100 + ten.value * 10 + one.value)
+    Some((thousands * 1000 + hundreds * 100 + tens * 10 + ones) as u64)
 }

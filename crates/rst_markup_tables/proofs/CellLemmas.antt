@@ -85,7 +85,7 @@ characters-drop (suc n) (Character c ∷ ps) = let rest = characters-drop n ps i
 characters-drop (suc n) (Second ∷ ps) = characters-drop n ps
 
 -- what holds of each front and each rest of a text holds of the characters between two places
-cut-keeps : (P : List ℕ → Type 0) → ((n : ℕ) (cs : List ℕ) → P cs → P (take n cs)) → ((n : ℕ) (cs : List ℕ) → P cs → P (drop n cs))
+pub cut-keeps : (P : List ℕ → Type 0) → ((n : ℕ) (cs : List ℕ) → P cs → P (take n cs)) → ((n : ℕ) (cs : List ℕ) → P cs → P (drop n cs))
     → (left : ℕ) (right : Option ℕ) (ps : List Place) → P (characters ps) → P (characters (cut_places left right ps))
 cut-keeps P fronts rests left (Some right) ps h =
     let front = characters-take (right - left) (drop left ps) in

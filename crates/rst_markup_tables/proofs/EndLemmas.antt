@@ -50,7 +50,7 @@ bottom-there X (Some k) sound b =
     (omega (arith, below.0, scan), sym size ∙ sym scan)
 
 -- looks at the borders, where they have a fault
-pub looks-borders : (X : Block) (bottom : Option ℕ) (l0 l1 l2 : ℕ) → 1 ≤ length X → bottom ≡ simple_bottom X → l1 ≤ l0 + 2 + simple_scan X → l2 ≤ l1 + 2 → IfNone bottom (l2 ≤ l1) → l2 ≤ l0 + 4 * simple_scan X
+pub looks-borders : (X : Block) (bottom : Option ℕ) (l0 l1 l2 : ℕ) → 1 ≤ length X → bottom ≡ simple_bottom X → l1 ≤ l0 + (2 + simple_scan X) → l2 ≤ l1 + 2 → IfNone bottom (l2 ≤ l1) → l2 ≤ l0 + 4 * simple_scan X
 looks-borders X None l0 l1 l2 some b h k none = omega (arith, scan_some X some, none)
 looks-borders X (Some k) l0 l1 l2 some b h m none =
     let below = border_below-below X (unwrap_or (head_border X) 0) k b in
@@ -58,6 +58,6 @@ looks-borders X (Some k) l0 l1 l2 some b h m none =
     omega (arith, below.0, scan)
 
 -- looks at them and at the lines of the table
-pub looks-lines : (X : Block) (n all : ℕ) (head bottom : Option ℕ) (l0 l1 l2 l3 : ℕ) → n ≡ through all (option_or bottom head) → all ≡ length X → head ≡ head_border X → bottom ≡ simple_bottom X → None ≡ border_fault X bottom
-    → l1 ≤ l0 + 2 + simple_scan X → l2 ≤ l1 + 2 → l3 ≤ l2 + n → l3 ≤ l0 + 4 * simple_scan X
-looks-lines X n all head bottom l0 l1 l2 l3 is e h b sound k m r = let there = bottom-there X bottom sound b in omega (arith, there.0, there.1, table-size X n all head bottom is e h b, k, m, r)
+pub looks-lines : (X : Block) (n all : ℕ) (head bottom : Option ℕ) → n ≡ through all (option_or bottom head) → all ≡ length X → head ≡ head_border X → bottom ≡ simple_bottom X → None ≡ border_fault X bottom
+    → 4 + simple_scan X + n ≤ 4 * simple_scan X
+looks-lines X n all head bottom is e h b sound = let there = bottom-there X bottom sound b in omega (arith, there.0, there.1, table-size X n all head bottom is e h b)

@@ -17,7 +17,7 @@ use Rattle.rst_markup_blocks.specs.Lines.{lines_while}
 use Rattle.rst_markup_blocks.proofs.RowLaws.{while_le}
 use Rattle.rst_markup_blocks.proofs.TableLaws.{grid_size_le}
 use Rattle.rst_markup_blocks.specs.TableRows.{through, is_border_at, grid_bottom, grid_size, grid_scan}
-use Rattle.rst_markup_blocks.proofs.LineLemmas.{drop_one}
+use Rattle.rst_text.proofs.Ends.{drop_one}
 use Rattle.rst_markup_blocks.proofs.TableLemmas.{grid_size-is}
 use Rattle.rst_markup_tables.specs.Places.{Row, Grid, no_row, row_of, rows_of}
 use Rattle.rst_markup_tables.specs.Cells.{characters, AreOfLine}

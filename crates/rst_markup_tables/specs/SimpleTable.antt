@@ -5,7 +5,7 @@ use Rattle.std.specs.Char.{is_whitespace}
 use Rattle.std.specs.List.{list_all, range_with_len}
 use Rattle.std.specs.Option.{option_or}
 use Rattle.rst_text.specs.Block.{Block, first_number}
-use Rattle.rst_markup_tables.specs.Places.{Grid, rows_of, row_at, consists_of, mark_of, mark_at}
+use Rattle.rst_markup_tables.specs.Places.{Grid, rows_of, row_at, consists_of, mark_at}
 use Rattle.rst_text.specs.Places.{first_from}
 use Rattle.rst_markup_blocks.specs.TableRows.{is_as_long, head_border, simple_bottom, simple_size}
 use Rattle.rst_markup_tables.specs.Neighbours.{neighbours}

@@ -1,8 +1,6 @@
 //! Grid tables: which lines they are, and what is wrong with them.
-ghost use Rattle.std.specs.Prelude.{◌≡◌, ◌+◌, ◌^◌, ◌<◌, ◌≤◌, ◌&&◌, nat_le, length, map, drop, take, if◌then◌else◌, Some, IfOk, OnOk, IfSome};
-ghost use Rattle.std.specs.Str.{chars};
-ghost use Rattle.rst_text.specs.Looked.{capped};
-ghost use Rattle.rst_text.specs.Shown.{block_of};
+ghost use Rattle.std.specs.Prelude.{◌≡◌, ◌+◌, ◌^◌, ◌<◌, ◌≤◌, ◌&&◌, nat_le, length, map, drop, take, if◌then◌else◌, Some, IfOk, OnOk, IfSome, chars};
+ghost use Rattle.rst_markup_blocks.specs.Prelude.{capped, block_of};
 ghost use Rattle.rst_markup_lines.specs.Border.{is_grid_border};
 ghost use Rattle.rst_markup_blocks.specs.Lines.{lines_while};
 ghost use Rattle.rst_markup_blocks.specs.TableRows.{grid_bottom, grid_size, grid_scan};

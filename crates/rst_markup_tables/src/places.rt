@@ -1,11 +1,9 @@
 //! Lines of a table as rows of places.
-ghost use Rattle.std.specs.Prelude.{◌≡◌, ◌+◌, ◌<◌, ◌∷◌, length, drop, map, IfOk};
-ghost use Rattle.std.specs.Str.{chars};
+ghost use Rattle.std.specs.Prelude.{◌≡◌, ◌+◌, ◌<◌, ◌∷◌, length, drop, map, IfOk, chars};
 ghost use Rattle.rst_markup_tables.specs.Cells.{AreOfLine};
 ghost use Rattle.rst_markup_tables.specs.Places.{consists_of, mark_of, places_of, mark_at, place, row_at, width, rows_of};
 ghost use Rattle.rst_markup_tables.specs.declared.places.Place.TheVariants.{Character};
-ghost use Rattle.rst_text.specs.Block.{first_number, front_text};
-ghost use Rattle.rst_text.specs.Shown.{block_of};
+ghost use Rattle.rst_markup_blocks.specs.Prelude.{first_number, front_text, block_of};
 
 use super::Result;
 use rst_text::{View, characters_of};

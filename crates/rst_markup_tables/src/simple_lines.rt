@@ -1,7 +1,6 @@
 //! The lines of a simple table: which of them are rules, and the fault of its borders.
 ghost use Rattle.std.specs.Prelude.{◌≡◌, ◌+◌, ◌-◌, ◌<◌, ◌≤◌, length, drop, take, IfOk, IfNone};
-ghost use Rattle.rst_text.specs.Looked.{capped};
-ghost use Rattle.rst_text.specs.Shown.{block_of};
+ghost use Rattle.rst_markup_blocks.specs.Prelude.{Looked, capped, block_of};
 ghost use Rattle.rst_markup_tables.specs.Places.{AreNumbered, rows_of};
 ghost use Rattle.rst_markup_tables.specs.SimpleTable as spec;
 
@@ -38,9 +37,8 @@ pub(crate) fn border_fault(
 ) -> Option<TableDetail>
     requires there { i < length (block_of view.now) }
     ensures fault { result ≡ spec.border_fault (drop i (block_of view.now)) bottom }
-    ensures looks { looks.new ≤ looks.old + 2 }
+    ensures looked { Looked 0 2 looks.old looks.new }
     ensures none { IfNone bottom (looks.new ≤ looks.old) }
-    ensures low { capped looks.old ≤ looks.new }
 {
     let Some(k) = bottom else {
         return Some(TableDetail::BottomMissing);
@@ -64,8 +62,7 @@ pub(crate) fn read_lines(
     requires in_range { to ≤ length (block_of view.now) }
     ensures lines { IfOk result (λ lines. lines.items ≡ take (to - from) (drop from (rows_of (block_of view.now)))) }
     ensures numbered { IfOk result (λ lines. AreNumbered lines.items) }
-    ensures looks { looks.new + from ≤ looks.old + to }
-    ensures low { capped looks.old ≤ looks.new }
+    ensures looked { Looked 0 (to - from) looks.old looks.new }
     ensures each { IfOk result (λ _. capped (looks.old + (to - from)) ≤ looks.new) }
 {
     let mut lines = Vec::new(alloc);

@@ -1,7 +1,6 @@
 //! Simple tables.
-ghost use Rattle.std.specs.Prelude.{◌≡◌, ◌+◌, ◌-◌, ◌*◌, ◌^◌, ◌<◌, ◌≤◌, drop, length, IfOk};
-ghost use Rattle.rst_text.specs.Looked.{capped};
-ghost use Rattle.rst_text.specs.Shown.{block_of};
+ghost use Rattle.std.specs.Prelude.{◌≡◌, ◌+◌, ◌-◌, ◌*◌, ◌^◌, ◌<◌, drop, length, IfOk};
+ghost use Rattle.rst_markup_blocks.specs.Prelude.{Looked, block_of};
 ghost use Rattle.rst_markup_tables.specs.Ends.{end_of};
 ghost use Rattle.rst_markup_tables.specs.Places.{AreNumbered};
 ghost use Rattle.rst_markup_tables.specs.SimpleTable as spec;
@@ -65,8 +64,7 @@ pub fn simple(alloc: Global, view: &View<'_>, i: usize, looks: &mut Looks) -> Re
     requires there { i < length (block_of view.now) }
     ensures table { IfOk result (λ table. table ≡ spec.simple_table (block_of view.now) i) }
     ensures end { IfOk result (λ table. end_of table ≡ i + simple_size (drop i (block_of view.now))) }
-    ensures looks { looks.new ≤ looks.old + 4 * simple_scan (drop i (block_of view.now)) }
-    ensures low { capped (looks.old + (simple_size (drop i (block_of view.now)) - 1)) ≤ looks.new }
+    ensures looked { Looked (simple_size (drop i (block_of view.now)) - 1) (4 * simple_scan (drop i (block_of view.now))) looks.old looks.new }
 {
     prove!(i < view.len());
     let line = view.number(i);

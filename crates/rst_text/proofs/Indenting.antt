@@ -1,17 +1,15 @@
 -- The characters at the front of a text, counted or skipped one at a time.
-use Rattle.std.proofs.Common.{◌≡◌, ℕ, suc, ◌+◌, ◌≤◌, ◌==◌, false, List, [], ◌∷◌, ◌++◌, append_assoc, length, drop, refl, sym, ap, ◌∙◌, arith, length-append}
+use Rattle.std.proofs.Common.{◌≡◌, ℕ, suc, ◌+◌, ◌≤◌, ◌==◌, false, inl, inr, List, [], ◌++◌, append_assoc, length, drop, refl, sym, ap, ◌∙◌, arith, length-append}
 use Rattle.std.specs.Str.{IsUtf8, chars}
 use Rattle.std.proofs.Math.Utf8.{encode, encodes}
-use Rattle.std.proofs.lemmas.Str.{encodes-chars, chars_past_char, length-encode, len_utf8_bounds}
-use Rattle.std.proofs.lemmas.Bool.{eqb-true}
+use Rattle.std.proofs.lemmas.Str.{encodes-chars, chars-nil, chars_past_char, length-encode, len_utf8_bounds}
+use Rattle.std.proofs.lemmas.Bool.{ne_eqb, cases_lt}
+use Rattle.std.proofs.lemmas.List.{nil_from_length}
 use Rattle.rst_text.specs.Block.{indentation}
-use Rattle.rst_text.proofs.TextLemmas.{not_true}
 use Rattle.rst_text.proofs.Scanning.{past_char}
 
 pub no_chars : (rest : List ℕ) → length rest ≡ 0 → chars rest ≡ []
-unfolding chars
-no_chars [] h = refl
-no_chars (b ∷ bs) h = absurd (omega arith)
+no_chars rest h = ap chars (nil_from_length rest h) ∙ chars-nil
 
 -- n characters are counted, and those of `rest` are left
 pub record Counts (text rest : List ℕ) (n : ℕ) : Type 0 where
@@ -19,22 +17,16 @@ pub record Counts (text rest : List ℕ) (n : ℕ) : Type 0 where
   pub utf8 : IsUtf8 rest
   pub within : n + length rest ≤ length text
 
-indentation_space : (c : ℕ) (cs : List ℕ) → c ≡ 32 → indentation (c ∷ cs) ≡ suc (indentation cs)
-indentation_space c cs e = rw e refl
-
-indentation_over : (c : ℕ) (cs : List ℕ) → (c == 32) ≡ false → indentation (c ∷ cs) ≡ 0
-indentation_over c cs e = rw e refl
-
 pub Counts-step : (text rest after : List ℕ) (n c : ℕ) → Counts text rest n → rest ≡ encode c ++ after → c ≡ 32 → Counts text after (n + 1)
 Counts-step text rest after n c s e space = record {
-  value = (let one : indentation (chars rest) ≡ suc (indentation (chars after)) = ap indentation (chars_past_char rest after c s.utf8 e) ∙ indentation_space c (chars after) space in omega (arith, s.value));
+  value = (let one : indentation (chars rest) ≡ suc (indentation (chars after)) = ap indentation (chars_past_char rest after c s.utf8 e) ∙ rw space refl in omega (arith, s.value));
   utf8 = (past_char rest after c s.utf8 e).1;
   within = omega (arith, s.within, ap length e, length-append (encode c) after, length-encode c, len_utf8_bounds c);
 }
 
 pub Counts-over : (text rest after : List ℕ) (n c : ℕ) → Counts text rest n → rest ≡ encode c ++ after → (c ≡ 32 → ⊥) → n ≡ indentation (chars text)
 Counts-over text rest after n c s e dark =
-    let none : indentation (chars rest) ≡ 0 = ap indentation (chars_past_char rest after c s.utf8 e) ∙ indentation_over c (chars after) (not_true (c == 32) (λ t. dark (eqb-true c 32 t))) in omega (arith, s.value)
+    let none : indentation (chars rest) ≡ 0 = ap indentation (chars_past_char rest after c s.utf8 e) ∙ (let d : (c == 32) ≡ false = ne_eqb c 32 dark in rw d refl) in omega (arith, s.value)
 
 pub Counts-end : (text rest : List ℕ) (n : ℕ) → Counts text rest n → length rest ≡ 0 → n ≡ indentation (chars text)
 Counts-end text rest n s e =
@@ -51,16 +43,12 @@ Skips-step text rest after left next n c s e more =
     let v : drop left (chars rest) ≡ drop next (chars after) = rw (chars_past_char rest after c s.utf8 e, more) refl in
     record { value = sym v ∙ s.value; utf8 = (past_char rest after c s.utf8 e).1; suffix = (s.suffix.0 ++ encode c, s.suffix.1 ∙ ap (λ l. s.suffix.0 ++ l) e ∙ sym (append_assoc s.suffix.0 (encode c) after)) }
 
-pub some_chars : (rest : List ℕ) → IsUtf8 rest → 1 ≤ length rest → 1 ≤ length (chars rest)
-some_chars rest good some = go (chars rest) (encodes-chars rest good)
-  where
-    go : (cs : List ℕ) → encodes cs ≡ rest → 1 ≤ length cs
-    go [] e = absurd (omega (arith, ap length e))
-    go (c ∷ cs) e = omega arith
-
 -- a text is empty just where it has no characters
 pub no_front : (text front : List ℕ) → chars text ≡ front → length text ≡ 0 → length front ≡ 0
 no_front text front e h = omega (arith, ap length (no_chars text h), ap length e)
 
 pub some_front : (text front : List ℕ) → IsUtf8 text → chars text ≡ front → 1 ≤ length text → 1 ≤ length front
-some_front text front good e h = omega (arith, some_chars text good h, ap length e)
+some_front text front good e h = elim (cases_lt 0 (length front)) [
+  | inl some ↦ some
+  | inr none ↦ absurd (let empty : text ≡ [] = sym (encodes-chars text good) ∙ ap encodes (e ∙ nil_from_length front (omega arith)) in omega (arith, ap length empty))
+]

@@ -1,51 +1,32 @@
 -- Texts one after another in some bytes.
 use Rattle.std.proofs.Common.{◌≡◌, ℕ, zero, suc, ◌-◌, ◌<◌, ◌≤◌, ◌^◌, true, List, [], ◌∷◌, ◌++◌, length, get_or, take, drop, slice_range, refl, sym, ap, ◌∙◌, subst, arith, length-append, length-drop}
-use Rattle.std.proofs.lemmas.List.{take_all, length-take-le}
+use Rattle.std.proofs.lemmas.List.{get_or_read, drop_at, drop-append-le, take-append-le, take_rest, length-take-le}
 use Rattle.std.proofs.lemmas.Bool.{lt-ltb}
 use Rattle.std.specs.List.{list_all}
-use Rattle.std.specs.Str.{IsUtf8, chars, is_utf8, IsCharBoundary}
-use Rattle.std.proofs.Math.Utf8.{encodes}
+use Rattle.std.specs.Str.{IsUtf8, chars, IsCharBoundary}
 use Rattle.std.proofs.lemmas.Str.{encodes-chars, chars-nil, is_utf8-from_IsUtf8, IsUtf8-between, IsUtf8-drop, IsUtf8-append, IsCharBoundary-from_drop, IsCharBoundary-end, IsCharBoundary-at_seam}
 use Rattle.rst_text.specs.Kept.{AreStarts, texts_in}
 use Rattle.rst_text.specs.MayCut.{is_text}
 
 -- ---- more bytes behind the others
 
-take-front : (n : ℕ) (xs ys : List ℕ) → n ≤ length xs → take n (xs ++ ys) ≡ take n xs
-take-front zero xs ys h = refl
-take-front (suc n) [] ys h = absurd (omega arith)
-take-front (suc n) (x ∷ xs) ys h = ap (λ l. x ∷ l) (take-front n xs ys (omega arith))
-
-drop-front : (n : ℕ) (xs ys : List ℕ) → n ≤ length xs → drop n (xs ++ ys) ≡ drop n xs ++ ys
-drop-front zero xs ys h = refl
-drop-front (suc n) [] ys h = absurd (omega arith)
-drop-front (suc n) (x ∷ xs) ys h = drop-front n xs ys (omega arith)
-
 range-front : (xs ys : List ℕ) (a b : ℕ) → a ≤ b → b ≤ length xs → slice_range (xs ++ ys) a b ≡ slice_range xs a b
 range-front xs ys a b order within =
-    ap (take (b - a)) (drop-front a xs ys (omega arith)) ∙ take-front (b - a) (drop a xs) ys (omega (arith, length-drop a xs))
-
-drop-past : (xs ys : List ℕ) → drop (length xs) (xs ++ ys) ≡ ys
-drop-past [] ys = refl
-drop-past (x ∷ xs) ys = drop-past xs ys
+    ap (take (b - a)) (drop-append-le a xs ys (omega arith)) ∙ take-append-le (b - a) (drop a xs) ys (omega (arith, length-drop a xs))
 
 -- the bytes that were added
 range-added : (xs ys : List ℕ) → slice_range (xs ++ ys) (length xs) (length (xs ++ ys)) ≡ ys
-range-added xs ys =
-    let n : length (xs ++ ys) - length xs ≡ length ys = omega (arith, length-append xs ys) in
-    rw n (ap (take (length ys)) (drop-past xs ys) ∙ take_all (length ys) ys (omega arith))
+range-added xs ys = take_rest (xs ++ ys) (length xs) ∙ drop_at xs ys (length xs) refl
 
 boundary-more : (xs ys : List ℕ) (k : ℕ) → IsUtf8 xs → IsUtf8 ys → IsCharBoundary xs k → IsCharBoundary (xs ++ ys) k
 boundary-more xs ys k u w b =
-    IsCharBoundary-from_drop (xs ++ ys) k (omega (arith, b.0, length-append xs ys)) (subst IsUtf8 (sym (drop-front k xs ys b.0)) (IsUtf8-append (drop k xs) ys (IsUtf8-drop xs k u b) w))
+    IsCharBoundary-from_drop (xs ++ ys) k (omega (arith, b.0, length-append xs ys)) (subst IsUtf8 (sym (drop-append-le k xs ys b.0)) (IsUtf8-append (drop k xs) ys (IsUtf8-drop xs k u b) w))
 
 -- ---- where texts begin
 
 -- in the words of the code
 pub start-is : (i r : ℕ) (ss : List ℕ) → i < length ss → r ≡ get_or ss i r → r ≡ get_or ss i 0
-start-is i r [] within e = absurd (omega arith)
-start-is zero r (s ∷ ss) within e = e
-start-is (suc i) r (s ∷ ss) within e = start-is i r ss (omega arith) e
+start-is i r ss within e = get_or_read ss i r within e 0
 
 pub start-boundary : (bs ss : List ℕ) (i : ℕ) → AreStarts bs ss → i < length ss → IsCharBoundary bs (get_or ss i 0)
 start-boundary bs [] i h within = absurd h
@@ -89,6 +70,9 @@ text-at bs (s ∷ e ∷ es) (suc i) h within = text-at bs (e ∷ es) i h.2 (omeg
 
 -- ---- each text has UTF-8, which takes no more bytes than all of them
 
+pub is_text-chars : (bs : List ℕ) → IsUtf8 bs → length bs < 2 ^ 63 → is_text (chars bs) ≡ true
+is_text-chars bs u few = rw (encodes-chars bs u, is_utf8-from_IsUtf8 bs u) (lt-ltb (length bs) (2 ^ 63) few)
+
 pub texts-of_starts : (bs ss : List ℕ) → IsUtf8 bs → length bs < 2 ^ 63 → AreStarts bs ss → list_all is_text (texts_in bs ss) ≡ true
 texts-of_starts bs [] u few h = absurd h
 texts-of_starts bs (s ∷ []) u few h = refl
@@ -96,11 +80,8 @@ texts-of_starts bs (s ∷ e ∷ es) u few h =
     let part : List ℕ = slice_range bs s e in
     let behind : IsCharBoundary bs e = start-boundary bs (e ∷ es) 0 h.2 (omega arith) in
     let good : IsUtf8 part = IsUtf8-between bs s e u h.0 h.1 behind in
-    let same : encodes (chars part) ≡ part = encodes-chars part good in
     let short : length part ≤ length bs = omega (arith, h.0, behind.0, length-drop s bs, length-take-le (e - s) (drop s bs) (omega (arith, h.0, behind.0, length-drop s bs))) in
-    let one : is_utf8 (encodes (chars part)) ≡ true = ap is_utf8 same ∙ is_utf8-from_IsUtf8 part good in
-    let two : (length (encodes (chars part)) < 2 ^ 63) = omega (arith, ap length same) in
-    rw (one, lt-ltb (length (encodes (chars part))) (2 ^ 63) two, texts-of_starts bs (e ∷ es) u few h.2) refl
+    rw (is_text-chars part good (omega arith), texts-of_starts bs (e ∷ es) u few h.2) refl
 
 -- ---- empty texts
 

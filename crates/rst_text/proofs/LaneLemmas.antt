@@ -1,47 +1,23 @@
 -- A mask that is computed lane by lane is held to a test of each of the 256 bytes.
-use Rattle.std.proofs.Common.{◌≡◌, ⊎_elim, ℕ, zero, suc, ◌+◌, ◌*◌, get_or, ◌%◌, ◌^◌, ◌<◌, ◌≤◌, Bool, true, false, cond, not, ◌&&◌, T, ◌⊎◌, inl, inr, List, [], ◌∷◌, map, length, refl, sym, ap, ap₂, ◌∙◌, subst, arith, w8, Fits, not-suc-le-zero}
+use Rattle.std.proofs.Common.{◌≡◌, ⊎_elim, ℕ, ◌+◌, ◌*◌, get_or, ◌%◌, ◌^◌, ◌<◌, ◌≤◌, Bool, true, false, cond, not, T, List, [], ◌∷◌, map, length, refl, sym, ap, ap₂, ◌∙◌, arith, w8, Fits}
 use Rattle.std.specs.List.{prefix_len}
 use Rattle.std.proofs.lemmas.Simd.{mask_l-mod, length-chunk, trailing_mask_l, run_in_chunk_le, run_in_chunk_fails, run_in_chunk_stops}
 use Rattle.std.proofs.lemmas.List.{length-map}
 use Rattle.std.proofs.lemmas.List.Sums.{prefix_len-le-length}
-use Rattle.std.proofs.lemmas.Bool.{cases_order, cases_lt}
+use Rattle.std.proofs.lemmas.Bool.{cases_lt, agree_below, agree_below_at}
 use lib.Count.{count_trailing_zeros}
 use lib.Lanes.{zip2, mask_l, top, Each1, chunk}
 
--- a fact of each number below n, by computation
-abbrev upto : (ℕ → Bool) → ℕ → Bool
-upto p zero = true
-upto p (suc n) = p n && upto p n
+t_true : (b : Bool) → T b → b ≡ true
+t_true true h = refl
+t_true false h = absurd h
 
-both : (a b : Bool) → T (a && b) → T a × T b
-both true b h = (tt, h)
-both false b h = absurd h
-
-upto_sound : (p : ℕ → Bool) (n : ℕ) → T (upto p n) → (i : ℕ) → i < n → T (p i)
-upto_sound p zero h i lt = absurd (not-suc-le-zero lt)
-upto_sound p (suc n) h i lt = go (upto_sound p n (both (p n) (upto p n) h).1 i) (cases_order i n)
-  where
-    go : (i < n → T (p i)) → (i ≡ n) ⊎ ((i < n) ⊎ (n < i)) → T (p i)
-    go below (inl e) = subst (λ x. T (p x)) (sym e) (both (p n) (upto p n) h).0
-    go below (inr (inl l)) = below l
-    go below (inr (inr g)) = let no : ⊥ = omega arith in absurd no
-
-abbrev same : Bool → Bool → Bool
-same true b = b
-same false b = not b
-
-same_is : (a b : Bool) → T (same a b) → a ≡ b
-same_is true true h = refl
-same_is false false h = refl
-same_is true false h = absurd h
-same_is false true h = absurd h
-
-each_byte : (f : ℕ → ℕ) (p : ℕ → Bool) → T (upto (λ x. same (top 7 (f x)) (p x)) 256) → (v : List ℕ) → Each1 (Fits w8) v → map (top 7) (map f v) ≡ map p v
+each_byte : (f : ℕ → ℕ) (p : ℕ → Bool) → T (agree_below (λ x. top 7 (f x)) p 256) → (v : List ℕ) → Each1 (Fits w8) v → map (top 7) (map f v) ≡ map p v
 each_byte f p all [] fits = refl
-each_byte f p all (x ∷ xs) fits = ap₂ (λ a b. a ∷ b) (same_is _ _ (upto_sound (λ y. same (top 7 (f y)) (p y)) 256 all x fits.0.fits)) (each_byte f p all xs fits.1)
+each_byte f p all (x ∷ xs) fits = ap₂ (λ a b. a ∷ b) (agree_below_at (λ y. top 7 (f y)) p 256 x (t_true _ all) fits.0.fits) (each_byte f p all xs fits.1)
 
 -- the mask of lanes that f computes, where the top bit of each says whether the byte passes the test
-pub masked : (f : ℕ → ℕ) (p : ℕ → Bool) (v z : List ℕ) → length v ≤ 64 → Each1 (Fits w8) v → z ≡ map f v → T (upto (λ x. same (top 7 (f x)) (p x)) 256)
+pub masked : (f : ℕ → ℕ) (p : ℕ → Bool) (v z : List ℕ) → length v ≤ 64 → Each1 (Fits w8) v → z ≡ map f v → T (agree_below (λ x. top 7 (f x)) p 256)
     → mask_l (map (top 7) z) % 2 ^ 64 ≡ mask_l (map p v)
 masked f p v z short fits e all =
     ap (λ l. mask_l l % 2 ^ 64) (ap (map (top 7)) e ∙ each_byte f p all v fits) ∙ mask_l-mod (map p v) 64 (omega (arith, length-map v p))
@@ -60,9 +36,6 @@ pub record IsFirstLane (p : ℕ → Bool) (xs : List ℕ) (i n r : ℕ) : Type 0
   pub before : (k : ℕ) → i ≤ k → k < i + r → p (get_or xs k 0) ≡ false
   pub passes : p (get_or xs (i + r) 0) ≡ true
 
-lt_of : (a b : ℕ) → a ≤ b → (a ≡ b → ⊥) → a < b
-lt_of a b le ne = ⊎_elim (λ less. less) (λ over. absurd (ne (omega arith))) (cases_lt a b)
-
 -- no lane passes the test
 none_fails : (b : Bool) (n l m : ℕ) → n ≤ l → cond (not b) (1 + n) 0 ≡ 1 + l → (n ≡ l → m ≡ 0) → cond b 1 0 + 2 * m ≡ 0
 none_fails true n l m le e rest = let no : ⊥ = omega arith in absurd no
@@ -80,7 +53,7 @@ lowest_passes p xs i n mask room short is some =
     let counted : count_trailing_zeros 64 mask ≡ prefix_len (λ x. not (p x)) lanes = ap (count_trailing_zeros 64) is ∙ trailing_mask_l p 64 lanes (omega (arith, long)) (omega (arith, is)) in
     let within = run_in_chunk_le p xs i n (count_trailing_zeros 64 mask) 0 room counted in
     let some_passes : count_trailing_zeros 64 mask ≡ n → ⊥ = λ e. let all : prefix_len (λ x. not (p x)) lanes ≡ length lanes = sym counted ∙ e ∙ sym long in omega (arith, some, is, none_pass p lanes all) in
-    let inside : count_trailing_zeros 64 mask < n = lt_of (count_trailing_zeros 64 mask) n within some_passes in
+    let inside : count_trailing_zeros 64 mask < n = ⊎_elim (λ less. less) (λ over. absurd (some_passes (omega arith))) (cases_lt (count_trailing_zeros 64 mask) n) in
     record {
       inside = inside;
       before = run_in_chunk_fails p xs i n (count_trailing_zeros 64 mask) 0 room counted;

@@ -1,15 +1,16 @@
 -- Texts that can stand in a line.
-use Rattle.std.proofs.Common.{◌≡◌, ℕ, zero, suc, ◌+◌, ◌-◌, ◌%◌, ◌<◌, ◌==◌, Bool, true, false, cond, ◌&&◌, ◌||◌, List, [], ◌∷◌, ◌++◌, length, take, drop, map, replicate, refl, sym, ap, ◌∙◌, arith}
+use Rattle.std.proofs.Common.{◌≡◌, inl, inr, ℕ, zero, suc, ◌+◌, ◌-◌, ◌%◌, ◌<◌, ◌==◌, Bool, true, false, cond, ◌&&◌, List, [], ◌∷◌, ◌++◌, length, take, drop, map, replicate, refl, sym, ap, ◌∙◌, arith}
 use Rattle.std.proofs.Math.Bool.{not}
 use Rattle.std.specs.Char.{is_whitespace}
 use Rattle.std.specs.List.{list_any}
 use Rattle.std.specs.Str.{drop_trailing_whitespace}
 use Rattle.std.proofs.lemmas.List.Folds.{list_any-append}
-use Rattle.rst_text.specs.Block.{Block, front_text, is_blank}
+use Rattle.rst_text.specs.Block.{Line, Block, front_text, is_blank}
 use Rattle.std.specs.List.{onto_first}
-use Rattle.rst_text.proofs.Tabs.{expanded_from, expanded_from-start}
+use Rattle.rst_text.proofs.Tabs.{expanded_from, expanded_from-start, shown-keeps}
+use Rattle.rst_text.proofs.TextLemmas.{all-parts}
 use Rattle.rst_text.specs.Lines.{is_line_end, pieces, begins_with, shown, expanded, tidied, numbered_from, lines_of, ends_white, is_line_text, are_lines}
-use Rattle.std.proofs.lemmas.Bool.{eqb-true, not-true, and_parts, and_from, or_parts, false_from_ne_true}
+use Rattle.std.proofs.lemmas.Bool.{eqb-true, not-true, and_parts, and_from, or_parts, false_from_ne_true, cases_Bool, cond_both}
 use Rattle.std.proofs.lemmas.List.{take-append-drop}
 
 pub is_line_text-parts : (cs : List ℕ) → is_line_text cs ≡ true → (list_any is_line_end cs ≡ false) × (ends_white cs ≡ false)
@@ -39,20 +40,7 @@ is_line_text-suffix xs ys h =
     is_line_text-from_parts ys (or_parts (list_any is_line_end xs) (list_any is_line_end ys) (sym (list_any-append is_line_end xs ys) ∙ parts.0)).1 (ends_white-suffix xs ys parts.1)
 
 pub is_line_text-drop : (n : ℕ) (cs : List ℕ) → is_line_text cs ≡ true → is_line_text (drop n cs) ≡ true
-is_line_text-drop zero cs h = h
-is_line_text-drop (suc n) [] h = h
-is_line_text-drop (suc n) (c ∷ cs) h = is_line_text-drop n cs (is_line_text-suffix (c ∷ []) cs h)
-
-pub are_lines-drop : (n : ℕ) (B : Block) → are_lines B ≡ true → are_lines (drop n B) ≡ true
-are_lines-drop zero B h = h
-are_lines-drop (suc n) [] h = refl
-are_lines-drop (suc n) (l ∷ ls) h = are_lines-drop n ls (and_parts (is_line_text l.text) (are_lines ls) h).1
-
-pub are_lines-take : (n : ℕ) (B : Block) → are_lines B ≡ true → are_lines (take n B) ≡ true
-are_lines-take zero B h = refl
-are_lines-take (suc n) [] h = refl
-are_lines-take (suc n) (l ∷ ls) h =
-    let t = and_parts (is_line_text l.text) (are_lines ls) h in and_from (is_line_text l.text) (are_lines (take n ls)) t.0 (are_lines-take n ls t.1)
+is_line_text-drop n cs h = is_line_text-suffix (take n cs) (drop n cs) (ap is_line_text (take-append-drop n cs) ∙ h)
 
 -- where no character passes a test, none does of a front, and none of the rest
 pub none-parts : (p : ℕ → Bool) (n : ℕ) (cs : List ℕ) → list_any p cs ≡ false → (list_any p (take n cs) ≡ false) × (list_any p (drop n cs) ≡ false)
@@ -66,37 +54,26 @@ is_blank-length (c ∷ cs) = sym (false_from_ne_true (length (c ∷ cs) == 0) (�
 
 pub ends_white-trimmed : (cs : List ℕ) → ends_white (drop_trailing_whitespace cs) ≡ false
 ends_white-trimmed [] = refl
-ends_white-trimmed (c ∷ cs) = kept (is_whitespace c && length (drop_trailing_whitespace cs) == 0) refl (ends_white-trimmed cs)
-  where
-    kept : (b : Bool) → (is_whitespace c && length (drop_trailing_whitespace cs) == 0) ≡ b → ends_white (drop_trailing_whitespace cs) ≡ false
-        → ends_white (cond b [] (c ∷ drop_trailing_whitespace cs)) ≡ false
-    kept true e rest = refl
-    kept false e rest =
-        let same : (is_whitespace c && is_blank (drop_trailing_whitespace cs)) ≡ false = ap (λ b. is_whitespace c && b) (is_blank-length (drop_trailing_whitespace cs)) ∙ e in
-        rw (same, rest) refl
+ends_white-trimmed (c ∷ cs) =
+    let rest : List ℕ = drop_trailing_whitespace cs in elim (cases_Bool (is_whitespace c && length rest == 0)) [
+      | inl gone ↦ rw gone refl
+      | inr kept ↦
+          (let dark : (is_whitespace c && is_blank rest) ≡ false = ap (λ b. is_whitespace c && b) (is_blank-length rest) ∙ kept in
+          rw (kept, dark, ends_white-trimmed cs) refl)
+    ]
 
 pub unended-trimmed : (cs : List ℕ) → list_any is_line_end cs ≡ false → list_any is_line_end (drop_trailing_whitespace cs) ≡ false
 unended-trimmed [] h = refl
 unended-trimmed (c ∷ cs) h =
     let t = or_parts (is_line_end c) (list_any is_line_end cs) h in
-    kept (is_whitespace c && length (drop_trailing_whitespace cs) == 0) t.0 (unended-trimmed cs t.1)
-  where
-    kept : (b : Bool) → is_line_end c ≡ false → list_any is_line_end (drop_trailing_whitespace cs) ≡ false → list_any is_line_end (cond b [] (c ∷ drop_trailing_whitespace cs)) ≡ false
-    kept true p q = refl
-    kept false p q = rw (p, q) refl
+    cond_both (is_whitespace c && length (drop_trailing_whitespace cs) == 0) [] (c ∷ drop_trailing_whitespace cs) (λ (l : List ℕ). list_any is_line_end l ≡ false)
+    (λ e. refl) (λ e. rw (t.0, unended-trimmed cs t.1) refl)
 
 -- a text without line ends can stand in a line, once it is trimmed
 pub is_line_text-trimmed : (cs : List ℕ) → list_any is_line_end cs ≡ false → is_line_text (drop_trailing_whitespace cs) ≡ true
 is_line_text-trimmed cs h = is_line_text-from_parts (drop_trailing_whitespace cs) (unended-trimmed cs h) (ends_white-trimmed cs)
 
 -- ---- the lines of a text
-
-unended-shown : (c : ℕ) → is_line_end c ≡ false → is_line_end (shown c) ≡ false
-unended-shown c h = by (c == 11 || c == 12) h
-  where
-    by : (b : Bool) → is_line_end c ≡ false → is_line_end (cond b 32 c) ≡ false
-    by true h = refl
-    by false h = h
 
 unended-spaces : (n : ℕ) (cs : List ℕ) → list_any is_line_end cs ≡ false → list_any is_line_end (replicate n 32 ++ cs) ≡ false
 unended-spaces zero cs h = h
@@ -107,13 +84,9 @@ unended-expanded tab column [] h = refl
 unended-expanded tab column (c ∷ cs) h =
     let t = or_parts (is_line_end c) (list_any is_line_end cs) h in
     let wide = tab - column % tab in
-    by (c == 9) (replicate wide 32 ++ expanded_from tab (column + wide) cs) (expanded_from tab (column + 1) cs)
-    (unended-spaces wide (expanded_from tab (column + wide) cs) (unended-expanded tab (column + wide) cs t.1)) (unended-shown c t.0) (unended-expanded tab (column + 1) cs t.1)
-  where
-    by : (b : Bool) (xs ys : List ℕ) → list_any is_line_end xs ≡ false → is_line_end (shown c) ≡ false → list_any is_line_end ys ≡ false
-        → list_any is_line_end (cond b xs (shown c ∷ ys)) ≡ false
-    by true xs ys p q r = p
-    by false xs ys p q r = rw (q, r) refl
+    cond_both (c == 9) (replicate wide 32 ++ expanded_from tab (column + wide) cs) (shown c ∷ expanded_from tab (column + 1) cs) (λ (l : List ℕ). list_any is_line_end l ≡ false)
+    (λ e. unended-spaces wide (expanded_from tab (column + wide) cs) (unended-expanded tab (column + wide) cs t.1))
+    (λ e. rw (shown-keeps is_line_end c refl refl, t.0, unended-expanded tab (column + 1) cs t.1) refl)
 
 -- no piece holds a line end
 abbrev AreUnended : List (List ℕ) → Type 0
@@ -145,7 +118,7 @@ are_lines-lines_of tab text wide = are_lines-numbered tab 1 (pieces text) wide (
 
 -- each line of lines
 pub is_line_text-front : (i : ℕ) (B : Block) → are_lines B ≡ true → is_line_text (front_text (drop i B)) ≡ true
-is_line_text-front i B h = front (drop i B) (are_lines-drop i B h)
+is_line_text-front i B h = front (drop i B) (all-parts (λ (l : Line). is_line_text l.text) i B h).1
   where
     front : (X : Block) → are_lines X ≡ true → is_line_text (front_text X) ≡ true
     front [] h = is_line_text-nil

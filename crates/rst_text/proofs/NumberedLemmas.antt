@@ -4,7 +4,7 @@ use Rattle.std.specs.List.{list_all}
 use Rattle.rst_text.specs.Block.{front_text, first_number}
 use Rattle.rst_text.specs.Lines.{numbered_from}
 use Rattle.rst_text.specs.MayCut.{is_text, are_texts}
-use Rattle.rst_text.proofs.TextLemmas.{and_true}
+use Rattle.std.proofs.lemmas.Bool.{and_parts}
 
 pub length-numbered : (n : ℕ) (ts : List (List ℕ)) → length (numbered_from n ts) ≡ length ts
 length-numbered n [] = refl
@@ -24,4 +24,4 @@ first_number-numbered n (suc i) (t ∷ ts) h = omega (arith, first_number-number
 pub texts-numbered : (n : ℕ) (ts : List (List ℕ)) → list_all is_text ts ≡ true → are_texts (numbered_from n ts) ≡ true
 texts-numbered n [] h = refl
 texts-numbered n (t ∷ ts) h =
-    let e = and_true (is_text t) (list_all is_text ts) h in rw (e.0, texts-numbered (n + 1) ts e.1) refl
+    let e = and_parts (is_text t) (list_all is_text ts) h in rw (e.0, texts-numbered (n + 1) ts e.1) refl

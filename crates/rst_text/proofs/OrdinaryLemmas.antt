@@ -1,5 +1,5 @@
 -- Texts of ordinary bytes.
-use Rattle.std.proofs.Common.{map, cond, ◌≡◌, ◌≢◌, ◌⊎◌, inl, inr, ℕ, ◌+◌, ◌-◌, ◌<◌, ◌≤◌, ◌==◌, ◌||◌, true, false, List, [], ◌∷◌, ◌++◌, length, take, drop, get_or, length-append, replicate, ◌%◌, append_assoc, refl, sym, ap, ◌∙◌, subst, arith}
+use Rattle.std.proofs.Common.{map, ◌≡◌, ◌≢◌, inl, inr, ℕ, ◌+◌, ◌-◌, ◌<◌, ◌≤◌, ◌==◌, ◌||◌, true, false, List, [], ◌∷◌, ◌++◌, length, take, drop, get_or, length-append, append_assoc, refl, sym, ap, ◌∙◌, subst, arith}
 use Rattle.std.specs.Str.{IsUtf8, chars, NonePass, IsCharBoundary, trim_end, drop_trailing_whitespace}
 use Rattle.std.proofs.Math.Utf8.{encode, encodes}
 use Rattle.std.proofs.lemmas.Bool.{cases_lt}
@@ -7,9 +7,9 @@ use Rattle.std.proofs.lemmas.Bool.Decides.{nat_tests}
 use Rattle.std.proofs.lemmas.List.{get_or_append_left, get_or-append-add, take-append-drop, length-take-le}
 use Rattle.std.proofs.lemmas.Str.{encode_ascii, encodes-chars, scalars-chars, encodes-append, IsUtf8-take, IsUtf8-drop}
 use Rattle.rst_text.specs.Lines.{is_line_end, is_tab, pieces, shown, with_tabs, expanded, tidied}
-use Rattle.std.specs.List.{onto_first, slice_split}
+use Rattle.std.specs.List.{slice_split}
 use Rattle.rst_text.specs.Ordinary.{is_ordinary, AreOrdinary, IsOrdinaryTo}
-use Rattle.rst_text.proofs.Scanning.{Scans, scalars-append, NonePass-append, chars-scanned, length-scanned}
+use Rattle.rst_text.proofs.Scanning.{Scans, Writes-read, scalars-append, NonePass-append, chars-scanned, length-scanned}
 use Rattle.rst_text.proofs.Tabs.{expanded_from}
 use Rattle.rst_text.proofs.Expanding.{Expands}
 use Rattle.rst_text.proofs.LinesLemmas.{pieces-end, pieces-scanned, chars-trim_end, length-chars}
@@ -29,37 +29,23 @@ high-of b h = grind (arith, nat_tests)
 
 -- a character of ordinary bytes is no control character, and none of those at which another byte begins
 above : (c : ℕ) → AreOrdinary (encode c) → 31 < c
-above c plain = by (cases_lt 31 c)
-  where
-    by : (31 < c) ⊎ (c ≤ 31) → 31 < c
-    by (inl h) = h
-    by (inr low) =
-        let e : encode c ≡ c ∷ [] = encode_ascii c (omega arith) in
-        high-of c (subst AreOrdinary e plain 0 (omega arith))
+above c plain = elim (cases_lt 31 c) [
+  | inl high ↦ high
+  | inr low ↦ high-of c (subst AreOrdinary (encode_ascii c (omega arith)) plain 0 (omega arith))
+]
 
-no-next_line : (c : ℕ) → AreOrdinary (encode c) → c ≢ 0x85
-unfolding encode
-no-next_line c plain e = let f : false ≡ true = subst (λ d. AreOrdinary (encode d)) e plain 0 (omega arith) in cc
-
-no-line_separator : (c : ℕ) → AreOrdinary (encode c) → c ≢ 0x2028
-unfolding encode
-no-line_separator c plain e = let f : false ≡ true = subst (λ d. AreOrdinary (encode d)) e plain 0 (omega arith) in cc
-
-no-paragraph_separator : (c : ℕ) → AreOrdinary (encode c) → c ≢ 0x2029
-unfolding encode
-no-paragraph_separator c plain e = let f : false ≡ true = subst (λ d. AreOrdinary (encode d)) e plain 0 (omega arith) in cc
+not-this : (d c : ℕ) → 0 < length (encode d) → is_ordinary (get_or (encode d) 0 0) ≡ false → AreOrdinary (encode c) → c ≢ d
+not-this d c some bad plain e = let f : false ≡ true = sym bad ∙ subst (λ x. AreOrdinary (encode x)) e plain 0 some in cc
 
 inside-by : (c : ℕ) → 31 < c → c ≢ 0x85 → c ≢ 0x2028 → c ≢ 0x2029 → is_line_end c ≡ false
 inside-by c low next line paragraph = grind (arith, nat_tests)
 
 inside-of : (c : ℕ) → AreOrdinary (encode c) → is_line_end c ≡ false
-inside-of c plain = inside-by c (above c plain) (no-next_line c plain) (no-line_separator c plain) (no-paragraph_separator c plain)
+unfolding encode
+inside-of c plain = inside-by c (above c plain) (not-this 0x85 c (omega arith) refl plain) (not-this 0x2028 c (omega arith) refl plain) (not-this 0x2029 c (omega arith) refl plain)
 
-no-tab : (c : ℕ) → 31 < c → (c == 9) ≡ false
-no-tab c h = grind (arith, nat_tests)
-
-shown-of : (c : ℕ) → 31 < c → (c == 11 || c == 12) ≡ false
-shown-of c h = grind (arith, nat_tests)
+plain-of : (c : ℕ) → 31 < c → ((c == 9) ≡ false) × ((c == 11 || c == 12) ≡ false)
+plain-of c h = (grind (arith, nat_tests), grind (arith, nat_tests))
 
 clear-of : (cs : List ℕ) → AreOrdinary (encodes cs) → NonePass is_line_end cs
 clear-of [] plain = tt
@@ -134,18 +120,11 @@ pieces-ordinary text after n good p e =
 
 -- ---- the whole
 
--- a character that is no tab, and shown as it is
-split-plain : (c : ℕ) (cs : List ℕ) → (c == 9) ≡ false → (c == 11 || c == 12) ≡ false → slice_split is_tab (map shown cs) ≡ cs ∷ [] → slice_split is_tab (map shown (c ∷ cs)) ≡ (c ∷ cs) ∷ []
-split-plain c cs no_tab plain rest =
-    ap (λ x. slice_split is_tab (x ∷ map shown cs)) (ap (λ b. cond b 32 c) plain)
-    ∙ ap (λ b. cond b ([] ∷ slice_split is_tab (map shown cs)) (onto_first c (slice_split is_tab (map shown cs)))) no_tab
-    ∙ ap (onto_first c) rest
-
 one-part : (cs : List ℕ) → AreOrdinary (encodes cs) → slice_split is_tab (map shown cs) ≡ cs ∷ []
 one-part [] plain = refl
 one-part (c ∷ cs) plain =
-    let high = above c (ordinary-left (encode c) (encodes cs) plain) in
-    split-plain c cs (no-tab c high) (shown-of c high) (one-part cs (ordinary-right (encode c) (encodes cs) plain))
+    let p = plain-of c (above c (ordinary-left (encode c) (encodes cs) plain)) in
+    rw (p.1, p.0, one-part cs (ordinary-right (encode c) (encodes cs) plain)) refl
 
 -- a text of ordinary bytes stays as it is
 expanded-line : (tab : ℕ) (text : List ℕ) → IsUtf8 text → AreOrdinary text → expanded tab (chars text) ≡ chars text
@@ -156,35 +135,23 @@ expanded-line tab text good plain = ap (with_tabs tab) (one-part (chars text) (s
 expanded-run : (tab column : ℕ) (cs ds : List ℕ) → AreOrdinary (encodes cs) → expanded_from tab column (cs ++ ds) ≡ cs ++ expanded_from tab (column + length cs) ds
 expanded-run tab column [] ds plain = let e : column ≡ column + 0 = omega arith in ap (λ k. expanded_from tab k ds) e
 expanded-run tab column (c ∷ cs) ds plain =
-    let high = above c (ordinary-left (encode c) (encodes cs) plain) in
-    let wide : ℕ = tab - column % tab in
+    let p = plain-of c (above c (ordinary-left (encode c) (encodes cs) plain)) in
     let e : column + 1 + length cs ≡ column + length (c ∷ cs) = omega arith in
-    ap (λ b. cond b (replicate wide 32 ++ expanded_from tab (column + wide) (cs ++ ds)) (shown c ∷ expanded_from tab (column + 1) (cs ++ ds))) (no-tab c high)
-    ∙ ap (λ b. cond b 32 c ∷ expanded_from tab (column + 1) (cs ++ ds)) (shown-of c high)
-    ∙ ap (λ l. c ∷ l) (expanded-run tab (column + 1) cs ds (ordinary-right (encode c) (encodes cs) plain) ∙ ap (λ k. cs ++ expanded_from tab k ds) e)
-
-expands-run : (tab column n : ℕ) (line rest piece : List ℕ) → Expands tab column line rest piece → IsOrdinaryTo rest n
-    → Expands tab (column + length (chars (take n rest))) (line ++ take n rest) (drop n rest) piece
-expands-run tab column n line rest piece x p =
-    let run = scans-front rest n x.utf8 p in
-    let cs = chars (take n rest) in
-    let tail = expanded_from tab (column + length cs) (chars (drop n rest)) in
-    let step : expanded_from tab column (chars rest) ≡ cs ++ tail =
-    ap (expanded_from tab column) (chars-scanned rest cs (drop n rest) run) ∙ expanded-run tab column cs (chars (drop n rest)) (coded-front rest n x.utf8 p) in
-    record {
-      bytes = append_assoc line (take n rest) (encodes tail) ∙ ap (λ l. line ++ (l ++ encodes tail)) (sym (codes-front rest n x.utf8 p)) ∙ ap (λ l. line ++ l) (sym (encodes-append cs tail))
-          ∙ ap (λ l. line ++ encodes l) (sym step) ∙ x.bytes;
-      utf8 = run.utf8;
-    }
+    rw (p.1, p.0) (ap (λ l. c ∷ l) (expanded-run tab (column + 1) cs ds (ordinary-right (encode c) (encodes cs) plain) ∙ ap (λ k. cs ++ expanded_from tab k ds) e))
 
 -- ordinary bytes more are expanded
 pub Expands-run : (tab column n count : ℕ) (line rest piece run made : List ℕ) → Expands tab column line rest piece → IsOrdinaryTo rest n → run ≡ take n rest → count ≡ length (chars run)
     → made ≡ line ++ run → Expands tab (column + count) made (drop n rest) piece
-Expands-run tab column n count line rest piece run made x p is counted longer = rw (longer, counted, is) (expands-run tab column n line rest piece x p)
+Expands-run tab column n count line rest piece run made x p is counted longer =
+    let cs : List ℕ = chars (take n rest) in
+    let front = scans-front rest n x.utf8 p in
+    rw (longer, counted, is)
+    (Writes-read (expanded_from tab column) (expanded_from tab (column + length cs)) _ line (line ++ take n rest) rest (drop n rest) cs cs x front.utf8 (chars-scanned rest cs (drop n rest) front)
+    (expanded-run tab column cs (chars (drop n rest)) (coded-front rest n x.utf8 p)) (ap (λ l. line ++ l) (sym (codes-front rest n x.utf8 p))))
 
 pub count-run : (n count : ℕ) (rest run : List ℕ) → IsUtf8 rest → IsOrdinaryTo rest n → run ≡ take n rest → count ≡ length (chars run) → count ≤ length run
 count-run n count rest run good p is counted = rw (counted, is) (length-chars (take n rest) (utf8-front rest n good p))
 
 -- A text without white characters at its end is its line, whatever the width of tabs: there is none in it.
-pub trimmed-line : (text trimmed : List ℕ) → IsUtf8 text → AreOrdinary text → trimmed ≡ trim_end text → (tab : ℕ) → chars trimmed ≡ tidied tab (chars text)
-trimmed-line text trimmed good plain e tab = chars-trim_end text trimmed good e ∙ ap drop_trailing_whitespace (sym (expanded-line tab text good plain))
+pub trimmed-line : (text trimmed : List ℕ) → IsUtf8 text → IsUtf8 trimmed → AreOrdinary text → trimmed ≡ trim_end text → (tab : ℕ) → chars trimmed ≡ tidied tab (chars text)
+trimmed-line text trimmed good kept plain e tab = chars-trim_end text trimmed kept e ∙ ap drop_trailing_whitespace (sym (expanded-line tab text good plain))

@@ -1,15 +1,11 @@
 -- Laws on the least and the greatest place that passes a test.
-use Rattle.std.proofs.Common.{◌≡◌, ◌⊎◌, inl, inr, ⊎_elim, ℕ, zero, suc, ◌+◌, ◌-◌, ◌<◌, ◌≤◌, Bool, true, false, cond, Option, Some, None, refl, sym, ap, ◌∙◌, subst, arith}
+use Rattle.std.proofs.Common.{◌≡◌, ◌⊎◌, inl, inr, ⊎_elim, ℕ, zero, suc, ◌+◌, ◌-◌, ◌<◌, ◌≤◌, Bool, true, false, Option, Some, None, refl, sym, ap, ◌∙◌, subst, arith}
 use Rattle.std.proofs.Math.Nat.{eq-or-lt_of_le}
-use Rattle.std.proofs.lemmas.Bool.{and_parts, cases_lt}
+use Rattle.std.proofs.lemmas.Bool.{and_parts, cases_lt, cases_Bool, true≢false}
 use Rattle.rst_text.specs.Places.{first_from, last_from, all_from, NoneFrom, IsFirst, IsLast}
 
 pub cases_bool : (b : Bool) → (b ≡ true) ⊎ (b ≡ false)
-cases_bool true = inl refl
-cases_bool false = inr refl
-
-true≢false : true ≡ false → ⊥
-true≢false h = cc
+cases_bool b = cases_Bool b
 
 pub lt_eq_gt : (i j : ℕ) → (i < j) ⊎ ((i ≡ j) ⊎ (j < i))
 lt_eq_gt i j = ⊎_elim inl (λ ge. inr (⊎_elim (λ same. inl (sym same)) (λ more. inr more) (eq-or-lt_of_le ge))) (cases_lt i j)
@@ -54,11 +50,11 @@ IsFirst-before p low high None e h = NoneFrom-before p low high e h
 pub first_from-IsFirst : (p : ℕ → Bool) (low n : ℕ) → IsFirst p low (low + n) (first_from p low n)
 first_from-IsFirst p low zero = NoneFrom-nothing p low (low + 0) (omega arith)
 first_from-IsFirst p low (suc n) = ⊎_elim
-    (λ yes. subst (λ b. IsFirst p low (low + suc n) (cond b (Some low) (first_from p (low + 1) n))) (sym yes) (omega arith, omega arith, yes, NoneFrom-nothing p low low (omega arith)))
+    (λ yes. rw yes (omega arith, omega arith, yes, NoneFrom-nothing p low low (omega arith)))
     (λ no.
     let e : low + 1 + n ≡ low + suc n = omega arith in
     let rest = subst (λ high. IsFirst p (low + 1) high (first_from p (low + 1) n)) e (first_from-IsFirst p (low + 1) n) in
-    subst (λ b. IsFirst p low (low + suc n) (cond b (Some low) (first_from p (low + 1) n))) (sym no) (IsFirst-before p low (low + suc n) (first_from p (low + 1) n) no rest))
+    rw no (IsFirst-before p low (low + suc n) (first_from p (low + 1) n) no rest))
     (cases_bool (p low))
 
 IsFirst-nothing : (p : ℕ → Bool) (low high : ℕ) (r : Option ℕ) → high ≤ low → IsFirst p low high r → r ≡ None
@@ -106,10 +102,7 @@ pub last_from-IsLast : (p : ℕ → Bool) (low n : ℕ) → IsLast p low (low + 
 last_from-IsLast p low zero = NoneFrom-nothing p low (low + 0) (omega arith)
 last_from-IsLast p low (suc n) =
     let e : low + n + 1 ≡ low + suc n = omega arith in
-    subst (λ high. IsLast p low high (cond (p (low + n)) (Some (low + n)) (last_from p low n))) e (⊎_elim
-    (λ yes. subst (λ b. IsLast p low (low + n + 1) (cond b (Some (low + n)) (last_from p low n))) (sym yes) (IsLast-new p low (low + n) (omega arith) yes))
-    (λ no. subst (λ b. IsLast p low (low + n + 1) (cond b (Some (low + n)) (last_from p low n))) (sym no) (IsLast-one p low (low + n) (last_from p low n) no (last_from-IsLast p low n)))
-    (cases_bool (p (low + n))))
+    rw (← e) (⊎_elim (λ yes. rw yes (IsLast-new p low (low + n) (omega arith) yes)) (λ no. rw no (IsLast-one p low (low + n) (last_from p low n) no (last_from-IsLast p low n))) (cases_bool (p (low + n))))
 
 IsLast-nothing : (p : ℕ → Bool) (low high : ℕ) (r : Option ℕ) → high ≤ low → IsLast p low high r → r ≡ None
 IsLast-nothing p low high (Some i) h a = absurd (let x = a.0 in let y = a.1 in omega arith)

@@ -1,17 +1,16 @@
 -- Lines of which most are empty.
-use Rattle.std.proofs.Common.{◌≡◌, ◌⊎◌, inl, inr, Result, MatchResult, ℕ, zero, suc, ◌+◌, ◌<◌, ◌≤◌, ◌^◌, nat_eq, Bool, true, false, cond, List, [], ◌∷◌, ◌++◌, append-nil, length, get_or, drop, map, refl, sym, ap, ◌∙◌, arith, eq-eqb, string_bytes, String, Option, None, Some, option_map, unwrap_or, ◌==◌}
-use Rattle.std.proofs.lemmas.Bool.{eqb-true, lt-ltb}
-use Rattle.std.proofs.lemmas.List.{drop_all}
-use Rattle.std.proofs.lemmas.List.FromFn.{length-map-range_with_len}
+use Rattle.std.proofs.Common.{◌≡◌, ◌⊎◌, ⊎_elim, inl, inr, Result, MatchResult, ℕ, zero, suc, ◌+◌, ◌<◌, ◌≤◌, nat_eq, Bool, true, false, List, [], ◌∷◌, ◌++◌, append-nil, length, get_or, drop, map, refl, sym, ap, ◌∙◌, arith, eq-eqb, string_bytes, String, Option, None, Some}
+use Rattle.std.proofs.lemmas.Bool.{and_parts, cases_Bool, ne_eqb}
+use Rattle.std.proofs.lemmas.List.{drop_all, drop_more}
+use Rattle.std.proofs.lemmas.List.FromFn.{length-map-range_with_len, get_or-map-range_with_len}
 use Rattle.std.proofs.lemmas.List.Sorted.{searched}
 use Rattle.std.specs.List.Sorted.{IsBinarySearchResult}
 use Rattle.std.specs.Ordering.{nat_cmp}
-use Rattle.std.proofs.lemmas.Str.{IsUtf8-string_bytes, encodes-chars, is_utf8-from_IsUtf8}
-use Rattle.std.proofs.Math.Utf8.{encodes}
-use Rattle.std.specs.List.{find, list_all, range_with_len, zip}
+use Rattle.std.proofs.lemmas.Str.{IsUtf8-string_bytes}
+use Rattle.std.specs.List.{list_all, range_with_len, zip}
 use Rattle.std.specs.Str.{chars, is_utf8}
 use Rattle.std.specs.declared.vec.Vec.{Vec}
-use Rattle.rst_text.specs.Block.{Line, Block, front_text, first_number}
+use Rattle.rst_text.specs.Block.{Line, front_text, first_number}
 use Rattle.rst_text.specs.Kept.{AreEmpty}
 use Rattle.rst_text.specs.Lines.{is_line_text, are_lines}
 use Rattle.rst_text.specs.MayCut.{is_text, are_texts}
@@ -19,22 +18,21 @@ use Rattle.rst_text.specs.Source.{texts_with, text_at, spread, ArePlaced, kept_l
 use Rattle.rst_text.specs.Text.{chars_of}
 use Rattle.rst_text.proofs.LineTexts.{is_line_text-nil}
 use Rattle.rst_text.proofs.NumberedLemmas.{length-numbered, first_number-numbered}
-use Rattle.rst_text.proofs.TextLemmas.{not_true, and_true}
+use Rattle.rst_text.proofs.KeptLemmas.{is_text-chars}
 
 -- ---- lines made from their places
 
-made-at : (f : ℕ → Line) (a n i j : ℕ) → i < n → a + i ≡ j → (rest : Block) × (drop i (map f (range_with_len a n)) ≡ f j ∷ rest)
-made-at f a zero i j h e = absurd (omega arith)
-made-at f a (suc n) zero j h e =
-    let same : a ≡ j = omega arith in (map f (range_with_len (a + 1) n), ap (λ k. f k ∷ map f (range_with_len (a + 1) n)) same)
-made-at f a (suc n) (suc i) j h e = made-at f (a + 1) n i j (omega arith) (omega arith)
+made-at : (f : ℕ → Line) (n i : ℕ) → i < n → drop i (map f (range_with_len 0 n)) ≡ f i ∷ drop (i + 1) (map f (range_with_len 0 n))
+made-at f n i h =
+    drop_more (map f (range_with_len 0 n)) i (f 0) (omega (arith, length-map-range_with_len f 0 n))
+    ∙ ap (λ (l : Line). l ∷ drop (i + 1) (map f (range_with_len 0 n))) (get_or-map-range_with_len f 0 n i i (f 0) h (omega arith))
 
 all-made : (q : List ℕ → Bool) (f : ℕ → Line) (a n : ℕ) → ((k : ℕ) → q (f k).text ≡ true) → list_all (λ (l : Line). q l.text) (map f (range_with_len a n)) ≡ true
 all-made q f a zero h = refl
 all-made q f a (suc n) h = rw (h a, all-made q f (a + 1) n h) refl
 
 pub front_text-spread : (first count i : ℕ) (texts : List (ℕ × List ℕ)) → i < count → front_text (drop i (spread first count texts)) ≡ text_at texts i
-front_text-spread first count i texts h = ap front_text (made-at _ 0 count i i h (omega arith)).1
+front_text-spread first count i texts h = ap front_text (made-at _ count i h)
 
 -- ---- the places rise
 
@@ -60,14 +58,14 @@ held-at from to r p (q ∷ ps) [] long h within at = absurd (omega arith)
 held-at from to zero p (q ∷ ps) (t ∷ ts) long h within at = let same : nat_eq q p ≡ true = eq-eqb q p at in rw same refl
 held-at from to (suc r) p (q ∷ ps) (t ∷ ts) long h within at =
     let low : q + 1 ≤ get_or ps r 0 = no_less (q + 1) to r ps ts (omega arith) h.2 (omega arith) in
-    let other : nat_eq q p ≡ false = not_true (nat_eq q p) (λ y. absurd (omega (arith, eqb-true q p y))) in
+    let other : nat_eq q p ≡ false = ne_eqb q p (λ y. omega arith) in
     rw other (held-at (q + 1) to r p ps ts (omega arith) h.2 (omega arith) at)
 
 none-at : (p : ℕ) (ps : List ℕ) (ts : List (List ℕ)) → ((k : ℕ) → k < length ps → get_or ps k 0 ≡ p → ⊥) → text_at (zip ps ts) p ≡ []
 none-at p [] ts h = refl
 none-at p (q ∷ ps) [] h = refl
 none-at p (q ∷ ps) (t ∷ ts) h =
-    let other : nat_eq q p ≡ false = not_true (nat_eq q p) (λ y. h 0 (omega arith) (eqb-true q p y)) in
+    let other : nat_eq q p ≡ false = ne_eqb q p (λ y. h 0 (omega arith) y) in
     rw other (none-at p ps ts (λ k within same. h (suc k) (omega arith) same))
 
 -- where a search found a place, or where it would be
@@ -86,11 +84,8 @@ gap first count i end ps ts within h = λ k low high.
 passes-at : (q : List ℕ → Bool) (texts : List (ℕ × List ℕ)) (p : ℕ) → q [] ≡ true → list_all (λ (t : ℕ × List ℕ). q t.1) texts ≡ true → q (text_at texts p) ≡ true
 passes-at q [] p none all = none
 passes-at q (t ∷ ts) p none all =
-    let h = and_true (q t.1) (list_all (λ (u : ℕ × List ℕ). q u.1) ts) all in by (nat_eq t.0 p) h.0 (passes-at q ts p none h.1)
-  where
-    by : (b : Bool) → q t.1 ≡ true → q (text_at ts p) ≡ true → q (unwrap_or (option_map (λ (u : ℕ × List ℕ). u.1) (cond b (Some t) (find (λ (u : ℕ × List ℕ). u.0 == p) ts))) []) ≡ true
-    by true here after = here
-    by false here after = after
+    let h = and_parts (q t.1) (list_all (λ (u : ℕ × List ℕ). q u.1) ts) all in
+    ⊎_elim (λ here. rw here h.0) (λ other. rw other (passes-at q ts p none h.1)) (cases_Bool (nat_eq t.0 p))
 
 line_texts : (from to : ℕ) (texts : List (ℕ × List ℕ)) → ArePlaced from to texts → list_all (λ (t : ℕ × List ℕ). is_line_text t.1) texts ≡ true
 line_texts from to [] h = refl
@@ -100,12 +95,7 @@ pub are_lines-spread : (first count : ℕ) (texts : List (ℕ × List ℕ)) → 
 are_lines-spread first count texts h = all-made is_line_text _ 0 count (λ k. passes-at is_line_text texts k is_line_text-nil (line_texts 0 count texts h))
 
 text-of_string : {A : Type 0} (s : String A) → is_text (chars_of s) ≡ true
-text-of_string s =
-    let bytes : List ℕ = string_bytes s in
-    let same : encodes (chars bytes) ≡ bytes = encodes-chars bytes (IsUtf8-string_bytes s) in
-    let one : is_utf8 (encodes (chars bytes)) ≡ true = ap is_utf8 same ∙ is_utf8-from_IsUtf8 bytes (IsUtf8-string_bytes s) in
-    let two : (length (encodes (chars bytes)) < 2 ^ 63) = omega (arith, ap length same, s.bytes.ok, s.bytes.small) in
-    rw (one, lt-ltb (length (encodes (chars bytes))) (2 ^ 63) two) refl
+text-of_string s = is_text-chars (string_bytes s) (IsUtf8-string_bytes s) (omega (arith, s.bytes.ok, s.bytes.small))
 
 is_text-nil : is_text [] ≡ true
 unfolding is_utf8 chars
@@ -151,4 +141,4 @@ length-kept_lines first count kept (Some places) h = length-map-range_with_len _
 
 pub number-kept_lines : {A : Type 0} (first count i : ℕ) (kept : List (List ℕ)) (places : Option (Vec ℕ A)) → AreKept count kept places → i < count → first_number (drop i (kept_lines first count kept places)) ≡ first + i
 number-kept_lines first count i kept None h within = first_number-numbered first i kept (omega arith)
-number-kept_lines first count i kept (Some places) h within = ap first_number (made-at _ 0 count i i within (omega arith)).1
+number-kept_lines first count i kept (Some places) h within = ap first_number (made-at _ count i within)

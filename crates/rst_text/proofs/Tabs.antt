@@ -12,13 +12,17 @@ expanded_from tab column (c ∷ cs) =
     if c == 9 then replicate (tab - column % tab) 32 ++ expanded_from tab (column + (tab - column % tab)) cs
     else (shown c ∷ expanded_from tab (column + 1) cs)
 
-tab_of : (a b : Bool) (c : ℕ) → (a ≡ true → c ≡ 11) → (b ≡ true → c ≡ 12) → (cond (a || b) 32 c == 9) ≡ (c == 9)
-tab_of true b c p q = sym (ap (λ x. x == 9) (p refl))
-tab_of false true c p q = sym (ap (λ x. x == 9) (q refl))
-tab_of false false c p q = refl
+-- a test that doesn't tell form feed and vertical tab from a space
+pub shown-keeps : (p : ℕ → Bool) (c : ℕ) → p 11 ≡ p 32 → p 12 ≡ p 32 → p (shown c) ≡ p c
+shown-keeps p c e f = by (c == 11) (c == 12) (eqb-true c 11) (eqb-true c 12)
+  where
+    by : (a b : Bool) → (a ≡ true → c ≡ 11) → (b ≡ true → c ≡ 12) → p (cond (a || b) 32 c) ≡ p c
+    by true b x y = sym (ap p (x refl) ∙ e)
+    by false true x y = sym (ap p (y refl) ∙ f)
+    by false false x y = refl
 
 tab-shown : (c : ℕ) → is_tab (shown c) ≡ (c == 9)
-tab-shown c = tab_of (c == 11) (c == 12) c (eqb-true c 11) (eqb-true c 12)
+tab-shown c = shown-keeps is_tab c refl refl
 
 -- the parts that are left, the first behind the characters of it that were read
 abbrev behind : List ℕ → List (List ℕ) → List (List ℕ)

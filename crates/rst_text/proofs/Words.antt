@@ -1,11 +1,11 @@
 -- A text that is read a character at a time, with each run of white characters as one space.
-use Rattle.std.proofs.Common.{◌≡◌, ◌<◌, ℕ, Bool, true, false, List, [], ◌∷◌, ◌++◌, map, length, arith, refl, sym, ap, ◌∙◌, subst, append_assoc, append-nil}
+use Rattle.std.proofs.Common.{◌≡◌, ◌<◌, ℕ, Bool, true, false, List, [], ◌∷◌, ◌++◌, map, length, arith, refl, sym, ap, ◌∙◌, subst}
 use Rattle.std.specs.Str.{IsAscii, IsUtf8, chars}
 use Rattle.std.proofs.Math.Utf8.{encode, encodes}
-use Rattle.std.proofs.lemmas.Str.{chars_past_char, chars-nil, chars-IsAscii}
+use Rattle.std.proofs.lemmas.Str.{chars-IsAscii}
 use Rattle.std.proofs.lemmas.Str.Ascii.{IsAscii-cons, IsAscii-nil}
 use Rattle.std.proofs.lemmas.Bool.Decides.{nat_tests}
-use Rattle.rst_text.proofs.Scanning.{past_char}
+use Rattle.rst_text.proofs.Scanning.{Writes, Writes-start, Writes-over, Writes-one, Writes-two, Writes-end}
 use Rattle.rst_text.specs.Characters.{is_white}
 use Rattle.rst_text.specs.Names.{normalized_white}
 use Rattle.rst_text.proofs.Parts.{joined_from, joined_from-over, joined_from-due, joined_from-char, joined_from-start}
@@ -22,40 +22,24 @@ spaced_from-start cs = joined_from-start is_white 32 cs
 -- ---- in the words of the code
 
 -- what is written, and what the bytes that are left give, are the text with what f makes of each character
-pub record Spaces (f : ℕ → ℕ) (text out rest : List ℕ) (begun due : Bool) : Type 0 where
-  pub bytes : out ++ encodes (map f (spaced_from begun due (chars rest))) ≡ encodes (map f (normalized_white text))
-  pub utf8 : IsUtf8 rest
+abbrev pub Spaces : (ℕ → ℕ) → List ℕ → List ℕ → List ℕ → Bool → Bool → Type 0
+Spaces f text out rest begun due = Writes (λ cs. map f (spaced_from begun due cs)) (map f (normalized_white text)) out rest
 
 pub Spaces-start : (f : ℕ → ℕ) (text out rest : List ℕ) → IsUtf8 text → rest ≡ text → out ≡ [] → Spaces f (chars text) out rest false false
-Spaces-start f text out rest good same none = record {
-  bytes = ap (λ l. l ++ encodes (map f (spaced_from false false (chars rest)))) none ∙ ap (λ l. encodes (map f (spaced_from false false (chars l)))) same ∙ ap (λ l. encodes (map f l)) (spaced_from-start (chars text));
-  utf8 = subst IsUtf8 (sym same) good;
-}
+Spaces-start f text out rest good same none = Writes-start _ _ text out rest good same none (ap (map f) (spaced_from-start (chars text)))
 
-pub Spaces-white : (f : ℕ → ℕ) (text out rest after : List ℕ) (begun due : Bool) (c : ℕ) → Spaces f text out rest begun due → rest ≡ encode c ++ after → is_white c ≡ true → Spaces f text out after begun begun
-Spaces-white f text out rest after begun due c x e h = record {
-  bytes = sym (ap (λ l. out ++ encodes (map f l)) (ap (spaced_from begun due) (chars_past_char rest after c x.utf8 e) ∙ joined_from-over is_white 32 begun due c (chars after) h)) ∙ x.bytes;
-  utf8 = (past_char rest after c x.utf8 e).1;
-}
+module _ (f : ℕ → ℕ) (text out rest after : List ℕ) (begun : Bool) (c : ℕ) where
+  pub Spaces-white : (due : Bool) → Spaces f text out rest begun due → rest ≡ encode c ++ after → is_white c ≡ true → Spaces f text out after begun begun
+  Spaces-white due x e h = Writes-over _ _ _ out rest after c x e (ap (map f) (joined_from-over is_white 32 begun due c (chars after) h))
 
-pub Spaces-word : (f : ℕ → ℕ) (text out rest after : List ℕ) (begun : Bool) (c : ℕ) → Spaces f text out rest begun false → rest ≡ encode c ++ after → is_white c ≡ false → Spaces f text (out ++ encode (f c)) after true false
-Spaces-word f text out rest after begun c x e h = record {
-  bytes = append_assoc out (encode (f c)) (encodes (map f (spaced_from true false (chars after))))
-      ∙ sym (ap (λ l. out ++ encodes (map f l)) (ap (spaced_from begun false) (chars_past_char rest after c x.utf8 e) ∙ joined_from-char is_white 32 begun c (chars after) h)) ∙ x.bytes;
-  utf8 = (past_char rest after c x.utf8 e).1;
-}
+  pub Spaces-word : Spaces f text out rest begun false → rest ≡ encode c ++ after → is_white c ≡ false → Spaces f text (out ++ encode (f c)) after true false
+  Spaces-word x e h = Writes-one _ _ _ out rest after c x e (f c) (ap (map f) (joined_from-char is_white 32 begun c (chars after) h))
 
-pub Spaces-due : (f : ℕ → ℕ) (text out rest after : List ℕ) (begun : Bool) (c : ℕ) → Spaces f text out rest begun true → rest ≡ encode c ++ after → is_white c ≡ false
-    → Spaces f text ((out ++ encode (f 32)) ++ encode (f c)) after true false
-Spaces-due f text out rest after begun c x e h = record {
-  bytes = append_assoc (out ++ encode (f 32)) (encode (f c)) (encodes (map f (spaced_from true false (chars after)))) ∙ append_assoc out (encode (f 32)) (encode (f c) ++ encodes (map f (spaced_from true false (chars after))))
-      ∙ sym (ap (λ l. out ++ encodes (map f l)) (ap (spaced_from begun true) (chars_past_char rest after c x.utf8 e) ∙ joined_from-due is_white 32 begun c (chars after) h)) ∙ x.bytes;
-  utf8 = (past_char rest after c x.utf8 e).1;
-}
+  pub Spaces-due : Spaces f text out rest begun true → rest ≡ encode c ++ after → is_white c ≡ false → Spaces f text ((out ++ encode (f 32)) ++ encode (f c)) after true false
+  Spaces-due x e h = Writes-two _ _ _ out rest after c x e (f 32) (f c) (ap (map f) (joined_from-due is_white 32 begun c (chars after) h))
 
 pub Spaces-end : (f : ℕ → ℕ) (text out rest : List ℕ) (begun due : Bool) → Spaces f text out rest begun due → length rest ≡ 0 → out ≡ encodes (map f (normalized_white text))
-Spaces-end f text out [] begun due x none = sym (append-nil out) ∙ sym (ap (λ l. out ++ encodes (map f (spaced_from begun due l))) chars-nil) ∙ x.bytes
-Spaces-end f text out (b ∷ rest) begun due x none = absurd (omega arith)
+Spaces-end f text out rest begun due x none = Writes-end _ _ out rest refl x none
 
 -- ---- a text that has its words with one space between them already
 

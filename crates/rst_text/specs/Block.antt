@@ -34,10 +34,14 @@ indentation (c ∷ cs) = if c == 32 then suc (indentation cs) else 0
 abbrev pub shorten : ℕ → Line → Line
 shorten n l = record { number = l.number; text = drop n l.text }
 
+-- what w makes of each line with its cut, which is f for the first line and r for each other
+abbrev pub each_cut : {A : Type 0} → (ℕ → Line → A) → ℕ → ℕ → Block → List A
+each_cut w f r [] = []
+each_cut w f r (l ∷ ls) = w f l ∷ map (w r) ls
+
 -- a block, its first line without f characters, each other without r
 abbrev pub shorten_all : ℕ → ℕ → Block → Block
-shorten_all f r [] = []
-shorten_all f r (l ∷ ls) = shorten f l ∷ map (shorten r) ls
+shorten_all f r B = each_cut shorten f r B
 
 -- lines i to j - 1 of a block, the first without f characters, each other without r
 abbrev pub cut : Block → ℕ → ℕ → ℕ → ℕ → Block

@@ -1,5 +1,9 @@
--- What a call gives that only want of memory can hinder. No rule of markup: the standard doesn't speak of memory.
-use Rattle.std.specs.Prelude.{Result, Ok, Err}
+-- What a call gives that want of memory can hinder. No rule of markup but the limit: the standard doesn't speak of memory.
+use Rattle.std.specs.Prelude.{◌≡◌, ℕ, List, Option, Some, None, Result, Ok, Err}
+use Rattle.rst_text.specs.Block.{Block}
+use Rattle.rst_text.specs.Lines.{first_longer, lines_of}
+use Rattle.rst_text.specs.declared.fault.LineFault.{LineFault}
+use Rattle.rst_text.specs.declared.fault.LineFault.TheVariants.{TooLong, NoMemory as OutOfMemory}
 use Rattle.rst_text.specs.declared.fault.TextFault.{TextFault}
 use Rattle.rst_text.specs.declared.fault.TextFault.TheVariants.{NotUtf8, NoMemory}
 
@@ -8,3 +12,9 @@ abbrev pub Gives : {A : Type 0} → (A → Type 0) → Result A TextFault → Ty
 Gives P (Ok value) = P value
 Gives P (Err (NotUtf8 at)) = ⊥
 Gives P (Err NoMemory) = Unit {0}
+
+-- the lines of a text, of which none is longer than the limit, or the first that is longer, or want of memory (Configuration, `line_length_limit`)
+abbrev pub AreWithin : ℕ → ℕ → List ℕ → Result Block LineFault → Type 0
+AreWithin limit tab text (Ok lines) = (lines ≡ lines_of tab text) × (first_longer limit lines ≡ None)
+AreWithin limit tab text (Err (TooLong line)) = first_longer limit (lines_of tab text) ≡ Some line
+AreWithin limit tab text (Err OutOfMemory) = Unit {0}

@@ -1,19 +1,18 @@
 -- The part of the lines that a view shows. No rule of markup: a view is a block whose cuts are counted in bytes.
-use Rattle.std.specs.Prelude.{ℕ, ◌-◌, ◌≤◌, IsTrue, [], ◌∷◌, take, drop, map, length, encode_utf8_all}
+use Rattle.std.specs.Prelude.{ℕ, ◌-◌, ◌≤◌, IsTrue, take, drop, length}
 use Rattle.std.specs.Str.{chars}
-use Rattle.rst_text.specs.Block.{Line, Block}
-use Rattle.rst_text.specs.MayCut.{may_cut_at}
+use Rattle.rst_text.specs.Block.{Line, Block, each_cut}
+use Rattle.rst_text.specs.MayCut.{bytes_behind, may_cut_at}
 use Rattle.rst_text.specs.declared.view.Placement.{Placement}
 use Rattle.rst_text.specs.declared.view.View.{View}
 
 -- a line without its first n bytes
 abbrev pub without_bytes : ℕ → Line → Line
-without_bytes n l = record { number = l.number; text = chars (drop n (encode_utf8_all l.text)) }
+without_bytes n l = record { number = l.number; text = chars (bytes_behind n l) }
 
 -- lines, the first without f bytes, each other without r
 abbrev pub byte_cut : ℕ → ℕ → Block → Block
-byte_cut f r [] = []
-byte_cut f r (l ∷ ls) = without_bytes f l ∷ map (without_bytes r) ls
+byte_cut f r ls = each_cut without_bytes f r ls
 
 -- the block that a view shows
 unfoldable pub block_of : View → Block

@@ -1,15 +1,15 @@
 //! The lines of a text.
-ghost use Rattle.std.specs.Prelude.{◌≡◌, ◌+◌, ◌-◌, ◌≤◌, ◌<◌, ◌^◌, ◌∷◌, ℕ, length, drop, IfOk, IfSome};
+ghost use Rattle.std.specs.Prelude.{◌≡◌, ◌+◌, ◌-◌, ◌≤◌, ◌<◌, ◌^◌, ◌∷◌, ℕ, nat_lt, length, drop, IfOk, IsTrue};
 ghost use Rattle.std.specs.Str.{chars, IsUtf8};
 ghost use Rattle.rst_text.specs.Block.{front_text, first_number};
-ghost use Rattle.rst_text.specs.Faults.{Gives};
+ghost use Rattle.rst_text.specs.Faults.{Gives, AreWithin};
 ghost use Rattle.rst_text.specs.Kept.{IsEmptyRun};
-ghost use Rattle.rst_text.specs.Lines.{is_line_end, pieces, shown, expanded, tidied, lines_of};
+ghost use Rattle.rst_text.specs.Lines.{is_line_end, pieces, shown, expanded, lines_of};
 ghost use Rattle.rst_text.specs.Ordinary.{AreOrdinary};
 ghost use Rattle.rst_text.specs.Source.{texts_with, spread, ArePlaced};
 ghost use Rattle.rst_text.specs.Text.{chars_of};
 
-use super::fault::TextFault;
+use super::fault::{LineFault, TextFault};
 use super::kept::Kept;
 use super::ordinary::ordinary_len;
 use std::alloc::{AllocError, Global};
@@ -49,18 +49,38 @@ impl Lines {
         requires to { tab ≤ 99 }
         ensures { Gives (λ lines. lines ≡ lines_of tab (chars text.now)) result }
     {
+        // A line with more characters than can be counted would need more memory than there is.
+        match Lines::within(alloc, text, tab, usize::MAX) {
+            Ok(lines) => Ok(lines),
+            Err(_) => Err(TextFault::NoMemory),
+        }
+    }
+
+    /// The lines of a text, if none of them has more than `limit` characters (Configuration, `line_length_limit`). A
+    /// line is measured before its tabs are expanded: a tab that is counted takes no memory, an expanded one does.
+    ///
+    /// The refusals are [`LineFault::TooLong`], of the first line that is too long, and [`LineFault::NoMemory`].
+    pub fn within(alloc: Global, text: &str, tab: u8, limit: usize) -> Result<Lines, LineFault>
+        requires from { 1 ≤ tab }
+        requires to { tab ≤ 99 }
+        ensures { AreWithin limit tab (chars text.now) result }
+    {
         // Only a tab makes a line longer than it stands in the text, so this room is seldom too small.
         let mut kept = Kept::with_room(alloc, text.len())?;
         let mut rest = text;
         while !rest.is_empty() {
-            if let Some((piece, after)) = ordinary_piece(rest) {
-                kept.push(trimmed(piece))?;
-                rest = after;
-                continue;
+            let (piece, after, ordinary) = first_piece(rest);
+            let piece = piece.trim_end();
+            if is_longer(piece, usize::from(tab), limit) {
+                return Err(LineFault::TooLong {
+                    line: kept.len() + 1,
+                });
             }
-            let (piece, after) = first_piece(rest);
-            let line = tidy(alloc, piece, usize::from(tab))?;
-            kept.push(line.as_str())?;
+            if ordinary {
+                kept.push(piece)?;
+            } else {
+                kept.push(expand(alloc, piece, usize::from(tab))?.as_str())?;
+            }
             rest = after;
         }
         let count = kept.len();
@@ -158,59 +178,56 @@ pub fn is_line_end(c: char) -> bool
     )
 }
 
-/// The first piece of a text, if a line feed ends it and its bytes are ordinary, and what follows the line feed.
-fn ordinary_piece(text: &str) -> Option<(&str, &str)>
-    ensures pieces { IfSome result (λ first. pieces (chars text.now) ≡ chars first.0.now ∷ pieces (chars first.1.now)) }
-    ensures ordinary { IfSome result (λ first. AreOrdinary first.0.now) }
-    ensures shorter { IfSome result (λ first. length first.1.now < length text.now) }
-    ensures text { IfSome result (λ first. IsUtf8 first.1.now) }
-{
-    let (piece, rest) = text.split_at(ordinary_len(text));
-    let after = rest.strip_prefix('\n')?;
-    Some((piece, after))
-}
-
-/// The first piece of a text that isn't empty, and what follows the end of that line.
-fn first_piece(text: &str) -> (&str, &str)
+/// The first piece of a text that isn't empty, what follows the end of that line, and whether the bytes of the piece are ordinary.
+/// `false` tells nothing.
+fn first_piece(text: &str) -> (&str, &str, bool)
     requires { 0 < length text.now }
     ensures pieces { pieces (chars text.now) ≡ chars result.0.now ∷ pieces (chars result.1.now) }
     ensures shorter { length result.1.now < length text.now }
-    ensures text { IsUtf8 result.1.now }
+    ensures text { IsUtf8 result.0.now × IsUtf8 result.1.now }
+    ensures ordinary { IsTrue result.2 → AreOrdinary result.0.now }
 {
+    let (ordinary, special) = text.split_at(ordinary_len(text));
+    if let Some(after) = special.strip_prefix('\n') {
+        return (ordinary, after, true);
+    }
     let mut left = text;
     'left: loop {
         let (_, special) = left.split_at(ordinary_len(left));
         let mut rest = special.chars();
         let Some(c) = rest.next() else {
-            return (text, "");
+            return (text, "", false);
         };
         let after = rest.as_str();
         if is_line_end(c) {
             let (piece, _) = text.split_at(text.len() - after.len() - c.len_utf8());
             if c == '\r' {
-                return (piece, after.strip_prefix('\n').unwrap_or(after));
+                return (piece, after.strip_prefix('\n').unwrap_or(after), false);
             }
-            return (piece, after);
+            return (piece, after, false);
         }
         left = after;
     }
 }
 
-/// A piece of ordinary bytes, in which no tab stands, without white characters at its end.
-fn trimmed(text: &str) -> &str
-    requires { AreOrdinary text.now }
-    ensures { (tab : ℕ) → chars result.now ≡ tidied tab (chars text.now) }
+/// Whether a piece has more than `limit` characters once its tabs are expanded.
+fn is_longer(piece: &str, tab: usize, limit: usize) -> bool
+    requires { 1 ≤ tab }
+    ensures { result ≡ nat_lt limit (length (expanded tab (chars piece.now))) }
 {
-    text.trim_end()
-}
-
-/// A piece with its tabs expanded, and without white characters at its end.
-fn tidy(alloc: Global, piece: &str, tab: usize) -> Result<String, AllocError>
-    requires from { 1 ≤ tab }
-    requires to { tab ≤ 99 }
-    ensures { IfOk result (λ line. chars_of line ≡ tidied tab (chars piece.now)) }
-{
-    expand(alloc, piece.trim_end(), tab)
+    // A byte gives `tab` characters at most.
+    if piece.len() <= limit / tab {
+        return false;
+    }
+    let mut column = 0usize;
+    for c in piece.chars() {
+        let wide = if c == '\t' { tab - column % tab } else { 1 };
+        if wide > limit - column {
+            return true;
+        }
+        column += wide;
+    }
+    false
 }
 
 /// A piece with its tabs expanded.

@@ -12,8 +12,7 @@ ghost use Rattle.rst_transform_messages.specs.Messages.{highest_level};
 ghost use Rattle.rst_transform_structure.specs.Targets.{with_targets};
 ghost use Rattle.rst_transform_structure.specs.Title.{with_title};
 ghost use Rattle.rst_transform_substitutions.specs.Expanded.{with_expansions};
-ghost use Rattle.rst_transform.specs.Finishing.{asked, Finishes};
-ghost use Rattle.rst_transform.specs.Finishing as spec;
+ghost use Rattle.rst_transform.specs.Finishing.{asked, transformed, Finishes};
 
 use crate::linking::resolve_links;
 use rst_settings::Settings;
@@ -63,9 +62,14 @@ pub fn finish(alloc: Global, parsed: Parsed, settings: &Settings) -> Result<Fini
         serials: registered.serials,
     };
     let start = Document::of(registered.root);
-    let mut list = Messages::with_room(alloc, messages, settings.halt, settings.report)?;
-    let early = list.add_all(alloc, &start.children)?;
-    let after = transformed(start, early, &mut context, settings)?;
+    let mut list = Messages::of(
+        alloc,
+        &start.children,
+        messages,
+        settings.halt,
+        settings.report,
+    )?;
+    let after = transformed(start, list.early, &mut context, settings)?;
     let sectioned = last_section(after, &mut context, settings.report)?;
     list.add_reports(context.reports)?;
     let shown = filter(alloc, sectioned, settings.report, list.shown())?;
@@ -85,7 +89,7 @@ fn transformed(
     settings: &Settings,
 ) -> Result<Document>
     requires { early ≡ false → list_any is_early (items document.children) ≡ false }
-    ensures { Gives (Makes (spec.transformed (profile_of settings.now) settings.now document) context.old context.new) result }
+    ensures { Gives (Makes (transformed (profile_of settings.now) settings.now document) context.old context.new) result }
 {
     let retargeted = with_early(document, early, context)?;
     let titled = with_title(retargeted, context, settings.title)?;

@@ -164,25 +164,16 @@ fn out_of_form(name: &str, mut field: Field, context: &mut Context) -> Result<No
     ensures reports { Gives (λ _. IsReported (fault_report context.old.first_number context.old.reports.items name.now field.line) context.old context.new) result }
     ensures rest { Gives (λ _. KeepsRest context.old context.new) result }
 {
-    let message = message(field.line, name, context)?;
-    field.body = with_child(field.body, message)?;
-    let node = stays(context.alloc, name, field)?;
-    Ok(node)
-}
-
-/// The WARNING on a field of this name that isn't in its form. It is in the list of messages, too.
-fn message(line: usize, name: &str, context: &mut Context) -> Result<Node>
-    ensures node { Gives (λ node. node ≡ report_node (fault_report context.old.first_number context.old.reports.items name.now line)) result }
-    ensures reports { Gives (λ _. IsReported (fault_report context.old.first_number context.old.reports.items name.now line) context.old context.new) result }
-    ensures rest { Gives (λ _. KeepsRest context.old context.new) result }
-{
     let text = Text::of_three(
         context.alloc,
         "Bibliographic field \"",
         name,
         "\" is not in its form.",
     )?;
-    context.report_in_place(Level::Warning, line, text)
+    let message = context.report_in_place(Level::Warning, field.line, text)?;
+    field.body = with_child(field.body, message)?;
+    let node = stays(context.alloc, name, field)?;
+    Ok(node)
 }
 
 /// A body with one more node after those in it.

@@ -1,41 +1,26 @@
--- The linked elements of a document, found one node after another.
-use Rattle.std.proofs.Common.{◌≡◌, ℕ, ◌+◌, ◌<◌, ◌≤◌, List, ◌++◌, length, map, get_or, drop, append_assoc, sym, ◌∙◌, ap, Option}
-use Rattle.std.proofs.lemmas.List.{append-nil, drop_all, drop_more, length-append, length-map}
-use Rattle.rst_tree.specs.declared.attrs.Attr.{Attr}
-use Rattle.rst_tree.specs.declared.node.Node.{Node}
-use Rattle.rst_tree.specs.declared.node.Node.TheVariants.{Element, Text}
-use Rattle.rst_tree.specs.declared.tag.Tag.{Tag}
-use Rattle.rst_tree.specs.Forest.{Forest}
-use Rattle.rst_tree.specs.Nodes.{forest_of}
+-- The linked elements of a document, found one after another.
+use Rattle.std.proofs.Common.{◌≡◌, ℕ, ◌+◌, List, ◌++◌, length, map, sym, ◌∙◌, ap, Option}
+use Rattle.std.proofs.lemmas.List.{append-nil, length-append, length-map}
+use Rattle.rst_tree.proofs.Folds.{three_added}
+use Rattle.rst_tree.specs.declared.node.Node.TheVariants.{Element}
+use Rattle.rst_tree.specs.Forest.{Forest, bare, element, words}
+use Rattle.rst_tree.specs.Read.{AreRead}
 use Rattle.rst_transform_links.specs.declared.links.Linked.{Linked}
-use Rattle.rst_transform_links.specs.Linkings.{Held, held, inner_of, linked_among, own_linked}
+use Rattle.rst_transform_links.specs.declared.links.LinkedReader.{LinkedReader}
+use Rattle.rst_transform_links.specs.Linkings.{Held, held, linked_among, own_linked, TakesLinked}
 
 -- how many there are, with more after them
 more : (old new : List Linked) (behind : List Held) → map held new ≡ map held old ++ behind → length old + length behind ≡ length new
 more old new behind is =
     sym (sym (length-map new held) ∙ ap length is ∙ length-append (map held old) behind ∙ ap (λ n. n + length behind) (length-map old held))
 
--- a text holds none
-pub past_text : (ns : List Node) (i : ℕ) (n : Node) (x : List ℕ) (old : List Linked) (outer : Option ℕ) (all : List Held) → i < length ns → n ≡ get_or ns i n → n ≡ Text x
-    → map held old ++ linked_among (length old) outer (forest_of (drop i ns)) ≡ all
-    → map held old ++ linked_among (length old) outer (forest_of (drop (i + 1) ns)) ≡ all
-past_text ns i n x old outer all within at is before =
-    rw (drop_more ns i n within, ← at, is) at before
-
--- after an element come those after it, once its own and those in it are listed
-pub past_element : (ns : List Node) (i : ℕ) (n : Node) (t : Tag) (a : List Attr) (c : Forest) (l : ℕ) (old own new : List Linked) (outer inner : Option ℕ) (all : List Held) → i < length ns → n ≡ get_or ns i n → n ≡ Element t a c l
-    → inner ≡ inner_of (length old) outer t → map held own ≡ map held old ++ own_linked outer t n → map held new ≡ map held own ++ linked_among (length own) inner c
-    → map held old ++ linked_among (length old) outer (forest_of (drop i ns)) ≡ all
-    → map held new ++ linked_among (length new) outer (forest_of (drop (i + 1) ns)) ≡ all
-past_element ns i n t a c l old own new outer inner all within at is around gets_own gets_inside before =
-    let itself : List Held = own_linked outer t (Element t a c l) in
-    let inside : List Held = linked_among (length own) inner c in
-    let rest : List Held = linked_among (length new) outer (forest_of (drop (i + 1) ns)) in
-    let its : map held own ≡ map held old ++ itself = rw is at gets_own in
-    let split : map held old ++ (itself ++ (inside ++ rest)) ≡ all =
-    rw (drop_more ns i n within, ← at, is, more old own itself its, ← around, more own new inside gets_inside) at before in
-    rw (gets_inside, its, append_assoc (map held old ++ itself) inside rest, append_assoc (map held old) itself (inside ++ rest)) split
-
--- at the end all are listed
-pub at_end : (ns : List Node) (i : ℕ) (old : List Linked) (outer : Option ℕ) (all : List Held) → length ns ≤ i → map held old ++ linked_among (length old) outer (forest_of (drop i ns)) ≡ all → map held old ≡ all
-at_end ns i old outer all past before = sym (append-nil (map held old)) ∙ rw (drop_all i ns past) at before
+-- those among nodes come behind the others
+pub linked_read : (outer : Option ℕ) (f : Forest) (old new : LinkedReader) → AreRead TakesLinked outer f old new → map held new.list.items ≡ map held old.list.items ++ linked_among (length old.list.items) outer f
+linked_read outer bare old new read = rw read (sym (append-nil (map held old.list.items)))
+linked_read outer (words t r) old new read = linked_read outer r old new read
+linked_read outer (element t a c l r) old new read =
+    let own : List Held = own_linked outer t (Element t a c l) in
+    let inside : List Held = linked_among (length read.0.list.items) read.1 c in
+    let its : map held read.2.list.items ≡ map held read.0.list.items ++ inside = linked_read read.1 c read.0 read.2 read.4 in
+    rw (more old.list.items read.0.list.items own read.3.0, ← read.3.1, more read.0.list.items read.2.list.items inside its)
+    (three_added (map held old.list.items) own inside (linked_among (length read.2.list.items) outer r) (map held read.0.list.items) (map held read.2.list.items) (map held new.list.items) read.3.0 its (linked_read outer r read.2 new read.5))

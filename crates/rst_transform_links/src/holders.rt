@@ -5,8 +5,7 @@ ghost use Rattle.rst_tree.specs.declared.key.Key.TheVariants.{Serial};
 ghost use Rattle.rst_tree.specs.Attributes.{attr};
 ghost use Rattle.rst_tree.specs.Faults.{Gives};
 ghost use Rattle.rst_transform_names.specs.declared.names.Holder.{Holder};
-ghost use Rattle.rst_transform_links.specs.Holders.{lead_of};
-ghost use Rattle.rst_transform_links.specs.Holders.{element_at, holder_place, holding, is_nobody, is_target_node, kept_lead, name_lead, place_at, target_lead, with_place};
+ghost use Rattle.rst_transform_links.specs.Holders.{element_at, holder_place, holding, is_nobody, is_target_node, kept_lead, lead_of, name_lead, place_at, target_lead, with_place};
 ghost use Rattle.rst_transform_links.specs.Linkings.{held};
 ghost use Rattle.rst_transform_work.specs.Reading.{number_said};
 

@@ -1,13 +1,17 @@
 //! The elements that references join, and what the transforms of references make of them.
-ghost use Rattle.std.specs.Prelude.{◌≡◌, ◌++◌, map, length, true, None, Some};
+ghost use Rattle.std.specs.Prelude.{◌≡◌, drop, map, true};
 ghost use Rattle.std.specs.List.{list_all};
+ghost use Rattle.rst_tree.specs.declared.node.Node.TheVariants.{Element};
 ghost use Rattle.rst_tree.specs.Faults.{Gives};
-ghost use Rattle.rst_transform_links.specs.Linkings.{held, inner_of, linked_among, linked_of, own_linked};
-ghost use Rattle.rst_transform_links.specs.Links.{changed_document, is_idle};
+ghost use Rattle.rst_tree.specs.Rewritten.{Turned};
+ghost use Rattle.rst_transform_links.specs.Linkings.{held, linked_of, TakesLinked};
+ghost use Rattle.rst_transform_links.specs.Links.{change_next, change_of, changed_by, changed_document, is_idle};
 ghost use Rattle.rst_transform_links.specs.Outcomes.{adds, fails, stays};
 
 use rst_transform_work::{Document, ProblematicAttrs, take_source};
-use rst_tree::{Attr, Attrs, Children, Node, Result, Rewriter, Tag, Text, rewrite_in};
+use rst_tree::{
+    Attr, Attrs, Children, Node, Reader, Result, Rewriter, Tag, Text, read_elements, rewrite_in,
+};
 use rst_tree_index::is_linked_tag;
 use std::alloc::Global;
 use std::collections::VecDeque;
@@ -59,59 +63,46 @@ impl Outcome {
     }
 }
 
+/// The linked elements that were read.
+#[derive(Drop)]
+struct LinkedReader<'a> {
+    list: Vec<Linked<'a>>,
+}
+
+impl<'a> Reader<'a> for LinkedReader<'a> {
+    ghost takes = { TakesLinked };
+
+    #[inline(always)]
+    fn read(
+        &mut self,
+        _alloc: Global,
+        element: &'a Node,
+        level: Option<usize>,
+    ) -> Result<Option<usize>> {
+        let Node::Element { tag, .. } = element else {
+            return Ok(None);
+        };
+        if is_linked_tag(*tag) {
+            let place = self.list.len();
+            self.list.push(Linked {
+                element,
+                outer: level,
+            })?;
+            return Ok(Some(place));
+        }
+        Ok(level)
+    }
+}
+
 /// The linked elements in a document, in preorder.
 pub fn linked_in<'a>(alloc: Global, document: &'a Document) -> Result<Vec<Linked<'a>>>
     ensures { Gives (λ list. map held list.items ≡ linked_of document.now) result }
 {
-    let mut list = Vec::new(alloc);
-    add_linked(&document.children, None, &mut list)?;
-    Ok(list)
-}
-
-/// Adds the linked elements among nodes that are inside the one at the place `outer`, and those in them.
-fn add_linked<'a>(
-    nodes: &'a Children,
-    outer: Option<usize>,
-    list: &mut Vec<Linked<'a>>,
-) -> Result<()>
-    ensures { Gives (λ _. map held list.new.items ≡ map held list.old.items ++ linked_among (length list.old.items) outer nodes.now) result }
-{
-    for node in nodes.as_slice() {
-        match node {
-            Node::Text(_) => continue,
-            Node::Element { tag, children, .. } => {
-                let inner = add_own(node, *tag, outer, list)?;
-                if children.are_plain() {
-                    continue;
-                }
-                add_linked(children, inner, list)?;
-            }
-        }
-    }
-    Ok(())
-}
-
-/// Adds an element, if it is linked, that is inside the one at the place `outer`, and returns the place of the innermost linked element
-/// that the nodes in it are inside: its own, if it is linked, or else `outer`.
-#[inline(always)]
-fn add_own<'a>(
-    node: &'a Node,
-    tag: Tag,
-    outer: Option<usize>,
-    list: &mut Vec<Linked<'a>>,
-) -> Result<Option<usize>>
-    ensures own { Gives (λ _. map held list.new.items ≡ map held list.old.items ++ own_linked outer tag node.now) result }
-    ensures inner { Gives (λ inner. inner ≡ inner_of (length list.old.items) outer tag) result }
-{
-    if !is_linked_tag(tag) {
-        return Ok(outer);
-    }
-    let place = list.len();
-    list.push(Linked {
-        element: node,
-        outer,
-    })?;
-    Ok(Some(place))
+    let mut linked = LinkedReader {
+        list: Vec::new(alloc),
+    };
+    read_elements(alloc, &document.children, None, &mut linked)?;
+    Ok(linked.list)
 }
 
 /// What becomes of the linked elements of a tree, in preorder, which contracts see as the list of
@@ -136,11 +127,6 @@ impl Model for Changes {
 }
 
 impl Changes {
-    ghost use Rattle.std.specs.Prelude.{drop};
-    ghost use Rattle.rst_tree.specs.Rewritten.{Turned};
-    ghost use Rattle.rst_tree.specs.declared.node.Node.TheVariants.{Element};
-    ghost use Rattle.rst_transform_links.specs.Links.{changed_by};
-
     /// The changes in a list.
     pub fn of(list: Vec<Outcome>) -> Changes
         ensures { result ≡ list.items }
@@ -206,8 +192,6 @@ fn is_idle(outcome: &Outcome) -> bool
 }
 
 impl Rewriter for Changes {
-    ghost use Rattle.rst_transform_links.specs.Links.{change_next, change_of};
-
     ghost entered = { change_next };
 
     ghost becomes = { change_of };

@@ -4,8 +4,7 @@ ghost use Rattle.std.specs.List.{list_all};
 ghost use Rattle.rst_tree.specs.Faults.{Gives};
 ghost use Rattle.rst_transform_links.specs.Linkings.{held};
 ghost use Rattle.rst_transform_links.specs.Outcomes.{stays};
-ghost use Rattle.rst_transform_links.specs.Settling as spec;
-ghost use Rattle.rst_transform_links.specs.Settling.{by_message, earlier, first_in, firsts, turn_of, turns_of};
+ghost use Rattle.rst_transform_links.specs.Settling.{by_message, earlier, first_in, firsts, remaining, settled, take_turns, turn_of, turns_of};
 ghost use Rattle.rst_transform_work.specs.Known.{Makes};
 
 use crate::links::{Changes, Linked, Outcome};
@@ -22,7 +21,7 @@ pub fn settle(
     linked: &[Linked<'_>],
     mut outcomes: Vec<Outcome>,
 ) -> Result<Changes>
-    ensures { Gives (Makes (spec.settled (map held linked.now) outcomes.items) context.old context.new) result }
+    ensures { Gives (Makes (settled (map held linked.now) outcomes.items) context.old context.new) result }
 {
     if all_stay(outcomes.as_slice()) {
         return Ok(Changes::of(outcomes));
@@ -106,7 +105,7 @@ fn take_turns(
     turns: &[(usize, usize)],
     outcomes: &mut Vec<Outcome>,
 ) -> Result<()>
-    ensures { Gives (λ _. Makes (spec.take_turns turns.now outcomes.old.items) context.old context.new outcomes.new.items) result }
+    ensures { Gives (λ _. Makes (take_turns turns.now outcomes.old.items) context.old context.new outcomes.new.items) result }
 {
     for turn in turns {
         let problematic = context.next_problematic(turn.0)?;
@@ -117,7 +116,7 @@ fn take_turns(
 
 /// What becomes of the elements that remain in the end.
 fn remaining(alloc: Global, outcomes: Vec<Outcome>, around: &[Option<usize>]) -> Result<Changes>
-    ensures { Gives (λ changes. changes ≡ spec.remaining around.now outcomes.items) result }
+    ensures { Gives (λ changes. changes ≡ remaining around.now outcomes.items) result }
 {
     let mut left = Vec::with_capacity(alloc, outcomes.len())?;
     for (place, outcome) in outcomes.into_iter().enumerate() {

@@ -1,4 +1,3 @@
 pub mod Computing
 pub mod Listing
-pub mod Looking
 pub mod Showing

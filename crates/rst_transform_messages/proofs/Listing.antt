@@ -1,9 +1,11 @@
 -- The list of messages, one message after another.
-use Rattle.std.proofs.Common.{◌≡◌, ℕ, ◌+◌, ◌<◌, List, [], ◌∷◌, ◌++◌, length, get_or, take, Bool, true, false, append_assoc, arith, refl, ap, sym, ◌∙◌}
-use Rattle.std.specs.Prelude.{◌&&◌, ◌||◌, if◌then◌else◌, slice_get, Option, Some, Result}
+use Rattle.std.proofs.Common.{◌≡◌, ℕ, List, [], ◌∷◌, ◌++◌, length, Bool, true, false, append_assoc, arith, refl, ap, sym, ◌∙◌, ⊎_elim}
+use Rattle.std.specs.Prelude.{◌&&◌, ◌||◌, if◌then◌else◌, slice_get, Option, Some, None, Result}
 use Rattle.std.specs.List.{list_any}
-use Rattle.std.proofs.lemmas.List.{append-nil, map-append, take_more}
+use Rattle.std.proofs.lemmas.Bool.{cases_Bool}
+use Rattle.std.proofs.lemmas.List.{append-nil, map-append}
 use Rattle.std.proofs.lemmas.List.Folds.{list_any-append}
+use mathlib.Core.Bool.{or-false, or_assoc}
 use Rattle.rst_settings.specs.declared.Threshold.{Threshold}
 use Rattle.rst_settings.specs.Threshold.{is_reached}
 use Rattle.rst_tree.specs.declared.attrs.Attr.{Attr}
@@ -15,55 +17,40 @@ use Rattle.rst_tree.specs.declared.fault.TreeFault.{TreeFault}
 use Rattle.rst_tree.specs.Faults.{Gives}
 use Rattle.rst_tree.specs.Forest.{Forest, bare, element, words}
 use Rattle.rst_tree.specs.LevelNames.{level_number}
-use Rattle.rst_tree.specs.Nodes.{forest_of, nodes_of}
+use Rattle.rst_tree.specs.Nodes.{nodes_of}
+use Rattle.rst_tree.specs.Read.{AreRead}
+use Rattle.rst_tree.specs.Walk.{item, items}
 use Rattle.rst_tree.specs.Tree.{text_all, text_in}
 use Rattle.rst_tree_index.specs.Kinds.{is_message}
 use Rattle.rst_transform_messages.specs.declared.messages.Messages.{Messages}
-use Rattle.rst_transform_messages.specs.Listed.{Adds, KeepsLevels, Lists}
+use Rattle.rst_transform_messages.specs.Early.{is_early}
+use Rattle.rst_transform_messages.specs.Listed.{Adds, Keeps, KeepsLevels, Lists, TakesMessage, own_message}
 use Rattle.rst_transform_messages.specs.Messages.{halts, has_halt, has_number, is_number_shown, is_shown_as, marked, notes_of, until_halt, Numbered}
 use Rattle.rst_transform_messages.specs.MessagesIn.{message_said, messages_among}
 
 -- whether a run halts follows from the messages up to the halt
 halts_until : (halt : Threshold) (notes : List Note) → has_halt halt (until_halt halt notes) ≡ has_halt halt notes
 halts_until halt [] = refl
-halts_until halt (note ∷ more) = by (halts halt note) (halts_until halt more)
-  where
-    by : (b : Bool) → has_halt halt (until_halt halt more) ≡ has_halt halt more → (b || has_halt halt (if b then [] else until_halt halt more)) ≡ (b || has_halt halt more)
-    by true same = refl
-    by false same = same
+halts_until halt (note ∷ more) = ⊎_elim (λ t. rw t refl) (λ f. rw f (halts_until halt more)) (cases_Bool (halts halt note))
 
 -- a message after a halt isn't in the list
 until_past : (halt : Threshold) (notes : List Note) (note : Note) → has_halt halt notes ≡ true → until_halt halt (notes ++ note ∷ []) ≡ until_halt halt notes
 until_past halt [] note halted = cc
-until_past halt (first ∷ more) note halted = by (halts halt first) (until_past halt more note) halted
-  where
-    by : (b : Bool) → (has_halt halt more ≡ true → until_halt halt (more ++ note ∷ []) ≡ until_halt halt more) → (b || has_halt halt more) ≡ true → first ∷ (if b then [] else until_halt halt (more ++ note ∷ [])) ≡ first ∷ (if b then [] else until_halt halt more)
-    by true same h = refl
-    by false same h = ap (λ notes. first ∷ notes) (same h)
-
-last_alone : (note : Note) (b : Bool) → note ∷ (if b then [] else []) ≡ note ∷ []
-last_alone note true = refl
-last_alone note false = refl
+until_past halt (first ∷ more) note halted =
+    ⊎_elim (λ t. rw t refl) (λ f. rw f (ap (λ notes. first ∷ notes) (until_past halt more note (rw f at halted)))) (cases_Bool (halts halt first))
 
 -- one before it is the last of the list
 until_more : (halt : Threshold) (notes : List Note) (note : Note) → has_halt halt notes ≡ false → until_halt halt (notes ++ note ∷ []) ≡ until_halt halt notes ++ note ∷ []
-until_more halt [] note runs = last_alone note (halts halt note)
-until_more halt (first ∷ more) note runs = by (halts halt first) (until_more halt more note) runs
-  where
-    by : (b : Bool) → (has_halt halt more ≡ false → until_halt halt (more ++ note ∷ []) ≡ until_halt halt more ++ note ∷ []) → (b || has_halt halt more) ≡ false → first ∷ (if b then [] else until_halt halt (more ++ note ∷ [])) ≡ first ∷ (if b then [] else until_halt halt more) ++ note ∷ []
-    by true same h = cc
-    by false same h = ap (λ notes. first ∷ notes) (same h)
-
-or_false : (a b : Bool) → (a || (b || false)) ≡ (a || b)
-or_false true b = refl
-or_false false true = refl
-or_false false false = refl
+until_more halt [] note runs = ⊎_elim (λ t. rw t refl) (λ f. rw f refl) (cases_Bool (halts halt note))
+until_more halt (first ∷ more) note runs = ⊎_elim
+    (λ t. let halted = rw t at runs in absurd (cc))
+    (λ f. rw f (ap (λ notes. first ∷ notes) (until_more halt more note (rw f at runs)))) (cases_Bool (halts halt first))
 
 -- the numbers that are shown with one message more
 shown_more : (report : Threshold) (all : List Numbered) (note : Note) (number : Option ℕ) (n : ℕ)
     → is_number_shown report (all ++ (note, number) ∷ []) n ≡ (is_number_shown report all n || (is_reached report (level_number note.level) && has_number n number))
 shown_more report all note number n =
-    list_any-append (is_shown_as report n) all ((note, number) ∷ []) ∙ or_false (list_any (is_shown_as report n) all) (is_reached report (level_number note.level) && has_number n number)
+    list_any-append (is_shown_as report n) all ((note, number) ∷ []) ∙ ap (λ b. list_any (is_shown_as report n) all || b) (or-false (is_reached report (level_number note.level) && has_number n number))
 
 -- the marks with those of one message more
 abbrev pub Marks : Messages → Messages → Note → Option ℕ → Type 0
@@ -107,38 +94,55 @@ Adds-none list all lists = rw (append-nil all) lists
 pub Adds-more : (first more : List Numbered) (old now new : Messages) → Adds first old now → Adds more now new → Adds (first ++ more) old new
 Adds-more first more old now new one two all lists = rw (← append_assoc all first more) (two (all ++ first) (one all lists))
 
--- the messages among nodes, and then in one more
-pub among_more : (ns : List Node) (n : Node) → messages_among (forest_of (ns ++ n ∷ [])) ≡ messages_among (forest_of ns) ++ messages_among (forest_of (n ∷ []))
-among_more [] n = refl
-among_more (Text t ∷ ns) n = among_more ns n
-among_more (Element t a c l ∷ ns) n =
-    let own : List Numbered = if is_message t then message_said a c l ∷ [] else messages_among c in
-    ap (λ more. own ++ more) (among_more ns n) ∙ sym (append_assoc own (messages_among (forest_of ns)) (messages_among (forest_of (n ∷ []))))
+-- the messages among nodes that are in no message, or in one
+abbrev among : Option ℕ → Forest → List Numbered
+among None f = messages_among f
+among (Some within) f = []
 
--- the messages among nodes that are added up to a place
-abbrev pub AddsUpTo : List Node → ℕ → Messages → Messages → Type 0
-AddsUpTo ns i old new = Adds (messages_among (forest_of (take i ns))) old new
+none_more : (level : Option ℕ) (list : Messages) → Adds (among level bare) list list
+none_more None list = Adds-none list
+none_more (Some within) list = Adds-none list
 
-pub up_to_more : (ns : List Node) (i : ℕ) (n : Node) (old now new : Messages) → i < length ns → n ≡ get_or ns i n → AddsUpTo ns i old now → Adds (messages_among (forest_of (n ∷ []))) now new → AddsUpTo ns (i + 1) old new
-up_to_more ns i n old now new within at before one =
-    let split : messages_among (forest_of (take (i + 1) ns)) ≡ messages_among (forest_of (take i ns)) ++ messages_among (forest_of (n ∷ [])) =
-    ap (λ ns. messages_among (forest_of ns)) (take_more ns i n within ∙ ap (λ last. take i ns ++ last ∷ []) (sym at)) ∙ among_more (take i ns) n in
-    rw split (Adds-more (messages_among (forest_of (take i ns))) (messages_among (forest_of (n ∷ []))) old now new before one)
+past_text : (level : Option ℕ) (t : List ℕ) (r : Forest) → among level r ≡ among level (words t r)
+past_text None t r = refl
+past_text (Some within) t r = refl
 
--- a text holds none
-pub past_text : (ns : List Node) (i : ℕ) (n : Node) (t : List ℕ) (old now : Messages) → i < length ns → n ≡ get_or ns i n → n ≡ Text t → AddsUpTo ns i old now → AddsUpTo ns (i + 1) old now
-past_text ns i n t old now within at is before = up_to_more ns i n old now now within at before (rw is (Adds-none now))
+past_element : (level : Option ℕ) (t : Tag) (a : List Attr) (c : Forest) (l : ℕ) (r : Forest)
+    → own_message level t a c l ++ (among (if is_message t then Some 0 else level) c ++ among level r) ≡ among level (element t a c l r)
+past_element None t a c l r = ⊎_elim (λ b. rw b refl) (λ b. rw b refl) (cases_Bool (is_message t))
+past_element (Some within) t a c l r = ⊎_elim (λ b. rw b refl) (λ b. rw b refl) (cases_Bool (is_message t))
 
--- a message is added itself
-pub past_message : (ns : List Node) (i : ℕ) (n : Node) (t : Tag) (a : List Attr) (c : Forest) (l : ℕ) (old now new : Messages) → i < length ns → n ≡ get_or ns i n → n ≡ Element t a c l → true ≡ is_message t
-    → AddsUpTo ns i old now → Adds (message_said a c l ∷ []) now new → AddsUpTo ns (i + 1) old new
-past_message ns i n t a c l old now new within at is its before one = up_to_more ns i n old now new within at before (rw (is, ← its) one)
+-- what was read of nodes
+pub record AreListed (level : Option ℕ) (f : Forest) (old new : Messages) : Type 0 where
+  pub levels : KeepsLevels old new
+  pub adds : Adds (among level f) old new
+  pub early : new.early ≡ (old.early || list_any is_early (items f))
 
--- of another element those in it
-pub past_element : (ns : List Node) (i : ℕ) (n : Node) (t : Tag) (a : List Attr) (c : Forest) (l : ℕ) (old now new : Messages) → i < length ns → n ≡ get_or ns i n → n ≡ Element t a c l → false ≡ is_message t
-    → AddsUpTo ns i old now → Adds (messages_among c) now new → AddsUpTo ns (i + 1) old new
-past_element ns i n t a c l old now new within at is its before inside =
-    up_to_more ns i n old now new within at before (rw (is, ← its, append-nil (messages_among c)) inside)
+pub messages_read : (level : Option ℕ) (f : Forest) (old new : Messages) → AreRead TakesMessage level f old new → AreListed level f old new
+messages_read level bare old new read = rw read (record { levels = (refl, refl); adds = none_more level old; early = sym (or-false old.early) })
+messages_read level (words t r) old new read =
+    let rest = messages_read level r old new read in
+    record { levels = rest.levels; adds = rw (← past_text level t r) rest.adds; early = rest.early }
+messages_read level (element t a c l r) old new read =
+    let inside = messages_read read.1 c read.0 read.2 read.4 in
+    let behind = messages_read level r read.2 new read.5 in
+    let own : List Numbered = own_message level t a c l in
+    let its : Adds (among (if is_message t then Some 0 else level) c) read.0 read.2 = rw (read.3.3) at inside.adds in
+    record {
+      levels = (behind.levels.0 ∙ inside.levels.0 ∙ read.3.0.0, behind.levels.1 ∙ inside.levels.1 ∙ read.3.0.1);
+      adds = rw (← past_element level t a c l r) (Adds-more own (among (if is_message t then Some 0 else level) c ++ among level r) old read.0 new read.3.1
+          (Adds-more (among (if is_message t then Some 0 else level) c) (among level r) read.0 read.2 new its behind.adds));
+      early = rw (behind.early, inside.early, read.3.2, list_any-append is_early (items c) (items r)) (or_assoc (old.early || is_early (item t a l)) (list_any is_early (items c)) _ ∙ or_assoc old.early (is_early (item t a l)) _);
+    }
+
+same_lists : (all : List Numbered) (old now : Messages) → now.notes ≡ old.notes → now.halt ≡ old.halt → now.report ≡ old.report → now.shown ≡ old.shown → Lists all old → Lists all now
+same_lists all old now notes halt report shown lists = record { notes = rw (notes, halt) lists.notes; shown = λ n. rw (shown, report) (lists.shown n) }
+
+-- a message in no other one was read
+pub takes_said : (old now new : Messages) (n : Node) (t : Tag) (a : List Attr) (c : Forest) (l : ℕ) → n ≡ Element t a c l → is_message t ≡ true → now.early ≡ (old.early || is_early (item t a l)) → now.notes ≡ old.notes → now.halt ≡ old.halt
+    → now.report ≡ old.report → now.shown ≡ old.shown → Keeps now new → Adds (message_said a c l ∷ []) now new → TakesMessage old None n new (Some 0)
+takes_said old now new n t a c l is here early notes halt report shown keeps adds =
+    rw is ((keeps.0.0 ∙ halt, keeps.0.1 ∙ report), (λ all lists. rw here (adds all (same_lists all old now notes halt report shown lists))), keeps.1 ∙ early, rw here refl)
 
 -- a text alone in an element is what is said there
 pub lone_text : (c : Forest) (t : List ℕ) → length (nodes_of c) ≡ 1 → slice_get (nodes_of c) 0 ≡ Some (Text t) → t ≡ text_all c

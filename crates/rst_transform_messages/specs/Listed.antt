@@ -1,5 +1,14 @@
 -- What the list of messages holds (Configuration, `halt_level` and `report_level`).
-use Rattle.std.specs.Prelude.{◌≡◌, ℕ, List, ◌++◌, Some}
+use Rattle.std.specs.Prelude.{◌≡◌, ℕ, List, [], ◌∷◌, ◌++◌, ◌||◌, if◌then◌else◌, Option, Some, None}
+use Rattle.rst_tree.specs.declared.attrs.Attr.{Attr}
+use Rattle.rst_tree.specs.declared.node.Node.{Node}
+use Rattle.rst_tree.specs.declared.node.Node.TheVariants.{Element, Text}
+use Rattle.rst_tree.specs.declared.tag.Tag.{Tag}
+use Rattle.rst_tree.specs.Forest.{Forest}
+use Rattle.rst_tree.specs.Walk.{item}
+use Rattle.rst_tree_index.specs.Kinds.{is_message}
+use Rattle.rst_transform_messages.specs.Early.{is_early}
+use Rattle.rst_transform_messages.specs.MessagesIn.{message_said}
 use Rattle.rst_transform_messages.specs.declared.messages.Messages.{Messages}
 use Rattle.rst_transform_work.specs.declared.report.Report.{Report}
 use Rattle.rst_transform_messages.specs.Messages.{is_number_shown, marked, notes_of, until_halt, Numbered}
@@ -18,6 +27,21 @@ Adds more old new = (all : List Numbered) → Lists all old → Lists (all ++ mo
 abbrev pub KeepsLevels : Messages → Messages → Type 0
 KeepsLevels old new = (new.halt ≡ old.halt) × (new.report ≡ old.report)
 
+-- these stay, and what is told of the elements that were read
+abbrev pub Keeps : Messages → Messages → Type 0
+Keeps old new = KeepsLevels old new × (new.early ≡ old.early)
+
 -- a message of a transform, with its number
 abbrev pub report_said : Report → Numbered
 report_said report = (report_note report, Some report.number)
+
+-- what an element adds, which is in no message, or in one
+abbrev pub own_message : Option ℕ → Tag → List Attr → Forest → ℕ → List Numbered
+own_message None t a c l = if is_message t then message_said a c l ∷ [] else []
+own_message (Some within) t a c l = []
+
+-- the messages that were read, and one more element
+abbrev pub TakesMessage : Messages → Option ℕ → Node → Messages → Option ℕ → Type 0
+TakesMessage old level (Text t) new inner = Unit {0}
+TakesMessage old level (Element t a c l) new inner =
+    KeepsLevels old new × Adds (own_message level t a c l) old new × (new.early ≡ (old.early || is_early (item t a l))) × (inner ≡ (if is_message t then Some 0 else level))

@@ -1,7 +1,6 @@
 //! The list of messages of a document, and the filter that takes out those below the report level (Configuration, 'report_level', 'halt_level').
 #![tactic(auto)]
 
-mod early;
 pub mod filter;
 mod messages;
 pub mod rows;

@@ -1,19 +1,19 @@
 //! The list of messages, and the levels at which they count.
-ghost use Rattle.std.specs.Prelude.{◌≡◌, ◌≤◌, ◌==◌, ◌&&◌, ◌||◌, false, min, ℕ};
+ghost use Rattle.std.specs.Prelude.{◌≡◌, ◌≤◌, ◌==◌, ◌&&◌, ◌||◌, min, ℕ};
 ghost use Rattle.std.specs.List.{list_any};
 ghost use Rattle.rst_tree_index.specs.Kinds.{is_message};
 ghost use Rattle.rst_settings.specs.Threshold.{is_reached};
 ghost use Rattle.rst_tree.specs.Faults.{Gives};
 ghost use Rattle.rst_tree.specs.Tree.{text_in};
-ghost use Rattle.rst_tree.specs.Walk.{items};
+ghost use Rattle.rst_tree.specs.Walk.{item, items};
 ghost use Rattle.rst_transform_messages.specs.Early.{is_early};
 ghost use Rattle.rst_transform_messages.specs.Messages.{has_halt, EndsAtHalt, highest_level, level_said, has_number, marked};
 ghost use Rattle.rst_transform_messages.specs.MessagesIn.{note_said};
 
-use crate::early::{is_early, may_be_early};
 use rst_settings::Threshold;
 use rst_transform_work::Report;
-use rst_tree::{Attrs, Children, Key, Level, Node, Note, Result, Tag, Text};
+use rst_tree::{Attrs, Children, Key, Level, Node, Note, Reader, Result, Tag, Text, read_elements};
+use rst_tree_index::is_internal;
 use std::alloc::Global;
 
 /// Whether a level of that number is at or above a threshold; a number above 4 counts as 4.
@@ -43,6 +43,8 @@ pub struct Messages {
     report: Threshold,
     /// Whether the message of each number is shown.
     shown: Vec<bool>,
+    /// Whether the first transforms have something to act on among the nodes that were gone through.
+    pub early: bool,
     pub ghost halted_is: { halted ≡ has_halt halt notes.items },
     pub ghost ends: { EndsAtHalt halt notes.items },
 }
@@ -51,31 +53,37 @@ impl Messages {
     ghost use Rattle.std.specs.Prelude.{[], ◌∷◌, List, map};
     ghost use Rattle.rst_transform_messages.specs.Messages.{until_halt, notes_of, is_number_shown, Numbered};
     ghost use Rattle.rst_transform_messages.specs.MessagesIn.{message_said, messages_among};
-    ghost use Rattle.rst_transform_messages.specs.Listed.{report_said, Adds, Lists, KeepsLevels};
+    ghost use Rattle.rst_transform_messages.specs.Listed.{report_said, Adds, Keeps, KeepsLevels, Lists};
 
-    /// No message, in a list with room for so many, of a run that halts at a threshold and shows messages from another one on.
-    pub fn with_room(
+    /// The messages among nodes and in them, in preorder, in a list with room for so many, of a run that halts at a threshold and shows
+    /// messages from another one on. A message holds no other.
+    pub fn of(
         alloc: Global,
+        nodes: &Children,
         room: u64,
         halt: Threshold,
         report: Threshold,
     ) -> Result<Messages>
         ensures halt { Gives (λ messages. messages.halt ≡ halt) result }
         ensures report { Gives (λ messages. messages.report ≡ report) result }
-        ensures none { Gives (λ messages. Lists [] messages) result }
+        ensures messages { Gives (Lists (messages_among nodes.now)) result }
+        ensures early { Gives (λ messages. messages.early ≡ list_any is_early (items nodes.now)) result }
     {
-        Ok(Messages {
+        let mut messages = Messages {
             notes: Vec::with_capacity(alloc, room as usize)?,
             halt,
             halted: false,
             report,
             shown: Vec::with_capacity(alloc, room as usize)?,
-        })
+            early: false,
+        };
+        read_elements(alloc, nodes, None, &mut messages)?;
+        Ok(messages)
     }
 
     /// Adds a message with a number, if it has one: to the list only if no earlier one halts the run.
     fn push(&mut self, note: Note, number: Option<u64>) -> Result<()>
-        ensures levels { KeepsLevels self.old self.new }
+        ensures keeps { Keeps self.old self.new }
         ensures adds { Gives (λ _. Adds ((note, number) ∷ []) self.old self.new) result }
     {
         let level = note.level.number();
@@ -99,44 +107,11 @@ impl Messages {
         children: &Children,
         line: usize,
     ) -> Result<()>
-        ensures levels { KeepsLevels self.old self.new }
+        ensures keeps { Keeps self.old self.new }
         ensures adds { Gives (λ _. Adds (message_said attrs.now children.now line ∷ []) self.old self.new) result }
     {
         let note = note_of(alloc, attrs, children, line)?;
         self.push(note, attrs.number(Key::Message))
-    }
-
-    /// Adds the messages among nodes and in them, in preorder. A message holds no other. Where it returns `false`, the first transforms
-    /// have nothing to act on there.
-    pub fn add_all(&mut self, alloc: Global, nodes: &Children) -> Result<bool>
-        ensures levels { KeepsLevels self.old self.new }
-        ensures adds { Gives (λ _. Adds (messages_among nodes.now) self.old self.new) result }
-        ensures early { Gives (λ early. early ≡ false → list_any is_early (items nodes.now) ≡ false) result }
-    {
-        let mut early = false;
-        for node in nodes.as_slice() {
-            match node {
-                Node::Text(_) => continue,
-                Node::Element {
-                    tag,
-                    attrs,
-                    children,
-                    line,
-                } => {
-                    early |= is_early(*tag, attrs);
-                    if is_message(*tag) {
-                        self.push_said(alloc, attrs, children, *line)?;
-                        early |= may_be_early(children);
-                        continue;
-                    }
-                    if children.are_plain() {
-                        continue;
-                    }
-                    early |= self.add_all(alloc, children)?;
-                }
-            }
-        }
-        Ok(early)
     }
 
     /// Adds the messages of the transforms, which are the last.
@@ -175,6 +150,47 @@ impl Messages {
         }
         (self.notes, highest)
     }
+}
+
+impl<'a> Reader<'a> for Messages {
+    ghost use Rattle.rst_transform_messages.specs.Listed.{TakesMessage};
+
+    ghost takes = { TakesMessage };
+
+    // Some level stands for the inside of a message.
+    #[inline(always)]
+    fn read(
+        &mut self,
+        alloc: Global,
+        element: &'a Node,
+        level: Option<usize>,
+    ) -> Result<Option<usize>> {
+        let Node::Element {
+            tag,
+            attrs,
+            children,
+            line,
+        } = element
+        else {
+            return Ok(level);
+        };
+        self.early |= is_early(*tag, attrs);
+        if !is_message(*tag) {
+            return Ok(level);
+        }
+        if level.is_none() {
+            self.push_said(alloc, attrs, children, *line)?;
+        }
+        Ok(Some(0))
+    }
+}
+
+/// Whether an element is a substitution reference or an internal target: the first transforms act on these.
+#[inline(always)]
+fn is_early(tag: Tag, attrs: &Attrs) -> bool
+    ensures { result ≡ is_early (item tag attrs.now 0) }
+{
+    matches!(tag, Tag::SubstitutionReference) || is_internal(tag, attrs)
 }
 
 /// Whether an element is a message.

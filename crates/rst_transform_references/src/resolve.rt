@@ -5,8 +5,7 @@ ghost use Rattle.rst_transform_work.specs.Known.{Makes};
 ghost use Rattle.rst_transform_links.specs.Holders.{place_at};
 ghost use Rattle.rst_transform_links.specs.Linkings.{held};
 ghost use Rattle.rst_transform_links.specs.Outcomes.{fails};
-ghost use Rattle.rst_transform_references.specs.Resolving as spec;
-ghost use Rattle.rst_transform_references.specs.Resolving.{duplicate, is_gone, label_of, name_of, resolved_from, shown_for, shows_label, unknown};
+ghost use Rattle.rst_transform_references.specs.Resolving.{duplicate, failing, is_gone, label_of, name_of, outcome_of, reference_outcomes, resolved_from, shown_for, shows_label, unknown, what_becomes};
 
 use crate::backrefs::with_backrefs;
 use crate::meanings::{Meaning, meaning_to, refers_to_footnote_or_citation};
@@ -49,7 +48,7 @@ use std::alloc::Global;
 /// A name that means nothing gives an ERROR, and the reference becomes a problematic; the references inside it are gone, and
 /// give no message.
 pub fn reference_outcomes(context: &mut Context, linked: &[Linked<'_>]) -> Result<Vec<Outcome>>
-    ensures { Gives (λ outcomes. Makes (spec.reference_outcomes (map held linked.now)) context.old context.new outcomes.items) result }
+    ensures { Gives (λ outcomes. Makes (reference_outcomes (map held linked.now)) context.old context.new outcomes.items) result }
 {
     let holders = Holders::of(context.alloc, linked, context.serials)?;
     let outcomes = resolved(context, &holders)?;
@@ -76,7 +75,7 @@ fn shown_for(holders: &Holders<'_>, reference: &Node, place: Option<usize>) -> R
 /// A reference that fails for an ERROR of its own, which says these words before its name.
 #[tactic(auto, using(crate::proofs::Resolves::fails_for))]
 fn failing(context: &mut Context, reference: &Node, words: &str) -> Result<Outcome>
-    ensures { Gives (Makes (spec.failing reference.now (words.now ++ (name_of reference.now ++ codes "\"."))) context.old context.new) result }
+    ensures { Gives (Makes (failing reference.now (words.now ++ (name_of reference.now ++ codes "\"."))) context.old context.new) result }
 {
     let name = text_said(reference, Key::Refname).unwrap_or("");
     let text = Text::of_three(context.alloc, words, name, "\".")?;
@@ -95,7 +94,7 @@ fn outcome_of(
     reference: &Node,
     meaning: Meaning,
 ) -> Result<Outcome>
-    ensures { Gives (Makes (spec.outcome_of (map held holders.now.linked.now) reference.now meaning) context.old context.new) result }
+    ensures { Gives (Makes (outcome_of (map held holders.now.linked.now) reference.now meaning) context.old context.new) result }
 {
     match meaning {
         Meaning::Leads { attr, referent } => {
@@ -122,7 +121,7 @@ fn what_becomes(
     element: &Node,
     gone: bool,
 ) -> Result<Outcome>
-    ensures { Gives (Makes (spec.what_becomes (place_at holders.now.places.items) (map held holders.now.linked.now) gone element.now) context.old context.new) result }
+    ensures { Gives (Makes (what_becomes (place_at holders.now.places.items) (map held holders.now.linked.now) gone element.now) context.old context.new) result }
 {
     if gone {
         return Ok(Outcome::adds(None));

@@ -6,7 +6,7 @@ use Rattle.std.proofs.lemmas.Bool.{or_parts as or_none}
 use Rattle.std.proofs.lemmas.List.Folds.{list_any-append}
 use Rattle.std.proofs.lemmas.Bool.Decides.{nat_tests}
 use Rattle.std.proofs.lemmas.List.{append-nil, map-append, reverse-append, reverse-reverse}
-use Rattle.rst_tree.proofs.Folds.{folded-append}
+use Rattle.rst_tree.proofs.Folds.{three_added}
 use Rattle.rst_tree.specs.declared.attrs.Attr.{Attr}
 use Rattle.rst_tree.specs.declared.key.Key.{Key}
 use Rattle.rst_tree.specs.declared.key.Key.TheVariants.{Ids, Names as OfNames}
@@ -15,7 +15,7 @@ use Rattle.rst_tree.specs.declared.node.Node.TheVariants.{Element, Text}
 use Rattle.rst_tree.specs.Attributes.{value_of, without_key}
 use Rattle.rst_tree.specs.KeyNames.{is_same}
 use Rattle.rst_tree.specs.Forest.{Forest, bare, element, words}
-use Rattle.rst_tree.specs.Read.{elements, elements_of as nodes_in, folded}
+use Rattle.rst_tree.specs.Read.{AreRead}
 use Rattle.rst_tree.specs.Walk.{after, item, items, node_items, walked, walked_node, Item}
 use Rattle.rst_tree_index.specs.Kinds.{is_internal}
 use Rattle.rst_transform_work.specs.declared.context.Context.{Context}
@@ -26,29 +26,17 @@ use Rattle.rst_transform_work.specs.Reading.{members_in}
 use Rattle.rst_transform_work.specs.States.{document_node, elements_of, node_tag, IsDocument}
 use Rattle.rst_transform_work.proofs.Holding.{makes_names}
 use Rattle.rst_transform_structure.specs.Passing.{passed, Passes}
-use Rattle.rst_transform_structure.specs.Targets.{at_first, changed_at, handed, next_reached, reached, takers, takes_ids, with_taker, with_targets, Reached}
+use Rattle.rst_transform_structure.specs.Targets.{at_first, changed_at, handed, next_reached, reached, takers, takes_ids, with_targets, TakesTaker, Reached}
 
 -- ---- which elements take ids
 
-takers-append : (s : List Bool) (t : Item) (xs ys : List Item) → ((s ++ takes_ids t.tag ∷ []) ++ takers xs) ++ takers ys ≡ s ++ takers (t ∷ xs ++ ys)
-takers-append s t xs ys =
-    append_assoc (s ++ takes_ids t.tag ∷ []) (takers xs) (takers ys) ∙ append_assoc s (takes_ids t.tag ∷ []) (takers xs ++ takers ys)
-    ∙ ap (λ ts. s ++ takes_ids t.tag ∷ ts) (sym (map-append (λ (x : Item). takes_ids x.tag) xs ys))
-
-takers_in : (s : List Bool) (c : Forest) → folded with_taker s (elements c) ≡ s ++ takers (items c)
-takers_in s bare = sym (append-nil s)
-takers_in s (words t r) = takers_in s r
-takers_in s (element t a c l r) =
-    let one : List Bool = s ++ takes_ids t ∷ [] in
-    folded-append with_taker one (elements c) (elements r)
-    ∙ ap (λ z. folded with_taker z (elements r)) (takers_in one c)
-    ∙ takers_in (one ++ takers (items c)) r
-    ∙ takers-append s (item t a l) (items c) (items r)
-
--- those that are read of a node
-pub takers_of : (n : Node) → folded with_taker [] (nodes_in n) ≡ takers (node_items n)
-takers_of (Text t) = refl
-takers_of (Element t a c l) = takers_in (takes_ids t ∷ []) c
+-- those that are read come behind the others
+pub takers_read : (level : Option ℕ) (f : Forest) (old new : List Bool) → AreRead TakesTaker level f old new → new ≡ old ++ takers (items f)
+takers_read level bare old new read = rw read (sym (append-nil old))
+takers_read level (words t r) old new read = takers_read level r old new read
+takers_read level (element t a c l r) old new read =
+    three_added old (takes_ids t ∷ []) (takers (items c)) (takers (items r)) read.0 read.2 new read.3 (takers_read read.1 c read.0 read.2 read.4) (takers_read level r read.2 new read.5)
+    ∙ ap (λ ts. old ++ takes_ids t ∷ ts) (sym (map-append (λ (x : Item). takes_ids x.tag) (items c) (items r)))
 
 -- ---- the document
 
@@ -61,12 +49,12 @@ pub is_document : (d : Document) (root done : Node) (r : Reached) → root ≡ d
 is_document d root done r is left_by = ap node_tag (left_by ∙ ap (walked_node next_reached changed_at r) is)
 
 -- what the walk leaves
-pub walk_makes : (d e : Document) (root done : Node) (ts : List Bool) (r s : Reached) (got : List (List ℕ × Option ℕ)) (old new : Context) → root ≡ document_node d → document_node e ≡ done → ts ≡ takers (node_items root)
+pub walk_makes : (d e : Document) (root done : Node) (ts : List Bool) (r s : Reached) (got : List (List ℕ × Option ℕ)) (old new : Context) → root ≡ document_node d → document_node e ≡ done → ts ≡ takers (elements_of d)
     → r ≡ reached ts (handed [] []) [] → done ≡ walked_node next_reached changed_at r root → s ≡ after next_reached changed_at r (node_items root) → got ≡ s.got → Passes got old.names new.names
     → new ≡ record old { names = new.names } → Makes (with_targets d) old new e
 walk_makes d e root done ts r s got old new is made all begun left_by state end passes rest =
     let xs : List Item = items d.children in
-    let begin : r ≡ at_first (elements_of d) = begun ∙ ap (λ z. reached z (handed [] []) []) (all ∙ ap (λ n. takers (node_items n)) is) in
+    let begin : r ≡ at_first (elements_of d) = begun ∙ ap (λ z. reached z (handed [] []) []) all in
     let same : e ≡ record d { children = walked next_reached changed_at (at_first xs) d.children } =
     ap document_in (made ∙ left_by ∙ ap (walked_node next_reached changed_at r) is ∙ ap (λ z. walked_node next_reached changed_at z (document_node d)) begin) in
     let got_is : got ≡ (after next_reached changed_at (at_first xs) xs).got =

@@ -1,6 +1,6 @@
 -- Internal targets, which hand their ids and names to the elements after them (reStructuredText Markup Specification, 'Internal
 -- Hyperlink Targets').
-use Rattle.std.specs.Prelude.{ℕ, List, [], ◌∷◌, ◌++◌, drop, map, slice_get, unwrap_or, Option, Bool, true, false, ◌&&◌, if◌then◌else◌}
+use Rattle.std.specs.Prelude.{◌≡◌, ℕ, List, [], ◌∷◌, ◌++◌, drop, map, slice_get, unwrap_or, Option, Bool, true, false, ◌&&◌, if◌then◌else◌}
 use Rattle.rst_tree.specs.declared.attrs.Attr.{Attr}
 use Rattle.rst_tree.specs.declared.attrs.Value.TheVariants.{Text as Says}
 use Rattle.rst_tree.specs.declared.key.Key.TheVariants.{Dupnames, Ids, Names as OfNames, Refid, Serial}
@@ -28,10 +28,10 @@ takes_ids _ = true
 abbrev pub takers : List Item → List Bool
 takers xs = map (λ x. takes_ids x.tag) xs
 
--- one more element was read
-abbrev pub with_taker : List Bool → Node → List Bool
-with_taker takers (Element t a c l) = takers ++ takes_ids t ∷ []
-with_taker takers (Text t) = takers
+-- those that were read, and one more element
+abbrev pub TakesTaker : List Bool → Option ℕ → Node → List Bool → Option ℕ → Type 0
+TakesTaker old level (Element t a c l) new inner = new ≡ old ++ takes_ids t ∷ []
+TakesTaker old level (Text t) new inner = Unit {0}
 
 -- ids and names that an element gets
 pub record Handed : Type 0 where

@@ -1,10 +1,11 @@
 //! Internal targets.
 ghost use Rattle.std.specs.Prelude.{◌≡◌, ◌++◌, [], drop, reverse};
 ghost use Rattle.rst_tree.specs.Faults.{Gives};
-ghost use Rattle.rst_tree.specs.Walk.{item, node_items};
+ghost use Rattle.rst_tree.specs.Walk.{item};
+ghost use Rattle.rst_transform_work.specs.States.{elements_of};
 ghost use Rattle.rst_transform_work.specs.Known.{Makes};
 ghost use Rattle.rst_transform_structure.specs.Passing.{holder_of, with_number, Passes};
-ghost use Rattle.rst_transform_structure.specs.Targets.{given, got_by, handed, handed_by, hands_on, reached, referring, takers, takes_ids, with_refid, with_targets};
+ghost use Rattle.rst_transform_structure.specs.Targets.{given, got_by, handed, handed_by, hands_on, reached, referring, takers, takes_ids, with_refid, with_targets, TakesTaker};
 
 use rst_transform_names::{Holder, Names};
 use rst_transform_work::{Context, Document, append, take_list};
@@ -34,10 +35,9 @@ use std::mem;
 pub fn targets(document: Document, context: &mut Context) -> Result<Document>
     ensures { Gives (Makes (with_targets document) context.old context.new) result }
 {
-    let node = document.into_node();
-    let takers = takers(context.alloc, &node)?;
+    let takers = takers(context.alloc, &document)?;
     let mut walking = Walking::of(context.alloc, takers);
-    let node = walk(node, &mut walking)?;
+    let node = walk(document.into_node(), &mut walking)?;
     pass(walking.into_got(), &mut context.names);
     Ok(Document::of(node))
 }
@@ -52,14 +52,15 @@ fn takes_ids(tag: Tag) -> bool
     )
 }
 
-/// For each element in a node, in document order, whether it takes the ids and names of a target before it.
-fn takers(alloc: Global, node: &Node) -> Result<Vec<bool>>
-    ensures { Gives (λ list. list.items ≡ takers (node_items node.now)) result }
+/// For the document and each element in it, in order, whether it takes the ids and names of a target before it.
+fn takers(alloc: Global, document: &Document) -> Result<Vec<bool>>
+    ensures { Gives (λ list. list.items ≡ takers (elements_of document.now)) result }
 {
     let mut takers = TakerReader {
         list: Vec::new(alloc),
     };
-    read_elements(alloc, node, &mut takers)?;
+    takers.list.push(takes_ids(Tag::Document))?;
+    read_elements(alloc, &document.children, None, &mut takers)?;
     Ok(takers.list)
 }
 
@@ -77,16 +78,19 @@ impl Model for TakerReader {
     ghost view = { λ t. t.list.items };
 }
 
-impl Reader for TakerReader {
-    ghost use Rattle.rst_transform_structure.specs.Targets.{with_taker};
+impl<'a> Reader<'a> for TakerReader {
+    ghost takes = { TakesTaker };
 
-    ghost next = { with_taker };
-
-    fn read(&mut self, _alloc: Global, element: &Node) -> Result<()> {
+    fn read(
+        &mut self,
+        _alloc: Global,
+        element: &'a Node,
+        level: Option<usize>,
+    ) -> Result<Option<usize>> {
         if let Node::Element { tag, .. } = element {
             self.list.push(takes_ids(*tag))?;
         }
-        Ok(())
+        Ok(level)
     }
 }
 

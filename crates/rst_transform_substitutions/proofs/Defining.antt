@@ -1,39 +1,31 @@
 -- The definitions of a document, found one node after another, and then known by their names.
-use Rattle.std.proofs.Common.{◌≡◌, ℕ, ◌+◌, ◌<◌, ◌≤◌, List, [], ◌∷◌, ◌++◌, length, map, get_or, drop, take, append_assoc, refl, sym, ◌∙◌, ap, arith, Bool}
+use Rattle.std.proofs.Common.{◌≡◌, ℕ, ◌+◌, ◌<◌, ◌≤◌, List, [], ◌∷◌, ◌++◌, length, map, get_or, take, refl, sym, ◌∙◌, ap, arith, Bool}
 use Rattle.std.specs.Prelude.{if◌then◌else◌, Option, Some, None}
 use Rattle.std.specs.BTreeMap.{get_by_text}
 use Rattle.std.specs.Str.{bytes_eq}
 use Rattle.std.proofs.Math.Path.{fun_ext}
-use Rattle.std.proofs.lemmas.List.{append-nil, drop_all, drop_more, length-map, map-append, take_more}
-use Rattle.rst_tree.specs.declared.attrs.Attr.{Attr}
-use Rattle.rst_tree.specs.declared.node.Node.{Node}
-use Rattle.rst_tree.specs.declared.node.Node.TheVariants.{Element, Text}
-use Rattle.rst_tree.specs.declared.tag.Tag.{Tag}
+use Rattle.std.proofs.lemmas.List.{append-nil, length-map, map-append, take_more}
+use Rattle.rst_tree.proofs.Folds.{three_added}
 use Rattle.rst_tree.specs.Forest.{Forest, bare, element, words}
-use Rattle.rst_tree.specs.Nodes.{forest_of}
+use Rattle.rst_tree.specs.Read.{AreRead}
 use Rattle.rst_transform_substitutions.specs.declared.listing.Defined.{Defined}
+use Rattle.rst_transform_substitutions.specs.declared.listing.Listed.{Listed}
 use Rattle.rst_transform_substitutions.specs.declared.definitions.Definitions.{Definitions}
-use Rattle.rst_transform_substitutions.specs.Definitions.{defined, found_among, found_by, known_place, last_place, place_of_name, place_of_normalized, AreKnown, Definition}
+use Rattle.rst_transform_substitutions.specs.Definitions.{defined, definitions_among, found_among, found_by, known_place, last_place, own_definition, place_of_name, place_of_normalized, AreKnown, Definition}
+use Rattle.rst_transform_substitutions.specs.Numbering.{names_said, own_name, TakesListed}
 use Rattle.rst_transform_work.specs.Reading.{name_in}
 
--- given what is gathered among nodes, and of an element without those in it
-module _ {A : Type 0} (among : Forest → List A) (own : Tag → List Attr → Forest → List A) where
-  -- a text holds nothing
-  pub past_text : (ns : List Node) (i : ℕ) (n : Node) (x : List ℕ) (old all : List A) → ((r : Forest) → among (words x r) ≡ among r) → i < length ns → n ≡ get_or ns i n → n ≡ Text x
-      → old ++ among (forest_of (drop i ns)) ≡ all → old ++ among (forest_of (drop (i + 1) ns)) ≡ all
-  past_text ns i n x old all none within at is before = ap (λ found. old ++ found) (sym (none _)) ∙ (rw (drop_more ns i n within, ← at, is) at before)
-
-  -- behind an element come those behind it, once its own and those in it are gathered
-  pub past_element : (ns : List Node) (i : ℕ) (n : Node) (t : Tag) (a : List Attr) (c : Forest) (l : ℕ) (old mine new all : List A) → ((r : Forest) → among (element t a c l r) ≡ own t a c ++ (among c ++ among r)) → i < length ns → n ≡ get_or ns i n
-      → n ≡ Element t a c l → mine ≡ old ++ own t a c → new ≡ mine ++ among c → old ++ among (forest_of (drop i ns)) ≡ all → new ++ among (forest_of (drop (i + 1) ns)) ≡ all
-  past_element ns i n t a c l old mine new all parts within at is its inside before =
-      let rest : List A = among (forest_of (drop (i + 1) ns)) in
-      let split : old ++ (own t a c ++ (among c ++ rest)) ≡ all = ap (λ found. old ++ found) (sym (parts (forest_of (drop (i + 1) ns)))) ∙ (rw (drop_more ns i n within, ← at, is) at before) in
-      rw (inside, its, append_assoc (old ++ own t a c) (among c) rest, append_assoc old (own t a c) (among c ++ rest)) split
-
-  -- at the end all are gathered
-  pub at_end : (ns : List Node) (i : ℕ) (old all : List A) → among bare ≡ [] → length ns ≤ i → old ++ among (forest_of (drop i ns)) ≡ all → old ≡ all
-  at_end ns i old all none past before = sym (append-nil old) ∙ ap (λ found. old ++ found) (sym none) ∙ (rw (drop_all i ns past) at before)
+-- those among nodes come behind the others
+pub listed_read : (level : Option ℕ) (f : Forest) (old new : Listed) → AreRead TakesListed level f old new
+    → (map defined new.definitions.items ≡ map defined old.definitions.items ++ definitions_among f) × (map (λ name. name.now) new.names.items ≡ map (λ name. name.now) old.names.items ++ names_said f)
+listed_read level bare old new read = rw read (sym (append-nil (map defined old.definitions.items)), sym (append-nil (map (λ name. name.now) old.names.items)))
+listed_read level (words t r) old new read = listed_read level r old new read
+listed_read level (element t a c l r) old new read =
+    let inside = listed_read read.1 c read.0 read.2 read.4 in
+    let behind = listed_read level r read.2 new read.5 in (
+      three_added (map defined old.definitions.items) (own_definition t a c) (definitions_among c) (definitions_among r) _ _ _ read.3.0 inside.0 behind.0,
+      three_added (map (λ name. name.now) old.names.items) (own_name t a) (names_said c) (names_said r) _ _ _ read.3.1 inside.1 behind.1,
+    )
 
 -- one definition more is the last
 pub last_more : (passes : List ℕ → Bool) (place : ℕ) (before : Option ℕ) (all : List Definition) (one : Definition)

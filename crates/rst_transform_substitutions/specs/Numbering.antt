@@ -1,13 +1,16 @@
 -- Numbers of definitions, which show that one doesn't lead to another. No rule of markup: it is what makes remembering right.
-use Rattle.std.specs.Prelude.{◌≡◌, ℕ, nat_le, Bool, true, false, List, [], ◌∷◌, ◌++◌, if◌then◌else◌, slice_get, Option, Some, None}
+use Rattle.std.specs.Prelude.{◌≡◌, ℕ, nat_le, Bool, true, false, List, [], ◌∷◌, ◌++◌, if◌then◌else◌, map, slice_get, Option, Some, None}
 use Rattle.std.specs.List.{flat_map, list_all}
 use Rattle.std.specs.Option.{option_to_list}
 use Rattle.rst_tree.specs.declared.attrs.Attr.{Attr}
+use Rattle.rst_tree.specs.declared.node.Node.{Node}
+use Rattle.rst_tree.specs.declared.node.Node.TheVariants.{Element, Text}
 use Rattle.rst_tree.specs.declared.tag.Tag.{Tag}
 use Rattle.rst_tree.specs.Forest.{Forest, bare, element, words}
 use Rattle.rst_tree_index.specs.Kinds.{is_reference}
 use Rattle.rst_transform_substitutions.specs.declared.definitions.Definitions.{Definitions}
-use Rattle.rst_transform_substitutions.specs.Definitions.{known_found}
+use Rattle.rst_transform_substitutions.specs.declared.listing.Listed.{Listed}
+use Rattle.rst_transform_substitutions.specs.Definitions.{defined, known_found, own_definition}
 use Rattle.rst_transform_substitutions.specs.Expansion.{name_said}
 
 -- the name that an element says, if it is a reference
@@ -19,6 +22,12 @@ abbrev pub names_said : Forest → List (List ℕ)
 names_said bare = []
 names_said (words t r) = names_said r
 names_said (element t a c l r) = own_name t a ++ (names_said c ++ names_said r)
+
+-- what is listed, and of one more element what it defines or says
+abbrev pub TakesListed : Listed → Option ℕ → Node → Listed → Option ℕ → Type 0
+TakesListed old level (Text t) new inner = Unit {0}
+TakesListed old level (Element t a c l) new inner =
+    (map defined new.definitions.items ≡ map defined old.definitions.items ++ own_definition t a c) × (map (λ name. name.now) new.names.items ≡ map (λ name. name.now) old.names.items ++ own_name t a)
 
 -- the places of the definitions that names find
 abbrev pub places_of : Definitions → List (List ℕ) → List ℕ

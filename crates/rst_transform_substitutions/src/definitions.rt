@@ -6,7 +6,7 @@ ghost use Rattle.std.proofs.Props.{props};
 ghost use Rattle.rst_tree.specs.Faults.{Gives};
 ghost use Rattle.rst_transform_work.specs.Reading.{name_in};
 
-use crate::listing::add_listed;
+use crate::listing::Listed;
 use rst_transform_work::{copies, folded, said};
 use rst_tree::{Attrs, Children, Key, Result, Tag};
 use std::alloc::Global;
@@ -38,19 +38,17 @@ impl Definitions {
     pub fn of(alloc: Global, nodes: &Children) -> Result<Definitions>
         ensures { Gives (AreKnown (definitions_among nodes.now)) result }
     {
-        let mut list = Vec::new(alloc);
-        let mut names = Vec::new(alloc);
-        add_listed(nodes, &mut list, &mut names)?;
+        let listed = Listed::of(alloc, nodes)?;
         let mut definitions = Definitions {
-            contents: Vec::with_capacity(alloc, list.len())?,
+            contents: Vec::with_capacity(alloc, listed.definitions.len())?,
             exact: BTreeMap::new(alloc),
             normalized: BTreeMap::new(alloc),
             remembered: BTreeMap::new(alloc),
         };
-        for one in &list {
+        for one in &listed.definitions {
             definitions.add(alloc, one.name, one.content)?;
         }
-        for name in &names {
+        for name in &listed.names {
             definitions.remember(alloc, name)?;
         }
         Ok(definitions)

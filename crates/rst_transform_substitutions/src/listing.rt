@@ -1,12 +1,13 @@
 //! The substitution definitions of a document, and the names that its references say.
-ghost use Rattle.std.specs.Prelude.{◌≡◌, ◌++◌, map};
+ghost use Rattle.std.specs.Prelude.{◌≡◌, map};
 ghost use Rattle.rst_tree.specs.Faults.{Gives};
-ghost use Rattle.rst_transform_substitutions.specs.Definitions.{defined, definitions_among, own_definition};
-ghost use Rattle.rst_transform_substitutions.specs.Numbering.{names_said, own_name};
+ghost use Rattle.rst_transform_substitutions.specs.Definitions.{defined, definitions_among};
+ghost use Rattle.rst_transform_substitutions.specs.Numbering.{names_said, TakesListed};
 
 use crate::expansion::is_reference;
 use rst_transform_work::said;
-use rst_tree::{Attrs, Children, Key, Node, Result, Tag};
+use rst_tree::{Children, Key, Node, Reader, Result, Tag, read_elements};
+use std::alloc::Global;
 
 /// A substitution definition as it stands in a document.
 #[derive(Clone, Copy)]
@@ -17,53 +18,57 @@ pub struct Defined<'a> {
     pub content: &'a Children,
 }
 
-/// Adds the definitions among nodes, and in them, in preorder, and the names that references say there.
-pub fn add_listed<'a>(
-    nodes: &'a Children,
-    list: &mut Vec<Defined<'a>>,
-    names: &mut Vec<&'a str>,
-) -> Result<()>
-    ensures definitions { Gives (λ _. map defined list.new.items ≡ map defined list.old.items ++ definitions_among nodes.now) result }
-    ensures names { Gives (λ _. map (λ name. name.now) names.new.items ≡ map (λ name. name.now) names.old.items ++ names_said nodes.now) result }
-{
-    for node in nodes.as_slice() {
-        match node {
-            Node::Text(_) => continue,
-            Node::Element {
-                tag,
-                attrs,
-                children,
-                ..
-            } => {
-                add_own(*tag, attrs, children, list, names)?;
-                if children.are_plain() {
-                    continue;
-                }
-                add_listed(children, list, names)?;
-            }
-        }
-    }
-    Ok(())
+/// What is listed of nodes: the definitions, and the names that references say.
+#[derive(Drop)]
+pub struct Listed<'a> {
+    pub definitions: Vec<Defined<'a>>,
+    pub names: Vec<&'a str>,
 }
 
-/// Adds an element, if it is a definition, or the name that it says, if it is a reference.
-fn add_own<'a>(
-    tag: Tag,
-    attrs: &'a Attrs,
-    content: &'a Children,
-    list: &mut Vec<Defined<'a>>,
-    names: &mut Vec<&'a str>,
-) -> Result<()>
-    ensures definition { Gives (λ _. map defined list.new.items ≡ map defined list.old.items ++ own_definition tag attrs.now content.now) result }
-    ensures name { Gives (λ _. map (λ name. name.now) names.new.items ≡ map (λ name. name.now) names.old.items ++ own_name tag attrs.now) result }
-{
-    if is_reference(tag) {
-        names.push(said(attrs, Key::Refname))?;
+impl<'a> Listed<'a> {
+    /// The definitions among nodes, and in them, in preorder, and the names that references say there.
+    pub fn of(alloc: Global, nodes: &'a Children) -> Result<Listed<'a>>
+        ensures definitions { Gives (λ listed. map defined listed.definitions.items ≡ definitions_among nodes.now) result }
+        ensures names { Gives (λ listed. map (λ name. name.now) listed.names.items ≡ names_said nodes.now) result }
+    {
+        let mut listed = Listed {
+            definitions: Vec::new(alloc),
+            names: Vec::new(alloc),
+        };
+        read_elements(alloc, nodes, None, &mut listed)?;
+        Ok(listed)
     }
-    if !matches!(tag, Tag::SubstitutionDefinition) {
-        return Ok(());
+}
+
+impl<'a> Reader<'a> for Listed<'a> {
+    ghost takes = { TakesListed };
+
+    fn read(
+        &mut self,
+        _alloc: Global,
+        element: &'a Node,
+        level: Option<usize>,
+    ) -> Result<Option<usize>> {
+        let Node::Element {
+            tag,
+            attrs,
+            children,
+            ..
+        } = element
+        else {
+            return Ok(level);
+        };
+        if is_reference(*tag) {
+            self.names.push(said(attrs, Key::Refname))?;
+        }
+        if !matches!(tag, Tag::SubstitutionDefinition) {
+            return Ok(level);
+        }
+        let name = said(attrs, Key::OwnName);
+        self.definitions.push(Defined {
+            name,
+            content: children,
+        })?;
+        Ok(level)
     }
-    let name = said(attrs, Key::OwnName);
-    list.push(Defined { name, content })?;
-    Ok(())
 }

@@ -7,7 +7,7 @@ ghost use Rattle.rst_transform_substitutions.specs.Definitions.{known_found};
 ghost use Rattle.rst_transform_substitutions.specs.Numbering.{may_lead, places_found, AreOrdered};
 
 use crate::definitions::Definitions;
-use crate::listing::add_listed;
+use crate::listing::Listed;
 use rst_tree::{Children, Result};
 use std::alloc::Global;
 
@@ -49,11 +49,9 @@ fn referred(alloc: Global, definitions: &Definitions) -> Result<Vec<Vec<usize>>>
 fn places_found(alloc: Global, definitions: &Definitions, nodes: &Children) -> Result<Vec<usize>>
     ensures { Gives (λ places. places.items ≡ places_found definitions.now nodes.now) result }
 {
-    let mut inner = Vec::new(alloc);
-    let mut names = Vec::new(alloc);
-    add_listed(nodes, &mut inner, &mut names)?;
+    let listed = Listed::of(alloc, nodes)?;
     let mut places = Vec::new(alloc);
-    for name in &names {
+    for name in &listed.names {
         if let Some(place) = definitions.find(alloc, name)? {
             places.push(place)?;
         }

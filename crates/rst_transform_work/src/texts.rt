@@ -2,9 +2,8 @@
 ghost use Rattle.std.specs.Prelude.{◌≡◌, string_bytes};
 ghost use Rattle.rst_tree.specs.declared.node.Node.TheVariants.{Element};
 ghost use Rattle.rst_tree.specs.Faults.{Gives};
-ghost use Rattle.rst_transform_work.specs.Reading.{identifier, name_in};
+ghost use Rattle.rst_transform_work.specs.Reading.{identifier, name_in, source_said};
 ghost use Rattle.rst_transform_work.specs.Lists.{named};
-ghost use Rattle.rst_transform_work.specs.Reading.{source_said};
 
 use crate::lists::append_names;
 use rst_text::{id_of, name_of};

@@ -1,12 +1,13 @@
 -- Changes of a node at a path.
-use Rattle.std.proofs.Common.{◌≡◌, ℕ, ◌<◌, ◌≤◌, List, [], ◌∷◌, length, set, get_or, zero, suc, Option, refl, sym, ◌∙◌, ap, arith}
+use Rattle.std.proofs.Common.{◌≡◌, ℕ, ◌<◌, List, [], ◌∷◌, length, set, get_or, zero, suc, Option, refl, sym, ◌∙◌, ap, arith}
 use Rattle.rst_tree.specs.declared.attrs.Attr.{Attr}
 use Rattle.rst_tree.specs.declared.tag.Tag.{Tag}
 use Rattle.rst_tree.specs.declared.node.Node.{Node}
 use Rattle.rst_tree.specs.declared.node.Node.TheVariants.{Element, Text}
 use Rattle.rst_tree.specs.Forest.{Forest, bare, element, words}
 use Rattle.rst_tree.specs.Nodes.{forest_of, nodes_of}
-use Rattle.std.specs.Prelude.{IsSomeAnd, option_and_then, slice_get, Some, None}
+use Rattle.std.specs.Prelude.{IsSomeAnd, option_and_then, slice_get}
+pub use Rattle.std.proofs.lemmas.Option.{slice_get_past as slice_get-none, slice_get-get_or as slice_get-some}
 use Rattle.rst_tree.specs.Paths.{map_at, changed_at, node_at, IsElement}
 
 pub nodes_of-forest_of : (ns : List Node) → nodes_of (forest_of ns) ≡ ns
@@ -50,14 +51,3 @@ child_changed f node t a c l ns at rest first d new is nodes parts fits changed 
 pub no_text : (at : List ℕ) (node : Node) (t : List ℕ) → node ≡ Text t → IsSomeAnd (node_at at node) IsElement → ⊥
 no_text [] node t is h = rw is at h
 no_text (i ∷ rest) node t is h = rw is at h
-
--- the item at a place of a list, or none past its end
-pub slice_get-none : (ns : List Node) (i : ℕ) → length ns ≤ i → slice_get ns i ≡ None
-slice_get-none [] i h = refl
-slice_get-none (n ∷ ns) zero h = absurd (omega arith)
-slice_get-none (n ∷ ns) (suc i) h = let k : length ns ≤ i = omega arith in slice_get-none ns i k
-
-pub slice_get-some : (ns : List Node) (i : ℕ) (d : Node) → i < length ns → slice_get ns i ≡ Some (get_or ns i d)
-slice_get-some [] i d h = absurd (omega arith)
-slice_get-some (n ∷ ns) zero d h = refl
-slice_get-some (n ∷ ns) (suc i) d h = let k : i < length ns = omega arith in slice_get-some ns i d k

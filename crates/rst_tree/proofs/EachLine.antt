@@ -5,7 +5,7 @@ use Rattle.std.specs.List.{flat_map, onto_first}
 use Rattle.std.proofs.lemmas.Bool.Decides.{eqb_tells}
 use Rattle.rst_tree.specs.Law.{line_if_any, PrintsEachLine}
 use Rattle.rst_tree.specs.Print.{text_lines, printed_line}
-use Rattle.rst_tree.proofs.PrintedParts.{printed-text}
+use Rattle.std.proofs.lemmas.List.Folds.{flat_map-map}
 
 -- what `All` says of the first, and of the others
 head_of : {X : Type 0} (P : X → Type 0) (x : X) (xs : List X) → All P (x ∷ xs) → P x
@@ -36,4 +36,4 @@ all_lines (l ∷ ls) last h k =
 
 pub prints_each : PrintsEachLine
 prints_each level ended last h k =
-    printed-text level (text_lines (flat_map (λ l. l ++ 10 ∷ []) ended ++ last)) ∙ ap (flat_map (λ l. printed_line (level, l))) (all_lines ended last h k)
+    flat_map-map printed_line (λ l. (level, l)) (text_lines (flat_map (λ l. l ++ 10 ∷ []) ended ++ last)) ∙ ap (flat_map (λ l. printed_line (level, l))) (all_lines ended last h k)

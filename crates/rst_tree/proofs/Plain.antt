@@ -4,14 +4,8 @@ use Rattle.std.specs.Prelude.{◌||◌, ◌==◌, not}
 use Rattle.std.specs.List.{list_all}
 use Rattle.std.specs.Str.{chars}
 use Rattle.rst_text.specs.Lines.{is_line_end}
-use Rattle.rst_tree.proofs.Fitting.{both}
+use Rattle.std.proofs.lemmas.Bool.{and_parts}
 use Rattle.rst_tree.specs.Tree.{is_plain_byte, is_lines}
-
-ascii : (b : ℕ) → is_plain_byte b ≡ true → nat_lt b 128 ≡ true
-ascii b h = grind (arith, h)
-
-ends_none : (b : ℕ) → is_plain_byte b ≡ true → ((b == 10) || not (is_line_end b)) ≡ true
-ends_none b h = grind (arith, h)
 
 chars-ascii : (b : ℕ) (bs : List ℕ) → nat_lt b 128 ≡ true → chars (b ∷ bs) ≡ b ∷ chars bs
 unfolding chars
@@ -22,5 +16,7 @@ pub plain_lines : (bs : List ℕ) → list_all is_plain_byte bs ≡ true → is_
 unfolding chars
 plain_lines [] h = refl
 plain_lines (b ∷ bs) h =
-    let k = both (is_plain_byte b) (list_all is_plain_byte bs) h in
-    rw (chars-ascii b bs (ascii b k.0), ends_none b k.0) (plain_lines bs k.1)
+    let k = and_parts (is_plain_byte b) (list_all is_plain_byte bs) h in
+    let low : nat_lt b 128 ≡ true = grind (arith, k.0) in
+    let none : ((b == 10) || not (is_line_end b)) ≡ true = grind (arith, k.0) in
+    rw (chars-ascii b bs low, none) (plain_lines bs k.1)

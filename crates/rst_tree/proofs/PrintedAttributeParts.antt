@@ -2,6 +2,7 @@
 use Rattle.std.proofs.Common.{◌≡◌, ℕ, ◌+◌, ◌≤◌, List, [], ◌∷◌, ◌++◌, length, take, drop, add-one, arith, refl, sym, ap, append_assoc, ◌∙◌, true, false, Option, Some, None}
 use Rattle.std.specs.Prelude.{if◌then◌else◌, ◌*◌, map, nat_lt, replicate}
 use Rattle.std.specs.List.{flat_map}
+use Rattle.std.proofs.lemmas.Grind.{common_steps}
 use Rattle.std.proofs.lemmas.List.{take_all}
 use Rattle.std.proofs.lemmas.List.Concat.{flat_map-append}
 use Rattle.std.proofs.lemmas.List.Folds.{flat_map-map}
@@ -15,19 +16,18 @@ use Rattle.rst_tree.specs.declared.node.Node.TheVariants.{Element, Text}
 use Rattle.rst_tree.specs.declared.tag.Tag.{Tag}
 use Rattle.rst_tree.specs.Attributes.{attr, with_attr, places_below, is_at, before, behind}
 use Rattle.rst_tree.specs.Forest.{Forest}
-use Rattle.rst_tree.specs.KeyNames.{key_code, is_same}
+use Rattle.rst_tree.specs.KeyNames.{key_code}
 use Rattle.rst_tree.specs.LevelNames.{level_name, level_of}
 use Rattle.rst_tree.specs.Nodes.{forest_of}
 use Rattle.rst_tree.specs.Print.{deeper, start_tag, text_lines, printed_line, printed_node}
 use Rattle.rst_tree.specs.PrintedAttributes.{with_source, with_type, printed_attrs, all_with_printed_attrs, with_printed_attrs}
 use Rattle.rst_tree.proofs.PrintedParts.{printed-element, printed-words}
+use Rattle.rst_tree.specs.KeyNames.{is_same}
 
 -- the attributes before a name, and those behind it, by their places
 pub before_place : (k : Key) (xs : List Attr) → take (places_below k xs) xs ≡ before k xs
 before_place k [] = refl
-before_place k (a ∷ xs) =
-    elim (nat_lt (key_code a.key) (key_code k)) as (λ b. take (if b then places_below k xs + 1 else 0) (a ∷ xs) ≡ (if b then a ∷ before k xs else []))
-    [ true ↦ rw add-one (ap (λ ys. a ∷ ys) (before_place k xs)) | false ↦ refl ]
+before_place k (a ∷ xs) = let e : take (places_below k xs + 1) (a ∷ xs) ≡ a ∷ take (places_below k xs) xs = rw add-one refl in grind (arith, e, before_place k xs)
 
 pub behind_there : (k : Key) (xs : List Attr) → is_at k (drop (places_below k xs) xs) ≡ true → drop (places_below k xs + 1) xs ≡ behind k xs
 behind_there k [] h = cc
@@ -40,12 +40,7 @@ behind_there k (a ∷ xs) h =
 
 pub behind_between : (k : Key) (xs : List Attr) → is_at k (drop (places_below k xs) xs) ≡ false → drop (places_below k xs) xs ≡ behind k xs
 behind_between k [] h = refl
-behind_between k (a ∷ xs) h =
-    elim (nat_lt (key_code a.key) (key_code k)) as (λ b. is_at k (drop (if b then places_below k xs + 1 else 0) (a ∷ xs)) ≡ false
-    → drop (if b then places_below k xs + 1 else 0) (a ∷ xs) ≡ (if b then behind k xs else (if is_same a.key k then xs else a ∷ xs))) [
-      | true ↦ λ h. rw add-one (behind_between k xs (rw add-one at h))
-      | false ↦ λ h. rw h refl
-    ] h
+behind_between k (a ∷ xs) h = grind (arith, common_steps, behind_between k xs)
 
 -- an attribute that is added stands between those before it and after it
 pub parted : (k : Key) (v : Value) (xs : List Attr) → before k xs ++ (attr k v ∷ behind k xs) ≡ with_attr k v xs

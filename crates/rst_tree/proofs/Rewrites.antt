@@ -7,7 +7,7 @@ use Rattle.rst_tree.specs.declared.node.Node.{Node}
 use Rattle.rst_tree.specs.declared.node.Node.TheVariants.{Element, Text}
 use Rattle.rst_tree.specs.declared.rewriting.Rewrite.{Rewrite}
 use Rattle.rst_tree.specs.declared.rewriting.Rewrite.TheVariants.{Keep, Replace}
-use Rattle.rst_tree.specs.Forest.{Forest, bare, element, height, words}
+use Rattle.rst_tree.specs.Forest.{Forest, bare, height, words}
 use Rattle.rst_tree.specs.Nodes.{are_plain, forest_of, nodes_of, node_height}
 use Rattle.rst_tree.specs.Rewritten.{go_on, rewritten, Turned}
 use Rattle.rst_tree.proofs.Changes.{forest_of-nodes_of, nodes_of-forest_of}
@@ -35,32 +35,16 @@ module _ {S : Type 0} (entered : S → Node → S) (becomes : S → Node → Rew
   steps s [] = ([], s)
   steps s (n ∷ ns) = ((step s n).0 ++ (steps (step s n).1 ns).0, (steps (step s n).1 ns).1)
 
-  rewritten-nodes : (s : S) (ns : List Node) → nodes_of (redone s (forest_of ns)).0 ≡ (steps s ns).0
-  rewritten-nodes s [] = refl
-  rewritten-nodes s (Text t ∷ ns) = ap (λ z. Text t ∷ z) (rewritten-nodes s ns)
-  rewritten-nodes s (Element t a c l ∷ ns) =
+  pub rewritten-steps : (s : S) (ns : List Node) → ◌≡◌ {A = List Node × S} (nodes_of (redone s (forest_of ns)).0, (redone s (forest_of ns)).1) (steps s ns)
+  rewritten-steps s [] = refl
+  rewritten-steps s (Text t ∷ ns) = ap (λ (p : List Node × S). (Text t ∷ p.0, p.1)) (rewritten-steps s ns)
+  rewritten-steps s (Element t a c l ∷ ns) =
       let u : S = entered s (Element t a c l) in
-      elim (becomes s (Element t a c l)) as (λ v. nodes_of (go_on v u (λ w. redone w c) (λ w. redone w (forest_of ns))).0 ≡ (decided v u c).0 ++ (steps (decided v u c).1 ns).0) [
-        | Replace n ↦ nodes_of-join n (redone u (forest_of ns)).0 ∙ ap (λ z. n ∷ z) (rewritten-nodes u ns)
-        | Keep t' a' l' ↦ ap (λ z. Element t' a' (redone u c).0 l' ∷ z) (rewritten-nodes (redone u c).1 ns)
+      elim (becomes s (Element t a c l)) as (λ v. ◌≡◌ {A = List Node × S} (nodes_of (go_on v u (λ w. redone w c) (λ w. redone w (forest_of ns))).0, (go_on v u (λ w. redone w c) (λ w. redone w (forest_of ns))).1)
+      ((decided v u c).0 ++ (steps (decided v u c).1 ns).0, (steps (decided v u c).1 ns).1)) [
+        | Replace n ↦ rw (nodes_of-join n (redone u (forest_of ns)).0) (ap (λ (p : List Node × S). (n ∷ p.0, p.1)) (rewritten-steps u ns))
+        | Keep t' a' l' ↦ ap (λ (p : List Node × S). (Element t' a' (redone u c).0 l' ∷ p.0, p.1)) (rewritten-steps (redone u c).1 ns)
       ]
-
-  rewritten-state : (s : S) (ns : List Node) → (redone s (forest_of ns)).1 ≡ (steps s ns).1
-  rewritten-state s [] = refl
-  rewritten-state s (Text t ∷ ns) = rewritten-state s ns
-  rewritten-state s (Element t a c l ∷ ns) =
-      let u : S = entered s (Element t a c l) in
-      elim (becomes s (Element t a c l)) as (λ v. (go_on v u (λ w. redone w c) (λ w. redone w (forest_of ns))).1 ≡ (steps (decided v u c).1 ns).1) [
-        | Replace n ↦ rewritten-state u ns
-        | Keep t' a' l' ↦ rewritten-state (redone u c).1 ns
-      ]
-
-  -- all nodes
-  pub all_nodes : (s : S) (f : Forest) (ns held : List Node) → f ≡ forest_of ns → held ≡ (steps s ns).0 → forest_of held ≡ (redone s f).0
-  all_nodes s f ns held is all = rw is (ap forest_of (all ∙ sym (rewritten-nodes s ns)) ∙ forest_of-nodes_of (redone s (forest_of ns)).0)
-
-  pub all_state : (s u : S) (f : Forest) (ns : List Node) → f ≡ forest_of ns → u ≡ (steps s ns).1 → u ≡ (redone s f).1
-  all_state s u f ns is all = rw is (all ∙ sym (rewritten-state s ns))
 
 module _ {S : Type 0} (entered : S → Node → S) (becomes : S → Node → Rewrite) where
   -- what becomes of nodes, each of which stays or gives way to one
@@ -98,14 +82,15 @@ module _ {S : Type 0} (entered : S → Node → S) (becomes : S → Node → Rew
         done = rw (set_is, kept) done_then;
       }
 
-  pub Turning-nodes : (children : Forest) (start : S) (now : Forest) (state : S) (i : ℕ) → Turning children start now state i → length (nodes_of now) ≤ i → now ≡ (turned start children).0
-  Turning-nodes children start now state i left all =
-      let held : nodes_of now ≡ (turns start (nodes_of children)).0 = sym (append-nil (nodes_of now)) ∙ (rw (take_all i (nodes_of now) all, drop_all i (nodes_of now) all) at left.nodes) in
-      sym (forest_of-nodes_of now) ∙ all_nodes entered becomes start children (nodes_of children) (nodes_of now) (sym (forest_of-nodes_of children)) held
-
-  pub Turning-state : (children : Forest) (start : S) (now : Forest) (state : S) (i : ℕ) → Turning children start now state i → length (nodes_of now) ≤ i → state ≡ (turned start children).1
-  Turning-state children start now state i left all =
-      all_state entered becomes start state children (nodes_of children) (sym (forest_of-nodes_of children)) (rw (drop_all i (nodes_of now) all) at left.done)
+  pub Turning-all : (children : Forest) (start : S) (now : Forest) (state : S) (i : ℕ) → Turning children start now state i → length (nodes_of now) ≤ i
+      → (now ≡ (turned start children).0) × (state ≡ (turned start children).1)
+  Turning-all children start now state i left all =
+      let whole = rewritten-steps entered becomes start (nodes_of children) in
+      let e = forest_of-nodes_of children in (
+        sym (forest_of-nodes_of now) ∙ ap forest_of (sym (append-nil (nodes_of now)) ∙ (rw (take_all i (nodes_of now) all, drop_all i (nodes_of now) all) at left.nodes))
+            ∙ (rw e at (ap (λ (p : List Node × S). forest_of p.0) (sym whole))) ∙ forest_of-nodes_of (turned start children).0,
+        (rw (drop_all i (nodes_of now) all) at left.done) ∙ (rw e at (ap (λ (p : List Node × S). p.1) (sym whole))),
+      )
 
   -- a text
   pub turn-text : (u : S) (n : Node) (t : List ℕ) → n ≡ Text t → turn_of u n ≡ (n ∷ [], u)
@@ -140,9 +125,7 @@ module _ {S : Type 0} (entered : S → Node → S) (becomes : S → Node → Rew
   pub turned-plain : (s : S) (c : Forest) → are_plain c ≡ true → (c, s) ≡ turned s c
   turned-plain s bare plain = refl
   turned-plain s (words t bare) plain = refl
-  turned-plain s (words t (words u r)) plain = cc
-  turned-plain s (words t (element u a c l r)) plain = cc
-  turned-plain s (element t a c l r) plain = cc
+  turned-plain s _ plain = cc
 
   -- it is as high as it was
   pub turn-height : (u : S) (n m : Node) (t : Tag) (a : List Attr) (c : Forest) (l : ℕ) (stays : Bool) → n ≡ Element t a c l → Turned (becomes u n) n m stays → stays ≡ true → node_height m ≡ node_height n

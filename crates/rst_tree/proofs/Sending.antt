@@ -21,26 +21,22 @@ Appends-none None = tt
 Appends-none (Some a) = sym (append-nil a)
 
 -- nothing is sent where nothing is done
-pub Gets-none : {N : ℕ} (h : Option (List ℕ)) (f : Bool) (p : Page N) → Gets [] h f p h f p
-Gets-none h f p = record {
+nothing : {N : ℕ} (text : List ℕ) (h : Option (List ℕ)) (f : Bool) (p : Page N) → (f ≡ false → 0 ≡ length text) → Gets text h f p h f p
+nothing text h f p whole = record {
   sent = 0;
   within = omega arith;
   gained = Appends-none (with_page h p);
   counted = λ n c. rw (add-zero n) c;
   stays = λ e. (refl, e);
-  whole = λ _. refl;
+  whole = whole;
 }
+
+pub Gets-none : {N : ℕ} (h : Option (List ℕ)) (f : Bool) (p : Page N) → Gets [] h f p h f p
+Gets-none h f p = nothing [] h f p (λ _. refl)
 
 -- a text that a failed writer does not get
 pub Gets-failed : {N : ℕ} (text : List ℕ) (h : Option (List ℕ)) (f : Bool) (p : Page N) → f ≡ true → Gets text h f p h f p
-Gets-failed text h f p failed = record {
-  sent = 0;
-  within = omega arith;
-  gained = Appends-none (with_page h p);
-  counted = λ n c. rw (add-zero n) c;
-  stays = λ e. (refl, e);
-  whole = λ e. cc;
-}
+Gets-failed text h f p failed = nothing text h f p (λ e. cc)
 
 -- the part that came of two texts, of the second one only where the first came whole
 both_parts : (x y : List ℕ) (m n : ℕ) (failed : Bool) → m ≤ length x → (failed ≡ false → m ≡ length x) → (failed ≡ true → n ≡ 0)

@@ -1,6 +1,6 @@
 -- A walk changes the elements in place as the definition says.
-use Rattle.std.proofs.Common.{◌≡◌, ℕ, ◌+◌, ◌<◌, List, [], ◌∷◌, ◌++◌, ◌≤◌, length, take, drop, get_or, set, length-set, arith, append_assoc, append-nil, add-one, add-zero, zero, suc, refl, sym, ◌∙◌, ap}
-use Rattle.std.proofs.lemmas.List.{take_more_set, drop-set-lt, drop_all, take_all, get_or-drop}
+use Rattle.std.proofs.Common.{◌≡◌, ℕ, ◌+◌, ◌<◌, List, [], ◌∷◌, ◌++◌, ◌≤◌, length, take, drop, get_or, set, length-set, arith, append_assoc, append-nil, add-zero, refl, sym, ◌∙◌, ap}
+use Rattle.std.proofs.lemmas.List.{drop-drop, take_more_set, drop-set-lt, drop_all, take_all, get_or-drop}
 use Rattle.rst_tree.proofs.Changes.{nodes_of-forest_of, forest_of-nodes_of}
 use Rattle.rst_tree.proofs.EachNode.{drop_item}
 use Rattle.rst_tree.specs.declared.attrs.Attr.{Attr}
@@ -11,13 +11,6 @@ use Rattle.rst_tree.specs.Forest.{Forest, height}
 use Rattle.rst_tree.specs.Nodes.{forest_of, nodes_of, join_node, node_height}
 use Rattle.rst_tree.proofs.PrintedParts.{node_height-le}
 use Rattle.rst_tree.specs.Walk.{Item, item, items, node_items, after, walked, walked_node}
-
--- one item less
-pub drop_next : {X : Type 0} (i : ℕ) (xs : List X) → drop (i + 1) xs ≡ drop 1 (drop i xs)
-drop_next zero [] = refl
-drop_next zero (x ∷ xs) = refl
-drop_next (suc i) [] = rw add-one refl
-drop_next (suc i) (x ∷ xs) = rw add-one (rw add-one at (drop_next i xs))
 
 pub same_item : {X : Type 0} (i : ℕ) (xs ys : List X) (d : X) → drop i xs ≡ drop i ys → get_or xs i d ≡ get_or ys i d
 same_item i xs ys d same =
@@ -42,7 +35,7 @@ Same-more old now i new same fits =
     let ns = nodes_of now in
     let set_is : nodes_of (forest_of (set ns i new)) ≡ set ns i new = nodes_of-forest_of (set ns i new) in
     let kept : drop (i + 1) (set ns i new) ≡ drop (i + 1) ns = drop-set-lt (i + 1) ns i new (omega arith) in
-    let others : drop (i + 1) ns ≡ drop (i + 1) (nodes_of old) = drop_next i ns ∙ ap (drop 1) same.rest ∙ sym (drop_next i (nodes_of old)) in
+    let others : drop (i + 1) ns ≡ drop (i + 1) (nodes_of old) = sym (drop-drop 1 i ns) ∙ ap (drop 1) same.rest ∙ drop-drop 1 i (nodes_of old) in
     record { same_len = rw (set_is, length-set ns i new) same.same_len; rest = rw (set_is, kept) others }
 
 -- the node that is met next is one of the old ones

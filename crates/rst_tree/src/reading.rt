@@ -1,32 +1,72 @@
 //! What is gathered from all elements in preorder.
-ghost use Rattle.std.specs.Prelude.{◌≡◌};
+ghost use Rattle.std.specs.Prelude.{ℕ, Option};
 ghost use Rattle.rst_tree.specs.declared.node.Node.{Node};
 ghost use Rattle.rst_tree.specs.Faults.{Gives};
-ghost use Rattle.rst_tree.specs.Read.{elements_of, folded};
+ghost use Rattle.rst_tree.specs.Read.{AreRead};
 
 use crate::fault::Result;
-use crate::node::Node;
+use crate::node::{Children, Node};
 use std::alloc::Global;
 
-/// A state that takes elements in.
-pub trait Reader {
-    /// The state after an element.
-    ghost next: { Self → Node → Self };
+/// A state that takes elements in, each at a level.
+pub trait Reader<'a> {
+    /// What taking in an element at a level makes of the state, and the level of the elements in it.
+    ghost takes: { Self → Option ℕ → Node → Self → Option ℕ → Type 0 };
 
-    /// Takes in an element, which is seen with all that stands in it.
-    fn read(&mut self, alloc: Global, element: &Node) -> Result<()>
-        ensures { Gives (λ _. self.new ≡ next self.old element.now) result };
+    /// Takes in an element, which is seen with all that stands in it, and tells the level of the elements in it.
+    fn read(
+        &mut self,
+        alloc: Global,
+        element: &'a Node,
+        level: Option<usize>,
+    ) -> Result<Option<usize>>
+        ensures { Gives (λ inner. takes self.old level element.now self.new inner) result };
 }
 
-/// Lets a reader take in a node's elements in preorder, the node itself first.
-pub fn read_elements<R: Reader>(alloc: Global, node: &Node, reader: &mut R) -> Result<()>
-    ensures { Gives (λ _. reader.new ≡ folded R.next reader.old (elements_of node.now)) result }
+/// Nodes at a level that are still to be gone through.
+#[derive(Clone, Copy)]
+struct Left<'a> {
+    nodes: &'a [Node],
+    level: Option<usize>,
+}
+
+/// Lets a reader take in the elements among nodes at a level, and those in them, in preorder.
+// A call of itself under a bound that names a lifetime isn't proved: so what is left around an element is kept in a list.
+pub fn read_elements<'a, R: Reader<'a>>(
+    alloc: Global,
+    nodes: &'a Children,
+    level: Option<usize>,
+    reader: &mut R,
+) -> Result<()>
+    ensures { Gives (λ _. AreRead R.takes level nodes.now reader.old reader.new) result }
 {
-    if let Node::Element { children, .. } = node {
-        reader.read(alloc, node)?;
-        for child in children.as_slice() {
-            read_elements(alloc, child, reader)?;
+    let mut left: Vec<Left<'a>> = Vec::new(alloc);
+    let mut rest = nodes.as_slice();
+    let mut at = level;
+    'rest: loop {
+        let Some((node, behind)) = rest.split_first() else {
+            let Some(outer) = left.pop() else {
+                return Ok(());
+            };
+            rest = outer.nodes;
+            at = outer.level;
+            continue;
+        };
+        rest = behind;
+        match node {
+            Node::Text(_) => continue,
+            Node::Element { children, .. } => {
+                let inner = reader.read(alloc, node, at)?;
+                if children.are_plain() {
+                    continue;
+                }
+                left.push(Left {
+                    nodes: rest,
+                    level: at,
+                })?;
+                rest = children.as_slice();
+                at = inner;
+            }
         }
     }
-    Ok(())
 }

@@ -1,4 +1,3 @@
 pub mod Marking
-pub mod ElementKinds
 pub mod Visiting
 pub mod Knowing

@@ -2,6 +2,7 @@
 use Rattle.std.proofs.Common.{◌≡◌, ℕ, ◌+◌, ◌<◌, ◌≤◌, List, [], ◌∷◌, ◌++◌, length, get_or, take, arith, append_assoc, suc, refl, sym, ◌∙◌, ap, Bool, true, false}
 use Rattle.std.specs.Prelude.{if◌then◌else◌, map, option_and_then, slice_get}
 use Rattle.std.proofs.lemmas.List.{append-nil, map-append, take_more, length-take-le}
+use Rattle.std.proofs.lemmas.Simd.{map-map}
 use Rattle.rst_tree.specs.Paths.{node_at, map_at, changed_at}
 use Rattle.rst_tree.specs.declared.attrs.Attr.{Attr}
 use Rattle.rst_tree.specs.declared.tag.Tag.{Tag}
@@ -63,18 +64,17 @@ module _ {S : Type 0} (next : S → Item → S) (out : S → Item → Item) wher
   visited_all-paths [] s t a c l = refl
   visited_all-paths (p ∷ ps) s t a c l = let w : S × Forest = visited p (s, c) in visited_all-paths ps w.0 t a w.1 l
 
+  own-visited : (b : Bool) (s : S) (t : Tag) (a : List Attr) (c : Forest) (l : ℕ) (r : Forest) → many (if b then (0, []) ∷ [] else []) (s, element t a c l r)
+      ≡ (if b then next s (item t a l) else s, (let y : Item = if b then out s (item t a l) else item t a l in element y.tag y.attrs c y.line r))
+  own-visited true s t a c l r = let y : Item = out s (item t a l) in ap (λ z. (next s (item t a l), element y.tag y.attrs c y.line z)) (forest_of-nodes_of r)
+  own-visited false s t a c l r = refl
+
+  pub own-visited_node : (b : Bool) (s : S) (t : Tag) (a : List Attr) (c : Forest) (l : ℕ) → visited_all next out (if b then [] ∷ [] else []) (s, Element t a c l)
+      ≡ (if b then next s (item t a l) else s, (let y : Item = if b then out s (item t a l) else item t a l in Element y.tag y.attrs c y.line))
+  own-visited_node true s t a c l = refl
+  own-visited_node false s t a c l = refl
+
   module _ (needs : Item → Bool) where
-    abbrev here : S → Item → Forest → Forest → S × Forest
-    here s x c r =
-        let y : Item = heeded_out needs out s x in
-        (heeded_next needs next s x, element y.tag y.attrs c y.line r)
-
-    own-visited : (s : S) (t : Tag) (a : List Attr) (c : Forest) (l : ℕ) (r : Forest) → many (own_place needs (item t a l)) (s, element t a c l r) ≡ here s (item t a l) c r
-    own-visited s t a c l r =
-        elim (needs (item t a l)) as (λ v. many (if v then (0, []) ∷ [] else []) (s, element t a c l r)
-        ≡ (if v then next s (item t a l) else s, (let y : Item = if v then out s (item t a l) else item t a l in element y.tag y.attrs c y.line r)))
-        [ true ↦ (let y : Item = out s (item t a l) in ap (λ z. (next s (item t a l), element y.tag y.attrs c y.line z)) (forest_of-nodes_of r)) | false ↦ refl ]
-
     -- the changes at all places are a walk that heeds these elements alone
     pub many-places : (s : S) (f : Forest) → many (places needs f) (s, f) ≡ (after (heeded_next needs next) (heeded_out needs out) s (items f), walked (heeded_next needs next) (heeded_out needs out) s f)
     many-places s bare = refl
@@ -86,19 +86,12 @@ module _ {S : Type 0} (next : S → Item → S) (out : S → Item → Item) wher
         let s2 : S = after (heeded_next needs next) (heeded_out needs out) s1 (items c) in
         let c' : Forest = walked (heeded_next needs next) (heeded_out needs out) s1 c in
         many-append (own_place needs x) (map deeper (places needs c) ++ map later (places needs r)) (s, element t a c l r)
-        ∙ ap (many (map deeper (places needs c) ++ map later (places needs r))) (own-visited s t a c l r)
+        ∙ ap (many (map deeper (places needs c) ++ map later (places needs r))) (own-visited (needs x) s t a c l r)
         ∙ many-append (map deeper (places needs c)) (map later (places needs r)) (s1, element y.tag y.attrs c y.line r)
         ∙ ap (many (map later (places needs r))) (many-deeper (places needs c) s1 y.tag y.attrs c y.line r ∙ ap (inside y.tag y.attrs y.line r) (many-places s1 c))
         ∙ many-later (places needs r) s2 y.tag y.attrs c' y.line r
         ∙ ap (beside y.tag y.attrs c' y.line) (many-places s2 r)
         ∙ ap (λ z. (z, element y.tag y.attrs c' y.line (walked (heeded_next needs next) (heeded_out needs out) s2 r))) (sym (after-append (heeded_next needs next) (heeded_out needs out) s1 (items c) (items r)))
-
-    own-visited_node : (s : S) (t : Tag) (a : List Attr) (c : Forest) (l : ℕ) → visited_all next out (own_mark needs (item t a l)) (s, Element t a c l)
-        ≡ (heeded_next needs next s (item t a l), Element (heeded_out needs out s (item t a l)).tag (heeded_out needs out s (item t a l)).attrs c (heeded_out needs out s (item t a l)).line)
-    own-visited_node s t a c l =
-        elim (needs (item t a l)) as (λ v. visited_all next out (if v then [] ∷ [] else []) (s, Element t a c l)
-        ≡ (if v then next s (item t a l) else s, (let y : Item = if v then out s (item t a l) else item t a l in Element y.tag y.attrs c y.line)))
-        [ true ↦ refl | false ↦ refl ]
 
     -- the changes at all marks of a node
     pub visited_all-marks : (s : S) (n : Node) → visited_all next out (marks_of needs n) (s, n) ≡ (after (heeded_next needs next) (heeded_out needs out) s (node_items n), walked_node (heeded_next needs next) (heeded_out needs out) s n)
@@ -108,13 +101,9 @@ module _ {S : Type 0} (next : S → Item → S) (out : S → Item → Item) wher
         let y : Item = heeded_out needs out s x in
         let s1 : S = heeded_next needs next s x in
         visited_all-append (own_mark needs x) (map path_of (places needs c)) (s, Element t a c l)
-        ∙ ap (visited_all next out (map path_of (places needs c))) (own-visited_node s t a c l)
+        ∙ ap (visited_all next out (map path_of (places needs c))) (own-visited_node (needs x) s t a c l)
         ∙ visited_all-paths (places needs c) s1 y.tag y.attrs c y.line
         ∙ ap (within y.tag y.attrs y.line) (many-places s1 c)
-
-map-two : {A B C : Type 0} (g : B → C) (f : A → B) (xs : List A) → map g (map f xs) ≡ map (λ x. g (f x)) xs
-map-two g f [] = refl
-map-two g f (x ∷ xs) = ap (λ ys. g (f x) ∷ ys) (map-two g f xs)
 
 abbrev in_node : ℕ → List ℕ → Place
 in_node i p = (i, p)
@@ -127,7 +116,7 @@ module _ (needs : Item → Bool) where
       → map later (places needs (forest_of (ns ++ n ∷ []))) ≡ map later (places needs (forest_of ns)) ++ map (in_node (suc (length ns))) (marks_of needs n)
   later_push ns n e =
       ap (map later) e ∙ map-append later (places needs (forest_of ns)) (map (in_node (length ns)) (marks_of needs n))
-      ∙ ap (λ z. map later (places needs (forest_of ns)) ++ z) (map-two later (in_node (length ns)) (marks_of needs n))
+      ∙ ap (λ z. map later (places needs (forest_of ns)) ++ z) (map-map later (in_node (length ns)) (marks_of needs n))
 
   -- one node more, behind the others
   places-push : (ns : List Node) (n : Node) → places needs (forest_of (ns ++ n ∷ [])) ≡ places needs (forest_of ns) ++ map (in_node (length ns)) (marks_of needs n)
@@ -136,7 +125,7 @@ module _ (needs : Item → Bool) where
       let x : Item = item t a l in
       ap (λ z. own_place needs x ++ z) (append-nil (map deeper (places needs c)))
       ∙ ap (λ z. z ++ map deeper (places needs c)) (own_in x)
-      ∙ ap (λ z. map (in_node 0) (own_mark needs x) ++ z) (sym (map-two (in_node 0) path_of (places needs c)))
+      ∙ ap (λ z. map (in_node 0) (own_mark needs x) ++ z) (sym (map-map (in_node 0) path_of (places needs c)))
       ∙ sym (map-append (in_node 0) (own_mark needs x) (map path_of (places needs c)))
   places-push (Text t ∷ ns) n = later_push ns n (places-push ns n)
   places-push (Element t a c l ∷ ns) n =
@@ -152,7 +141,7 @@ module _ (needs : Item → Bool) where
       let before : List (List ℕ) = map path_of (places needs (forest_of ns)) in
       let e : map path_of (places needs (forest_of (ns ++ n ∷ []))) ≡ before ++ map (λ p. length ns ∷ p) (marks_of needs n) =
       ap (map path_of) (places-push ns n) ∙ map-append path_of (places needs (forest_of ns)) (map (in_node (length ns)) (marks_of needs n))
-      ∙ ap (λ z. before ++ z) (map-two path_of (in_node (length ns)) (marks_of needs n)) in
+      ∙ ap (λ z. before ++ z) (map-map path_of (in_node (length ns)) (marks_of needs n)) in
       all ∙ (rw (old, at, more) (append_assoc own before (map (λ p. length ns ∷ p) (marks_of needs n)))) ∙ ap (λ z. own ++ z) (sym e)
 
   -- the marks in the first nodes of a list, and in one more

@@ -1,6 +1,5 @@
 //! A node with the places of the elements that registration needs, these elements, and changes at them.
-ghost use Rattle.std.specs.Prelude.{◌≡◌, ◌++◌, [], map, if◌then◌else◌};
-ghost use Rattle.std.specs.List.{filter};
+ghost use Rattle.std.specs.Prelude.{◌≡◌, ◌++◌, [], map, if◌then◌else◌, filter};
 ghost use Rattle.rst_tree.specs.Faults.{Gives};
 ghost use Rattle.rst_tree.specs.Walk.{item, node_items, after, walked_node};
 ghost use Rattle.rst_tree_index.specs.MarkPaths.{node_paths};
@@ -162,9 +161,9 @@ pub struct Marked {
 
 impl Model for Marked {
     ghost use Rattle.std.specs.Prelude.{◌≡◌};
+    ghost use Rattle.std.specs.Coded.{codes};
     ghost use Rattle.rst_tree.specs.declared.node.Node.{Node};
     ghost use Rattle.rst_tree.specs.contracts.node.Node as node;
-    ghost use Rattle.std.specs.Coded.{codes};
 
     ghost Value = { Node };
 

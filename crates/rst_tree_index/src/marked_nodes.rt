@@ -1,6 +1,5 @@
 //! Nodes that stand beside each other, and the marks of those that have any.
-ghost use Rattle.std.specs.Prelude.{◌≡◌, ◌<◌, ◌∷◌, ◌++◌, [], map, OnErr};
-ghost use Rattle.std.specs.Vec.{vec_capacity, vec_len};
+ghost use Rattle.std.specs.Prelude.{◌≡◌, ◌<◌, ◌∷◌, ◌++◌, [], map, OnErr, vec_capacity, vec_len};
 ghost use Rattle.rst_tree.specs.Faults.{Gives};
 ghost use Rattle.rst_tree.specs.Nodes.{forest_of};
 ghost use Rattle.rst_tree_index.specs.Known.{entry_behind, entry_of, known_at};
@@ -79,9 +78,9 @@ pub struct MarkedNodes {
 
 impl Model for MarkedNodes {
     ghost use Rattle.std.specs.Prelude.{◌≡◌, List, map};
+    ghost use Rattle.std.specs.Coded.{codes};
     ghost use Rattle.rst_tree.specs.declared.node.Node.{Node};
     ghost use Rattle.rst_tree.specs.contracts.node.Node as node;
-    ghost use Rattle.std.specs.Coded.{codes};
 
     ghost Value = { List Node };
 
@@ -279,10 +278,10 @@ pub struct MarkedIter {
 
 impl Model for MarkedIter {
     ghost use Rattle.std.specs.Prelude.{◌≡◌, ◌≤◌, ◌-◌, ◌++◌, [], List, map, None, option_to_list};
+    ghost use Rattle.std.specs.Coded.{codes};
     ghost use Rattle.std.specs.Vec.Iter.{into_iter_items, into_iter_len};
     ghost use Rattle.rst_tree.specs.declared.node.Node.{Node};
     ghost use Rattle.rst_tree.specs.contracts.node.Node as node;
-    ghost use Rattle.std.specs.Coded.{codes};
 
     ghost Value = { List Node };
 

@@ -3,7 +3,8 @@ use Rattle.std.proofs.lemmas.List.{drop_all, take_all}
 use Rattle.std.specs.List.{flat_map}
 use Rattle.rst_text.specs.Counted.{between, inner_of}
 use Rattle.rst_text.specs.Counted.Written.{all}
-use Rattle.rst2pseudoxml_run.proofs.StreamLemmas.{sent_part, sent_whole, texts_of, joined, first_cut, one_more, Appends-both, flat_map_step}
+use Rattle.rst_tree.proofs.Sending.{Appends-append}
+use Rattle.rst2pseudoxml_run.proofs.StreamLemmas.{sent_part, sent_whole, texts_of, joined, first_cut, one_more, flat_map_step}
 use Rattle.rst2pseudoxml_run.proofs.reporting.write_pieces.Goals as goal
 
 pub loop-piece-preserved : goal.loop-piece-preserved
@@ -11,7 +12,7 @@ loop-piece-preserved g c =
     let h = c.loop-piece.invariant in
     let grown = flat_map_step c.args.pieces.now c.loop-piece.piece-index _ c.as_bytes.result.now c.loop-piece-test.true c.as_bytes.ensures.value in
     record {
-      gained = rw grown (Appends-both _ _ _ _ _ h.gained c.in_default.ensures.bytes.0);
+      gained = rw grown (Appends-append _ _ _ _ _ h.gained c.in_default.ensures.bytes.0);
       same = c.in_default.ensures.bytes.1 ∙ h.same;
       calls = λ w taken later.
           one_more _ c.args.pieces.now c.loop-piece.piece-index _ c.as_bytes.result.now taken c.loop-piece-test.true c.as_bytes.ensures.value c.in_default.ensures.call (h.calls w) later;

@@ -20,11 +20,11 @@ returns-in_err-next-in-None-clause-read c =
     (refused_as c.in_err-next-in-None.field-0.0 _ _ _ _
     (last_reads (source_of c.args.whole.now) c.args.frame c.args.level.now c.replace-done.new.dest (block_of c.at-view.result) c.append.new.self c.args.pass.now.numbers c.requires.inner c.in-None.is c.replace-done.ensures.after c.at-view.ensures.block
     (c.in_ok-append.ensures ∙ ap (λ (done : OpenBlock). c.args.frame.nodes ++ done.nodes) c.replace-done.ensures.value))
-    c.in_err-next-in-None.ensures.read)
+    c.in_err-next-in-None.ensures.goes.read)
 
 pub returns-clause-read : goal.returns-clause-read
 returns-clause-read c =
-    c.in_ok-next-in-None.ensures.read
+    c.in_ok-next-in-None.ensures.goes.read
     ∙ last_reads (source_of c.args.whole.now) c.args.frame c.args.level.now c.replace-done.new.dest (block_of c.at-view.result) c.append.new.self c.args.pass.now.numbers c.requires.inner c.in-None.is c.replace-done.ensures.after c.at-view.ensures.block
     (c.in_ok-append.ensures ∙ ap (λ (done : OpenBlock). c.args.frame.nodes ++ done.nodes) c.replace-done.ensures.value)
 
@@ -37,4 +37,4 @@ returns-in-Some-clause-paid c =
 
 pub returns-clause-paid : goal.returns-clause-paid
 returns-clause-paid c =
-    last_waits (source_of c.args.whole.now) c.args.frame c.replace-done.new.dest (block_of c.at-view.result) _ _ _ _ c.in-None.is c.replace-done.ensures.after c.at-view.ensures.block c.in_ok-next-in-None.ensures.paid
+    last_waits (source_of c.args.whole.now) c.args.frame c.replace-done.new.dest (block_of c.at-view.result) _ _ _ _ c.in-None.is c.replace-done.ensures.after c.at-view.ensures.block c.in_ok-next-in-None.ensures.goes.paid

@@ -121,7 +121,7 @@ read-returns-clause-paid t c =
       | read-else-len-gt0-via-then-len-gt0+else-level-le-DEEPEST w ↦ inr (omega (arith, w.if-level-le-DEEPEST.false, c.requires.depth))
       | read-else-len-gt0-via-else-len-gt0 w ↦ inl (omega (arith, w.if-len-gt0.false, c.len.ensures, ap length c.whole-whole.ensures))
     ] in
-    flat_paid c.args.level.now.depth (block_of c.whole-whole.result) c.args.lines.now _ _ flat c.whole-whole.ensures c.in_ok-not_blank.ensures.most c.in_ok-not_blank.ensures.each
+    flat_paid c.args.level.now.depth (block_of c.whole-whole.result) c.args.lines.now _ _ flat c.whole-whole.ensures c.in_ok-not_blank.ensures.looked.1 c.in_ok-not_blank.ensures.each
 
 pub read-returns-then-level-le-DEEPEST-clause-lines : goal.read-returns-then-level-le-DEEPEST-clause-lines
 read-returns-then-level-le-DEEPEST-clause-lines t c =
@@ -155,7 +155,7 @@ cells-returns-clause-paid t c =
     let behind = rw c.in-Table.is at c.requires.table in
     table_paid c.args.level.now c.go_to.new.self c.put_table.new.level c.after_table.new.level (block_of c.args.view.now) c.args.depth c.args.found c.in-Table.cols c.in-Table.head c.in-Table.end c.in-Table.rows
     _ _ _ _ _ c.in-Table.is c.requires.level c.in_ok-made.ensures.paid c.go_to.ensures.moved (c.go_to.ensures.there behind) c.in_ok-put_table.ensures
-    c.in_ok-after_table.ensures.more c.in_ok-after_table.ensures.low c.in_ok-after_table.ensures.looks
+    c.in_ok-after_table.ensures.more (omega (arith, c.in_ok-after_table.ensures.looked.0)) c.in_ok-after_table.ensures.looked.1
 
 pub rows_of-loop-cells-init : goal.rows_of-loop-cells-init
 rows_of-loop-cells-init t c =

@@ -18,12 +18,12 @@ returns-clause-blank c =
     let B : Block = block_of c.args.view.now in
     λ number. blank_up_to B c.lines_end-first.result number c.lines_end-first.ensures.end c.lines_end-first.ensures.within (omega arith)
 
-pub returns-then-first-len-clause-most : goal.returns-then-first-len-clause-most
-returns-then-first-len-clause-most c =
+pub returns-then-first-len-clause-looked : goal.returns-then-first-len-clause-looked
+returns-then-first-len-clause-looked c =
     let B : Block = block_of c.args.view.now in
-    omega (arith, c.lines_end-first.ensures.looks, reach_le (lines_while Blank B) B (while_le Blank B))
+    (omega (arith, c.lines_end-first.ensures.looked.0), omega (arith, c.lines_end-first.ensures.looks, reach_le (lines_while Blank B) B (while_le Blank B)))
 
-pub returns-clause-most : goal.returns-clause-most
-returns-clause-most c =
+pub returns-clause-looked : goal.returns-clause-looked
+returns-clause-looked c =
     let B : Block = block_of c.args.view.now in
-    omega (arith, c.lines_end-first.ensures.looks, reach_le (lines_while Blank B) B (while_le Blank B))
+    (omega (arith, c.lines_end-first.ensures.looked.0), omega (arith, c.lines_end-first.ensures.looks, reach_le (lines_while Blank B) B (while_le Blank B)))

@@ -194,11 +194,11 @@ loop-now-preserved-in_ok-now-in-Next c =
       waiting = c.loop-now.invariant.waiting;
       text = c.loop-now.invariant.text;
       now = now_of_next B c.loop-now.level.at c.next.new.level.at s c.in_ok-now-in-Next.ensures.next;
-      depth = c.in_ok-now-in-Next.ensures.kept ∙ c.loop-now.invariant.depth;
+      depth = c.in_ok-now-in-Next.ensures.goes.kept ∙ c.loop-now.invariant.depth;
       nested = c.loop-now.invariant.nested;
       read = plug_goes_on S (drop c.args.base c.loop-now.frames) (comes c.next.new.level B s) (reads c.loop-now.level B) c.next.new.pass.numbers c.loop-now.pass.numbers
-          _ c.in_ok-now-in-Next.ensures.read (rw c.in-Next.is at c.loop-now.invariant.read);
-      paid = block_goes_on _ _ S (drop c.args.base c.loop-now.frames) c.loop-now.level c.next.new.level B Next s _ _ _ (rw c.in-Next.is at c.loop-now.invariant.paid) c.in_ok-now-in-Next.ensures.paid;
+          _ c.in_ok-now-in-Next.ensures.goes.read (rw c.in-Next.is at c.loop-now.invariant.read);
+      paid = block_goes_on _ _ S (drop c.args.base c.loop-now.frames) c.loop-now.level c.next.new.level B Next s _ _ _ (rw c.in-Next.is at c.loop-now.invariant.paid) c.in_ok-now-in-Next.ensures.goes.paid;
       less = still (loop-now-smaller-in_ok-now-in-Next c) c.loop-now.invariant.less;
     }
 
@@ -215,12 +215,12 @@ loop-now-preserved-in_ok-now-in-Open c =
       waiting = c.loop-now.invariant.waiting;
       text = c.loop-now.invariant.text;
       now = now_of_resumed B c.loop-now.level.at c.flat.new.level.at s c.in_ok-now-in-Open.ensures.step;
-      depth = c.in_ok-now-in-Open.ensures.kept ∙ c.loop-now.invariant.depth;
+      depth = c.in_ok-now-in-Open.ensures.goes.kept ∙ c.loop-now.invariant.depth;
       nested = c.loop-now.invariant.nested;
       read = plug_goes_on S (drop c.args.base c.loop-now.frames) (comes c.flat.new.level B s) (comes c.loop-now.level B (Open c.in-Open.waits c.in-Open.first c.in-Open.second)) c.flat.new.pass.numbers c.loop-now.pass.numbers
-          _ c.in_ok-now-in-Open.ensures.read (rw c.in-Open.is at c.loop-now.invariant.read);
+          _ c.in_ok-now-in-Open.ensures.goes.read (rw c.in-Open.is at c.loop-now.invariant.read);
       paid = block_goes_on _ _ S (drop c.args.base c.loop-now.frames) c.loop-now.level c.flat.new.level B (Open c.in-Open.waits c.in-Open.first c.in-Open.second) s _ _ _ (rw c.in-Open.is at c.loop-now.invariant.paid)
-          c.in_ok-now-in-Open.ensures.paid;
+          c.in_ok-now-in-Open.ensures.goes.paid;
       less = still (loop-now-smaller-in_ok-now-in-Open c) c.loop-now.invariant.less;
     }
 
@@ -228,13 +228,13 @@ pub returns-in_err-now-in-Next-clause-read : goal.returns-in_err-now-in-Next-cla
 returns-in_err-now-in-Next-clause-read c =
     refuses _ c.in_err-now-in-Next.field-0.0 _ _ (search rules)
     (plug_fails (source_of c.args.whole.now) (drop c.args.base c.loop-now.frames) (reads c.loop-now.level (block_of c.loop-now.view)) c.loop-now.pass.numbers
-    _ c.in_err-now-in-Next.field-0.0 _ _ (rw c.in-Next.is at c.loop-now.invariant.read) c.in_err-now-in-Next.ensures.read)
+    _ c.in_err-now-in-Next.field-0.0 _ _ (rw c.in-Next.is at c.loop-now.invariant.read) c.in_err-now-in-Next.ensures.goes.read)
 
 pub returns-in_err-now-in-Open-clause-read : goal.returns-in_err-now-in-Open-clause-read
 returns-in_err-now-in-Open-clause-read c =
     refuses _ c.in_err-now-in-Open.field-0.0 _ _ (search rules)
     (plug_fails (source_of c.args.whole.now) (drop c.args.base c.loop-now.frames) (comes c.loop-now.level (block_of c.loop-now.view) (Open c.in-Open.waits c.in-Open.first c.in-Open.second)) c.loop-now.pass.numbers
-    _ c.in_err-now-in-Open.field-0.0 _ _ (rw c.in-Open.is at c.loop-now.invariant.read) c.in_err-now-in-Open.ensures.read)
+    _ c.in_err-now-in-Open.field-0.0 _ _ (rw c.in-Open.is at c.loop-now.invariant.read) c.in_err-now-in-Open.ensures.goes.read)
 
 pub returns-in_err-frame-in-Some-clause-read : goal.returns-in_err-frame-in-Some-clause-read
 returns-in_err-frame-in-Some-clause-read c =

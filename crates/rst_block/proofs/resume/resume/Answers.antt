@@ -18,19 +18,22 @@ use Rattle.rst_block.proofs.Waiting.{nodes_given, item_given}
 use Rattle.rst_block.proofs.resume.resume.Goals.{in-ListItem+in_ok-item-in-ListItem+in_ok-push_item-in-ListItem, in-ListedBody+in_ok-listed_item-in-ListedBody+in_ok-push_item-in-ListedBody, in-Element+in_ok-completed-in-Element+in_ok-push_marked-in-Element, in-Replacement+in_ok-finished_replacement-in-Replacement+in_ok-push-in-Replacement}
 use Rattle.rst_block.proofs.resume.resume.Goals as goal
 
-pub returns-in-Quote-clause-kept : goal.returns-in-Quote-clause-kept
-returns-in-Quote-clause-kept c = depth_after c.after_quote.result _ c.in_ok-put_quote-in-Quote.ensures.more.depth c.after_quote.ensures.kept
-
-pub returns-in-Quote-clause-read : goal.returns-in-Quote-clause-read
-returns-in-Quote-clause-read c =
+pub returns-in-Quote-clause-goes : goal.returns-in-Quote-clause-goes
+returns-in-Quote-clause-goes c =
     let B : Block = block_of c.args.view.now in
     let old = c.args.level.now in
     let mid = c.put_quote.new.level in
-    let earlier : List Node = quote_by c.in-Quote.line (option_map box_value c.in-Quote.attribution) c.args.nodes in
-    let same : after_quote mid B [] c.in-Quote.rest c.in-Quote.end c.args.pass.now.numbers ≡ resumed old B c.args.waits c.args.nodes c.args.pass.now.numbers =
-    after_more old mid B earlier c.in-Quote.rest c.in-Quote.end c.args.pass.now.numbers c.in_ok-put_quote-in-Quote.ensures.more
-    ∙ ap (λ w. resumed old B w c.args.nodes c.args.pass.now.numbers) (sym c.in-Quote.is) in
-    keeps_as c.after_quote.result _ _ _ same c.after_quote.ensures.read
+    let x = c.in-Quote in
+    let put = c.in_ok-put_quote-in-Quote.ensures.more in
+    let goes = c.after_quote.ensures.goes x.line x.attribution in
+    let earlier : List Node = quote_by x.line (option_map box_value x.attribution) c.args.nodes in
+    let same : after_quote mid B [] x.rest x.end c.args.pass.now.numbers ≡ resumed old B c.args.waits c.args.nodes c.args.pass.now.numbers =
+    after_more old mid B earlier x.rest x.end c.args.pass.now.numbers put ∙ ap (λ w. resumed old B w c.args.nodes c.args.pass.now.numbers) (sym x.is) in
+    record {
+      kept = depth_after c.after_quote.result _ put.depth goes.kept;
+      read = keeps_as c.after_quote.result _ _ _ same goes.read;
+      paid = IfOk-weaker c.after_quote.result _ _ (λ s h. more_paid B c.args.waits x.line x.end x.attribution x.rest _ _ _ _ x.is put h) goes.paid;
+    }
 
 pub returns-in-Figure : goal.returns-in-Figure
 returns-in-Figure c =
@@ -43,26 +46,18 @@ returns-in-Figure c =
     let lines : waiting_looks c.args.waits ≡ x.end - x.start = ap waiting_looks x.is in
     record {
       step = m.at;
-      kept = m.depth;
-      read = nodes_given B n m c.in_ok-made-in-Figure.ensures.figure refl ∙ ap (λ waits. resumed old B waits c.args.nodes n) (sym x.is);
-      paid = waited old c.append_marked.new.self B c.args.waits _ _ (subst WaitsForOne (sym x.is) tt) m.depth m.at (omega (arith, run)) (omega (arith, lines, c.finished_figure.ensures.looks)) c.in_ok-made-in-Figure.ensures.low;
+      goes = record {
+        kept = m.depth;
+        read = nodes_given B n m c.in_ok-made-in-Figure.ensures.figure refl ∙ ap (λ waits. resumed old B waits c.args.nodes n) (sym x.is);
+        paid = waited old c.append_marked.new.self B c.args.waits _ _ (subst WaitsForOne (sym x.is) tt) m.depth m.at (omega (arith, run)) (omega (arith, lines, c.finished_figure.ensures.looks)) c.in_ok-made-in-Figure.ensures.low;
+      };
     }
 
-pub returns-clause-kept : goal.returns-clause-kept
-returns-clause-kept c =
-    let old = c.args.level.now in
-    elim c.match-waits.branch [
-      | in-ListItem+in_ok-item-in-ListItem+in_ok-push_item-in-ListItem w ↦ rw w.level-is (item_depth old w.push_item.new.self _ w.in_ok-push_item-in-ListItem.ensures.item)
-      | in-ListedBody+in_ok-listed_item-in-ListedBody+in_ok-push_item-in-ListedBody w ↦
-          rw w.level-is (item_depth old w.push_item-in-ListedBody.new.self _ w.in_ok-push_item-in-ListedBody.ensures.item)
-      | in-Element+in_ok-completed-in-Element+in_ok-push_marked-in-Element w ↦ rw w.level-is w.in_ok-push_marked-in-Element.ensures.more.depth
-      | in-Replacement+in_ok-finished_replacement-in-Replacement+in_ok-push-in-Replacement w ↦ rw w.level-is w.in_ok-push-in-Replacement.ensures.more.depth
-    ]
-
-pub returns-clause-read : goal.returns-clause-read
-returns-clause-read c =
+pub returns-clause-goes : goal.returns-clause-goes
+returns-clause-goes c =
     let B : Block = block_of c.args.view.now in
     let n = c.args.pass.now.numbers in
+    let looks = c.args.pass.now.looks in
     let old = c.args.level.now in
     let last = c.match-waits.level in
     let ns : List Node = c.args.nodes in
@@ -70,42 +65,35 @@ returns-clause-read c =
       | in-ListItem+in_ok-item-in-ListItem+in_ok-push_item-in-ListItem w ↦
           let item : Node = element_of ListItem [] ns w.in-ListItem.line in
           let made : w.in_ok-item-in-ListItem.item ≡ item = w.in_ok-item-in-ListItem.ensures ∙ ap (λ attrs. element_of ListItem attrs ns w.in-ListItem.line) w.new.ensures in
-          item_given old w.push_item.new.self last B w.in_ok-item-in-ListItem.item item n w.in_ok-push_item-in-ListItem.ensures.item made w.level-is
-          ∙ ap (λ waits. resumed old B waits ns n) (sym w.in-ListItem.is)
+          record {
+            kept = rw w.level-is (item_depth old w.push_item.new.self _ w.in_ok-push_item-in-ListItem.ensures.item);
+            read = item_given old w.push_item.new.self last B w.in_ok-item-in-ListItem.item item n w.in_ok-push_item-in-ListItem.ensures.item made w.level-is
+                ∙ ap (λ waits. resumed old B waits ns n) (sym w.in-ListItem.is);
+            paid = item_paid old w.push_item.new.self last B _ c.args.waits looks (subst WaitsForOne (sym w.in-ListItem.is) tt) w.in_ok-push_item-in-ListItem.ensures.item w.level-is;
+          }
       | in-ListedBody+in_ok-listed_item-in-ListedBody+in_ok-push_item-in-ListedBody w ↦
           let x = w.in-ListedBody in
-          item_given old w.push_item-in-ListedBody.new.self last B w.in_ok-listed_item-in-ListedBody.field-0 _ n w.in_ok-push_item-in-ListedBody.ensures.item w.in_ok-listed_item-in-ListedBody.ensures w.level-is
-          ∙ ap (λ waits. resumed old B waits ns n) (sym x.is)
+          record {
+            kept = rw w.level-is (item_depth old w.push_item-in-ListedBody.new.self _ w.in_ok-push_item-in-ListedBody.ensures.item);
+            read = item_given old w.push_item-in-ListedBody.new.self last B w.in_ok-listed_item-in-ListedBody.field-0 _ n w.in_ok-push_item-in-ListedBody.ensures.item w.in_ok-listed_item-in-ListedBody.ensures w.level-is
+                ∙ ap (λ waits. resumed old B waits ns n) (sym x.is);
+            paid = item_paid old w.push_item-in-ListedBody.new.self last B _ c.args.waits looks (subst WaitsForOne (sym w.in-ListedBody.is) tt) w.in_ok-push_item-in-ListedBody.ensures.item w.level-is;
+          }
       | in-Element+in_ok-completed-in-Element+in_ok-push_marked-in-Element w ↦
-          let node : Node = w.in_ok-completed-in-Element.field-0 in
-          nodes_given B n w.in_ok-push_marked-in-Element.ensures.more
-          (ap (λ (m : Node). m ∷ []) w.in_ok-completed-in-Element.ensures) w.level-is
-          ∙ ap (λ waits. resumed old B waits ns n) (sym w.in-Element.is)
+          record {
+            kept = rw w.level-is w.in_ok-push_marked-in-Element.ensures.more.depth;
+            read = nodes_given B n w.in_ok-push_marked-in-Element.ensures.more
+                (ap (λ (m : Node). m ∷ []) w.in_ok-completed-in-Element.ensures) w.level-is
+                ∙ ap (λ waits. resumed old B waits ns n) (sym w.in-Element.is);
+            paid = nodes_paid B c.args.waits looks (subst WaitsForOne (sym w.in-Element.is) tt) w.in_ok-push_marked-in-Element.ensures.more w.level-is;
+          }
       | in-Replacement+in_ok-finished_replacement-in-Replacement+in_ok-push-in-Replacement w ↦
-          let node : Node = w.in_ok-finished_replacement-in-Replacement.field-0 in
           let node_of : OpenReplacement → List Node = λ o. replacement (string_bytes o.name) o.line (string_bytes o.source) (first_paragraph ns) ∷ [] in
-          nodes_given B n w.in_ok-push-in-Replacement.ensures.more
-          (ap (λ (m : Node). m ∷ []) w.in_ok-finished_replacement-in-Replacement.ensures ∙ ap node_of w.into_inner.ensures) w.level-is
-          ∙ ap (λ waits. resumed old B waits ns n) (sym w.in-Replacement.is)
-    ]
-
-pub returns-in-Quote-clause-paid : goal.returns-in-Quote-clause-paid
-returns-in-Quote-clause-paid c =
-    let x = c.in-Quote in
-    IfOk-weaker c.after_quote.result _ _
-    (λ s h. more_paid (block_of c.args.view.now) c.args.waits x.line x.end x.attribution x.rest _ _ _ _ x.is c.in_ok-put_quote-in-Quote.ensures.more h)
-    (c.after_quote.ensures.paid x.line x.attribution)
-
-pub returns-clause-paid : goal.returns-clause-paid
-returns-clause-paid c =
-    let B : Block = block_of c.args.view.now in
-    let n = c.args.pass.now.looks in
-    let old = c.args.level.now in
-    let last = c.match-waits.level in
-    elim c.match-waits.branch [
-      | in-ListItem+in_ok-item-in-ListItem+in_ok-push_item-in-ListItem w ↦ item_paid old w.push_item.new.self last B _ c.args.waits n (subst WaitsForOne (sym w.in-ListItem.is) tt) w.in_ok-push_item-in-ListItem.ensures.item w.level-is
-      | in-ListedBody+in_ok-listed_item-in-ListedBody+in_ok-push_item-in-ListedBody w ↦
-          item_paid old w.push_item-in-ListedBody.new.self last B _ c.args.waits n (subst WaitsForOne (sym w.in-ListedBody.is) tt) w.in_ok-push_item-in-ListedBody.ensures.item w.level-is
-      | in-Element+in_ok-completed-in-Element+in_ok-push_marked-in-Element w ↦ nodes_paid B c.args.waits n (subst WaitsForOne (sym w.in-Element.is) tt) w.in_ok-push_marked-in-Element.ensures.more w.level-is
-      | in-Replacement+in_ok-finished_replacement-in-Replacement+in_ok-push-in-Replacement w ↦ nodes_paid B c.args.waits n (subst WaitsForOne (sym w.in-Replacement.is) tt) w.in_ok-push-in-Replacement.ensures.more w.level-is
+          record {
+            kept = rw w.level-is w.in_ok-push-in-Replacement.ensures.more.depth;
+            read = nodes_given B n w.in_ok-push-in-Replacement.ensures.more
+                (ap (λ (m : Node). m ∷ []) w.in_ok-finished_replacement-in-Replacement.ensures ∙ ap node_of w.into_inner.ensures) w.level-is
+                ∙ ap (λ waits. resumed old B waits ns n) (sym w.in-Replacement.is);
+            paid = nodes_paid B c.args.waits looks (subst WaitsForOne (sym w.in-Replacement.is) tt) w.in_ok-push-in-Replacement.ensures.more w.level-is;
+          }
     ]

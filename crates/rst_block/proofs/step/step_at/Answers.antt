@@ -38,26 +38,29 @@ returns-in-Blank c =
     let moved = c.go_to.ensures.moved in
     record {
       step = c.go_to.ensures.later;
-      kept = moved.depth;
-      read = blank_reads B c.args.pass.now.numbers moved (omega (arith, end)) end;
-      paid = blank_lines c.args.level.now c.go_to.new.self B _ _ (omega (arith, end)) (omega (arith, there, c.lines_end.ensures.within)) (rw end (are_blank B at)) moved.depth moved.run
-          (omega (arith, end, all, c.begun_at.ensures.looks, c.lines_end.ensures.few)) (omega (arith, end, all, c.begun_at.ensures.low, c.lines_end.ensures.low));
+      goes = record {
+        kept = moved.depth;
+        read = blank_reads B c.args.pass.now.numbers moved (omega (arith, end)) end;
+        paid = blank_lines c.args.level.now c.go_to.new.self B _ _ (omega (arith, end)) (omega (arith, there, c.lines_end.ensures.within)) (rw end (are_blank B at)) moved.depth moved.run
+            (omega (arith, end, all, c.begun_at.ensures.looked.1, c.lines_end.ensures.looked.1)) (omega (arith, end, all, c.begun_at.ensures.looked.0, c.lines_end.ensures.looked.0));
+      };
     }
 
-pub returns-in-Text-clause-kept : goal.returns-in-Text-clause-kept
-returns-in-Text-clause-kept c = IfOk-weaker c.text_line.result (λ s. IsPaid 27 c.args.level.now c.text_line.new.level (block_of c.args.view.now) s _ _) _ (λ _ h. h.depth) c.text_line.ensures.paid
-
-pub returns-in-Text-clause-paid : goal.returns-in-Text-clause-paid
-returns-in-Text-clause-paid c = text_taken _ _ _ _ _ _ c.text_line.result c.requires.inside c.in-Text.ensures.begun c.begun_at.ensures.low c.begun_at.ensures.looks c.text_line.ensures.paid
-
-pub returns-in_default-clause-kept : goal.returns-in_default-clause-kept
-returns-in_default-clause-kept c = IfOk-weaker c.marked_step.result (λ s. IsPaid 29 c.args.level.now c.marked_step.new.level (block_of c.args.view.now) s _ _) _ (λ _ h. h.depth) c.marked_step.ensures.paid
+pub returns-in-Text-clause-goes : goal.returns-in-Text-clause-goes
+returns-in-Text-clause-goes c = record {
+  kept = IfOk-weaker c.text_line.result (λ s. IsPaid 27 c.args.level.now c.text_line.new.level (block_of c.args.view.now) s _ _) _ (λ _ h. h.depth) c.text_line.ensures.paid;
+  read = c.text_line.ensures.read;
+  paid = text_taken _ _ _ _ _ _ c.text_line.result c.requires.inside c.in-Text.ensures.begun c.begun_at.ensures.looked.0 c.begun_at.ensures.looked.1 c.text_line.ensures.paid;
+}
 
 -- what begins at a line that isn't blank
 filled : (begun : Begun) → begun ≢ Blank → IsFilled begun
 filled Blank h = h refl
 filled _ h = tt
 
-pub returns-in_default-clause-paid : goal.returns-in_default-clause-paid
-returns-in_default-clause-paid c =
-    step_taken c.begun_at.result _ _ _ _ _ _ c.marked_step.result c.requires.inside c.begun_at.ensures.begun (filled c.begun_at.result (search rules)) c.begun_at.ensures.low c.begun_at.ensures.looks c.marked_step.ensures.paid
+pub returns-in_default-clause-goes : goal.returns-in_default-clause-goes
+returns-in_default-clause-goes c = record {
+  kept = IfOk-weaker c.marked_step.result (λ s. IsPaid 29 c.args.level.now c.marked_step.new.level (block_of c.args.view.now) s _ _) _ (λ _ h. h.depth) c.marked_step.ensures.paid;
+  read = c.marked_step.ensures.read;
+  paid = step_taken c.begun_at.result _ _ _ _ _ _ c.marked_step.result c.requires.inside c.begun_at.ensures.begun (filled c.begun_at.result (search rules)) c.begun_at.ensures.looked.0 c.begun_at.ensures.looked.1 c.marked_step.ensures.paid;
+}

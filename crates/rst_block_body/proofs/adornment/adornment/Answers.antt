@@ -1,9 +1,8 @@
 use Rattle.std.proofs.Common.{sym, refl, subst}
-use Rattle.std.proofs.lemmas.Result.{IfOk-weaker}
 use Rattle.rst_text.specs.Shown.{block_of}
 use Rattle.rst_block_state.specs.NextLine.{IsText}
 use Rattle.rst_block_body.proofs.AdornedSteps.{form_is, adorned_next, titled_at_top, wrong_next}
-use Rattle.rst_block_body.proofs.TextsPaid.{paid_adorned}
+use Rattle.rst_block_body.proofs.ReadLemmas.{adorned_read}
 use Rattle.rst_block_body.proofs.adornment.adornment.Goals as goal
 
 pub text_line-requires-clause-text : goal.text_line-requires-clause-text
@@ -35,32 +34,20 @@ pub wrong-requires-clause-found : goal.wrong-requires-clause-found
 wrong-requires-clause-found c =
     wrong_next _ _ c.wrong_form.result.gravity c.wrong_form.result.text.now c.requires.begun (form_is c.args.level.now (block_of c.args.view.now) c.args.mark refl c.adorned_at.ensures.form c.titles.ensures) c.wrong_form.ensures.message c.wrong_form.ensures.lines
 
-pub returns-in-Text-clause-paid : goal.returns-in-Text-clause-paid
-returns-in-Text-clause-paid c =
-    let next = c.below_text-next.ensures in
-    let found = c.adorned_at.ensures in
-    IfOk-weaker c.text_line.result _ _ (λ _ h. paid_adorned _ c.requires.inside next.low next.looks found.low found.looks h) c.text_line.ensures.paid
+pub returns-in-Text : goal.returns-in-Text
+returns-in-Text c = adorned_read _ c.text_line.ensures c.requires.inside refl c.below_text-next.ensures.looked c.adorned_at.ensures.looked
 
-pub returns-in-ShortOverline-clause-paid : goal.returns-in-ShortOverline-clause-paid
-returns-in-ShortOverline-clause-paid c =
-    let next = c.below_text-next.ensures in
-    let found = c.adorned_at.ensures in
-    IfOk-weaker c.short.result _ _ (λ _ h. paid_adorned _ c.requires.inside next.low next.looks found.low found.looks h) c.short.ensures.paid
+pub returns-in-ShortOverline : goal.returns-in-ShortOverline
+returns-in-ShortOverline c = adorned_read _ c.short.ensures c.requires.inside refl c.below_text-next.ensures.looked c.adorned_at.ensures.looked
 
-pub returns-in-ShortAdornment-clause-paid : goal.returns-in-ShortAdornment-clause-paid
-returns-in-ShortAdornment-clause-paid c =
-    let next = c.below_text-next.ensures in
-    let found = c.adorned_at.ensures in
-    IfOk-weaker c.short-in-ShortAdornment.result _ _ (λ _ h. paid_adorned _ c.requires.inside next.low next.looks found.low found.looks h) c.short-in-ShortAdornment.ensures.paid
+pub returns-in-ShortAdornment : goal.returns-in-ShortAdornment
+returns-in-ShortAdornment c = adorned_read _ c.short-in-ShortAdornment.ensures c.requires.inside refl c.below_text-next.ensures.looked c.adorned_at.ensures.looked
 
-pub returns-in_ok-transition-in-Transition-clause-paid : goal.returns-in_ok-transition-in-Transition-clause-paid
-returns-in_ok-transition-in-Transition-clause-paid c =
-    paid_adorned _ c.requires.inside c.below_text-next.ensures.low c.below_text-next.ensures.looks c.adorned_at.ensures.low c.adorned_at.ensures.looks c.in_ok-transition-in-Transition.ensures.paid
+pub returns-in-Transition : goal.returns-in-Transition
+returns-in-Transition c = adorned_read _ c.transition.ensures c.requires.inside refl c.below_text-next.ensures.looked c.adorned_at.ensures.looked
 
-pub returns-in_ok-overlined-in-Title-clause-paid : goal.returns-in_ok-overlined-in-Title-clause-paid
-returns-in_ok-overlined-in-Title-clause-paid c =
-    paid_adorned _ c.requires.inside c.below_text-next.ensures.low c.below_text-next.ensures.looks c.adorned_at.ensures.low c.adorned_at.ensures.looks c.in_ok-overlined-in-Title.ensures.paid
+pub returns-in-Title : goal.returns-in-Title
+returns-in-Title c = adorned_read _ c.overlined.ensures c.requires.inside refl c.below_text-next.ensures.looked c.adorned_at.ensures.looked
 
-pub returns-in_ok-wrong-in_default-clause-paid : goal.returns-in_ok-wrong-in_default-clause-paid
-returns-in_ok-wrong-in_default-clause-paid c =
-    paid_adorned _ c.requires.inside c.below_text-next.ensures.low c.below_text-next.ensures.looks c.adorned_at.ensures.low c.adorned_at.ensures.looks c.in_ok-wrong-in_default.ensures.paid
+pub returns-in_default : goal.returns-in_default
+returns-in_default c = adorned_read _ c.wrong.ensures c.requires.inside refl c.below_text-next.ensures.looked c.adorned_at.ensures.looked

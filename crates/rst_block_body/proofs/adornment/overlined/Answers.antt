@@ -9,8 +9,8 @@ use Rattle.rst_markup_blocks.specs.Conditions.{next_text}
 use Rattle.rst_block_state.specs.Texts.{source_of}
 use Rattle.rst_block_state.specs.Titles.{short_warning}
 use Rattle.rst_block_body.proofs.AdornedSteps.{overlined_reads}
-use Rattle.rst_block_state.proofs.Calls.{close_refuses, gives_keeps, gives_kept}
-use Rattle.rst_block_state.proofs.NextConstructs.{next_some, next_within, lines_after, end_behind, goes_behind, span_to, has_ended, next_refused, next_title}
+use Rattle.rst_block_state.proofs.NextConstructs.{next_some, next_within, lines_after, end_behind, goes_behind, span_to, has_ended, next_title}
+use Rattle.rst_block_body.proofs.ReadLemmas.{alone_refused}
 use Rattle.rst_block_body.proofs.TextsPaid.{paid_flat, lines_looked}
 use Rattle.rst_block_state.proofs.Views.{few_lines}
 use Rattle.rst_block_body.proofs.adornment.overlined.Goals as goal
@@ -18,9 +18,8 @@ use Rattle.rst_block_body.proofs.adornment.overlined.Goals as goal
 pub push_heading-requires : goal.push_heading-requires
 push_heading-requires c = c.go_to.ensures.moved.depth ∙ c.in_ok-close.ensures.closed.depth ∙ c.requires.titles
 
-pub returns-in_err-close-clause-read : goal.returns-in_err-close-clause-read
-returns-in_err-close-clause-read c =
-    close_refuses c.from_residual.result c.in_err-close.field-0.0 _ _ _ c.args.level.now (search rules) c.in_err-close.ensures.closed (λ line h. next_refused _ c.requires.found tt h)
+pub returns-in_err-close : goal.returns-in_err-close
+returns-in_err-close c = alone_refused c.in_err-close.field-0.0 c.requires.found tt (search rules) c.in_err-close.ensures.closed
 
 pub returns : goal.returns
 returns c =
@@ -48,15 +47,14 @@ returns c =
     within (few_lines c.args.view.now) c.go_to.ensures.there in
     let closed = c.in_ok-close.ensures.closed in
     let moved = c.go_to.ensures.moved in
+    let title = c.in_ok-push_heading.ensures.title in
     record {
-      later = search rules;
-      read = gives_keeps _ c.push_heading.result _ _ c.push_heading.ensures.title
-          (λ _ h. next_title found tt (has_ended B _ closed)
+      step = search rules;
+      read = next_title found tt (has_ended B _ closed)
           (overlined_reads c.args.mark c.args.short B l.at (l.at + 3) c.number_at-line.result c.close.new.pass.numbers (chars c.skip-text.result.now) (string_bytes c.in_ok-lines.lines) c.in_ok-warning.warning _
           text line warning bytes c.in_ok-heading.ensures.title)
-          refl moved at h);
-      paid = gives_kept _ _ c.push_heading.result c.push_heading.ensures.title
-          (λ _ h. paid_flat 27 c.push_heading.new.self c.args.pass.now.looks c.heading_of.new.pass.looks found tt closed (h.depth ∙ moved.depth) (h.run ∙ moved.run) (h.at ∙ at)
-          (omega (arith, c.close.ensures.run, c.source.ensures.most, stop, c.close.ensures.at, c.text_at-text.ensures.few, c.heading_of.ensures.looks))
-          (omega (arith, c.close.ensures.low, c.in_ok-lines.ensures.each, looked, c.text_at-text.ensures.low, c.heading_of.ensures.looks)));
+          refl moved at title;
+      paid = paid_flat 27 c.push_heading.new.self c.args.pass.now.looks c.heading_of.new.pass.looks found tt closed (title.depth ∙ moved.depth) (title.run ∙ moved.run) (title.at ∙ at)
+          (omega (arith, c.close.ensures.run, c.source.ensures.most, stop, c.close.ensures.at, c.text_at-text.ensures.looked.1, c.heading_of.ensures.looks))
+          (omega (arith, c.close.ensures.low, c.in_ok-lines.ensures.each, looked, c.text_at-text.ensures.looked.0, c.heading_of.ensures.looks));
     }

@@ -4,16 +4,15 @@ use Rattle.rst_text.specs.Shown.{block_of}
 use Rattle.rst_tree.specs.declared.node.Node.{Node}
 use Rattle.rst_block_state.specs.Texts.{shown, source_of}
 use Rattle.rst_block_state.specs.Titles.{plain}
-use Rattle.rst_block_state.proofs.Calls.{close_refuses, gives_keeps, gives_kept}
 use Rattle.rst_block_state.proofs.Changes.{moved_more}
-use Rattle.rst_block_state.proofs.NextConstructs.{next_some, next_within, end_behind, goes_behind, span_to, has_ended, next_refused, next_nodes, message_is}
+use Rattle.rst_block_state.proofs.NextConstructs.{next_some, next_within, end_behind, goes_behind, span_to, has_ended, next_nodes, message_is}
+use Rattle.rst_block_body.proofs.ReadLemmas.{alone_refused}
 use Rattle.rst_block_body.proofs.TextsPaid.{paid_flat, lines_looked}
 use Rattle.rst_block_state.proofs.Views.{few_lines}
 use Rattle.rst_block_body.proofs.adornment.wrong.Goals as goal
 
-pub returns-in_err-close-clause-read : goal.returns-in_err-close-clause-read
-returns-in_err-close-clause-read c =
-    close_refuses c.from_residual.result c.in_err-close.field-0.0 _ _ _ c.args.level.now (search rules) c.in_err-close.ensures.closed (λ line h. next_refused _ c.requires.found tt h)
+pub returns-in_err-close : goal.returns-in_err-close
+returns-in_err-close c = alone_refused c.in_err-close.field-0.0 c.requires.found tt (search rules) c.in_err-close.ensures.closed
 
 pub returns : goal.returns
 returns c =
@@ -32,13 +31,10 @@ returns c =
     goes_behind l.at c.close.new.self.at c.go_to.new.self.at c.saturating_add-end.result form.lines (length B) c.close.ensures.at c.saturating_add-end.ensures (next_some found c.requires.inside)
     within (few_lines c.args.view.now) c.go_to.ensures.there in
     let closed = c.in_ok-close.ensures.closed in
-    let moved = c.go_to.ensures.moved in
+    let more = moved_more c.go_to.ensures.moved at c.in_ok-push.ensures.more in
     record {
-      later = search rules;
-      read = gives_keeps _ c.push.result _ _ c.push.ensures.more
-          (λ _ h. next_nodes (c.in_ok-node.node ∷ []) found tt (has_ended B _ closed)
-          (ap (λ (n : Node). Ok (plain n ∷ [], c.close.new.pass.numbers)) (sym node)) (moved_more moved at h));
-      paid = gives_kept _ _ c.push.result c.push.ensures.more
-          (λ _ h. paid_flat 27 c.push.new.self c.args.pass.now.looks c.source.new.looks found tt closed (h.depth ∙ moved.depth) (h.run ∙ moved.run) (h.at ∙ at)
-          (omega (arith, c.close.ensures.run, c.source.ensures.most, stop, c.close.ensures.at)) (omega (arith, c.close.ensures.low, c.in_ok-block.ensures.each, looked)));
+      step = search rules;
+      read = next_nodes (c.in_ok-node.node ∷ []) found tt (has_ended B _ closed) (ap (λ (n : Node). Ok (plain n ∷ [], c.close.new.pass.numbers)) (sym node)) more;
+      paid = paid_flat 27 c.push.new.self c.args.pass.now.looks c.source.new.looks found tt closed more.depth more.run more.at
+          (omega (arith, c.close.ensures.run, c.source.ensures.most, stop, c.close.ensures.at)) (omega (arith, c.close.ensures.low, c.in_ok-block.ensures.each, looked));
     }

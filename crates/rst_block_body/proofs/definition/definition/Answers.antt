@@ -13,11 +13,11 @@ use Rattle.rst_block_body.proofs.ListsPaid.{found_below, definition_is, paid_ite
 use Rattle.rst_block_state.proofs.MeaningLemmas.{body_means}
 use Rattle.rst_block_body.proofs.definition.definition.Goals as goal
 
-pub returns-in_err-join_list-clause-read : goal.returns-in_err-join_list-clause-read
-returns-in_err-join_list-clause-read c =
+pub returns-in_err-join_list : goal.returns-in_err-join_list
+returns-in_err-join_list c =
     let B = block_of c.args.view.now in
     let l = c.args.level.now in
-    plain_refused c.from_residual.result c.in_err-join_list.field-0.0 _ Definition _ (search rules) refl
+    plain_refused c.in_err-join_list.field-0.0 Definition (search rules) refl
     (next_definition l B c.args.infos.items c.requires.text c.requires.form c.indented-body.ensures.part) c.in_err-join_list.ensures.joins c.in_err-join_list.ensures.begins
 
 pub returns : goal.returns
@@ -39,7 +39,7 @@ returns c =
     let opened : IsOpened l c.join_list.new.level B Definition (empty_list mark (drop l.at B)) part.to c.args.pass.now.numbers k =
     record { joins = c.in_ok-join_list.ensures.joins; numbers = c.in_ok-join_list.ensures.numbers; begins = c.in_ok-join_list.ensures.begins } in
     let next = next_definition l B infos c.requires.text c.requires.form is in
-    let there = c.go_to.ensures.there (rw (c.put_before.ensures.at, c.in_ok-join_list.ensures.at) (item_behind next c.requires.inside)) in
+    let there = c.go_to.ensures.there (rw (c.in_ok-put_before.ensures.run.at, c.in_ok-join_list.ensures.at) (item_behind next c.requires.inside)) in
     record {
       step = search rules;
       read = plain_item l c.join_list.new.level c.put_before.new.level c.go_to.new.self B mark Definition (Open waits part None) (λ w. item_with w B DefinitionListItem DefinitionTag line part heads.items notes.items) part.to
@@ -48,5 +48,5 @@ returns c =
           (definition_made (within_at l.depth) B l.at infos (drop l.at B) k refl c.number_at-line.ensures c.line-term.ensures.text is c.in_ok-heads.ensures.read);
       paid = paid_item 25 waits part start start mid c.line-term.new.looks (omega arith) next (definition_is B l.at infos is)
           (found_below B l.at start mid is c.indented-body.ensures.reach c.indented-body.ensures.low) refl tt refl (c.go_to.ensures.moved.depth ∙ c.in_ok-put_before.ensures.run.depth ∙ opened_depth mark refl opened)
-          there (omega arith) (omega (arith, c.in_ok-join_list.ensures.low, c.line-term.ensures.looks)) (omega (arith, c.in_ok-join_list.ensures.looks, c.line-term.ensures.looks));
+          there (omega arith) (omega (arith, c.in_ok-join_list.ensures.looked.0, c.line-term.ensures.looks)) (omega (arith, c.in_ok-join_list.ensures.looked.1, c.line-term.ensures.looks));
     }

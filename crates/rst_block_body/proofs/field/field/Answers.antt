@@ -15,11 +15,11 @@ use Rattle.rst_block_body.proofs.ListsPaid.{found_hanging, paid_item}
 use Rattle.rst_block_state.proofs.MeaningLemmas.{body_means}
 use Rattle.rst_block_body.proofs.field.field.Goals as goal
 
-pub returns-in_err-join_list-clause-read : goal.returns-in_err-join_list-clause-read
-returns-in_err-join_list-clause-read c =
+pub returns-in_err-join_list : goal.returns-in_err-join_list
+returns-in_err-join_list c =
     let B = block_of c.args.view.now in
     let l = c.args.level.now in
-    plain_refused c.from_residual.result c.in_err-join_list.field-0.0 _ Field _ (search rules) refl (next_field l B c.requires.begun c.hanging-body.ensures.part)
+    plain_refused c.in_err-join_list.field-0.0 Field (search rules) refl (next_field l B c.requires.begun c.hanging-body.ensures.part)
     c.in_err-join_list.ensures.joins c.in_err-join_list.ensures.begins
 
 pub returns : goal.returns
@@ -52,5 +52,5 @@ returns c =
           is (search rules) c.in_ok-name-2.ensures.read);
       paid = paid_item 29 waits part start start found c.line.new.looks (omega arith) next is
           (found_hanging B l.at c.args.mark.marker start found is c.hanging-body.ensures.reach c.hanging-body.ensures.low) refl tt refl (c.go_to.ensures.moved.depth ∙ opened_depth mark refl opened)
-          there (omega arith) (omega (arith, c.in_ok-join_list.ensures.low, c.line.ensures.looks)) (omega (arith, c.in_ok-join_list.ensures.looks, c.line.ensures.looks));
+          there (omega arith) (omega (arith, c.in_ok-join_list.ensures.looked.0, c.line.ensures.looks)) (omega (arith, c.in_ok-join_list.ensures.looked.1, c.line.ensures.looks));
     }

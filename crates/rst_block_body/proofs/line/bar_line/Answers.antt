@@ -9,17 +9,17 @@ use Rattle.rst_block_state.specs.OpenBlocks.{HasRun, HasLine, line_added}
 use Rattle.rst_block_state.specs.Rest.{open_lines}
 use Rattle.rst_block_state.specs.declared.open_block.OpenBlock.{OpenBlock}
 use Rattle.rst_block_state.specs.declared.run.Run.TheVariants.{Lines}
-use Rattle.rst_block_state.proofs.Calls.{close_refuses, gives_keeps, gives_kept}
 use Rattle.rst_block_body.proofs.LineSteps.{line_refused, line_joined, line_begun}
 use Rattle.rst_block_body.proofs.LinesPaid.{line_paid}
+use Rattle.rst_block_body.proofs.ReadLemmas.{close_refuses}
 use Rattle.rst_block_state.proofs.NextConstructs.{next_of, next_some, span_to, has_ended}
 use Rattle.rst_block_body.proofs.line.bar_line.Goals as goal
 
-pub returns-in_err-close-clause-read : goal.returns-in_err-close-clause-read
-returns-in_err-close-clause-read c =
+pub returns-in_err-close : goal.returns-in_err-close
+returns-in_err-close c =
     let B = block_of c.args.view.now in
     let l = c.args.level.now in
-    close_refuses c.from_residual-in_err-close.result c.in_err-close.field-0.0 _ _ _ l (search rules) c.in_err-close.ensures.closed
+    close_refuses c.in_err-close.field-0.0 (search rules) c.in_err-close.ensures.closed
     (λ line h. sym (ap (reads l B) c.in_ok-text.ensures.numbers) ∙ line_refused _ (sym c.lines_end_at.ensures ∙ c.if-lines_end_at.false) (next_of (Line c.args.marker) l B c.requires.begun tt) h)
 
 pub returns-then-lines_end_at : goal.returns-then-lines_end_at
@@ -35,15 +35,14 @@ returns-then-lines_end_at c =
     let some : l.at < l.at + lines = next_some next c.requires.inside in
     let line : (last : ℕ) → indented_by (unwrap_or bar.indent last) bar ≡ indented_line (indentation_of last m) B m (span_to l.at (l.at + lines)) =
     λ last. c.in_ok-text.ensures.line last ∙ ap (λ i. indented_line (indentation_of last m) B m (span_to l.at i)) stop in
+    let put = c.in_ok-add_line.ensures.line in
     record {
-      later = search rules;
-      read = gives_keeps _ c.add_line.result _ _ c.add_line.ensures.line
-          (λ _ h. ap (reads new B) c.in_ok-text.ensures.numbers
+      step = search rules;
+      read = ap (reads new B) c.in_ok-text.ensures.numbers
           ∙ line_joined bar c.args.pass.now.numbers (sym c.lines_end_at.ensures ∙ c.if-lines_end_at.true) next line
-          (subst (λ i. HasLine l new (line_added bar i (open_of l.run))) stop h.0) (h.1 (omega (arith, stop, some)) ∙ stop));
-      paid = gives_kept _ _ c.add_line.result c.add_line.ensures.line
-          (λ _ h. line_paid c.indented_end-end.result _ _ _ _ c.requires.inside c.requires.begun stop h.0.depth h.1 c.indented_end-end.ensures.few c.indented_end-end.ensures.low
-          c.in_ok-text.ensures.most c.in_ok-text.ensures.low (omega arith) (omega arith));
+          (subst (λ i. HasLine l new (line_added bar i (open_of l.run))) stop put.0) (put.1 (omega (arith, stop, some)) ∙ stop);
+      paid = line_paid c.indented_end-end.result _ _ _ _ c.requires.inside c.requires.begun stop put.0.depth put.1 c.indented_end-end.ensures.looked
+          c.in_ok-text.ensures.looked (omega arith) (omega arith);
     }
 
 pub returns : goal.returns
@@ -63,13 +62,12 @@ returns c =
     let line : (last : ℕ) → indented_by (unwrap_or bar.indent last) bar ≡ indented_line (indentation_of last m) B m (span_to l.at (l.at + lines)) =
     λ last. c.in_ok-text.ensures.line last ∙ ap (λ i. indented_line (indentation_of last m) B m (span_to l.at i)) stop in
     let closed = c.in_ok-close.ensures.closed in
+    let put = c.in_ok-add_line-2.ensures.line in
     record {
-      later = search rules;
-      read = gives_keeps _ c.add_line-2.result _ _ c.add_line-2.ensures.line
-          (λ _ h. line_begun opened bar l.at (sym c.lines_end_at.ensures ∙ c.if-lines_end_at.false) next line (has_ended B _ closed) run
-          (subst (λ i. HasLine opened new (line_added bar i (open_of opened.run))) stop h.0) (h.1 (omega (arith, stop, some, c.close.ensures.at)) ∙ stop)
-          ∙ ap (reads l B) c.in_ok-text.ensures.numbers);
-      paid = gives_kept _ _ c.add_line-2.result c.add_line-2.ensures.line
-          (λ _ h. line_paid c.indented_end-end.result _ _ _ _ c.requires.inside c.requires.begun stop (h.0.depth ∙ closed.depth) (λ gone. h.1 (omega (arith, c.close.ensures.at, gone)))
-          c.indented_end-end.ensures.few c.indented_end-end.ensures.low c.in_ok-text.ensures.most c.in_ok-text.ensures.low c.close.ensures.run c.close.ensures.low);
+      step = search rules;
+      read = line_begun opened bar l.at (sym c.lines_end_at.ensures ∙ c.if-lines_end_at.false) next line (has_ended B _ closed) run
+          (subst (λ i. HasLine opened new (line_added bar i (open_of opened.run))) stop put.0) (put.1 (omega (arith, stop, some, c.close.ensures.at)) ∙ stop)
+          ∙ ap (reads l B) c.in_ok-text.ensures.numbers;
+      paid = line_paid c.indented_end-end.result _ _ _ _ c.requires.inside c.requires.begun stop (put.0.depth ∙ closed.depth) (λ gone. put.1 (omega (arith, c.close.ensures.at, gone)))
+          c.indented_end-end.ensures.looked c.in_ok-text.ensures.looked c.close.ensures.run c.close.ensures.low;
     }

@@ -32,12 +32,16 @@ returns-clause-line c =
     c.saturating_sub.ensures c.number_at-line.ensures below
     (c.in_ok-text.ensures ∙ ap (λ t. text_over t Y) (c.skip-first.ensures.chars ∙ ap (drop c.args.marker.cut) c.line.ensures.text))
 
-pub returns-then-marker-clause-most : goal.returns-then-marker-clause-most
-returns-then-marker-clause-most c =
-    let Y : Block = block_of c.lines_between-below.result in
-    omega (arith, reach_le (extent 1 Y) Y (extent_le 1 Y), c.lines_between-below.ensures.few, c.indented.ensures.reach, c.inside-below.ensures.fewer, c.joined.ensures.most)
+pub returns-then-marker-clause-looked : goal.returns-then-marker-clause-looked
+returns-then-marker-clause-looked c =
+    let Y : Block = block_of c.lines_between-below.result in (
+      omega (arith, c.indented.ensures.low, c.in_ok-further.ensures.each),
+      omega (arith, reach_le (extent 1 Y) Y (extent_le 1 Y), c.lines_between-below.ensures.few, c.indented.ensures.reach, c.inside-below.ensures.fewer, c.joined.ensures.most),
+    )
 
-pub returns-clause-most : goal.returns-clause-most
-returns-clause-most c =
-    let Y : Block = block_of c.lines_between-below.result in
-    omega (arith, reach_le (extent 1 Y) Y (extent_le 1 Y), c.lines_between-below.ensures.few, c.indented.ensures.reach, c.inside-below.ensures.fewer, c.joined.ensures.most, c.line.ensures.looks)
+pub returns-clause-looked : goal.returns-clause-looked
+returns-clause-looked c =
+    let Y : Block = block_of c.lines_between-below.result in (
+      omega (arith, c.indented.ensures.low, c.in_ok-further.ensures.each, c.line.ensures.looks),
+      omega (arith, reach_le (extent 1 Y) Y (extent_le 1 Y), c.lines_between-below.ensures.few, c.indented.ensures.reach, c.inside-below.ensures.fewer, c.joined.ensures.most, c.line.ensures.looks),
+    )

@@ -2,9 +2,9 @@ use Rattle.std.proofs.Common.{◌≡◌, Some, arith, refl, sym, ◌∙◌, rule
 use Rattle.rst_text.specs.Shown.{block_of}
 use Rattle.rst_block_state.specs.declared.waits.Waits.TheVariants.{ListItem}
 use Rattle.rst_block_state.specs.declared.run.ListKind.TheVariants.{Bullet}
-use Rattle.rst_block_state.proofs.Calls.{close_refuses}
 use Rattle.rst_block_body.proofs.ListItems.{item_behind, next_bullet, item_refused, bullet_made, listed_joins, listed_begins, bullet_joins, bullet_begins, bullet_run}
 use Rattle.rst_block_body.proofs.ListsPaid.{found_item, paid_item}
+use Rattle.rst_block_body.proofs.ReadLemmas.{close_refuses}
 use Rattle.rst_block_body.proofs.list.bullet_item.Goals as goal
 
 pub returns-then-eq : goal.returns-then-eq
@@ -28,11 +28,11 @@ returns-then-eq c =
           there (omega arith) (omega arith) (omega arith);
     }
 
-pub returns-in_err-close-clause-read : goal.returns-in_err-close-clause-read
-returns-in_err-close-clause-read c =
+pub returns-in_err-close : goal.returns-in_err-close
+returns-in_err-close c =
     let l = c.args.level.now in
     let other : c.list_kind.result ≡ Some (Bullet c.args.mark) → ⊥ = search rules in
-    close_refuses c.from_residual.result c.in_err-close.field-0.0 _ _ _ l (search rules) c.in_err-close.ensures.closed
+    close_refuses c.in_err-close.field-0.0 (search rules) c.in_err-close.ensures.closed
     (λ line h. item_refused _ (next_bullet l (block_of c.args.view.now) c.requires.begun c.item_part-body.ensures.part)
     (bullet_begins l c.args.mark c.args.marker c.item_part-body.result.to (λ e. other (c.list_kind.ensures ∙ e))) h)
 

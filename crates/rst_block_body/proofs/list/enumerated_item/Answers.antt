@@ -3,9 +3,9 @@ use Rattle.std.specs.Prelude.{option_map}
 use Rattle.rst_text.specs.Shown.{block_of}
 use Rattle.rst_block_state.specs.Meanings.{joining_in}
 use Rattle.rst_block_state.specs.declared.waits.Waits.TheVariants.{ListItem}
-use Rattle.rst_block_state.proofs.Calls.{close_refuses}
 use Rattle.rst_block_body.proofs.ListItems.{item_behind, next_enumerated, item_refused, enumerated_made, listed_joins, listed_begins, enumerated_joins, enumerated_run}
 use Rattle.rst_block_body.proofs.ListsPaid.{found_item, paid_item}
+use Rattle.rst_block_body.proofs.ReadLemmas.{close_refuses}
 use Rattle.rst_block_body.proofs.list.enumerated_item.Goals as goal
 
 pub returns-in-Some : goal.returns-in-Some
@@ -29,12 +29,12 @@ returns-in-Some c =
           (moved.depth ∙ c.join.ensures.run.depth) there (omega arith) (omega arith) (omega arith);
     }
 
-pub returns-in_err-close-clause-read : goal.returns-in_err-close-clause-read
-returns-in_err-close-clause-read c =
+pub returns-in_err-close : goal.returns-in_err-close
+returns-in_err-close c =
     let l = c.args.level.now in
     let none : c.going_on.result ≡ None = search rules in
     let begins = sym (ap (option_map (λ kind. joining_in kind)) none) ∙ c.going_on.ensures in
-    close_refuses c.from_residual.result c.in_err-close.field-0.0 _ _ _ l (search rules) c.in_err-close.ensures.closed
+    close_refuses c.in_err-close.field-0.0 (search rules) c.in_err-close.ensures.closed
     (λ line h. item_refused _ (next_enumerated l (block_of c.args.view.now) c.requires.begun c.item_part-body.ensures.part) (enumerated_joins l c.args.enumerator c.item_part-body.result.to begins) h)
 
 pub returns : goal.returns
@@ -51,7 +51,7 @@ returns c =
     let closed = enumerated_run B c.args.enumerator stop c.in_ok-close.ensures.closed c.close.ensures.at c.in_ok-begin_enumerated_list.ensures.run in
     let none : c.going_on.result ≡ None = search rules in
     let begins = sym (ap (option_map (λ kind. joining_in kind)) none) ∙ c.going_on.ensures in
-    let there = c.opened-2.ensures.there (rw (c.begin_enumerated_list.ensures.at, c.close.ensures.at) (item_behind next c.requires.inside)) in
+    let there = c.opened-2.ensures.there (rw (c.in_ok-begin_enumerated_list.ensures.run.at, c.close.ensures.at) (item_behind next c.requires.inside)) in
     record {
       step = search rules;
       read = rw c.begin_enumerated_list.ensures.numbers (listed_begins c.args.pass.now.numbers k c.opened-2.ensures.waits next (enumerated_joins l c.args.enumerator stop begins) closed moved there
@@ -59,5 +59,5 @@ returns c =
       paid = paid_item 29 (ListItem c.number_at-line.result) c.item_part-body.result start start mid c.begin_enumerated_list.new.pass.looks (omega arith) next part
           (found_item B l.at c.args.enumerator.marker start mid part c.item_part-body.ensures.reach c.item_part-body.ensures.low) c.opened-2.ensures.waits tt refl
           (moved.depth ∙ c.in_ok-begin_enumerated_list.ensures.run.depth ∙ c.in_ok-close.ensures.closed.depth) there (omega arith)
-          (omega (arith, c.close.ensures.low, c.begin_enumerated_list.ensures.low)) (omega (arith, c.close.ensures.run, c.begin_enumerated_list.ensures.looks));
+          (omega (arith, c.close.ensures.low, c.begin_enumerated_list.ensures.looked.0)) (omega (arith, c.close.ensures.run, c.begin_enumerated_list.ensures.looked.1));
     }

@@ -13,11 +13,11 @@ use Rattle.rst_block_body.proofs.ListsPaid.{found_hanging, paid_item}
 use Rattle.rst_block_state.proofs.MeaningLemmas.{body_means}
 use Rattle.rst_block_body.proofs.option.option_item.Goals as goal
 
-pub returns-in_err-join_list-clause-read : goal.returns-in_err-join_list-clause-read
-returns-in_err-join_list-clause-read c =
+pub returns-in_err-join_list : goal.returns-in_err-join_list
+returns-in_err-join_list c =
     let B = block_of c.args.view.now in
     let l = c.args.level.now in
-    plain_refused c.from_residual-in_err-join_list.result c.in_err-join_list.field-0.0 _ OptionItem _ (search rules) refl (next_option l B c.requires.begun c.hanging-body.ensures.part)
+    plain_refused c.in_err-join_list.field-0.0 OptionItem (search rules) refl (next_option l B c.requires.begun c.hanging-body.ensures.part)
     c.in_err-join_list.ensures.joins c.in_err-join_list.ensures.begins
 
 pub returns : goal.returns
@@ -47,5 +47,5 @@ returns c =
           (option_made (within_at l.depth) B l.at c.args.marker (drop l.at B) k c.number_at-line.ensures c.line.ensures.text is c.in_ok-group.ensures (search rules) c.new.ensures.items);
       paid = paid_item 29 waits part c.args.pass.now.looks start found c.join_list.new.pass.looks (omega arith) next is
           (found_hanging B l.at c.args.marker start found is c.hanging-body.ensures.reach c.hanging-body.ensures.low) refl tt refl (c.go_to.ensures.moved.depth ∙ opened_depth mark refl opened)
-          there (omega (arith, c.line.ensures.looks)) c.in_ok-join_list.ensures.low (omega (arith, c.in_ok-join_list.ensures.looks, c.line.ensures.looks));
+          there (omega (arith, c.line.ensures.looks)) (omega (arith, c.in_ok-join_list.ensures.looked.0)) (omega (arith, c.in_ok-join_list.ensures.looked.1, c.line.ensures.looks));
     }

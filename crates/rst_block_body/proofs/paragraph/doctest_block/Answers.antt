@@ -4,18 +4,15 @@ use Rattle.rst_text.specs.Shown.{block_of}
 use Rattle.rst_markup_blocks.specs.Sizes.{doctest_size}
 use Rattle.rst_markup_blocks.specs.declared.begun.Begun.TheVariants.{Doctest}
 use Rattle.rst_block_state.specs.Literals.{doctest_node}
-use Rattle.rst_block_state.proofs.Calls.{close_refuses, gives_keeps, gives_kept}
 use Rattle.rst_block_state.proofs.Changes.{moved_more}
 use Rattle.rst_block_body.proofs.LiteralLemmas.{doctest_end, doctest_is, doctest_looks}
-use Rattle.rst_block_state.proofs.NextConstructs.{next_of, next_some, span_to, has_ended, next_refused, next_nodes}
+use Rattle.rst_block_state.proofs.NextConstructs.{next_of, next_some, span_to, has_ended, next_nodes}
 use Rattle.rst_block_state.proofs.PaidSteps.{paid_alone}
+use Rattle.rst_block_body.proofs.ReadLemmas.{alone_refused}
 use Rattle.rst_block_body.proofs.paragraph.doctest_block.Goals as goal
 
-pub returns-in_err-close-clause-read : goal.returns-in_err-close-clause-read
-returns-in_err-close-clause-read c =
-    let l = c.args.level.now in
-    close_refuses c.from_residual.result c.in_err-close.field-0.0 _ _ _ l (search rules) c.in_err-close.ensures.closed
-    (λ line h. next_refused _ (next_of Doctest l (block_of c.args.view.now) c.requires.begun tt) tt h)
+pub returns-in_err-close : goal.returns-in_err-close
+returns-in_err-close c = alone_refused c.in_err-close.field-0.0 (next_of Doctest c.args.level.now (block_of c.args.view.now) c.requires.begun tt) tt (search rules) c.in_err-close.ensures.closed
 
 pub returns : goal.returns
 returns c =
@@ -28,12 +25,10 @@ returns c =
     doctest_is B c.close.new.self.at l.at c.lines_end-end.result c.number_at.result c.as_str.result.now c.in_ok-node.node at c.in_ok-node.ensures c.number_at.ensures (c.as_str.ensures.value ∙ c.in_ok-text.ensures.bytes) in
     let found = next_of Doctest l B c.requires.begun tt in
     let goes : c.go_to.new.self.at ≡ c.lines_end-end.result = c.go_to.ensures.there (omega (arith, stop, at, next_some found c.requires.inside)) in
-    let looks = doctest_looks B c.close.new.self.at l.at c.lines_end-end.result _ _ _ _ _ at c.lines_end-end.ensures.end c.close.ensures.low c.close.ensures.run c.lines_end-end.ensures.looks c.lines_end-end.ensures.low c.source.ensures.most c.in_ok-text.ensures.each in
+    let looks = doctest_looks B c.close.new.self.at l.at c.lines_end-end.result _ _ _ _ _ at c.lines_end-end.ensures.end c.close.ensures.low c.close.ensures.run c.lines_end-end.ensures.looks c.lines_end-end.ensures.looked.0 c.source.ensures.most c.in_ok-text.ensures.each in
     record {
-      later = search rules;
-      read = gives_keeps _ c.push.result _ _ c.push.ensures.more
-          (λ _ h. next_nodes (c.in_ok-node.node ∷ []) found tt (has_ended B _ closed) (rw (node, stop) refl) (moved_more c.go_to.ensures.moved (goes ∙ stop) h));
-      paid = gives_kept _ _ c.push.result c.push.ensures.more
-          (λ _ h. paid_alone 29 Doctest l c.close.new.self c.go_to.new.self c.push.new.self B _ _ (c.in_ok-node.node ∷ []) _ _ c.requires.begun tt refl refl
-          closed c.go_to.ensures.moved (goes ∙ stop) h looks.0 (omega (arith, looks.1)));
+      step = search rules;
+      read = next_nodes (c.in_ok-node.node ∷ []) found tt (has_ended B _ closed) (rw (node, stop) refl) (moved_more c.go_to.ensures.moved (goes ∙ stop) c.in_ok-push.ensures.more);
+      paid = paid_alone 29 Doctest l c.close.new.self c.go_to.new.self c.push.new.self B _ _ (c.in_ok-node.node ∷ []) _ _ c.requires.begun tt refl refl
+          closed c.go_to.ensures.moved (goes ∙ stop) c.in_ok-push.ensures.more looks.0 (omega (arith, looks.1));
     }

@@ -20,11 +20,10 @@ returns-clause-gone c =
     let first = moved_more c.go_to.ensures.moved (c.go_to.ensures.there (omega arith) ∙ e) c.in_ok-push.ensures.more in
     gives_map _ _ c.warn.result c.warn.ensures.more (λ _ g. more_as nodes refl (more_more first g))
 
-pub returns-clause-most : goal.returns-clause-most
-returns-clause-most c =
+pub returns-clause-looked : goal.returns-clause-looked
+returns-clause-looked c =
     let e : c.indented-lines.result.to ≡ c.args.start + extent 1 (drop c.args.start (block_of c.args.view.now)) = ap (λ p. p.to) c.indented-lines.ensures.part in
-    gives_kept _ _ c.warn.result c.warn.ensures.more (λ _ _. omega (arith, e, c.indented-lines.ensures.from, c.indented-lines.ensures.reach, c.inside.ensures.lines, c.joined.ensures.most, c.warn.ensures.looks))
-
-pub returns-clause-low : goal.returns-clause-low
-returns-clause-low c =
-    gives_kept _ _ c.warn.result c.warn.ensures.more (λ _ _. omega (arith, c.indented-lines.ensures.low, c.in_ok-text.ensures.each, c.warn.ensures.low))
+    gives_kept _ _ c.warn.result c.warn.ensures.more (λ _ _. (
+      omega (arith, c.indented-lines.ensures.low, c.in_ok-text.ensures.each, c.warn.ensures.low),
+      omega (arith, e, c.indented-lines.ensures.from, c.indented-lines.ensures.reach, c.inside.ensures.lines, c.joined.ensures.most, c.warn.ensures.looks),
+    ))

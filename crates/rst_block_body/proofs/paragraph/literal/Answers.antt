@@ -9,7 +9,7 @@ use Rattle.rst_block_state.specs.Literals.{no_literal, literal_nodes}
 use Rattle.rst_block_state.proofs.Calls.{gives_map, gives_kept}
 use Rattle.rst_block_state.proofs.Changes.{more_as, moved_more}
 use Rattle.rst_block_body.proofs.LiteralLemmas.{no_literal_is, indented_here, quoted_here, other_here, none_here}
-use Rattle.rst_block_body.proofs.ParagraphsPaid.{indented_most, indented_least, quoted_most, quoted_least, none_most}
+use Rattle.rst_block_body.proofs.ParagraphsPaid.{indented_looked, quoted_looked, none_most}
 use Rattle.rst_block_body.proofs.paragraph.literal.Goals.{in_default-via-in-Some+else-is_punctuation, in_default-via-in_default, then-start-len, else-start-len}
 use Rattle.rst_block_body.proofs.paragraph.literal.Goals as goal
 
@@ -24,11 +24,9 @@ returns-then-begins_with c =
     let space : begins_with 32 (front_text (drop start B)) ≡ true = rw text.text at (sym c.begins_with.ensures ∙ c.if-begins_with.true) in
     let h = indented_here B end start (first_number (drop (end - 1) B)) ends.end space in
     record {
-      later = search rules;
       gone = gives_map _ _ c.indented_literal.result made.gone (λ _ g. more_as h.0 h.1 g);
       numbers = search rules;
-      most = IfOk-weaker c.indented_literal.result _ _ (λ _ g. indented_most B end start _ _ _ _ ends.end space ends.few text.few g) made.most;
-      low = IfOk-weaker c.indented_literal.result _ _ (λ _ g. indented_least B end start _ _ _ _ ends.end space ends.low text.low g) made.low;
+      looked = IfOk-weaker c.indented_literal.result _ _ (λ _ g. indented_looked B end start _ _ _ _ ends.end space ends.looked text.looked g) made.looked;
     }
 
 pub returns-in-Some : goal.returns-in-Some
@@ -44,11 +42,9 @@ returns-in-Some c =
     let quote : is_punctuation c.in-Some.quote ≡ true = sym c.is_punctuation.ensures ∙ c.if-is_punctuation.true in
     let h = quoted_here B end start (first_number (drop (end - 1) B)) c.in-Some.quote ends.end space front quote in
     record {
-      later = search rules;
       gone = gives_map _ _ c.quoted_literal.result made.gone (λ _ g. more_as h.0 h.1 g);
       numbers = search rules;
-      most = IfOk-weaker c.quoted_literal.result _ _ (λ _ g. quoted_most B end start c.in-Some.quote _ _ _ _ ends.end space front quote ends.few text.few g) made.most;
-      low = IfOk-weaker c.quoted_literal.result _ _ (λ _ g. quoted_least B end start c.in-Some.quote _ _ _ _ ends.end space front quote ends.low text.low g) made.low;
+      looked = IfOk-weaker c.quoted_literal.result _ _ (λ _ g. quoted_looked B end start c.in-Some.quote _ _ _ _ ends.end space front quote ends.looked text.looked g) made.looked;
     }
 
 pub returns-in_ok-warning-in_default : goal.returns-in_ok-warning-in_default
@@ -68,9 +64,10 @@ returns-in_ok-warning-in_default c =
     ] in
     let nodes = ap (λ node. node ∷ []) c.in_ok-warning-in_default.ensures ∙ no_literal_is B start c.number_at.result last place ∙ h.0 in
     record {
-      later = search rules;
       gone = gives_map _ _ c.push.result c.push.ensures.more (λ _ g. more_as nodes refl (moved_more c.go_to.ensures.moved (c.go_to.ensures.there c.requires.behind ∙ h.1) g));
       numbers = search rules;
-      most = gives_kept _ _ c.push.result c.push.ensures.more (λ _ _. none_most B end start (literal_size (drop end B)) _ _ _ c.lines_end-start.ensures.end h.1 c.lines_end-start.ensures.looks c.text_at-text.ensures.looks);
-      low = gives_kept _ _ c.push.result c.push.ensures.more (λ _ _. omega (arith, h.1, c.lines_end-start.ensures.low, c.text_at-text.ensures.low));
+      looked = gives_kept _ _ c.push.result c.push.ensures.more (λ _ _. (
+        omega (arith, h.1, c.lines_end-start.ensures.looked.0, c.text_at-text.ensures.looked.0),
+        none_most B end start (literal_size (drop end B)) _ _ _ c.lines_end-start.ensures.end h.1 c.lines_end-start.ensures.looks c.text_at-text.ensures.looks,
+      ));
     }

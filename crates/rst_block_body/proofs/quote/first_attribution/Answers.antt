@@ -10,8 +10,8 @@ use Rattle.rst_block_body.proofs.quote.first_attribution.Goals as goal
 pub loop-end-init : goal.loop-end-init
 loop-end-init c = record {
   within = c.lines_end-end.ensures.within;
-  looks = omega (arith, c.lines_end-end.ensures.few, c.lines_end-end.ensures.end);
-  low = omega (arith, c.lines_end-end.ensures.low, c.lines_end-end.ensures.end);
+  looks = omega (arith, c.lines_end-end.ensures.looked.1, c.lines_end-end.ensures.end);
+  low = omega (arith, c.lines_end-end.ensures.looked.0, c.lines_end-end.ensures.end);
   unfound = Unfound-start (block_of c.args.lines.now) c.lines_end-end.result c.lines_end-end.ensures.end;
 }
 
@@ -25,10 +25,11 @@ returns-in-Some c =
       first = Unfound-found B c.loop-end.end at c.in-Some.found c.loop-end.invariant.unfound place (omega arith) c.in-Some.ensures.attribution;
       place = (omega (arith, place), omega (arith, ends));
       within = search rules;
-      through = omega (arith, place, c.lines_end-place.ensures.end, c.lines_end-place.ensures.few, c.attribution_at.ensures.looks, c.loop-end.invariant.looks, ends);
+      through = (
+        omega (arith, c.lines_end-place.ensures.end, c.lines_end-place.ensures.looked.0, c.in-Some.ensures.each, c.loop-end.invariant.low, ends),
+        omega (arith, place, c.lines_end-place.ensures.end, c.lines_end-place.ensures.looked.1, c.attribution_at.ensures.looked.1, c.loop-end.invariant.looks, ends),
+      );
       all = tt;
-      each = omega (arith, c.lines_end-place.ensures.end, c.lines_end-place.ensures.low, c.in-Some.ensures.each, c.loop-end.invariant.low, ends);
-      low = tt;
     }
 
 pub returns-then-place-len-clause-first : goal.returns-then-place-len-clause-first
@@ -47,8 +48,8 @@ loop-end-preserved c =
     let place = behind_blank B c.loop-end.end c.lines_end-place.result c.loop-end.invariant.unfound (omega arith) c.lines_end-place.ensures.end in
     record {
       within = c.lines_end-end-in-None.ensures.within;
-      looks = omega (arith, below, place, c.lines_end-place.ensures.end, c.lines_end-place.ensures.few, c.attribution_at.ensures.looks, c.lines_end-end-in-None.ensures.end, c.lines_end-end-in-None.ensures.few, c.loop-end.invariant.looks);
-      low = omega (arith, c.lines_end-place.ensures.end, c.lines_end-place.ensures.low, c.attribution_at.ensures.low, c.lines_end-end-in-None.ensures.end, c.lines_end-end-in-None.ensures.low, c.loop-end.invariant.low);
+      looks = omega (arith, below, place, c.lines_end-place.ensures.end, c.lines_end-place.ensures.looked.1, c.attribution_at.ensures.looked.1, c.lines_end-end-in-None.ensures.end, c.lines_end-end-in-None.ensures.looked.1, c.loop-end.invariant.looks);
+      low = omega (arith, c.lines_end-place.ensures.end, c.lines_end-place.ensures.looked.0, c.attribution_at.ensures.looked.0, c.lines_end-end-in-None.ensures.end, c.lines_end-end-in-None.ensures.looked.0, c.loop-end.invariant.low);
       unfound = Unfound-step B c.loop-end.end c.lines_end-place.result c.lines_end-end-in-None.result c.loop-end.invariant.unfound place (omega arith) (length-drop (c.loop-end.end + 1) B)
           c.in-None.ensures.attribution c.lines_end-end-in-None.ensures.end;
     }

@@ -24,8 +24,8 @@ returns-in-None c =
       resumed = search rules;
       read = plain_part l new B c.args.quote c.number_at-line.result c.args.pass.now.numbers (block_of c.inside-lines.result) lines.block c.in-None.ensures.first lines.lines c.requires.filled
           c.go_to.ensures.moved there c.number_at-line.ensures;
-      paid = plain_paid l new B c.args.quote c.number_at-line.result _ _ (block_of c.inside-lines.result) lines.block c.in-None.ensures.first lines.lines c.requires.filled c.go_to.ensures.moved there
-          c.in-None.ensures.all (omega (arith, c.in-None.ensures.low));
+      paid = plain_paid l new B c.args.quote c.number_at-line.result c.args.pass.now.looks c.first_attribution.new.looks (block_of c.inside-lines.result) lines.block c.in-None.ensures.first lines.lines c.requires.filled c.go_to.ensures.moved there
+          c.in-None.ensures.all;
     }
 
 pub returns-in_ok-attribution-in-Some : goal.returns-in_ok-attribution-in-Some
@@ -54,8 +54,8 @@ returns-in_ok-attribution-in-Some c =
           ∙ attributed_part old new B quote place next line c.args.pass.now.numbers c.attribution_text.new.pass.numbers c.in-Some.found c.in_ok-made-in-Some.made box L c.inside-lines.ensures.block
           found.first c.lines_end-next.ensures.end c.in_ok-made-in-Some.ensures.text c.in_ok-attribution-in-Some.ensures.ok c.requires.filled
           c.requires.block.within c.go_to-in-Some.ensures.moved there c.number_at-line.ensures;
-      paid = attributed_paid old new B quote place next line _ _ _ _ c.in-Some.found box c.rest_of.result L c.rest_of.ensures c.inside-lines.ensures.block
+      paid = attributed_paid old new B quote place next line c.args.pass.now.looks c.first_attribution.new.looks _ _ c.in-Some.found box c.rest_of.result L c.rest_of.ensures c.inside-lines.ensures.block
           found.first c.lines_end-next.ensures.end c.inside-lines.ensures.lines c.requires.filled c.requires.block.within found.place.0
-          c.go_to-in-Some.ensures.moved there found.through (omega (arith, found.each)) c.attribution_text.ensures.most c.in_ok-made-in-Some.ensures.each
-          c.lines_end-next.ensures.few c.lines_end-next.ensures.low;
+          c.go_to-in-Some.ensures.moved there found.through c.attribution_text.ensures.most c.in_ok-made-in-Some.ensures.each
+          c.lines_end-next.ensures.looked;
     }

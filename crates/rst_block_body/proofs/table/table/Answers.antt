@@ -47,7 +47,7 @@ returns-in_ok-after_table-in-Malformed c =
       kept = more.depth ∙ closed.depth;
       read = ap (reads new B) c.in_ok-after_table-in-Malformed.ensures.numbers ∙ malformed_reads t (has_ended B _ closed) c.go_to.ensures.moved at (subst (HasMore c.go_to.new.self new) nodes both);
       paid = λ before few some. malformed_paid mid.at before _ _ _ _ here c.requires.inside (more.depth ∙ closed.depth) more.at few some c.close.ensures.at
-          c.close.ensures.run c.close.ensures.low c.malformed.ensures.most (omega (arith, c.in_ok-error-in-Malformed.ensures.each)) c.after_table.ensures.looks c.after_table.ensures.low;
+          c.close.ensures.run c.close.ensures.low c.malformed.ensures.most (omega (arith, c.in_ok-error-in-Malformed.ensures.each)) c.after_table.ensures.looked.1 (omega (arith, c.after_table.ensures.looked.0));
     }
 
 pub returns-in_default : goal.returns-in_default

@@ -11,14 +11,14 @@ use Rattle.rst_block_body.proofs.TextLines.{under_number}
 use Rattle.rst_block_state.proofs.Views.{few_lines}
 use Rattle.rst_block_body.proofs.text.put_unexpected.Goals as goal
 
-pub returns-clause-gone : goal.returns-clause-gone
-returns-clause-gone c =
+pub returns : goal.returns
+returns c =
     let B = block_of c.args.view.now in
     let l = c.args.level.now in
     let place : c.saturating_add.result ≡ l.at + 1 = omega (arith, few_lines c.args.view.now) in
-    let end : c.saturating_add-2.result ≡ l.at + 2 = omega (arith, few_lines c.args.view.now, c.push_if_any.ensures.at) in
+    let end : c.saturating_add-2.result ≡ l.at + 2 = omega (arith, few_lines c.args.view.now, c.in_ok-push_if_any.ensures.more.at) in
     let severe : c.in_ok-severe.severe ≡ shown Severe (first_number (drop 1 (drop l.at B))) (codes "Unexpected section title.") c.args.lines.now =
     c.in_ok-severe.ensures ∙ ap (λ line. shown Severe line (codes "Unexpected section title.") c.args.lines.now) (under_number B l.at place c.number_at-under.ensures) in
     let nodes = ap (λ (node : Node). option_to_list c.args.warning ++ node ∷ []) severe in
-    let there : c.go_to.new.self.at ≡ l.at + 2 = c.go_to.ensures.there (omega (arith, end, c.push_if_any.ensures.at)) ∙ end in
-    gives_map _ _ c.push.result c.push.ensures.more (λ _ h. more_as nodes refl (more_more (more_moved c.in_ok-push_if_any.ensures.more c.go_to.ensures.moved there) h))
+    let there : c.go_to.new.self.at ≡ l.at + 2 = c.go_to.ensures.there (omega (arith, end, c.in_ok-push_if_any.ensures.more.at)) ∙ end in
+    record { gone = gives_map _ _ c.push.result c.push.ensures.more (λ _ h. more_as nodes refl (more_more (more_moved c.in_ok-push_if_any.ensures.more c.go_to.ensures.moved there) h)) }

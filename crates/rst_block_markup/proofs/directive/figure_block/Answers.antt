@@ -1,5 +1,6 @@
-use Rattle.std.proofs.Common.{◌-◌, List, Ok, drop, arith, refl, ap, ◌∙◌}
-use Rattle.rst_text.specs.Block.{Block, first_number}
+use Rattle.std.proofs.Common.{List, drop, arith, refl, ap, ◌∙◌}
+use Rattle.std.proofs.lemmas.Str.{encodes-chars}
+use Rattle.rst_text.specs.Block.{first_number}
 use Rattle.rst_text.specs.Shown.{block_of}
 use Rattle.rst_tree.specs.declared.node.Node.{Node}
 use Rattle.rst_markup_directives.specs.Options.{choices_in}
@@ -9,30 +10,30 @@ use Rattle.rst_block_state.specs.Meanings.{comes, within_at}
 use Rattle.rst_block_state.specs.Numbered.{Numbered}
 use Rattle.rst_block_state.specs.Texts.{source_of}
 use Rattle.rst_block_state.specs.declared.waits.Waits.TheVariants.{Figure}
-use Rattle.rst_block_markup.proofs.DirectiveReads.{figure_is}
-use Rattle.rst_block_markup.proofs.DirectivesPaid.{opened_later}
+use Rattle.rst_block_markup.proofs.DirectiveReads.{figure_is, figure_right}
 use Rattle.rst_block_markup.proofs.MarkupReads.{content_comes}
+use Rattle.rst_block_markup.proofs.PartLemmas.{content_reads}
 use Rattle.rst_block_state.proofs.NextConstructs.{span_to}
 use Rattle.rst_block_markup.proofs.directive.figure_block.Goals as goal
 
-pub returns-clause-read : goal.returns-clause-read
-returns-clause-read c = λ n.
+pub returns : goal.returns
+returns c = λ pass.
     let B = block_of c.args.view.now in
     let l = c.args.level.now in
     let f = c.args.found.now in
-    let new = c.opened.new.level in
+    let n = pass.numbers in
+    let t = c.args.uri.now in
     let line = c.number_at-line.result in
     let at = first_number (drop l.at B) in
     let figure = c.in_ok-figure-2.figure in
     let lines = source_of B (span_to l.at f.end) in
-    ap (λ s. comes new B s n) c.opened.ensures.opened
-    ∙ content_comes B (Figure figure l.at f.end) f.content (figure_nodes figure (caption_error at lines)) n c.opened.ensures.moved c.opened.ensures.at (λ ns. refl)
+    let opened = c.opened.ensures in
+    let right = figure_right f.name t (within_at l.depth) B at (read_of f) lines f.content c.requires.figure (encodes-chars t c.utf8.uri) in
+    content_reads (Figure figure l.at f.end) f.content opened.opened tt tt c.requires.right.content c.requires.right.later opened.moved opened.at
+    (ap (λ s. comes c.opened.new.level B s n) opened.opened
+    ∙ content_comes B (Figure figure l.at f.end) f.content (figure_nodes figure (caption_error at lines)) n opened.moved opened.at (λ ns. refl)
     ∙ ap (λ (read : Numbered (List Node)). reads_with l B read f.end n)
-    (figure_is (within_at l.depth) B (read_of f) c.args.uri.now lines line at c.as_slice-options.result.now c.in_ok-figure.field-0 c.in_ok-shown.shown figure
-    c.in_ok-alone.field-0.items c.in_ok-figure.ensures c.in_ok-shown.ensures c.in_ok-alone.ensures c.in_ok-figure-2.ensures (ap choices_in c.as_slice-options.ensures.value) c.number_at-line.ensures)
-
-pub returns-clause-paid : goal.returns-clause-paid
-returns-clause-paid c = λ looks.
-    let B : Block = block_of c.args.view.now in
-    let f = c.args.found.now in
-    opened_later _ (f.end - c.args.level.now.at) _ _ B _ _ _ looks looks (Ok c.opened.result) (omega arith) (omega arith) refl (c.opened.ensures.paid B looks looks)
+    (figure_is (within_at l.depth) B (read_of f) t lines line at c.as_slice-options.result.now c.in_ok-figure.field-0 c.in_ok-shown.shown figure
+    c.in_ok-alone.field-0.items c.in_ok-figure.ensures c.in_ok-shown.ensures c.in_ok-alone.ensures c.in_ok-figure-2.ensures (ap choices_in c.as_slice-options.ensures.value) c.number_at-line.ensures
+    ∙ right.0))
+    right.1 (omega arith) (omega arith)

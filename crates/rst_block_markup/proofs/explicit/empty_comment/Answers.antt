@@ -1,12 +1,12 @@
-use Rattle.std.proofs.Common.{arith, refl}
-use Rattle.rst_text.specs.Shown.{block_of}
-use Rattle.rst_block_state.proofs.PaidSteps.{opened_after}
+use Rattle.std.proofs.Common.{[], ◌∷◌, arith, refl, ap, ◌∙◌}
+use Rattle.rst_tree.specs.declared.node.Node.{Node}
+use Rattle.rst_tree.specs.declared.tag.Tag.TheVariants.{Comment}
+use Rattle.rst_block_nodes.specs.Elements.{preserved_node}
+use Rattle.rst_block_state.specs.Numbered.{just}
+use Rattle.rst_block_markup.proofs.PartLemmas.{put_reads}
 use Rattle.rst_block_markup.proofs.explicit.empty_comment.Goals as goal
 
-pub returns-clause-step : goal.returns-clause-step
-returns-clause-step c = c.put.ensures.step (block_of c.args.view.now)
-
-pub returns-clause-paid : goal.returns-clause-paid
-returns-clause-paid c =
-    let n = c.args.pass.now.looks in
-    opened_after _ 0 _ _ _ _ _ _ n n n c.put.result (omega arith) (omega arith) refl (c.put.ensures.paid (block_of c.args.view.now) n n (omega arith))
+pub returns : goal.returns
+returns c =
+    let node = c.in_ok-node.ensures ∙ ap (λ line. preserved_node Comment line []) c.number_at.ensures in
+    put_reads c.in_ok-node.node c.put.ensures c.requires.later (ap (λ (x : Node). just (x ∷ [])) node) refl refl (omega arith) (omega arith)

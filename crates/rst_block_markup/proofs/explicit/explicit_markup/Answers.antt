@@ -30,4 +30,4 @@ pub returns-clause-paid : goal.returns-clause-paid
 returns-clause-paid c =
     markup_paid c.args.level.now c.begin_markup.new.level c.markup_of.new.level (block_of c.args.view.now) c.explicit-found.result c.end-end.result c.markup_of.result c.args.pass.now.looks _ _ _ c.requires.inside c.requires.kind
     (c.end-end.ensures ∙ c.explicit-found.ensures.end) c.explicit-found.ensures.explicit c.begin_markup.ensures.at c.in_ok-begin_markup.ensures.kept
-    c.explicit-found.ensures.looks c.explicit-found.ensures.low c.in_ok-begin_markup.ensures.run c.begin_markup.ensures.low c.markup_of.ensures.paid
+    c.explicit-found.ensures.looked.1 c.explicit-found.ensures.looked.0 c.in_ok-begin_markup.ensures.run c.begin_markup.ensures.low c.markup_of.ensures.paid

@@ -1,15 +1,18 @@
-use Rattle.std.proofs.Common.{◌-◌, ◌≤◌, arith, refl}
-use Rattle.rst_text.specs.Looked.{capped}
+use Rattle.std.proofs.Common.{◌≡◌, [], ◌∷◌, drop, option_map, arith, refl, ap, ◌∙◌}
+use Rattle.rst_text.specs.Block.{Block, first_number, front_text}
 use Rattle.rst_text.specs.Shown.{block_of}
-use Rattle.rst_block_state.proofs.PaidSteps.{opened_after}
+use Rattle.rst_tree.specs.declared.node.Node.{Node}
+use Rattle.rst_block_nodes.specs.Targets.{target_node}
+use Rattle.rst_block_state.specs.Numbered.{just}
+use Rattle.rst_block_state.specs.Texts.{excerpt, lines_in, spelled}
+use Rattle.rst_block_markup.proofs.PartLemmas.{put_reads}
 use Rattle.rst_block_markup.proofs.explicit.target_block.Goals as goal
 
-pub returns-clause-step : goal.returns-clause-step
-returns-clause-step c = c.put.ensures.step (block_of c.args.view.now)
-
-pub returns-clause-paid : goal.returns-clause-paid
-returns-clause-paid c =
-    let before = c.args.pass.now.looks in
-    let after = c.target_of.new.looks in
-    let some : capped before ≤ after = omega (arith, c.in_ok-lines.ensures.each, c.target_of.ensures.low) in
-    opened_after (after - before) _ _ _ _ _ _ _ before before after c.put.result (omega arith) (omega (arith, some, c.joined.ensures.most, c.inside.ensures.lines, c.target_of.ensures.looks)) refl (c.put.ensures.paid (block_of c.args.view.now) before after some)
+pub returns : goal.returns
+returns c =
+    let B : Block = block_of c.args.view.now in
+    let X : Block = drop c.args.level.now.at B in
+    let node : c.in_ok-element.element ≡ target_node (option_map (excerpt (front_text X)) c.args.name) (spelled (lines_in B c.args.text)) (first_number X) =
+    c.in_ok-element.ensures.node ∙ ap (λ t. target_node (option_map (excerpt (front_text X)) c.args.name) t (first_number X)) (c.as_str.ensures.value ∙ c.in_ok-lines.ensures.bytes ∙ ap spelled c.inside.ensures.block) in
+    put_reads c.in_ok-element.element c.put.ensures c.requires.later (ap (λ (x : Node). just (x ∷ [])) node) refl refl
+    (omega (arith, c.in_ok-lines.ensures.each, c.target_of.ensures.looked.0)) (omega (arith, c.joined.ensures.most, c.inside.ensures.lines, c.target_of.ensures.looked.1))

@@ -1,17 +1,13 @@
-use Rattle.std.proofs.Common.{List, Option, arith, sym, ap, ◌∙◌}
+use Rattle.std.proofs.Common.{Option, arith, refl, sym, ap, ◌∙◌}
 use Rattle.std.specs.Prelude.{string_bytes}
 use Rattle.rst_text.specs.Block.{Block}
 use Rattle.rst_text.specs.Shown.{block_of}
-use Rattle.rst_tree.specs.declared.node.Node.{Node}
 use Rattle.rst_markup_blocks.specs.declared.forms.Invocation.{Invocation}
 use Rattle.rst_block_state.specs.Directives.{substitution_nodes}
 use Rattle.rst_block_state.specs.Inside.{substitution_blocks}
 use Rattle.rst_block_state.specs.Ledger.{unread_at}
-use Rattle.rst_block_markup.specs.MarkupSteps.{reads_with}
 use Rattle.rst_block_state.specs.Meanings.{within_at}
-use Rattle.rst_block_state.specs.Numbered.{Numbered}
-use Rattle.rst_block_state.proofs.Calls.{keeps_as}
-use Rattle.rst_block_markup.proofs.DirectivesPaid.{opened_within}
+use Rattle.rst_block_markup.proofs.PartLemmas.{put_reads}
 use Rattle.rst_block_state.proofs.NextConstructs.{span_to}
 use Rattle.rst_block_markup.proofs.SubstitutionReads.{none_holds}
 use Rattle.rst_block_markup.proofs.substitution.substitution_definition.Goals as goal
@@ -20,17 +16,10 @@ pub returns-in_default : goal.returns-in_default
 returns-in_default c =
     let B : Block = block_of c.args.view.now in
     let l = c.args.level.now in
-    let end = c.args.end in
-    let n = c.args.pass.now.numbers in
-    let s = span_to l.at end in
-    record {
-      step = c.put.ensures.step B;
-      read = keeps_as c.put.result _ _ _
-          (ap (λ (read : Numbered (List Node)). reads_with l B read end n)
-          (none_holds (within_at l.depth) B s c.args.written.now (string_bytes c.in_ok-name.name) c.as_str.result.now c.as_str-in_default.result.now c.as_str-in_default-2.result.now c.number_at-line.result c.in_ok-warning.warning
-          c.as_str.ensures.value c.in_ok-name.ensures (c.as_str-in_default.ensures.value ∙ c.in_ok-text.ensures) (c.as_str-in_default-2.ensures.value ∙ c.in_ok-lines.ensures.bytes) c.number_at-line.ensures c.in_ok-warning.ensures
-          ∙ ap (substitution_nodes (within_at l.depth) B s c.args.written.now) (sym c.in_default.is)))
-          (c.put.ensures.read B n);
-      paid = opened_within _ _ _ B _ _ _ _ _ c.put.result (omega (arith, c.in_ok-lines.ensures.each)) (omega (arith, c.source.ensures.most, c.requires.later))
-          (ap (λ (held : Option Invocation). substitution_blocks held (unread_at l.depth) B l.at) (sym c.in_default.is)) (c.put.ensures.paid B _ _);
-    }
+    let s = span_to l.at c.args.end in
+    put_reads c.in_ok-warning.warning c.put.ensures c.requires.later
+    (none_holds (within_at l.depth) B s c.args.written.now (string_bytes c.in_ok-name.name) c.as_str.result.now c.as_str-in_default.result.now c.as_str-in_default-2.result.now c.number_at-line.result c.in_ok-warning.warning
+    c.as_str.ensures.value c.in_ok-name.ensures (c.as_str-in_default.ensures.value ∙ c.in_ok-text.ensures) (c.as_str-in_default-2.ensures.value ∙ c.in_ok-lines.ensures.bytes) c.number_at-line.ensures c.in_ok-warning.ensures
+    ∙ ap (substitution_nodes (within_at l.depth) B s c.args.written.now) (sym c.in_default.is))
+    (ap (λ (held : Option Invocation). substitution_blocks held (unread_at l.depth) B l.at) (sym c.in_default.is)) refl
+    (omega (arith, c.in_ok-lines.ensures.each)) (omega (arith, c.source.ensures.most, c.requires.later))

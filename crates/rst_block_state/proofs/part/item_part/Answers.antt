@@ -21,4 +21,4 @@ returns-then-marker-clause-low c =
     omega (arith, bare_item c.args.marker X c.if-marker.true, c.hanging.ensures.low)
 
 pub returns-clause-reach : goal.returns-clause-reach
-returns-clause-reach c = omega (arith, c.item_end.ensures.looks)
+returns-clause-reach c = omega (arith, c.item_end.ensures.looked.1)

@@ -52,40 +52,29 @@ loop-place-preserved c =
       last = IsLast-one (is_reference t c.args.start) (c.args.start + 1) (c.loop-place.place + 1) c.loop-place.found fails c.loop-place.invariant.last;
     }
 
-pub returns-else-is_name_at-clause-exact : goal.returns-else-is_name_at-clause-exact
-returns-else-is_name_at-clause-exact c =
-    let t = c.args.text.now in
-    let name : is_name_at t c.loop-place.place ≡ false = cc in
-    (ended t c.args.start (c.loop-place.place + 1) c.loop-place.found c.loop-place.invariant.last (λ k above below.
-    is_reference-past t c.args.start k (all_from-stop (is_name_at t) c.args.start c.loop-place.place k c.loop-place.invariant.above (omega arith) name))).0
-
-pub returns-else-is_name_at-clause-within : goal.returns-else-is_name_at-clause-within
-returns-else-is_name_at-clause-within c =
-    let t = c.args.text.now in
-    let name : is_name_at t c.loop-place.place ≡ false = cc in
-    (ended t c.args.start (c.loop-place.place + 1) c.loop-place.found c.loop-place.invariant.last (λ k above below.
-    is_reference-past t c.args.start k (all_from-stop (is_name_at t) c.args.start c.loop-place.place k c.loop-place.invariant.above (omega arith) name))).1
-
-pub returns-after-loop-place-clause-exact : goal.returns-after-loop-place-clause-exact
-returns-after-loop-place-clause-exact c =
-    (ended c.args.text.now c.args.start (c.loop-place.place + 1) c.loop-place.found c.loop-place.invariant.last (λ k above below. absurd (omega arith))).0
-
-pub returns-after-loop-place-clause-within : goal.returns-after-loop-place-clause-within
-returns-after-loop-place-clause-within c =
-    (ended c.args.text.now c.args.start (c.loop-place.place + 1) c.loop-place.found c.loop-place.invariant.last (λ k above below. absurd (omega arith))).1
-
-pub returns-else-is_name_at-clause-reach : goal.returns-else-is_name_at-clause-reach
-returns-else-is_name_at-clause-reach c none =
+pub returns-else-is_name_at : goal.returns-else-is_name_at
+returns-else-is_name_at c =
     let t = c.args.text.now in
     let alnum : is_alnum_at t c.args.start ≡ true = cc in
     let name : is_name_at t c.loop-place.place ≡ false = cc in
-    let last = subst (IsLast (is_reference t c.args.start) (c.args.start + 1) (c.loop-place.place + 1)) none c.loop-place.invariant.last in
-    nameless t c.args.start c.loop-place.place c.loop-place.invariant.above alnum c.loop-place.invariant.names last
-    (λ i k below above within. is_reference-past t i k (all_from-stop (is_name_at t) i c.loop-place.place k (omega arith) above name))
+    let past : (i k : ℕ) → i ≤ c.loop-place.place → c.loop-place.place < k → is_reference t i k ≡ false = λ i k order above.
+    is_reference-past t i k (all_from-stop (is_name_at t) i c.loop-place.place k order above name) in
+    let found = ended t c.args.start (c.loop-place.place + 1) c.loop-place.found c.loop-place.invariant.last (λ k above below. past c.args.start k c.loop-place.invariant.above (omega arith)) in
+    record {
+      exact = found.0;
+      within = found.1;
+      reach = λ none. nameless t c.args.start c.loop-place.place c.loop-place.invariant.above alnum c.loop-place.invariant.names
+          (subst (IsLast (is_reference t c.args.start) (c.args.start + 1) (c.loop-place.place + 1)) none c.loop-place.invariant.last) (λ i k below above within. past i k (omega arith) above);
+    }
 
-pub returns-after-loop-place-clause-reach : goal.returns-after-loop-place-clause-reach
-returns-after-loop-place-clause-reach c none =
+pub returns-after-loop-place : goal.returns-after-loop-place
+returns-after-loop-place c =
     let t = c.args.text.now in
     let alnum : is_alnum_at t c.args.start ≡ true = cc in
-    let last = subst (IsLast (is_reference t c.args.start) (c.args.start + 1) (c.loop-place.place + 1)) none c.loop-place.invariant.last in
-    nameless t c.args.start c.loop-place.place c.loop-place.invariant.above alnum c.loop-place.invariant.names last (λ i k below above within. absurd (omega arith))
+    let found = ended t c.args.start (c.loop-place.place + 1) c.loop-place.found c.loop-place.invariant.last (λ k above below. absurd (omega arith)) in
+    record {
+      exact = found.0;
+      within = found.1;
+      reach = λ none. nameless t c.args.start c.loop-place.place c.loop-place.invariant.above alnum c.loop-place.invariant.names
+          (subst (IsLast (is_reference t c.args.start) (c.args.start + 1) (c.loop-place.place + 1)) none c.loop-place.invariant.last) (λ i k below above within. absurd (omega arith));
+    }

@@ -1,4 +1,4 @@
-use Rattle.std.proofs.Common.{◌≡◌, ◌<◌, ◌+◌, ◌≤◌, Some, None, sym, ap, ◌∙◌, arith, length, subst, vec_items, [], ◌∷◌, ◌++◌, ◌&&◌, ◌==◌}
+use Rattle.std.proofs.Common.{◌≡◌, ◌+◌, Some, None, sym, ap, ◌∙◌, arith, subst, vec_items, [], ◌∷◌, ◌++◌, ◌&&◌, ◌==◌}
 use Rattle.std.proofs.lemmas.List.{get_or_read}
 use Rattle.rst_inline_scan.specs.Escapes.{escapes}
 use Rattle.rst_inline_scan.specs.Pieces.{piece_at, IsPieces}
@@ -119,13 +119,9 @@ pub loop-place-smaller-in-Some : goal.loop-place-smaller-in-Some
 loop-place-smaller-in-Some c =
     let start = stepped c.args.text.now c.loop-place.from c.loop-place.place c.step-start.result.0 c.loop-place.escaped c.step-start.result.1 (omega arith)
     c.loop-place.invariant.none c.loop-place.invariant.escaped (c.step-start.ensures.over c.args.text.now c.requires) c.step-start.ensures.escaped in
-    let later = start.above in
-    let inside = start.below in
     let begins : piece_at c.args.text.now c.loop-place.from c.step-start.result.0 ≡ Some c.in-Some.piece = sym (c.piece_at.ensures.exact c.loop-place.from start.escaped) ∙ c.in-Some.is in
-    let fits = piece_at-fits c.args.text.now c.loop-place.from c.step-start.result.0 c.in-Some.piece (omega arith) begins in
-    let some : c.step-start.result.0 < c.in-Some.piece.to = fits.some in
-    let within : c.in-Some.piece.to ≤ length c.args.text.now = fits.within in
-    omega arith
+    let fits = piece_at-fits c.args.text.now c.loop-place.from c.step-start.result.0 c.in-Some.piece start.below begins in
+    omega (arith, start.above, fits.some, fits.within)
 
 pub step-start-requires : goal.step-start-requires
-step-start-requires c = let long = c.requires.long in omega arith
+step-start-requires c = omega (arith, c.requires.long)

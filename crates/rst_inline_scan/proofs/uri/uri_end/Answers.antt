@@ -21,16 +21,12 @@ returns-then-is_free_behind-clause-exact c =
     let free : is_free_behind c.args.text.now c.in-Some-uri_close.end ≡ true = cc in
     sym (uri_end-found c.args.text.now c.args.start c.in-Some.behind c.in-Some-uri_close.end scheme close free)
 
-pub returns-else-is_free_behind-clause-exact : goal.returns-else-is_free_behind-clause-exact
-returns-else-is_free_behind-clause-exact c =
+pub returns-else-is_free_behind : goal.returns-else-is_free_behind
+returns-else-is_free_behind c =
     let scheme : scheme_end c.args.text.now c.args.start ≡ Some c.in-Some.behind = cc in
     let close : uri_close c.args.text.now c.in-Some.behind (uri_stop c.args.text.now c.in-Some.behind) ≡ Some c.in-Some-uri_close.end = cc in
     let stuck : is_free_behind c.args.text.now c.in-Some-uri_close.end ≡ false = cc in
-    sym (uri_end-stuck c.args.text.now c.args.start c.in-Some.behind c.in-Some-uri_close.end scheme close stuck)
-
-pub returns-else-is_free_behind-clause-reach : goal.returns-else-is_free_behind-clause-reach
-returns-else-is_free_behind-clause-reach c none =
-    let scheme : scheme_end c.args.text.now c.args.start ≡ Some c.in-Some.behind = cc in
-    let close : uri_close c.args.text.now c.in-Some.behind (uri_stop c.args.text.now c.in-Some.behind) ≡ Some c.in-Some-uri_close.end = cc in
-    let stuck : is_free_behind c.args.text.now c.in-Some-uri_close.end ≡ false = cc in
-    none-inside c.args.text.now c.args.start c.in-Some.behind c.in-Some-uri_close.end c.requires scheme close stuck
+    record {
+      exact = sym (uri_end-stuck c.args.text.now c.args.start c.in-Some.behind c.in-Some-uri_close.end scheme close stuck);
+      reach = λ none. none-inside c.args.text.now c.args.start c.in-Some.behind c.in-Some-uri_close.end c.requires scheme close stuck;
+    }

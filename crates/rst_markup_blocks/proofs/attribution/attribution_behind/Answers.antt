@@ -7,7 +7,7 @@ use Rattle.rst_markup_blocks.specs.Conditions.{next_text}
 use Rattle.rst_markup_blocks.specs.Lines.{lines_while}
 use Rattle.rst_markup_blocks.specs.declared.lines.LineTest.TheVariants.{Filled}
 use Rattle.rst_markup_blocks.proofs.AttributionLemmas.{lines_none, lines_some, attribution_none, attribution_some, attribution_block}
-use Rattle.rst_markup_blocks.proofs.LineLemmas.{drop_one}
+use Rattle.rst_text.proofs.Ends.{drop_one}
 use Rattle.rst_markup_blocks.proofs.attribution.attribution_behind.Goals as goal
 
 pub returns-in-Some : goal.returns-in-Some
@@ -19,8 +19,7 @@ returns-in-Some c =
     record {
       attribution = attribution_some c.args.k c.indentation-indent.result c.args.marker lines.0 c.in-Some.end (drop c.args.k B) indent lines.1 lines.2;
       text = rw lines.2 (attribution_block c.args.k lines.0 c.args.marker c.indentation-indent.result B (omega arith) lines.1);
-      looks = omega (arith, ap (λ Y. lines_while Filled Y) (drop_one c.args.k B), c.below_text.ensures.looks, c.level_end.ensures.looks);
-      low = search rules;
+      looked = search (arith, ap (λ Y. lines_while Filled Y) (drop_one c.args.k B));
       each = search rules;
     }
 
@@ -31,7 +30,5 @@ returns-in-None-clause-attribution c =
     let none : None ≡ option_map (λ n. c.args.k + 1 + n) (level_lines c.indentation-indent.result (drop (c.args.k + 1) B)) = sym c.in-None.is ∙ c.level_end.ensures.end in
     attribution_none c.args.k c.indentation-indent.result c.args.marker (drop c.args.k B) indent (lines_none c.args.k c.indentation-indent.result B none)
 
-pub returns-in-None-clause-looks : goal.returns-in-None-clause-looks
-returns-in-None-clause-looks c =
-    let B : Block = block_of c.args.view.now in
-    omega (arith, ap (λ Y. lines_while Filled Y) (drop_one c.args.k B), c.below_text.ensures.looks, c.level_end.ensures.looks)
+pub returns-in-None-clause-looked : goal.returns-in-None-clause-looked
+returns-in-None-clause-looked c = search (arith, ap (λ Y. lines_while Filled Y) (drop_one c.args.k (block_of c.args.view.now)))

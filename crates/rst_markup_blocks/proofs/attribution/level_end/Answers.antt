@@ -29,8 +29,7 @@ loop-i-preserved c =
     record {
       end = level_more c.args.indent c.loop-i.i B _ some same c.loop-i.invariant.end;
       lines = sym (while_more c.loop-i.i Filled B (omega arith) pass) ∙ c.loop-i.invariant.lines;
-      looks = omega (arith, c.line-text.ensures.looks, c.loop-i.invariant.looks);
-      low = omega (arith, c.line-text.ensures.looks, c.loop-i.invariant.low);
+      looked = search (arith, c.line-text.ensures.looks);
     }
 
 pub returns-clause-end : goal.returns-clause-end

@@ -6,14 +6,8 @@ use Rattle.rst_markup_lines.specs.Marker.{bullet}
 use Rattle.rst_markup_blocks.proofs.EndLemmas.{bullet_is}
 use Rattle.rst_markup_blocks.proofs.constructs.bullet_end.Goals as goal
 
-pub returns-in-Some-clause-end : goal.returns-in-Some-clause-end
-returns-in-Some-clause-end c =
+pub returns-in-Some : goal.returns-in-Some
+returns-in-Some c =
     let X : Block = drop c.args.i (block_of c.args.view.now) in
     let e : bullet (front_text X) ≡ Some c.in-Some.marker = ap bullet (sym c.line.ensures.text) ∙ sym c.bullet.ensures ∙ c.in-Some.is in
-    omega (arith, bullet_is X c.in-Some.marker e, c.item_end.ensures.end)
-
-pub returns-in-Some-clause-looks : goal.returns-in-Some-clause-looks
-returns-in-Some-clause-looks c =
-    let X : Block = drop c.args.i (block_of c.args.view.now) in
-    let e : bullet (front_text X) ≡ Some c.in-Some.marker = ap bullet (sym c.line.ensures.text) ∙ sym c.bullet.ensures ∙ c.in-Some.is in
-    omega (arith, ap (λ n. reach n X) (bullet_is X c.in-Some.marker e), c.item_end.ensures.looks, c.line.ensures.looks)
+    search (arith, bullet_is X c.in-Some.marker e, ap (λ n. reach n X) (bullet_is X c.in-Some.marker e))

@@ -1,4 +1,4 @@
-use Rattle.std.proofs.Common.{rules, ◌≡◌, ℕ, ◌+◌, ◌-◌, ◌≤◌, true, false, List, drop, ap, sym, ◌∙◌, arith, refl}
+use Rattle.std.proofs.Common.{◌≡◌, ℕ, ◌+◌, ◌-◌, ◌≤◌, true, false, List, drop, ap, sym, ◌∙◌, arith}
 use Rattle.rst_text.specs.Block.{Block, front_text}
 use Rattle.rst_text.specs.Reach.{reach}
 use Rattle.rst_text.specs.Shown.{block_of}
@@ -6,7 +6,7 @@ use Rattle.rst_markup_lines.specs.Closing.{ends_in_colons}
 use Rattle.rst_markup_blocks.specs.declared.lines.LineTest.TheVariants.{Plain}
 use Rattle.rst_markup_blocks.specs.Sizes.{literal_size, run_size}
 use Rattle.rst_markup_blocks.proofs.LineLemmas.{drop_far}
-use Rattle.rst_markup_blocks.proofs.EndLemmas.{paragraph_more, paragraph_only, paragraph_len_is, run_size_some, reach_more, reach_only}
+use Rattle.rst_markup_blocks.proofs.EndLemmas.{paragraph_more, paragraph_only, paragraph_len_is, run_size_some, reach_more}
 use Rattle.rst_markup_blocks.proofs.ends.paragraph_end.Goals as goal
 
 -- the text that was looked at is the last of the paragraph's own lines
@@ -24,11 +24,11 @@ returns-then-ends_in_colons c =
     let n : ℕ = run_size Plain X in
     let text = last c.args.i c.run_below_end-end.result n B _ c.run_below_end-end.ensures.end (run_size_some X) c.text_at.ensures.text in
     let colons : ends_in_colons (front_text (drop (n - 1) X)) ≡ true = ap ends_in_colons (sym text) ∙ sym c.ends_in_colons.ensures ∙ c.if-ends_in_colons.true in
-    let whole = reach_more n X (paragraph_more n X refl colons) in
+    let whole = reach_more n X (paragraph_more X colons) in
     record {
-      end = omega (arith, paragraph_more n X refl colons, c.literal_end.ensures.end, c.run_below_end-end.ensures.end, ap literal_size (behind c.args.i c.run_below_end-end.result n B c.run_below_end-end.ensures.end));
-      looks = omega (arith, whole, run_size_some X, paragraph_len_is X, c.literal_end.ensures.looks, c.run_below_end-end.ensures.few, c.text_at.ensures.few, ap (λ Y. reach (literal_size Y) Y) (behind c.args.i c.run_below_end-end.result n B c.run_below_end-end.ensures.end));
-      low = search rules;
+      end = omega (arith, paragraph_more X colons, c.literal_end.ensures.end, c.run_below_end-end.ensures.end, ap literal_size (behind c.args.i c.run_below_end-end.result n B c.run_below_end-end.ensures.end));
+      looks = omega (arith, whole, run_size_some X, paragraph_len_is X, ap (λ Y. reach (literal_size Y) Y) (behind c.args.i c.run_below_end-end.result n B c.run_below_end-end.ensures.end));
+      low = search arith;
     }
 
 pub returns : goal.returns
@@ -38,8 +38,5 @@ returns c =
     let n : ℕ = run_size Plain X in
     let text = last c.args.i c.run_below_end-end.result n B _ c.run_below_end-end.ensures.end (run_size_some X) c.text_at.ensures.text in
     let colons : ends_in_colons (front_text (drop (n - 1) X)) ≡ false = ap ends_in_colons (sym text) ∙ sym c.ends_in_colons.ensures ∙ c.if-ends_in_colons.false in
-    record {
-      end = omega (arith, paragraph_only n X refl colons, c.run_below_end-end.ensures.end);
-      looks = omega (arith, reach_only n X (paragraph_only n X refl colons), run_size_some X, paragraph_len_is X, c.run_below_end-end.ensures.few, c.text_at.ensures.few);
-      low = search rules;
-    }
+    let only = paragraph_only X colons in
+    search (arith, only, run_size_some X, paragraph_len_is X)

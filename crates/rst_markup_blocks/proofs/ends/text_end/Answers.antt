@@ -5,8 +5,9 @@ use Rattle.rst_text.specs.Shown.{block_of}
 use Rattle.rst_markup_blocks.specs.Conditions.{next_text}
 use Rattle.rst_markup_blocks.specs.Forms.{text_form}
 use Rattle.rst_markup_blocks.specs.declared.form.TextForm.{TextForm}
-use Rattle.rst_markup_blocks.specs.declared.form.TextForm.TheVariants.{Paragraph, ShortUnderline}
-use Rattle.rst_markup_blocks.proofs.EndLemmas.{size_definition, size_title, title_there, next_plain, paragraph_len_is, hanging_some, size_text, text_isnt_definition}
+use Rattle.rst_markup_blocks.specs.declared.form.TextForm.TheVariants.{Paragraph, ShortUnderline, Title}
+use Rattle.rst_markup_blocks.proofs.EndLemmas.{size_definition, size_by, next_plain, paragraph_len_is, hanging_some, size_text, text_isnt_definition}
+use Rattle.rst_markup_blocks.proofs.RowLaws.{two_lines}
 use Rattle.rst_markup_blocks.proofs.ends.text_end.Goals as goal
 
 -- the form of the lines that were handed over
@@ -17,31 +18,19 @@ pub overflow_add-result : goal.overflow_add-result
 overflow_add-result c =
     let X : Block = drop c.args.i (block_of c.args.view.now) in
     let f = form X _ _ _ _ c.requires.text c.requires.next c.text_form.ensures c.in-Title.is in
-    omega (arith, title_there X (front_text X) c.in-Title.short f, length-drop c.args.i (block_of c.args.view.now))
+    omega (arith, two_lines X (front_text X) c.in-Title.short f, length-drop c.args.i (block_of c.args.view.now))
 
-pub returns-in-Definition-clause-end : goal.returns-in-Definition-clause-end
-returns-in-Definition-clause-end c =
+pub returns-in-Definition : goal.returns-in-Definition
+returns-in-Definition c =
     let X : Block = drop c.args.i (block_of c.args.view.now) in
-    let f = form X _ _ _ _ c.requires.text c.requires.next c.text_form.ensures c.in-Definition.is in
-    omega (arith, size_definition X f, c.hanging_end.ensures.end)
+    let size = size_definition X (form X _ _ _ _ c.requires.text c.requires.next c.text_form.ensures c.in-Definition.is) in
+    search (arith, size, ap (λ n. reach n X) size, hanging_some X)
 
-pub returns-in-Definition-clause-looks : goal.returns-in-Definition-clause-looks
-returns-in-Definition-clause-looks c =
+pub returns-in-Title : goal.returns-in-Title
+returns-in-Title c =
     let X : Block = drop c.args.i (block_of c.args.view.now) in
-    let f = form X _ _ _ _ c.requires.text c.requires.next c.text_form.ensures c.in-Definition.is in
-    omega (arith, ap (λ n. reach n X) (size_definition X f), hanging_some X, c.hanging_end.ensures.looks)
-
-pub returns-in-Title-clause-end : goal.returns-in-Title-clause-end
-returns-in-Title-clause-end c =
-    let X : Block = drop c.args.i (block_of c.args.view.now) in
-    let f = form X _ _ _ _ c.requires.text c.requires.next c.text_form.ensures c.in-Title.is in
-    omega (arith, size_title X c.in-Title.short f)
-
-pub returns-in-Title-clause-looks : goal.returns-in-Title-clause-looks
-returns-in-Title-clause-looks c =
-    let X : Block = drop c.args.i (block_of c.args.view.now) in
-    let f = form X _ _ _ _ c.requires.text c.requires.next c.text_form.ensures c.in-Title.is in
-    omega (arith, ap (λ n. reach n X) (size_title X c.in-Title.short f))
+    let size = size_by X (Title c.in-Title.short) (form X _ _ _ _ c.requires.text c.requires.next c.text_form.ensures c.in-Title.is) in
+    search (arith, size, ap (λ n. reach n X) size)
 
 -- the same, for one of two forms
 either : (X : Block) (text next : List ℕ) (f : TextForm) → text ≡ front_text X → next ≡ next_text X → f ≡ text_form text next → (f ≡ Paragraph) ⊎ (f ≡ ShortUnderline)
@@ -49,14 +38,8 @@ either : (X : Block) (text next : List ℕ) (f : TextForm) → text ≡ front_te
 either X text next f t n e (inl s) = inl (form X text next f Paragraph t n e s)
 either X text next f t n e (inr s) = inr (form X text next f ShortUnderline t n e s)
 
-pub returns-in-Paragraph-clause-end : goal.returns-in-Paragraph-clause-end
-returns-in-Paragraph-clause-end c =
+pub returns-in-Paragraph : goal.returns-in-Paragraph
+returns-in-Paragraph c =
     let X : Block = drop c.args.i (block_of c.args.view.now) in
     let f = either X _ _ _ c.requires.text c.requires.next c.text_form.ensures c.in-Paragraph.is in
-    omega (arith, size_text X f, c.paragraph_end.ensures.end)
-
-pub returns-in-Paragraph-clause-looks : goal.returns-in-Paragraph-clause-looks
-returns-in-Paragraph-clause-looks c =
-    let X : Block = drop c.args.i (block_of c.args.view.now) in
-    let f = either X _ _ _ c.requires.text c.requires.next c.text_form.ensures c.in-Paragraph.is in
-    omega (arith, ap (λ n. reach n X) (size_text X f), next_plain X (front_text X) (text_isnt_definition (text_form (front_text X) (next_text X)) f), paragraph_len_is X, c.paragraph_end.ensures.looks)
+    search (arith, size_text X f, ap (λ n. reach n X) (size_text X f), next_plain X (front_text X) (text_isnt_definition (text_form (front_text X) (next_text X)) f), paragraph_len_is X)

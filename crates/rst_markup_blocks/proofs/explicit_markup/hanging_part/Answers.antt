@@ -7,7 +7,7 @@ use Rattle.rst_markup_blocks.specs.declared.lines.LineTest.TheVariants.{Blank}
 use Rattle.rst_markup_blocks.specs.Lines.{lines_while}
 use Rattle.rst_markup_blocks.specs.ExplicitMarkup.{least_of}
 use Rattle.rst_markup_blocks.specs.Sizes.{hanging_size}
-use Rattle.rst_markup_blocks.proofs.LineLemmas.{drop_one}
+use Rattle.rst_text.proofs.Ends.{drop_one}
 use Rattle.rst_markup_blocks.proofs.PartLemmas.{part_text, part_bare, looked_hanging, hanging_is, blank_below}
 use Rattle.rst_text.proofs.Reaches.{looked_is}
 use Rattle.rst_markup_blocks.proofs.explicit_markup.hanging_part.Goals as goal
@@ -23,8 +23,7 @@ returns-then-not-bare c =
       part =
           part_text c.args.i c.args.cut c.block_end-extent.result.end c.block_end-extent.result.indent X c.args.bare c.if-not-bare.true
           (omega (arith, end, hanging_is X, ap (λ Y. extent 1 Y) below)) (indent ∙ ap least_of below);
-      looks = omega (arith, c.block_end-extent.ensures.looks, looked_hanging X (omega (arith, length-drop c.args.i B)), ap (λ Y. looked 1 Y) (drop_one c.args.i B));
-      low = omega (arith, c.block_end-extent.ensures.low, looked_is 1 (drop (c.args.i + 1) B), hanging_is (drop c.args.i B), ap (λ Y. extent 1 Y) (drop_one c.args.i B));
+      looked = search (arith, looked_hanging X (omega (arith, length-drop c.args.i B)), ap (λ Y. looked 1 Y) below, looked_is 1 (drop (c.args.i + 1) B), hanging_is X, ap (λ Y. extent 1 Y) below);
     }
 
 pub returns : goal.returns
@@ -40,6 +39,5 @@ returns c =
           part_bare c.args.i c.args.cut c.block_end-extent.result.end c.block_end-extent.result.indent c.min.result X c.args.bare c.if-not-bare.false
           whole (indent ∙ ap least_of below)
           (omega (arith, c.min.ensures, c.lines_end-start.ensures.end, end, ap (λ Y. extent 1 Y) below, ap (λ Y. lines_while Blank Y) below));
-      looks = omega (arith, c.block_end-extent.ensures.looks, c.lines_end-start.ensures.looks, looked_hanging X (omega (arith, length-drop c.args.i B)), ap (λ Y. looked 1 Y) (drop_one c.args.i B), blank_below (drop (c.args.i + 1) B));
-      low = omega (arith, c.block_end-extent.ensures.low, c.lines_end-start.ensures.low, looked_is 1 (drop (c.args.i + 1) B), hanging_is (drop c.args.i B), ap (λ Y. extent 1 Y) (drop_one c.args.i B));
+      looked = search (arith, looked_hanging X (omega (arith, length-drop c.args.i B)), ap (λ Y. looked 1 Y) below, blank_below (drop (c.args.i + 1) B), looked_is 1 (drop (c.args.i + 1) B), hanging_is X, ap (λ Y. extent 1 Y) below);
     }

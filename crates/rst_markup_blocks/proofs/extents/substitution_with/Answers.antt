@@ -1,4 +1,4 @@
-use Rattle.std.proofs.Common.{◌≡◌, ◌∙◌, false, Some, List, ℕ, length-drop, sym, ap, drop, arith}
+use Rattle.std.proofs.Common.{rules, ◌≡◌, ◌∙◌, false, Some, List, ℕ, length-drop, sym, ap, drop}
 use Rattle.std.specs.Str.{chars}
 use Rattle.rst_text.specs.Block.{Block, front_text}
 use Rattle.rst_text.specs.Shown.{block_of}
@@ -8,17 +8,12 @@ use Rattle.rst_markup_lines.proofs.TextLemmas.{length-chars}
 use Rattle.rst_markup_blocks.proofs.ExplicitLemmas.{substitution_some}
 use Rattle.rst_markup_blocks.proofs.extents.substitution_with.Goals as goal
 
-pub call_of-call-requires-clause-name : goal.call_of-call-requires-clause-name
-call_of-call-requires-clause-name c =
+pub call_of-call-requires : goal.call_of-call-requires
+call_of-call-requires c =
     let t : List ℕ = chars c.args.text.now in
     let e : directive_of false (drop c.args.n t) ≡ Some c.in-Some.mark = ap (λ u. directive_of false u) (sym c.skip.ensures.chars) ∙ sym c.directive_of.ensures ∙ c.in-Some.is in
-    omega (arith, (directive_within false (drop c.args.n t) c.in-Some.mark e).0, length-drop c.args.n t, c.requires.behind, length-chars c.args.text.now c.utf8.text)
-
-pub call_of-call-requires-clause-marker : goal.call_of-call-requires-clause-marker
-call_of-call-requires-clause-marker c =
-    let t : List ℕ = chars c.args.text.now in
-    let e : directive_of false (drop c.args.n t) ≡ Some c.in-Some.mark = ap (λ u. directive_of false u) (sym c.skip.ensures.chars) ∙ sym c.directive_of.ensures ∙ c.in-Some.is in
-    omega (arith, (directive_within false (drop c.args.n t) c.in-Some.mark e).1, length-drop c.args.n t, c.requires.behind, length-chars c.args.text.now c.utf8.text)
+    let w = directive_within false (drop c.args.n t) c.in-Some.mark e in
+    search (rules, w.0, w.1, length-drop c.args.n t, length-chars c.args.text.now c.utf8.text)
 
 pub returns-in-Some-clause-explicit : goal.returns-in-Some-clause-explicit
 returns-in-Some-clause-explicit c =

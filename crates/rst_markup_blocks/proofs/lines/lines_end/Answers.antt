@@ -11,19 +11,14 @@ pub loop-i-preserved : goal.loop-i-preserved
 loop-i-preserved c =
     let B : Block = block_of c.args.view.now in
     let pass : passes c.args.test (front_text (drop c.loop-i.i B)) ≡ true = cc in
-    let more = while_more c.loop-i.i c.args.test B (omega arith) pass in
     record {
       at_line = search rules;
-      place = sym more ∙ c.loop-i.invariant.place;
-      looks = omega (arith, c.line.ensures.looks, c.loop-i.invariant.looks);
-      low = omega (arith, c.line.ensures.looks, c.loop-i.invariant.low);
+      place = sym (while_more c.loop-i.i c.args.test B (omega arith) pass) ∙ c.loop-i.invariant.place;
+      looked = search (arith, c.line.ensures.looks);
     }
 
-pub returns-after-loop-i-clause-end : goal.returns-after-loop-i-clause-end
-returns-after-loop-i-clause-end c =
-    let B : Block = block_of c.args.view.now in
-    let none = while_end c.loop-i.i c.args.test B (omega arith) in
-    omega (arith, c.loop-i.invariant.at_line, c.loop-i.invariant.place)
+pub returns-after-loop-i : goal.returns-after-loop-i
+returns-after-loop-i c = search (rules, while_end c.loop-i.i c.args.test (block_of c.args.view.now) (omega arith))
 
 pub returns-then-not-passes : goal.returns-then-not-passes
 returns-then-not-passes c =
@@ -31,29 +26,11 @@ returns-then-not-passes c =
     let fails : passes c.args.test (front_text (drop c.loop-i.i B)) ≡ false = cc in
     let stop = while_stop c.loop-i.i c.args.test B (omega arith) fails in
     let place : c.loop-i.i ≡ c.args.from + lines_while c.args.test (drop c.args.from B) = omega (arith, stop.0, c.loop-i.invariant.place) in
-    record {
-      end = omega (arith, stop.0, c.loop-i.invariant.at_line, c.loop-i.invariant.place);
-      within = search rules;
-      few = search rules;
-      looks = omega (arith, stop.1, behind_while c.args.from c.loop-i.i c.args.test B place, c.line.ensures.looks, c.loop-i.invariant.looks);
-      low = omega (arith, stop.0, c.loop-i.invariant.place, c.loop-i.invariant.low, c.line.ensures.looks);
-    }
-
-pub returns-after-loop-i-clause-low : goal.returns-after-loop-i-clause-low
-returns-after-loop-i-clause-low c =
-    let B : Block = block_of c.args.view.now in
-    let none = while_end c.loop-i.i c.args.test B (omega arith) in
-    omega (arith, c.loop-i.invariant.place, c.loop-i.invariant.low)
+    search (rules, stop.0, stop.1, behind_while c.args.from c.loop-i.i c.args.test B place)
 
 pub returns-in-Blank : goal.returns-in-Blank
 returns-in-Blank c =
     let B : Block = block_of c.args.view.now in
     let Y : Block = drop c.args.from B in
     let are = blanks_are Y in
-    rw c.in-Blank.is (record {
-      end = omega (arith, c.blank_end.ensures.end, are.0);
-      within = omega (arith, c.blank_end.ensures.end, are.0, while_le Blank Y, length-drop c.args.from B);
-      few = omega (arith, c.blank_end.ensures.looks, are.1);
-      looks = omega (arith, c.blank_end.ensures.looks, blanks_through Y);
-      low = omega (arith, c.blank_end.ensures.looks, blanks_through Y);
-    })
+    rw c.in-Blank.is (search (arith, are.0, are.1, while_le Blank Y, length-drop c.args.from B, blanks_through Y, c.blank_end.ensures.end, c.blank_end.ensures.looks))

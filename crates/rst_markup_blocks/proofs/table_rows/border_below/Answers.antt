@@ -21,8 +21,7 @@ loop-j-preserved c =
     let other : is_lower_border_at X c.loop-j.j ≡ false = ap is_lower_border (sym (c.line.ensures.text ∙ ap front_text (drop_far c.args.i c.loop-j.j (block_of c.args.view.now)))) ∙ sym c.is_lower_border.ensures ∙ c.if-is_lower_border.false in
     record {
       none = NoneFrom-more (is_lower_border_at X) (c.args.k + 1) c.loop-j.j c.loop-j.invariant.none (λ above. other);
-      looks = omega (arith, c.loop-j.invariant.looks, c.line.ensures.looks);
-      low = omega (arith, c.loop-j.invariant.low, c.line.ensures.looks);
+      looked = search (arith, c.line.ensures.looks);
     }
 
 pub returns-clause-border : goal.returns-clause-border
@@ -32,4 +31,4 @@ returns-clause-border c =
     border_below-none X c.args.k c.loop-j.j past c.loop-j.invariant.none
 
 pub returns-clause-low : goal.returns-clause-low
-returns-clause-low c = omega (arith, length-drop c.args.i (block_of c.args.view.now), c.loop-j.invariant.low)
+returns-clause-low c = omega (arith, length-drop c.args.i (block_of c.args.view.now))

@@ -1,4 +1,4 @@
-use Rattle.std.proofs.Common.{rules, ◌≡◌, ◌-◌, drop, arith}
+use Rattle.std.proofs.Common.{◌≡◌, ◌-◌, drop, arith}
 use Rattle.rst_text.specs.Block.{Block}
 use Rattle.rst_text.specs.Shown.{block_of}
 use Rattle.rst_markup_blocks.specs.declared.lines.LineTest.TheVariants.{Drawn}
@@ -13,6 +13,5 @@ returns c =
     record {
       bottom = grid_bottom-is X c.loop-k.k c.loop-k.bottom through c.loop-k.invariant.last;
       within = grid_bottom-below X c.args.all c.loop-k.bottom c.requires.all (grid_bottom-is X c.loop-k.k c.loop-k.bottom through c.loop-k.invariant.last);
-      looks = omega (arith, c.loop-k.invariant.looks, c.loop-k.invariant.among);
-      low = search rules;
+      looked = search (arith, c.loop-k.invariant.among);
     }

@@ -1,6 +1,6 @@
-use Rattle.std.proofs.Common.{◌+◌, ◌-◌, ◌≤◌, drop}
+use Rattle.std.proofs.Common.{◌-◌, ◌≤◌, drop}
 use Rattle.rst_text.specs.Places.{IsLast}
-use Rattle.rst_text.specs.Looked.{capped}
+use Rattle.rst_text.specs.Looked.{Looked}
 use Rattle.rst_text.specs.Shown.{block_of}
 use Rattle.rst_markup_blocks.specs.TableRows.{is_border_at}
 use Rattle.rst_markup_blocks.proofs.table_rows.grid_bottom.Given as goal
@@ -9,6 +9,5 @@ abbrev pub invariant-loop-k : goal.invariant-loop-k
 invariant-loop-k l = record {
   last : IsLast (is_border_at (drop l.i (block_of l.view))) 2 l.k l.bottom;
   among : l.k - 2 ≤ l.all - 2;
-  looks : l.looks ≤ l.fn.looks + (l.k - 2);
-  low : capped l.fn.looks ≤ l.looks;
+  looked : Looked 0 (l.k - 2) l.fn.looks l.looks;
 }

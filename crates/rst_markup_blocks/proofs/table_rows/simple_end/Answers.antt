@@ -1,4 +1,4 @@
-use Rattle.std.proofs.Common.{◌≤◌, drop, length, length-drop, arith, ◌≡◌, ◌∙◌, ◌+◌, ◌-◌, ap}
+use Rattle.std.proofs.Common.{drop, length, length-drop, arith, ◌≡◌, ◌∙◌, ◌+◌, ◌-◌, ap}
 use Rattle.std.specs.Option.{option_or}
 use Rattle.rst_text.specs.Block.{Block}
 use Rattle.rst_text.specs.Shown.{block_of}
@@ -16,8 +16,7 @@ returns-clause-end c =
     ∙ simple_size-is X c.simple_borders.result.head c.simple_borders.result.bottom c.simple_borders.ensures.head c.simple_borders.ensures.bottom in
     ap (λ n. c.args.i + n) size
 
-pub returns-clause-looks : goal.returns-clause-looks
-returns-clause-looks c =
+pub returns-clause-looked : goal.returns-clause-looked
+returns-clause-looked c =
     let X : Block = drop c.args.i (block_of c.args.view.now) in
-    let one : 1 ≤ length X = omega (arith, length-drop c.args.i (block_of c.args.view.now)) in
-    omega (arith, scan_some X one, scan_reach X, c.simple_borders.ensures.looks)
+    search (arith, scan_some X (omega (arith, length-drop c.args.i (block_of c.args.view.now))), scan_reach X)

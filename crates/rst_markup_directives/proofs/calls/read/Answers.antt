@@ -13,12 +13,12 @@ use Rattle.rst_markup_directives.proofs.FieldLemmas.{length_texts}
 use Rattle.rst_markup_directives.proofs.BlockReads.{read-is}
 use Rattle.rst_markup_directives.proofs.calls.read.Goals as goal
 
-pub returns-clause-looks : goal.returns-clause-looks
-returns-clause-looks c =
+pub returns-clause-looked : goal.returns-clause-looked
+returns-clause-looked c =
     let H : Block = block_of c.lines_of-lines.result in
     let Y : Block = drop c.len.result H in
     let far = reach_within (lines_while Blank Y) Y (while_le Blank Y) in
-    omega (arith, c.lines_end-rest.ensures.looks, far.1, length-drop c.len.result H, c.run_of.ensures.looks, c.in_ok-run.ensures.through, c.in_ok-run.ensures.within, c.lines_of-lines.ensures.len)
+    search (arith, c.lines_end-rest.ensures.looks, far.1, length-drop c.len.result H, c.in_ok-run.ensures.through, c.in_ok-run.ensures.within, c.lines_of-lines.ensures.len)
 
 pub returns-clause-reading : goal.returns-clause-reading
 unfolding run_in

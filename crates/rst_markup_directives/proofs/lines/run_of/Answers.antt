@@ -14,6 +14,5 @@ loop-i-preserved c =
       texts = ap (λ xs. texts_of xs ++ first_run (drop (c.loop-i.i + 1) (block_of c.args.lines.now))) items
           ∙ run-more (λ line. chars line.now) (block_of c.args.lines.now) c.loop-i.i c.loop-i.run.items c.line-line.result (omega arith) c.line-line.ensures.text dark c.loop-i.invariant.texts;
       count = omega (arith, simp length-append at (ap length items), c.loop-i.invariant.count);
-      looks = omega (arith, c.line-line.ensures.looks, c.loop-i.invariant.looks);
-      low = omega (arith, c.line-line.ensures.looks, c.loop-i.invariant.low);
+      looked = search (arith, c.line-line.ensures.looks);
     }

@@ -1,4 +1,4 @@
-use Rattle.std.proofs.Common.{◌≡◌, ◌+◌, ◌<◌, length, map, length-drop, arith, sym, ap, ◌∙◌, rules}
+use Rattle.std.proofs.Common.{◌≡◌, ◌+◌, length, map, length-drop, arith, sym, ap, ◌∙◌, rules}
 use Rattle.std.specs.Str.{chars}
 use Rattle.rst_markup_lines.specs.OptionMarker.{option_tail, moved, options_from, marker_of_options}
 use Rattle.rst_markup_lines.specs.declared.option.OptionTail.TheVariants.{Last, Next, Wrong}
@@ -33,8 +33,7 @@ pub loop-marker-smaller : goal.loop-marker-smaller
 loop-marker-smaller c =
     let e : option_tail (chars c.loop-marker.rest.now) ≡ Next c.in-Next.n = sym c.option_tail.ensures ∙ c.in-Next.is in
     let w = next_within c.in-Next.n (chars c.loop-marker.rest.now) e in
-    let shorter : length (chars c.skip-rest.result.now) < length (chars c.loop-marker.rest.now) = omega (arith, w.0, w.1, ap length c.skip-rest.ensures.chars, length-drop c.in-Next.n (chars c.loop-marker.rest.now)) in
-    shorter
+    omega (arith, w.0, w.1, ap length c.skip-rest.ensures.chars, length-drop c.in-Next.n (chars c.loop-marker.rest.now))
 
 pub loop-marker-preserved : goal.loop-marker-preserved
 loop-marker-preserved c =

@@ -1,4 +1,4 @@
-use Rattle.std.proofs.Common.{◌≡◌, ◌+◌, ◌<◌, [], ◌∷◌, ◌++◌, None, Some, length, map, length-drop, arith, sym, ap, ◌∙◌, rules}
+use Rattle.std.proofs.Common.{◌≡◌, ◌+◌, [], ◌∷◌, ◌++◌, None, Some, length, map, length-drop, arith, sym, ap, ◌∙◌, rules}
 use Rattle.std.specs.Str.{chars}
 use Rattle.rst_markup_lines.specs.OptionMarker.{option_at, option_tail, moved, options_from}
 use Rattle.rst_markup_lines.specs.Options.{listed, option_in}
@@ -16,17 +16,12 @@ loop-option-init c = record {
   within = omega arith;
 }
 
-pub returns-in-Wrong-clause-options : goal.returns-in-Wrong-clause-options
-returns-in-Wrong-clause-options c =
+pub returns-in-Wrong : goal.returns-in-Wrong
+returns-in-Wrong c =
     let e : option_tail (chars c.loop-option.rest.now) ≡ Wrong = sym c.option_tail.ensures ∙ c.in-Wrong.is in
     let f : option_at (chars c.loop-option.rest.now) ≡ Some c.in-Some.option = sym c.option_at.ensures.value ∙ c.in-Some.is in
-    listed_wrong c.loop-option.before (chars c.loop-option.rest.now) c.in-Some.option c.loop-option.options.items _ e f c.loop-option.invariant.value
-
-pub returns-in-Wrong-clause-within : goal.returns-in-Wrong-clause-within
-returns-in-Wrong-clause-within c =
-    let e : option_tail (chars c.loop-option.rest.now) ≡ Wrong = sym c.option_tail.ensures ∙ c.in-Wrong.is in
-    let f : option_at (chars c.loop-option.rest.now) ≡ Some c.in-Some.option = sym c.option_at.ensures.value ∙ c.in-Some.is in
-    listed_all_within (chars c.args.text.now) c.loop-option.options.items (listed_wrong c.loop-option.before (chars c.loop-option.rest.now) c.in-Some.option c.loop-option.options.items _ e f c.loop-option.invariant.value)
+    let all = listed_wrong c.loop-option.before (chars c.loop-option.rest.now) c.in-Some.option c.loop-option.options.items _ e f c.loop-option.invariant.value in
+    record { options = all; within = listed_all_within (chars c.args.text.now) c.loop-option.options.items all }
 
 pub option_in-requires : goal.option_in-requires
 option_in-requires c =
@@ -58,8 +53,7 @@ pub loop-option-smaller : goal.loop-option-smaller
 loop-option-smaller c =
     let e : option_tail (chars c.loop-option.rest.now) ≡ Next c.in-Next.n = sym c.option_tail.ensures ∙ c.in-Next.is in
     let w = next_within c.in-Next.n (chars c.loop-option.rest.now) e in
-    let shorter : length (chars c.skip-rest.result.now) < length (chars c.loop-option.rest.now) = omega (arith, w.0, w.1, ap length c.skip-rest.ensures.chars, length-drop c.in-Next.n (chars c.loop-option.rest.now)) in
-    shorter
+    omega (arith, w.0, w.1, ap length c.skip-rest.ensures.chars, length-drop c.in-Next.n (chars c.loop-option.rest.now))
 
 pub loop-option-preserved : goal.loop-option-preserved
 loop-option-preserved c =

@@ -26,15 +26,15 @@ returns-then-not-is_drawn c =
       lines = drawn-none (drop c.loop-k.k B) c.loop-k.lines.items (drawn_rows (drop c.args.i B)) (while_stop c.loop-k.k Drawn B (omega arith) stop).0 c.loop-k.invariant.lines;
       numbered = numbered-from _ _ c.loop-k.invariant.numbered;
       bottom = grid_bottom-is X (c.loop-k.k - c.args.i) c.loop-k.bottom all c.loop-k.invariant.last;
-      looks = omega (arith, scan-here (block_of c.args.view.now) c.args.i c.loop-k.k (omega arith) (omega arith) c.loop-k.invariant.among, c.loop-k.invariant.looks, c.line-text.ensures.looks);
-      low = omega (arith, (while_stop c.loop-k.k Drawn B (omega arith) stop).0, c.loop-k.invariant.among, c.loop-k.invariant.low, c.line-text.ensures.looks);
+      looks = omega (arith, scan-here (block_of c.args.view.now) c.args.i c.loop-k.k (omega arith) (omega arith) c.loop-k.invariant.among, c.loop-k.invariant.looked.1, c.line-text.ensures.looks);
+      low = omega (arith, (while_stop c.loop-k.k Drawn B (omega arith) stop).0, c.loop-k.invariant.among, c.loop-k.invariant.looked.0, c.line-text.ensures.looks);
     }
 
 pub returns-in_err-line-clause-looks : goal.returns-in_err-line-clause-looks
-returns-in_err-line-clause-looks c = omega (arith, scan-here (block_of c.args.view.now) c.args.i c.loop-k.k (omega arith) (omega arith) c.loop-k.invariant.among, c.loop-k.invariant.looks, c.line-text.ensures.looks)
+returns-in_err-line-clause-looks c = omega (arith, scan-here (block_of c.args.view.now) c.args.i c.loop-k.k (omega arith) (omega arith) c.loop-k.invariant.among, c.loop-k.invariant.looked.1, c.line-text.ensures.looks)
 
 pub returns-in_err-push-clause-looks : goal.returns-in_err-push-clause-looks
-returns-in_err-push-clause-looks c = omega (arith, scan-here (block_of c.args.view.now) c.args.i c.loop-k.k (omega arith) (omega arith) c.loop-k.invariant.among, c.loop-k.invariant.looks, c.line-text.ensures.looks)
+returns-in_err-push-clause-looks c = omega (arith, scan-here (block_of c.args.view.now) c.args.i c.loop-k.k (omega arith) (omega arith) c.loop-k.invariant.among, c.loop-k.invariant.looked.1, c.line-text.ensures.looks)
 
 pub loop-k-preserved : goal.loop-k-preserved
 loop-k-preserved c =
@@ -53,8 +53,7 @@ loop-k-preserved c =
           (λ i less. c.loop-k.invariant.numbered i (omega (arith, less, c.loop-k.invariant.size))) (omega (arith, c.in_ok-line.ensures.number)) j (omega (arith, inside, size));
       size = omega (arith, size);
       last = subst (λ (o : Option ℕ). IsLast (is_border_at (drop c.args.i B)) 2 (c.loop-k.k + 1 - c.args.i) o) (sym new) step;
-      looks = omega (arith, c.loop-k.invariant.looks, c.line-text.ensures.looks);
-      low = omega (arith, c.loop-k.invariant.low, c.line-text.ensures.looks);
+      looked = search (arith, c.line-text.ensures.looks);
     }
 
 pub returns-clause-bottom : goal.returns-clause-bottom
@@ -69,12 +68,12 @@ returns-clause-looks c =
     let B : Block = block_of c.args.view.now in
     let X : Block = drop c.args.i B in
     let over = scan-over X (c.loop-k.k - c.args.i) (omega (arith, c.loop-k.invariant.among)) (omega (arith, length-drop c.args.i B)) in
-    omega (arith, over, c.loop-k.invariant.looks)
+    omega (arith, over, c.loop-k.invariant.looked.1)
 
 pub returns-clause-low : goal.returns-clause-low
 returns-clause-low c =
     let B : Block = block_of c.args.view.now in
-    omega (arith, while_end c.loop-k.k Drawn B (omega arith), c.loop-k.invariant.among, c.loop-k.invariant.low)
+    omega (arith, while_end c.loop-k.k Drawn B (omega arith), c.loop-k.invariant.among, c.loop-k.invariant.looked.0)
 
 pub returns-clause-numbered : goal.returns-clause-numbered
 returns-clause-numbered c = numbered-from _ _ c.loop-k.invariant.numbered

@@ -1,8 +1,8 @@
-use Rattle.std.proofs.Common.{◌≡◌, ℕ, ◌++◌, ◌+◌, ◌-◌, ◌≤◌, ◌<◌, drop, length, get_or}
+use Rattle.std.proofs.Common.{◌≡◌, ℕ, ◌++◌, ◌+◌, ◌-◌, ◌<◌, drop, length, get_or}
 use Rattle.rst_text.specs.Block.{first_number}
 use Rattle.rst_markup_tables.specs.Places.{no_row}
 use Rattle.rst_text.specs.Places.{IsLast}
-use Rattle.rst_text.specs.Looked.{capped}
+use Rattle.rst_text.specs.Looked.{Looked}
 use Rattle.rst_text.specs.Shown.{block_of}
 use Rattle.rst_markup_blocks.specs.declared.lines.LineTest.TheVariants.{Drawn}
 use Rattle.rst_markup_blocks.specs.Lines.{lines_while}
@@ -17,6 +17,5 @@ invariant-loop-k l = record {
   numbered : (n : ℕ) → n < length l.lines.items → (get_or l.lines.items n no_row).number ≡ first_number (block_of l.view) + l.i + n;
   size : length l.lines.items ≡ l.k - l.i;
   last : IsLast (is_border_at (drop l.i (block_of l.view))) 2 (l.k - l.i) l.bottom;
-  looks : l.looks ≤ l.fn.looks + (l.k - l.i);
-  low : capped (l.fn.looks + (l.k - l.i)) ≤ l.looks;
+  looked : Looked (l.k - l.i) (l.k - l.i) l.fn.looks l.looks;
 }

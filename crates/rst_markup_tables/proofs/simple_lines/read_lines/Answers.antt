@@ -21,8 +21,7 @@ loop-k-preserved c =
       numbered = λ n inside. pushed (λ j (r : Row). r.number ≡ first_number B + c.args.from + j) c.loop-k.lines.items c.push.new.self.items c.in_ok-line.line no_row (c.loop-k.k - c.args.from) c.in_ok-push.ensures.items c.loop-k.invariant.size
           (λ j less. c.loop-k.invariant.numbered j (omega (arith, less, c.loop-k.invariant.size))) (omega (arith, c.in_ok-line.ensures.number)) n (omega (arith, inside, size));
       size = omega (arith, size);
-      looks = omega (arith, c.loop-k.invariant.looks, c.line-text.ensures.looks);
-      low = omega (arith, c.loop-k.invariant.low, c.line-text.ensures.looks);
+      looked = search (arith, c.line-text.ensures.looks);
     }
 
 pub returns-clause-numbered : goal.returns-clause-numbered

@@ -30,24 +30,23 @@ returns-in-Some-clause-end c =
     let size = table-size X c.size-size.result (c.len-2.result - c.args.i) c.simple_borders-borders.result.head c.simple_borders-borders.result.bottom c.size-size.ensures all c.simple_borders-borders.ensures.head c.simple_borders-borders.ensures.bottom in
     ap end_of c.malformed.ensures ∙ ap (λ n. c.args.i + n) size
 
-pub returns-in-Some-clause-looks : goal.returns-in-Some-clause-looks
-returns-in-Some-clause-looks c =
+pub returns-in-Some-clause-looked : goal.returns-in-Some-clause-looked
+returns-in-Some-clause-looked c =
     let B : Block = block_of c.args.view.now in
     let X : Block = drop c.args.i B in
-    looks-borders X c.simple_borders-borders.result.bottom c.args.looks.now c.simple_borders-borders.new.looks c.border_fault.new.looks (omega (arith, length-drop c.args.i B)) c.simple_borders-borders.ensures.bottom
-    c.simple_borders-borders.ensures.looks c.border_fault.ensures.looks c.border_fault.ensures.none
+    search (arith, looks-borders X c.simple_borders-borders.result.bottom c.args.looks.now c.simple_borders-borders.new.looks c.border_fault.new.looks (omega (arith, length-drop c.args.i B)) c.simple_borders-borders.ensures.bottom c.simple_borders-borders.ensures.looked.1 c.border_fault.ensures.looked.1 c.border_fault.ensures.none)
 
-pub returns-in_err-lines-clause-looks : goal.returns-in_err-lines-clause-looks
-returns-in_err-lines-clause-looks c =
-    looks-lines (drop c.args.i (block_of c.args.view.now)) c.size-size.result (c.len-2.result - c.args.i) c.simple_borders-borders.result.head c.simple_borders-borders.result.bottom c.args.looks.now c.simple_borders-borders.new.looks
-    c.border_fault.new.looks c.read_lines.new.looks c.size-size.ensures (omega (arith, length-drop c.args.i (block_of c.args.view.now))) c.simple_borders-borders.ensures.head c.simple_borders-borders.ensures.bottom c.in_default.ensures.fault
-    c.simple_borders-borders.ensures.looks c.border_fault.ensures.looks (omega (arith, c.read_lines.ensures.looks))
+pub returns-in_err-lines-clause-looked : goal.returns-in_err-lines-clause-looked
+returns-in_err-lines-clause-looked c =
+    let B : Block = block_of c.args.view.now in
+    let borders = c.simple_borders-borders.ensures in
+    search (arith, looks-lines (drop c.args.i B) _ _ _ _ c.size-size.ensures (omega (arith, length-drop c.args.i B)) borders.head borders.bottom c.in_default.ensures.fault)
 
-pub returns-in_err-table-clause-looks : goal.returns-in_err-table-clause-looks
-returns-in_err-table-clause-looks c =
-    looks-lines (drop c.args.i (block_of c.args.view.now)) c.size-size.result (c.len-2.result - c.args.i) c.simple_borders-borders.result.head c.simple_borders-borders.result.bottom c.args.looks.now c.simple_borders-borders.new.looks
-    c.border_fault.new.looks c.read_lines.new.looks c.size-size.ensures (omega (arith, length-drop c.args.i (block_of c.args.view.now))) c.simple_borders-borders.ensures.head c.simple_borders-borders.ensures.bottom c.in_default.ensures.fault
-    c.simple_borders-borders.ensures.looks c.border_fault.ensures.looks (omega (arith, c.read_lines.ensures.looks))
+pub returns-in_err-table-clause-looked : goal.returns-in_err-table-clause-looked
+returns-in_err-table-clause-looked c =
+    let B : Block = block_of c.args.view.now in
+    let borders = c.simple_borders-borders.ensures in
+    search (arith, looks-lines (drop c.args.i B) _ _ _ _ c.size-size.ensures (omega (arith, length-drop c.args.i B)) borders.head borders.bottom c.in_default.ensures.fault)
 
 pub returns-clause-table : goal.returns-clause-table
 returns-clause-table c =
@@ -79,8 +78,8 @@ returns-clause-end c =
     ap end_of c.in_ok-table.ensures ∙ simple_by_end c.number-line.result c.args.i c.simple_borders-borders.result.head L (lines_fault L)
     ∙ ap (λ n. c.args.i + n) (ap length lines ∙ rows-size (simple_size X) X (simple_size_le X))
 
-pub returns-clause-looks : goal.returns-clause-looks
-returns-clause-looks c =
-    looks-lines (drop c.args.i (block_of c.args.view.now)) c.size-size.result (c.len-2.result - c.args.i) c.simple_borders-borders.result.head c.simple_borders-borders.result.bottom c.args.looks.now c.simple_borders-borders.new.looks
-    c.border_fault.new.looks c.read_lines.new.looks c.size-size.ensures (omega (arith, length-drop c.args.i (block_of c.args.view.now))) c.simple_borders-borders.ensures.head c.simple_borders-borders.ensures.bottom c.in_default.ensures.fault
-    c.simple_borders-borders.ensures.looks c.border_fault.ensures.looks (omega (arith, c.read_lines.ensures.looks))
+pub returns-clause-looked : goal.returns-clause-looked
+returns-clause-looked c =
+    let B : Block = block_of c.args.view.now in
+    let borders = c.simple_borders-borders.ensures in
+    search (arith, looks-lines (drop c.args.i B) _ _ _ _ c.size-size.ensures (omega (arith, length-drop c.args.i B)) borders.head borders.bottom c.in_default.ensures.fault)

@@ -1,4 +1,4 @@
-use Rattle.std.proofs.Common.{◌∙◌, ap, subst, sym, string_bytes, true}
+use Rattle.std.proofs.Common.{◌∙◌, ap, subst, sym, string_bytes, true, false}
 use Rattle.std.specs.Str.{chars}
 use Rattle.rst_text.proofs.Ids.{Identifies, Identifies-start, Identifies-before, Identifies-first, Identifies-past, Identifies-run, Identifies-char, Identifies-due, Identifies-end}
 use Rattle.rst_text.proofs.names.identifier_of.Goals as goal
@@ -23,9 +23,9 @@ loop-c-preserved-then-not-is_id_char c = rw c.if-not-begun.false (Identifies-run
 pub loop-c-preserved : goal.loop-c-preserved
 loop-c-preserved c = elim c.if-due.branch [
   | then-due+in_ok-push-2 w ↦ rw (c.in_ok-push-3.ensures.bytes, w.id-is, w.in_ok-push-2.ensures.bytes, w.due-is, c.if-not-begun.false)
-      (Identifies-due _ _ _ _ _ (subst (λ b. Identifies (chars c.args.decomposed.now) (string_bytes c.loop-c.id) c.loop-c.c-iterator.rest.now true b) w.if-due.true (subst (λ b. Identifies (chars c.args.decomposed.now) (string_bytes c.loop-c.id) c.loop-c.c-iterator.rest.now b c.loop-c.due) c.if-not-begun.false c.loop-c.invariant)) c.in-Some.ensures.steps.0 (sym c.if-not-is_ascii.ensures) (sym c.if-not-is_id_char.ensures))
+      (Identifies-due _ _ _ _ true _ (subst (λ b. Identifies (chars c.args.decomposed.now) (string_bytes c.loop-c.id) c.loop-c.c-iterator.rest.now true b) w.if-due.true (subst (λ b. Identifies (chars c.args.decomposed.now) (string_bytes c.loop-c.id) c.loop-c.c-iterator.rest.now b c.loop-c.due) c.if-not-begun.false c.loop-c.invariant)) c.in-Some.ensures.steps.0 (sym c.if-not-is_ascii.ensures) (sym c.if-not-is_id_char.ensures))
   | else-due w ↦ rw (c.in_ok-push-3.ensures.bytes, w.id-is, w.due-is, w.if-due.false, c.if-not-begun.false)
-      (Identifies-char _ _ _ _ _ (subst (λ b. Identifies (chars c.args.decomposed.now) (string_bytes c.loop-c.id) c.loop-c.c-iterator.rest.now true b) w.if-due.false (subst (λ b. Identifies (chars c.args.decomposed.now) (string_bytes c.loop-c.id) c.loop-c.c-iterator.rest.now b c.loop-c.due) c.if-not-begun.false c.loop-c.invariant)) c.in-Some.ensures.steps.0 (sym c.if-not-is_ascii.ensures) (sym c.if-not-is_id_char.ensures))
+      (Identifies-char _ _ _ _ false _ (subst (λ b. Identifies (chars c.args.decomposed.now) (string_bytes c.loop-c.id) c.loop-c.c-iterator.rest.now true b) w.if-due.false (subst (λ b. Identifies (chars c.args.decomposed.now) (string_bytes c.loop-c.id) c.loop-c.c-iterator.rest.now b c.loop-c.due) c.if-not-begun.false c.loop-c.invariant)) c.in-Some.ensures.steps.0 (sym c.if-not-is_ascii.ensures) (sym c.if-not-is_id_char.ensures))
 ]
 
 pub returns : goal.returns

@@ -11,7 +11,7 @@ loop-c-init g c =
     Spaces-start g.C.Case.cased c.args.text.now (string_bytes c.in_ok-out.out) c.into_iter-c-iterator.result.rest.now c.utf8.text (ap (λ i. i.rest.now) c.into_iter-c-iterator.ensures.into_iter_gives ∙ c.chars-c-items.ensures.rest) c.in_ok-out.ensures.bytes
 
 pub loop-c-preserved-then-is_white : goal.loop-c-preserved-then-is_white
-loop-c-preserved-then-is_white g c = Spaces-white _ _ _ _ _ _ _ _ c.loop-c.invariant c.in-Some.ensures.steps.0 (sym c.if-is_white.ensures)
+loop-c-preserved-then-is_white g c = Spaces-white g.C.Case.cased (chars c.args.text.now) _ _ _ c.loop-c.begun _ c.loop-c.due c.loop-c.invariant c.in-Some.ensures.steps.0 (sym c.if-is_white.ensures)
 
 pub loop-c-preserved : goal.loop-c-preserved
 loop-c-preserved g c = elim c.if-due.branch [

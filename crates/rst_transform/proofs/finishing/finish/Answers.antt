@@ -1,4 +1,4 @@
-use Rattle.std.proofs.Common.{◌≡◌, ◌∙◌, ◌++◌, List, [], map, ap, ap₂, rules, subst, sym}
+use Rattle.std.proofs.Common.{◌≡◌, ◌∙◌, ◌++◌, List, map, ap, ap₂, rules, subst, sym}
 use Rattle.std.proofs.Math.Path.{fun_ext}
 use Rattle.rst_settings.specs.Profile.{profile_of}
 use Rattle.rst_transform_names.proofs.RegisteredRoot.{registered_kind}
@@ -32,12 +32,12 @@ returns-clause-finishes c =
     c.last_section.new.context _ c.in_ok-sectioned.sectioned c.in_ok-after.ensures c.in_ok-sectioned.ensures known (search rules) in
     let done = subst (λ d. (c.in_ok-sectioned.sectioned ≡ (after d).0) × Holds c.last_section.new.context (after d).1) start made in
     let first : List Numbered = messages_among (document_in r.root).children in
-    let listed : Lists first c.add_all.new.self = subst (λ (d : Document). Lists (messages_among d.children) c.add_all.new.self) start (c.in_ok-early.ensures.adds [] c.in_ok-list.ensures.none) in
+    let listed : Lists first c.in_ok-list.list = subst (λ (d : Document). Lists (messages_among d.children) c.in_ok-list.list) start c.in_ok-list.ensures.messages in
     let told : List Numbered = first ++ map report_said c.last_section.new.context.reports.items in
     let all : told ≡ all_messages r (after (document_in r.root)).1.reports = ap (λ reports. first ++ map report_said reports) done.1.reports in
     let lists : Lists told c.add_reports.new.self = c.in_ok-add_reports.ensures.adds first listed in
-    let report = c.in_ok-add_reports.ensures.levels.1 ∙ c.in_ok-early.ensures.levels.1 ∙ c.in_ok-list.ensures.report in
-    let halt = c.in_ok-add_reports.ensures.levels.0 ∙ c.in_ok-early.ensures.levels.0 ∙ c.in_ok-list.ensures.halt in (
+    let report = c.in_ok-add_reports.ensures.levels.1 ∙ c.in_ok-list.ensures.report in
+    let halt = c.in_ok-add_reports.ensures.levels.0 ∙ c.in_ok-list.ensures.halt in (
       c.into_node.ensures
           ∙ ap document_node (c.in_ok-shown.ensures.document
           ∙ ap (λ shown. with_filtered settings.report shown c.in_ok-sectioned.sectioned) (fun_ext (λ n. c.shown.ensures told lists n ∙ ap (λ from. is_number_shown from told n) report)))

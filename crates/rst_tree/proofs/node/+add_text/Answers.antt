@@ -7,9 +7,7 @@ use Rattle.rst_tree.proofs.node.+add_text.Goals as goal
 
 pub add_text-requires : goal.add_text-requires
 add_text-requires t c =
-    let h : node_height c.child-item.result + 1 ≤ node_height c.args.node.now =
-    child_height c.args.node.now c.child-item.result c.in-Element.tag c.in-Element.attrs c.in-Element.children c.in-Element.line c.as_slice-child-items.result.now c.loop-child.child-index
-    c.in-Element.is c.as_slice-child-items.ensures c.child-item.is (omega arith) in
+    let h : node_height c.child-item.result + 1 ≤ node_height c.args.node.now = child_height c.args.node.now c.child-item.result _ _ _ _ c.as_slice-child-items.result.now _ c.in-Element.is c.as_slice-child-items.ensures c.child-item.is (omega arith) in
     search (rules, h)
 
 pub returns-after-loop-child : goal.returns-after-loop-child

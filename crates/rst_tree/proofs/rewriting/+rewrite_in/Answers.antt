@@ -1,7 +1,7 @@
 use Rattle.std.proofs.Common.{rules, arith, ◌≡◌, ◌+◌, ◌≤◌, ◌∙◌, ap, sym}
 use Rattle.rst_tree.specs.Forest.{height}
 use Rattle.rst_tree.specs.Nodes.{node_height}
-use Rattle.rst_tree.proofs.Rewrites.{Same-child, Turning-init, Turning-more, Turning-nodes, Turning-state, turned-plain, turn-text, turn-away, turn-stay, turn-height}
+use Rattle.rst_tree.proofs.Rewrites.{Same-child, Turning-init, Turning-more, Turning-all, turned-plain, turn-text, turn-away, turn-stay, turn-height}
 use Rattle.rst_tree.proofs.rewriting.+rewrite_in.Goals as goal
 
 pub loop-i-init : goal.loop-i-init
@@ -9,7 +9,7 @@ loop-i-init g t c = Turning-init g.R.Rewriter.entered g.R.Rewriter.becomes _ _
 
 pub loop-i-preserved-in-Text : goal.loop-i-preserved-in-Text
 loop-i-preserved-in-Text g t c =
-    Turning-more g.R.Rewriter.entered g.R.Rewriter.becomes _ _ c.loop-i.nodes c.loop-i.rewriter c.loop-i.i c.get_mut-node.result.now c.get_mut-node.result.now c.loop-i.rewriter c.loop-i.invariant
+    Turning-more g.R.Rewriter.entered g.R.Rewriter.becomes _ _ c.loop-i.nodes c.loop-i.rewriter c.loop-i.i _ _ _ c.loop-i.invariant
     (omega (arith, c.loop-i.invariant.same.same_len, c.len-i-end.ensures)) c.get_mut-node.ensures.value (turn-text g.R.Rewriter.entered g.R.Rewriter.becomes c.loop-i.rewriter c.get_mut-node.result.now c.in-Text.field-0 c.in-Text.is)
 
 pub loop-i-preserved-then-not-branch : goal.loop-i-preserved-then-not-branch
@@ -50,8 +50,8 @@ loop-i-preserved g t c =
 
 pub returns-clause-nodes : goal.returns-clause-nodes
 returns-clause-nodes g t c =
-    Turning-nodes g.R.Rewriter.entered g.R.Rewriter.becomes _ _ _ _ _ c.loop-i.invariant (omega (arith, c.loop-i.invariant.same.same_len, c.len-i-end.ensures))
+    (Turning-all g.R.Rewriter.entered g.R.Rewriter.becomes _ _ _ _ _ c.loop-i.invariant (omega (arith, c.loop-i.invariant.same.same_len, c.len-i-end.ensures))).0
 
 pub returns-clause-state : goal.returns-clause-state
 returns-clause-state g t c =
-    Turning-state g.R.Rewriter.entered g.R.Rewriter.becomes _ _ _ _ _ c.loop-i.invariant (omega (arith, c.loop-i.invariant.same.same_len, c.len-i-end.ensures))
+    (Turning-all g.R.Rewriter.entered g.R.Rewriter.becomes _ _ _ _ _ c.loop-i.invariant (omega (arith, c.loop-i.invariant.same.same_len, c.len-i-end.ensures))).1

@@ -22,18 +22,14 @@ loop-mark-preserved g t c ty a n =
     c.loop-mark-test.true c.mark-item.is (omega (arith, c.if-len-place.false, c.len.ensures)) c.get_mut-child.ensures.value c.in_ok-visit_in.ensures.node c.in_ok-visit_in.ensures.state refl ty a n
     ∙ c.loop-mark.invariant ty a n
 
-pub returns-after-loop-mark-clause-node : goal.returns-after-loop-mark-clause-node
-returns-after-loop-mark-clause-node g t c =
-    ap (λ z. z.1) (element_visited g.V.Visitor.next g.V.Visitor.out c.args.node.now _ _ _ _ _ c.loop-mark.children _ _ c.args.own c.as_slice-marks.result.now c.args.inner.now c.loop-mark.mark-index c.args.visitor.now _ c.loop-mark.visitor
-    c.in-Element.is c.as_slice-marks.ensures.paths c.loop-mark-test.false c.in_ok-visit_own.ensures.state c.in_ok-visit_own.ensures.element (c.loop-mark.invariant c.visit_own.new.tag _ c.visit_own.new.line))
+pub returns-after-loop-mark : goal.returns-after-loop-mark
+returns-after-loop-mark g t c =
+    let all = element_visited g.V.Visitor.next g.V.Visitor.out c.args.node.now _ _ _ _ _ c.loop-mark.children _ _ c.args.own c.as_slice-marks.result.now c.args.inner.now c.loop-mark.mark-index
+    c.args.visitor.now _ c.loop-mark.visitor c.in-Element.is c.as_slice-marks.ensures.paths c.loop-mark-test.false c.in_ok-visit_own.ensures.state c.in_ok-visit_own.ensures.element
+    (c.loop-mark.invariant c.visit_own.new.tag _ c.visit_own.new.line) in
+    record { node = ap (λ z. z.1) all; state = ap (λ z. z.0) all }
 
-pub returns-after-loop-mark-clause-state : goal.returns-after-loop-mark-clause-state
-returns-after-loop-mark-clause-state g t c =
-    ap (λ z. z.0) (element_visited g.V.Visitor.next g.V.Visitor.out c.args.node.now _ _ _ _ _ c.loop-mark.children _ _ c.args.own c.as_slice-marks.result.now c.args.inner.now c.loop-mark.mark-index c.args.visitor.now _ c.loop-mark.visitor
-    c.in-Element.is c.as_slice-marks.ensures.paths c.loop-mark-test.false c.in_ok-visit_own.ensures.state c.in_ok-visit_own.ensures.element (c.loop-mark.invariant c.visit_own.new.tag _ c.visit_own.new.line))
-
-pub returns-in_default-clause-node : goal.returns-in_default-clause-node
-returns-in_default-clause-node g t c = ap (λ z. z.1) (text_left g.V.Visitor.next g.V.Visitor.out (node_paths c.args.own c.args.inner.now) c.args.visitor.now c.args.node.now c.in_default.field-0 c.in_default.is)
-
-pub returns-in_default-clause-state : goal.returns-in_default-clause-state
-returns-in_default-clause-state g t c = ap (λ z. z.0) (text_left g.V.Visitor.next g.V.Visitor.out (node_paths c.args.own c.args.inner.now) c.args.visitor.now c.args.node.now c.in_default.field-0 c.in_default.is)
+pub returns-in_default : goal.returns-in_default
+returns-in_default g t c =
+    let left = text_left g.V.Visitor.next g.V.Visitor.out (node_paths c.args.own c.args.inner.now) c.args.visitor.now _ c.in_default.field-0 c.in_default.is in
+    record { node = ap (λ z. z.1) left; state = ap (λ z. z.0) left }

@@ -1,13 +1,13 @@
 use Rattle.std.proofs.Common.{◌≡◌, ◌∙◌, ◌<◌, ◌+◌, ap, arith, length, length-drop, add_assoc, add-zero}
-use Rattle.std.proofs.lemmas.List.{drop_all, drop-drop}
+use Rattle.std.proofs.lemmas.List.{drop_all, drop-drop, take_rest}
 use Rattle.rst_text.specs.Counted.{inner_of}
 use Rattle.rst_text.specs.Counted.Written.{all, empty, some, last}
-use Rattle.rst_text.proofs.WriteLemmas.{Appends-more, slice_from}
+use Rattle.rst_text.proofs.WriteLemmas.{Appends-more}
 use Rattle.rst_text.proofs.counted.Counted.write_all.Goals as goal
 
 pub returns-in-None-clause-call : goal.returns-in-None-clause-call
 returns-in-None-clause-call g c =
-    let s = slice_from c.loop-done.done c.args.bytes.now in
+    let s = take_rest c.args.bytes.now c.loop-done.done in
     rw (add-zero c.loop-done.done) at (c.loop-done.invariant.calls _ 0 (last (omega (arith, length-drop c.loop-done.done c.args.bytes.now)) (rw s at c.in-None.ensures.call)))
 
 pub returns-clause-call : goal.returns-clause-call
@@ -18,7 +18,7 @@ returns-clause-call g c =
 pub loop-done-preserved : goal.loop-done-preserved
 loop-done-preserved g c =
     let e = c.in-Some.ensures.bytes in
-    let s = slice_from c.loop-done.done c.args.bytes.now in
+    let s = take_rest c.args.bytes.now c.loop-done.done in
     record {
       within = let h = ap length s in omega (arith, e.0, length-drop c.loop-done.done c.args.bytes.now);
       gained = Appends-more _ _ _ c.loop-done.done c.in-Some.count c.args.bytes.now c.loop-done.invariant.gained (rw s at e.2);

@@ -34,48 +34,27 @@ loop-i-preserved c =
       within = omega arith;
     }
 
-pub returns-then-indent-enough-clause-extent : goal.returns-then-indent-enough-clause-extent
-returns-then-indent-enough-clause-extent c =
+pub returns-then-indent-enough : goal.returns-then-indent-enough
+returns-then-indent-enough c =
     let B : Block = block_of c.args.self.now in
     let some : 1 ≤ length c.text-text.result.now = search rules in
     let level : c.indentation-indent.result ≡ indentation (front_text (drop c.loop-i.i B)) = c.indentation-indent.ensures.value ∙ ap indentation c.text-text.ensures in
-    let over = Finds-over B c.args.from c.unwrap_or-enough.result c.loop-i.i c.loop-i.end c.loop-i.lowest c.loop-i.invariant.found (omega arith) (some_front _ _ c.text-text.utf8 c.text-text.ensures some) (omega arith) in
-    rw (← c.unwrap_or-enough.ensures) (extent_is B c.args.from c.unwrap_or-enough.result c.loop-i.end c.loop-i.lowest _ _ over.0 c.unwrap_or.ensures (finish_at B c.args.from _ _ _ _ c.loop-i.invariant.found over.2))
+    let found = c.loop-i.invariant.found in
+    let over = Finds-over B c.args.from c.unwrap_or-enough.result c.loop-i.i c.loop-i.end c.loop-i.lowest found (omega arith) (some_front _ _ c.text-text.utf8 c.text-text.ensures some) (omega arith) in
+    rw (← c.unwrap_or-enough.ensures) (record {
+      extent = extent_is B c.args.from c.unwrap_or-enough.result c.loop-i.end c.loop-i.lowest _ _ over.0 c.unwrap_or.ensures (finish_at B c.args.from _ _ _ _ found over.2);
+      looks = omega (arith, c.look.ensures, found.looks, c.loop-i.invariant.looks, over.1);
+      low = omega (arith, c.look.ensures, found.looks, c.loop-i.invariant.low, over.1);
+    })
 
-pub returns-then-indent-enough-clause-looks : goal.returns-then-indent-enough-clause-looks
-returns-then-indent-enough-clause-looks c =
+pub returns : goal.returns
+returns c =
     let B : Block = block_of c.args.self.now in
-    let some : 1 ≤ length c.text-text.result.now = search rules in
-    let level : c.indentation-indent.result ≡ indentation (front_text (drop c.loop-i.i B)) = c.indentation-indent.ensures.value ∙ ap indentation c.text-text.ensures in
-    let over = Finds-over B c.args.from c.unwrap_or-enough.result c.loop-i.i c.loop-i.end c.loop-i.lowest c.loop-i.invariant.found (omega arith) (some_front _ _ c.text-text.utf8 c.text-text.ensures some) (omega arith) in
-    rw (← c.unwrap_or-enough.ensures) (omega (arith, c.look.ensures, c.loop-i.invariant.found.looks, c.loop-i.invariant.looks, over.1))
-
-pub returns-then-indent-enough-clause-low : goal.returns-then-indent-enough-clause-low
-returns-then-indent-enough-clause-low c =
-    let B : Block = block_of c.args.self.now in
-    let some : 1 ≤ length c.text-text.result.now = search rules in
-    let level : c.indentation-indent.result ≡ indentation (front_text (drop c.loop-i.i B)) = c.indentation-indent.ensures.value ∙ ap indentation c.text-text.ensures in
-    let over = Finds-over B c.args.from c.unwrap_or-enough.result c.loop-i.i c.loop-i.end c.loop-i.lowest c.loop-i.invariant.found (omega arith) (some_front _ _ c.text-text.utf8 c.text-text.ensures some) (omega arith) in
-    rw (← c.unwrap_or-enough.ensures) (omega (arith, c.look.ensures, c.loop-i.invariant.found.looks, c.loop-i.invariant.low, over.1))
-
-pub returns-clause-extent : goal.returns-clause-extent
-returns-clause-extent c =
-    let B : Block = block_of c.args.self.now in
-    let over : length B ≤ c.loop-i.i = omega arith in
-    let within : c.loop-i.i ≤ length B = omega arith in
-    let found = Finds-end B c.args.from c.unwrap_or-enough.result c.loop-i.i c.loop-i.end c.loop-i.lowest c.loop-i.invariant.found over in
-    rw (← c.unwrap_or-enough.ensures) (extent_is B c.args.from c.unwrap_or-enough.result c.loop-i.end c.loop-i.lowest _ _ found.0 c.unwrap_or-2.ensures (finish_end B c.args.from _ _ _ _ c.loop-i.invariant.found over within))
-
-pub returns-clause-looks : goal.returns-clause-looks
-returns-clause-looks c =
-    let B : Block = block_of c.args.self.now in
-    let over : length B ≤ c.loop-i.i = omega arith in
-    let found = Finds-end B c.args.from c.unwrap_or-enough.result c.loop-i.i c.loop-i.end c.loop-i.lowest c.loop-i.invariant.found over in
-    rw (← c.unwrap_or-enough.ensures) (omega (arith, c.loop-i.invariant.found.looks, c.loop-i.invariant.looks, found.1))
-
-pub returns-clause-low : goal.returns-clause-low
-returns-clause-low c =
-    let B : Block = block_of c.args.self.now in
-    let over : length B ≤ c.loop-i.i = omega arith in
-    let found = Finds-end B c.args.from c.unwrap_or-enough.result c.loop-i.i c.loop-i.end c.loop-i.lowest c.loop-i.invariant.found over in
-    rw (← c.unwrap_or-enough.ensures) (omega (arith, c.loop-i.invariant.found.looks, c.loop-i.invariant.low, found.1))
+    let past : length B ≤ c.loop-i.i = omega arith in
+    let found = c.loop-i.invariant.found in
+    let over = Finds-end B c.args.from c.unwrap_or-enough.result c.loop-i.i c.loop-i.end c.loop-i.lowest found past in
+    rw (← c.unwrap_or-enough.ensures) (record {
+      extent = extent_is B c.args.from c.unwrap_or-enough.result c.loop-i.end c.loop-i.lowest _ _ over.0 c.unwrap_or-2.ensures (finish_end B c.args.from _ _ _ _ found past (omega arith));
+      looks = omega (arith, found.looks, c.loop-i.invariant.looks, over.1);
+      low = omega (arith, found.looks, c.loop-i.invariant.low, over.1);
+    })

@@ -6,14 +6,12 @@ use Rattle.rst_tree.proofs.node.Node.+push_at.Goals as goal
 
 pub index_mut-node-requires : goal.index_mut-node-requires
 index_mut-node-requires t c =
-    let k = child_there c.args.self.now c.in-Element.tag c.in-Element.attrs c.in-Element.children c.in-Element.line c.children.inside.list.items c.args.at.now c.in-Some.rest.now c.in-Some.first.now IsElement
-    c.in-Element.is c.children.view_is c.in-Some.ensures.cases.0 c.requires.path in
+    let k = child_there _ _ _ _ _ c.children.inside.list.items _ c.in-Some.rest.now _ IsElement c.in-Element.is c.children.view_is c.in-Some.ensures.cases.0 c.requires.path in
     omega (arith, k.0, c.children.inside.list.ok.0)
 
 pub push_at-requires : goal.push_at-requires
 push_at-requires t c =
-    let k = child_there c.args.self.now c.in-Element.tag c.in-Element.attrs c.in-Element.children c.in-Element.line c.children.inside.list.items c.args.at.now c.in-Some.rest.now c.in-Some.first.now IsElement
-    c.in-Element.is c.children.view_is c.in-Some.ensures.cases.0 c.requires.path in
+    let k = child_there _ _ _ _ _ c.children.inside.list.items _ c.in-Some.rest.now _ IsElement c.in-Element.is c.children.view_is c.in-Some.ensures.cases.0 c.requires.path in
     let there : IsSomeAnd (node_at c.in-Some.rest.now c.index_mut-node.result.now) IsElement =
     subst (λ n. IsSomeAnd (node_at c.in-Some.rest.now n) IsElement) (sym c.index_mut-node.ensures.value) (k.1 c.index_mut-node.result.now) in
     let shorter = c.in-Some.ensures.cases.1 in
@@ -24,8 +22,6 @@ unreachable-requires t c = no_text c.args.at.now c.args.self.now c.in-Text.field
 
 pub returns-in_ok-push_at-in-Some : goal.returns-in_ok-push_at-in-Some
 returns-in_ok-push_at-in-Some t c =
-    let k = child_there c.args.self.now c.in-Element.tag c.in-Element.attrs c.in-Element.children c.in-Element.line c.children.inside.list.items c.args.at.now c.in-Some.rest.now c.in-Some.first.now IsElement
-    c.in-Element.is c.children.view_is c.in-Some.ensures.cases.0 c.requires.path in
-    child_changed (with_child c.args.child) c.args.self.now c.in-Element.tag c.in-Element.attrs c.in-Element.children c.in-Element.line c.children.inside.list.items c.args.at.now c.in-Some.rest.now c.in-Some.first.now
-    c.index_mut-node.result.now c.push_at.new.self c.in-Element.is c.children.view_is c.in-Some.ensures.cases.0 k.0
+    let k = child_there _ _ _ _ _ c.children.inside.list.items _ c.in-Some.rest.now _ IsElement c.in-Element.is c.children.view_is c.in-Some.ensures.cases.0 c.requires.path in
+    child_changed (with_child c.args.child) _ _ _ _ _ _ _ _ _ c.index_mut-node.result.now c.push_at.new.self c.in-Element.is c.children.view_is c.in-Some.ensures.cases.0 k.0
     (c.in_ok-push_at-in-Some.ensures ∙ ap (changed_at (with_child c.args.child) c.in-Some.rest.now) c.index_mut-node.ensures.value)

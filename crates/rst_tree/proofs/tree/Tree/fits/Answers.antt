@@ -1,7 +1,8 @@
 use Rattle.std.proofs.Common.{ap, sym, ◌∙◌, ◌≡◌, ◌≤◌, length, true, arith}
+use Rattle.std.proofs.lemmas.Bool.{le-ltb}
 use Rattle.rst_tree.specs.Paths.{node_at}
 use Rattle.rst_tree.specs.Tree.{is_element, is_tree, most_levels}
-use Rattle.rst_tree.proofs.FitsLaw.{fits_inside, fits_none, past_levels}
+use Rattle.rst_tree.proofs.FitsLaw.{fits_inside, fits_none}
 use Rattle.rst_tree.proofs.tree.Tree.fits.Goals as goal
 
 pub returns-then-at-lt-MOST_LEVELS : goal.returns-then-at-lt-MOST_LEVELS
@@ -17,4 +18,4 @@ returns-else-at-lt-MOST_LEVELS c =
     let there : is_element (node_at c.args.at.now c.args.self.now) ≡ true =
     ap (λ n. is_element (node_at c.args.at.now n)) (sym c.self.view_is) ∙ sym c.is_element_at.ensures ∙ c.if-not-is_element_at.false in
     let deep : most_levels ≤ length c.args.at.now = omega (arith, c.if-at-lt-MOST_LEVELS.false) in
-    past_levels c.args.at.now deep ∙ fits_none c.args.at.now c.args.node.now c.args.self.now is there deep
+    le-ltb (length c.args.at.now) most_levels deep ∙ fits_none c.args.at.now c.args.node.now c.args.self.now is there deep
