@@ -1,5 +1,5 @@
 -- A term and its classifiers that are being made.
-use Rattle.std.proofs.Common.{◌≡◌, ◌==◌, ℕ, Bool, true, false, List, [], ◌∷◌, ◌++◌, length, Vec, Global, refl, sym, ap, ◌∙◌}
+use Rattle.std.proofs.Common.{◌≡◌, ◌==◌, ℕ, Bool, true, false, List, [], ◌∷◌, ◌++◌, length, Vec, Global, append_assoc, append-nil, refl, sym, ap, ◌∙◌}
 use Rattle.std.specs.Prelude.{map}
 use Rattle.std.proofs.lemmas.List.{nil_from_length}
 use Rattle.rst_tree.specs.declared.node.Node.{Node}
@@ -9,14 +9,6 @@ use Rattle.rst_block_nodes.specs.Elements.{element_of, text_nodes}
 use Rattle.rst_block_nodes.specs.Texts.{counting}
 use Rattle.rst_block_nodes.specs.Terms.{in_front, joined, groups_of, classifier_node, heads_of, heads_behind, heads_with, IsPut}
 use Rattle.rst_block_nodes.specs.declared.terms.Unfinished.{Unfinished}
-
-append_nil : {A : Type 0} (xs : List A) → xs ++ [] ≡ xs
-append_nil [] = refl
-append_nil (x ∷ xs) = ap (λ ys. x ∷ ys) (append_nil xs)
-
-append_more : {A : Type 0} (xs ys zs : List A) → (xs ++ ys) ++ zs ≡ xs ++ (ys ++ zs)
-append_more [] ys zs = refl
-append_more (x ∷ xs) ys zs = ap (λ ws. x ∷ ws) (append_more xs ys zs)
 
 -- ---- elements
 
@@ -34,23 +26,22 @@ further_head notes line (d ∷ ds) heads nodes some same = same
 behind_closed : (notes line : ℕ) (done closed nodes : List Node) (groups : List (List Node)) → closed ≡ heads_behind notes line done (nodes ∷ []) → heads_behind notes line closed groups ≡ heads_behind notes line done (nodes ∷ groups)
 behind_closed notes line [] closed nodes groups same = ap (λ ds. heads_behind notes line ds groups) same
 behind_closed notes line (d ∷ ds) closed nodes groups same =
-    ap (λ es. heads_behind notes line es groups) same ∙ ap (λ es. d ∷ es) (append_more ds (classifier_node line nodes ∷ []) (map (classifier_node line) groups))
+    ap (λ es. heads_behind notes line es groups) same ∙ ap (λ es. d ∷ es) (append_assoc ds (classifier_node line nodes ∷ []) (map (classifier_node line) groups))
 
 -- ---- groups
 
 -- nodes behind others belong to the same group
 in_front_both : (xs ys : List Node) (groups : List (List Node)) → in_front (xs ++ ys) groups ≡ in_front xs (in_front ys groups)
 in_front_both xs ys [] = refl
-in_front_both xs ys (g ∷ gs) = ap (λ zs. zs ∷ gs) (append_more xs ys g)
-
-joined_some : (groups rest : List (List Node)) → in_front [] rest ≡ rest → in_front [] (joined groups rest) ≡ joined groups rest
-joined_some [] rest some = some
-joined_some (g ∷ []) rest some = sym (in_front_both [] g rest)
-joined_some (g ∷ h ∷ hs) rest some = refl
+in_front_both xs ys (g ∷ gs) = ap (λ zs. zs ∷ gs) (append_assoc xs ys g)
 
 first_joined : (g : List Node) (gs rest : List (List Node)) → in_front [] (joined (g ∷ gs) rest) ≡ joined (g ∷ gs) rest
 first_joined g [] rest = sym (in_front_both [] g rest)
 first_joined g (h ∷ hs) rest = refl
+
+joined_some : (groups rest : List (List Node)) → in_front [] rest ≡ rest → in_front [] (joined groups rest) ≡ joined groups rest
+joined_some [] rest some = some
+joined_some (g ∷ gs) rest some = first_joined g gs rest
 
 -- there is a group
 groups_some : (texts : List (List (List ℕ))) (nodes : List Node) → in_front [] (groups_of texts nodes) ≡ groups_of texts nodes
@@ -68,7 +59,7 @@ following (g ∷ gs) rest = [] ∷ joined (g ∷ gs) rest
 
 part_joined : (g : List Node) (gs rest : List (List Node)) → in_front g (following gs rest) ≡ joined (g ∷ gs) rest
 part_joined g [] rest = refl
-part_joined g (h ∷ gs) rest = ap (λ ns. ns ∷ joined (h ∷ gs) rest) (append_nil g)
+part_joined g (h ∷ gs) rest = ap (λ ns. ns ∷ joined (h ∷ gs) rest) (append-nil g)
 
 -- the groups that are left of parts, of which the first was put or wasn't
 abbrev pub left : Bool → List (List ℕ) → List (List Node) → List (List Node)
@@ -101,7 +92,7 @@ ready_joined notes line false old ready p ps rest h =
     ap (λ ns. heads_behind notes line ready.done.items (in_front ns groups)) h.1
     ∙ ap (heads_behind notes line ready.done.items) (first_joined (text_nodes p) (map text_nodes ps) rest)
     ∙ behind_closed notes line old.done.items ready.done.items old.nodes.items groups h.0
-    ∙ ap (λ ns. heads_behind notes line old.done.items (ns ∷ groups)) (sym (append_nil old.nodes.items))
+    ∙ ap (λ ns. heads_behind notes line old.done.items (ns ∷ groups)) (sym (append-nil old.nodes.items))
 
 -- one more part is put behind the nodes
 put_part : (notes line : ℕ) (is_first : Bool) (old ready made : Unfinished) (p : List ℕ) (ps qs : List (List ℕ)) (rest : List (List Node)) → qs ≡ p ∷ ps → IsReady notes line is_first old ready → made.done.items ≡ ready.done.items → made.nodes.items ≡ ready.nodes.items ++ text_nodes p → heads_with notes line made (left false ps rest) ≡ heads_with notes line old (left is_first qs rest)
@@ -127,7 +118,7 @@ put_some notes line is_first old ready made p ps qs rest next h done some nodes 
 -- an empty part
 pub put_none : (notes line : ℕ) (is_first : Bool) (old ready : Unfinished) (p : List ℕ) (ps qs : List (List ℕ)) (rest : List (List Node)) → qs ≡ p ∷ ps → IsReady notes line is_first old ready → length p ≡ 0 → heads_with notes line ready (left false ps rest) ≡ heads_with notes line old (left is_first qs rest)
 put_none notes line is_first old ready p ps qs rest next h none =
-    put_part notes line is_first old ready ready p ps qs rest next h refl (sym (append_nil ready.nodes.items) ∙ ap (λ ns. ready.nodes.items ++ ns) (sym (text_none p none)))
+    put_part notes line is_first old ready ready p ps qs rest next h refl (sym (append-nil ready.nodes.items) ∙ ap (λ ns. ready.nodes.items ++ ns) (sym (text_none p none)))
 
 -- ---- nodes
 
@@ -144,7 +135,7 @@ started notes line heads texts nodes done none =
 
 -- no node is left
 pub ended : (notes line : ℕ) (heads : Unfinished) (texts : List (List (List ℕ))) (nodes : List Node) → nodes ≡ [] → heads_with notes line heads (groups_of texts nodes) ≡ heads_behind notes line heads.done.items (heads.nodes.items ∷ [])
-ended notes line heads texts [] none = ap (λ ns. heads_behind notes line heads.done.items (ns ∷ [])) (append_nil heads.nodes.items)
+ended notes line heads texts [] none = ap (λ ns. heads_behind notes line heads.done.items (ns ∷ [])) (append-nil heads.nodes.items)
 ended notes line heads texts (n ∷ ns) none = absurd (cc)
 
 -- a text was put by its parts

@@ -32,11 +32,8 @@ line_at lines place l within is = rw (add-one, drop-cons lines place l within) (
 -- ---- parts
 
 -- whether the first line is deeper decides which part it is of, and whether it counts
-deeper_first : (least : ℕ) (l : IndentedLine) (ls : List IndentedLine) → nat_lt least l.indent ≡ true → parts_of least (l ∷ ls) ≡ with_deeper l (parts_of least ls)
-deeper_first least l ls h = ap (λ b. if b then with_deeper l (parts_of least ls) else level_line l ∷ parts_of least ls) h
-
-level_first : (least : ℕ) (l : IndentedLine) (ls : List IndentedLine) → nat_lt least l.indent ≡ false → parts_of least (l ∷ ls) ≡ level_line l ∷ parts_of least ls
-level_first least l ls h = ap (λ b. if b then with_deeper l (parts_of least ls) else level_line l ∷ parts_of least ls) h
+first_is : (least : ℕ) (l : IndentedLine) (ls : List IndentedLine) (b : Bool) → nat_lt least l.indent ≡ b → parts_of least (l ∷ ls) ≡ (if b then with_deeper l (parts_of least ls) else level_line l ∷ parts_of least ls)
+first_is least l ls b h = ap (λ b. if b then with_deeper l (parts_of least ls) else level_line l ∷ parts_of least ls) h
 
 len_more : (least : ℕ) (l : IndentedLine) (ls : List IndentedLine) → nat_lt least l.indent ≡ true → deeper_len least (l ∷ ls) ≡ suc (deeper_len least ls)
 len_more least l ls h = ap (λ b. if b then 1 + deeper_len least ls else 0) h ∙ omega arith
@@ -53,17 +50,17 @@ run_grows least l m ms behind h = by (nat_lt least m.indent) refl
   where
     by : (b : Bool) → nat_lt least m.indent ≡ b → parts_of least (l ∷ m ∷ ms) ≡ deeper_lines (l ∷ take (deeper_len least (m ∷ ms)) (m ∷ ms)) ∷ parts_of least (drop (deeper_len least (m ∷ ms)) (m ∷ ms))
     by true k =
-        deeper_first least l (m ∷ ms) h
+        first_is least l (m ∷ ms) true h
         ∙ ap (with_deeper l) (behind k)
         ∙ ap (λ n. deeper_lines (l ∷ take n (m ∷ ms)) ∷ parts_of least (drop n (m ∷ ms))) (sym (len_more least m ms k))
     by false k =
-        deeper_first least l (m ∷ ms) h
-        ∙ ap (with_deeper l) (level_first least m ms k)
-        ∙ ap (λ ps. deeper_lines (l ∷ []) ∷ ps) (sym (level_first least m ms k))
+        first_is least l (m ∷ ms) true h
+        ∙ ap (with_deeper l) (first_is least m ms false k)
+        ∙ ap (λ ps. deeper_lines (l ∷ []) ∷ ps) (sym (first_is least m ms false k))
         ∙ ap (λ n. deeper_lines (l ∷ take n (m ∷ ms)) ∷ parts_of least (drop n (m ∷ ms))) (sym (len_none least m ms k))
 
 run_is_part : (least : ℕ) (l : IndentedLine) (ls : List IndentedLine) → IsRun least l ls
-run_is_part least l [] h = deeper_first least l [] h
+run_is_part least l [] h = first_is least l [] true h
 run_is_part least l (m ∷ ms) h = run_grows least l m ms (run_is_part least m ms) h
 
 -- the first of these lines isn't deeper: it is a part alone
@@ -72,7 +69,7 @@ next_level least lines l ls next none = ap (parts_of least) next ∙ by (nat_lt 
   where
     by : (b : Bool) → nat_lt least l.indent ≡ b → parts_of least (l ∷ ls) ≡ level_line l ∷ parts_of least ls
     by true h = absurd (let some : deeper_len least lines ≡ suc (deeper_len least ls) = ap (deeper_len least) next ∙ len_more least l ls h in omega arith)
-    by false h = level_first least l ls h
+    by false h = first_is least l ls false h
 
 -- so many of these lines are deeper: they are one part
 pub next_deeper : (least : ℕ) (lines : List IndentedLine) (n : ℕ) → n ≡ deeper_len least lines → 0 < n → parts_of least lines ≡ deeper_lines (take n lines) ∷ parts_of least (drop n lines)

@@ -20,13 +20,6 @@ pub gives_kept : {A : Type 0} (P Q : A → Type 0) (result : Result A BlockFault
 gives_kept P Q (Ok value) h f = f value h
 gives_kept P Q (Err fault) h f = tt
 
--- where it is the last call, what is read stays as it is if it does so for each such value
-pub gives_keeps : {A R : Type 0} (P : A → Type 0) (result : Result A BlockFault) (follows : A → Result (R × ℕ) ℕ) (read : Result (R × ℕ) ℕ)
-    → Gives P result → ((value : A) → P value → follows value ≡ read) → Keeps result follows read
-gives_keeps P (Ok value) follows read h f = f value h
-gives_keeps P (Err (TooDeep line)) follows read h f = absurd h
-gives_keeps P (Err NoMemory) follows read h f = tt
-
 -- ---- a call that leaves what is read as it is, or can't go on
 
 -- the same, where what is read is written in another form

@@ -46,17 +46,11 @@ fits_inner t k h = ltb-true (k + 2) (length t) (and_parts (nat_lt (k + 2) (lengt
 abbrev pub DarkTest : Text → ℕ → Bool
 DarkTest t e = not (is_white (get_or t (e - 1) 0))
 
-dark_end-by : (t : Text) (k : ℕ) (r : Option ℕ) → IsLast (DarkTest t) 1 (k + 1) r → unwrap_or r 0 ≡ dark_end t k
+pub dark_end-by : (t : Text) (k : ℕ) (r : Option ℕ) → IsLast (DarkTest t) 1 (k + 1) r → unwrap_or r 0 ≡ dark_end t k
 unfolding dark_end
 dark_end-by t k r h =
     let e : k + 1 - 1 ≡ k = omega arith in
     ap (λ r. unwrap_or r 0) (last_from-is (DarkTest t) 1 (k + 1) r h ∙ ap (last_from (DarkTest t) 1) e)
-
-pub dark_end-found : (t : Text) (k e : ℕ) → IsLast (DarkTest t) 1 (k + 1) (Some e) → e ≡ dark_end t k
-dark_end-found t k e h = dark_end-by t k (Some e) h
-
-pub dark_end-none : (t : Text) (k : ℕ) → NoneFrom (DarkTest t) 1 (k + 1) → 0 ≡ dark_end t k
-dark_end-none t k h = dark_end-by t k None h
 
 pub alias-some : (u : Text) → is_alias u ≡ true → 1 ≤ length u
 unfolding is_alias

@@ -5,7 +5,7 @@ use Rattle.std.specs.declared.string.String.{String}
 use Rattle.std.specs.Str.{chars, IsUtf8}
 use Rattle.std.proofs.Math.Nat.{min-le_right}
 use Rattle.std.proofs.lemmas.Bool.{eqb-true}
-use Rattle.std.proofs.lemmas.List.{append-nil, drop_all, drop-take, take_min, drop_min, length-take}
+use Rattle.std.proofs.lemmas.List.{append-nil, drop_all, drop-take, take_min, drop_min, length-take, nil_from_length}
 use Rattle.std.proofs.lemmas.Str.{chars_from_encodes, encodes-chars, IsUtf8-string_bytes}
 use Rattle.rst_tree.specs.Forest.{bare, words}
 use Rattle.rst_tree.specs.declared.node.Node.TheVariants.{Text as Words}
@@ -39,38 +39,25 @@ pub chars_of_star : chars (42 ∷ []) ≡ 42 ∷ []
 unfolding chars
 chars_of_star = refl
 
--- the bytes of a text are those that its characters spell
-pub spelled_again : (bs : List ℕ) → IsUtf8 bs → bs ≡ spelled (chars bs)
-spelled_again bs utf8 = sym (encodes-chars bs utf8)
-
--- ---- an empty text
-
-none-empty : (bs : List ℕ) → bs ≡ [] → (length bs == 0) ≡ true
-none-empty bs e = ap (λ (x : List ℕ). length x == 0) e
-
-nil-of : (bs : List ℕ) → (length bs == 0) ≡ true → bs ≡ []
-nil-of [] h = refl
-nil-of (b ∷ bs) h = absurd (omega (arith, eqb-true (length (b ∷ bs)) 0 h))
-
 -- ---- what stands in an element that holds a text
 
 some-words : (cs : Text) (bs : List ℕ) → bs ≡ spelled cs → (length bs == 0) ≡ false → words bs bare ≡ text_children cs
-some-words [] bs e h = let none = none-empty bs e in absurd (cc)
+some-words [] bs e h = let none = ap (λ (x : List ℕ). length x == 0) e in absurd (cc)
 some-words (c ∷ cs) bs e h = ap (λ s. words s bare) e
 
 pub some-children : (bs : List ℕ) → IsUtf8 bs → (length bs == 0) ≡ false → words bs bare ≡ text_children (chars bs)
-some-children bs utf8 h = some-words (chars bs) bs (spelled_again bs utf8) h
+some-children bs utf8 h = some-words (chars bs) bs (sym (encodes-chars bs utf8)) h
 
 pub no-children : (bs : List ℕ) → (length bs == 0) ≡ true → bare ≡ text_children (chars bs)
 unfolding chars
-no-children bs h = sym (ap (λ (x : List ℕ). text_children (chars x)) (nil-of bs h))
+no-children bs h = sym (ap (λ (x : List ℕ). text_children (chars x)) (nil_from_length bs (eqb-true (length bs) 0 h)))
 
 -- ---- what a plain text means
 
 pub some_plain : (cs : Text) (bs : List ℕ) → bs ≡ spelled cs → (length bs == 0) ≡ false → One (Words bs) ≡ plain_reading cs
-some_plain [] bs e h = let none = none-empty bs e in absurd (cc)
+some_plain [] bs e h = let none = ap (λ (x : List ℕ). length x == 0) e in absurd (cc)
 some_plain (c ∷ cs) bs e h = ap (λ s. One (Words s)) e
 
 pub no_plain : (cs : Text) (bs : List ℕ) → chars bs ≡ cs → (length bs == 0) ≡ true → Nothing ≡ plain_reading cs
 unfolding chars
-no_plain cs bs e h = sym (ap plain_reading (sym e ∙ ap chars (nil-of bs h)))
+no_plain cs bs e h = sym (ap plain_reading (sym e ∙ ap chars (nil_from_length bs (eqb-true (length bs) 0 h))))

@@ -1,5 +1,5 @@
 -- The parts of a directive are blocks of what its block is a part of.
-use Rattle.std.proofs.Common.{◌≡◌, ℕ, ◌+◌, ◌-◌, ◌≤◌, ◌==◌, Bool, true, false, not, cond, ◌&&◌, List, [], ◌∷◌, length, take, drop, length-drop, Option, None, Some, option_map, Result, Ok, Err, arith, sym, ap, ◌∙◌, subst}
+use Rattle.std.proofs.Common.{◌≡◌, ℕ, ◌+◌, ◌-◌, ◌≤◌, ◌==◌, Bool, not, List, [], ◌∷◌, length, take, drop, length-drop, Option, None, Some, option_map, Result, Ok, Err, arith, sym, ap, ◌∙◌, subst}
 use Rattle.std.specs.List.{prefix_len}
 use Rattle.std.proofs.lemmas.List.{drop-drop, length-map, length-take}
 use Rattle.std.proofs.lemmas.List.Folds.{length-prefix_len}
@@ -11,17 +11,17 @@ use Rattle.rst_markup_blocks.specs.Parts.{IsBlock}
 use Rattle.rst_markup_blocks.specs.declared.part.Part.{Part}
 use Rattle.rst_markup_blocks.proofs.RowLaws.{while_le}
 use Rattle.rst_markup_blocks.specs.declared.lines.LineTest.TheVariants.{Blank}
-use Rattle.rst_markup_directives.specs.Argument.{Given, title, language, word_of, argument_by, argument_of}
+use Rattle.rst_markup_directives.specs.Argument.{Given, title, word_of, argument_by, argument_of}
 use Rattle.rst_markup_directives.specs.Call.{part_of, content_of, is_empty, IsContentIn, IsDirectiveIn}
 use Rattle.rst_markup_directives.specs.Characters.{Text}
-use Rattle.rst_markup_directives.specs.Directive.{Read, Outcome, found, wrong, run_in, is_code_name, options_of, read_parts, read_by, read_block, outcome_at, of_block, judged, outcome_of}
+use Rattle.rst_markup_directives.specs.Directive.{Read, Outcome, found, wrong, run_in, options_of, read_parts, read_by, read_block, outcome_at, of_block, judged, outcome_of}
 use Rattle.rst_markup_directives.specs.Judgement.{content_fault}
-use Rattle.rst_markup_directives.specs.Layout.{begins_field, before_field, content_alone, parts_with_argument, parts_without_argument, layout_by, layout_at, layout_of}
+use Rattle.rst_markup_directives.specs.Layout.{begins_field, before_field, parts_with_argument, parts_without_argument, layout_by, layout_at, layout_of}
 use Rattle.rst_markup_directives.specs.Lines.{first_run, blank_len, behind_blank, joined}
 use Rattle.rst_markup_directives.specs.Name.{takes, holds}
 use Rattle.rst_markup_directives.specs.Options.{Choice}
-use Rattle.rst_markup_directives.specs.Wrong.{Wrong as WrongInside, and_then, unless, many_arguments, fault_in}
-use Rattle.rst_markup_directives.specs.declared.argument.Argument.TheVariants.{Absent, Title, Uri, Language}
+use Rattle.rst_markup_directives.specs.Wrong.{Wrong as WrongInside, and_then, unless, fault_in}
+use Rattle.rst_markup_directives.specs.declared.argument.Argument.TheVariants.{Absent}
 use Rattle.rst_markup_directives.specs.declared.fault.DirectiveFault.{DirectiveFault}
 use Rattle.rst_markup_directives.specs.declared.found.Content.{Content}
 use Rattle.rst_markup_directives.specs.declared.found.Directive.{Directive}
@@ -29,7 +29,7 @@ use Rattle.rst_markup_directives.specs.declared.found.Directive.TheVariants.{Fou
 use Rattle.rst_markup_directives.specs.declared.found.Place.{Place}
 use Rattle.rst_markup_directives.specs.declared.layout.Layout.{Layout}
 use Rattle.rst_markup_directives.specs.declared.name.Holds.{Holds}
-use Rattle.rst_markup_directives.specs.declared.name.Holds.TheVariants.{Required, Nothing as HoldsNothing, Figure, Paragraph}
+use Rattle.rst_markup_directives.specs.declared.name.Holds.TheVariants.{Paragraph}
 use Rattle.rst_markup_directives.specs.declared.name.Name.{Name}
 use Rattle.rst_markup_directives.specs.declared.name.Takes.{Takes}
 use Rattle.rst_markup_directives.specs.declared.name.Takes.TheVariants.{Nothing as TakesNothing, Title as TakesTitle, Uri as TakesUri, Language as TakesLanguage}
@@ -76,39 +76,21 @@ blank_len-le B = while_le Blank B
 
 run_in-le : (name : Name) (late : Bool) (H : Block) → length (run_in name late H) ≤ length H
 unfolding run_in
-run_in-le name late H = by (late && is_code_name name)
-  where
-    by : (b : Bool) → length (cond b [] (first_run H)) ≤ length H
-    by true = omega arith
-    by false = first_run-le H
+run_in-le name late H = grind (arith, first_run-le H)
 
 with_within : (run : List Text) (all rest : ℕ) → length run ≤ all → rest ≤ all → IsWithin (parts_with_argument run rest) all
 with_within run all rest h k = record { argument = omega (arith, before_field-le run); first = omega arith; second = omega arith }
 
 without_within : (run : List Text) (all rest : ℕ) → length run ≤ all → rest ≤ all → IsWithin (parts_without_argument run all rest) all
-without_within run all rest h k = by (before_field run == length run)
-  where
-    by : (b : Bool) → let parted : Layout = record { argument = 0; first = before_field run; options = before_field run; second = rest } in IsWithin (cond b (content_alone run all) parted) all
-    by true = record { argument = omega arith; first = omega arith; second = omega arith }
-    by false = record { argument = omega arith; first = omega (arith, before_field-le run); second = omega arith }
-
-takes_within : (t : Takes) (run : List Text) (all rest : ℕ) → length run ≤ all → rest ≤ all → IsWithin (layout_by Required t run all rest) all
-takes_within TakesNothing run all rest h k = without_within run all rest h k
-takes_within TakesTitle run all rest h k = with_within run all rest h k
-takes_within TakesUri run all rest h k = with_within run all rest h k
-takes_within TakesLanguage run all rest h k = with_within run all rest h k
+without_within run all rest h k =
+    cond_both (before_field run == length run) _ _ (λ layout. IsWithin layout all)
+    (λ _. record { argument = omega arith; first = omega arith; second = omega arith })
+    (λ _. record { argument = omega arith; first = omega (arith, before_field-le run); second = omega arith })
 
 holds_within : (content : Holds) (t : Takes) (run : List Text) (all rest : ℕ) → length run ≤ all → rest ≤ all → IsWithin (layout_by content t run all rest) all
 holds_within Paragraph t run all rest h k = record { argument = omega arith; first = omega arith; second = omega arith }
-holds_within Required t run all rest h k = takes_within t run all rest h k
-holds_within HoldsNothing TakesNothing run all rest h k = without_within run all rest h k
-holds_within HoldsNothing TakesTitle run all rest h k = with_within run all rest h k
-holds_within HoldsNothing TakesUri run all rest h k = with_within run all rest h k
-holds_within HoldsNothing TakesLanguage run all rest h k = with_within run all rest h k
-holds_within Figure TakesNothing run all rest h k = without_within run all rest h k
-holds_within Figure TakesTitle run all rest h k = with_within run all rest h k
-holds_within Figure TakesUri run all rest h k = with_within run all rest h k
-holds_within Figure TakesLanguage run all rest h k = with_within run all rest h k
+holds_within _ TakesNothing run all rest h k = without_within run all rest h k
+holds_within _ _ run all rest h k = with_within run all rest h k
 
 layout_within : (name : Name) (run : List Text) (all rest : ℕ) → length run ≤ all → rest ≤ all → IsWithin (layout_at name run all rest) all
 unfolding layout_at
@@ -134,26 +116,18 @@ IsOutcomeIn B (wrong fault source) = Unit {0}
 
 word_in : (B : Block) (words : Text) → MayBeGivenIn B (word_of words)
 unfolding word_of
-word_in B words = by (is_among words 32)
-  where
-    by : (b : Bool) → MayBeGivenIn B (cond b (Err many_arguments) (Ok (language words)))
-    by true = tt
-    by false = tt
+word_in B words = cond_both (is_among words 32) _ _ (MayBeGivenIn B) (λ _. tt) (λ _. tt)
 
 argument_in : (B : Block) (t : Takes) (ts : List Text) (part : Part) → IsBlock B part → MayBeGivenIn B (argument_by t ts part)
-argument_in B TakesNothing ts part b = tt
-argument_in B TakesTitle [] part b = tt
 argument_in B TakesTitle (t ∷ ts) part b = b
 argument_in B TakesUri [] part b = tt
-argument_in B TakesUri (t ∷ ts) part b = tt
-argument_in B TakesLanguage [] part b = tt
 argument_in B TakesLanguage (t ∷ ts) part b = word_in B (normalized_white (joined (t ∷ ts)))
+argument_in B _ _ part b = tt
 
 parts_in_block : (B : Block) (name : Name) (content : Content) (given : Result Given WrongInside) (choices : Result (List Choice) WrongInside)
     → IsContentIn B content → MayBeGivenIn B given → MayBeReadIn B (read_parts name content given choices)
-parts_in_block B name content given (Err w) h k = tt
-parts_in_block B name content (Err w) (Ok choices) h k = tt
 parts_in_block B name content (Ok value) (Ok choices) h k = (k, h)
+parts_in_block B name content _ _ h k = tt
 
 read_in_block : (B : Block) (name : Name) (late : Bool) (block : Part) (H : Block) → IsBlock B block → length H ≡ block.to - block.from → MayBeReadIn B (read_block name late block H)
 unfolding read_block read_by
@@ -180,9 +154,7 @@ judged_in B place paragraph source (Ok read) h = by (content_fault read.name (is
 kept_in : (B : Block) (directive : Directive) → IsOutcomeIn B (outcome_of directive) → IsDirectiveIn B directive
 kept_in B (Wrong fault source) h = tt
 kept_in B (Found name Absent options content) h = h
-kept_in B (Found name (Title part) options content) h = h
-kept_in B (Found name (Uri text) options content) h = h
-kept_in B (Found name (Language text) options content) h = h
+kept_in B _ h = h
 
 -- the parts of a directive whose block was read
 pub directive_in : (B : Block) (name : Name) (late : Bool) (block : Part) (place : Place) (paragraph : Bool) (source : Part) (read : Result Read WrongInside) (directive : Directive) → IsBlock B block

@@ -18,13 +18,10 @@ pub length_blank : (t : List ℕ) → eqb (length t) 0 ≡ is_blank t
 length_blank [] = refl
 length_blank (c ∷ cs) = ne_eqb _ _ (omega arith)
 
-pub map-one : {X Y : Type 0} (f : X → Y) (xs : List X) (x : X) → map f (xs ++ x ∷ []) ≡ map f xs ++ f x ∷ []
-map-one f xs x = map-append f xs (x ∷ [])
-
 -- one line more of the run
 pub run-more : {X : Type 0} (f : X → List ℕ) (B : Block) (i : ℕ) (xs : List X) (x : X) → i < length B → f x ≡ front_text (drop i B) → is_blank (f x) ≡ false
     → map f xs ++ first_run (drop i B) ≡ first_run B → map f (xs ++ x ∷ []) ++ first_run (drop (i + 1) B) ≡ first_run B
 run-more f B i xs x below e h run =
-    ap (λ ts. ts ++ first_run (drop (i + 1) B)) (map-one f xs x) ∙ append_assoc (map f xs) (f x ∷ []) (first_run (drop (i + 1) B))
+    ap (λ ts. ts ++ first_run (drop (i + 1) B)) (map-append f xs (x ∷ [])) ∙ append_assoc (map f xs) (f x ∷ []) (first_run (drop (i + 1) B))
     ∙ ap (λ t. map f xs ++ (t ∷ first_run (drop (i + 1) B))) e
     ∙ sym (ap (λ ts. map f xs ++ ts) (first_run-more B i below (ap is_blank (sym e) ∙ h))) ∙ run

@@ -1,7 +1,6 @@
 -- The bounds of a grid's columns and rows.
-use Rattle.std.proofs.Common.{⊎_elim, ◌≡◌, ℕ, zero, suc, ◌+◌, ◌<◌, ◌≤◌, Bool, true, false, ◌&&◌, ◌||◌, eqb, List, [], ◌∷◌, ◌++◌, length, take, drop, get_or, refl, sym, subst, ap, ◌∙◌, arith}
+use Rattle.std.proofs.Common.{◌≡◌, ℕ, zero, suc, ◌+◌, ◌<◌, Bool, false, ◌&&◌, ◌||◌, eqb, List, [], ◌∷◌, ◌++◌, length, take, drop, get_or, refl, subst, ap, ◌∙◌, arith}
 use Rattle.std.proofs.lemmas.List.{drop_more}
-use Rattle.std.proofs.lemmas.Bool.{cases_lt, le-leb, lt-leb, and_from, and_left, and_right}
 use Rattle.std.specs.List.{list_any}
 use Rattle.rst_markup_tables.specs.Places.{Grid, place}
 use Rattle.rst_markup_tables.specs.Marks.{Marks}
@@ -17,33 +16,12 @@ drawn_at G i j (r ∷ rs) a (suc k) below d = drawn_at G r.top (r.left + 1) rs a
 
 -- ---- marks
 
-or_regroup : (a b c : Bool) → ((a || b) || c) ≡ (a || (b || c))
-or_regroup true b c = refl
-or_regroup false b c = refl
-
-or_false : (a : Bool) → (a || false) ≡ a
-or_false true = refl
-or_false false = refl
-
 any-step : {X : Type 0} (f : X → Bool) (xs : List X) (i : ℕ) (d : X) (old new whole : Bool) → i < length xs → new ≡ (old || f (get_or xs i d))
     → (old || list_any f (drop i xs)) ≡ whole → (new || list_any f (drop (i + 1) xs)) ≡ whole
-any-step f xs i d old new whole below is had =
-    ap (λ b. b || list_any f (drop (i + 1) xs)) is ∙ or_regroup old (f (get_or xs i d)) (list_any f (drop (i + 1) xs))
-    ∙ ap (λ ys. old || list_any f ys) (sym (drop_more xs i d below)) ∙ had
+any-step f xs i d old new whole below is had = let read = rw (drop_more xs i d below) at had in grind (arith, is, read)
 
 Marks-one : (p : ℕ → Bool) (low high : ℕ) (old new : List Bool) → Marks p low high old new → (k : ℕ) → get_or new k false ≡ (get_or old k false || (is_between low high k && p k))
-Marks-one p low high old new m k = ⊎_elim
-    (λ before. out (and_left _ _ (lt-leb low k before)) (λ a b. omega arith))
-    (λ behind. ⊎_elim
-    (λ past. out (and_right _ _ (lt-leb k high past)) (λ a b. omega arith))
-    (λ within.
-    let inside : is_between low high k ≡ true = and_from _ _ (le-leb low k behind) (le-leb k high within) in
-    m.inside k behind within ∙ sym (ap (λ b. get_or old k false || (b && p k)) inside))
-    (cases_lt high k))
-    (cases_lt k low)
-  where
-    out : is_between low high k ≡ false → (low ≤ k → k ≤ high → ⊥) → get_or new k false ≡ (get_or old k false || (is_between low high k && p k))
-    out miss far = m.outside k far ∙ sym (ap (λ b. get_or old k false || (b && p k)) miss ∙ or_false (get_or old k false))
+Marks-one p low high old new m k = grind (arith, m.inside k, m.outside k)
 
 -- one rectangle more is marked
 pub marks_step : (f : ℕ → Rectangle → Bool) (p : ℕ → Bool) (low high : ℕ) (rs : List Rectangle) (i : ℕ) (d : Rectangle) (n len : ℕ) (old was new : List Bool) → i < length rs → was ≡ old → Marks p low high was new → len ≡ length old → length old ≡ n

@@ -1,11 +1,10 @@
 -- The lines of a cell.
-use Rattle.std.proofs.Common.{◌≡◌, ℕ, zero, suc, ◌+◌, ◌-◌, ◌<◌, ◌≤◌, true, false, cond, ◌&&◌, eqb, List, [], ◌∷◌, ◌++◌, length, drop, take, get_or, refl, sym, ap, ◌∙◌, subst, arith, ltb, leb, map, unwrap_or, Option, Some, None, length-append}
+use Rattle.std.proofs.Common.{◌≡◌, ℕ, zero, suc, ◌+◌, ◌-◌, ◌<◌, ◌≤◌, true, false, cond, ◌&&◌, eqb, List, [], ◌∷◌, ◌++◌, length, drop, take, get_or, refl, sym, ap, ◌∙◌, subst, arith, map, Option, Some, None, length-append}
 use Rattle.std.specs.Char.{is_whitespace}
 use Rattle.std.specs.List.{list_any}
 use Rattle.std.specs.Str.{drop_trailing_whitespace, all_scalars, IsAscii}
 use Rattle.std.proofs.lemmas.List.{append-nil, take_more}
-use Rattle.std.proofs.lemmas.Bool.{ne_eqb, and_right, and_parts, and_from, cond_both, leb-true}
-use Rattle.std.proofs.Math.Utf8.{scalar}
+use Rattle.std.proofs.lemmas.Bool.{ne_eqb, and_right, cond_both}
 use Rattle.rst_markup_tables.specs.Places.{places_of, is_double}
 use Rattle.rst_markup_tables.specs.Cells.{characters, cut_places, is_white_place}
 use Rattle.rst_markup_tables.specs.declared.places.Place.{Place}
@@ -16,6 +15,7 @@ use Rattle.rst_text.proofs.Cuts.{scalars-drop, scalars-take}
 use Rattle.rst_text.proofs.Least.{least_from, lower}
 use Rattle.rst_text.specs.Lines.{is_line_end}
 use Rattle.rst_text.proofs.LineTexts.{none-parts}
+use Rattle.std.proofs.lemmas.Bool.Decides.{nat_tests}
 
 pub least_from-blank : (m : Option ℕ) (l : Line) (ls : Block) → is_blank l.text ≡ true → least_from m (l ∷ ls) ≡ least_from m ls
 unfolding least_from
@@ -48,11 +48,7 @@ dropped-dark (x ∷ xs) c e = stays x c xs (drop_trailing_whitespace (xs ++ c �
 
 pub scalars-trimmed : (cs : List ℕ) → all_scalars cs ≡ true → all_scalars (drop_trailing_whitespace cs) ≡ true
 scalars-trimmed [] h = refl
-scalars-trimmed (c ∷ cs) h =
-    let parts = and_parts (scalar c) (all_scalars cs) h in
-    cond_both (is_whitespace c && eqb (length (drop_trailing_whitespace cs)) 0) [] (c ∷ drop_trailing_whitespace cs) (λ l. all_scalars l ≡ true)
-    (λ e. refl)
-    (λ e. and_from (scalar c) (all_scalars (drop_trailing_whitespace cs)) parts.0 (scalars-trimmed cs parts.1))
+scalars-trimmed (c ∷ cs) h = grind (arith, scalars-trimmed cs)
 
 pub characters-places : (cs : List ℕ) → characters (places_of cs) ≡ cs
 characters-places [] = refl
@@ -61,11 +57,7 @@ characters-places (c ∷ cs) = ap (λ l. c ∷ l) (cond_both (is_double c) (Seco
 -- a character of ASCII takes one place
 is_double-ascii : (c : ℕ) → c < 128 → is_double c ≡ false
 unfolding is_double char_width
-is_double-ascii c low =
-    let one : (w : Option ℕ) → Type 0 = λ w. eqb (unwrap_or w 0) 2 ≡ false in
-    cond_both (ltb c 127) _ _ one
-    (λ e. cond_both (leb 32 c) _ _ one (λ f. refl) (λ f. refl))
-    (λ e. cond_both (leb 160 c) _ _ one (λ f. absurd (omega (arith, low, leb-true 160 c f))) (λ f. refl))
+is_double-ascii c low = grind (arith, nat_tests)
 
 pub places-ascii : (cs : List ℕ) → IsAscii cs → places_of cs ≡ map Character cs
 places-ascii [] low = refl

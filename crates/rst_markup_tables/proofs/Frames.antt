@@ -1,5 +1,5 @@
 -- The search for the rectangle that is drawn from a place.
-use Rattle.std.proofs.Common.{⊎_elim, ◌≡◌, ℕ, ◌+◌, ◌<◌, ◌≤◌, length, Bool, true, false, refl, sym, subst, ◌∙◌, arith}
+use Rattle.std.proofs.Common.{⊎_elim, ◌≡◌, ℕ, ◌+◌, ◌<◌, ◌≤◌, length, Bool, true, false, refl, sym, ◌∙◌, arith}
 use Rattle.std.proofs.lemmas.Bool.{and_parts, and_from, false≢true, cases_lt}
 use Rattle.rst_markup_tables.specs.Places.{Grid, place}
 use Rattle.rst_markup_tables.specs.Drawn.{is_across, is_upright}
@@ -28,10 +28,7 @@ upright_from G i l r a b = and_from _ _ a b
 
 -- one more place of a side
 pub one_more : (P : ℕ → Bool) (low n : ℕ) → ((k : ℕ) → low ≤ k → k < n → P k ≡ true) → P n ≡ true → (k : ℕ) → low ≤ k → k < n + 1 → P k ≡ true
-one_more P low n all here k above below = ⊎_elim
-    (λ less. all k above less)
-    (λ more. let e : n ≡ k = omega arith in subst (λ k. P k ≡ true) e here)
-    (cases_lt k n)
+one_more P low n all here k above below = grind (arith, all k above)
 
 pub closed_within : (G : Grid) (t l r b : ℕ) → IsClosed G t l r b → b < length G
 closed_within G t l r b c = (place_within G b l 43 c.side.0 (omega arith)).0

@@ -1,9 +1,8 @@
 -- The lines of a grid table.
-use Rattle.std.proofs.Common.{◌≡◌, ℕ, suc, ◌+◌, ◌-◌, ◌<◌, ◌≤◌, Bool, true, false, cond, ◌&&◌, ◌||◌, List, [], ◌∷◌, ◌++◌, length, take, drop, length-take, length-drop, get_or, map, refl, sym, ap, ap₂, ◌∙◌, arith, append-nil, eqb, leb, Option, Some, None}
+use Rattle.std.proofs.Common.{◌≡◌, ℕ, suc, ◌+◌, ◌-◌, ◌<◌, ◌≤◌, Bool, true, false, cond, ◌&&◌, List, [], ◌∷◌, ◌++◌, length, take, drop, length-take, length-drop, get_or, map, refl, sym, ap, ap₂, ◌∙◌, arith, append-nil, leb, Option, Some, None}
 use Rattle.std.proofs.lemmas.List.{drop_more, drop-drop, drop-map, length-map, take-map, take-take}
-use Rattle.std.proofs.lemmas.Bool.{cond_both, and_from, and_parts, leb-true, leb-false}
+use Rattle.std.proofs.lemmas.Bool.{leb-true, leb-false}
 use Rattle.std.proofs.Math.Nat.{le-min}
-use Rattle.std.proofs.Math.Utf8.{scalar}
 use Rattle.std.specs.List.{list_any}
 use Rattle.std.specs.Str.{all_scalars}
 use Rattle.rst_text.specs.Block.{Line, Block, front_text, first_number}
@@ -90,24 +89,12 @@ table_rows-are X L o rows bottom =
 
 scalars-dashed : (ps : List Place) → all_scalars (characters ps) ≡ true → all_scalars (characters (map dash ps)) ≡ true
 scalars-dashed [] h = refl
-scalars-dashed (Character c ∷ ps) h =
-    let parts = and_parts (scalar c) (all_scalars (characters ps)) h in
-    cond_both (eqb c 61) (Character 45) (Character c) (λ p. all_scalars (characters (p ∷ map dash ps)) ≡ true)
-    (λ e. scalars-dashed ps parts.1)
-    (λ e. and_from (scalar c) (all_scalars (characters (map dash ps))) parts.0 (scalars-dashed ps parts.1))
+scalars-dashed (Character c ∷ ps) h = grind (arith, scalars-dashed ps)
 scalars-dashed (Second ∷ ps) h = scalars-dashed ps h
 
 unended-dashed : (ps : List Place) → list_any is_line_end (characters ps) ≡ false → list_any is_line_end (characters (map dash ps)) ≡ false
 unended-dashed [] h = refl
-unended-dashed (Character c ∷ ps) h =
-    let parts = or_parts (is_line_end c) (list_any is_line_end (characters ps)) h in
-    cond_both (eqb c 61) (Character 45) (Character c) (λ p. list_any is_line_end (characters (p ∷ map dash ps)) ≡ false)
-    (λ e. unended-dashed ps parts.1)
-    (λ e. rw parts.0 (unended-dashed ps parts.1))
-  where
-    or_parts : (a b : Bool) → (a || b) ≡ false → (a ≡ false) × (b ≡ false)
-    or_parts true b h = cc
-    or_parts false b h = (refl, h)
+unended-dashed (Character c ∷ ps) h = grind (arith, unended-dashed ps)
 unended-dashed (Second ∷ ps) h = unended-dashed ps h
 
 pub dashed-of_line : (ps new : List Place) → new ≡ map dash ps → AreOfLine ps → AreOfLine new

@@ -1,5 +1,5 @@
 -- Spans in order.
-use Rattle.std.proofs.Common.{◌≡◌, ℕ, zero, suc, ◌+◌, ◌-◌, ◌≤◌, Bool, true, false, cond, eqb, List, [], ◌∷◌, length, drop, take, map, filter, unwrap_or, Option, Some, None, refl, ap, ◌∙◌, subst, arith, IfSome, ◌<◌}
+use Rattle.std.proofs.Common.{◌≡◌, ℕ, zero, suc, ◌+◌, ◌-◌, ◌≤◌, true, cond, eqb, List, [], ◌∷◌, length, drop, take, map, filter, unwrap_or, Option, Some, None, refl, ap, ◌∙◌, subst, arith, IfSome, ◌<◌}
 use Rattle.std.specs.Prelude.{option_map, option_and_then, position}
 use Rattle.std.specs.List.{list_all, range_with_len}
 use Rattle.std.proofs.Math.ListN.{drop_of_length-le}
@@ -26,12 +26,9 @@ span_end-above row k h = by (first_from (is_space row) k (length row - k)) (firs
 
 spans-order : (row : List Place) (low n : ℕ) → low + n ≤ length row → AreInOrder low (map (span_at row) (filter (begins_span row) (range_with_len low n)))
 spans-order row low zero h = tt
-spans-order row low (suc n) h = by (begins_span row low) (order-from low (low + 1) _ (omega arith) (spans-order row (low + 1) n (omega (arith, h))))
-  where
-    by : (b : Bool) → AreInOrder low (map (span_at row) (filter (begins_span row) (range_with_len (low + 1) n)))
-        → AreInOrder low (map (span_at row) (cond b (low ∷ filter (begins_span row) (range_with_len (low + 1) n)) (filter (begins_span row) (range_with_len (low + 1) n))))
-    by true rest = (omega arith, span_end-above row low (omega (arith, h)), rest)
-    by false rest = rest
+spans-order row low (suc n) h =
+    let rest = order-from low (low + 1) _ (omega arith) (spans-order row (low + 1) n (omega (arith, h))) in
+    cond_both (begins_span row low) _ _ (λ l. AreInOrder low (map (span_at row) l)) (λ _. (omega arith, span_end-above row low (omega (arith, h)), rest)) (λ _. rest)
 
 spread-order : (columns : List RuleSpan) (low : ℕ) (ss : List RuleSpan) → AreInOrder low ss → IfSome (spread columns ss) (AreInOrder low)
 spread-order [] low [] h = tt

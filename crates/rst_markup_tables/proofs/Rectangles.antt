@@ -1,23 +1,17 @@
 -- What drawn rectangles cover, and that a grid has at most one tiling.
-use Rattle.std.proofs.Common.{⊎_elim, List, [], ◌∷◌, subst, ◌≡◌, ℕ, ◌+◌, ◌<◌, ◌≤◌, true, ◌&&◌, leb, ltb, length, refl, sym, ap, ◌∙◌, arith}
+use Rattle.std.proofs.Common.{⊎_elim, List, [], ◌∷◌, subst, ◌≡◌, ℕ, ◌+◌, ◌<◌, ◌≤◌, true, length, refl, sym, ap, ◌∙◌, arith}
 use Rattle.std.proofs.lemmas.List.{get_or_past}
-use Rattle.rst_markup_tables.specs.Places.{Row}
 use Rattle.rst_markup_tables.specs.declared.places.Place.TheVariants.{Second}
-use Rattle.std.proofs.lemmas.Bool.{le-leb, lt-ltb, leb-true, ltb-true, and_parts, and_from, cases_lt, cases_order, cases_Bool}
+use Rattle.std.proofs.lemmas.Bool.{le-leb, lt-ltb, and_from, cases_order}
 use Rattle.rst_markup_tables.specs.declared.drawn.Rectangle.{Rectangle}
-use Rattle.rst_markup_tables.specs.Places.{Grid, width, place, row_at, mark_at, mark_of, no_row}
+use Rattle.rst_markup_tables.specs.Places.{Grid, width, place, row_at, no_row}
 use Rattle.rst_markup_tables.specs.Drawn.{IsFrame, IsDrawn, covers, one_if, times, BeginsFrom, AreDrawn, IsTiling}
 
 -- ---- places
 
 pub place_within : (G : Grid) (i j c : ℕ) → place G i j ≡ c → 0 < c → (i < length G) × (j < length (row_at G i))
 place_within G i j c h some =
-    let inside : j < length (row_at G i) =
-    ⊎_elim (λ k. k) (λ past. absurd (let e : mark_at (row_at G i) j ≡ 0 = ap mark_of (get_or_past (row_at G i) j Second past) in omega arith)) (cases_lt j (length (row_at G i))) in
-    ⊎_elim
-    (λ k. (k, inside))
-    (λ past. absurd (let e : length (row_at G i) ≡ 0 = ap (λ (r : Row). length r.places) (get_or_past G i no_row past) in omega arith))
-    (cases_lt i (length G))
+    let inside : j < length (row_at G i) = grind (arith, get_or_past (row_at G i) j Second) in (grind (arith, get_or_past G i no_row), inside)
 
 pub frame_within : (G : Grid) (r : Rectangle) → IsFrame G r → (r.bottom < length G) × (r.right < width G)
 frame_within G r f = ((place_within G r.bottom r.right 43 f.bottom_right (omega arith)).0, f.inside)
@@ -30,17 +24,11 @@ covers_yes r i j a b c d = ap one_if (and_from _ _ (le-leb r.top i a) (and_from 
 
 pub covers_parts : (r : Rectangle) (i j : ℕ) → covers r i j ≡ true → (r.top ≤ i) × (i < r.bottom) × (r.left ≤ j) × (j < r.right)
 unfolding covers
-covers_parts r i j h =
-    let h1 = and_parts (leb r.top i) (ltb i r.bottom && (leb r.left j && ltb j r.right)) h in
-    let h2 = and_parts (ltb i r.bottom) (leb r.left j && ltb j r.right) h1.1 in
-    let h3 = and_parts (leb r.left j) (ltb j r.right) h2.1 in
-    (leb-true _ _ h1.0, ltb-true _ _ h2.0, leb-true _ _ h3.0, ltb-true _ _ h3.1)
+covers_parts r i j h = (grind arith, grind arith, grind arith, grind arith)
 
 pub covers_no : (r : Rectangle) (i j : ℕ) → (r.top ≤ i → i < r.bottom → r.left ≤ j → j < r.right → ⊥) → one_if (covers r i j) ≡ 0
-covers_no r i j h = ⊎_elim
-    (λ yes. let p = covers_parts r i j yes in absurd (h p.0 p.1 p.2 p.3))
-    (λ no. ap one_if no)
-    (cases_Bool (covers r i j))
+unfolding covers
+covers_no r i j h = grind arith
 
 -- a square before the first of the rectangles lies in none
 pub times_before : (G : Grid) (i j x y : ℕ) (rs : List Rectangle) → AreDrawn G i j rs → x ≤ i → (x ≡ i → y < j) → times rs x y ≡ 0

@@ -1,9 +1,9 @@
 -- The rows of cells of a grid table.
-use Rattle.std.proofs.Common.{⊎_elim, ◌≡◌, ℕ, zero, suc, ◌+◌, ◌-◌, ◌<◌, ◌≤◌, Bool, true, false, cond, eqb, List, [], ◌∷◌, ◌++◌, length, drop, get_or, set, map, filter, refl, sym, ap, ap₂, ◌∙◌, arith, Option, Some, None}
+use Rattle.std.proofs.Common.{⊎_elim, ◌≡◌, ℕ, zero, suc, ◌+◌, ◌-◌, ◌<◌, ◌≤◌, Bool, true, false, List, [], ◌∷◌, ◌++◌, length, drop, get_or, set, map, filter, refl, sym, ap, ap₂, ◌∙◌, arith, Option, Some, None}
 use Rattle.std.proofs.lemmas.List.{drop_more, get_or-set_same, get_or-set_other, length-set, ext_get_or}
 use Rattle.std.proofs.lemmas.List.Folds.{list_any_at}
-use Rattle.std.proofs.lemmas.Bool.{cases_lt, cases_eq, eq-eqb, ne_eqb, le-leb, and_from, or_left}
-use Rattle.rst_markup_tables.specs.Places.{Grid, no_row, width, place}
+use Rattle.std.proofs.lemmas.Bool.{cases_lt, cases_eq, eq-eqb, ne_eqb}
+use Rattle.rst_markup_tables.specs.Places.{Grid, no_row, width}
 use Rattle.std.specs.List.{range_with_len}
 use Rattle.std.specs.Option.{IfSome}
 use Rattle.rst_markup_tables.specs.Counts.{below}
@@ -19,14 +19,10 @@ use Rattle.rst_markup_tables.proofs.BoundLemmas.{drawn_at}
 -- ---- a cell more in one row
 
 cells-here : (f g : ℕ → ℕ) (G : Grid) (r : Rectangle) (rs : List Rectangle) (n : ℕ) → f r.top ≡ n → row_cells f g G (r ∷ rs) n ≡ cell_of f g G r ∷ row_cells f g G rs n
-cells-here f g G r rs n e =
-    let yes_here : eqb (f r.top) n ≡ true = eq-eqb (f r.top) n e in
-    ap (λ b. map (cell_of f g G) (cond b (r ∷ filter (λ (q : Rectangle). eqb (f q.top) n) rs) (filter (λ (q : Rectangle). eqb (f q.top) n) rs))) yes_here
+cells-here f g G r rs n e = rw (eq-eqb (f r.top) n e) refl
 
 cells-else : (f g : ℕ → ℕ) (G : Grid) (r : Rectangle) (rs : List Rectangle) (n : ℕ) → (f r.top ≡ n → ⊥) → row_cells f g G (r ∷ rs) n ≡ row_cells f g G rs n
-cells-else f g G r rs n e =
-    let not_here : eqb (f r.top) n ≡ false = ne_eqb (f r.top) n e in
-    ap (λ b. map (cell_of f g G) (cond b (r ∷ filter (λ (q : Rectangle). eqb (f q.top) n) rs) (filter (λ (q : Rectangle). eqb (f q.top) n) rs))) not_here
+cells-else f g G r rs n e = rw (ne_eqb (f r.top) n e) refl
 
 pub cell_more : (f g : ℕ → ℕ) (G : Grid) (rs : List Rectangle) (i : ℕ) (d : Rectangle) (old new : List (List Cell)) (m : ℕ) (x : Cell)
     → i < length rs → m ≡ f (get_or rs i d).top → m < length old → x ≡ cell_of f g G (get_or rs i d) → new ≡ set old m (get_or old m [] ++ x ∷ [])
@@ -83,19 +79,11 @@ below-mono p a (suc b) h = ⊎_elim
 
 row-top : (G : Grid) (rs : List Rectangle) (k : ℕ) (d : Rectangle) → k < length rs → IsFrame G (get_or rs k d) → is_row G rs (get_or rs k d).top ≡ true
 unfolding bounds_row
-row-top G rs k d below f =
-    let r : Rectangle = get_or rs k d in
-    let high : r.top < r.bottom = f.high in
-    let corner : place G r.top r.left ≡ 43 = f.top_left in
-    list_any_at (bounds_row G r.top) rs k d below (and_from _ _ (and_from _ _ (le-leb r.top r.top (omega arith)) (le-leb r.top r.bottom (omega arith))) (or_left _ _ (eq-eqb (place G r.top r.left) 43 corner)))
+row-top G rs k d below f = list_any_at (bounds_row G (get_or rs k d).top) rs k d below (grind (arith, f.high, f.top_left))
 
 row-bottom : (G : Grid) (rs : List Rectangle) (k : ℕ) (d : Rectangle) → k < length rs → IsFrame G (get_or rs k d) → is_row G rs (get_or rs k d).bottom ≡ true
 unfolding bounds_row
-row-bottom G rs k d below f =
-    let r : Rectangle = get_or rs k d in
-    let high : r.top < r.bottom = f.high in
-    let corner : place G r.bottom r.left ≡ 43 = f.bottom_left in
-    list_any_at (bounds_row G r.bottom) rs k d below (and_from _ _ (and_from _ _ (le-leb r.top r.bottom (omega arith)) (le-leb r.bottom r.bottom (omega arith))) (or_left _ _ (eq-eqb (place G r.bottom r.left) 43 corner)))
+row-bottom G rs k d below f = list_any_at (bounds_row G (get_or rs k d).bottom) rs k d below (grind (arith, f.high, f.bottom_left))
 
 -- a rectangle begins above the last bound
 pub rank-few : (G : Grid) (rs : List Rectangle) (ranks : List ℕ) → IsTiling G rs → AreRanks (below (is_row G rs)) (length G) ranks

@@ -1,8 +1,8 @@
 -- What a scan for a table goes over behind it.
-use Rattle.std.proofs.Common.{⊎_elim, ◌≡◌, ℕ, suc, ◌+◌, ◌-◌, ◌<◌, ◌≤◌, Bool, true, false, cond, List, [], ◌∷◌, length, drop, refl, sym, ap, ◌∙◌, arith, Option, Some, None}
+use Rattle.std.proofs.Common.{⊎_elim, ◌≡◌, ℕ, ◌+◌, ◌-◌, ◌<◌, ◌≤◌, false, List, [], ◌∷◌, length, drop, refl, sym, ap, ◌∙◌, arith, Option, Some, None}
 use Rattle.std.specs.Prelude.{unwrap_or}
 use Rattle.std.specs.Option.{option_or}
-use Rattle.std.proofs.lemmas.Bool.{cases_Bool, cases_lt}
+use Rattle.std.proofs.lemmas.Bool.{cases_lt}
 use Rattle.rst_text.specs.Block.{Block, front_text}
 use Rattle.rst_text.specs.Places.{IsFirst, IsLast}
 use Rattle.rst_text.proofs.PlacesLemmas.{first_from-IsFirst, last_from-IsLast}
@@ -19,19 +19,10 @@ use Rattle.rst_markup_blocks.specs.TableRows.{through, is_border_at, grid_bottom
 stop_line : (X : Block) → lines_while Drawn X < length X → is_drawn (front_text (drop (lines_while Drawn X) X)) ≡ false
 unfolding lines_while
 stop_line [] h = absurd (omega arith)
-stop_line (l ∷ ls) h = by (is_drawn l.text) refl h (stop_line ls)
-  where
-    by : (b : Bool) → is_drawn l.text ≡ b → cond b (suc (lines_while Drawn ls)) 0 < suc (length ls)
-        → (lines_while Drawn ls < length ls → is_drawn (front_text (drop (lines_while Drawn ls) ls)) ≡ false)
-        → is_drawn (front_text (drop (cond b (suc (lines_while Drawn ls)) 0) (l ∷ ls))) ≡ false
-    by true e h others = others (omega arith)
-    by false e h others = e
+stop_line (l ∷ ls) h = grind (arith, stop_line ls)
 
 no_border : (t : List ℕ) → is_drawn t ≡ false → is_grid_border t ≡ false
-no_border t e = ⊎_elim
-    (λ border. let drawn : true ≡ false = sym (grid_drawn t border) ∙ e in cc)
-    (λ none. none)
-    (cases_Bool (is_grid_border t))
+no_border t e = grind (arith, grid_drawn t)
 
 -- of the lines that begin with `+` or `|` none behind the bottom border is one
 past_bottom : (X : Block) (k : ℕ) (o : Option ℕ) → IsLast (is_border_at X) 2 (2 + (lines_while Drawn X - 2)) o → through (lines_while Drawn X) o ≤ k → k < lines_while Drawn X → is_border_at X k ≡ false

@@ -1,13 +1,12 @@
 -- The texts of a cell, with their places.
-use Rattle.std.proofs.Common.{◌≡◌, ℕ, zero, suc, ◌+◌, ◌-◌, ◌<◌, ◌≤◌, Bool, true, false, cond, not, eqb, List, [], ◌∷◌, length, drop, take, get_or, map, filter, min, unwrap_or, refl, sym, ap, ap₂, ◌∙◌, arith, subst, Option, Some, None}
+use Rattle.std.proofs.Common.{◌≡◌, ℕ, zero, suc, ◌+◌, ◌-◌, ◌<◌, ◌≤◌, Bool, true, false, not, List, [], ◌∷◌, length, drop, take, get_or, map, filter, min, unwrap_or, refl, sym, ap, ap₂, ◌∙◌, arith, subst, Option, Some, None}
 use Rattle.std.specs.List.{range_with_len, reduce}
 use Rattle.std.specs.Str.{drop_trailing_whitespace}
 use Rattle.std.proofs.Math.ListN.{drop_of_length-le}
 use Rattle.std.proofs.lemmas.List.{get_or-map, length-map}
-use Rattle.std.proofs.lemmas.Bool.{ne_eqb, eqb-true, ltb-false, le-ltb, and_parts}
-use Rattle.std.proofs.lemmas.Bool.Decides.{nat_tests}
+use Rattle.std.proofs.lemmas.Bool.{ltb-false, and_parts}
 use Rattle.std.proofs.Math.Seq.{drop-nil}
-use Rattle.rst_text.specs.Block.{Line, Block, indentation, is_blank, shorten}
+use Rattle.rst_text.specs.Block.{Line, Block, is_blank, shorten}
 use Rattle.rst_text.specs.Extent.{indentations, least_indent}
 use Rattle.rst_text.specs.Lines.{is_line_text, are_lines}
 use Rattle.rst_text.proofs.LineTexts.{is_line_text-drop}
@@ -27,45 +26,24 @@ with_text j [] ts = ts
 with_text j (c ∷ cs) ts = (j, c ∷ cs) ∷ ts
 
 texts-more : (f : ℕ → List ℕ) (j : ℕ) (js : List ℕ) → texts_by f (j ∷ js) ≡ with_text j (f j) (texts_by f js)
-texts-more f j js = by (f j)
-  where
-    by : (t : List ℕ) → cond (not (is_blank t)) ((j, t) ∷ texts_by f js) (texts_by f js) ≡ with_text j t (texts_by f js)
-    by [] = refl
-    by (c ∷ cs) = refl
+texts-more f j js = grind arith
 
 -- places where a text is blank can be left out
 texts-filter : (f : ℕ → List ℕ) (p : ℕ → Bool) (js : List ℕ) → ((j : ℕ) → p j ≡ false → f j ≡ []) → texts_by f (filter p js) ≡ texts_by f js
 texts-filter f p [] blank = refl
-texts-filter f p (j ∷ js) blank = by (p j) refl (texts-filter f p js blank)
-  where
-    by : (b : Bool) → p j ≡ b → texts_by f (filter p js) ≡ texts_by f js → texts_by f (cond b (j ∷ filter p js) (filter p js)) ≡ texts_by f (j ∷ js)
-    by true e rest = texts-more f j (filter p js) ∙ ap (with_text j (f j)) rest ∙ sym (texts-more f j js)
-    by false e rest = rest ∙ sym (texts-more f j js ∙ ap (λ t. with_text j t (texts_by f js)) (blank j e))
+texts-filter f p (j ∷ js) blank = grind (arith, texts-more f j (filter p js), texts-more f j js, texts-filter f p js blank, blank j)
 
 -- ---- the text at a place
 
 text_at-before : (f : ℕ → List ℕ) (low n k : ℕ) → k < low → text_at (texts_by f (range_with_len low n)) k ≡ []
 text_at-before f low zero k h = refl
-text_at-before f low (suc n) k h = ap (λ ts. text_at ts k) (texts-more f low (range_with_len (low + 1) n)) ∙ by (f low) (text_at-before f (low + 1) n k (omega arith))
-  where
-    by : (t : List ℕ) → text_at (texts_by f (range_with_len (low + 1) n)) k ≡ [] → text_at (with_text low t (texts_by f (range_with_len (low + 1) n))) k ≡ []
-    by [] rest = rest
-    by (c ∷ cs) rest = let other : eqb low k ≡ false = ne_eqb low k (λ e. absurd (omega (arith, e, h))) in rw other rest
-
-above-more : (a b : ℕ) → a ≤ b → eqb a b ≡ false → a + 1 ≤ b
-above-more a b h e = grind (arith, nat_tests)
+text_at-before f low (suc n) k h = grind (arith, texts-more f low (range_with_len (low + 1) n), text_at-before f (low + 1) n k (omega arith))
 
 text_at-is : (f : ℕ → List ℕ) (low n k : ℕ) → low ≤ k → k < low + n → text_at (texts_by f (range_with_len low n)) k ≡ f k
 text_at-is f low zero k above below = absurd (omega (arith, above, below))
 text_at-is f low (suc n) k above below =
-    ap (λ ts. text_at ts k) (texts-more f low (range_with_len (low + 1) n))
-    ∙ by (eqb low k) refl (f low) refl (λ e. text_at-is f (low + 1) n k (above-more low k above e) (omega (arith, below)))
-  where
-    by : (b : Bool) → eqb low k ≡ b → (t : List ℕ) → f low ≡ t → (eqb low k ≡ false → text_at (texts_by f (range_with_len (low + 1) n)) k ≡ f k) → text_at (with_text low t (texts_by f (range_with_len (low + 1) n))) k ≡ f k
-    by true e [] is rest = let same : low ≡ k = eqb-true low k e in text_at-before f (low + 1) n k (omega (arith, same)) ∙ sym is ∙ ap f same
-    by true e (c ∷ cs) is rest = rw e (sym is ∙ ap f (eqb-true low k e))
-    by false e [] is rest = rest e
-    by false e (c ∷ cs) is rest = rw e (rest e)
+    let later = λ (a : low + 1 ≤ k). text_at-is f (low + 1) n k a (omega (arith, below)) in
+    grind (arith, texts-more f low (range_with_len (low + 1) n), later, text_at-before f (low + 1) n k)
 
 -- a line for each text, numbered from `first` on
 abbrev pub line_at : (ℕ → List ℕ) → ℕ → ℕ → Line
@@ -84,12 +62,7 @@ spread-is f first n B h =
 
 indentations-texts : (f : ℕ → List ℕ) (first : ℕ) (js : List ℕ) → indentations (map (line_at f first) js) ≡ indentations (as_lines (texts_by f js))
 indentations-texts f first [] = refl
-indentations-texts f first (j ∷ js) = by (f j) (indentations-texts f first js) ∙ sym (ap (λ ts. indentations (as_lines ts)) (texts-more f j js))
-  where
-    by : (t : List ℕ) → indentations (map (line_at f first) js) ≡ indentations (as_lines (texts_by f js))
-        → indentations ((let l : Line = record { number = first + j; text = t } in l) ∷ map (line_at f first) js) ≡ indentations (as_lines (with_text j t (texts_by f js)))
-    by [] rest = rest
-    by (c ∷ cs) rest = ap (λ ns. indentation (c ∷ cs) ∷ ns) rest
+indentations-texts f first (j ∷ js) = grind (arith, texts-more f j js, indentations-texts f first js)
 
 least-is : (f : ℕ → List ℕ) (first n : ℕ) (B : Block) → HoldsTexts f first n B → least_indent (as_lines (texts_by f (range_with_len 0 n))) ≡ least_indent B
 unfolding least_indent
@@ -108,11 +81,7 @@ drop_each-none (t ∷ ts) = ap (λ us. t ∷ us) (drop_each-none ts)
 
 text_at-drop : (n : ℕ) (ts : List (ℕ × List ℕ)) (k : ℕ) → text_at (drop_each n ts) k ≡ drop n (text_at ts k)
 text_at-drop n [] k = sym (drop-nil n)
-text_at-drop n (t ∷ ts) k = by (eqb t.0 k) refl (text_at-drop n ts k)
-  where
-    by : (b : Bool) → eqb t.0 k ≡ b → text_at (drop_each n ts) k ≡ drop n (text_at ts k) → text_at (drop_each n (t ∷ ts)) k ≡ drop n (text_at (t ∷ ts) k)
-    by true e rest = rw e refl
-    by false e rest = rw e rest
+text_at-drop n (t ∷ ts) k = grind (arith, text_at-drop n ts k)
 
 spread-drop : (first count n : ℕ) (ts : List (ℕ × List ℕ)) → spread first count (drop_each n ts) ≡ map (shorten n) (spread first count ts)
 spread-drop first count n ts = by (range_with_len 0 count)
@@ -196,11 +165,4 @@ cell-placed left right G least texts short texts_are lines short_is =
 
 pub reaching-more : (G : Grid) (n m : ℕ) (ks : List ℕ) → n ≤ m → filter (reaches G m) (filter (reaches G n) ks) ≡ filter (reaches G m) ks
 reaching-more G n m [] h = refl
-reaching-more G n m (k ∷ ks) h = by (reaches G n k) refl (reaching-more G n m ks h)
-  where
-    by : (b : Bool) → reaches G n k ≡ b → filter (reaches G m) (filter (reaches G n) ks) ≡ filter (reaches G m) ks
-        → filter (reaches G m) (cond b (k ∷ filter (reaches G n) ks) (filter (reaches G n) ks)) ≡ filter (reaches G m) (k ∷ ks)
-    by true e rest = ap (λ l. cond (reaches G m k) (k ∷ l) l) rest
-    by false e rest =
-        let short : reaches G m k ≡ false = le-ltb m (length (row_at G k)) (omega (arith, h, ltb-false n (length (row_at G k)) e)) in
-        rest ∙ sym (ap (λ b. cond b (k ∷ filter (reaches G m) ks) (filter (reaches G m) ks)) short)
+reaching-more G n m (k ∷ ks) h = grind (arith, reaching-more G n m ks h)

@@ -1,20 +1,12 @@
 -- How many lines an extent looks at, and what its lines are.
 use Rattle.std.proofs.Common.{◌≡◌, ◌∙◌, ℕ, zero, suc, ◌+◌, ◌<◌, ◌≤◌, Bool, true, false, cond, [], ◌∷◌, length, take, drop, refl, arith, leb}
 use Rattle.std.proofs.lemmas.List.{drop_all}
-use Rattle.rst_text.specs.Block.{Line, Block, front_text, indentation, is_blank}
+use Rattle.rst_text.specs.Block.{Block, front_text, indentation, is_blank}
 use Rattle.rst_text.specs.Extent.{extent, past_blank}
 use Rattle.rst_text.specs.Kept.{IsEmptyRun}
 use Rattle.rst_text.specs.Reach.{blank_len, looked, through_text}
 use Rattle.rst_text.specs.MayCut.{is_indented}
 use Rattle.rst_text.proofs.Ends.{past_run, text_is}
-
-pub through_blank : (l : Line) (ls : Block) → is_blank l.text ≡ true → through_text (l ∷ ls) ≡ suc (through_text ls)
-unfolding through_text
-through_blank l ls e = rw e refl
-
-pub through_some : (l : Line) (ls : Block) → is_blank l.text ≡ false → through_text (l ∷ ls) ≡ 1
-unfolding through_text
-through_some l ls e = rw e refl
 
 -- An extent looks once at each of its lines, and at those through the first after it that is not blank.
 pub looked_is : (least : ℕ) (X : Block) → looked least X ≡ extent least X + through_text (drop (extent least X) X)

@@ -1,5 +1,5 @@
 -- What a call gives that want of memory can hinder. No rule of markup but the limit: the standard doesn't speak of memory.
-use Rattle.std.specs.Prelude.{◌≡◌, ℕ, List, Option, Some, None, Result, Ok, Err}
+use Rattle.std.specs.Prelude.{◌≡◌, ℕ, List, Some, None, Result, Ok, Err}
 use Rattle.rst_text.specs.Block.{Block}
 use Rattle.rst_text.specs.Lines.{first_longer, lines_of}
 use Rattle.rst_text.specs.declared.fault.LineFault.{LineFault}

@@ -1,5 +1,5 @@
 //! The lines of a text.
-ghost use Rattle.std.specs.Prelude.{◌≡◌, ◌+◌, ◌-◌, ◌≤◌, ◌<◌, ◌^◌, ◌∷◌, ℕ, nat_lt, length, drop, IfOk, IsTrue};
+ghost use Rattle.std.specs.Prelude.{◌≡◌, ◌+◌, ◌-◌, ◌/◌, ◌≤◌, ◌<◌, ◌^◌, ◌∷◌, ℕ, nat_lt, length, drop, IfOk, IsTrue};
 ghost use Rattle.std.specs.Str.{chars, IsUtf8};
 ghost use Rattle.rst_text.specs.Block.{front_text, first_number};
 ghost use Rattle.rst_text.specs.Faults.{Gives, AreWithin};
@@ -67,11 +67,13 @@ impl Lines {
     {
         // Only a tab makes a line longer than it stands in the text, so this room is seldom too small.
         let mut kept = Kept::with_room(alloc, text.len())?;
+        let tab = usize::from(tab);
+        let most = limit / tab;
         let mut rest = text;
         while !rest.is_empty() {
             let (piece, after, ordinary) = first_piece(rest);
             let piece = piece.trim_end();
-            if is_longer(piece, usize::from(tab), limit) {
+            if is_longer(piece, tab, limit, most) {
                 return Err(LineFault::TooLong {
                     line: kept.len() + 1,
                 });
@@ -79,7 +81,7 @@ impl Lines {
             if ordinary {
                 kept.push(piece)?;
             } else {
-                kept.push(expand(alloc, piece, usize::from(tab))?.as_str())?;
+                kept.push(expand(alloc, piece, tab)?.as_str())?;
             }
             rest = after;
         }
@@ -191,7 +193,7 @@ fn first_piece(text: &str) -> (&str, &str, bool)
     if let Some(after) = special.strip_prefix('\n') {
         return (ordinary, after, true);
     }
-    let mut left = text;
+    let mut left = special;
     'left: loop {
         let (_, special) = left.split_at(ordinary_len(left));
         let mut rest = special.chars();
@@ -210,13 +212,14 @@ fn first_piece(text: &str) -> (&str, &str, bool)
     }
 }
 
-/// Whether a piece has more than `limit` characters once its tabs are expanded.
-fn is_longer(piece: &str, tab: usize, limit: usize) -> bool
-    requires { 1 ≤ tab }
+/// Whether a piece has more than `limit` characters once its tabs are expanded. At most `most` bytes never have.
+fn is_longer(piece: &str, tab: usize, limit: usize, most: usize) -> bool
+    requires some { 1 ≤ tab }
+    requires most { most ≡ limit / tab }
     ensures { result ≡ nat_lt limit (length (expanded tab (chars piece.now))) }
 {
     // A byte gives `tab` characters at most.
-    if piece.len() <= limit / tab {
+    if piece.len() <= most {
         return false;
     }
     let mut column = 0usize;

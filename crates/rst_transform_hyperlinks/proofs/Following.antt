@@ -2,7 +2,7 @@
 use Rattle.std.proofs.Common.{◌≡◌, ℕ, zero, suc, ◌+◌, ◌<◌, ◌≤◌, ◌||◌, ◌⊎◌, inl, inr, List, [], ◌∷◌, ◌++◌, get_or, length, map, refl, sym, ◌∙◌, ap, subst, arith, Bool, true, false}
 use Rattle.std.specs.Prelude.{is_some, slice_set, unwrap_or, if◌then◌else◌, Option, Some, None}
 use Rattle.std.specs.List.{list_any, sum_by}
-use Rattle.std.proofs.lemmas.Bool.{cases_eq, cases_lt, eq-eqb}
+use Rattle.std.proofs.lemmas.Bool.{cases_eq, cases_lt, eq-eqb, or_right}
 use Rattle.std.proofs.lemmas.List.{ext_get_or, get_or-set_other, get_or-set_same, length-map, length-set}
 use Rattle.std.proofs.lemmas.List.Sums.{sum_by-set}
 use Rattle.std.proofs.lemmas.Map.Steps.{le-length_from_below}
@@ -31,10 +31,6 @@ has_within : {A : Type 0} (list : List (Option A)) (place : ℕ) (one : A) → a
 has_within [] place one h = absurd (cc)
 has_within (x ∷ xs) zero one h = omega arith
 has_within (x ∷ xs) (suc place) one h = let k = has_within xs place one h in omega (arith, k)
-
-or_true : (a b : Bool) → b ≡ true → (a || b) ≡ true
-or_true true b h = refl
-or_true false b h = h
 
 -- how many answers aren't known
 abbrev missing : Option Answer → ℕ
@@ -127,7 +123,7 @@ module _ (steps : List (Option Step)) where
   ranks : (xs : List (Option Step)) (place k : ℕ) (step : Step) → at_place xs place ≡ Some step → rank_of (Some step) ≡ k → list_any (eqb k) (map rank_of xs) ≡ true
   ranks [] place k step at is = absurd (cc)
   ranks (x ∷ xs) zero k step at is = rw (eq-eqb k (rank_of x) (sym (ap rank_of at ∙ is))) refl
-  ranks (x ∷ xs) (suc place) k step at is = or_true (eqb k (rank_of x)) (list_any (eqb k) (map rank_of xs)) (ranks xs place k step at is)
+  ranks (x ∷ xs) (suc place) k step at is = or_right (eqb k (rank_of x)) (list_any (eqb k) (map rank_of xs)) (ranks xs place k step at is)
 
   -- each number of steps up to that of a chain from a place is that of a chain from some place
   here : (n place : ℕ) (step : Option Step) → at_place steps place ≡ step → turns n (step_at steps place) < n → n ≤ suc (length steps) → list_any (eqb (turns n (step_at steps place))) (map rank_of steps) ≡ true

@@ -1,5 +1,6 @@
 -- The places of linked elements by their numbers, put there one after the other.
 use Rattle.std.proofs.Common.{◌≡◌, ℕ, zero, suc, ◌+◌, ◌<◌, ◌≤◌, List, [], ◌∷◌, length, map, drop, get_or, replicate, refl, ◌∙◌, ap, arith, Bool, true, false}
+use Rattle.std.proofs.lemmas.Bool.{cond_both, ltb-false, ltb-true}
 use Rattle.std.specs.Prelude.{if◌then◌else◌, nat_eq, nat_lt, slice_get, slice_set, Option, Some, None}
 use Rattle.std.specs.Option.{option_flatten}
 use Rattle.std.proofs.lemmas.List.{drop_all, drop_more, length-replicate, length-set}
@@ -57,14 +58,10 @@ past_end [] serial h = refl
 past_end (x ∷ xs) zero h = absurd (omega (arith, h))
 past_end (x ∷ xs) (suc serial) h = past_end xs serial (omega (arith, h))
 
-by_number : (serials serial : ℕ) (b : Bool) (found wanted : Option ℕ) → b ≡ nat_lt serial serials → (serial < serials → found ≡ wanted) → (serials ≤ serial → found ≡ None) → found ≡ (if b then wanted else None)
-by_number serials serial true found wanted h below above = below (grind (arith, h))
-by_number serials serial false found wanted h below above = above (grind (arith, h))
-
 pub Placing-end : (serials : ℕ) (linked : List Linked) (places : List (Option ℕ)) (place : ℕ) → Placing serials linked places place → length linked ≤ place → (holder : Holder) → place_at places holder ≡ holder_place serials (map held linked) holder
 Placing-end serials linked places place n past Nobody = refl
 Placing-end serials linked places place n past Unregistered = refl
 Placing-end serials linked places place n past (Element serial) =
-    by_number serials serial (nat_lt serial serials) (option_flatten (slice_get places serial)) (last_numbered serial 0 None (map held linked)) refl
-    (λ low. rw (drop_all place linked past) at (n.become serial low))
-    (λ high. past_end places serial (omega (arith, n.all, high)))
+    cond_both (nat_lt serial serials) (last_numbered serial 0 None (map held linked)) None (λ o. option_flatten (slice_get places serial) ≡ o)
+    (λ low. rw (drop_all place linked past) at (n.become serial (ltb-true serial serials low)))
+    (λ high. past_end places serial (omega (arith, n.all, ltb-false serial serials high)))

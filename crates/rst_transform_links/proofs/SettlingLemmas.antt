@@ -32,13 +32,10 @@ none_at (None ∷ more) zero h = refl
 none_at (None ∷ more) (suc place) h = none_at more place h
 none_at (Some first ∷ more) place h = absurd (cc)
 
+-- where no element is inside one that fails, all remain
 all_remain_from : (around : List (Option ℕ)) (place : ℕ) (outcomes : List Outcome) → list_all is_none around ≡ true → filter_map (left_at around) (enumerate_from place outcomes) ≡ outcomes
 all_remain_from around place [] h = refl
 all_remain_from around place (outcome ∷ more) h = rw (none_at around place h) (ap (λ rest. outcome ∷ rest) (all_remain_from around (place + 1) more h))
-
--- where no element is inside one that fails, all remain
-pub all_remain : (around : List (Option ℕ)) (outcomes : List Outcome) → list_all is_none around ≡ true → remaining around outcomes ≡ outcomes
-all_remain around outcomes h = all_remain_from around 0 outcomes h
 
 -- what stays is in nobody's way
 abbrev pub stays_if : Option Outcome → Bool
@@ -82,7 +79,7 @@ no_turns reports around place (Failed p ∷ more) h = absurd (cc)
 pub settled_stay : SettlesNothing
 settled_stay linked outcomes known h =
     let around : List (Option ℕ) = firsts [] outcomes linked in
-    rw (no_turns (length known.reports) around 0 outcomes h, none_left (length known.reports), all_remain around outcomes (no_firsts [] outcomes linked refl h)) refl
+    rw (no_turns (length known.reports) around 0 outcomes h, none_left (length known.reports), all_remain_from around 0 outcomes (no_firsts [] outcomes linked refl h)) refl
 
 -- the turns by what the context holds are those by what is known
 pub settled_at : (linked : List Held) (outcomes : List Outcome) (before after : Context) (turns : List (ℕ × ℕ)) (done changes : List Outcome)

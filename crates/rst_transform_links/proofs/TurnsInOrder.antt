@@ -1,9 +1,9 @@
 -- Turns that a stable sort by their messages puts in order come message by message.
-use Rattle.std.proofs.Common.{◌≡◌, ◌⊎◌, inl, inr, ◌∙◌, ℕ, zero, suc, ◌+◌, ◌<◌, ◌≤◌, Bool, true, false, cond, List, [], ◌∷◌, ◌++◌, length, get_or, drop, filter, nat_cmp, is_lt, append-nil, refl, sym, ap, ap₂, arith}
+use Rattle.std.proofs.Common.{◌≡◌, ◌≢◌, ◌⊎◌, inl, inr, ◌∙◌, ℕ, zero, suc, ◌+◌, ◌<◌, ◌≤◌, Bool, true, false, cond, List, [], ◌∷◌, ◌++◌, length, get_or, drop, filter, nat_cmp, is_lt, append-nil, refl, sym, ap, ap₂, arith}
 use Rattle.std.specs.Prelude.{◌&&◌, if◌then◌else◌, nat_eq, nat_lt, Option, Some, None, unwrap_or}
 use Rattle.std.specs.List.{cons_option, enumerate_from, filter_map, All}
 use Rattle.std.specs.List.Sorted.{ties, IsNonDecreasingBy, IsPermutation, IsSortedByKey, IsStableByKey}
-use Rattle.std.proofs.lemmas.Bool.{cases_lt}
+use Rattle.std.proofs.lemmas.Bool.{cases_lt, ne_eqb}
 use Rattle.std.proofs.lemmas.Bool.Decides.{nat_tests}
 use Rattle.std.proofs.lemmas.List.{drop_all}
 use Rattle.std.proofs.lemmas.List.Sorted.{All-permutation, IsNonDecreasingBy-from_sort}
@@ -31,16 +31,13 @@ rising low reports (turn ∷ more) from below up = (
 is_at : (turn : ℕ × ℕ) (more : List (ℕ × ℕ)) (report : ℕ) → turn.0 ≡ report → filter (λ t. nat_eq t.0 report) (turn ∷ more) ≡ turn ∷ filter (λ t. nat_eq t.0 report) more
 is_at turn more report e = let same : nat_eq turn.0 report ≡ true = grind (arith, e) in rw same refl
 
-is_before : (turn : ℕ × ℕ) (more : List (ℕ × ℕ)) (report : ℕ) → turn.0 < report → filter (λ t. nat_eq t.0 report) (turn ∷ more) ≡ filter (λ t. nat_eq t.0 report) more
-is_before turn more report low = let other : nat_eq turn.0 report ≡ false = grind (arith, low) in rw other refl
-
-is_after : (turn : ℕ × ℕ) (more : List (ℕ × ℕ)) (report : ℕ) → report < turn.0 → filter (λ t. nat_eq t.0 report) (turn ∷ more) ≡ filter (λ t. nat_eq t.0 report) more
-is_after turn more report high = let other : nat_eq turn.0 report ≡ false = grind (arith, high) in rw other refl
+is_other : (turn : ℕ × ℕ) (more : List (ℕ × ℕ)) (report : ℕ) → turn.0 ≢ report → filter (λ t. nat_eq t.0 report) (turn ∷ more) ≡ filter (λ t. nat_eq t.0 report) more
+is_other turn more report other = rw (ne_eqb turn.0 report other) refl
 
 none_of : (report low reports : ℕ) (turns : List (ℕ × ℕ)) → report < low → Rises low reports turns → filter (λ t. nat_eq t.0 report) turns ≡ []
 none_of report low reports [] less up = refl
 none_of report low reports (turn ∷ more) less up =
-    let from = up.0 in is_after turn more report (omega (arith, less, from)) ∙ none_of report turn.0 reports more (omega (arith, less, from)) up.2
+    let from = up.0 in is_other turn more report (λ e. omega (arith, less, from, e)) ∙ none_of report turn.0 reports more (omega (arith, less, from)) up.2
 
 none_yet : (n low reports : ℕ) (turns : List (ℕ × ℕ)) → n ≤ low → Rises low reports turns → by_message n turns ≡ []
 none_yet zero low reports turns less up = refl
@@ -50,7 +47,7 @@ first_turn : (n reports : ℕ) (turn : ℕ × ℕ) (more : List (ℕ × ℕ)) �
 first_turn zero reports turn more low up = absurd (omega (arith, low))
 first_turn (suc n) reports turn more low up =
     elim (cases_lt turn.0 n) [
-      | inl before ↦ rw (first_turn n reports turn more before up, is_before turn more n before) refl
+      | inl before ↦ rw (first_turn n reports turn more before up, is_other turn more n (λ e. omega (arith, before, e))) refl
       | inr here ↦
           rw (none_yet n turn.0 reports (turn ∷ more) here up, none_yet n turn.0 reports more here up.2, is_at turn more n (omega (arith, here, low))) refl
     ]

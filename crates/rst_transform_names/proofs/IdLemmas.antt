@@ -9,7 +9,7 @@ use Rattle.std.specs.Cmp.Lexicographic.{slice_cmp, nat_list_eq_equiv}
 use Rattle.std.proofs.lemmas.List.{length-map}
 use Rattle.std.proofs.lemmas.Map.Steps.{le-length_from_below}
 use Rattle.std.proofs.lemmas.Map.Text.{btree_set_updates_text, is_eq-slice_cmp}
-use Rattle.std.proofs.lemmas.Bool.{lt-leb, eq-eqb, cases_Bool, cond-true, cond-false}
+use Rattle.std.proofs.lemmas.Bool.{lt-leb, eq-eqb, cases_Bool, cond_both, cond-true, cond-false, false_from_ne_true, or_parts, or_right}
 use Rattle.std.proofs.lemmas.Str.{encodes-chars, IsUtf8-string_bytes}
 use Rattle.std.specs.Cmp.Lexicographic.{bytes_decides}
 use Rattle.rst_text.specs.Text.{chars_of}
@@ -27,15 +27,9 @@ bytes_of_chars s cs e = sym (encodes-chars (string_bytes s) (IsUtf8-string_bytes
 
 -- ---- ids taken
 
-differ : (xs ys : List ℕ) → xs ≢ ys → bytes_eq xs ys ≡ false
-differ xs ys apart = ⊎_elim (λ t. absurd (apart ((bytes_decides xs ys).0 t))) (λ f. f) (cases_Bool (bytes_eq xs ys))
-
 -- two ids of which other things are read aren't the same
 read_apart : (xs ys : List ℕ) (p q : Option (List ℕ × ℕ)) → number_of xs ≡ p → number_of ys ≡ q → p ≢ q → bytes_eq xs ys ≡ false
-read_apart xs ys p q x y apart = differ xs ys (λ e. apart (sym x ∙ ap number_of e ∙ y))
-
-none_some : (p : List ℕ × ℕ) → ◌≢◌ {A = Option (List ℕ × ℕ)} None (Some p)
-none_some p e = absurd (cc)
+read_apart xs ys p q x y apart = false_from_ne_true _ (λ t. apart (sym x ∙ ap number_of ((bytes_decides xs ys).0 t) ∙ y))
 
 -- a text put into a set, and whether it wasn't there
 pub added : {Y : Type 0} (old new : BTreeSet (String Y)) (id : List ℕ) → UpdatesBy string_cmp (λ k. slice_cmp nat_cmp id (string_bytes k)) old new true
@@ -55,7 +49,7 @@ module _ (old new : Ids) (id : List ℕ) where
       by : (o : Option (List ℕ × ℕ)) → number_of other ≡ o → taken_by new other o ≡ (if bytes_eq other id then true else taken_by old other o)
       by None e = named other
       by (Some p) e =
-          let apart = read_apart other id (Some p) None e none (λ s. none_some p (sym s)) in
+          let apart = read_apart other id (Some p) None e none (λ s. absurd (cc)) in
           rw (apart, hindering, last) refl
 
   -- an id with a number above those that were given
@@ -70,27 +64,13 @@ module _ (old new : Ids) (id : List ℕ) where
 
       by : (o : Option (List ℕ × ℕ)) → number_of other ≡ o → taken_by new other o ≡ (if bytes_eq other id then true else taken_by old other o)
       by None e =
-          let apart = read_apart other id None (Some (base, n)) e read (none_some (base, n)) in
+          let apart = read_apart other id None (Some (base, n)) e read (λ s. absurd (cc)) in
           rw (apart, named) refl
       by (Some p) e = rw (last, hindering other) (both (nat_le p.1 (last_of old p.0)) (bytes_eq other id) (contains_text old.hindering other))
 
 -- nothing is taken with one that was
 took_taken : (ids : Ids) (id : List ℕ) → is_taken ids id ≡ true → Takes id ids ids
-took_taken ids id taken other = ⊎_elim same apart (cases_Bool (bytes_eq other id))
-  where
-    same : bytes_eq other id ≡ true → is_taken ids other ≡ (if bytes_eq other id then true else is_taken ids other)
-    same t = ap (is_taken ids) ((bytes_decides other id).0 t) ∙ taken ∙ sym (cond-true _ _ _ t)
-
-    apart : bytes_eq other id ≡ false → is_taken ids other ≡ (if bytes_eq other id then true else is_taken ids other)
-    apart f = sym (cond-false _ _ _ f)
-
-or_true : (a : Bool) → (a || true) ≡ true
-or_true true = refl
-or_true false = refl
-
-or_left : (a b : Bool) → (a || b) ≡ false → a ≡ false
-or_left true b h = h
-or_left false b h = refl
+took_taken ids id taken other = cond_both _ _ _ (λ z. is_taken ids other ≡ z) (λ t. ap (is_taken ids) ((bytes_decides other id).0 t) ∙ taken) (λ f. refl)
 
 -- the id of a text and a number is taken up to the last number, and where a name gave it
 module _ (ids : Ids) (base : List ℕ) (n : ℕ) (some : 0 < n) (small : n < 2 ^ 64) where
@@ -101,7 +81,7 @@ module _ (ids : Ids) (base : List ℕ) (n : ℕ) (some : 0 < n) (small : n < 2 ^
   taken_up_to l = taken_as true _ (le-leb n (last_of ids base) l) refl
 
   pub taken_by_name : contains_text ids.hindering (numbered base n) ≡ true → is_taken ids (numbered base n) ≡ true
-  taken_by_name h = taken_as _ true refl h ∙ or_true (nat_le n (last_of ids base))
+  taken_by_name h = taken_as _ true refl h ∙ or_right (nat_le n (last_of ids base)) true refl
 
   pub free_behind : last_of ids base < n → contains_text ids.hindering (numbered base n) ≡ false → is_taken ids (numbered base n) ≡ false
   free_behind l h = taken_as false false (lt-leb n (last_of ids base) l) h
@@ -116,7 +96,7 @@ any_mapped : {A : Type 0} (test : A → Bool) (f : A → ℕ) (q : ℕ) → ((x 
 any_mapped test f q is [] h = absurd (true≢false (sym h))
 any_mapped test f q is (x ∷ xs) h = ⊎_elim
     (λ t. ap (λ b. b || list_any (nat_eq q) (map f xs)) (eq-eqb q (f x) (sym (is x t))))
-    (λ e. ap (λ b. nat_eq q (f x) || b) (any_mapped test f q is xs (sym (ap (λ b. b || list_any test xs) e) ∙ h)) ∙ or_true (nat_eq q (f x))) (cases_Bool (test x))
+    (λ e. ap (λ b. nat_eq q (f x) || b) (any_mapped test f q is xs (sym (ap (λ b. b || list_any test xs) e) ∙ h)) ∙ or_right (nat_eq q (f x)) true refl) (cases_Bool (test x))
 
 -- each of them hinders one number at most
 module _ (ids : Ids) (base : List ℕ) (first count : ℕ) (some : 0 < first) (small : first + count ≤ 2 ^ 64) where
@@ -166,9 +146,7 @@ module _ (old : Ids) (last : BTreeMap (String Global) ℕ) (base : List ℕ) (n 
 
   -- it is behind the last one
   behind : last_of old base < n
-  behind =
-      let not_up_to = or_left (nat_le n (last_of old base)) _ (sym (ap (taken_by old (numbered base n)) read_id) ∙ free.is_free) in
-      ⊎_elim (λ t. absurd (cc)) (λ f. omega (arith, leb-false n (last_of old base) f)) (cases_Bool (nat_le n (last_of old base)))
+  behind = leb-false n (last_of old base) (or_parts (nat_le n (last_of old base)) _ (sym (ap (taken_by old (numbered base n)) read_id) ∙ free.is_free)).0
 
   abbrev Wanted : List ℕ → Option (List ℕ × ℕ) → Type 0
   Wanted other o = taken_by used other o ≡ (if bytes_eq other (numbered base n) then true else taken_by old other o)
@@ -181,15 +159,12 @@ module _ (old : Ids) (last : BTreeMap (String Global) ℕ) (base : List ℕ) (n 
 
   -- the text's ids up to the number
   up_to : (other : List ℕ) (m : ℕ) → number_of other ≡ Some (base, m) → m ≤ n → Wanted other (Some (base, m))
-  up_to other m e low = ⊎_elim same apart (cases_Bool (bytes_eq other (numbered base n)))
+  up_to other m e low = cond_both (bytes_eq other (numbered base n)) _ _ (λ z. taken_by used other (Some (base, m)) ≡ z) (λ t. now) apart
     where
       now : taken_by used other (Some (base, m)) ≡ true
       now = rw (last_is base ∙ cond-true _ _ _ ((bytes_decides base base).1 refl), le-leb m n low) refl
 
-      same : bytes_eq other (numbered base n) ≡ true → Wanted other (Some (base, m))
-      same t = now ∙ sym (cond-true _ _ _ t)
-
-      apart : bytes_eq other (numbered base n) ≡ false → Wanted other (Some (base, m))
+      apart : bytes_eq other (numbered base n) ≡ false → taken_by used other (Some (base, m)) ≡ taken_by old other (Some (base, m))
       apart f =
           let is = number_of-is other base m e in
           let below : m < n = ⊎_elim (λ t. ltb-true m n t)
@@ -197,7 +172,7 @@ module _ (old : Ids) (last : BTreeMap (String Global) ℕ) (base : List ℕ) (n 
           let at : m ≡ n = omega (arith, ltb-false m n g) in
           absurd (true≢false (sym ((bytes_decides other (numbered base n)).1 (is.0 ∙ ap (numbered base) at)) ∙ f))) (cases_Bool (nat_lt m n)) in
           let before : is_taken old other ≡ true = ap (is_taken old) is.0 ∙ free.is_least m is.1 below in
-          now ∙ sym (cond-false _ _ _ f ∙ sym (ap (taken_by old other) e) ∙ before)
+          now ∙ sym (sym (ap (taken_by old other) e) ∙ before)
 
   -- and those beyond it
   beyond : (other : List ℕ) (m : ℕ) → number_of other ≡ Some (base, m) → n < m → Wanted other (Some (base, m))
@@ -210,7 +185,7 @@ module _ (old : Ids) (last : BTreeMap (String Global) ℕ) (base : List ℕ) (n 
     where
       by : (o : Option (List ℕ × ℕ)) → number_of other ≡ o → Wanted other o
       by None e =
-          let apart = read_apart other (numbered base n) None (Some (base, n)) e read_id (none_some (base, n)) in
+          let apart = read_apart other (numbered base n) None (Some (base, n)) e read_id (λ s. absurd (cc)) in
           rw apart refl
       by (Some (b, m)) e = ⊎_elim
           (λ t.

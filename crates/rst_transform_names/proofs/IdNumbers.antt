@@ -7,12 +7,11 @@ use Rattle.std.specs.Str.Parse.{AllDigits, digits_value, ParsesUnsigned}
 use Rattle.std.specs.Str.{NoCharPasses}
 use Rattle.std.specs.Str.Pattern.{RFindsChar}
 use Rattle.std.proofs.lemmas.Str.Pattern.{NoCharPasses-char, drop_at_char}
-use Rattle.std.proofs.lemmas.Bool.{eqb-false, and_parts}
+use Rattle.std.proofs.lemmas.Bool.{and_from, and_parts, cond_both, ne_eqb}
 use Rattle.std.proofs.lemmas.Fmt.{decimal_is_IsNumeral, first_decimal, decimal-digits_value}
 use Rattle.std.proofs.lemmas.Str.{digit_value_digit}
 use Rattle.std.proofs.lemmas.Str.Parse.{IsNumeralModel, numerals_by_value, tells_digits, parse_plain, digit_from_value, digits_value-take-le}
 use Rattle.std.specs.Cmp.Lexicographic.{bytes_decides}
-use lib.Seq.{get_or-append_seam}
 use Rattle.rst_transform_names.specs.Ids.{numbered, number_in, parts_from, parts_of, numbered_part, number_of}
 
 -- ---- an id with a number, and the number in it
@@ -26,81 +25,56 @@ lacks_hyphen [] d i l e = omega arith
 lacks_hyphen (c ∷ cs) d zero l e = omega (arith, digit_from_value c d.0)
 lacks_hyphen (c ∷ cs) d (suc i) l e = lacks_hyphen cs d.1 i (omega arith) e
 
--- a text is cut at its last c in one way
-one_split : (c : ℕ) (xs ys ps qs : List ℕ) → xs ++ (c ∷ ps) ≡ ys ++ (c ∷ qs) → Lacks c ps → Lacks c qs → (xs ≡ ys) × (ps ≡ qs)
-one_split c [] [] ps qs e p q = (refl, ap (drop 1) e)
-one_split c [] (y ∷ ys) ps qs e p q =
-    let tail = ap (drop 1) e in
-    absurd (p (length ys) (omega (arith, ap length tail, length-append ys (c ∷ qs))) (ap (λ l. get_or l (length ys) 0) tail ∙ get_or-append_seam ys c qs 0))
-one_split c (x ∷ xs) [] ps qs e p q =
-    let tail = sym (ap (drop 1) e) in
-    absurd (q (length xs) (omega (arith, ap length tail, length-append xs (c ∷ ps))) (ap (λ l. get_or l (length xs) 0) tail ∙ get_or-append_seam xs c ps 0))
-one_split c (x ∷ xs) (y ∷ ys) ps qs e p q =
-    let rest = one_split c xs ys ps qs (ap (drop 1) e) p q in
-    (ap₂ (λ a l. a ∷ l) (ap (λ l. get_or l 0 0) e) rest.0, rest.1)
+-- where there is no hyphen, there are no parts
+no_parts : (text : List ℕ) → Lacks 45 text → parts_of text ≡ None
+no_parts [] lacks = refl
+no_parts (c ∷ cs) lacks = rw (no_parts cs (λ i l. lacks (suc i) (omega arith)), ne_eqb c 45 (lacks 0 (omega arith))) refl
+
+-- a text is cut at its last hyphen
+parts_at : (front back : List ℕ) → Lacks 45 back → parts_of (front ++ (45 ∷ back)) ≡ Some (front, back)
+parts_at [] back lacks = ap (parts_from 45 back) (no_parts back lacks)
+parts_at (c ∷ cs) back lacks = ap (parts_from c (cs ++ (45 ∷ back))) (parts_at cs back lacks)
 
 abbrev AreParts : List ℕ → Option (List ℕ × List ℕ) → Type 0
-AreParts text r = MatchOption r (Lacks 45 text) (λ parts. (text ≡ parts.0 ++ (45 ∷ parts.1)) × Lacks 45 parts.1)
+AreParts text r = MatchOption r (Unit {0}) (λ parts. text ≡ parts.0 ++ (45 ∷ parts.1))
 
 are_parts : (text : List ℕ) → AreParts text (parts_of text)
-are_parts [] = λ i l e. omega arith
+are_parts [] = tt
 are_parts (c ∷ cs) = from (parts_of cs) (are_parts cs)
   where
-    here : (b : Bool) → (c == 45) ≡ b → Lacks 45 cs → AreParts (c ∷ cs) (if b then Some ([], cs) else None)
-    here true e lacks = (ap (λ x. x ∷ cs) (eqb-true c 45 e), lacks)
-    here false e lacks = none
-      where
-        none : Lacks 45 (c ∷ cs)
-        none zero l is = eqb-false c 45 e is
-        none (suc i) l is = lacks i (omega arith) is
+    here : (b : Bool) → (c == 45) ≡ b → AreParts (c ∷ cs) (if b then Some ([], cs) else None)
+    here true e = ap (λ x. x ∷ cs) (eqb-true c 45 e)
+    here false e = tt
 
     from : (r : Option (List ℕ × List ℕ)) → AreParts cs r → AreParts (c ∷ cs) (parts_from c cs r)
-    from None lacks = here (c == 45) refl lacks
-    from (Some parts) h = (ap (λ l. c ∷ l) h.0, h.1)
-
-parts_at : (text front back : List ℕ) → text ≡ front ++ (45 ∷ back) → Lacks 45 back → parts_of text ≡ Some (front, back)
-parts_at text front back is lacks = from (parts_of text) (are_parts text)
-  where
-    from : (r : Option (List ℕ × List ℕ)) → AreParts text r → r ≡ Some (front, back)
-    from None h = absurd (h (length front) (omega (arith, ap length is, length-append front (45 ∷ back))) (ap (λ l. get_or l (length front) 0) is ∙ get_or-append_seam front 45 back 0))
-    from (Some parts) h =
-        let same = one_split 45 parts.0 front parts.1 back (sym h.0 ∙ is) h.1 lacks in
-        ap₂ (λ x y. Some (x, y)) same.0 same.1
-
-no_parts : (text : List ℕ) → Lacks 45 text → parts_of text ≡ None
-no_parts text lacks = from (parts_of text) (are_parts text)
-  where
-    from : (r : Option (List ℕ × List ℕ)) → AreParts text r → r ≡ None
-    from None h = refl
-    from (Some parts) h = absurd (lacks (length parts.0) (omega (arith, ap length h.0, length-append parts.0 (45 ∷ parts.1))) (ap (λ l. get_or l (length parts.0) 0) h.0 ∙ get_or-append_seam parts.0 45 parts.1 0))
+    from None h = here (c == 45) refl
+    from (Some parts) h = ap (λ l. c ∷ l) h
 
 numbered_is : (base : List ℕ) (n : ℕ) → numbered base n ≡ base ++ (45 ∷ decimal n)
 numbered_is base n = append_assoc base (codes "-") (decimal n)
 
-reads_back : (n : ℕ) → 0 < n → n < 2 ^ 64 → number_in (decimal n) ≡ Some n
-reads_back n some small =
-    let value : digits_value 10 (decimal n) ≡ n = (decimal_is_IsNumeral n small).1 in
-    let same : bytes_eq (decimal n) (decimal n) ≡ true = (bytes_decides (decimal n) (decimal n)).1 refl in
-    rw value (rw (same, lt-ltb 0 n some, lt-ltb n (2 ^ 64) small) refl)
+number_by : (digits : List ℕ) (n : ℕ) → digits_value 10 digits ≡ n → digits ≡ decimal n → 0 < n → n < 2 ^ 64 → number_in digits ≡ Some n
+number_by digits n value is some small = rw (value, (bytes_decides digits (decimal n)).1 is, lt-ltb 0 n some, lt-ltb n (2 ^ 64) small) refl
 
 pub number_of-numbered : (base : List ℕ) (n : ℕ) → 0 < n → n < 2 ^ 64 → number_of (numbered base n) ≡ Some (base, n)
 number_of-numbered base n some small =
-    ap (option_and_then numbered_part)
-    (parts_at (numbered base n) base (decimal n) (numbered_is base n) (lacks_hyphen (decimal n) (decimal_is_IsNumeral n small).0.1))
-    ∙ ap (option_map (λ k. (base, k))) (reads_back n some small)
+    ap (λ l. option_and_then numbered_part (parts_of l)) (numbered_is base n)
+    ∙ ap (option_and_then numbered_part) (parts_at base (decimal n) (lacks_hyphen (decimal n) (decimal_is_IsNumeral n small).0.1))
+    ∙ ap (option_map (λ k. (base, k))) (number_by (decimal n) n (decimal_is_IsNumeral n small).1 refl some small)
 
-told : (P : ℕ → Type 0) (t : Bool) (v n : ℕ) → (t ≡ true → P v) → (if t then Some v else None) ≡ Some n → P n
-told P true v n p h = subst P (ap (λ o. unwrap_or o 0) h) (p refl)
-told P false v n p h = absurd (cc)
-
-number_in-is : (d : List ℕ) (n : ℕ) → number_in d ≡ Some n → (d ≡ decimal n) × (0 < n) × (n < 2 ^ 64)
-number_in-is d n h =
+-- what is read of digits: a number from 1 whose digits they are, or nothing
+number_cases : (d : List ℕ) (P : Option ℕ → Type 0) → (d ≡ decimal (digits_value 10 d) → 0 < digits_value 10 d → digits_value 10 d < 2 ^ 64 → P (Some (digits_value 10 d)))
+    → P None → P (number_in d)
+number_cases d P some none =
     let v = digits_value 10 d in
-    told (λ k. (d ≡ decimal k) × (0 < k) × (k < 2 ^ 64)) (bytes_eq d (decimal v) && (nat_lt 0 v && nat_lt v (2 ^ 64))) v n
-    (λ t.
+    cond_both (bytes_eq d (decimal v) && (nat_lt 0 v && nat_lt v (2 ^ 64))) _ _ P (λ t.
     let outer = and_parts (bytes_eq d (decimal v)) _ t in
     let inner = and_parts (nat_lt 0 v) (nat_lt v (2 ^ 64)) outer.1 in
-    ((bytes_decides d (decimal v)).0 outer.0, ltb-true 0 v inner.0, ltb-true v (2 ^ 64) inner.1)) h
+    some ((bytes_decides d (decimal v)).0 outer.0) (ltb-true 0 v inner.0) (ltb-true v (2 ^ 64) inner.1)) (λ f. none)
+
+number_in-is : (d : List ℕ) (n : ℕ) → number_in d ≡ Some n → (d ≡ decimal n) × (0 < n) × (n < 2 ^ 64)
+number_in-is d n h = number_cases d (λ o. o ≡ Some n → (d ≡ decimal n) × (0 < n) × (n < 2 ^ 64))
+    (λ is some small e. subst (λ m. (d ≡ decimal m) × (0 < m) × (m < 2 ^ 64)) (ap (λ (o : Option ℕ). unwrap_or o 0) e) (is, some, small)) (λ e. absurd (cc)) h
 
 pub some_same : (p q : List ℕ × ℕ) → ◌≡◌ {A = Option (List ℕ × ℕ)} (Some p) (Some q) → p ≡ q
 some_same p q e = ap (λ (o : Option (List ℕ × ℕ)). unwrap_or o p) e
@@ -119,26 +93,13 @@ number_of-is id base n h = from (parts_of id) (are_parts id) h
 
     from : (r : Option (List ℕ × List ℕ)) → AreParts id r → option_and_then numbered_part r ≡ Some (base, n) → Read (base, n)
     from None parts h = absurd (cc)
-    from (Some split) parts h = through split.0 split.1 (number_in split.1) parts.0 refl h
+    from (Some split) parts h = through split.0 split.1 (number_in split.1) parts refl h
 
 -- ---- a number that is read
 
-number_by : (digits : List ℕ) → (bytes_eq digits (decimal (digits_value 10 digits)) ≡ true) → 0 < digits_value 10 digits → digits_value 10 digits < 2 ^ 64 → number_in digits ≡ Some (digits_value 10 digits)
-number_by digits same some small = rw (same, lt-ltb 0 (digits_value 10 digits) some, lt-ltb (digits_value 10 digits) (2 ^ 64) small) refl
-
-none_by : (t : Bool) (v : ℕ) → (t ≡ true → ⊥) → (if t then Some v else None) ≡ None
-none_by true v never = absurd (never refl)
-none_by false v never = refl
-
 -- digits that are none of a number from 1
 no_number : (digits : List ℕ) → ((n : ℕ) → digits ≡ decimal n → 0 < n → n < 2 ^ 64 → ⊥) → number_in digits ≡ None
-no_number digits never =
-    let v = digits_value 10 digits in
-    none_by (bytes_eq digits (decimal v) && (nat_lt 0 v && nat_lt v (2 ^ 64))) v
-    (λ t.
-    let outer = and_parts (bytes_eq digits (decimal v)) _ t in
-    let inner = and_parts (nat_lt 0 v) (nat_lt v (2 ^ 64)) outer.1 in
-    never v ((bytes_decides digits (decimal v)).0 outer.0) (ltb-true 0 v inner.0) (ltb-true v (2 ^ 64) inner.1))
+no_number digits never = number_cases digits (λ o. o ≡ None) (λ is some small. absurd (never _ is some small)) refl
 
 own : IsNumeralModel (AllDigits 10) (digits_value 10)
 own = numerals_by_value (AllDigits 10) tells_digits
@@ -146,9 +107,6 @@ own = numerals_by_value (AllDigits 10) tells_digits
 first_digit : (ds : List ℕ) → 0 < length ds → AllDigits 10 ds → get_or ds 0 0 ≤ 57
 first_digit [] some d = absurd (omega arith)
 first_digit (c ∷ cs) some d = omega (arith, digit_from_value c d.0)
-
-and_true : (a b : Bool) → a ≡ true → b ≡ true → (a && b) ≡ true
-and_true a b h k = rw (h, k) refl
 
 value_pos : (ds : List ℕ) → 49 ≤ get_or ds 0 0 → AllDigits 10 ds → 0 < digits_value 10 ds
 value_pos [] first d = absurd (omega arith)
@@ -168,7 +126,7 @@ module _ (digits : List ℕ) where
       let first : 48 < get_or digits 0 0 = subst (λ l. 48 < get_or l 0 0) (sym is) (first_decimal n some small) in
       let numeral = (decimal_is_IsNumeral n small).0 in
       let last : get_or digits 0 0 ≤ 57 = subst (λ l. get_or l 0 0 ≤ 57) (sym is) (first_digit (decimal n) numeral.0 numeral.1) in
-      absurd (true≢false (sym (and_true _ _ (le-leb 49 (get_or digits 0 0) (omega arith)) (le-leb (get_or digits 0 0) 57 last)) ∙ h)))
+      absurd (true≢false (sym (and_from _ _ (le-leb 49 (get_or digits 0 0) (omega arith)) (le-leb (get_or digits 0 0) 57 last)) ∙ h)))
 
   module _ (range : (nat_le 49 (get_or digits 0 0) && nat_le (get_or digits 0 0) 57) ≡ true) where
     parsed : {E : Type 0} (r : Result ℕ E) → ParsesUnsigned 64 10 digits r → OkIff r (AllDigits 10 digits × (0 < length digits) × (digits_value 10 digits < 2 ^ 64)) (digits_value 10 digits)
@@ -180,7 +138,7 @@ module _ (digits : List ℕ) where
         let read = parsed {E = Unit {0}} (Ok n) h in
         let back : decimal (digits_value 10 digits) ≡ digits = decimal-digits_value own digits read.0.0 read.0.1 (λ zero. absurd (omega arith)) read.0.2 in
         let some : 0 < digits_value 10 digits = value_pos digits (omega arith) read.0.0 in
-        number_by digits ((bytes_decides digits _).1 (sym back)) some read.0.2 ∙ ap Some (sym read.1)
+        number_by digits n (sym read.1) (sym back ∙ ap decimal (sym read.1)) (omega (arith, some, read.1)) (omega (arith, read.0.2, read.1))
 
     pub unread : {E : Type 0} (e : E) → ParsesUnsigned 64 10 digits (Err e) → number_in digits ≡ None
     unread e h = no_number digits (λ n is some small.
@@ -196,4 +154,5 @@ number_of-split id (Some x) h =
     let i = h.0 in
     let j = h.1 in
     let whole : id ≡ x.0.now ++ (45 ∷ x.1.now) = sym (take-append-drop i id) ∙ ap₂ (λ l m. l ++ m) (sym h.3) (drop_at_char 45 id i j h.2.1 (omega arith) ∙ ap (λ l. 45 ∷ l) (sym h.4)) in
-    ap (option_and_then numbered_part) (parts_at id x.0.now x.1.now whole (λ k l e. NoCharPasses-char 45 x.1.now k (subst (NoCharPasses (λ d. d == 45)) (sym h.4) h.2.0) (omega arith) l e))
+    ap (λ l. option_and_then numbered_part (parts_of l)) whole
+    ∙ ap (option_and_then numbered_part) (parts_at x.0.now x.1.now (λ k l e. NoCharPasses-char 45 x.1.now k (subst (NoCharPasses (λ d. d == 45)) (sym h.4) h.2.0) (omega arith) l e))

@@ -1,14 +1,10 @@
 -- Messages with places, among nodes.
 use Rattle.std.proofs.Common.{◌≡◌, ℕ, zero, suc, ◌<◌, List, [], ◌∷◌, ◌++◌, length, replicate, Vec, refl, sym, ap, ◌∙◌, arith, add-one, slice_set}
 use Rattle.std.specs.Prelude.{slice_index_or}
-use Rattle.std.proofs.lemmas.List.{nil_from_length}
 use Rattle.rst_tree.specs.declared.node.Node.{Node}
 use Rattle.rst_tree.specs.Paths.{map_at}
 use Rattle.rst_transform_names.specs.NameMessages.{with_gaps, woven}
 use Rattle.rst_transform_names.specs.PlacingMessages.{gap_nodes}
-
-pub none_left : {X : Type 0} (items : List X) (len : ℕ) → len ≡ length items → len ≡ 0 → items ≡ []
-none_left items len is none = nil_from_length items (sym is ∙ none)
 
 -- a message is put into a gap
 pub gap_pushed : {Z : Type 0} (xs : List (Vec Node Z)) (i : ℕ) (d now : Vec Node Z) (m : Node) → i < length xs → now.items ≡ (slice_index_or xs i d).items ++ m ∷ []

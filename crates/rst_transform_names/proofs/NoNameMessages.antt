@@ -1,9 +1,10 @@
 -- Without messages on equal names the document is the same.
 use Rattle.std.proofs.Common.{◌≡◌, ℕ, zero, suc, true≢false, List, [], ◌∷◌, ◌++◌, Bool, true, false, Option, Some, None, refl, ap, ◌∙◌, append_assoc}
-use Rattle.std.specs.Prelude.{if◌then◌else◌, is_some, map, option_and_then}
+use Rattle.std.specs.Prelude.{◌&&◌, not, if◌then◌else◌, is_some, map, option_and_then}
 use Rattle.std.specs.List.{list_any}
 use Rattle.std.specs.Option.{option_to_list}
 use Rattle.std.proofs.Math.Path.{fun_ext}
+use Rattle.std.proofs.lemmas.Bool.{cond_both}
 use Rattle.std.proofs.lemmas.List.{append-nil}
 use Rattle.rst_tree.specs.declared.attrs.Attr.{Attr}
 use Rattle.rst_tree.specs.declared.key.Key.TheVariants.{Serial}
@@ -14,16 +15,12 @@ use Rattle.rst_tree.specs.Forest.{Forest, bare, element, words}
 use Rattle.rst_tree.specs.Nodes.{nodes_of}
 use Rattle.rst_tree.proofs.Changes.{forest_of-nodes_of}
 use Rattle.rst_transform_names.specs.Gathered.{number_at}
-use Rattle.rst_transform_names.specs.NameMessages.{beginning, filled, given, goes_out, message_on, no_texts, nodes_with, taken, takes_in, texts, then_texts, with_element, with_messages, with_name_messages, Filled, Placed, Texts}
+use Rattle.rst_transform_names.specs.NameMessages.{beginning, filled, given, goes_in, goes_out, message_on, no_texts, nodes_with, taken, takes_in, texts, then_texts, with_element, with_messages, with_name_messages, Filled, Placed, Texts}
 use Rattle.rst_transform_names.proofs.MessageGaps.{woven-none}
 
 either_none : {X : Type 0} (b : Bool) → ◌≡◌ {A = List X} (if b then [] else []) []
 either_none true = refl
 either_none false = refl
-
-quiet_if : (b : Bool) (x y : Texts) → x.placed ≡ [] → y.placed ≡ [] → (if b then x else y).placed ≡ []
-quiet_if true x y is is' = is
-quiet_if false x y is is' = is'
 
 -- nodes that give no message
 record Quiet (nodes : List Node) (f : Filled) : Type 0 where
@@ -54,8 +51,8 @@ element-none p t a l c nodes inside f i q =
       inline = simp (q.inline, either_none);
       before = simp (q.before, i.before, either_none);
       after = simp (q.after, no_text, either_none);
-      texts_out = quiet_if (goes_out p t) (then_texts f.texts_out (texts t a inside)) f.texts_out (then-none f.texts_out (texts t a inside) q.texts_out no_text) q.texts_out;
-      waiting = quiet_if _ (then_texts f.waiting (texts t a inside)) f.waiting (then-none f.waiting (texts t a inside) q.waiting no_text) q.waiting;
+      texts_out = cond_both (goes_out p t) _ _ (λ (x : Texts). x.placed ≡ []) (λ _. then-none f.texts_out (texts t a inside) q.texts_out no_text) (λ _. q.texts_out);
+      waiting = cond_both (goes_in t && not (goes_out p t)) _ _ (λ (x : Texts). x.placed ≡ []) (λ _. then-none f.waiting (texts t a inside) q.waiting no_text) (λ _. q.waiting);
     }
 
 begun-none : (before : Texts) → before.placed ≡ [] → Quiet [] (beginning before)
@@ -67,8 +64,8 @@ filled-none p nodes f (words t r) q =
     let rest = filled-none p (nodes ++ Text t ∷ []) (record f { nodes = f.nodes ++ Text t ∷ [] }) r (record { same = ap (λ ns. ns ++ Text t ∷ []) q.same; inline = q.inline; before = q.before; after = q.after; texts_out = q.texts_out; waiting = q.waiting }) in
     rw append_assoc at rest
 filled-none p nodes f (element t a c l r) q =
-    let inside = filled-none t [] (beginning (given t f)) c (begun-none (given t f) (quiet_if (takes_in t) f.waiting no_texts q.waiting refl)) in
-    let left : Quiet nodes (taken t f) = record { same = q.same; inline = q.inline; before = q.before; after = q.after; texts_out = q.texts_out; waiting = quiet_if (takes_in t) no_texts f.waiting refl q.waiting } in
+    let inside = filled-none t [] (beginning (given t f)) c (begun-none (given t f) (cond_both (takes_in t) f.waiting no_texts (λ x. x.placed ≡ []) (λ _. q.waiting) (λ _. refl))) in
+    let left : Quiet nodes (taken t f) = record { same = q.same; inline = q.inline; before = q.before; after = q.after; texts_out = q.texts_out; waiting = cond_both (takes_in t) no_texts f.waiting (λ x. x.placed ≡ []) (λ _. refl) (λ _. q.waiting) } in
     let rest = filled-none p (nodes ++ Element t a c l ∷ []) (with_element p t a l [] (filled none t (beginning (given t f)) c) (taken t f)) r (element-none p t a l c nodes (filled none t (beginning (given t f)) c) (taken t f) inside left) in
     rw append_assoc at rest
 

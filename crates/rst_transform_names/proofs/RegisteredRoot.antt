@@ -1,6 +1,7 @@
 -- What registration leaves of an element is an element of its kind.
 use Rattle.std.proofs.Common.{◌≡◌, ℕ, Bool, true, false, Option, Some, None, refl, ap}
 use Rattle.std.specs.Prelude.{if◌then◌else◌}
+use Rattle.std.proofs.lemmas.Bool.{cond_both}
 use Rattle.rst_tree.specs.declared.node.Node.{Node}
 use Rattle.rst_tree.specs.declared.node.Node.TheVariants.{Element, Text}
 use Rattle.rst_tree.specs.declared.tag.Tag.{Tag}
@@ -13,11 +14,7 @@ abbrev pub kind_of : Node → Option Tag
 kind_of (Element t a c l) = Some t
 kind_of (Text t) = None
 
-given_kind : (needs : Bool) (g : Given) (x : Item) → (if needs then with_given g x else x).tag ≡ x.tag
-given_kind true g x = refl
-given_kind false g x = refl
-
 pub registered_kind : (messages : ℕ) (document : Node) → kind_of (registration messages document).root ≡ kind_of document
 registered_kind messages (Text t) = refl
 registered_kind messages (Element t a c l) =
-    let r = registered messages (Element t a c l) in ap Some (given_kind (is_registered (item t a l)) (given r.standings r.numbers r.messages) (item t a l))
+    let r = registered messages (Element t a c l) in ap Some (cond_both (is_registered (item t a l)) (with_given (given r.standings r.numbers r.messages) (item t a l)) (item t a l) (λ x. x.tag ≡ t) (λ _. refl) (λ _. refl))

@@ -1,5 +1,6 @@
 -- Transitions that get their places in a loop, one node after another.
 use Rattle.std.proofs.Common.{◌≡◌, ℕ, ◌-◌, List, [], ◌∷◌, ◌++◌, length, Bool, true, false, nat_eq, refl, ap, sym, ◌∙◌, arith, append_assoc, append-nil}
+use Rattle.std.proofs.lemmas.Bool.{and_parts, not-true}
 use Rattle.std.specs.Prelude.{◌&&◌, not, if◌then◌else◌}
 use Rattle.std.specs.List.{list_all}
 use Rattle.rst_tree.specs.declared.attrs.Attr.{Attr}
@@ -44,16 +45,11 @@ pub all_keep : (first : ℕ) (ends : Bool) (s : Siblings) (ns : List Node) → l
 unfolding placed_in
 all_keep first ends s [] all = ap (λ ps. record s { placed = ps }) (sym (append-nil s.placed))
 all_keep first ends s (Text t ∷ ns) all = all_keep first ends (with_node (Text t) s) ns all ∙ ap (λ ps. record s { placed = ps }) (append_assoc s.placed (Text t ∷ []) ns)
-all_keep first ends s (Element t a c l ∷ ns) all = by (is_section t) (is_transition t) refl refl (all_keep first ends (with_node (Element t a c l) s) ns) all
-  where
-    by : (x y : Bool) → is_section t ≡ x → is_transition t ≡ y
-        → (list_all keeps_place ns ≡ true → placed_in first ends (with_node (Element t a c l) s) (forest_of ns) ≡ record s { placed = (s.placed ++ Element t a c l ∷ []) ++ ns }) → ((not x && not y) && list_all keeps_place ns) ≡ true
-        → placed_in first ends s (forest_of (Element t a c l ∷ ns)) ≡ record s { placed = s.placed ++ Element t a c l ∷ ns }
-    by true y is other more h = cc
-    by false true is other more h = cc
-    by false false is other more h =
-        step_other first ends s t a c l (forest_of ns) is other ∙ more h
-        ∙ ap (λ ps. record s { placed = ps }) (append_assoc s.placed (Element t a c l ∷ []) ns)
+all_keep first ends s (Element t a c l ∷ ns) all =
+    let parts = and_parts (keeps_place (Element t a c l)) (list_all keeps_place ns) all in
+    let kinds = and_parts (not (is_section t)) (not (is_transition t)) parts.0 in
+    step_other first ends s t a c l (forest_of ns) (not-true _ kinds.0) (not-true _ kinds.1) ∙ all_keep first ends (with_node (Element t a c l) s) ns parts.1
+    ∙ ap (λ ps. record s { placed = ps }) (append_assoc s.placed (Element t a c l ∷ []) ns)
 
 last_of : (ns : List Node) → is_last (forest_of ns) ≡ nat_eq (length ns) 0
 last_of [] = refl

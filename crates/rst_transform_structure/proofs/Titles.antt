@@ -1,5 +1,6 @@
 -- Lone sections, and the names that move with their titles.
 use Rattle.std.proofs.Common.{◌≡◌, ◌∙◌, ℕ, ◌+◌, ◌-◌, ◌<◌, List, [], ◌∷◌, ◌++◌, length, get_or, take, slice_get, Bool, true, false, Some, None, refl, ap, ap₂, sym, subst, arith}
+use Rattle.std.proofs.lemmas.Bool.{cond_both}
 use Rattle.std.specs.Prelude.{if◌then◌else◌, option_map, Result, Ok, Err}
 use Rattle.std.specs.List.{list_all}
 use Rattle.std.proofs.lemmas.List.{length-append, map-append, take_more}
@@ -40,12 +41,8 @@ passed nodes items xs n s made e f all is m = last_is_lone nodes items xs n e f 
 pub not_passed : (nodes : Forest) (items xs : List Node) (n : Node) → nodes ≡ forest_of items → items ≡ xs ++ n ∷ [] → list_all may_precede xs ≡ false → lone_section nodes ≡ None
 not_passed nodes items xs n e f all = last_is_lone nodes items xs n e f ∙ (rw all refl)
 
-either_none : (b : Bool) (xs : List Node) → (if b then option_map (with_before xs) None else None) ≡ None
-either_none true xs = refl
-either_none false xs = refl
-
 pub no_section : (nodes : Forest) (items xs : List Node) (n : Node) → nodes ≡ forest_of items → items ≡ xs ++ n ∷ [] → section_in n ≡ None → lone_section nodes ≡ None
-no_section nodes items xs n e f is = last_is_lone nodes items xs n e f ∙ (rw is (either_none (list_all may_precede xs) xs))
+no_section nodes items xs n e f is = last_is_lone nodes items xs n e f ∙ (rw is (cond_both (list_all may_precede xs) _ _ (λ o. o ≡ None) (λ _. refl) (λ _. refl)))
 
 -- the nodes as they were, once the last is put back
 pub put_back : (nodes back : Forest) (items pushed xs : List Node) (n m : Node) → nodes ≡ forest_of items → items ≡ xs ++ n ∷ [] → m ≡ n → pushed ≡ xs ++ m ∷ [] → back ≡ forest_of pushed → back ≡ nodes

@@ -39,19 +39,13 @@ last_more passes place before (first ∷ all) one =
 abbrev pub Learns : List ℕ → ℕ → (List ℕ → Option ℕ) → (List ℕ → Option ℕ) → Type 0
 Learns name place old new = (other : List ℕ) → new other ≡ (if bytes_eq other name then Some place else old other)
 
-place_more : (all : List Definition) (name : List ℕ) (content : Forest) (place : ℕ) (old new : List ℕ → Option ℕ) → place ≡ length all → ((other : List ℕ) → old other ≡ place_of_name all other) → Learns name place old new
-    → (other : List ℕ) → new other ≡ place_of_name (all ++ (name, content) ∷ []) other
-place_more all name content place old new is known learns other =
-    learns other ∙ ap (λ p. if bytes_eq other name then Some p else old other) (is ∙ omega arith)
-    ∙ ap (λ before. if bytes_eq other name then Some (0 + length all) else before) (known other)
-    ∙ sym (last_more (λ named. bytes_eq other named) 0 None all (name, content))
-
-normalized_more : (all : List Definition) (name : List ℕ) (content : Forest) (place : ℕ) (old new : List ℕ → Option ℕ) → place ≡ length all → ((other : List ℕ) → old other ≡ place_of_normalized all other) → Learns (name_in name) place old new
-    → (other : List ℕ) → new other ≡ place_of_normalized (all ++ (name, content) ∷ []) other
-normalized_more all name content place old new is known learns other =
-    learns other ∙ ap (λ p. if bytes_eq other (name_in name) then Some p else old other) (is ∙ omega arith)
-    ∙ ap (λ before. if bytes_eq other (name_in name) then Some (0 + length all) else before) (known other)
-    ∙ sym (last_more (λ named. bytes_eq other (name_in named)) 0 None all (name, content))
+place_more : (read : List ℕ → List ℕ) (all : List Definition) (name : List ℕ) (content : Forest) (place : ℕ) (old new : List ℕ → Option ℕ) → place ≡ length all
+    → ((other : List ℕ) → old other ≡ last_place (λ named. bytes_eq other (read named)) 0 None all) → Learns (read name) place old new
+    → (other : List ℕ) → new other ≡ last_place (λ named. bytes_eq other (read named)) 0 None (all ++ (name, content) ∷ [])
+place_more read all name content place old new is known learns other =
+    learns other ∙ ap (λ p. if bytes_eq other (read name) then Some p else old other) (is ∙ omega arith)
+    ∙ ap (λ before. if bytes_eq other (read name) then Some (0 + length all) else before) (known other)
+    ∙ sym (last_more (λ named. bytes_eq other (read named)) 0 None all (name, content))
 
 pub known_more : (all : List Definition) (known next : Definitions) (name : List ℕ) (content : Forest) (place : ℕ) → AreKnown all known → place ≡ length known.contents.items → next.contents.items ≡ known.contents.items ++ content ∷ []
     → Learns name place (get_by_text known.exact) (get_by_text next.exact) → Learns (name_in name) place (get_by_text known.normalized) (get_by_text next.normalized) → AreKnown (all ++ (name, content) ∷ []) next
@@ -59,8 +53,8 @@ known_more all known next name content place are is contents exact normalized =
     let count : place ≡ length all = is ∙ ap length are.contents ∙ length-map all (λ one. one.1) in
     record {
       contents = contents ∙ ap (λ front. front ++ content ∷ []) are.contents ∙ sym (map-append (λ one. one.1) all ((name, content) ∷ []));
-      exact = place_more all name content place (get_by_text known.exact) (get_by_text next.exact) count are.exact exact;
-      normalized = normalized_more all name content place (get_by_text known.normalized) (get_by_text next.normalized) count are.normalized normalized;
+      exact = place_more (λ n. n) all name content place (get_by_text known.exact) (get_by_text next.exact) count are.exact exact;
+      normalized = place_more name_in all name content place (get_by_text known.normalized) (get_by_text next.normalized) count are.normalized normalized;
     }
 
 -- the definitions of a list known up to one

@@ -15,22 +15,16 @@ abbrev pub so_far : (List ℕ → ℕ → Expansion) → List Node → List Node
 so_far given nodes ns i left = behind nodes (expanded given (forest_of (drop i ns)) left)
 
 -- the definition that is known to be found
-pub found-none : (known : Definitions) (name : List ℕ) → known_found known name ≡ None → found_by known name ≡ None
-found-none known name none = rw none refl
-
-pub found-nowhere : (known : Definitions) (name : List ℕ) (place : ℕ) → known_found known name ≡ Some place → slice_get known.contents.items place ≡ None → found_by known name ≡ None
-found-nowhere known name place is none = rw (is, none) refl
-
 pub found-some : (known : Definitions) (name : List ℕ) (place : ℕ) (content : Forest) → known_found known name ≡ Some place → slice_get known.contents.items place ≡ Some content → found_by known name ≡ Some (place, content)
 found-some known name place content is there = rw (is, there) refl
 
 -- what a reference comes to
-undefined_within : (found : List ℕ → Option (ℕ × Forest)) (more : ℕ) (path name : List ℕ) (left : ℕ) → found name ≡ None → given_within found more path name left ≡ Err (Undefined name)
+pub undefined_within : (found : List ℕ → Option (ℕ × Forest)) (more : ℕ) (path name : List ℕ) (left : ℕ) → found name ≡ None → given_within found more path name left ≡ Err (Undefined name)
 unfolding given_within
 undefined_within found zero path name left none = rw none refl
 undefined_within found (suc more) path name left none = rw none refl
 
-circular_within : (found : List ℕ → Option (ℕ × Forest)) (more : ℕ) (path name : List ℕ) (left : ℕ) (one : ℕ × Forest) → found name ≡ Some one → list_any (λ place. place == one.0) path ≡ true → given_within found more path name left ≡ Err (Circular name)
+pub circular_within : (found : List ℕ → Option (ℕ × Forest)) (more : ℕ) (path name : List ℕ) (left : ℕ) (one : ℕ × Forest) → found name ≡ Some one → list_any (λ place. place == one.0) path ≡ true → given_within found more path name left ≡ Err (Circular name)
 unfolding given_within
 circular_within found zero path name left one is among = rw (is, among) refl
 circular_within found (suc more) path name left one is among = rw (is, among) refl
@@ -43,12 +37,6 @@ entered_within : (found : List ℕ → Option (ℕ × Forest)) (more : ℕ) (pat
     → given_within found (suc more) path name left ≡ expanded (given_within found more (path ++ one.0 ∷ [])) one.1 left
 unfolding given_within
 entered_within found more path name left one is among = rw (is, among) refl
-
-pub given-undefined : (found : List ℕ → Option (ℕ × Forest)) (path name : List ℕ) (left : ℕ) → found name ≡ None → given found path name left ≡ Err (Undefined name)
-given-undefined found path name left none = undefined_within found (most_nested - length path) path name left none
-
-pub given-circular : (found : List ℕ → Option (ℕ × Forest)) (path name : List ℕ) (left : ℕ) (one : ℕ × Forest) → found name ≡ Some one → list_any (λ place. place == one.0) path ≡ true → given found path name left ≡ Err (Circular name)
-given-circular found path name left one is among = circular_within found (most_nested - length path) path name left one is among
 
 pub given-too_deep : (found : List ℕ → Option (ℕ × Forest)) (path name : List ℕ) (left : ℕ) (one : ℕ × Forest) → found name ≡ Some one → list_any (λ place. place == one.0) path ≡ false → most_nested ≤ length path → given found path name left ≡ Err TooLarge
 given-too_deep found path name left one is among deep =

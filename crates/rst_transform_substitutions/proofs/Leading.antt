@@ -5,7 +5,7 @@ use Rattle.std.specs.Borrow.{Bor}
 use Rattle.std.specs.List.{flat_map, list_all, list_any}
 use Rattle.std.specs.Option.{option_to_list}
 use Rattle.std.proofs.Math.Path.{fun_ext}
-use Rattle.std.proofs.lemmas.Bool.{and_parts, leb-true, le-leb}
+use Rattle.std.proofs.lemmas.Bool.{and_parts, leb-true, le-leb, ne_eqb}
 use Rattle.std.proofs.lemmas.Grind.{flat_map-append}
 use Rattle.std.proofs.lemmas.List.{append-nil, flat_map_more, take_more}
 use Rattle.std.proofs.lemmas.List.Folds.{flat_map-map, list_all-append}
@@ -32,11 +32,6 @@ weaker one two follows [] all = refl
 weaker one two follows (x ∷ xs) all =
     let parts = and_parts (one x) (list_all one xs) all in
     rw (follows x parts.0) (weaker one two follows xs parts.1)
-
--- numbers that a test tells apart differ
-differ : (test : ℕ → Bool) (a b : ℕ) (same : Bool) → a == b ≡ same → test a ≡ false → test b ≡ true → a == b ≡ false
-differ test a b false is fails passes = is
-differ test a b true is fails passes = absurd (true≢false (sym passes ∙ ap test (sym (eqb-true a b is)) ∙ fails))
 
 -- what a reference, or another element, comes to
 abbrev here_of : (List ℕ → ℕ → Expansion) → Bool → Tag → List Attr → Forest → ℕ → ℕ → Expansion
@@ -87,7 +82,7 @@ module _ (known : Definitions) (led : ℕ → Bool) (closed : (place : ℕ) (con
       → ((x : ℕ × Forest) → led x.0 ≡ true → slice_get known.contents.items x.0 ≡ Some x.1 → one x ≡ two x) → entering (a ∷ path) name found one ≡ entering (b ∷ path) name found two
   entering_same a b path name None one two first second is same = refl
   entering_same a b path name (Some x) one two first second is same =
-      rw (differ led a x.0 (a == x.0) refl first is.0, differ led b x.0 (b == x.0) refl second is.0)
+      rw (ne_eqb a x.0 (λ at. let led_at = ap led at in absurd (cc)), ne_eqb b x.0 (λ at. let led_at = ap led at in absurd (cc)))
       (ap (λ (e : Expansion). if list_any (λ place. place == x.0) path then Err (Circular name) else e) (same x is.0 is.1))
 
   -- it makes no difference which place that isn't led to is first on a path

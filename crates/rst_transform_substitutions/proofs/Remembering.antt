@@ -39,15 +39,9 @@ pub same_nodes : (known : Definitions) (within : Option ℕ) (place : ℕ) (one 
 same_nodes known within place one two first second =
     goes known within place one first.content first.there first.finds first.other ∙ sym (goes known within place two first.content first.there second.finds second.other)
 
-none_is : {A : Type 0} (a : A) → None ≡ Some a → ⊥
-none_is a e = true≢false (sym (ap is_some e))
-
-some_is : {A : Type 0} (a b : A) → Some a ≡ Some b → a ≡ b
-some_is a b e = ap (λ o. unwrap_or o a) e
-
 -- nothing is remembered in an empty map
 pub remembers-none : (known : Definitions) (memory : BTreeMap ℕ Kept) → ((place : ℕ) → get nat_cmp memory place ≡ None) → HoldsTrue known memory
-remembers-none known memory none = λ place kept name is goes. absurd (none_is kept (sym (none place) ∙ is))
+remembers-none known memory none = λ place kept name is goes. let nothing = none place in absurd (cc)
 
 -- one more outcome is remembered
 remembers-case : (known : Definitions) (old : BTreeMap ℕ Kept) (place : ℕ) (within : Option ℕ) (outcome : Outcome) (name : List ℕ) → HoldsTrue known old → GoesInto known within place name → came outcome ≡ nodes_for (found_by known) within name
@@ -56,7 +50,8 @@ remembers-case : (known : Definitions) (old : BTreeMap ℕ Kept) (place : ℕ) (
 remembers-case known old place within outcome name before goes is other kept another true same put into =
     let there : place ≡ other = eqb-true place other same in
     let Fits : Kept → Type 0 = λ k. GoesInto known k.within other another → came k.outcome ≡ nodes_for (found_by known) k.within another in
-    subst Fits (some_is (kept_of within outcome) kept put) (λ here. sym (same_nodes known within place another name (subst (λ p. GoesInto known within p another) (sym there) here) goes ∙ sym is)) into
+    let fits : kept_of within outcome ≡ kept = cc in
+    subst Fits fits (λ here. sym (same_nodes known within place another name (subst (λ p. GoesInto known within p another) (sym there) here) goes ∙ sym is)) into
 remembers-case known old place within outcome name before goes is other kept another false same put into = before other kept another put into
 
 pub remembers-more : (known : Definitions) (old new : BTreeMap ℕ Kept) (place : ℕ) (within : Option ℕ) (outcome : Outcome) (name : List ℕ) → HoldsTrue known old → GoesInto known within place name → came outcome ≡ nodes_for (found_by known) within name
@@ -67,7 +62,7 @@ remembers-more known old new place within outcome name before goes is put = λ o
 -- what one more name finds is remembered
 right-case : (right : List ℕ → Option ℕ) (name other : List ℕ) (found place : Option ℕ) (before : Option (Option ℕ)) (same : Bool) → bytes_eq other name ≡ same → (if same then Some found else before) ≡ Some place
     → found ≡ right name → (before ≡ Some place → place ≡ right other) → place ≡ right other
-right-case right name other found place before true same put is was = sym (some_is found place put) ∙ is ∙ ap right (sym ((bytes_eq-Decides other name).0 same))
+right-case right name other found place before true same put is was = let at = (bytes_eq-Decides other name).0 same in cc
 right-case right name other found place before false same put is was = was put
 
 pub right-more : (right : List ℕ → Option ℕ) (old new : List ℕ → Option (Option ℕ)) (name : List ℕ) (found : Option ℕ) → ((other : List ℕ) → new other ≡ (if bytes_eq other name then Some found else old other)) → found ≡ right name

@@ -1,7 +1,7 @@
 -- Elements that are taken in, one after the other.
 use Rattle.std.proofs.Common.{◌≡◌, ℕ, ◌+◌, List, [], ◌∷◌, ◌++◌, append_assoc, true, length, refl, arith}
 use Rattle.std.specs.Prelude.{reverse, Option}
-use Rattle.std.proofs.lemmas.List.{reverse-append}
+use Rattle.std.proofs.lemmas.List.{nil_from_length, reverse-append}
 use Rattle.rst_tree.specs.declared.node.Node.{Node}
 use Rattle.rst_tree.specs.declared.node.Node.TheVariants.{Element, Text}
 use Rattle.rst_tree.specs.declared.reading.Left.{Left}
@@ -54,6 +54,12 @@ module _ {S : Type 0} (takes : S → Option ℕ → Node → S → Option ℕ �
       where
         go : LeftRead (one ∷ reverse left) inside new → AreRead takes level all old new
         go put = before put.0 new (rw (parts, is) (taken, inner, inside, rw is at took, rw holds first, rw (nodes, outside) at put.1)) put.2
+
+    -- after the last of its nodes nothing is left
+    pub read_last : (t : Tag) (a : List Attr) (c : Forest) (l : ℕ) (taken : S) (inner : Option ℕ) (its : List Node) → rest ≡ n ∷ behind → n ≡ Element t a c l → takes now at n taken inner → length behind ≡ 0 → c ≡ forest_of its
+        → Reading level all old rest at left now → Reading level all old its inner left taken
+    read_last t a c l taken inner its parts is took none holds before inside new first more =
+        before inside new (rw (parts, is) (taken, inner, inside, rw is at took, rw holds first, rw (nil_from_length behind none) refl)) more
 
   module _ (level : Option ℕ) (all : Forest) (old now : S) (at : Option ℕ) where
     pub read_behind : (rest : List Node) (left then : List Left) (one : Left) → length rest ≡ 0 → left ≡ then ++ one ∷ [] → Reading level all old rest at left now → Reading level all old one.nodes.now one.level then now

@@ -60,10 +60,12 @@ pub fn read_elements<'a, R: Reader<'a>>(
                 if children.are_plain() {
                     continue;
                 }
-                left.push(Left {
-                    nodes: rest,
-                    level: at,
-                })?;
+                if !rest.is_empty() {
+                    left.push(Left {
+                        nodes: rest,
+                        level: at,
+                    })?;
+                }
                 rest = children.as_slice();
                 at = inner;
             }

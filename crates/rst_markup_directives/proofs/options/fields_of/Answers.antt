@@ -1,8 +1,7 @@
 use Rattle.std.proofs.Common.{◌≡◌, ◌+◌, ◌++◌, [], ◌∷◌, drop, length, option_map, sym, ap, ◌∙◌, arith}
-use Rattle.std.proofs.lemmas.List.{drop-drop}
+use Rattle.std.proofs.lemmas.List.{drop-drop, map-append}
 use Rattle.rst_markup_directives.specs.Lines.{texts_of}
 use Rattle.rst_markup_directives.specs.Options.{field_in, field_text, field_texts, fields_in}
-use Rattle.rst_markup_directives.proofs.Runs.{map-one}
 use Rattle.rst_markup_directives.proofs.FieldLemmas.{deep_len, line_at, behind_fields, fields-more, fields-stop, fields-end, texts-at, length_texts}
 use Rattle.rst_markup_directives.proofs.options.fields_of.Goals as goal
 
@@ -21,7 +20,7 @@ loop-i-preserved c =
     let past : c.loop-i.i + (1 + length c.below_of-below.result.now) ≡ c.loop-i.i + 1 + deep_len (drop (c.loop-i.i + 1) (texts_of c.args.run.now)) = omega (arith, c.below_of-below.ensures.len) in
     let place = ap (λ n. drop n (texts_of c.args.run.now)) past ∙ sym (drop-drop (deep_len (drop (c.loop-i.i + 1) (texts_of c.args.run.now))) (c.loop-i.i + 1) (texts_of c.args.run.now)) in
     ap (λ xs. behind_fields (field_texts xs) (fields_in (drop (c.loop-i.i + (1 + length c.below_of-below.result.now)) (texts_of c.args.run.now)))) items
-    ∙ ap (λ fs. behind_fields fs (fields_in (drop (c.loop-i.i + (1 + length c.below_of-below.result.now)) (texts_of c.args.run.now)))) (map-one field_text c.loop-i.fields.items c.in-Some.field)
+    ∙ ap (λ fs. behind_fields fs (fields_in (drop (c.loop-i.i + (1 + length c.below_of-below.result.now)) (texts_of c.args.run.now)))) (map-append field_text c.loop-i.fields.items (c.in-Some.field ∷ []))
     ∙ ap (λ rest. behind_fields (field_texts c.loop-i.fields.items ++ field_text c.in-Some.field ∷ []) (fields_in rest)) place
     ∙ fields-more (drop c.loop-i.i (texts_of c.args.run.now)) (line_at c.args.run.now c.loop-i.i) (drop (c.loop-i.i + 1) (texts_of c.args.run.now)) (field_texts c.loop-i.fields.items) (field_text c.in-Some.field) _ at
     (ap (option_map field_text) (sym c.in-Some.is) ∙ given) c.loop-i.invariant

@@ -9,20 +9,16 @@ use Rattle.rst_markup_tables.proofs.drawn.tiling.Goals as goal
 
 pub loop-left-preserved-then-index-top : goal.loop-left-preserved-then-index-top
 loop-left-preserved-then-index-top c =
-    let G = c.args.rows.now in
-    let high : c.loop-top.top + 1 < length G = omega arith in
     let wide : c.loop-left.left < length c.loop-left.depths.items = omega arith in
     let had : c.index.result.now ≡ get_or c.loop-left.depths.items c.loop-left.left 0 = get_or_read c.loop-left.depths.items _ _ wide c.index.ensures 0 in
-    skip G c.loop-top.top c.loop-left.left c.loop-left.depths.items c.loop-left.rectangles.items c.loop-left.invariant high wide (λ e. c.if-index-top.true (had ∙ e))
+    skip _ c.loop-top.top c.loop-left.left c.loop-left.depths.items c.loop-left.rectangles.items c.loop-left.invariant (omega arith) wide (λ e. c.if-index-top.true (had ∙ e))
 
 pub returns-in_default : goal.returns-in_default
 returns-in_default c =
-    let G = c.args.rows.now in
-    let high : c.loop-top.top + 1 < length G = omega arith in
     let wide : c.loop-left.left < length c.loop-left.depths.items = omega arith in
     let had : c.index.result.now ≡ get_or c.loop-left.depths.items c.loop-left.left 0 = get_or_read c.loop-left.depths.items _ _ wide c.index.ensures 0 in
     let s = c.loop-left.invariant in
-    none_drawn G c.loop-top.top c.loop-left.left c.loop-left.rectangles.items s.reached high (omega (arith, s.size)) (s.free _ _ wide (omega (arith, had, c.if-index-top.false))) c.in_default.ensures
+    none_drawn _ c.loop-top.top c.loop-left.left c.loop-left.rectangles.items s.reached (omega arith) (omega (arith, s.size)) (s.free _ _ wide (omega (arith, had, c.if-index-top.false))) c.in_default.ensures
 
 pub fill-requires : goal.fill-requires
 fill-requires c =
@@ -34,25 +30,21 @@ fill-requires c =
 
 pub returns-then-not-fill : goal.returns-then-not-fill
 returns-then-not-fill c =
-    let G = c.args.rows.now in
-    let high : c.loop-top.top + 1 < length G = omega arith in
     let wide : c.loop-left.left < length c.loop-left.depths.items = omega arith in
     let had : c.index.result.now ≡ get_or c.loop-left.depths.items c.loop-left.left 0 = get_or_read c.loop-left.depths.items _ _ wide c.index.ensures 0 in
-    overlap G c.loop-top.top c.loop-left.left c.loop-left.depths.items c.fill.new.depths c.loop-left.rectangles.items c.in-Some.rectangle c.loop-left.invariant high wide (sym had ∙ c.if-index-top.false)
+    overlap _ c.loop-top.top c.loop-left.left c.loop-left.depths.items c.fill.new.depths c.loop-left.rectangles.items c.in-Some.rectangle c.loop-left.invariant (omega arith) wide (sym had ∙ c.if-index-top.false)
     c.in-Some.ensures (subst (λ (d : List ℕ). Fills c.in-Some.rectangle d c.fill.new.depths false) c.deref_mut.ensures.value c.if-not-fill.ensures)
 
 pub loop-left-preserved : goal.loop-left-preserved
 loop-left-preserved c =
-    let G = c.args.rows.now in
-    let high : c.loop-top.top + 1 < length G = omega arith in
     let wide : c.loop-left.left < length c.loop-left.depths.items = omega arith in
     let had : c.index.result.now ≡ get_or c.loop-left.depths.items c.loop-left.left 0 = get_or_read c.loop-left.depths.items _ _ wide c.index.ensures 0 in
     let filled : Fills c.in-Some.rectangle c.loop-left.depths.items c.fill.new.depths true = subst (λ (d : List ℕ). Fills c.in-Some.rectangle d c.fill.new.depths true) c.deref_mut.ensures.value c.if-not-fill.ensures in
-    let new = add G c.loop-top.top c.loop-left.left c.loop-left.depths.items c.fill.new.depths c.loop-left.rectangles.items c.in-Some.rectangle c.loop-left.invariant high wide (sym had ∙ c.if-index-top.false)
+    let new = add _ c.loop-top.top c.loop-left.left c.loop-left.depths.items c.fill.new.depths c.loop-left.rectangles.items c.in-Some.rectangle c.loop-left.invariant (omega arith) wide (sym had ∙ c.if-index-top.false)
     c.in-Some.ensures filled in
     let depths = whole c.loop-left.depths.len c.fill.new.depths (drop (length c.fill.new.depths) c.loop-left.depths.items) (omega (arith, filled.0)) in
-    subst (λ d. Stands G c.loop-top.top (c.loop-left.left + 1) d c.push.new.self.items) (sym depths)
-    (subst (λ items. Stands G c.loop-top.top (c.loop-left.left + 1) c.fill.new.depths items) (sym c.in_ok-push.ensures.items) new)
+    subst (λ d. Stands c.args.rows.now c.loop-top.top (c.loop-left.left + 1) d c.push.new.self.items) (sym depths)
+    (subst (λ items. Stands c.args.rows.now c.loop-top.top (c.loop-left.left + 1) c.fill.new.depths items) (sym c.in_ok-push.ensures.items) new)
 
 pub loop-top-preserved : goal.loop-top-preserved
 loop-top-preserved c =

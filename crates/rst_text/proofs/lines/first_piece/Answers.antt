@@ -1,10 +1,10 @@
-use Rattle.std.proofs.Common.{◌∙◌, length, sym, ap, arith, [], ◌∷◌, ◌++◌}
+use Rattle.std.proofs.Common.{◌∙◌, length, refl, sym, subst, ap, arith, [], ◌∷◌, ◌++◌}
 use Rattle.std.proofs.Math.Utf8.{encode}
 use Rattle.std.specs.Str.{chars}
 use Rattle.rst_text.specs.Lines.{pieces, is_line_end}
 use Rattle.rst_text.proofs.Scanning.{Scans-step, NonePass-append, length-scanned, IsCharBoundary-scanned}
 use Rattle.rst_text.proofs.LinesLemmas.{pieces-end, pieces-after_cr, pieces-scanned, pieces-whole}
-use Rattle.rst_text.proofs.OrdinaryLemmas.{IsCharBoundary-ordinary, ScansLine-run, pieces-ordinary}
+use Rattle.rst_text.proofs.OrdinaryLemmas.{IsCharBoundary-ordinary, ScansLine, ScansLine-run, pieces-ordinary}
 use Rattle.rst_text.proofs.lines.first_piece.Goals as goal
 
 pub split_at-requires : goal.split_at-requires
@@ -41,6 +41,11 @@ returns-then-is_line_end-clause-pieces c =
     let e = sym (c.chars-rest.ensures.rest ∙ c.split_at-in-left.ensures.back) ∙ c.in-Some-next.ensures.steps.0 ∙ ap (λ l. encode c.in-Some-next.c ++ l) (sym c.as_str-after.ensures) in
     pieces-scanned _ _ _ _ c.as_str-after.result.now _ _ s.1.0 s.1.1 e c.len_utf8.ensures.len
     (pieces-end _ (chars c.as_str-after.result.now) (sym c.if-is_line_end.ensures) c.if-c-eq13.false) ∙ ap (λ l. chars l ∷ pieces (chars c.as_str-after.result.now)) (sym c.split_at-then-is_line_end.ensures.front)
+
+pub left-init : goal.left-init
+left-init c =
+    let start : ScansLine c.args.text.now c.args.text.now = ([], (record { bytes = refl; utf8 = c.utf8.text; scalar = refl }, tt)) in
+    subst (ScansLine c.args.text.now) (sym c.split_at.ensures.back) (ScansLine-run _ _ _ start c.ordinary_len.ensures)
 
 pub left-preserved : goal.left-preserved
 left-preserved c =

@@ -1,11 +1,10 @@
-use Rattle.std.proofs.Common.{◌≡◌, ◌∙◌, ap, arith, refl}
-use Rattle.std.proofs.lemmas.Bool.{eqb-true}
+use Rattle.std.proofs.Common.{◌≡◌, ◌∙◌, ap, arith}
 use Rattle.rst_text.proofs.LongLines.{Measures-end, Measures-over, Measures-start, Measures-step, short-piece, width, width-other, width-tab}
 use Rattle.rst_text.proofs.lines.is_longer.Goals.{then-c-eq9, else-c-eq9}
 use Rattle.rst_text.proofs.lines.is_longer.Goals as goal
 
-pub returns-then-piece-limit : goal.returns-then-piece-limit
-returns-then-piece-limit c = short-piece _ _ _ c.utf8.piece (omega arith) (omega arith)
+pub returns-then-piece-most : goal.returns-then-piece-most
+returns-then-piece-most c = short-piece _ _ _ c.utf8.piece (omega arith) (omega (arith, c.requires.most))
 
 pub loop-c-init : goal.loop-c-init
 loop-c-init c = Measures-start _ _ _ _ c.utf8.piece (ap (λ i. i.rest.now) c.into_iter-c-iterator.ensures.into_iter_gives ∙ c.chars-c-items.ensures.rest) (omega arith)

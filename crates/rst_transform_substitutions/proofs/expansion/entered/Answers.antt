@@ -1,23 +1,23 @@
-use Rattle.std.proofs.Common.{◌≡◌, List, ℕ, sym, ◌∙◌, ap, arith, rules, Some, Err, [], ◌∷◌, ◌++◌}
+use Rattle.std.proofs.Common.{◌≡◌, refl, List, ℕ, sym, ◌∙◌, ap, arith, rules, Some, Err, [], ◌∷◌, ◌++◌}
 use Rattle.rst_transform_substitutions.specs.declared.expansion.ExpansionFault.TheVariants.{Circular}
 use Rattle.rst_transform_substitutions.specs.Definitions.{found_by}
 use Rattle.rst_transform_substitutions.specs.Expansion.{expanded, given, Expansion}
-use Rattle.rst_transform_substitutions.proofs.Expanding.{found-none, found-nowhere, found-some, given-circular, given-entered, given-too_deep, given-undefined}
+use Rattle.rst_transform_substitutions.proofs.Expanding.{circular_within, found-some, given-entered, given-too_deep, undefined_within}
 use Rattle.rst_transform_substitutions.proofs.expansion.entered.Goals as goal
 
 pub returns-in_default-clause-content : goal.returns-in_default-clause-content
 returns-in_default-clause-content c =
-    rw (c.in_ok-undefined.ensures) (λ left. given-undefined _ _ _ left (found-none c.args.definitions.now c.args.name.now (sym c.in_ok-place.ensures ∙ c.in_default.is)))
+    rw (c.in_ok-undefined.ensures) (λ left. undefined_within _ _ _ _ left (rw (sym c.in_ok-place.ensures ∙ c.in_default.is) refl))
 
 pub returns-in_default-content-clause-content : goal.returns-in_default-content-clause-content
 returns-in_default-content-clause-content c =
-    rw (c.in_ok-undefined-2.ensures) (λ left. given-undefined _ _ _ left (found-nowhere c.args.definitions.now c.args.name.now c.in-Some.place (sym c.in_ok-place.ensures ∙ c.in-Some.is) c.in_default-content.ensures))
+    rw (c.in_ok-undefined-2.ensures) (λ left. undefined_within _ _ _ _ left (rw (sym c.in_ok-place.ensures ∙ c.in-Some.is, c.in_default-content.ensures) refl))
 
 pub returns-then-contains-clause-content : goal.returns-then-contains-clause-content
 returns-then-contains-clause-content c = λ left.
     let found : found_by c.args.definitions.now c.args.name.now ≡ Some (c.in-Some.place, c.in-Some-content.content.now) = found-some c.args.definitions.now c.args.name.now _ _ (sym c.in_ok-place.ensures ∙ c.in-Some.is) c.in-Some-content.ensures in
     let told : List ℕ → Expansion = λ name. Err (Circular name) in
-    given-circular _ _ _ left _ found (search (rules, c.if-contains.true)) ∙ ap told (sym c.in_ok-name.ensures)
+    circular_within _ _ _ _ left _ found (search (rules, c.if-contains.true)) ∙ ap told (sym c.in_ok-name.ensures)
 
 pub returns-then-len-ge-MOST_NESTED-clause-content : goal.returns-then-len-ge-MOST_NESTED-clause-content
 returns-then-len-ge-MOST_NESTED-clause-content c = λ left.

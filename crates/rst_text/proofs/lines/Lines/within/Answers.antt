@@ -28,14 +28,14 @@ returns c = (
 
 pub returns-then-is_longer : goal.returns-then-is_longer
 returns-then-is_longer c =
-    let line = ap (λ t. expanded t (chars c.trim_end-piece.result.now)) c.from.ensures ∙ tidied-trim_end c.args.tab _ _ c.trim_end-piece.utf8 c.trim_end-piece.ensures.trim (omega arith) in
+    let line = ap (λ t. expanded t (chars c.trim_end-piece.result.now)) c.from-tab.ensures ∙ tidied-trim_end c.args.tab _ _ c.trim_end-piece.utf8 c.trim_end-piece.ensures.trim (omega arith) in
     let long : nat_lt c.args.limit (length (tidied c.args.tab (chars c.first_piece-ordinary.result.0.now))) ≡ true = ap (λ l. nat_lt c.args.limit (length l)) (sym line) ∙ sym c.if-is_longer.ensures in
     let number : 1 + length c.loop-rest.kept ≡ c.len.result + 1 = omega (arith, c.len.ensures.value) in
     first_is _ _ _ _ _ _ _ c.loop-rest.invariant.1 c.loop-rest.invariant.2 c.first_piece-ordinary.ensures.pieces long ∙ ap Some number
 
 pub loop-rest-preserved-in_ok-push : goal.loop-rest-preserved-in_ok-push
 loop-rest-preserved-in_ok-push c =
-    let line = ap (λ t. expanded t (chars c.trim_end-piece.result.now)) c.from.ensures ∙ tidied-trim_end c.args.tab _ _ c.trim_end-piece.utf8 c.trim_end-piece.ensures.trim (omega arith) in
+    let line = ap (λ t. expanded t (chars c.trim_end-piece.result.now)) c.from-tab.ensures ∙ tidied-trim_end c.args.tab _ _ c.trim_end-piece.utf8 c.trim_end-piece.ensures.trim (omega arith) in
     let short : nat_lt c.args.limit (length (tidied c.args.tab (chars c.first_piece-ordinary.result.0.now))) ≡ false = ap (λ l. nat_lt c.args.limit (length l)) (sym line) ∙ sym c.if-is_longer.ensures in
     let as_it_stands = trimmed-line _ _ c.first_piece-ordinary.ensures.text.0 c.trim_end-piece.utf8 (c.first_piece-ordinary.ensures.ordinary c.if-ordinary.true) c.trim_end-piece.ensures.trim c.args.tab in
     let next = with_next _ _ _ _ _ _ _ _ _ c.loop-rest.invariant.1 c.loop-rest.invariant.2 c.first_piece-ordinary.ensures.pieces as_it_stands short c.in_ok-push.ensures in
@@ -43,8 +43,8 @@ loop-rest-preserved-in_ok-push c =
 
 pub loop-rest-preserved : goal.loop-rest-preserved
 loop-rest-preserved c =
-    let line = ap (λ t. expanded t (chars c.trim_end-piece.result.now)) c.from.ensures ∙ tidied-trim_end c.args.tab _ _ c.trim_end-piece.utf8 c.trim_end-piece.ensures.trim (omega arith) in
+    let line = ap (λ t. expanded t (chars c.trim_end-piece.result.now)) c.from-tab.ensures ∙ tidied-trim_end c.args.tab _ _ c.trim_end-piece.utf8 c.trim_end-piece.ensures.trim (omega arith) in
     let short : nat_lt c.args.limit (length (tidied c.args.tab (chars c.first_piece-ordinary.result.0.now))) ≡ false = ap (λ l. nat_lt c.args.limit (length l)) (sym line) ∙ sym c.if-is_longer.ensures in
-    let made : chars c.as_str.result.now ≡ tidied c.args.tab (chars c.first_piece-ordinary.result.0.now) = ap chars c.as_str.ensures.value ∙ c.in_ok-expand.ensures ∙ ap (λ t. expanded t (chars c.trim_end-piece.result.now)) (c.from-else-ordinary.ensures ∙ sym c.from.ensures) ∙ line in
+    let made : chars c.as_str.result.now ≡ tidied c.args.tab (chars c.first_piece-ordinary.result.0.now) = ap chars c.as_str.ensures.value ∙ c.in_ok-expand.ensures ∙ line in
     let next = with_next _ _ _ _ _ _ _ _ _ c.loop-rest.invariant.1 c.loop-rest.invariant.2 c.first_piece-ordinary.ensures.pieces made short c.in_ok-push-2.ensures in
     (c.first_piece-ordinary.ensures.text.1, next.0, next.1)

@@ -8,7 +8,7 @@ use Rattle.rst_text.proofs.lines.Lines.within.Given as goal
 -- The texts so far, and those of the rest, are those of the whole text. None of those so far is too long.
 abbrev pub invariant-loop-rest : goal.invariant-loop-rest
 invariant-loop-rest l =
-    shadow (Utf8 l.rest) × (l.kept ++ map (tidied l.tab) (pieces (chars l.rest)) ≡ map (tidied l.tab) (pieces (chars l.text)))
+    shadow (Utf8 l.rest) × (l.kept ++ map (tidied l.fn.tab) (pieces (chars l.rest)) ≡ map (tidied l.fn.tab) (pieces (chars l.text)))
     × (first_longer l.limit (numbered_from 1 l.kept) ≡ None)
 
 abbrev pub decreases-loop-rest : goal.decreases-loop-rest
