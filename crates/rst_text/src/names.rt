@@ -1,6 +1,5 @@
 //! Names and ids of texts.
 ghost use Rattle.std.specs.Prelude.{◌≡◌, ℕ, true, string_bytes, encode_utf8_all, IfOk, map};
-ghost use Rattle.std.specs.Char.{is_ascii, is_ascii_lowercase};
 ghost use Rattle.std.specs.Str.{chars};
 ghost use Rattle.std.specs.Cow.{cow_str_bytes};
 ghost use Rattle.rst_text.specs.Faults.{Gives};
@@ -134,7 +133,7 @@ fn is_settled<C: Case>(text: &str) -> bool
     let mut in_word = false;
     for byte in text.as_bytes() {
         let c = char::from(*byte);
-        if !is_ascii(c) || C::cased(c) != c {
+        if !c.is_ascii() || C::cased(c) != c {
             return false;
         }
         if c > ' ' {
@@ -174,19 +173,6 @@ fn spaced<C: Case>(alloc: Global, text: &str) -> Result<CowStr<'_, Global>, Allo
     Ok(CowStr::Owned(out))
 }
 
-fn is_ascii(c: char) -> bool
-    ensures { result ≡ is_ascii c }
-{
-    c.is_ascii()
-}
-
-/// Whether an id may begin with a character.
-fn is_id_letter(c: char) -> bool
-    ensures { result ≡ is_ascii_lowercase c }
-{
-    c.is_ascii_lowercase()
-}
-
 /// Whether an id may hold a character, hyphens apart.
 #[tactic(auto, unfolding(crate::specs::Names::is_id_char))]
 fn is_id_char(c: char) -> bool
@@ -204,13 +190,13 @@ fn identifier_of(alloc: Global, decomposed: &str) -> Result<String, AllocError>
     let mut due = false;
     for c in decomposed.chars() {
         if !begun {
-            if is_id_letter(c) {
+            if c.is_ascii_lowercase() {
                 id.push(c)?;
                 begun = true;
             }
             continue;
         }
-        if !is_ascii(c) {
+        if !c.is_ascii() {
             continue;
         }
         if !is_id_char(c) {

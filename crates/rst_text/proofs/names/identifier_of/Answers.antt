@@ -9,10 +9,10 @@ loop-c-init c =
     Identifies-start c.args.decomposed.now (string_bytes c.in_ok-id.id) c.into_iter-c-iterator.result.rest.now c.utf8.decomposed (ap (λ i. i.rest.now) c.into_iter-c-iterator.ensures.into_iter_gives ∙ c.chars-c-items.ensures.rest) c.in_ok-id.ensures.bytes
 
 pub loop-c-preserved-in_ok-push : goal.loop-c-preserved-in_ok-push
-loop-c-preserved-in_ok-push c = rw c.in_ok-push.ensures.bytes (Identifies-first _ _ _ _ _ _ (subst (λ b. Identifies (chars c.args.decomposed.now) (string_bytes c.loop-c.id) c.loop-c.c-iterator.rest.now b c.loop-c.due) c.if-not-begun.true c.loop-c.invariant) c.in-Some.ensures.steps.0 (sym c.if-is_id_letter.ensures))
+loop-c-preserved-in_ok-push c = rw c.in_ok-push.ensures.bytes (Identifies-first _ _ _ _ _ _ (subst (λ b. Identifies (chars c.args.decomposed.now) (string_bytes c.loop-c.id) c.loop-c.c-iterator.rest.now b c.loop-c.due) c.if-not-begun.true c.loop-c.invariant) c.in-Some.ensures.steps.0 (sym c.if-is_ascii_lowercase.ensures.value))
 
-pub loop-c-preserved-else-is_id_letter : goal.loop-c-preserved-else-is_id_letter
-loop-c-preserved-else-is_id_letter c = rw c.if-not-begun.true (Identifies-before _ _ _ _ _ _ (subst (λ b. Identifies (chars c.args.decomposed.now) (string_bytes c.loop-c.id) c.loop-c.c-iterator.rest.now b c.loop-c.due) c.if-not-begun.true c.loop-c.invariant) c.in-Some.ensures.steps.0 (sym c.if-is_id_letter.ensures))
+pub loop-c-preserved-else-is_ascii_lowercase : goal.loop-c-preserved-else-is_ascii_lowercase
+loop-c-preserved-else-is_ascii_lowercase c = rw c.if-not-begun.true (Identifies-before _ _ _ _ _ _ (subst (λ b. Identifies (chars c.args.decomposed.now) (string_bytes c.loop-c.id) c.loop-c.c-iterator.rest.now b c.loop-c.due) c.if-not-begun.true c.loop-c.invariant) c.in-Some.ensures.steps.0 (sym c.if-is_ascii_lowercase.ensures.value))
 
 pub loop-c-preserved-then-not-is_ascii : goal.loop-c-preserved-then-not-is_ascii
 loop-c-preserved-then-not-is_ascii c = rw c.if-not-begun.false (Identifies-past _ _ _ _ _ _ (subst (λ b. Identifies (chars c.args.decomposed.now) (string_bytes c.loop-c.id) c.loop-c.c-iterator.rest.now b c.loop-c.due) c.if-not-begun.false c.loop-c.invariant) c.in-Some.ensures.steps.0 (sym c.if-not-is_ascii.ensures))
