@@ -7,12 +7,10 @@ ghost use Rattle.rst_tree.specs.Walk.{items};
 ghost use Rattle.rst_transform_messages.specs.Early.{is_early};
 ghost use Rattle.rst_transform_work.specs.Known.{Makes};
 ghost use Rattle.rst_transform_work.specs.States.{IsDocument};
-ghost use Rattle.rst_transform_docinfo.specs.Docinfo.{with_docinfo};
 ghost use Rattle.rst_transform_messages.specs.Messages.{highest_level};
 ghost use Rattle.rst_transform_structure.specs.Targets.{with_targets};
-ghost use Rattle.rst_transform_structure.specs.Title.{with_title};
 ghost use Rattle.rst_transform_substitutions.specs.Expanded.{with_expansions};
-ghost use Rattle.rst_transform.specs.Finishing.{asked, transformed, Finishes};
+ghost use Rattle.rst_transform.specs.Finishing.{transformed, Finishes};
 
 use crate::linking::resolve_links;
 use rst_settings::Settings;
@@ -92,8 +90,16 @@ fn transformed(
     ensures { Gives (Makes (transformed (profile_of settings.now) settings.now document) context.old context.new) result }
 {
     let retargeted = with_early(document, early, context)?;
-    let titled = with_title(retargeted, context, settings.title)?;
-    let informed = with_info(titled, context, settings.info)?;
+    let titled = if settings.title {
+        title(retargeted, context)?
+    } else {
+        retargeted
+    };
+    let informed = if settings.info {
+        docinfo(titled, context)?
+    } else {
+        titled
+    };
     let linked = resolve_links(informed, context)?;
     let after = transitions(linked, context)?;
     Ok(after)
@@ -110,24 +116,4 @@ fn with_early(document: Document, early: bool, context: &mut Context) -> Result<
     let expanded = expand(document, context)?;
     let retargeted = targets(expanded, context)?;
     Ok(retargeted)
-}
-
-/// A document with its title, if that is asked for.
-fn with_title(document: Document, context: &mut Context, is_asked: bool) -> Result<Document>
-    ensures { Gives (Makes (asked is_asked with_title document) context.old context.new) result }
-{
-    if !is_asked {
-        return Ok(document);
-    }
-    title(document, context)
-}
-
-/// A document with its bibliography, if that is asked for.
-fn with_info(document: Document, context: &mut Context, is_asked: bool) -> Result<Document>
-    ensures { Gives (Makes (asked is_asked with_docinfo document) context.old context.new) result }
-{
-    if !is_asked {
-        return Ok(document);
-    }
-    docinfo(document, context)
 }
