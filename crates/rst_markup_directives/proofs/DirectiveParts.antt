@@ -1,6 +1,7 @@
 -- The parts of a directive are blocks of what its block is a part of.
 use Rattle.std.proofs.Common.{◌≡◌, ℕ, ◌+◌, ◌-◌, ◌≤◌, ◌==◌, Bool, not, List, [], ◌∷◌, length, take, drop, length-drop, Option, None, Some, option_map, Result, Ok, Err, arith, sym, ap, ◌∙◌, subst}
 use Rattle.std.specs.List.{prefix_len}
+use Rattle.std.proofs.lemmas.Bool.{cond_both}
 use Rattle.std.proofs.lemmas.List.{drop-drop, length-map, length-take}
 use Rattle.std.proofs.lemmas.List.Folds.{length-prefix_len}
 use Rattle.rst_text.specs.Block.{Line, Block, cut, is_blank}
@@ -33,7 +34,7 @@ use Rattle.rst_markup_directives.specs.declared.name.Holds.TheVariants.{Paragrap
 use Rattle.rst_markup_directives.specs.declared.name.Name.{Name}
 use Rattle.rst_markup_directives.specs.declared.name.Takes.{Takes}
 use Rattle.rst_markup_directives.specs.declared.name.Takes.TheVariants.{Nothing as TakesNothing, Title as TakesTitle, Uri as TakesUri, Language as TakesLanguage}
-use Rattle.rst_markup_directives.proofs.Parts.{length-cut}
+use Rattle.rst_markup_directives.proofs.Parts.{length_cut}
 
 -- ---- lines of a block
 
@@ -127,7 +128,8 @@ argument_in B _ _ part b = tt
 parts_in_block : (B : Block) (name : Name) (content : Content) (given : Result Given WrongInside) (choices : Result (List Choice) WrongInside)
     → IsContentIn B content → MayBeGivenIn B given → MayBeReadIn B (read_parts name content given choices)
 parts_in_block B name content (Ok value) (Ok choices) h k = (k, h)
-parts_in_block B name content _ _ h k = tt
+parts_in_block B name content (Err w) (Ok choices) h k = tt
+parts_in_block B name content given (Err w) h k = tt
 
 read_in_block : (B : Block) (name : Name) (late : Bool) (block : Part) (H : Block) → IsBlock B block → length H ≡ block.to - block.from → MayBeReadIn B (read_block name late block H)
 unfolding read_block read_by
@@ -161,5 +163,5 @@ pub directive_in : (B : Block) (name : Name) (late : Bool) (block : Part) (place
     → read ≡ read_block name late block (cut B block.from block.to block.first_cut block.rest_cut) → outcome_of directive ≡ outcome_at source (and_then (judged place paragraph) (of_block read)) → IsDirectiveIn B directive
 directive_in B name late block place paragraph source read directive b same kept =
     let H : Block = cut B block.from block.to block.first_cut block.rest_cut in
-    let inside = read_in_block B name late block H b (length-cut B block.from block.to block.first_cut block.rest_cut b.ordered b.within) in
+    let inside = read_in_block B name late block H b (length_cut B block.from block.to block.first_cut block.rest_cut b.ordered b.within) in
     kept_in B directive (subst (IsOutcomeIn B) (sym kept) (judged_in B place paragraph source read (subst (MayBeReadIn B) (sym same) inside)))

@@ -1,6 +1,6 @@
 -- Fields that are read one after the other.
-use Rattle.std.proofs.Common.{◌≡◌, ℕ, suc, zero, ◌+◌, ◌-◌, ◌<◌, ◌≤◌, Bool, true, false, List, [], ◌∷◌, ◌++◌, take, drop, length, Option, Some, None, cond, refl, sym, ap, ◌∙◌, arith}
-use Rattle.std.proofs.lemmas.List.{append-nil, append_assoc, drop_all, length-map, length-take-le, take-map, take_rest}
+use Rattle.std.proofs.Common.{◌≡◌, ℕ, suc, zero, ◌+◌, ◌-◌, ◌<◌, ◌≤◌, Bool, true, false, List, [], ◌∷◌, ◌++◌, take, drop, length, Option, Some, None, cond, refl, sym, ap, ap₂, ◌∙◌, arith}
+use Rattle.std.proofs.lemmas.List.{append-nil, append_assoc, drop_all, length-map, take-map, take_rest}
 use Rattle.std.specs.Borrow.{Bor}
 use Rattle.std.specs.List.{prefix_len}
 use Rattle.std.specs.Prelude.{slice_index_or}
@@ -75,13 +75,13 @@ fields-end ts i done whole h e = ap Some (sym (append-nil done)) ∙ ap (λ rest
 
 -- ---- slices
 
+pub texts_front : (run : List (Bor (List ℕ))) (n : ℕ) → texts_of (take n run) ≡ take n (texts_of run)
+texts_front run n = sym (take-map (λ line. chars line.now) n run)
+
+pub texts_behind : (run : List (Bor (List ℕ))) (n : ℕ) → texts_of (take (length run - n) (drop n run)) ≡ drop n (texts_of run)
+texts_behind run n = ap texts_of (take_rest run n) ∙ texts-drop run n
+
 -- the indented lines behind a place
 pub below-texts : (run : List (Bor (List ℕ))) (a n : ℕ) → n ≡ deep_len (texts_of (take (length run - a) (drop a run)))
     → texts_of (take n (take (length run - a) (drop a run))) ≡ take (deep_len (drop a (texts_of run))) (drop a (texts_of run))
-below-texts run a n e =
-    let texts : texts_of (take (length run - a) (drop a run)) ≡ drop a (texts_of run) = ap texts_of (take_rest run a) ∙ texts-drop run a in
-    sym (take-map (λ line. chars line.now) n (take (length run - a) (drop a run))) ∙ ap (take n) texts ∙ ap (λ m. take m (drop a (texts_of run))) (e ∙ ap deep_len texts)
-
-pub below-len : (run : List (Bor (List ℕ))) (a n : ℕ) → n ≡ deep_len (texts_of (take (length run - a) (drop a run))) → n ≤ length (take (length run - a) (drop a run))
-    → length (take n (take (length run - a) (drop a run))) ≡ deep_len (drop a (texts_of run))
-below-len run a n e h = length-take-le n (take (length run - a) (drop a run)) h ∙ e ∙ ap deep_len (ap texts_of (take_rest run a) ∙ texts-drop run a)
+below-texts run a n e = texts_front (take (length run - a) (drop a run)) n ∙ ap₂ take (e ∙ ap deep_len (texts_behind run a)) (texts_behind run a)

@@ -8,5 +8,5 @@ length-shorten_all f r [] = refl
 length-shorten_all f r (l ∷ ls) = ap suc (length-map ls (shorten r))
 
 -- how many lines a cut has
-pub length-cut : (B : Block) (i j f r : ℕ) → i ≤ j → j ≤ length B → length (cut B i j f r) ≡ j - i
-length-cut B i j f r h k = length-shorten_all f r (take (j - i) (drop i B)) ∙ length-take-le (j - i) (drop i B) (omega (arith, length-drop i B))
+pub length_cut : (B : Block) (i j f r : ℕ) → i ≤ j → j ≤ length B → length (cut B i j f r) ≡ j - i
+length_cut B i j f r h k = length-shorten_all f r (take (j - i) (drop i B)) ∙ length-take-le (j - i) (drop i B) (omega (arith, length-drop i B))

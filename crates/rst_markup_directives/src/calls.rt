@@ -2,13 +2,11 @@
 ghost use Rattle.std.specs.Prelude.{◌≡◌, true, ◌+◌, ◌-◌, ◌≤◌, ◌&&◌, length, take, drop};
 ghost use Rattle.rst_markup_blocks.specs.Prelude.{cut, Looked, capped, block_of};
 ghost use Rattle.rst_markup_blocks.specs.Parts.{IsBlock, IsCall};
-ghost use Rattle.rst_markup_directives.specs.Argument as arguments;
 ghost use Rattle.rst_markup_directives.specs.Faults.{Gives};
 ghost use Rattle.rst_markup_directives.specs.Call as spec;
 ghost use Rattle.rst_markup_directives.specs.Directive as directives;
 ghost use Rattle.rst_markup_directives.specs.Layout as layouts;
 ghost use Rattle.rst_markup_directives.specs.Lines.{texts_of};
-ghost use Rattle.rst_markup_directives.specs.Options as choices;
 ghost use Rattle.rst_markup_directives.specs.Wrong.{and_then};
 
 use super::argument::{Argument, argument_of};
@@ -18,7 +16,7 @@ use super::judgement::{content_fault, permitted};
 use super::layout::{Layout, layout_of};
 use super::lines::run_of;
 use super::name::Name;
-use super::options::{Field, Setting, excerpt, fields_of, settings_of};
+use super::options::{Setting, excerpt, fields_of, settings_of};
 use rst_markup_blocks::{Invocation, LineTest, Part, lines_end};
 use rst_text::{Looks, View};
 use std::alloc::Global;
@@ -70,18 +68,13 @@ pub fn directive(
     };
     match permitted(name, place) {
         Ok(name) => {
-            let reading = read(alloc, name, is_late(at, block), view, block, looks)?;
+            // The block begins behind the line after the directive's.
+            let late = 1 < block.from.saturating_sub(at);
+            let reading = read(alloc, name, late, view, block, looks)?;
             Ok(judged(reading, place, paragraph, source))
         }
         Err(fault) => Ok(Directive::Wrong { fault, source }),
     }
-}
-
-/// Whether a block begins behind the line after the directive's.
-fn is_late(at: usize, block: Part) -> bool
-    ensures { result ≡ directives.is_late at block }
-{
-    at < block.from && 1 < block.from - at
 }
 
 /// A directive whose options and argument are right.
@@ -93,27 +86,9 @@ struct Reading {
     content: Content,
 }
 
-/// Whether a block has no lines for an argument and options: that of program code where it begins late, not in the line after
-/// the directive's.
-fn is_content(name: Name, late: bool) -> bool
-    ensures { result ≡ (late && directives.is_code_name name) }
-{
-    match name {
-        Name::Code => late,
-        _ => false,
-    }
-}
-
-/// The lines of a block.
-fn lines_of<'a>(view: &View<'a>, block: Part) -> View<'a>
-    requires { IsBlock (block_of view.now) block }
-    ensures lines { block_of result ≡ cut (block_of view.now) block.from block.to block.first_cut block.rest_cut }
-    ensures len { length (block_of result) ≡ block.to - block.from }
-{
-    view.part(block.from, block.to, block.first_cut, block.rest_cut)
-}
-
-/// Reads the block of a directive, up to the faults of its content.
+/// Reads the block of a directive, up to the faults of its content. That of program code has no lines for an argument and
+/// options where it begins late, not in the line after the directive's.
+#[tactic(auto, using(crate::proofs::Parts::length_cut))]
 fn read(
     alloc: Global,
     name: Name,
@@ -126,14 +101,18 @@ fn read(
     ensures reading { Gives (λ reading. directives.reading_in reading ≡ directives.read_block name late block (cut (block_of view.now) block.from block.to block.first_cut block.rest_cut)) result }
     ensures looked { Looked 0 (1 + (block.to - block.from)) looks.old looks.new }
 {
-    let lines = lines_of(view, block);
-    let run = run_of(alloc, is_content(name, late), &lines, looks)?;
+    let lines = view.part(block.from, block.to, block.first_cut, block.rest_cut);
+    let none = match name {
+        Name::Code => late,
+        _ => false,
+    };
+    let run = run_of(alloc, none, &lines, looks)?;
     let rest = lines_end(&lines, run.len(), LineTest::Blank, looks);
     read_run(alloc, name, block, &run, rest)
 }
 
 /// Reads a block by its first run of lines; `rest` is the place of the first line behind it that isn't blank.
-#[tactic(auto, unfolding(crate::specs::Directive::read_by))]
+#[tactic(auto, using(crate::proofs::FieldLemmas::texts_front, crate::proofs::FieldLemmas::texts_behind), unfolding(crate::specs::Directive::read_by))]
 fn read_run(
     alloc: Global,
     name: Name,
@@ -150,48 +129,20 @@ fn read_run(
     let layout = layout_of(name, run, all, rest);
     let content = content_of(block, layout, all);
     let part = part_of(block, 0, layout.argument);
-    let before = front(run, layout.argument);
-    match fields_of(alloc, behind(run, layout.options))? {
-        Some(fields) => read_fields(alloc, name, content, before, part, &fields),
-        None => Ok(Err(Detail::InvalidOptionBlock)),
-    }
-}
-
-fn front<'r, 'a>(run: &'r [&'a str], n: usize) -> &'r [&'a str]
-    requires { n ≤ length run.now }
-    ensures { texts_of result.now ≡ take n (texts_of run.now) }
-{
-    &run[..n]
-}
-
-fn behind<'r, 'a>(run: &'r [&'a str], n: usize) -> &'r [&'a str]
-    requires { n ≤ length run.now }
-    ensures { texts_of result.now ≡ drop n (texts_of run.now) }
-{
-    &run[n..]
-}
-
-/// Reads the fields of a directive, and then its argument from some lines, which stand at `part`.
-fn read_fields(
-    alloc: Global,
-    name: Name,
-    content: Content,
-    lines: &[&str],
-    part: Part,
-    fields: &[Field],
-) -> Result<Result<Reading, Detail>, MarkupFault>
-    ensures { Gives (λ reading. directives.reading_in reading ≡ directives.read_parts name content (arguments.argument_of name (texts_of lines.now) part) (choices.settings_in name (choices.field_texts fields.now))) result }
-{
-    match settings_of(alloc, name, fields)? {
-        Ok(options) => match argument_of(alloc, name, lines, part)? {
-            Ok(argument) => Ok(Ok(Reading {
-                name,
-                argument,
-                options,
-                content,
-            })),
-            Err(detail) => Ok(Err(detail)),
-        },
+    let Some(fields) = fields_of(alloc, &run[layout.options..])? else {
+        return Ok(Err(Detail::InvalidOptionBlock));
+    };
+    let options = match settings_of(alloc, name, &fields)? {
+        Ok(options) => options,
+        Err(detail) => return Ok(Err(detail)),
+    };
+    match argument_of(alloc, name, &run[..layout.argument], part)? {
+        Ok(argument) => Ok(Ok(Reading {
+            name,
+            argument,
+            options,
+            content,
+        })),
         Err(detail) => Ok(Err(detail)),
     }
 }

@@ -1,5 +1,5 @@
 //! Where the parts of a directive's block stand.
-ghost use Rattle.std.specs.Prelude.{◌≡◌, ◌≤◌, length, chars};
+ghost use Rattle.std.specs.Prelude.{◌≡◌, ◌≤◌, length};
 ghost use Rattle.rst_markup_directives.specs.Lines.{texts_of};
 ghost use Rattle.rst_markup_directives.specs.Layout as spec;
 
@@ -17,21 +17,14 @@ pub(crate) struct Layout {
     pub second: usize,
 }
 
-/// Whether a line begins a field.
-#[tactic(auto, unfolding(crate::specs::Layout::begins_field))]
-fn begins_field(line: &str) -> bool
-    ensures { result ≡ spec.begins_field (chars line.now) }
-{
-    field_of(line).is_some()
-}
-
 /// How many of some lines stand before the first that begins a field.
+#[tactic(auto, unfolding(crate::specs::Layout::begins_field))]
 fn before_field(run: &[&str]) -> usize
     ensures value { result ≡ spec.before_field (texts_of run.now) }
     ensures within { result ≤ length run.now }
 {
     for (i, line) in run.iter().enumerate() {
-        if begins_field(line) {
+        if field_of(line).is_some() {
             return i;
         }
     }
@@ -51,7 +44,16 @@ pub(crate) fn layout_of(name: Name, run: &[&str], all: usize, rest: usize) -> La
     match (name.holds(), name.takes()) {
         (Holds::Paragraph, _) => content_alone(run, all),
         (_, Takes::Nothing) => parts_without_argument(run, all, rest),
-        _ => parts_with_argument(run, rest),
+        _ => {
+            // The argument ends where the options begin.
+            let from = before_field(run);
+            Layout {
+                argument: from,
+                first: 0,
+                options: from,
+                second: rest,
+            }
+        }
     }
 }
 
@@ -66,20 +68,6 @@ fn content_alone(run: &[&str], all: usize) -> Layout
         first: all,
         options: run.len(),
         second: all,
-    }
-}
-
-/// A block whose argument ends where the options begin.
-fn parts_with_argument(run: &[&str], rest: usize) -> Layout
-    ensures value { result ≡ spec.parts_with_argument (texts_of run.now) rest }
-    ensures argument { result.argument ≤ length run.now }
-{
-    let from = before_field(run);
-    Layout {
-        argument: from,
-        first: 0,
-        options: from,
-        second: rest,
     }
 }
 

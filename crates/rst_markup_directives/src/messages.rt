@@ -14,39 +14,29 @@ use std::alloc::{AllocError, Global};
 pub fn message(alloc: Global, fault: &DirectiveFault, name: &str) -> Result<String, MarkupFault>
     ensures { Gives (λ text. string_bytes text ≡ spec.fault_text (fault_in fault.now) name.now) result }
 {
-    Ok(text_of(alloc, fault, name)?)
-}
-
-fn text_of(alloc: Global, fault: &DirectiveFault, name: &str) -> Result<String, AllocError>
-    ensures { IfOk result (λ text. string_bytes text ≡ spec.fault_text (fault_in fault.now) name.now) }
-{
     match fault {
-        DirectiveFault::NotInSubstitution => format!(in alloc;
+        DirectiveFault::NotInSubstitution => Ok(format!(in alloc;
             "Substitution definition \"{name}\" may hold only image or replace."
-        ),
-        DirectiveFault::Unknown => format!(in alloc; "Unknown directive type \"{name}\"."),
-        DirectiveFault::Inside(detail) => error_in(alloc, name, detail),
-        DirectiveFault::NoContent => format!(in alloc;
+        )?),
+        DirectiveFault::Unknown => Ok(format!(in alloc; "Unknown directive type \"{name}\".")?),
+        DirectiveFault::Inside(detail) => {
+            let mut text = format!(in alloc; "Error in \"{name}\" directive:\n")?;
+            let detail = detail_of(alloc, detail)?;
+            text.push_str(detail.as_str())?;
+            Ok(text)
+        }
+        DirectiveFault::NoContent => Ok(format!(in alloc;
             "Content block expected for the \"{name}\" directive; none found."
-        ),
-        DirectiveFault::TopicNotHere => String::from_str(
+        )?),
+        DirectiveFault::TopicNotHere => Ok(String::from_str(
             alloc,
             "The \"topic\" directive may not be used within topics or body elements.",
-        ),
-        DirectiveFault::ReplaceNotHere => String::from_str(
+        )?),
+        DirectiveFault::ReplaceNotHere => Ok(String::from_str(
             alloc,
             "Invalid context: the \"replace\" directive can only be used within a substitution definition.",
-        ),
+        )?),
     }
-}
-
-fn error_in(alloc: Global, name: &str, detail: &Detail) -> Result<String, AllocError>
-    ensures { IfOk result (λ text. string_bytes text ≡ spec.error_in name.now (wrong_in detail.now)) }
-{
-    let mut text = format!(in alloc; "Error in \"{name}\" directive:\n")?;
-    let detail = detail_of(alloc, detail)?;
-    text.push_str(detail.as_str())?;
-    Ok(text)
 }
 
 /// What is wrong inside a directive, the line below `Error in ..`.

@@ -101,13 +101,6 @@ impl Name {
         }
     }
 
-    /// Whether the directive may be aligned vertically.
-    pub(crate) fn has_vertical(self) -> bool
-        ensures { result ≡ spec.has_vertical self }
-    {
-        !matches!(self, Name::Figure)
-    }
-
     /// Whether the directive has an option.
     pub(crate) fn has_option(self, option: OptionName) -> bool
         ensures { result ≡ spec.has_option self option }

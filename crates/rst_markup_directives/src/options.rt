@@ -96,25 +96,15 @@ pub(crate) fn fields_of(alloc: Global, run: &[&str]) -> Result<Option<Vec<Field>
     let mut fields = Vec::new(alloc);
     let mut i = 0;
     while i < run.len() {
-        let below = below_of(run, i);
-        let Some(field) = field_in(alloc, run[i], below)? else {
+        let behind = &run[i + 1..];
+        let deep = deep_len(behind);
+        let Some(field) = field_in(alloc, run[i], &behind[..deep])? else {
             return Ok(None);
         };
         fields.push(field)?;
-        i += 1 + below.len();
+        i += 1 + deep;
     }
     Ok(Some(fields))
-}
-
-/// The indented lines directly below a line.
-fn below_of<'r, 'a>(run: &'r [&'a str], i: usize) -> &'r [&'a str]
-    requires { i < length run.now }
-    ensures texts { texts_of result.now ≡ take_while (fronts.begins_with 32) (drop (i + 1) (texts_of run.now)) }
-    ensures len { length result.now ≡ prefix_len (fronts.begins_with 32) (drop (i + 1) (texts_of run.now)) }
-    ensures within { i + 1 + length result.now ≤ length run.now }
-{
-    let behind = &run[i + 1..];
-    &behind[..deep_len(behind)]
 }
 
 /// The field that a line begins, with the indented lines below it.
@@ -129,16 +119,6 @@ fn field_in(alloc: Global, line: &str, below: &[&str]) -> Result<Option<Field>, 
     let first = characters_of(alloc, skip(line, mark.marker.cut))?;
     let value = joined(alloc, first, below, least_indentation(below))?;
     Ok(Some(Field { name, value }))
-}
-
-/// Whether a field names no option of a directive.
-fn is_unknown(directive: Name, field: &Field) -> bool
-    ensures { result ≡ spec.is_unknown directive field.now.name.items }
-{
-    match OptionName::of(&field.name) {
-        Some(option) => !directive.has_option(option),
-        None => true,
-    }
 }
 
 /// Whether a name is that of one of some fields.
@@ -158,7 +138,8 @@ fn first_unknown(directive: Name, fields: &[Field]) -> Option<&[char]>
     ensures { option_map (λ name. name.now) result ≡ spec.first_unknown directive (spec.field_texts fields.now) }
 {
     for field in fields {
-        if is_unknown(directive, field) {
+        let option = OptionName::of(&field.name);
+        if !option.is_some_and(|option| directive.has_option(option)) {
             return Some(field.name.as_slice());
         }
     }
@@ -208,24 +189,14 @@ fn choices_of(
 {
     let mut settings = Vec::new(alloc);
     for field in fields {
-        let Some(setting) = setting_of(alloc, directive, field)? else {
-            let name = text_from(alloc, &field.name)?;
-            return Ok(Err(Detail::InvalidValue(name)));
-        };
-        settings.push(setting)?;
+        if let Some(option) = OptionName::of(&field.name)
+            && let Some(value) = option_value(alloc, directive, option, &field.value)?
+        {
+            settings.push(Setting { option, value })?;
+            continue;
+        }
+        let name = text_from(alloc, &field.name)?;
+        return Ok(Err(Detail::InvalidValue(name)));
     }
     Ok(Ok(settings))
-}
-
-/// The setting that a field makes, or none where its option can't have its value.
-fn setting_of(alloc: Global, directive: Name, field: &Field) -> Result<Option<Setting>, MarkupFault>
-    ensures { Gives (λ setting. option_map spec.choice_in setting ≡ spec.choice_of directive (spec.field_text field.now)) result }
-{
-    let Some(option) = OptionName::of(&field.name) else {
-        return Ok(None);
-    };
-    match option_value(alloc, directive, option, &field.value)? {
-        Some(value) => Ok(Some(Setting { option, value })),
-        None => Ok(None),
-    }
 }

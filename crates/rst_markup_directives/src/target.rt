@@ -35,8 +35,11 @@ pub fn target_value(alloc: Global, text: &str) -> Result<Option<Target>, MarkupF
         return Ok(Some(Target::Uri(uri)));
     }
     let characters = characters_of(alloc, text)?;
-    let text = target_text(alloc, &characters)?;
-    destination_in(alloc, &text)
+    let mut joined = Vec::with_capacity(alloc, characters.len())?;
+    for line in characters.split(|c| *c == '\n') {
+        add_line(&mut joined, &line[spaces(line)..])?;
+    }
+    destination_in(alloc, &joined)
 }
 
 /// Whether a text means the URI that it is, as most do: it is ASCII without white characters and escapes, and ends in no `_`.
@@ -74,17 +77,6 @@ fn destination_in(alloc: Global, text: &[char]) -> Result<Option<Target>, Markup
     Ok(Some(Target::Uri(uri)))
 }
 
-/// The lines of a text without their indentation, joined by line feeds, empty ones left out.
-fn target_text(alloc: Global, text: &[char]) -> Result<Vec<char>, AllocError>
-    ensures { IfOk result (λ joined. joined.items ≡ spec.target_text text.now) }
-{
-    let mut joined = Vec::with_capacity(alloc, text.len())?;
-    for line in text.split(|c| *c == '\n') {
-        add_line(&mut joined, &line[spaces(line)..])?;
-    }
-    Ok(joined)
-}
-
 /// Whether a character behind a text is escaped.
 fn ends_escaping(text: &[char]) -> bool
     ensures { result ≡ escapes.ends_escaping text.now }
@@ -106,34 +98,24 @@ fn is_simple_reference(text: &[char]) -> bool
     0 < n && (has(text, n - 1, '_') && is_simple_name(&text[..n - 1]))
 }
 
-/// Whether a text is a reference by a phrase in backquotes.
-#[tactic(auto, unfolding(crate::specs::Target::is_phrase_reference, crate::specs::Target::phrase_in))]
+/// Whether a text is a reference by a phrase in backquotes: the phrase isn't empty, white stands at neither end, and each
+/// backquote in it is escaped.
+#[tactic(auto, unfolding(crate::specs::Target::is_phrase_reference, crate::specs::Target::is_phrase, crate::specs::Target::phrase_in))]
 fn is_phrase_reference(text: &[char]) -> bool
     ensures value { result ≡ spec.is_phrase_reference text.now }
     ensures long { IsTrue result → 4 ≤ length text.now }
 {
     let n = text.len();
-    4 <= n
-        && (has(text, 0, '`')
-            && (has(text, n - 1, '_')
-                && (has(text, n - 2, '`')
-                    && (!ends_escaping(&text[..n - 2]) && is_phrase(&text[1..n - 2])))))
-}
-
-/// Whether a text may stand in backquotes as a phrase: it isn't empty, white stands at neither end, and each backquote
-/// in it is escaped.
-#[tactic(auto, unfolding(crate::specs::Target::is_phrase))]
-fn is_phrase(text: &[char]) -> bool
-    ensures { result ≡ spec.is_phrase text.now }
-{
-    is_dark(text, 0) && (is_dark(text, text.len() - 1) && !has_bare_backquote(text))
-}
-
-/// Whether a character is a backquote that isn't escaped.
-fn is_bare_backquote(c: char, escaped: bool) -> bool
-    ensures { result ≡ (c == 96 && not escaped) }
-{
-    c == '`' && !escaped
+    if n < 4 {
+        return false;
+    }
+    let phrase = &text[1..n - 2];
+    has(text, 0, '`')
+        && (has(text, n - 1, '_')
+            && (has(text, n - 2, '`')
+                && (!ends_escaping(&text[..n - 2])
+                    && (is_dark(phrase, 0)
+                        && (is_dark(phrase, phrase.len() - 1) && !has_bare_backquote(phrase))))))
 }
 
 /// Whether a backquote in a text isn't escaped.
@@ -142,7 +124,7 @@ fn has_bare_backquote(text: &[char]) -> bool
 {
     let mut escaped = false;
     for c in text {
-        if is_bare_backquote(*c, escaped) {
+        if *c == '`' && !escaped {
             return true;
         }
         escaped = escapes(*c, escaped);

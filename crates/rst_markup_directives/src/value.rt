@@ -2,7 +2,6 @@
 ghost use Rattle.std.specs.Prelude.{◌≡◌, option_map};
 ghost use Rattle.rst_markup_directives.specs.Faults.{Gives};
 ghost use Rattle.rst_markup_directives.specs.Measure as measures;
-ghost use Rattle.rst_markup_directives.specs.Target as targets;
 ghost use Rattle.rst_markup_directives.specs.Value as spec;
 
 use super::characters::{is_blank, text_from};
@@ -50,13 +49,17 @@ pub(crate) fn option_value(
         OptionName::FigureWidth => measure(alloc, value, true, true),
         OptionName::Scale => Ok(scale_of(alloc, value)?.map(|number| OptionValue::Number(number))),
         OptionName::Align => {
-            let alignment = alignment_of(value, directive.has_vertical());
-            Ok(alignment.map(|alignment| OptionValue::Place(alignment)))
+            let vertical = !matches!(directive, Name::Figure);
+            Ok(alignment_of(value, vertical).map(|alignment| OptionValue::Place(alignment)))
         }
         OptionName::Class | OptionName::FigureClass => {
             Ok(ids_of(alloc, value)?.map(|ids| OptionValue::Classes(ids)))
         }
-        OptionName::Target => link(alloc, value),
+        OptionName::Target => {
+            let source = text_from(alloc, value)?;
+            let to = target_value(alloc, source.as_str())?;
+            Ok(to.map(|to| OptionValue::Link { to, source }))
+        }
         OptionName::Name => {
             let text = text_from(alloc, value)?;
             Ok(Some(OptionValue::Name(name_of(alloc, text.as_str())?)))
@@ -77,16 +80,6 @@ fn measure(
             let measure = text_from(alloc, &measure)?;
             Ok(Some(OptionValue::Measure(measure)))
         }
-        None => Ok(None),
-    }
-}
-
-fn link(alloc: Global, value: &[char]) -> Result<Option<OptionValue>, MarkupFault>
-    ensures { Gives (λ shown. option_map spec.meaning_of shown ≡ option_map (λ to. spec.linked to value.now) (targets.target_value value.now)) result }
-{
-    let source = text_from(alloc, value)?;
-    match target_value(alloc, source.as_str())? {
-        Some(to) => Ok(Some(OptionValue::Link { to, source })),
         None => Ok(None),
     }
 }

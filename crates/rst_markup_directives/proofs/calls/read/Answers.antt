@@ -1,31 +1,37 @@
-use Rattle.std.proofs.Common.{◌≡◌, ◌-◌, Result, length, length-drop, drop, arith, cond, [], sym, ap, ◌∙◌, subst}
+use Rattle.std.proofs.Common.{◌≡◌, ◌-◌, ◌&&◌, Result, length, length-drop, drop, arith, rules, cond, [], sym, ap, ◌∙◌, subst}
 use Rattle.rst_text.specs.Block.{Block, cut}
 use Rattle.rst_text.specs.Shown.{block_of}
 use Rattle.rst_markup_blocks.specs.Lines.{lines_while}
 use Rattle.rst_markup_blocks.proofs.ReachLaws.{reach_within}
 use Rattle.rst_markup_blocks.proofs.RowLaws.{while_le}
 use Rattle.rst_markup_blocks.specs.declared.lines.LineTest.TheVariants.{Blank}
-use Rattle.rst_markup_directives.specs.Directive.{Read, reading_in, run_in}
+use Rattle.rst_markup_directives.specs.Directive.{Read, is_code_name, reading_in, run_in}
 use Rattle.rst_markup_directives.specs.Faults.{Gives}
 use Rattle.rst_markup_directives.specs.Lines.{first_run, texts_of}
 use Rattle.rst_markup_directives.specs.Wrong.{Wrong}
 use Rattle.rst_markup_directives.proofs.FieldLemmas.{length_texts}
 use Rattle.rst_markup_directives.proofs.BlockReads.{read-is}
+use Rattle.rst_markup_directives.proofs.Parts.{length_cut}
 use Rattle.rst_markup_directives.proofs.calls.read.Goals as goal
+use Rattle.rst_markup_directives.proofs.calls.read.Goals.{in-Code, in_default}
 
 pub returns-clause-looked : goal.returns-clause-looked
 returns-clause-looked c =
-    let H : Block = block_of c.lines_of-lines.result in
+    let H : Block = block_of c.part-lines.result in
     let Y : Block = drop c.len.result H in
     let far = reach_within (lines_while Blank Y) Y (while_le Blank Y) in
-    search (arith, c.lines_end-rest.ensures.looks, far.1, length-drop c.len.result H, c.in_ok-run.ensures.through, c.in_ok-run.ensures.within, c.lines_of-lines.ensures.len)
+    let len = ap length c.part-lines.ensures.block ∙ length_cut _ _ _ _ _ c.requires.block.ordered c.requires.block.within in
+    search (arith, c.lines_end-rest.ensures.looks, far.1, length-drop c.len.result H, c.in_ok-run.ensures.through, c.in_ok-run.ensures.within, len)
 
 pub returns-clause-reading : goal.returns-clause-reading
 unfolding run_in
 returns-clause-reading c =
+    let H : Block = block_of c.part-lines.result in
+    let len = ap length c.part-lines.ensures.block ∙ length_cut _ _ _ _ _ c.requires.block.ordered c.requires.block.within in
+    let none : c.match-name.none ≡ (c.args.late && is_code_name c.args.name) = elim c.match-name.branch [ in-Code w ↦ search rules | in_default w ↦ search rules ] in
     let count : length c.deref.result.now ≡ length (texts_of c.deref.result.now) = sym (length_texts c.deref.result.now) in
     let same = read-is c.args.name c.args.late c.args.block (cut (block_of c.args.view.now) c.args.block.from c.args.block.to c.args.block.first_cut c.args.block.rest_cut)
-    (block_of c.lines_of-lines.result) (texts_of c.deref.result.now) (c.args.block.to - c.args.block.from) c.len.result c.lines_end-rest.result
-    c.lines_of-lines.ensures.lines c.lines_of-lines.ensures.len (ap texts_of c.deref.ensures.value ∙ c.in_ok-run.ensures.texts ∙ ap (λ none. cond none [] (first_run (block_of c.lines_of-lines.result))) c.is_content.ensures) (c.len.ensures ∙ sym c.deref.ensures.len ∙ count) c.lines_end-rest.ensures.end in
+    H (texts_of c.deref.result.now) (c.args.block.to - c.args.block.from) c.len.result c.lines_end-rest.result
+    c.part-lines.ensures.block len (ap texts_of c.deref.ensures.value ∙ c.in_ok-run.ensures.texts ∙ ap (λ none. cond none [] (first_run H)) none) (c.len.ensures ∙ sym c.deref.ensures.len ∙ count) c.lines_end-rest.ensures.end in
     let P : Result Read Wrong → Type 0 = λ r. Gives (λ reading. reading_in reading ≡ r) c.read_run.result in
     subst P same c.read_run.ensures

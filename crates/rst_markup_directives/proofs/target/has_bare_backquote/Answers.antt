@@ -1,4 +1,5 @@
 use Rattle.std.proofs.Common.{true, false, sym, ◌∙◌, ap, arith}
+use Rattle.std.proofs.lemmas.Bool.Decides.{nat_tests}
 use Rattle.std.proofs.lemmas.List.{get_or_read}
 use Rattle.rst_text.proofs.PlacesLemmas.{NoneFrom-more}
 use Rattle.rst_inline_scan.specs.Escapes.{escapes}
@@ -13,17 +14,17 @@ loop-c-init c = record { escaped = sym (is_escaped-start c.args.text.now 0); non
 pub loop-c-preserved : goal.loop-c-preserved
 loop-c-preserved c =
     let item = get_or_read c.args.text.now _ _ (omega arith) c.c-item.is 0 in
-    let here = bare-at c.args.text.now c.loop-c.c-index _ c.loop-c.escaped false (omega arith) item c.loop-c.invariant.escaped (sym c.is_bare_backquote.ensures ∙ c.if-is_bare_backquote.false) in
+    let here = bare-at c.args.text.now c.loop-c.c-index _ c.loop-c.escaped false (omega arith) item c.loop-c.invariant.escaped (grind (arith, nat_tests)) in
     record {
       escaped = c.escapes-escaped.ensures ∙ ap (λ x. escapes x c.loop-c.escaped) item ∙ ap (escapes _) c.loop-c.invariant.escaped ∙ sym (is_escaped-more c.args.text.now 0 c.loop-c.c-index (omega arith));
       none = NoneFrom-more (is_bare_backquote c.args.text.now) 0 c.loop-c.c-index c.loop-c.invariant.none (λ low. here);
     }
 
-pub returns-then-is_bare_backquote : goal.returns-then-is_bare_backquote
-returns-then-is_bare_backquote c =
+pub returns-then-not-escaped : goal.returns-then-not-escaped
+returns-then-not-escaped c =
     let item = get_or_read c.args.text.now _ _ (omega arith) c.c-item.is 0 in
     bare-some c.args.text.now c.loop-c.c-index (omega arith)
-    (bare-at c.args.text.now c.loop-c.c-index _ c.loop-c.escaped true (omega arith) item c.loop-c.invariant.escaped (sym c.is_bare_backquote.ensures ∙ c.if-is_bare_backquote.true)) c.loop-c.invariant.none
+    (bare-at c.args.text.now c.loop-c.c-index _ c.loop-c.escaped true (omega arith) item c.loop-c.invariant.escaped (grind (arith, nat_tests))) c.loop-c.invariant.none
 
 pub returns : goal.returns
 returns c = bare-none c.args.text.now c.loop-c.c-index (omega arith) c.loop-c.invariant.none
