@@ -1,6 +1,6 @@
 //! References to footnotes and citations.
 ghost use Rattle.std.specs.Prelude.{◌≡◌, ◌<◌, ◌≤◌, length, IfSome};
-ghost use Rattle.rst_inline_scan.specs.Footnotes.{label_stop, closes_label, label};
+ghost use Rattle.rst_inline_scan.specs.Footnotes.{label_stop, label};
 
 use super::characters::{has, is_alnum_at, is_free_behind};
 use super::names::name_stop;
@@ -26,14 +26,6 @@ fn label_stop(text: &[char], place: usize) -> Option<usize>
     }
 }
 
-/// Whether what stands at the place closes a label.
-fn closes_label(text: &[char], place: usize) -> bool
-    requires { place ≤ length text.now }
-    ensures { result ≡ closes_label text.now place }
-{
-    has(text, place, ']') && has(text, place + 1, '_') && is_free_behind(text, place + 2)
-}
-
 /// The reference to a footnote or a citation that begins at the place.
 #[tactic(auto, unfolding(crate::specs::Footnotes::label))]
 pub(crate) fn label(text: &[char], place: usize) -> Option<Piece>
@@ -44,7 +36,7 @@ pub(crate) fn label(text: &[char], place: usize) -> Option<Piece>
         return None;
     }
     let stop = label_stop(text, place + 1)?;
-    if closes_label(text, stop) {
+    if has(text, stop, ']') && has(text, stop + 1, '_') && is_free_behind(text, stop + 2) {
         Some(Piece {
             kind: Kind::Label,
             from: place,

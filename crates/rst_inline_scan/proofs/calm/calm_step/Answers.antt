@@ -1,23 +1,34 @@
-use Rattle.std.proofs.Common.{◌≤◌, length, arith}
-use Rattle.rst_inline_scan.proofs.CalmLemmas.{calm-same, calm-step}
+use Rattle.std.proofs.Common.{◌≡◌, ◌+◌, ◌≤◌, length, true, get_or, arith}
+use Rattle.std.specs.Char.{is_ascii_alphanumeric}
+use Rattle.rst_inline_scan.proofs.CalmLemmas.{calm-longer, calm-same, calm-step}
 use Rattle.rst_inline_scan.proofs.calm.calm_step.Goals as goal
 
-pub returns-then-searched-bytes : goal.returns-then-searched-bytes
-returns-then-searched-bytes c text of =
-    calm-step text c.args.place c.calm_end.result (calm-same text c.args.bytes.now c.args.place c.calm_end.result of (record {
-      above = c.calm_end.ensures.above;
-      within = c.calm_end.ensures.within;
-      calm = c.calm_end.ensures.calm;
+pub loop-at-preserved : goal.loop-at-preserved
+loop-at-preserved c =
+    let run = c.run_end-at-in-loop-at.ensures in
+    let letter : is_ascii_alphanumeric (get_or c.args.bytes.now (c.loop-at.at + 1) 0) ≡ true = cc in
+    record {
+      above = let above = run.above in omega arith;
+      within = run.within;
+      calm = calm-longer c.args.bytes.now c.args.place c.loop-at.at c.run_end-at-in-loop-at.result c.loop-at.invariant.calm c.if-bytes-at-eq95.true letter run.pass;
+    }
+
+pub returns-then-at-bytes : goal.returns-then-at-bytes
+returns-then-at-bytes c text of =
+    calm-step text c.args.place c.loop-at.at (calm-same text c.args.bytes.now c.args.place c.loop-at.at of (record {
+      above = c.loop-at.invariant.above;
+      within = c.loop-at.invariant.within;
+      calm = c.loop-at.invariant.calm;
       edge = λ some inside. absurd (omega arith);
     }))
 
-pub returns : goal.returns
-returns c text of =
-    let below : c.name_start.result ≤ c.calm_end.result = c.name_start.ensures.below in
-    let within : c.calm_end.result ≤ length c.args.bytes.now = c.calm_end.ensures.within in
+pub returns-else-at-bytes : goal.returns-else-at-bytes
+returns-else-at-bytes c text of =
+    let below : c.name_start.result ≤ c.loop-at.at = c.name_start.ensures.below in
+    let within : c.loop-at.at ≤ length c.args.bytes.now = c.loop-at.invariant.within in
     calm-step text c.args.place c.name_start.result (calm-same text c.args.bytes.now c.args.place c.name_start.result of (record {
       above = c.name_start.ensures.above;
       within = omega arith;
-      calm = λ k low less. c.calm_end.ensures.calm k low (omega arith);
+      calm = λ k low less. c.loop-at.invariant.calm k low (omega arith);
       edge = λ some inside. c.name_start.ensures.edge some;
     }))
