@@ -66,13 +66,15 @@ fn name_start(bytes: &[u8], from: usize, to: usize) -> usize
 }
 
 /// The place behind the bytes from the place on that are calm, or underscores before a letter or a digit, but not inside a name.
-/// Up to `searched` earlier steps have looked, so there nothing is looked for again.
-fn calm_step(bytes: &[u8], place: usize, searched: &mut usize) -> usize
+/// Up to `searched` earlier steps have looked, so there nothing is looked for again. And whether what stands there is escaped if what
+/// stands at `place` is or not.
+pub(crate) fn step(bytes: &[u8], place: usize, escaped: bool, searched: &mut usize) -> (usize, bool)
     requires { place < length bytes.now }
-    ensures { (text : List ℕ) → AreBytesOf text bytes.now → IsStep text place result }
+    ensures over { (text : List ℕ) → AreBytesOf text bytes.now → IsStep text place result.0 }
+    ensures escaped { result.1 ≡ (escaped && result.0 == place) }
 {
     if place < *searched {
-        return place;
+        return (place, escaped);
     }
     let mut at = run_end::<Calm>(bytes, place);
     while at + 1 < bytes.len() && bytes[at] == b'_' && bytes[at + 1].is_ascii_alphanumeric() {
@@ -80,18 +82,8 @@ fn calm_step(bytes: &[u8], place: usize, searched: &mut usize) -> usize
     }
     *searched = at;
     if at == bytes.len() {
-        at
-    } else {
-        name_start(bytes, place, at)
+        return (at, escaped & (at == place));
     }
-}
-
-/// The same, and whether what stands there is escaped if what stands at `place` is or not.
-pub(crate) fn step(bytes: &[u8], place: usize, escaped: bool, searched: &mut usize) -> (usize, bool)
-    requires { place < length bytes.now }
-    ensures over { (text : List ℕ) → AreBytesOf text bytes.now → IsStep text place result.0 }
-    ensures escaped { result.1 ≡ (escaped && result.0 == place) }
-{
-    let start = calm_step(bytes, place, searched);
-    (start, escaped && start == place)
+    let start = name_start(bytes, place, at);
+    (start, escaped & (start == place))
 }

@@ -1,7 +1,7 @@
 use Rattle.std.proofs.Common.{◌≡◌, ◌+◌, ◌≤◌, length, true, get_or, arith}
 use Rattle.std.specs.Char.{is_ascii_alphanumeric}
 use Rattle.rst_inline_scan.proofs.CalmLemmas.{calm-longer, calm-same, calm-step}
-use Rattle.rst_inline_scan.proofs.calm.calm_step.Goals as goal
+use Rattle.rst_inline_scan.proofs.calm.step.Goals as goal
 
 pub loop-at-preserved : goal.loop-at-preserved
 loop-at-preserved c =
@@ -13,8 +13,8 @@ loop-at-preserved c =
       calm = calm-longer c.args.bytes.now c.args.place c.loop-at.at c.run_end-at-in-loop-at.result c.loop-at.invariant.calm c.if-bytes-at-eq95.true letter run.pass;
     }
 
-pub returns-then-at-bytes : goal.returns-then-at-bytes
-returns-then-at-bytes c text of =
+pub returns-then-at-bytes-clause-over : goal.returns-then-at-bytes-clause-over
+returns-then-at-bytes-clause-over c text of =
     calm-step text c.args.place c.loop-at.at (calm-same text c.args.bytes.now c.args.place c.loop-at.at of (record {
       above = c.loop-at.invariant.above;
       within = c.loop-at.invariant.within;
@@ -22,13 +22,13 @@ returns-then-at-bytes c text of =
       edge = λ some inside. absurd (omega arith);
     }))
 
-pub returns-else-at-bytes : goal.returns-else-at-bytes
-returns-else-at-bytes c text of =
-    let below : c.name_start.result ≤ c.loop-at.at = c.name_start.ensures.below in
+pub returns-clause-over : goal.returns-clause-over
+returns-clause-over c text of =
+    let below : c.name_start-start.result ≤ c.loop-at.at = c.name_start-start.ensures.below in
     let within : c.loop-at.at ≤ length c.args.bytes.now = c.loop-at.invariant.within in
-    calm-step text c.args.place c.name_start.result (calm-same text c.args.bytes.now c.args.place c.name_start.result of (record {
-      above = c.name_start.ensures.above;
+    calm-step text c.args.place c.name_start-start.result (calm-same text c.args.bytes.now c.args.place c.name_start-start.result of (record {
+      above = c.name_start-start.ensures.above;
       within = omega arith;
       calm = λ k low less. c.loop-at.invariant.calm k low (omega arith);
-      edge = λ some inside. c.name_start.ensures.edge some;
+      edge = λ some inside. c.name_start-start.ensures.edge some;
     }))
