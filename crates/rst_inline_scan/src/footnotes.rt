@@ -1,6 +1,6 @@
 //! References to footnotes and citations.
-ghost use Rattle.std.specs.Prelude.{◌≡◌, ◌<◌, ◌≤◌, length, IfSome};
-ghost use Rattle.rst_inline_scan.specs.Footnotes.{label_stop, label};
+ghost use Rattle.std.specs.Prelude.{◌≡◌, ◌<◌, length};
+ghost use Rattle.rst_inline_scan.specs.Footnotes.{label};
 
 use super::characters::{has, is_alnum_at, is_free_behind};
 use super::names::name_stop;

@@ -1,7 +1,7 @@
 //! Inline markup between a start-string and an end-string.
 ghost use Rattle.std.specs.Prelude.{◌≡◌, ℕ, ◌+◌, ◌<◌, ◌≤◌, true, Some, length, option_map, IfSome};
 ghost use Rattle.std.specs.Option.{is_some};
-ghost use Rattle.rst_inline_scan.specs.Marked.{start_len, end_len, mark, has_start, has_end, start_of, starts, tail_of, ends, markup_end, marked};
+ghost use Rattle.rst_inline_scan.specs.Marked.{start_len, end_len, mark, has_start, start_of, starts, tail_of, ends, markup_end, marked};
 ghost use Rattle.rst_inline_scan.specs.Escapes.{is_escaped};
 ghost use Rattle.rst_inline_scan.specs.Missing.{IsMissing};
 

@@ -1,6 +1,6 @@
 //! Standalone URIs.
 ghost use Rattle.std.specs.Prelude.{◌≡◌, ◌<◌, ◌≤◌, ◌↔◌, ℕ, length, IsTrue};
-ghost use Rattle.std.specs.Str.{chars, IsUtf8};
+ghost use Rattle.std.specs.Str.{chars};
 ghost use Rattle.std.specs.List.{list_all};
 ghost use Rattle.rst_inline_scan.specs.Uri.{has_letter, has_any_case, scheme_end, is_uri_char, is_uri_trail, uri_stop, uri_close, uri_end, uri, IsUri};
 ghost use Rattle.rst_inline_scan.specs.Missing.{IsMissing};

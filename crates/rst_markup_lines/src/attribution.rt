@@ -1,5 +1,5 @@
 //! Attributions.
-ghost use Rattle.std.specs.Prelude.{◌≡◌, ◌≤◌, chars};
+ghost use Rattle.std.specs.Prelude.{◌≡◌, chars};
 ghost use Rattle.rst_markup_lines.specs.Attribution as spec;
 
 use super::class::{Class, run};

@@ -1,5 +1,5 @@
 //! Where what an opening mark began is closed.
-ghost use Rattle.std.specs.Prelude.{◌≡◌, ◌≤◌, ◌<◌, ◌-◌, ◌&&◌, ◌==◌, not, drop, length, slice_get, IfSome, chars};
+ghost use Rattle.std.specs.Prelude.{◌≡◌, ◌<◌, ◌-◌, ◌&&◌, ◌==◌, not, drop, length, IfSome, chars};
 ghost use Rattle.rst_text.specs.Block as block;
 ghost use Rattle.rst_markup_lines.specs.Closing as spec;
 ghost use Rattle.rst_markup_lines.specs.Front as fronts;

@@ -1,5 +1,5 @@
 //! Enumerators.
-ghost use Rattle.std.specs.Prelude.{◌≡◌, ◌≤◌, ◌<◌, ◌^◌, ◌+◌, length, IfSome, chars};
+ghost use Rattle.std.specs.Prelude.{◌≡◌, ◌<◌, ◌^◌, ◌+◌, IfSome, chars};
 ghost use Rattle.rst_markup_lines.specs.Enumerator as spec;
 
 use super::class::{Class, run};

@@ -1,5 +1,5 @@
 //! Marks of explicit markup: `..` and `__`, and what stands behind `..`.
-ghost use Rattle.std.specs.Prelude.{◌≡◌, ◌<◌, ◌≤◌, ◌-◌, ◌^◌, ◌&&◌, ◌||◌, true, drop, take, length, chars};
+ghost use Rattle.std.specs.Prelude.{◌≡◌, ◌<◌, ◌≤◌, ◌-◌, ◌&&◌, ◌||◌, true, drop, take, length, chars};
 ghost use Rattle.rst_text.specs.Characters as characters;
 ghost use Rattle.rst_inline_scan.specs.Characters.{is_alnum_at};
 ghost use Rattle.rst_inline_scan.specs.Names as names;

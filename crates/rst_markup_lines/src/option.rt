@@ -1,10 +1,10 @@
 //! Option markers.
-ghost use Rattle.std.specs.Prelude.{◌≡◌, ◌≤◌, ◌<◌, ◌+◌, ◌-◌, ◌^◌, length, IfSome, chars};
+ghost use Rattle.std.specs.Prelude.{◌≡◌, ◌≤◌, ◌<◌, ◌+◌, ◌-◌, ◌^◌, IfSome, chars};
 ghost use Rattle.rst_markup_lines.specs.OptionMarker as spec;
 
 use super::class::{Class, run};
 use super::marker::{Marker, marker_of};
-use super::text::{begins_with, front, is_blank};
+use super::text::{begins_with, front};
 use rst_text::{is_letter, skip};
 
 /// What stands between an option and its argument.
