@@ -1,26 +1,19 @@
 //! Calm characters, which are stepped over: at them no markup begins but a name or a URI, and none of these ends.
 ghost use Rattle.std.specs.Prelude.{◌≡◌, ℕ, ◌-◌, ◌<◌, ◌≤◌, ◌&&◌, ◌==◌, false, List, slice_index, length, IfOk, map};
-ghost use Rattle.rst_inline_scan.specs.Calm.{AreBytesOf, byte_of, is_calm, AreCalm, is_of_name, IsStep};
+ghost use Rattle.rst_inline_scan.specs.Calm.{AreBytesOf, byte_of, is_of_name, IsStep};
 
 use super::names::is_joint;
 use rst_text::{ByteTest, run_end};
 use std::alloc::{AllocError, Global};
 use std::simd::prelude::*;
 
-/// The byte for a character: that of ASCII, or one past ASCII.
-fn byte_of(c: char) -> u8
-    ensures { result ≡ byte_of c }
-{
-    if c.is_ascii() { c as u8 } else { 128 }
-}
-
-/// A byte for each character.
+/// A byte for each character: that of ASCII, or one past ASCII.
 pub(crate) fn bytes_of(alloc: Global, text: &[char]) -> Result<Vec<u8>, AllocError>
     ensures { IfOk result (λ bytes. bytes.items ≡ map byte_of text.now) }
 {
     let mut bytes = Vec::with_capacity(alloc, text.len())?;
     for c in text {
-        bytes.push_reserved(byte_of(*c));
+        bytes.push_reserved(if c.is_ascii() { *c as u8 } else { 128 });
     }
     Ok(bytes)
 }
@@ -50,20 +43,6 @@ impl ByteTest for Calm {
     }
 }
 
-/// The place behind the bytes from a place on that are calm, or underscores before a letter or a digit.
-fn calm_end(bytes: &[u8], place: usize) -> usize
-    requires { place < length bytes.now }
-    ensures above { place ≤ result }
-    ensures within { result ≤ length bytes.now }
-    ensures calm { AreCalm bytes.now place result }
-{
-    let mut at = run_end::<Calm>(bytes, place);
-    while at + 1 < bytes.len() && bytes[at] == b'_' && bytes[at + 1].is_ascii_alphanumeric() {
-        at = run_end::<Calm>(bytes, at + 1);
-    }
-    at
-}
-
 /// Whether the name of a reference or the scheme of a URI may hold the byte.
 fn is_of_name(byte: u8) -> bool
     ensures { result ≡ is_of_name byte }
@@ -86,28 +65,25 @@ fn name_start(bytes: &[u8], from: usize, to: usize) -> usize
     start
 }
 
-/// The place behind the calm bytes from the place on, but not inside a name. Up to `searched` earlier steps have looked, so there
-/// nothing is looked for again.
-fn calm_step(bytes: &[u8], place: usize, searched: &mut usize) -> usize
-    requires { place < length bytes.now }
-    ensures { (text : List ℕ) → AreBytesOf text bytes.now → IsStep text place result }
-{
-    if place < *searched {
-        return place;
-    }
-    *searched = calm_end(bytes, place);
-    if *searched == bytes.len() {
-        return *searched;
-    }
-    name_start(bytes, place, *searched)
-}
-
-/// The same, and whether what stands there is escaped if what stands at `place` is or not.
+/// The place behind the bytes from the place on that are calm, or underscores before a letter or a digit, but not inside a name.
+/// Up to `searched` earlier steps have looked, so there nothing is looked for again. And whether what stands there is escaped if what
+/// stands at `place` is or not.
 pub(crate) fn step(bytes: &[u8], place: usize, escaped: bool, searched: &mut usize) -> (usize, bool)
     requires { place < length bytes.now }
     ensures over { (text : List ℕ) → AreBytesOf text bytes.now → IsStep text place result.0 }
     ensures escaped { result.1 ≡ (escaped && result.0 == place) }
 {
-    let start = calm_step(bytes, place, searched);
-    (start, escaped && start == place)
+    if place < *searched {
+        return (place, escaped);
+    }
+    let mut at = run_end::<Calm>(bytes, place);
+    while at + 1 < bytes.len() && bytes[at] == b'_' && bytes[at + 1].is_ascii_alphanumeric() {
+        at = run_end::<Calm>(bytes, at + 1);
+    }
+    *searched = at;
+    if at == bytes.len() {
+        return (at, escaped & (at == place));
+    }
+    let start = name_start(bytes, place, at);
+    (start, escaped & (start == place))
 }

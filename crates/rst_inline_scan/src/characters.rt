@@ -1,6 +1,6 @@
 //! The characters that decide where inline markup may stand.
 ghost use Rattle.std.specs.Prelude.{◌≡◌, IfOk};
-ghost use Rattle.rst_inline_scan.specs.Characters.{may_precede, may_follow, may_precede_by, may_follow_by, is_pair, has, without_white, is_dark, is_alnum_at, is_free_behind};
+ghost use Rattle.rst_inline_scan.specs.Characters.{may_precede, has, without_white, is_dark, is_alnum_at, is_free_behind};
 
 use rst_text::{is_alphanumeric, is_white};
 use std::alloc::{AllocError, Global};
@@ -13,57 +13,17 @@ pub(crate) fn may_precede(c: char) -> bool
 {
     match c {
         '-' | ':' | '/' | '\'' | '"' | '<' | '(' | '[' | '{' => true,
-        _ => is_white(c) || (!c.is_ascii() && may_precede_by(GeneralCategory::for_char(c))),
+        _ => is_white(c)
+            || (!c.is_ascii()
+                && matches!(
+                    GeneralCategory::for_char(c),
+                    GeneralCategory::OpenPunctuation
+                        | GeneralCategory::InitialPunctuation
+                        | GeneralCategory::FinalPunctuation
+                        | GeneralCategory::DashPunctuation
+                        | GeneralCategory::OtherPunctuation
+                )),
     }
-}
-
-fn may_precede_by(category: GeneralCategory) -> bool
-    ensures { result ≡ may_precede_by category }
-{
-    matches!(
-        category,
-        GeneralCategory::OpenPunctuation
-            | GeneralCategory::InitialPunctuation
-            | GeneralCategory::FinalPunctuation
-            | GeneralCategory::DashPunctuation
-            | GeneralCategory::OtherPunctuation
-    )
-}
-
-/// Whether the character may stand behind an end.
-#[tactic(auto, unfolding(crate::specs::Characters::may_follow))]
-fn may_follow(c: char) -> bool
-    ensures { result ≡ may_follow c }
-{
-    match c {
-        '\'' | '"' | ')' | ']' | '}' | '>' | '-' | '/' | '\\' | ':' | '.' | ',' | ';' | '!' | '?' =>
-            { true }
-        _ => is_white(c) || (!c.is_ascii() && may_follow_by(GeneralCategory::for_char(c))),
-    }
-}
-
-fn may_follow_by(category: GeneralCategory) -> bool
-    ensures { result ≡ may_follow_by category }
-{
-    matches!(
-        category,
-        GeneralCategory::ClosePunctuation
-            | GeneralCategory::InitialPunctuation
-            | GeneralCategory::FinalPunctuation
-            | GeneralCategory::DashPunctuation
-            | GeneralCategory::OtherPunctuation
-    )
-}
-
-/// Whether the two are quotes or brackets that match.
-#[tactic(auto, unfolding(crate::specs::Characters::is_pair))]
-pub(crate) fn is_pair(before: char, behind: char) -> bool
-    ensures { result ≡ is_pair before behind }
-{
-    matches!(
-        (before, behind),
-        ('\'', '\'') | ('"', '"') | ('<', '>') | ('(', ')') | ('[', ']') | ('{', '}')
-    )
 }
 
 /// Whether the character stands at the place.
@@ -106,12 +66,27 @@ pub(crate) fn is_alnum_at(text: &[char], place: usize) -> bool
     }
 }
 
-/// Whether an end may stand before the place.
+/// Whether an end may stand before the place: at the text's end, or before a character that may stand behind an end.
+#[tactic(auto, unfolding(crate::specs::Characters::may_follow))]
 pub(crate) fn is_free_behind(text: &[char], place: usize) -> bool
     ensures { result ≡ is_free_behind text.now place }
 {
-    match text.get(place) {
-        Some(c) => may_follow(*c),
-        None => true,
+    if text.len() <= place {
+        return true;
+    }
+    let c = text[place];
+    match c {
+        '\'' | '"' | ')' | ']' | '}' | '>' | '-' | '/' | '\\' | ':' | '.' | ',' | ';' | '!' | '?' =>
+            { true }
+        _ => is_white(c)
+            || (!c.is_ascii()
+                && matches!(
+                    GeneralCategory::for_char(c),
+                    GeneralCategory::ClosePunctuation
+                        | GeneralCategory::InitialPunctuation
+                        | GeneralCategory::FinalPunctuation
+                        | GeneralCategory::DashPunctuation
+                        | GeneralCategory::OtherPunctuation
+                )),
     }
 }

@@ -1,18 +1,16 @@
 //! Inline markup between a start-string and an end-string.
 ghost use Rattle.std.specs.Prelude.{◌≡◌, ℕ, ◌+◌, ◌<◌, ◌≤◌, true, Some, length, option_map, IfSome};
-ghost use Rattle.std.specs.Option.{is_some, option_or};
-ghost use Rattle.rst_inline_scan.specs.Marked.{start_len, end_len, mark, has_start, has_end, has_escapes, start_of, starts, tail_of, ends, markup_end, unended_piece, ended_piece, marked};
+ghost use Rattle.std.specs.Option.{is_some};
+ghost use Rattle.rst_inline_scan.specs.Marked.{start_len, end_len, mark, has_start, start_of, starts, tail_of, ends, markup_end, marked};
 ghost use Rattle.rst_inline_scan.specs.Escapes.{is_escaped};
-ghost use Rattle.rst_inline_scan.specs.Tails.{name_tail, role_tail, bare_tail};
-ghost use Rattle.rst_inline_scan.specs.Names.{role_end};
 ghost use Rattle.rst_inline_scan.specs.Missing.{IsMissing};
 
-use super::characters::{has, is_dark, is_pair};
+use super::characters::{has, is_dark, is_free_behind};
 use super::escaping::escapes;
 use super::missing::Missing;
 use super::names::role_end;
-use super::piece::{Kind, Markup, Piece, Tail};
-use super::tails::{bare_tail, name_tail, role_tail};
+use super::piece::{Kind, Markup, Piece, Suffix, Tail};
+use super::tails::name_tail;
 
 impl Markup {
     /// How many characters the start-string has.
@@ -61,23 +59,6 @@ impl Markup {
         }
     }
 
-    /// Whether the end-string stands at the place.
-    fn has_end(self, text: &[char], place: usize) -> bool
-        requires { place ≤ length text.now }
-        ensures { result ≡ has_end self text.now place }
-    {
-        has(text, place, self.mark()) && (self.end_len() == 1 || has(text, place + 1, self.mark()))
-    }
-
-    fn has_escapes(self) -> bool
-        ensures { result ≡ has_escapes self }
-    {
-        match self {
-            Markup::Literal => false,
-            _ => true,
-        }
-    }
-
     /// Where the start-string of markup that begins at the place stands.
     #[tactic(auto, unfolding(crate::specs::Marked::start_of))]
     fn start(self, text: &[char], place: usize) -> usize
@@ -96,7 +77,7 @@ impl Markup {
     }
 
     /// Whether the markup begins at `place` with its start-string at `start`, where what stands before allows it.
-    #[tactic(auto, unfolding(crate::specs::Marked::starts))]
+    #[tactic(auto, unfolding(crate::specs::Marked::starts, crate::specs::Characters::is_pair))]
     fn starts(self, text: &[char], place: usize, start: usize) -> bool
         requires order { place ≤ start }
         requires below { start ≤ length text.now }
@@ -105,7 +86,11 @@ impl Markup {
         let behind = start + self.start_len();
         self.has_start(text, start)
             && is_dark(text, behind)
-            && (place == 0 || !is_pair(text[place - 1], text[behind]))
+            && (place == 0
+                || !matches!(
+                    (text[place - 1], text[behind]),
+                    ('\'', '\'') | ('"', '"') | ('<', '>') | ('(', ')') | ('[', ']') | ('{', '}')
+                ))
     }
 
     /// What stands behind the end-string at the place, the first that fits.
@@ -114,10 +99,29 @@ impl Markup {
         requires { place < length text.now }
         ensures { result ≡ tail_of self text.now place }
     {
-        match self {
-            Markup::Substitution => substitution_tail(text, place + 1),
-            Markup::Interpreted => interpreted_tail(text, place + 1),
-            _ => bare_tail(text, place + self.end_len()),
+        if let Markup::Substitution | Markup::Interpreted = self {
+            if let Some(tail) = name_tail(text, place + 1) {
+                return Some(tail);
+            }
+        }
+        if let Markup::Interpreted = self {
+            if let Some(end) = role_end(text, place + 1) {
+                if is_free_behind(text, end) {
+                    return Some(Tail {
+                        suffix: Suffix::Role,
+                        to: end,
+                    });
+                }
+            }
+        }
+        let to = place + self.end_len();
+        if is_free_behind(text, to) {
+            Some(Tail {
+                suffix: Suffix::Bare,
+                to,
+            })
+        } else {
+            None
         }
     }
 
@@ -129,9 +133,10 @@ impl Markup {
         ensures ends { (from : ℕ) → escaped ≡ is_escaped text.now from place → is_some result ≡ ends self text.now from place }
         ensures tail { IfSome result (λ tail. tail_of self text.now place ≡ Some tail) }
     {
-        if !self.has_end(text, place)
+        if !has(text, place, self.mark())
+            || (self.end_len() == 2 && !has(text, place + 1, self.mark()))
             || !is_dark(text, place - 1)
-            || (self.has_escapes() && escaped)
+            || (escaped && !matches!(self, Markup::Literal))
         {
             return None;
         }
@@ -160,35 +165,6 @@ impl Markup {
         None
     }
 
-    /// The start-string alone, with the role in front of it.
-    fn unended_piece(self, place: usize, start: usize) -> Piece
-        requires { start + 2 ≤ usize.MAX }
-        ensures { result ≡ unended_piece self place start }
-    {
-        let behind = start + self.start_len();
-        Piece {
-            kind: Kind::Unended(self),
-            from: place,
-            content_from: behind,
-            content_to: behind,
-            to: behind,
-        }
-    }
-
-    /// The markup with its end-string at `end` and what stands behind that.
-    fn ended_piece(self, place: usize, start: usize, end: usize, tail: Tail) -> Piece
-        requires { start + 2 ≤ usize.MAX }
-        ensures { result ≡ ended_piece self place start end tail }
-    {
-        Piece {
-            kind: Kind::Marked(self, tail.suffix),
-            from: place,
-            content_from: start + self.start_len(),
-            content_to: end,
-            to: tail.to,
-        }
-    }
-
     /// The piece that the markup gives at the place, if it begins there.
     #[tactic(auto, unfolding(crate::specs::Marked::marked))]
     pub(crate) fn piece(self, text: &[char], place: usize, missing: &mut Missing) -> Option<Piece>
@@ -201,34 +177,23 @@ impl Markup {
         if !self.starts(text, place, start) {
             return None;
         }
+        let content_from = start + self.start_len();
         Some(match missing.end(self, text, place, start) {
-            Some((end, tail)) => self.ended_piece(place, start, end, tail),
-            None => self.unended_piece(place, start),
+            Some((end, tail)) => Piece {
+                kind: Kind::Marked(self, tail.suffix),
+                from: place,
+                content_from,
+                content_to: end,
+                to: tail.to,
+            },
+            // The start-string alone, with the role in front of it.
+            None => Piece {
+                kind: Kind::Unended(self),
+                from: place,
+                content_from,
+                content_to: content_from,
+                to: content_from,
+            },
         })
     }
-}
-
-/// Underscores or nothing.
-fn substitution_tail(text: &[char], place: usize) -> Option<Tail>
-    requires { place ≤ length text.now }
-    ensures { result ≡ option_or (name_tail text.now place) (bare_tail text.now place) }
-{
-    if let Some(tail) = name_tail(text, place) {
-        return Some(tail);
-    }
-    bare_tail(text, place)
-}
-
-/// Underscores, a role or nothing.
-fn interpreted_tail(text: &[char], place: usize) -> Option<Tail>
-    requires { place ≤ length text.now }
-    ensures { result ≡ option_or (name_tail text.now place) (option_or (role_tail text.now (role_end text.now place)) (bare_tail text.now place)) }
-{
-    if let Some(tail) = name_tail(text, place) {
-        return Some(tail);
-    }
-    if let Some(tail) = role_tail(text, role_end(text, place)) {
-        return Some(tail);
-    }
-    bare_tail(text, place)
 }

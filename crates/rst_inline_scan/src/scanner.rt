@@ -3,7 +3,7 @@ ghost use Rattle.std.specs.Prelude.{◌≡◌, ℕ, ◌<◌, length, IfOk};
 ghost use Rattle.rst_inline_scan.specs.Calm.{AreBytesOf};
 ghost use Rattle.rst_inline_scan.specs.Escapes.{is_escaped};
 ghost use Rattle.rst_inline_scan.specs.Marked.{markup_of};
-ghost use Rattle.rst_inline_scan.specs.Pieces.{markup_at, is_free, piece_at, plain_from, IsPieces};
+ghost use Rattle.rst_inline_scan.specs.Pieces.{markup_at, piece_at, plain_from, IsPieces};
 ghost use Rattle.rst_inline_scan.specs.Missing.{IsMissing};
 ghost use Rattle.rst_inline_scan.specs.Words.{IsWord};
 
@@ -57,18 +57,9 @@ fn markup_at(text: &[char], place: usize, missing: &mut Missing) -> Option<Piece
     uri(text, place, missing)
 }
 
-/// Whether a start may stand at the place, which is escaped or not.
-#[tactic(auto, unfolding(crate::specs::Pieces::is_free))]
-fn is_free(text: &[char], place: usize, escaped: bool) -> bool
-    requires { place < length text.now }
-    ensures { (from : ℕ) → escaped ≡ is_escaped text.now from place → result ≡ is_free text.now from place }
-{
-    !escaped && (place == 0 || may_precede(text[place - 1]))
-}
-
 /// The piece that begins at the place, which is escaped or not, if a start stands there. The word that begins there ends at
 /// `end`.
-#[tactic(auto, unfolding(crate::specs::Pieces::piece_at))]
+#[tactic(auto, unfolding(crate::specs::Pieces::piece_at, crate::specs::Pieces::is_free))]
 fn piece_at(
     text: &[char],
     place: usize,
@@ -85,7 +76,7 @@ fn piece_at(
     if place < end && !goes_on(text, end) {
         return None;
     }
-    if is_free(text, place, escaped) {
+    if !escaped && (place == 0 || may_precede(text[place - 1])) {
         markup_at(text, place, missing)
     } else {
         None

@@ -1,6 +1,6 @@
 //! Standalone URIs.
 ghost use Rattle.std.specs.Prelude.{◌≡◌, ◌<◌, ◌≤◌, ◌↔◌, ℕ, length, IsTrue};
-ghost use Rattle.std.specs.Str.{chars, IsUtf8};
+ghost use Rattle.std.specs.Str.{chars};
 ghost use Rattle.std.specs.List.{list_all};
 ghost use Rattle.rst_inline_scan.specs.Uri.{has_letter, has_any_case, scheme_end, is_uri_char, is_uri_trail, uri_stop, uri_close, uri_end, uri, IsUri};
 ghost use Rattle.rst_inline_scan.specs.Missing.{IsMissing};
@@ -175,13 +175,8 @@ pub(crate) fn uri(text: &[char], place: usize, missing: &mut Missing) -> Option<
 pub fn plain_uri(text: &str) -> bool
     ensures { IsTrue result ↔ IsUri (chars text.now) }
 {
-    is_ascii_uri(text.as_bytes())
-}
-
-/// The same for the bytes of a text. Each character of a URI is one byte.
-fn is_ascii_uri(bytes: &[u8]) -> bool
-    ensures { IsUtf8 bytes.now → IsTrue result ↔ IsUri (chars bytes.now) }
-{
+    // Each character of a URI is one byte.
+    let bytes = text.as_bytes();
     match ascii_scheme_end(bytes) {
         Some(behind) => behind < bytes.len()
             && are_uri_chars(bytes)
@@ -193,12 +188,7 @@ fn is_ascii_uri(bytes: &[u8]) -> bool
 fn are_uri_chars(bytes: &[u8]) -> bool
     ensures { result ≡ list_all is_uri_char bytes.now }
 {
-    for byte in bytes {
-        if !is_uri_char(char::from(*byte)) {
-            return false;
-        }
-    }
-    true
+    bytes.iter().all(|byte| is_uri_char(char::from(*byte)))
 }
 
 /// The place behind the scheme that the bytes begin with.

@@ -1,16 +1,8 @@
 //! Words: runs of ASCII letters and digits, inside which nothing begins.
 ghost use Rattle.std.specs.Prelude.{◌≡◌, ◌≤◌, length};
-ghost use Rattle.std.specs.Char.{is_ascii_alphanumeric};
 ghost use Rattle.rst_inline_scan.specs.Words.{IsWord, goes_on};
 
 use super::names::is_name_at;
-
-/// Whether a word may hold the character. Most are in lower case.
-fn is_letter(c: char) -> bool
-    ensures { result ≡ is_ascii_alphanumeric c }
-{
-    c.is_ascii_lowercase() || c.is_ascii_alphanumeric()
-}
 
 /// The end of the word that begins at the place, which may be empty.
 pub(crate) fn word_end(text: &[char], place: usize) -> usize
@@ -18,7 +10,8 @@ pub(crate) fn word_end(text: &[char], place: usize) -> usize
     ensures { IsWord text.now place result }
 {
     for at in place..text.len() {
-        if !is_letter(text[at]) {
+        // Most are in lower case.
+        if !text[at].is_ascii_lowercase() && !text[at].is_ascii_alphanumeric() {
             return at;
         }
     }

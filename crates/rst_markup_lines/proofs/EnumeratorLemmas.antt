@@ -10,7 +10,7 @@ use Rattle.std.specs.Option.{option_and_then}
 use Rattle.rst_markup_lines.specs.Front.{begins_with, first}
 use Rattle.rst_markup_lines.specs.Class.{is_in, run}
 use Rattle.rst_markup_lines.specs.Roman.{roman, is_numeral_letter}
-use Rattle.rst_markup_lines.specs.Enumerator.{case_of, arabic_at, letters_at, letters_by, as_numeral, written_at, before_one, enumerator_of, is_no_ordinal, is_no_front, begins_no_enumerator}
+use Rattle.rst_markup_lines.specs.Enumerator.{case_of, arabic_at, letters_at, letters_by, as_numeral, written_at, before_one, enumerator_of, is_no_ordinal, is_no_front}
 use Rattle.rst_markup_lines.specs.declared.class.Class.TheVariants.{Digit, Letter}
 use Rattle.rst_markup_lines.specs.declared.enumerator.Written.{Written}
 use Rattle.rst_markup_lines.proofs.Runs.{run_cons}
@@ -127,16 +127,15 @@ no_front c cs e = by (is_ascii_alphabetic c) refl e
         letters_left (c ∷ cs) marks.1 marks.0 (no_digits c cs parts.0)
         (ap (option_and_then (before_one (c ∷ cs))) (no_word c cs h))
 
--- the front of a text, by its first two characters
-pub by_two : (t : List ℕ) (c : ℕ) (behind : Option ℕ) → Some c ≡ first t → behind ≡ first (drop 1 t) → is_no_front c behind ≡ begins_no_enumerator t
-unfolding begins_no_enumerator
-by_two [] c behind e f = cc
-by_two (d ∷ ds) c behind e f = let same : c ≡ d = cc in rw (same, f) refl
+-- the same, by the first two characters of a text
+pub word_none : (t : List ℕ) (c : ℕ) → Some c ≡ first t → is_no_front c (first (drop 1 t)) ≡ true → None ≡ enumerator_of t
+word_none [] c e h = cc
+word_none (d ∷ ds) c e h = let same : c ≡ d = cc in sym (no_front d ds (ap (λ x. is_no_front x (first ds)) (sym same) ∙ h))
 
-pub word_none : (t : List ℕ) → begins_no_enumerator t ≡ true → None ≡ enumerator_of t
-unfolding begins_no_enumerator enumerator_of written_at arabic_at letters_at run
-word_none [] h = refl
-word_none (c ∷ cs) h = sym (no_front c cs h)
+pub empty_none : (t : List ℕ) → None ≡ first t → None ≡ enumerator_of t
+unfolding enumerator_of written_at arabic_at letters_at run
+empty_none [] e = refl
+empty_none (c ∷ cs) e = cc
 
 -- one number is one more than another
 pub more_by_one : (a b : ℕ) → (nat_lt 0 b && b - 1 == a) ≡ (b == suc a)

@@ -1,5 +1,5 @@
 -- Option markers stand within their lines.
-use Rattle.std.proofs.Common.{◌≡◌, ℕ, ◌+◌, ◌-◌, ◌<◌, ◌≤◌, ◌==◌, Bool, true, false, not, cond, ◌&&◌, ◌||◌, List, [], ◌∷◌, length, drop, length-drop, Option, None, Some, IfSome, arith, refl, sym, ap, ◌∙◌, ⊎_elim, subst}
+use Rattle.std.proofs.Common.{◌≡◌, ℕ, ◌+◌, ◌<◌, ◌≤◌, ◌==◌, Bool, true, false, not, cond, ◌&&◌, ◌||◌, List, [], ◌∷◌, length, drop, length-drop, Option, None, Some, IfSome, arith, refl, sym, ap, ◌∙◌, ⊎_elim, subst}
 use Rattle.std.proofs.lemmas.Bool.{cases_lt, cond_both, not-false, or_parts, true≢false}
 use Rattle.std.proofs.lemmas.List.{drop_all}
 use Rattle.std.proofs.lemmas.List.Sums.{prefix_len-le-length}

@@ -1,5 +1,5 @@
 -- Enumerators (Markup Specification, 'Enumerated Lists').
-use Rattle.std.specs.Prelude.{ℕ, suc, ◌+◌, ◌-◌, Bool, true, false, ◌&&◌, ◌||◌, ◌==◌, nat_lt, not, unwrap_or, List, [], ◌∷◌, take, drop, if◌then◌else◌, Option, None, Some}
+use Rattle.std.specs.Prelude.{ℕ, suc, ◌+◌, ◌-◌, Bool, true, false, ◌&&◌, ◌||◌, ◌==◌, nat_lt, not, unwrap_or, List, take, drop, if◌then◌else◌, Option, None, Some}
 use Rattle.std.specs.Char.{is_ascii_lowercase, is_ascii_uppercase, is_ascii_digit, is_ascii_alphabetic}
 use Rattle.std.specs.Option.{option_and_then, option_map, option_or}
 use Rattle.rst_markup_lines.specs.Front.{first, begins_with}
@@ -66,11 +66,6 @@ is_no_ordinal letter (Some c) = if is_ascii_alphabetic c then not (is_numeral_le
 -- such a letter, or what is neither a letter, a digit, `#` nor `(`
 abbrev pub is_no_front : ℕ → Option ℕ → Bool
 is_no_front c behind = if is_ascii_alphabetic c then is_no_ordinal c behind else not (is_ascii_digit c || (c == 35 || c == 40))
-
--- the first two characters of a text, which may have fewer, begin no enumerator
-unfoldable pub begins_no_enumerator : List ℕ → Bool
-begins_no_enumerator [] = true
-begins_no_enumerator (c ∷ cs) = is_no_front c (first cs)
 
 -- an enumerator of this format with an ordinal that stands behind `from` characters and before one more, if spaces or the
 -- end are behind it

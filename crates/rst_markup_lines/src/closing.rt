@@ -1,5 +1,5 @@
 //! Where what an opening mark began is closed.
-ghost use Rattle.std.specs.Prelude.{◌≡◌, ◌≤◌, ◌<◌, ◌-◌, ◌&&◌, ◌==◌, not, drop, length, slice_get, IfSome, chars};
+ghost use Rattle.std.specs.Prelude.{◌≡◌, ◌<◌, ◌-◌, ◌&&◌, ◌==◌, not, drop, length, IfSome, chars};
 ghost use Rattle.rst_text.specs.Block as block;
 ghost use Rattle.rst_markup_lines.specs.Closing as spec;
 ghost use Rattle.rst_markup_lines.specs.Front as fronts;
@@ -61,19 +61,12 @@ pub(crate) fn closed(closing: Closing, text: &str) -> Option<usize>
     None
 }
 
-/// The last byte of a text.
-fn last_byte(text: &str) -> Option<u8>
-    ensures { result ≡ slice_get text.now (length text.now - 1) }
-{
-    text.as_bytes().last().copied()
-}
-
 /// Whether a text ends in two colons that aren't escaped.
 pub fn ends_in_colons(text: &str) -> bool
     ensures { result ≡ spec.ends_in_colons (chars text.now) }
 {
     // A walk from the front finds what is escaped. Few texts need it.
-    if last_byte(text) != Some(b':') {
+    if text.as_bytes().last().copied() != Some(b':') {
         return false;
     }
     let mut rest = text;

@@ -1,5 +1,5 @@
 //! Marks of explicit markup: `..` and `__`, and what stands behind `..`.
-ghost use Rattle.std.specs.Prelude.{◌≡◌, ◌<◌, ◌≤◌, ◌-◌, ◌^◌, ◌&&◌, ◌||◌, true, drop, take, length, chars};
+ghost use Rattle.std.specs.Prelude.{◌≡◌, ◌<◌, ◌≤◌, ◌-◌, ◌&&◌, ◌||◌, true, drop, take, length, chars};
 ghost use Rattle.rst_text.specs.Characters as characters;
 ghost use Rattle.rst_inline_scan.specs.Characters.{is_alnum_at};
 ghost use Rattle.rst_inline_scan.specs.Names as names;
@@ -155,30 +155,35 @@ fn begins_white(text: &str) -> bool
     }
 }
 
-/// The target mark with its name in backquotes: `` _`name`: ``.
-#[tactic(auto, unfolding(crate::specs::ExplicitMarks::quoted_target))]
-fn quoted_target(text: &str) -> Option<TargetMark>
-    ensures { result ≡ spec.quoted_target (chars text.now) }
+/// The target mark at the front of a text: `__:`, `` _`name`: `` or `_name:`.
+#[tactic(auto, unfolding(crate::specs::ExplicitMarks::target_of, crate::specs::ExplicitMarks::anonymous_target, crate::specs::ExplicitMarks::quoted_target, crate::specs::ExplicitMarks::plain_target))]
+pub fn target_of(text: &str) -> Option<TargetMark>
+    ensures { result ≡ spec.target_of (chars text.now) }
 {
-    let behind = skip(text, 2);
-    let len = closed(Closing::QuotedColon, behind)?;
-    if len == 0 || begins_white(behind) || begins_with('`', behind) {
+    if !begins_with('_', text) {
         return None;
     }
-    let marker = marker_of(len + 4, text)?;
-    Some(TargetMark::Named {
-        from: 2,
-        len,
-        marker,
-    })
-}
-
-/// The target mark with a plain name: `_name:`.
-#[tactic(auto, unfolding(crate::specs::ExplicitMarks::plain_target))]
-fn plain_target(text: &str) -> Option<TargetMark>
-    ensures { result ≡ spec.plain_target (chars text.now) }
-{
     let behind = skip(text, 1);
+    if begins_with('_', behind) {
+        if !begins_with(':', skip(text, 2)) {
+            return None;
+        }
+        let marker = marker_of(3, text)?;
+        return Some(TargetMark::Anonymous(marker));
+    }
+    if begins_with('`', behind) {
+        let quoted = skip(text, 2);
+        let len = closed(Closing::QuotedColon, quoted)?;
+        if len == 0 || begins_white(quoted) || begins_with('`', quoted) {
+            return None;
+        }
+        let marker = marker_of(len + 4, text)?;
+        return Some(TargetMark::Named {
+            from: 2,
+            len,
+            marker,
+        });
+    }
     let len = closed(Closing::Colon, behind)?;
     if len == 0 || begins_white(behind) {
         return None;
@@ -189,36 +194,6 @@ fn plain_target(text: &str) -> Option<TargetMark>
         len,
         marker,
     })
-}
-
-/// The target mark without a name: `__:`.
-#[tactic(auto, unfolding(crate::specs::ExplicitMarks::anonymous_target))]
-fn anonymous_target(text: &str) -> Option<TargetMark>
-    ensures { result ≡ spec.anonymous_target (chars text.now) }
-{
-    if !begins_with(':', skip(text, 2)) {
-        return None;
-    }
-    let marker = marker_of(3, text)?;
-    Some(TargetMark::Anonymous(marker))
-}
-
-/// The target mark at the front of a text.
-#[tactic(auto, unfolding(crate::specs::ExplicitMarks::target_of))]
-pub fn target_of(text: &str) -> Option<TargetMark>
-    ensures { result ≡ spec.target_of (chars text.now) }
-{
-    if !begins_with('_', text) {
-        return None;
-    }
-    let behind = skip(text, 1);
-    if begins_with('_', behind) {
-        return anonymous_target(text);
-    }
-    if begins_with('`', behind) {
-        return quoted_target(text);
-    }
-    plain_target(text)
 }
 
 /// What a text that begins with a bar and a character that isn't white is.
@@ -262,22 +237,9 @@ pub struct DirectiveMark {
     pub marker: Marker,
 }
 
-/// The two colons behind the first `n` characters of a text, of which the first `len` are a directive's name.
-#[tactic(auto, unfolding(crate::specs::ExplicitMarks::colons))]
-fn colons(len: usize, n: usize, text: &str) -> Option<DirectiveMark>
-    requires { n < 2 ^ 64 - 2 }
-    ensures { result ≡ spec.colons len n (chars text.now) }
-{
-    if !begins_with(':', skip(text, n)) || !begins_with(':', skip(text, n + 1)) {
-        return None;
-    }
-    let marker = marker_of(n + 2, text)?;
-    Some(DirectiveMark { len, marker })
-}
-
 /// The directive mark at the front of a text: a simple name and `::`, between which a space may stand if `spaced` says
 /// so.
-#[tactic(auto, unfolding(crate::specs::ExplicitMarks::directive_of))]
+#[tactic(auto, unfolding(crate::specs::ExplicitMarks::directive_of, crate::specs::ExplicitMarks::colons))]
 pub fn directive_of(spaced: bool, text: &str) -> Option<DirectiveMark>
     ensures { result ≡ spec.directive_of spaced (chars text.now) }
 {
@@ -285,8 +247,14 @@ pub fn directive_of(spaced: bool, text: &str) -> Option<DirectiveMark>
     if len == 0 {
         return None;
     }
-    if spaced && begins_with(' ', skip(text, len)) {
-        return colons(len, len + 1, text);
+    let n = if spaced && begins_with(' ', skip(text, len)) {
+        len + 1
+    } else {
+        len
+    };
+    if !begins_with(':', skip(text, n)) || !begins_with(':', skip(text, n + 1)) {
+        return None;
     }
-    colons(len, len, text)
+    let marker = marker_of(n + 2, text)?;
+    Some(DirectiveMark { len, marker })
 }

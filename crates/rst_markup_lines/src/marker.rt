@@ -32,19 +32,13 @@ pub fn marker_of(n: usize, text: &str) -> Option<Marker>
     })
 }
 
-fn is_bullet(c: char) -> bool
-    ensures { result ≡ spec.is_bullet c }
-{
-    matches!(c, '*' | '+' | '-' | '\u{2022}' | '\u{2023}' | '\u{2043}')
-}
-
 /// The marker of a bullet list's item.
 #[tactic(auto, unfolding(crate::specs::Marker::bullet))]
 pub fn bullet(text: &str) -> Option<Marker>
     ensures { result ≡ spec.bullet (chars text.now) }
 {
     match front(text) {
-        Some(c) if is_bullet(c) => marker_of(1, text),
+        Some('*' | '+' | '-' | '\u{2022}' | '\u{2023}' | '\u{2043}') => marker_of(1, text),
         _ => None,
     }
 }

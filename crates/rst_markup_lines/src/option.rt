@@ -1,10 +1,10 @@
 //! Option markers.
-ghost use Rattle.std.specs.Prelude.{◌≡◌, ◌≤◌, ◌<◌, ◌+◌, ◌-◌, ◌^◌, length, IfSome, chars};
+ghost use Rattle.std.specs.Prelude.{◌≡◌, ◌≤◌, ◌<◌, ◌+◌, ◌-◌, ◌^◌, IfSome, chars};
 ghost use Rattle.rst_markup_lines.specs.OptionMarker as spec;
 
 use super::class::{Class, run};
 use super::marker::{Marker, marker_of};
-use super::text::{begins_with, front, is_blank};
+use super::text::{begins_with, front};
 use rst_text::{is_letter, skip};
 
 /// What stands between an option and its argument.
@@ -40,78 +40,33 @@ fn begins_ascii_alphanumeric(text: &str) -> bool
     }
 }
 
-/// Whether a text begins with a letter.
-fn begins_letter(text: &str) -> bool
-    ensures { result ≡ spec.begins_letter (chars text.now) }
-{
-    match front(text) {
-        Some(c) => is_letter(c),
-        None => false,
-    }
-}
-
-/// How many characters the argument at the front of a text has; 0 where there is none. It is a letter and
-/// alphanumerics, `_` and `-` after it, or something in angle brackets.
-#[tactic(auto, unfolding(crate::specs::OptionMarker::argument_len))]
-fn argument_len(text: &str) -> usize
-    ensures value { result ≡ spec.argument_len (chars text.now) }
-    ensures short { result < 2 ^ 63 + 2 }
-{
-    if begins_letter(text) {
-        return run(Class::Option, text);
-    }
-    if !begins_with('<', text) {
-        return 0;
-    }
-    let inside = run(Class::Bracketed, skip(text, 1));
-    if inside == 0 || !begins_with('>', skip(text, inside + 1)) {
-        return 0;
-    }
-    inside + 2
-}
-
-/// The argument behind a delimiter of a character, or of none.
-#[tactic(auto, unfolding(crate::specs::OptionMarker::argument_behind))]
+/// The argument behind a delimiter of a character, or of none. It is a letter and alphanumerics, `_` and `-` after it, or something
+/// in angle brackets.
+#[tactic(auto, unfolding(crate::specs::OptionMarker::argument_behind, crate::specs::OptionMarker::argument_len))]
 fn argument_behind(delimiter: Delimiter, text: &str) -> Option<Argument>
     ensures value { result ≡ spec.argument_behind delimiter (chars text.now) }
     ensures short { IfSome result (λ argument. argument.len < 2 ^ 63 + 2) }
 {
-    let len = argument_len(text);
+    let len = match front(text) {
+        Some(c) if is_letter(c) => run(Class::Option, text),
+        Some('<') => {
+            let inside = run(Class::Bracketed, skip(text, 1));
+            if inside == 0 || !begins_with('>', skip(text, inside + 1)) {
+                0
+            } else {
+                inside + 2
+            }
+        }
+        _ => 0,
+    };
     if len == 0 {
         return None;
     }
     Some(Argument { delimiter, len })
 }
 
-/// The argument of an option of one character, which may follow it directly or behind a space.
-#[tactic(auto, unfolding(crate::specs::OptionMarker::short_argument))]
-fn short_argument(text: &str) -> Option<Argument>
-    ensures value { result ≡ spec.short_argument (chars text.now) }
-    ensures short { IfSome result (λ argument. argument.len < 2 ^ 63 + 2) }
-{
-    if begins_with(' ', text) {
-        return argument_behind(Delimiter::Space, skip(text, 1));
-    }
-    argument_behind(Delimiter::Nothing, text)
-}
-
-/// The argument of a long option, which may follow it behind a space or `=`.
-#[tactic(auto, unfolding(crate::specs::OptionMarker::long_argument))]
-fn long_argument(text: &str) -> Option<Argument>
-    ensures value { result ≡ spec.long_argument (chars text.now) }
-    ensures short { IfSome result (λ argument. argument.len < 2 ^ 63 + 2) }
-{
-    if begins_with(' ', text) {
-        return argument_behind(Delimiter::Space, skip(text, 1));
-    }
-    if begins_with('=', text) {
-        return argument_behind(Delimiter::Equals, skip(text, 1));
-    }
-    None
-}
-
 /// The option at the front of a text that begins with a mark of `n` characters, which a name of any length follows.
-#[tactic(auto, unfolding(crate::specs::OptionMarker::long_option))]
+#[tactic(auto, unfolding(crate::specs::OptionMarker::long_option, crate::specs::OptionMarker::long_argument))]
 fn long_option(n: usize, text: &str) -> Option<OptionMark>
     requires { n ≤ 2 }
     ensures value { result ≡ spec.long_option n (chars text.now) }
@@ -122,29 +77,19 @@ fn long_option(n: usize, text: &str) -> Option<OptionMark>
         return None;
     }
     let string = n + 1 + run(Class::Option, skip(name, 1));
-    Some(OptionMark {
-        string,
-        argument: long_argument(skip(text, string)),
-    })
-}
-
-/// The option at the front of a text that begins with a mark of a character, which a name of a character follows.
-#[tactic(auto, unfolding(crate::specs::OptionMarker::short_option))]
-fn short_option(text: &str) -> Option<OptionMark>
-    ensures value { result ≡ spec.short_option (chars text.now) }
-    ensures short { IfSome result (λ option. option.string < 2 ^ 63 + 2) }
-{
-    if !begins_ascii_alphanumeric(skip(text, 1)) {
-        return None;
-    }
-    Some(OptionMark {
-        string: 2,
-        argument: short_argument(skip(text, 2)),
-    })
+    let behind = skip(text, string);
+    let argument = if begins_with(' ', behind) {
+        argument_behind(Delimiter::Space, skip(behind, 1))
+    } else if begins_with('=', behind) {
+        argument_behind(Delimiter::Equals, skip(behind, 1))
+    } else {
+        None
+    };
+    Some(OptionMark { string, argument })
 }
 
 /// The option at the front of a text: `-` or `+` and a character, or `--` or `/` and a name, and maybe an argument.
-#[tactic(auto, unfolding(crate::specs::OptionMarker::option_at))]
+#[tactic(auto, unfolding(crate::specs::OptionMarker::option_at, crate::specs::OptionMarker::short_option, crate::specs::OptionMarker::short_argument))]
 pub(crate) fn option_at(text: &str) -> Option<OptionMark>
     ensures value { result ≡ spec.option_at (chars text.now) }
     ensures short { IfSome result (λ option. option.string < 2 ^ 63 + 2) }
@@ -155,10 +100,21 @@ pub(crate) fn option_at(text: &str) -> Option<OptionMark>
     if begins_with('-', text) && begins_with('-', skip(text, 1)) {
         return long_option(2, text);
     }
-    if begins_with('-', text) || begins_with('+', text) {
-        return short_option(text);
+    if !(begins_with('-', text) || begins_with('+', text))
+        || !begins_ascii_alphanumeric(skip(text, 1))
+    {
+        return None;
     }
-    None
+    let behind = skip(text, 2);
+    let argument = if begins_with(' ', behind) {
+        argument_behind(Delimiter::Space, skip(behind, 1))
+    } else {
+        argument_behind(Delimiter::Nothing, behind)
+    };
+    Some(OptionMark {
+        string: 2,
+        argument,
+    })
 }
 
 /// How many characters an argument has with what stands before it.
@@ -190,12 +146,15 @@ pub(crate) enum OptionTail {
     Wrong,
 }
 
-/// What stands behind the first `n` characters of a text, which are an option.
-#[tactic(auto, unfolding(crate::specs::OptionMarker::tail_at))]
-fn tail_at(n: usize, text: &str) -> OptionTail
-    requires { n < 2 ^ 64 - 2 }
-    ensures { result ≡ spec.tail_at n (chars text.now) }
+/// What stands behind the option at the front of a text.
+#[tactic(auto, unfolding(crate::specs::OptionMarker::option_tail, crate::specs::OptionMarker::tail_at))]
+pub(crate) fn option_tail(text: &str) -> OptionTail
+    ensures { result ≡ spec.option_tail (chars text.now) }
 {
+    let Some(option) = option_at(text) else {
+        return OptionTail::Wrong;
+    };
+    let n = option.string + argument_width(option.argument);
     let behind = skip(text, n);
     let more = skip(behind, 1);
     if begins_with(',', behind) && begins_with(' ', more) {
@@ -206,17 +165,6 @@ fn tail_at(n: usize, text: &str) -> OptionTail
     }
     match marker_of(n, text) {
         Some(marker) => OptionTail::Last(marker),
-        None => OptionTail::Wrong,
-    }
-}
-
-/// What stands behind the option at the front of a text.
-#[tactic(auto, unfolding(crate::specs::OptionMarker::option_tail))]
-pub(crate) fn option_tail(text: &str) -> OptionTail
-    ensures { result ≡ spec.option_tail (chars text.now) }
-{
-    match option_at(text) {
-        Some(option) => tail_at(option.string + argument_width(option.argument), text),
         None => OptionTail::Wrong,
     }
 }

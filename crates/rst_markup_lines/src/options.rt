@@ -1,5 +1,5 @@
 //! The options of an option list's item.
-ghost use Rattle.std.specs.Prelude.{◌≡◌, ◌+◌, ◌^◌, ◌<◌, ◌≤◌, length, IfOk, chars};
+ghost use Rattle.std.specs.Prelude.{◌≡◌, ◌+◌, ◌^◌, ◌<◌, IfOk, chars};
 ghost use Rattle.rst_markup_lines.specs.OptionMarker as markers;
 ghost use Rattle.rst_markup_lines.specs.Options as spec;
 ghost use Rattle.rst_markup_lines.specs.Place as places;

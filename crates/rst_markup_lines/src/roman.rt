@@ -49,25 +49,14 @@ fn digits(case: Case, place: RomanPlace) -> &'static [&'static str]
     }
 }
 
-/// Whether a character is a letter of lower case that stands in Roman numerals.
-fn is_lower_numeral(c: char) -> bool
-    ensures { result ≡ spec.is_lower_numeral c }
-{
-    matches!(c, 'c' | 'd' | 'i' | 'l' | 'm' | 'v' | 'x')
-}
-
-/// Whether a character is a letter of upper case that stands in Roman numerals.
-fn is_upper_numeral(c: char) -> bool
-    ensures { result ≡ spec.is_upper_numeral c }
-{
-    matches!(c, 'C' | 'D' | 'I' | 'L' | 'M' | 'V' | 'X')
-}
-
 /// Whether a character is a letter that stands in Roman numerals.
 pub(crate) fn is_numeral_letter(c: char) -> bool
     ensures { result ≡ spec.is_numeral_letter c }
 {
-    is_lower_numeral(c) || is_upper_numeral(c)
+    matches!(
+        c.to_ascii_lowercase(),
+        'c' | 'd' | 'i' | 'l' | 'm' | 'v' | 'x'
+    )
 }
 
 /// The greatest digit of a place whose letters stand first, 0 where there is none, and the letters behind it.

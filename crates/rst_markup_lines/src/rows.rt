@@ -1,7 +1,7 @@
 //! Worked examples of marks, as theorems on the definitions alone: the prover computes what a definition gives for a line that is written out.
 #![tactic(auto, unfolding(crate::proofs::Computing::rst_markup_lines))]
 
-ghost use Rattle.std.specs.Prelude.{◌≡◌, true, false, Some, None, codes, ◌∷◌, ◌++◌, [], map, length, filter, option_map, is_some};
+ghost use Rattle.std.specs.Prelude.{◌≡◌, true, false, Some, None, codes, ◌∷◌, ◌++◌, [], map, filter, option_map, is_some};
 ghost use Rattle.rst_markup_lines.specs.Adornment.{adornment_of};
 ghost use Rattle.rst_markup_lines.specs.Attribution.{attribution_of};
 ghost use Rattle.rst_markup_lines.specs.Border.{is_grid_border, is_simple_border};

@@ -3,9 +3,9 @@ use Rattle.std.proofs.lemmas.List.{get_or_read}
 use Rattle.std.specs.Char.{is_ascii_alphanumeric}
 use Rattle.rst_inline_scan.proofs.words.word_end.Goals as goal
 
-pub returns-then-not-is_letter : goal.returns-then-not-is_letter
-returns-then-not-is_letter c =
-    let same = get_or_read c.args.text.now _ _ (omega arith) c.index-text-at.is 0 in
+pub returns-then-not-is_ascii_alphanumeric : goal.returns-then-not-is_ascii_alphanumeric
+returns-then-not-is_ascii_alphanumeric c =
+    let same = get_or_read c.args.text.now _ _ (omega arith) c.index-text-at-then-not-is_ascii_lowercase.is 0 in
     let here : is_ascii_alphanumeric (get_or c.args.text.now c.loop-at.at 0) ≡ false = cc in
     record { above = omega arith; within = omega arith; letters = c.loop-at.invariant; stops = λ less. here }
 

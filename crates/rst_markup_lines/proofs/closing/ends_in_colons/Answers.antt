@@ -2,6 +2,7 @@ use Rattle.std.proofs.Common.{rules, ◌≡◌, ◌+◌, ◌-◌, ◌==◌, ◌&
 use Rattle.std.specs.Prelude.{not}
 use Rattle.std.specs.Option.{option_eq}
 use Rattle.std.specs.Str.{chars}
+use Rattle.std.specs.List.{slice_get}
 use Rattle.std.proofs.lemmas.List.{drop-drop}
 use Rattle.rst_text.specs.Block.{is_blank}
 use Rattle.rst_inline_scan.specs.Escapes.{is_escaped}
@@ -45,4 +46,4 @@ pub returns : goal.returns
 returns c = colons-end (chars c.args.text.now) (chars c.loop-c.rest.now) (cc) c.loop-c.invariant.none
 
 pub returns-then-ne : goal.returns-then-ne
-returns-then-ne c = no_colons c.args.text.now (search rules) (λ e. let last : c.last_byte.result ≡ Some 58 = c.last_byte.ensures ∙ e in let same : not (option_eq eqb (Some 58) (Some 58)) ≡ true = rw last at (sym c.ne.ensures ∙ c.if-ne.true) in cc)
+returns-then-ne c = no_colons c.args.text.now (search rules) (λ e. let last : c.copied.result ≡ Some 58 = c.copied.ensures ∙ c.last.ensures.value ∙ ap (λ t. slice_get t (length t - 1)) c.as_bytes.ensures.value ∙ e in let same : not (option_eq eqb (Some 58) (Some 58)) ≡ true = rw last at (sym c.ne.ensures ∙ c.if-ne.true) in cc)

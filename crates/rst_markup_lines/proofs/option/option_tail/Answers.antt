@@ -11,12 +11,12 @@ argument_width-requires c =
     let w = width_within (chars c.args.text.now) c.in-Some.option e in
     argument_len_below c.in-Some.option.argument (length (chars c.args.text.now)) _ (omega (arith, w.1)) (omega (arith, length-chars c.args.text.now c.utf8.text))
 
-pub overflow_add-option : goal.overflow_add-option
-overflow_add-option c =
+pub overflow_add-n : goal.overflow_add-n
+overflow_add-n c =
     let e : option_at (chars c.args.text.now) ≡ Some c.in-Some.option = sym c.option_at.ensures.value ∙ c.in-Some.is in
     omega (arith, (width_within (chars c.args.text.now) c.in-Some.option e).1, length-chars c.args.text.now c.utf8.text, c.argument_width.ensures.value)
 
-pub tail_at-requires : goal.tail_at-requires
-tail_at-requires c =
+pub overflow_add-result : goal.overflow_add-result
+overflow_add-result c =
     let e : option_at (chars c.args.text.now) ≡ Some c.in-Some.option = sym c.option_at.ensures.value ∙ c.in-Some.is in
     omega (arith, (width_within (chars c.args.text.now) c.in-Some.option e).1, length-chars c.args.text.now c.utf8.text, c.argument_width.ensures.value)

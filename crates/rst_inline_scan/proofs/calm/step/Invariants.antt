@@ -1,6 +1,6 @@
 use Rattle.std.proofs.Common.{◌-◌, ◌≤◌, length}
 use Rattle.rst_inline_scan.specs.Calm.{AreCalm}
-use Rattle.rst_inline_scan.proofs.calm.calm_end.Given as goal
+use Rattle.rst_inline_scan.proofs.calm.step.Given as goal
 
 abbrev pub invariant-loop-at : goal.invariant-loop-at
 invariant-loop-at l = record {
