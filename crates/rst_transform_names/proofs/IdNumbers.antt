@@ -1,5 +1,5 @@
 -- Ids with numbers, as they are read.
-use Rattle.std.proofs.Common.{◌≡◌, ◌≢◌, ℕ, zero, suc, ◌+◌, ◌^◌, ◌<◌, Bool, true, false, ◌&&◌, List, [], ◌∷◌, ◌++◌, length, get_or, drop, Option, Some, None, option_map, option_and_then, unwrap_or, nat_le, nat_lt, decimal, codes, bytes_eq, MatchOption, Result, Ok, Err, ◌≤◌, take, refl, sym, ap, ap₂, subst, ◌∙◌, arith, append_assoc, length-append, lt-ltb, ltb-true, le-leb, leb-true, true≢false, ◌==◌, eqb-true, take-append-drop}
+use Rattle.std.proofs.Common.{◌≡◌, ◌≢◌, ℕ, zero, suc, ◌+◌, ◌^◌, ◌<◌, Bool, true, false, ◌&&◌, List, [], ◌∷◌, ◌++◌, length, get_or, drop, Option, Some, None, option_map, option_and_then, unwrap_or, nat_le, nat_lt, decimal, codes, bytes_eq, MatchOption, Result, Ok, Err, ◌≤◌, take, refl, sym, ap, ap₂, subst, ◌∙◌, arith, append_assoc, lt-ltb, ltb-true, le-leb, leb-true, true≢false, ◌==◌, eqb-true, take-append-drop}
 use Rattle.std.specs.Prelude.{if◌then◌else◌}
 use Rattle.std.specs.Borrow.{Bor}
 use Rattle.std.specs.Result.{OkIff}

@@ -1,5 +1,5 @@
 -- Messages with places, among nodes.
-use Rattle.std.proofs.Common.{◌≡◌, ℕ, zero, suc, ◌<◌, List, [], ◌∷◌, ◌++◌, length, replicate, Vec, refl, sym, ap, ◌∙◌, arith, add-one, slice_set}
+use Rattle.std.proofs.Common.{◌≡◌, ℕ, zero, suc, ◌<◌, List, [], ◌∷◌, ◌++◌, length, replicate, Vec, refl, ap, arith, add-one, slice_set}
 use Rattle.std.specs.Prelude.{slice_index_or}
 use Rattle.rst_tree.specs.declared.node.Node.{Node}
 use Rattle.rst_tree.specs.Paths.{map_at}

@@ -1,14 +1,13 @@
 -- What registration leaves of an element is an element of its kind.
-use Rattle.std.proofs.Common.{◌≡◌, ℕ, Bool, true, false, Option, Some, None, refl, ap}
-use Rattle.std.specs.Prelude.{if◌then◌else◌}
+use Rattle.std.proofs.Common.{◌≡◌, ℕ, Option, Some, None, refl, ap}
 use Rattle.std.proofs.lemmas.Bool.{cond_both}
 use Rattle.rst_tree.specs.declared.node.Node.{Node}
 use Rattle.rst_tree.specs.declared.node.Node.TheVariants.{Element, Text}
 use Rattle.rst_tree.specs.declared.tag.Tag.{Tag}
-use Rattle.rst_tree.specs.Walk.{item, Item}
+use Rattle.rst_tree.specs.Walk.{item}
 use Rattle.rst_tree_index.specs.Registered.{is_registered}
 use Rattle.rst_transform_names.specs.Registering.{registered, registration}
-use Rattle.rst_transform_names.specs.Written.{given, with_given, Given}
+use Rattle.rst_transform_names.specs.Written.{given, with_given}
 
 abbrev pub kind_of : Node → Option Tag
 kind_of (Element t a c l) = Some t

@@ -20,21 +20,14 @@ pub fn duplicate_name(
 ) -> Result<Node>
     ensures { Gives (λ made. made ≡ spec.duplicate_name message (item_of new.entry) id.now) result }
 {
-    let words = duplicate_words(message.strength);
+    let words = match message.strength {
+        Strength::Implicit => "Duplicate implicit target name: \"",
+        Strength::Explicit => "Duplicate explicit target name: \"",
+    };
     let mut node = name_message(alloc, message.level, words, new)?;
     let backrefs = Texts::lone(alloc, id.copy()?);
     node.set_at(&[], Key::Backrefs, Value::List(backrefs))?;
     Ok(node)
-}
-
-/// What a message says before an equal name of this strength.
-fn duplicate_words(strength: Strength) -> &'static str
-    ensures { result.now ≡ spec.duplicate_words strength }
-{
-    match strength {
-        Strength::Implicit => "Duplicate implicit target name: \"",
-        Strength::Explicit => "Duplicate explicit target name: \"",
-    }
 }
 
 /// The message on the name of a substitution definition.

@@ -120,22 +120,12 @@ impl Ids {
         let first = u64::from(self.last_of(base)) + 1;
         let behind_all = first + self.hindering.len() as u64;
         for number in first..behind_all {
-            if !self.hinders(alloc, base, number)? {
+            let wanted = numbered(alloc, base, number)?;
+            if !self.hindering.contains(wanted.as_str()) {
                 return Ok(number);
             }
         }
         Ok(behind_all)
-    }
-
-    /// Whether the id of a text and a number is one of those that hinder.
-    fn hinders(&self, alloc: Global, base: &str, number: u64) -> Result<bool>
-        ensures { Gives (λ hinders. hinders ≡ contains_text self.now.hindering (spec.numbered base.now number)) result }
-    {
-        if self.hindering.is_empty() {
-            return Ok(false);
-        }
-        let wanted = numbered(alloc, base, number)?;
-        Ok(self.hindering.contains(wanted.as_str()))
     }
 
     /// Takes the id of a text and the least number that makes it free.

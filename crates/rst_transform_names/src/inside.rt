@@ -10,25 +10,6 @@ use rst_tree::{Attrs, Children, Key, Result, Tag};
 use std::alloc::Global;
 use std::mem;
 
-fn is_section(tag: Tag) -> bool
-    ensures { result ≡ spec.is_section tag }
-{
-    matches!(tag, Tag::Section)
-}
-
-/// Whether, in an element of the first kind, the text of one of the second has its messages where that of the outer element has
-/// them.
-fn goes_out(parent: Tag, tag: Tag) -> bool
-    ensures { result ≡ spec.goes_out parent tag }
-{
-    matches!(
-        (parent, tag),
-        (Tag::LineBlock, Tag::Line | Tag::LineBlock)
-            | (Tag::BlockQuote, Tag::Attribution)
-            | (Tag::Figure, Tag::Caption)
-    )
-}
-
 /// Whether the text of an element has its messages first in the definition or the field body that follows.
 fn goes_in(tag: Tag) -> bool
     ensures { result ≡ spec.goes_in tag }
@@ -36,26 +17,11 @@ fn goes_in(tag: Tag) -> bool
     matches!(tag, Tag::Term | Tag::Classifier | Tag::FieldName)
 }
 
-/// Whether an element has the messages of the terms or the field name before it.
-fn takes_in(tag: Tag) -> bool
-    ensures { result ≡ spec.takes_in tag }
-{
-    matches!(tag, Tag::Definition | Tag::FieldBody)
-}
-
 /// Whether messages on names in an element come before it.
 fn is_passed_over(tag: Tag) -> bool
     ensures { result ≡ spec.is_passed_over tag }
 {
     matches!(tag, Tag::Reference | Tag::SubstitutionDefinition)
-}
-
-/// How many nodes an element says to be of its text: the text's messages, which follow it; in a section those between title and
-/// content.
-fn counted(attrs: &Attrs) -> u64
-    ensures { result ≡ spec.counted attrs.now }
-{
-    attrs.number(Key::TextMessages).unwrap_or(0)
 }
 
 /// The messages on names among the nodes of an element that get their places with the element.
@@ -105,7 +71,7 @@ impl Inside {
         ensures waiting { texts_in self.new.waiting ≡ (if spec.takes_in tag then spec.no_texts else texts_in self.old.waiting) }
     {
         let none = TextMessages::none(alloc);
-        if takes_in(tag) {
+        if matches!(tag, Tag::Definition | Tag::FieldBody) {
             return mem::replace(&mut self.waiting, none);
         }
         none
@@ -125,11 +91,14 @@ impl Inside {
         ensures own { Gives (λ outside. outside.own.items ≡ (if spec.is_section tag then [] else own.items)) result }
         ensures texts { Gives (λ outside. texts_in outside.texts ≡ spec.texts tag attrs.now (seen [] self)) result }
     {
+        // How many nodes the element says to be of its text: the text's messages, which follow it; in a section those between title
+        // and content.
+        let counted = attrs.number(Key::TextMessages).unwrap_or(0);
         let mut among = self.after;
         let mut ahead = self.before;
-        if is_section(tag) {
+        if matches!(tag, Tag::Section) {
             let section = mem::replace(&mut own, Vec::new(alloc));
-            put_from(&mut among, counted(attrs).saturating_add(1), section)?;
+            put_from(&mut among, counted.saturating_add(1), section)?;
         }
         if !is_passed_over(tag) {
             among.append(&mut ahead)?;
@@ -137,7 +106,11 @@ impl Inside {
         put_from(&mut among, nodes.len() as u64, self.waiting.placed)?;
         weave(alloc, nodes, among)?;
         let mut texts = TextMessages::none(alloc);
-        texts.own = if is_section(tag) { 0 } else { counted(attrs) };
+        texts.own = if matches!(tag, Tag::Section) {
+            0
+        } else {
+            counted
+        };
         put_from(&mut texts.placed, texts.own, self.inline)?;
         texts.append(self.texts_out)?;
         Ok(Outside { ahead, own, texts })
@@ -171,7 +144,13 @@ impl Inside {
             place as u64
         };
         put_from(&mut self.before, first, ahead)?;
-        if goes_out(parent, tag) {
+        // These texts have their messages where that of the outer element has them.
+        if matches!(
+            (parent, tag),
+            (Tag::LineBlock, Tag::Line | Tag::LineBlock)
+                | (Tag::BlockQuote, Tag::Attribution)
+                | (Tag::Figure, Tag::Caption)
+        ) {
             return self.texts_out.append(outside.texts);
         }
         if goes_in(tag) {

@@ -71,19 +71,13 @@ impl Registry {
         ensures { Gives (λ _. Makes (with_element (item_of new.entry)) self.old self.new) result }
     {
         match new.tag {
-            Tag::Problematic | Tag::SystemMessage => self.add_message(alloc, new),
+            Tag::Problematic | Tag::SystemMessage => {
+                let number = self.ids.give_number(alloc, new.tag)?;
+                self.known_messages.add(alloc, new, number)
+            }
             Tag::SubstitutionDefinition => self.define(alloc, new),
             _ => self.name(alloc, new),
         }
-    }
-
-    /// Registers one more message or problematic.
-    fn add_message(&mut self, alloc: Global, new: Element<'_>) -> Result<()>
-        ensures { Gives (λ _. Makes (with_message (item_of new.entry)) self.old self.new) result }
-    {
-        let number = self.ids.give_number(alloc, new.tag)?;
-        self.known_messages.add(alloc, new, number)?;
-        Ok(())
     }
 
     /// The number of the element that is registered.
@@ -101,7 +95,10 @@ impl Registry {
         let name = own_name(new);
         let id = self.ids.give(alloc, new.tag, name)?;
         let ruling = ruling_on(&self.names, name, new);
-        let message = ruled_message(alloc, ruling.message, new, &id)?;
+        let message = match ruling.message {
+            Some(asked) => Some(duplicate_name(alloc, asked, new, &id)?),
+            None => None,
+        };
         self.name_messages.push(message)?;
         lose(&mut self.standings, ruling.loser);
         follow(alloc, &mut self.names, ruling.now, new, serial, &id)?;
@@ -121,7 +118,10 @@ impl Registry {
         let name = String::from_str(alloc, own_name(new))?;
         let before = self.definitions.insert(name, serial)?;
         lose(&mut self.standings, definer(before));
-        let message = definition_message(alloc, before, new)?;
+        let message = match before {
+            Some(_) => Some(duplicate_definition(alloc, new)?),
+            None => None,
+        };
         self.name_messages.push(message)?;
         self.standings.push(Standing {
             serial,
@@ -142,16 +142,6 @@ fn definer(before: Option<u64>) -> Holder
     }
 }
 
-/// The message on a substitution definition, if another one had its name.
-fn definition_message(alloc: Global, before: Option<u64>, new: Element<'_>) -> Result<Option<Node>>
-    ensures { Gives (λ made. made ≡ option_map (λ (earlier : ℕ). duplicate_definition (item_of new.entry)) before) result }
-{
-    match before {
-        Some(_) => Ok(Some(duplicate_definition(alloc, new)?)),
-        None => Ok(None),
-    }
-}
-
 /// The rule for a new element by the name it was written with; the empty name is none.
 fn ruling_on(names: &Names, name: &str, new: Element<'_>) -> Ruling
     ensures { result ≡ rule_named name.now (held_by names.now name.now) (item_of new.entry) }
@@ -163,24 +153,12 @@ fn ruling_on(names: &Names, name: &str, new: Element<'_>) -> Ruling
     match names.get(name) {
         None => ruling_for(None, strength, false),
         Some(held) => {
-            let same = is_same_uri(held.uri.as_ref(), target_uri(new));
+            let same = match (held.uri.as_ref(), target_uri(new)) {
+                (Some(old), Some(uri)) => old.as_str() == uri.as_str(),
+                _ => false,
+            };
             ruling_for(Some((held.strength, held.holder)), strength, same)
         }
-    }
-}
-
-/// The message on the name of a new element, which has an id, if its rule asks for one.
-fn ruled_message(
-    alloc: Global,
-    asked: Option<DuplicateMessage>,
-    new: Element<'_>,
-    id: &Text,
-) -> Result<Option<Node>>
-    ensures { Gives (λ made. made ≡ option_map (λ message. duplicate_name message (item_of new.entry) id.now) asked) result }
-{
-    match asked {
-        Some(message) => Ok(Some(duplicate_name(alloc, message, new, id)?)),
-        None => Ok(None),
     }
 }
 
@@ -253,16 +231,6 @@ pub fn copied(text: Option<&Text>) -> Result<Option<Text>>
     match text {
         Some(text) => Ok(Some(text.copy()?)),
         None => Ok(None),
-    }
-}
-
-/// Whether both are there, and are the same.
-fn is_same_uri(old: Option<&Text>, new: Option<&Text>) -> bool
-    ensures { result ≡ is_same_text (given old.entry) (given new.entry) }
-{
-    match (old, new) {
-        (Some(old), Some(new)) => old.as_str() == new.as_str(),
-        _ => false,
     }
 }
 

@@ -61,18 +61,6 @@ const NEW_HAS_IT: Ruling = Ruling {
     message: None,
 };
 
-/// A section has the name, and another element takes it.
-fn new_takes_it(section: Holder) -> Ruling
-    ensures { result ≡ spec.new_takes_it section }
-{
-    Ruling {
-        now: Now::New,
-        loser: section,
-        new_loses: false,
-        message: INFO,
-    }
-}
-
 /// The element that has the name keeps it; an INFO says so.
 fn old_keeps_it(strength: Strength) -> Ruling
     ensures { result ≡ spec.old_keeps_it strength }
@@ -110,7 +98,11 @@ pub fn ruling_for(old: Option<(Strength, Holder)>, new: Strength, same_uri: bool
     };
     match (old, holder, new) {
         (Strength::Implicit, Holder::Nobody, Strength::Explicit) => NEW_HAS_IT,
-        (Strength::Implicit, _, Strength::Explicit) => new_takes_it(holder),
+        (Strength::Implicit, _, Strength::Explicit) => Ruling {
+            loser: holder,
+            message: INFO,
+            ..NEW_HAS_IT
+        },
         (Strength::Explicit, Holder::Nobody, Strength::Explicit) => nobody_has_it(holder, WARNING),
         (Strength::Explicit, _, Strength::Explicit) if same_uri => old_keeps_it(Strength::Explicit),
         (Strength::Explicit, _, Strength::Explicit) => nobody_has_it(holder, WARNING),

@@ -171,16 +171,6 @@ impl Children {
         self.list[0] = node;
         Ok(())
     }
-
-    /// Puts a node behind the last, and gives it back at want of memory.
-    fn push_or_back(&mut self, node: Node) -> Result<(), (TreeFault, Node)>
-        ensures { GivesBack node self.old self.new (forest_of (nodes_of self.old ++ node ∷ [])) result }
-    {
-        if let Err(failed) = self.list.push(node) {
-            return Err((TreeFault::NoMemory, failed.value));
-        }
-        Ok(())
-    }
 }
 
 /// Makes room for one node where there is none: most elements hold a single one.
@@ -238,7 +228,9 @@ impl Node {
         match self {
             Node::Element { children, .. } => match at.split_first() {
                 None => {
-                    children.push_or_back(child)?;
+                    if let Err(failed) = children.list.push(child) {
+                        return Err((TreeFault::NoMemory, failed.value));
+                    }
                     Ok(())
                 }
                 Some((first, rest)) => {

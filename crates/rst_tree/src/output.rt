@@ -34,24 +34,6 @@ fn put_number<W: Write, const N: usize>(out: &mut Counted<W>, page: &mut Page<N>
     page.put(out, digits.as_bytes());
 }
 
-/// Writes a byte of a list's member: a space or a backslash stands behind a backslash.
-fn put_escaped_byte<W: Write, const N: usize>(out: &mut Counted<W>, page: &mut Page<N>, byte: u8)
-    ensures { Sends W.contents (escaped_byte byte) out.old page.old out.new page.new }
-{
-    match byte {
-        b'\\' => page.put(out, b"\\\\"),
-        b' ' => page.put(out, b"\\ "),
-        _ => page.put(out, &[byte]),
-    }
-}
-
-/// Whether a byte is escaped in a member of a list.
-fn is_escaped(byte: u8) -> bool
-    ensures { result ≡ is_escaped byte }
-{
-    byte == b'\\' || byte == b' '
-}
-
 /// Whether a member of a list has a byte that is escaped. None is looked at by itself, so that many are at once, which the compiler
 /// sees where the loop is a function of its own.
 #[inline(never)]
@@ -60,12 +42,13 @@ fn has_escaped(text: &[u8]) -> bool
 {
     let mut found = false;
     for byte in text {
-        found |= is_escaped(*byte);
+        found |= *byte == b'\\' || *byte == b' ';
     }
     found
 }
 
-/// Writes a member of a list, with its spaces and backslashes escaped. Mostly it has none, and is written at once.
+/// Writes a member of a list, in which a backslash stands before a space and before a backslash. Mostly it has none, and is written
+/// at once.
 fn put_escaped<W: Write, const N: usize>(out: &mut Counted<W>, page: &mut Page<N>, text: &[u8])
     ensures { Sends W.contents (escaped text.now) out.old page.old out.new page.new }
 {
@@ -74,26 +57,23 @@ fn put_escaped<W: Write, const N: usize>(out: &mut Counted<W>, page: &mut Page<N
         return;
     }
     for byte in text {
-        put_escaped_byte(out, page, *byte);
+        match *byte {
+            b'\\' => page.put(out, b"\\\\"),
+            b' ' => page.put(out, b"\\ "),
+            other => page.put(out, &[other]),
+        }
     }
 }
 
-/// Writes a member of a list that isn't the first.
-fn put_next_text<W: Write, const N: usize>(out: &mut Counted<W>, page: &mut Page<N>, text: &Text)
-    ensures { Sends W.contents (32 ∷ escaped text.now) out.old page.old out.new page.new }
-{
-    page.put(out, b" ");
-    put_escaped(out, page, text.as_bytes());
-}
-
-/// Writes the members of a list.
+/// Writes the members of a list, parted by spaces.
 fn put_texts<W: Write, const N: usize>(out: &mut Counted<W>, page: &mut Page<N>, texts: &[Text])
     ensures { Sends W.contents (spaced texts.now) out.old page.old out.new page.new }
 {
     if let [first, rest @ ..] = texts {
         put_escaped(out, page, first.as_bytes());
         for text in rest {
-            put_next_text(out, page, text);
+            page.put(out, b" ");
+            put_escaped(out, page, text.as_bytes());
         }
     }
 }
@@ -107,35 +87,6 @@ fn put_value<W: Write, const N: usize>(out: &mut Counted<W>, page: &mut Page<N>,
         Said::Number(number) => put_number(out, page, number),
         Said::List(texts) => put_texts(out, page, texts),
     }
-}
-
-/// Writes an attribute, unless it isn't shown.
-fn put_attr<W: Write, const N: usize>(out: &mut Counted<W>, page: &mut Page<N>, attr: &Entry)
-    ensures { Sends W.contents (shown_attr attr.now) out.old page.old out.new page.new }
-{
-    if attr.is_left_out() {
-        return;
-    }
-    page.put(out, attr.key().opening().as_bytes());
-    put_value(out, page, attr.said());
-    page.put(out, b"\"");
-}
-
-/// Writes an element's tag with the attributes that it is printed with, and the line's end.
-fn put_tag_line<W: Write, const N: usize>(
-    out: &mut Counted<W>,
-    page: &mut Page<N>,
-    tag: Tag,
-    attrs: &Attrs,
-    line: usize,
-    source: Option<&str>,
-)
-    ensures { Sends W.contents (start_tag tag (printed_attrs (given source.entry) tag attrs.now line) ++ 10 ∷ []) out.old page.old out.new page.new }
-{
-    page.put(out, b"<");
-    page.put(out, tag.name().as_bytes());
-    put_printed_attrs(out, page, tag, attrs, line, source);
-    page.put(out, b">\n");
 }
 
 /// Writes the attributes that an element is printed with: a document has its source too, a message its line, its source and its type
@@ -152,25 +103,16 @@ fn put_printed_attrs<W: Write, const N: usize>(
 {
     match tag {
         Tag::Document => put_source_and_type(out, page, attrs.as_slice(), source, None),
-        Tag::SystemMessage => put_message_attrs(out, page, attrs, line, source),
+        Tag::SystemMessage => {
+            let level = attrs.number(Key::Level);
+            let rest = put_before(out, page, attrs.as_slice(), Key::Line);
+            page.put(out, Key::Line.opening().as_bytes());
+            put_number(out, page, line as u64);
+            page.put(out, b"\"");
+            put_source_and_type(out, page, rest, source, level);
+        }
         _ => put_attrs(out, page, attrs.as_slice()),
     }
-}
-
-/// Writes the attributes of a message, its line, its source if one is given, and the type of the level that it says.
-fn put_message_attrs<W: Write, const N: usize>(
-    out: &mut Counted<W>,
-    page: &mut Page<N>,
-    attrs: &Attrs,
-    line: usize,
-    source: Option<&str>,
-)
-    ensures { Sends W.contents (flat_map shown_attr (printed_attrs (given source.entry) SystemMessage attrs.now line)) out.old page.old out.new page.new }
-{
-    let level = attrs.number(Key::Level);
-    let rest = put_before(out, page, attrs.as_slice(), Key::Line);
-    put_number_attr(out, page, Key::Line, line as u64);
-    put_source_and_type(out, page, rest, source, level);
 }
 
 /// Writes the attributes with the source, if one is given, and the type of the level that has a number, if one is said.
@@ -246,27 +188,17 @@ fn put_text_attr<W: Write, const N: usize>(
     page.put(out, b"\"");
 }
 
-/// Writes an attribute that says a number and doesn't serve the transforms alone.
-fn put_number_attr<W: Write, const N: usize>(
-    out: &mut Counted<W>,
-    page: &mut Page<N>,
-    key: Key,
-    number: u64,
-)
-    requires { is_hidden key ≡ false }
-    ensures { Sends W.contents (shown_attr (attr key (Number number))) out.old page.old out.new page.new }
-{
-    page.put(out, key.opening().as_bytes());
-    put_number(out, page, number);
-    page.put(out, b"\"");
-}
-
-/// Writes the attributes.
+/// Writes the attributes that are shown.
 fn put_attrs<W: Write, const N: usize>(out: &mut Counted<W>, page: &mut Page<N>, attrs: &[Entry])
     ensures { Sends W.contents (flat_map shown_attr attrs.now) out.old page.old out.new page.new }
 {
     for attr in attrs {
-        put_attr(out, page, attr);
+        if attr.is_left_out() {
+            continue;
+        }
+        page.put(out, attr.key().opening().as_bytes());
+        put_value(out, page, attr.said());
+        page.put(out, b"\"");
     }
 }
 
@@ -288,42 +220,7 @@ fn put_indent<W: Write, const N: usize>(out: &mut Counted<W>, page: &mut Page<N>
     page.put(out, &SPACES[..4 * left]);
 }
 
-/// Writes a line behind its indentation, and its end.
-fn put_line<W: Write, const N: usize>(
-    out: &mut Counted<W>,
-    page: &mut Page<N>,
-    level: usize,
-    line: &[u8],
-)
-    ensures { Sends W.contents (printed_line (level, line.now)) out.old page.old out.new page.new }
-{
-    put_indent(out, page, level);
-    page.put(out, line);
-    page.put(out, b"\n");
-}
-
-/// How many bytes come before the first LF.
-fn line_len(text: &[u8]) -> usize
-    ensures { result ≡ line_len text.now }
-{
-    memchr(b'\n', text).unwrap_or(text.len())
-}
-
-/// The first line of a text, and what stands behind its end.
-fn split_line(text: &[u8]) -> (&[u8], &[u8])
-    requires { text.now ≢ [] }
-    ensures lines { text_lines text.now ≡ result.0.now ∷ text_lines result.1.now }
-    ensures shorter { length result.1.now < length text.now }
-{
-    let end = line_len(text);
-    if end < text.len() {
-        (&text[..end], &text[end + 1..])
-    } else {
-        (text, &[])
-    }
-}
-
-/// Writes the lines of a text.
+/// Writes the lines of a text, each behind its indentation. The last may have no LF.
 fn put_text<W: Write, const N: usize>(
     out: &mut Counted<W>,
     page: &mut Page<N>,
@@ -334,9 +231,12 @@ fn put_text<W: Write, const N: usize>(
 {
     let mut rest = text;
     while !rest.is_empty() {
-        let (line, behind) = split_line(rest);
-        put_line(out, page, level, line);
-        rest = behind;
+        let end = memchr(b'\n', rest).unwrap_or(rest.len());
+        put_indent(out, page, level);
+        page.put(out, &rest[..end]);
+        page.put(out, b"\n");
+        let behind = &rest[end..];
+        rest = &behind[behind.len().min(1)..];
     }
 }
 
@@ -358,7 +258,10 @@ pub fn put_node<W: Write, const N: usize>(
             line,
         } => {
             put_indent(out, page, level);
-            put_tag_line(out, page, *tag, attrs, *line, source);
+            page.put(out, b"<");
+            page.put(out, tag.name().as_bytes());
+            put_printed_attrs(out, page, *tag, attrs, *line, source);
+            page.put(out, b">\n");
             let inner = level.saturating_add(1);
             for child in children.as_slice() {
                 // Most nodes are texts, which need no call.
@@ -370,25 +273,6 @@ pub fn put_node<W: Write, const N: usize>(
         }
         Node::Text(text) => put_text(out, page, level, text.as_bytes()),
     }
-}
-
-/// Writes the head of a message: `source:line: (TYPE/level) `.
-fn put_head<W: Write, const N: usize>(
-    out: &mut Counted<W>,
-    page: &mut Page<N>,
-    source: &str,
-    note: &Note,
-)
-    ensures { Sends W.contents (message_head source.now note.now) out.old page.old out.new page.new }
-{
-    page.put(out, source.as_bytes());
-    page.put(out, b":");
-    put_number(out, page, note.line as u64);
-    page.put(out, b": (");
-    page.put(out, note.level.name().as_bytes());
-    page.put(out, b"/");
-    put_number(out, page, u64::from(note.level.number()));
-    page.put(out, b") ");
 }
 
 /// Writes the source text that a message shows, behind a blank line.
@@ -406,7 +290,7 @@ fn put_block<W: Write, const N: usize>(
     }
 }
 
-/// Writes a message.
+/// Writes a message, behind its head: `source:line: (TYPE/level) `.
 pub fn put_message<W: Write, const N: usize>(
     out: &mut Counted<W>,
     page: &mut Page<N>,
@@ -415,7 +299,14 @@ pub fn put_message<W: Write, const N: usize>(
 )
     ensures { Sends W.contents (message_of source.now note.now) out.old page.old out.new page.new }
 {
-    put_head(out, page, source, note);
+    page.put(out, source.as_bytes());
+    page.put(out, b":");
+    put_number(out, page, note.line as u64);
+    page.put(out, b": (");
+    page.put(out, note.level.name().as_bytes());
+    page.put(out, b"/");
+    put_number(out, page, u64::from(note.level.number()));
+    page.put(out, b") ");
     page.put(out, note.text.as_bytes());
     page.put(out, b"\n");
     put_block(out, page, &note.block);

@@ -1,9 +1,8 @@
 //! Texts and lists of them.
 ghost use Rattle.std.specs.Prelude.{◌≡◌, ◌∷◌, ◌++◌, [], IfOk, string_bytes};
-ghost use Rattle.std.specs.List.{list_all};
 ghost use Rattle.rst_tree.specs.Faults.{Gives, Becomes};
 ghost use Rattle.rst_tree.specs.Phrases.{phrase_text};
-ghost use Rattle.rst_tree.specs.Tree.{is_lines, is_plain_byte};
+ghost use Rattle.rst_tree.specs.Tree.{is_lines};
 
 use crate::fault::Result;
 use crate::phrase::Phrase;
@@ -106,7 +105,12 @@ impl Text {
     pub fn is_lines(&self) -> bool
         ensures { result ≡ is_lines self.now }
     {
-        is_plain(self.as_bytes()) || self.as_str().chars().all(|c| c == '\n' || !is_line_end(c))
+        // None of the bytes is looked at by itself, so that many are at once.
+        let mut plain = true;
+        for byte in self.as_bytes() {
+            plain &= *byte == b'\n' || (*byte >= b' ' && *byte < 128);
+        }
+        plain || self.as_str().chars().all(|c| c == '\n' || !is_line_end(c))
     }
 
     /// An equal text.
@@ -140,24 +144,6 @@ impl Text {
         }
         Ok(())
     }
-}
-
-/// Whether a byte is LF, or ASCII from the space on.
-fn is_plain_byte(byte: u8) -> bool
-    ensures { result ≡ is_plain_byte byte }
-{
-    byte == b'\n' || (byte >= b' ' && byte < 128)
-}
-
-/// Whether all bytes are such. None is looked at by itself, so that many are at once.
-fn is_plain(bytes: &[u8]) -> bool
-    ensures { result ≡ list_all is_plain_byte bytes.now }
-{
-    let mut plain = true;
-    for byte in bytes {
-        plain &= is_plain_byte(*byte);
-    }
-    plain
 }
 
 /// Three texts, one behind the other, in the value itself, unless they are too long.

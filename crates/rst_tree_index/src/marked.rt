@@ -152,11 +152,11 @@ pub(crate) fn marks_of(alloc: Global, node: &Node) -> Result<(bool, Marks)>
 /// A node, and where those of its elements stand that registration needs: their paths, in preorder.
 #[derive(Debug, Drop)]
 pub struct Marked {
-    root: Node,
+    pub(crate) root: Node,
     /// Whether the node is marked itself.
-    own: bool,
+    pub(crate) own: bool,
     /// The marks in it.
-    inner: Marks,
+    pub(crate) inner: Marks,
 }
 
 impl Model for Marked {
@@ -197,16 +197,6 @@ impl Marked {
         ensures { result ≡ root }
     {
         Marked { root, own, inner }
-    }
-
-    /// The node, whether it is marked itself, and the marks in it.
-    #[inline(always)]
-    pub(crate) fn into_parts(self) -> (Node, bool, Marks)
-        ensures root { result.0 ≡ self }
-        ensures marks { node_paths result.1 result.2 ≡ marks_of is_registered self }
-    {
-        let Marked { root, own, inner } = self;
-        (root, own, inner)
     }
 
     /// The node alone.

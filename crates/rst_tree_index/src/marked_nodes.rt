@@ -173,7 +173,7 @@ impl MarkedNodes {
     pub fn push(&mut self, node: Marked) -> Result<()>
         ensures { Gives (λ _. self.new ≡ self.old ++ node ∷ []) result }
     {
-        let (root, own, inner) = node.into_parts();
+        let Marked { root, own, inner } = node;
         self.put(root, own, inner)
     }
 

@@ -6,7 +6,8 @@ use Rattle.rst_tree.proofs.output.put_texts.Goals as goal
 
 pub loop-text-preserved : goal.loop-text-preserved
 loop-text-preserved g c =
-    Gets-item (λ u. 32 ∷ escaped u) (take (length c.args.texts.now - 1) (drop 1 c.args.texts.now)) c.loop-text.text-index _ c.text-item.is (omega arith) c.loop-text.invariant c.put_next_text.ensures
+    Gets-item (λ u. 32 ∷ escaped u) (take (length c.args.texts.now - 1) (drop 1 c.args.texts.now)) c.loop-text.text-index _ c.text-item.is (omega arith) c.loop-text.invariant
+    (Gets-as (c.put.ensures ▸ c.put_escaped-in-loop-text.ensures) cc)
 
 pub returns-after-loop-text : goal.returns-after-loop-text
 returns-after-loop-text g c =

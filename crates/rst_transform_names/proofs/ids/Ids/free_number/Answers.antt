@@ -1,11 +1,13 @@
-use Rattle.std.proofs.Common.{◌+◌, sym, ◌∙◌, arith}
+use Rattle.std.proofs.Common.{◌+◌, sym, ap, ◌∙◌, arith}
+use Rattle.std.specs.BTreeSet.{contains_text}
 use Rattle.rst_transform_names.proofs.IdLemmas.{behind_all, unhindered}
 use Rattle.rst_transform_names.proofs.ids.Ids.free_number.Goals as goal
 
-pub returns-then-not-branch : goal.returns-then-not-branch
-returns-then-not-branch c =
+pub returns-then-not-contains : goal.returns-then-not-contains
+returns-then-not-contains c =
     let h = c.loop-number.invariant in
-    unhindered c.args.self.now c.args.base.now (c.from-first.result + 1) c.loop-number.number (omega arith) h.0 (omega arith) h.2 (sym c.in_ok-hinders.ensures ∙ c.if-not-branch.true)
+    unhindered c.args.self.now c.args.base.now (c.from-first.result + 1) c.loop-number.number (omega arith) h.0 (omega arith) h.2
+    (sym (c.contains.ensures ∙ ap (contains_text c.args.self.now.hindering) (c.as_str.ensures ∙ c.in_ok-wanted.ensures)) ∙ c.if-not-contains.true)
 
 pub returns : goal.returns
 returns c =

@@ -1,4 +1,4 @@
-use Rattle.std.proofs.Common.{◌≡◌, ℕ, option_map, ◌++◌, ◌∷◌, [], Some, None, false, length, ap, ap₂, ◌∙◌, string_bytes}
+use Rattle.std.proofs.Common.{◌≡◌, ℕ, option_map, refl, ◌++◌, ◌∷◌, [], Some, None, false, length, ap, ap₂, ◌∙◌, string_bytes}
 use Rattle.std.specs.BTreeMap.{get_by_text}
 use Rattle.rst_tree_index.specs.Registered.{item_of}
 use Rattle.rst_transform_names.specs.Gathered.{own_name}
@@ -6,6 +6,7 @@ use Rattle.rst_transform_names.specs.DuplicateMessages.{duplicate_definition}
 use Rattle.rst_transform_names.specs.Registry.{definer, losing, standing}
 use Rattle.rst_transform_names.proofs.RegistryLemmas.{put_lost, entered}
 use Rattle.rst_transform_names.proofs.registry.Registry.define.Goals as goal
+use Rattle.rst_transform_names.proofs.registry.Registry.define.Goals.{in-Some+in_ok-duplicate_definition-in-Some, in-None}
 
 pub returns : goal.returns
 returns c = λ r h.
@@ -15,6 +16,10 @@ returns c = λ r h.
     let name : string_bytes c.in_ok-name.name ≡ own_name new = c.in_ok-name.ensures.ok ∙ c.own_name.ensures in
     let before : c.in_ok-before.before ≡ r.definitions (own_name new) = c.in_ok-before.ensures.old ∙ ap (get_by_text old.definitions) name ∙ h.definitions (own_name new) in
     let lost = put_lost old.standings c.lose.new.standings _ (c.lose.ensures ∙ ap₂ (λ h l. losing h l) (c.definer.ensures ∙ ap definer before) c.deref_mut.ensures.value) ∙ ap (losing (definer (r.definitions (own_name new)))) h.standings in
+    let made : c.match-before.message ≡ option_map (λ (n : ℕ). duplicate_definition new) c.in_ok-before.before = elim c.match-before.branch [
+      | in-Some+in_ok-duplicate_definition-in-Some w ↦ rw (w.message-is, w.in-Some.is) (ap Some w.in_ok-duplicate_definition-in-Some.ensures)
+      | in-None w ↦ rw (w.message-is, w.in-None.is) refl
+    ] in
     record {
       ids = h.ids;
       names = h.names;
@@ -25,5 +30,5 @@ returns c = λ r h.
       standings = c.in_ok-push-2.ensures.items ∙ ap₂ (λ ss n. ss ++ standing n None false ∷ []) lost number;
       numbers = h.numbers;
       messages = h.messages;
-      name_messages = c.in_ok-push.ensures.items ∙ ap₂ (λ ms m. ms ++ m ∷ []) h.name_messages (c.in_ok-message.ensures ∙ ap (option_map (λ (n : ℕ). duplicate_definition new)) before);
+      name_messages = c.in_ok-push.ensures.items ∙ ap₂ (λ ms m. ms ++ m ∷ []) h.name_messages (made ∙ ap (option_map (λ (n : ℕ). duplicate_definition new)) before);
     }

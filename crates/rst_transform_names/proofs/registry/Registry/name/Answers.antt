@@ -1,4 +1,4 @@
-use Rattle.std.proofs.Common.{◌≡◌, [], ◌∷◌, ◌++◌, option_map, length, ap, ap₂, subst, ◌∙◌}
+use Rattle.std.proofs.Common.{◌≡◌, [], ◌∷◌, ◌++◌, Some, option_map, refl, length, ap, ap₂, subst, ◌∙◌}
 use Rattle.rst_tree_index.specs.Registered.{item_of}
 use Rattle.rst_transform_names.specs.Gathered.{own_name}
 use Rattle.rst_transform_names.specs.Ids.{id_for, AreTaken}
@@ -8,6 +8,7 @@ use Rattle.rst_transform_names.specs.DuplicateMessages.{duplicate_name}
 use Rattle.rst_transform_names.specs.Registry.{losing, rule_named}
 use Rattle.rst_transform_names.proofs.RegistryLemmas.{put_lost}
 use Rattle.rst_transform_names.proofs.registry.Registry.name.Goals as goal
+use Rattle.rst_transform_names.proofs.registry.Registry.name.Goals.{in-Some+in_ok-duplicate_name-in-Some, in-None}
 
 pub returns : goal.returns
 returns c = λ r h.
@@ -21,6 +22,10 @@ returns c = λ r h.
     let rule : c.ruling_on-ruling.result ≡ rule_named (own_name new) (r.names (own_name new)) new = c.ruling_on-ruling.ensures ∙ ap (λ n. rule_named n (held_by old.names n) new) named ∙ ap (λ k. rule_named (own_name new) k new) held in
     let loser = c.ruling_on-ruling.result.loser in
     let lost = put_lost old.standings c.lose.new.standings loser (c.lose.ensures ∙ ap (losing loser) c.deref_mut.ensures.value) in
+    let made : c.match-ruling.message ≡ option_map (λ message. duplicate_name message new c.in_ok-id.id) c.ruling_on-ruling.result.message = elim c.match-ruling.branch [
+      | in-Some+in_ok-duplicate_name-in-Some w ↦ rw (w.message-is, w.in-Some.is) (ap Some w.in_ok-duplicate_name-in-Some.ensures)
+      | in-None w ↦ rw (w.message-is, w.in-None.is) refl
+    ] in
     record {
       ids = subst (λ i. AreTaken c.give.new.self (i ∷ r.ids)) id given.1;
       names = λ other.
@@ -32,5 +37,5 @@ returns c = λ r h.
       numbers = h.numbers;
       messages = h.messages;
       name_messages = c.in_ok-push.ensures.items ∙ ap₂ (λ ms m. ms ++ m ∷ []) h.name_messages
-          (c.in_ok-message.ensures ∙ ap₂ (λ (ruled : Ruling) i. option_map (λ message. duplicate_name message new i) ruled.message) rule id);
+          (made ∙ ap₂ (λ (ruled : Ruling) i. option_map (λ message. duplicate_name message new i) ruled.message) rule id);
     }

@@ -1,7 +1,9 @@
-use Rattle.std.proofs.Common.{rules, arith, ap, subst, sym, ◌∙◌}
+use Rattle.std.proofs.Common.{◌≡◌, ◌++◌, ◌∷◌, [], rules, arith, refl, ap, subst, sym, ◌∙◌}
 use Rattle.std.specs.Prelude.{IsSomeAnd}
+use Rattle.std.proofs.lemmas.List.{nil_from_length}
+use Rattle.rst_tree.specs.Nodes.{nodes_of}
 use Rattle.rst_tree.specs.Paths.{node_at, changed_at, with_child, IsElement}
-use Rattle.rst_tree.proofs.Changes.{no_text, child_there, child_changed}
+use Rattle.rst_tree.proofs.Changes.{nodes_of-forest_of, no_text, child_there, child_changed}
 use Rattle.rst_tree.proofs.node.Node.+push_at.Goals as goal
 
 pub index_mut-node-requires : goal.index_mut-node-requires
@@ -25,3 +27,8 @@ returns-in_ok-push_at-in-Some t c =
     let k = child_there _ _ _ _ _ c.children.inside.list.items _ c.in-Some.rest.now _ IsElement c.in-Element.is c.children.view_is c.in-Some.ensures.cases.0 c.requires.path in
     child_changed (with_child c.args.child) _ _ _ _ _ _ _ _ _ c.index_mut-node.result.now c.push_at.new.self c.in-Element.is c.children.view_is c.in-Some.ensures.cases.0 k.0
     (c.in_ok-push_at-in-Some.ensures ∙ ap (changed_at (with_child c.args.child) c.in-Some.rest.now) c.index_mut-node.ensures.value)
+
+pub returns-in_default : goal.returns-in_default
+returns-in_default t c =
+    let e : c.push.new.self.items ≡ nodes_of c.in-Element.children ++ c.args.child ∷ [] = c.in_default.ensures.items ∙ rw (← c.children.view_is, nodes_of-forest_of c.children.inside.list.items) refl in
+    rw (nil_from_length _ c.in-None.ensures.cases, c.in-Element.is, e) refl

@@ -1,7 +1,0 @@
-use Rattle.rst_tree.proofs.Sending.{◌▸◌, Gets-as}
-use Rattle.rst_tree.proofs.output.put_head.Goals as goal
-
-pub returns : goal.returns
-returns g c =
-    Gets-as (c.put.ensures ▸ c.put-2.ensures ▸ c.put_number.ensures ▸ c.put-3.ensures ▸ c.put-4.ensures ▸ c.put-5.ensures ▸ c.put_number-2.ensures ▸ c.put-6.ensures)
-    (simp (c.as_bytes.ensures.value, c.as_bytes-2.ensures.value, c.name.ensures, c.number.ensures, c.from.ensures))
