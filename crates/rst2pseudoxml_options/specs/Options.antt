@@ -51,7 +51,7 @@ halt_of rows otherwise = if is_on (codes "strict") rows then Info else otherwise
 
 -- two of three, or all three
 abbrev pub more_than_one : Bool → Bool → Bool → Bool
-more_than_one a b c = (a && b) || ((a && c) || (b && c))
+more_than_one a b c = (a && b) || (a && c) || (b && c)
 
 -- more than one of `-r`, `-v` and `-q`, or of `--halt` and `--strict`
 abbrev pub has_two_levels : List Row → Bool

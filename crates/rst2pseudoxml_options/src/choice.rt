@@ -1,7 +1,7 @@
 //! The settings that the options choose.
 ghost use Rattle.std.specs.Prelude.{◌≡◌};
 ghost use Rattle.clap.specs.Words.{found_of, rows_of};
-ghost use Rattle.rst2pseudoxml_options.specs.Options.{Settles, more_than_one, has_two_levels, report_of, halt_of};
+ghost use Rattle.rst2pseudoxml_options.specs.Options.{Settles, has_two_levels};
 
 use super::fault::OptionFault;
 use super::found::{is_on, text_of};
@@ -15,10 +15,10 @@ pub fn choice_of(matches: &ArgMatches<'_>) -> Result<Settings, OptionFault>
     ensures { Settles (rows_of (found_of matches.now)) result }
 {
     let usual = Settings::usual();
-    let Some(report) = threshold_or(text_of(matches, "report"), usual.report) else {
+    let Some(mut report) = threshold_or(text_of(matches, "report"), usual.report) else {
         return Err(OptionFault::BadLevel);
     };
-    let Some(halt) = threshold_or(text_of(matches, "halt"), usual.halt) else {
+    let Some(mut halt) = threshold_or(text_of(matches, "halt"), usual.halt) else {
         return Err(OptionFault::BadLevel);
     };
     let Some(exit) = threshold_or(text_of(matches, "exit-status"), usual.exit) else {
@@ -33,9 +33,17 @@ pub fn choice_of(matches: &ArgMatches<'_>) -> Result<Settings, OptionFault>
     if has_two_levels(matches) {
         return Err(OptionFault::TwoLevels);
     }
+    if is_on(matches, "verbose") {
+        report = Threshold::Info;
+    } else if is_on(matches, "quiet") {
+        report = Threshold::Never;
+    }
+    if is_on(matches, "strict") {
+        halt = Threshold::Info;
+    }
     Ok(Settings {
-        report: report_of(matches, report),
-        halt: halt_of(matches, halt),
+        report,
+        halt,
         exit,
         title: !is_on(matches, "no-doc-title"),
         info: !is_on(matches, "no-doc-info"),
@@ -50,37 +58,6 @@ fn has_two_levels(matches: &ArgMatches<'_>) -> bool
 {
     let report = text_of(matches, "report").is_some();
     let halt = text_of(matches, "halt").is_some();
-    more_than_one(report, is_on(matches, "verbose"), is_on(matches, "quiet"))
-        | (halt & is_on(matches, "strict"))
-}
-
-/// Whether more than one of three holds.
-fn more_than_one(a: bool, b: bool, c: bool) -> bool
-    ensures { result ≡ more_than_one a b c }
-{
-    (a & b) | (a & c) | (b & c)
-}
-
-/// The report level: by a flag, or else this one.
-fn report_of(matches: &ArgMatches<'_>, otherwise: Threshold) -> Threshold
-    ensures { result ≡ report_of (rows_of (found_of matches.now)) otherwise }
-{
-    if is_on(matches, "verbose") {
-        Threshold::Info
-    } else if is_on(matches, "quiet") {
-        Threshold::Never
-    } else {
-        otherwise
-    }
-}
-
-/// The halt level: by a flag, or else this one.
-fn halt_of(matches: &ArgMatches<'_>, otherwise: Threshold) -> Threshold
-    ensures { result ≡ halt_of (rows_of (found_of matches.now)) otherwise }
-{
-    if is_on(matches, "strict") {
-        Threshold::Info
-    } else {
-        otherwise
-    }
+    let (verbose, quiet) = (is_on(matches, "verbose"), is_on(matches, "quiet"));
+    (report & verbose) | (report & quiet) | (verbose & quiet) | (halt & is_on(matches, "strict"))
 }

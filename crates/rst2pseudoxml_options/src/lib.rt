@@ -1,8 +1,8 @@
 //! The argument words of the program: the settings that they choose, and the source.
 #![tactic(auto)]
 
-ghost use Rattle.std.specs.Prelude.{◌≡◌, map, option_map, string_bytes};
-ghost use Rattle.rst2pseudoxml_options.specs.Options.{is_dashed, Chooses};
+ghost use Rattle.std.specs.Prelude.{map, string_bytes};
+ghost use Rattle.rst2pseudoxml_options.specs.Options.{Chooses};
 
 mod choice;
 mod command;
@@ -28,7 +28,7 @@ pub fn options(alloc: Global, words: &[String]) -> Result<(Settings, Option<Stri
 {
     let matches = matches_of(alloc, words)?;
     let source = text_of(&matches, "source");
-    if is_dashed(source) {
+    if source.is_some_and(|text| text.as_bytes().first() == Some(&b'-')) {
         return Err(OptionFault::Usage);
     }
     let settings = choice_of(&matches)?;
@@ -37,14 +37,4 @@ pub fn options(alloc: Global, words: &[String]) -> Result<(Settings, Option<Stri
         None => None,
     };
     Ok((settings, source))
-}
-
-/// Whether SOURCE begins with a hyphen.
-fn is_dashed(source: Option<&str>) -> bool
-    ensures { result ≡ is_dashed (option_map (λ s. s.now) source.entry) }
-{
-    match source {
-        Some(text) => text.as_bytes().first() == Some(&b'-'),
-        None => false,
-    }
 }

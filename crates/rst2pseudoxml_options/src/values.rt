@@ -1,30 +1,21 @@
 //! The values of options.
 ghost use Rattle.std.specs.Prelude.{◌≡◌, ◌≤◌, option_map, IfSome};
-ghost use Rattle.rst2pseudoxml_options.specs.Values.{threshold_of, threshold_or, begins_from_one, number_to, tab_or, limit_or};
+ghost use Rattle.rst2pseudoxml_options.specs.Values.{threshold_or, number_to, tab_or, limit_or};
 
 use rst_settings::Threshold;
 
-/// The level that a word names.
-#[tactic(auto, unfolding(crate::specs::Values::threshold_of))]
-fn threshold_of(text: &str) -> Option<Threshold>
-    ensures { result ≡ threshold_of text.now }
-{
-    match text {
-        "1" | "info" => Some(Threshold::Info),
-        "2" | "warning" => Some(Threshold::Warning),
-        "3" | "error" => Some(Threshold::Error),
-        "4" | "severe" => Some(Threshold::Severe),
-        "5" | "none" => Some(Threshold::Never),
-        _ => None,
-    }
-}
-
 /// The level that an option names, `otherwise` where it is not given.
+#[tactic(auto, unfolding(crate::specs::Values::threshold_of))]
 pub fn threshold_or(given: Option<&str>, otherwise: Threshold) -> Option<Threshold>
     ensures { result ≡ threshold_or (option_map (λ s. s.now) given.entry) otherwise }
 {
     match given {
-        Some(text) => threshold_of(text),
+        Some("1" | "info") => Some(Threshold::Info),
+        Some("2" | "warning") => Some(Threshold::Warning),
+        Some("3" | "error") => Some(Threshold::Error),
+        Some("4" | "severe") => Some(Threshold::Severe),
+        Some("5" | "none") => Some(Threshold::Never),
+        Some(_) => None,
         None => Some(otherwise),
     }
 }
@@ -35,20 +26,13 @@ fn number_to(text: &str, most: u32) -> Option<u32>
     ensures from { IfSome result (λ number. 1 ≤ number) }
     ensures to { IfSome result (λ number. number ≤ most) }
 {
-    if !begins_from_one(text) {
+    if !matches!(text.as_bytes(), [b'1'..=b'9', ..]) {
         return None;
     }
     match text.parse::<u32>() {
         Ok(number) if number <= most => Some(number),
         _ => None,
     }
-}
-
-/// Whether a word begins with a digit from 1 to 9.
-fn begins_from_one(text: &str) -> bool
-    ensures { result ≡ begins_from_one text.now }
-{
-    matches!(text.as_bytes(), [b'1'..=b'9', ..])
 }
 
 /// The tab width in columns, 1 to 99, that an option gives, `otherwise` where it is not given.

@@ -1,4 +1,4 @@
-use Rattle.std.proofs.Common.{◌≡◌, ◌∙◌, Ok, Some, ap, codes, map, string_bytes, sym, option_map, ap₂}
+use Rattle.std.proofs.Common.{◌≡◌, ◌∙◌, Ok, Some, ap, codes, map, string_bytes, sym, option_map, ap₂, rules}
 use Rattle.clap.specs.Words.{first_of}
 use Rattle.rst2pseudoxml_options.specs.Command.{rows_at}
 use Rattle.rst2pseudoxml_options.specs.Options.{with_source, is_dashed, choice_of, said_by}
@@ -9,22 +9,22 @@ use Rattle.rst2pseudoxml_options.proofs.options.Goals.{in-Some+in_ok-from_str-in
 pub returns-in_err-matches : goal.returns-in_err-matches
 returns-in_err-matches c = chooses-misused _ _ c.from_residual.result c.from_residual.ensures.1 c.in_err-matches.ensures
 
-pub returns-then-is_dashed : goal.returns-then-is_dashed
-returns-then-is_dashed c =
+pub returns-then-is_some_and : goal.returns-then-is_some_and
+returns-then-is_some_and c =
     let source : option_map (λ s. s.now) c.text_of-source.result ≡ first_of (codes "source") (rows_at (map string_bytes c.args.words.now)) = c.text_of-source.ensures ∙ ap (first_of (codes "source")) c.in_ok-matches.ensures.1 in
-    dashed _ (sym (ap is_dashed source) ∙ sym c.is_dashed.ensures ∙ c.if-is_dashed.true)
+    dashed _ (sym (ap is_dashed source) ∙ search rules)
 
 pub returns-in_err-settings : goal.returns-in_err-settings
 returns-in_err-settings c =
     let source : option_map (λ s. s.now) c.text_of-source.result ≡ first_of (codes "source") (rows_at (map string_bytes c.args.words.now)) = c.text_of-source.ensures ∙ ap (first_of (codes "source")) c.in_ok-matches.ensures.1 in
-    let plain = taken _ c.in_ok-matches.ensures.0 (sym (ap is_dashed source) ∙ sym c.is_dashed.ensures ∙ c.if-is_dashed.false) in
+    let plain = taken _ c.in_ok-matches.ensures.0 (sym (ap is_dashed source) ∙ search rules) in
     let fault = sym (ap choice_of c.in_ok-matches.ensures.1) ∙ c.in_err-settings.ensures in
     chooses-fault _ _ c.from_residual-in_err-settings.result c.from_residual-in_err-settings.ensures.1 (plain ∙ ap (with_source _) fault)
 
 pub returns : goal.returns
 returns c =
     let source : option_map (λ s. s.now) c.text_of-source.result ≡ first_of (codes "source") (rows_at (map string_bytes c.args.words.now)) = c.text_of-source.ensures ∙ ap (first_of (codes "source")) c.in_ok-matches.ensures.1 in
-    let plain = taken _ c.in_ok-matches.ensures.0 (sym (ap is_dashed source) ∙ sym c.is_dashed.ensures ∙ c.if-is_dashed.false) in
+    let plain = taken _ c.in_ok-matches.ensures.0 (sym (ap is_dashed source) ∙ search rules) in
     let settings : choice_of (rows_at (map string_bytes c.args.words.now)) ≡ Ok (said_by c.in_ok-settings.settings) = sym (ap choice_of c.in_ok-matches.ensures.1) ∙ c.in_ok-settings.ensures in
     let same : option_map (λ s. s.now) c.text_of-source.result ≡ option_map string_bytes c.match-source.source =
     elim c.match-source.branch [
