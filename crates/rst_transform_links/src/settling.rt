@@ -23,7 +23,7 @@ pub fn settle(
 ) -> Result<Changes>
     ensures { Gives (Makes (settled (map held linked.now) outcomes.items) context.old context.new) result }
 {
-    if outcomes.iter().all(|outcome| outcome.stays()) {
+    if all_stay(outcomes.as_slice()) {
         return Ok(Changes::of(outcomes));
     }
     let around = first_around(context.alloc, linked, outcomes.as_slice())?;
@@ -37,6 +37,13 @@ pub fn settle(
     take_turns(context, turns.as_slice(), &mut outcomes)?;
     let changes = remaining(context.alloc, outcomes, around.as_slice())?;
     Ok(changes)
+}
+
+/// Whether no element becomes a problematic.
+fn all_stay(outcomes: &[Outcome]) -> bool
+    ensures { result ≡ list_all stays outcomes.now }
+{
+    outcomes.iter().all(|outcome| outcome.stays())
 }
 
 /// For each element the first report for which one that it is inside becomes a problematic.
