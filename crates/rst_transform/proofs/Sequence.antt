@@ -1,8 +1,7 @@
 -- One transform after another.
-use Rattle.std.proofs.Common.{◌≡◌, ◌∙◌, Option, refl, sym, subst, ap}
+use Rattle.std.proofs.Common.{◌≡◌, ◌∙◌, refl, sym, subst, ap}
 use Rattle.rst_tree.specs.declared.node.Node.{Node}
 use Rattle.rst_tree.specs.declared.node.Node.TheVariants.{Element, Text}
-use Rattle.rst_tree.specs.declared.tag.Tag.{Tag}
 use Rattle.rst_transform_names.proofs.RegisteredRoot.{kind_of}
 use Rattle.rst_transform_work.specs.declared.context.Context.{Context}
 use Rattle.rst_transform_work.specs.Known.{Holds, Known, Makes}

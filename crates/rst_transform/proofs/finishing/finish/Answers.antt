@@ -1,4 +1,4 @@
-use Rattle.std.proofs.Common.{◌≡◌, ◌∙◌, ◌++◌, List, map, ap, ap₂, rules, subst, sym}
+use Rattle.std.proofs.Common.{◌≡◌, ◌∙◌, ◌++◌, List, map, ap, ap₂, rules, subst}
 use Rattle.std.proofs.Math.Path.{fun_ext}
 use Rattle.rst_settings.specs.Profile.{profile_of}
 use Rattle.rst_transform_names.proofs.RegisteredRoot.{registered_kind}
@@ -11,7 +11,7 @@ use Rattle.rst_transform_messages.specs.Filtered.{with_filtered}
 use Rattle.rst_transform_messages.specs.Listed.{report_said, Lists}
 use Rattle.rst_transform_messages.specs.Messages.{is_number_shown, notes_of, until_halt, Numbered}
 use Rattle.rst_transform_messages.specs.MessagesIn.{messages_among}
-use Rattle.rst_transform.specs.Finishing.{all_messages, document_in, known_at_first, sectioned, transformed}
+use Rattle.rst_transform.specs.Finishing.{all_messages, document_in, known_at_first, transformed}
 use Rattle.rst_transform.proofs.Sequence.{makes_then, same_kind}
 use Rattle.rst_transform.proofs.finishing.finish.Goals as goal
 
