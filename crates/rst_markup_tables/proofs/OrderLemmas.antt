@@ -3,7 +3,7 @@ use Rattle.std.proofs.Common.{◌≡◌, ℕ, zero, suc, ◌+◌, ◌-◌, ◌�
 use Rattle.std.specs.Prelude.{option_map, option_and_then, position}
 use Rattle.std.specs.List.{list_all, range_with_len}
 use Rattle.std.proofs.Math.ListN.{drop_of_length-le}
-use Rattle.std.proofs.lemmas.Bool.{and_from, eq-eqb}
+use Rattle.std.proofs.lemmas.Bool.{and_from, eq-eqb, cond_both}
 use Rattle.rst_text.specs.Places.{first_from, IsFirst}
 use Rattle.rst_text.proofs.PlacesLemmas.{first_from-first}
 use Rattle.rst_markup_tables.specs.Places.{Grid, row_at}

@@ -31,15 +31,6 @@ pub(crate) fn is_upright(c: char) -> bool
     c == '|' || c == '+'
 }
 
-// Where the run of `-` and `+` begins that ends behind the column.
-#[tactic(auto, unfolding(crate::specs::Search::next_begin))]
-fn next_begin(c: char, begin: usize, column: usize) -> usize
-    requires { column < 2 ^ 63 }
-    ensures { result ≡ next_begin c begin column }
-{
-    if is_across(c) { begin } else { column + 1 }
-}
-
 // For each place of the row where the run of `-` and `+` that ends there begins.
 fn begins_of(alloc: Global, row: &[Place]) -> Result<Vec<usize>>
     ensures { IfOk result (λ begins. AreBegins row.now begins.items) }
@@ -47,7 +38,9 @@ fn begins_of(alloc: Global, row: &[Place]) -> Result<Vec<usize>>
     let mut begins = Vec::with_capacity(alloc, row.len())?;
     let mut begin = 0;
     for column in 0..row.len() {
-        begin = next_begin(mark_at(row, column), begin, column);
+        if !is_across(mark_at(row, column)) {
+            begin = column + 1;
+        }
         begins.push(begin)?;
     }
     Ok(begins)

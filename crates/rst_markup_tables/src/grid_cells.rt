@@ -1,5 +1,5 @@
 //! The cells of a grid table.
-ghost use Rattle.std.specs.Prelude.{◌≡◌, ◌+◌, ◌-◌, ◌<◌, ℕ, [], Some, length, get_or, IfOk, IfSome};
+ghost use Rattle.std.specs.Prelude.{◌≡◌, ◌+◌, ◌-◌, ◌<◌, ℕ, Some, length, get_or, IfOk, IfSome};
 ghost use Rattle.rst_markup_tables.specs.Drawn.{IsTiling};
 ghost use Rattle.rst_markup_tables.specs.GridTable as spec;
 ghost use Rattle.rst_markup_tables.specs.Results.{cells_of};
@@ -40,17 +40,6 @@ impl Ranks {
     }
 }
 
-/// So many rows without cells.
-fn empty_rows(alloc: Global, count: usize) -> Result<Vec<Vec<Cell>>>
-    ensures { IfOk result (λ rows. (length rows.items ≡ count) × ((n : ℕ) → n < count → get_or (cells_of rows.items) n [] ≡ [])) }
-{
-    let mut rows = Vec::with_capacity(alloc, count)?;
-    for _ in 0..count {
-        rows.push(Vec::new(alloc))?;
-    }
-    Ok(rows)
-}
-
 impl Tiling<'_> {
     /// The cell in a rectangle.
     fn cell(&self, ranks: &Ranks, rectangle: Rectangle) -> Result<Cell>
@@ -82,7 +71,10 @@ impl Tiling<'_> {
         requires few { (k : ℕ) → k < length self.now.rectangles.now → get_or ranks.now.rows.items (get_or self.now.rectangles.now k (record { top = 0; left = 0; bottom = 0; right = 0 })).top 0 < count }
         ensures { IfOk result (λ rows. cells_of rows.items ≡ spec.cell_rows (λ k. get_or ranks.now.rows.items k 0) (λ k. get_or ranks.now.columns.items k 0) self.now.lines.now self.now.rectangles.now count) }
     {
-        let mut rows = empty_rows(self.alloc, count)?;
+        let mut rows = Vec::with_capacity(self.alloc, count)?;
+        for _ in 0..count {
+            rows.push(Vec::new(self.alloc))?;
+        }
         for rectangle in self.rectangles {
             let cell = self.cell(ranks, *rectangle)?;
             rows[ranks.row(rectangle.top)].push(cell)?;

@@ -1,7 +1,6 @@
 //! Grid tables: which lines they are, and what is wrong with them.
-ghost use Rattle.std.specs.Prelude.{◌≡◌, ◌+◌, ◌^◌, ◌<◌, ◌≤◌, ◌&&◌, nat_le, length, map, drop, take, if◌then◌else◌, Some, IfOk, OnOk, IfSome, chars};
+ghost use Rattle.std.specs.Prelude.{◌≡◌, ◌+◌, ◌^◌, ◌<◌, ◌≤◌, length, map, drop, take, IfOk, OnOk, IfSome};
 ghost use Rattle.rst_markup_blocks.specs.Prelude.{capped, block_of};
-ghost use Rattle.rst_markup_lines.specs.Border.{is_grid_border};
 ghost use Rattle.rst_markup_blocks.specs.Lines.{lines_while};
 ghost use Rattle.rst_markup_blocks.specs.TableRows.{grid_bottom, grid_size, grid_scan};
 ghost use Rattle.rst_markup_blocks.specs.declared.lines.LineTest.TheVariants.{Drawn};
@@ -16,17 +15,6 @@ use rst_markup_blocks::is_drawn;
 use rst_markup_lines::is_grid_border;
 use rst_text::{Looks, View};
 use std::alloc::Global;
-
-/// The bottom border so far, counted from the top one, where line `n` has this text: it may be one from the third line on.
-fn with_border(bottom: Option<usize>, n: usize, text: &str) -> Option<usize>
-    ensures { result ≡ (if nat_le 2 n && is_grid_border (chars text.now) then Some n else bottom) }
-{
-    if n >= 2 && is_grid_border(text) {
-        Some(n)
-    } else {
-        bottom
-    }
-}
 
 /// Lines of a grid table, and its bottom border, counted from the top one.
 #[derive(Drop)]
@@ -51,7 +39,10 @@ fn drawn_lines(alloc: Global, view: &View<'_>, i: usize, looks: &mut Looks) -> R
         if !is_drawn(text) {
             return Ok(GridLines { lines, bottom });
         }
-        bottom = with_border(bottom, k - i, text);
+        // It may be the bottom border from the third line on.
+        if k - i >= 2 && is_grid_border(text) {
+            bottom = Some(k - i);
+        }
         let line = line_of(alloc, view, k, text)?;
         lines.push(line)?;
     }

@@ -1,16 +1,18 @@
 //! The texts of what can be wrong with a table.
 ghost use Rattle.std.specs.Prelude.{◌≡◌, string_bytes, IfOk};
-ghost use Rattle.rst_markup_tables.specs.Messages.{detail_text, malformed_text};
+ghost use Rattle.rst_markup_tables.specs.Messages.{malformed_text};
 
 use super::Result;
 use super::results::TableDetail;
 use std::alloc::Global;
 
-/// What is wrong with a table, in words.
-fn detail_text(alloc: Global, detail: TableDetail) -> Result<String>
-    ensures { IfOk result (λ text. string_bytes text ≡ detail_text detail) }
+/// The text of the message on a malformed table: `Malformed table.`, a line end and what is wrong.
+///
+/// The only error is want of memory.
+pub fn malformed_text(alloc: Global, detail: TableDetail) -> Result<String>
+    ensures { IfOk result (λ text. string_bytes text ≡ malformed_text detail) }
 {
-    match detail {
+    let words = match detail {
         TableDetail::BottomBorderMissing => String::from_str(alloc, "Bottom border missing."),
         TableDetail::RightEdgeBroken => String::from_str(alloc, "Right edge broken."),
         TableDetail::TwoHeadRules { first, second } => format!(in alloc;
@@ -30,15 +32,6 @@ fn detail_text(alloc: Global, detail: TableDetail) -> Result<String>
         TableDetail::Margin { line } => {
             format!(in alloc; "Text in column margin in table line {line}.")
         }
-    }
-}
-
-/// The text of the message on a malformed table: `Malformed table.`, a line end and what is wrong.
-///
-/// The only error is want of memory.
-pub fn malformed_text(alloc: Global, detail: TableDetail) -> Result<String>
-    ensures { IfOk result (λ text. string_bytes text ≡ malformed_text detail) }
-{
-    let words = detail_text(alloc, detail)?;
+    }?;
     format!(in alloc; "Malformed table.\n{words}")
 }

@@ -1,8 +1,7 @@
 //! Lines of a table as rows of places.
-ghost use Rattle.std.specs.Prelude.{◌≡◌, ◌+◌, ◌<◌, ◌∷◌, length, drop, map, IfOk, chars};
+ghost use Rattle.std.specs.Prelude.{◌≡◌, ◌+◌, ◌<◌, ◌∷◌, length, drop, IfOk, chars};
 ghost use Rattle.rst_markup_tables.specs.Cells.{AreOfLine};
 ghost use Rattle.rst_markup_tables.specs.Places.{consists_of, mark_of, places_of, mark_at, place, row_at, width, rows_of};
-ghost use Rattle.rst_markup_tables.specs.declared.places.Place.TheVariants.{Character};
 ghost use Rattle.rst_markup_blocks.specs.Prelude.{first_number, front_text, block_of};
 
 use super::Result;
@@ -76,35 +75,23 @@ impl TableLine {
     }
 }
 
-/// The places of a text.
+/// The places of a text. The width of a character is that of the character by itself, whatever stands beside it.
+#[tactic(auto, unfolding(crate::specs::Places::is_double))]
 fn places_of(alloc: Global, text: &str) -> Result<Vec<Place>>
     ensures { IfOk result (λ places. places.items ≡ places_of (chars text.now)) }
 {
     if text.is_ascii() {
-        return ascii_places(alloc, text.as_bytes());
+        // Each byte is a character that takes one place.
+        let bytes = text.as_bytes();
+        let mut places = Vec::with_capacity(alloc, bytes.len())?;
+        for byte in bytes {
+            places.push_reserved(Place::Character(char::from(*byte)));
+        }
+        return Ok(places);
     }
     let characters = characters_of(alloc, text)?;
-    places_from(alloc, &characters)
-}
-
-/// The places of ASCII, whose bytes are characters that take one place each.
-fn ascii_places(alloc: Global, bytes: &[u8]) -> Result<Vec<Place>>
-    ensures { IfOk result (λ places. places.items ≡ map Character bytes.now) }
-{
-    let mut places = Vec::with_capacity(alloc, bytes.len())?;
-    for byte in bytes {
-        places.push_reserved(Place::Character(char::from(*byte)));
-    }
-    Ok(places)
-}
-
-/// The places of characters. The width of one is that of the character by itself, whatever stands beside it.
-#[tactic(auto, unfolding(crate::specs::Places::is_double))]
-fn places_from(alloc: Global, characters: &[char]) -> Result<Vec<Place>>
-    ensures { IfOk result (λ places. places.items ≡ places_of characters.now) }
-{
     let mut places = Vec::with_capacity(alloc, characters.len())?;
-    for c in characters {
+    for c in &characters {
         places.push(Place::Character(*c))?;
         if c.width().unwrap_or(0) == 2 {
             places.push(Place::Second)?;

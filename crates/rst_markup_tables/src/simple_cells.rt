@@ -1,5 +1,5 @@
 //! The widths and cells of a simple table.
-ghost use Rattle.std.specs.Prelude.{◌≡◌, ◌+◌, ◌-◌, ◌<◌, Option, Some, None, map, MatchResult, length, IfOk};
+ghost use Rattle.std.specs.Prelude.{◌≡◌, ◌+◌, Some, None, map, MatchResult, length, IfOk};
 ghost use Rattle.std.specs.List.{range_with_len};
 ghost use Rattle.rst_markup_tables.specs.Places.{AreNumbered};
 ghost use Rattle.rst_markup_tables.specs.SimpleTable as spec;
@@ -34,18 +34,6 @@ fn column_widths(alloc: Global, columns: &[RuleSpan], longest: usize) -> Result<
         .collect(alloc)
 }
 
-/// Where a span of a row ends: the last has no end.
-fn right_of(spans: &[RuleSpan], k: usize) -> Option<usize>
-    requires { k < length spans.now }
-    ensures { result ≡ spec.right_of spans.now k }
-{
-    if k + 1 == spans.len() {
-        None
-    } else {
-        Some(span_of(spans, k).to)
-    }
-}
-
 /// The cells of a row.
 fn entries(alloc: Global, lines: &[TableLine], spans: &[RuleSpan]) -> Result<Vec<Cell>>
     requires numbered { AreNumbered lines.now }
@@ -58,7 +46,9 @@ fn entries(alloc: Global, lines: &[TableLine], spans: &[RuleSpan]) -> Result<Vec
         let span = span_of(spans, k);
         // A line that ends before one span ends before each later span, too.
         among = reaching(alloc, lines, &among, span.from)?;
-        let lines = cell_lines(alloc, lines, &among, span.from, right_of(spans, k))?;
+        // The last span has no end.
+        let right = (k + 1 != spans.len()).then_some(span.to);
+        let lines = cell_lines(alloc, lines, &among, span.from, right)?;
         cells.push(Cell {
             morerows: 0,
             morecols: span.columns.saturating_sub(1),

@@ -11,20 +11,13 @@ use rst_markup_blocks::is_as_long;
 use rst_text::{Looks, View};
 use std::alloc::Global;
 
-/// Whether a row begins with the mark, and holds only it and spaces.
-#[tactic(auto, unfolding(crate::specs::SimpleTable::is_ruled))]
-fn is_ruled(mark: char, row: &[Place]) -> bool
-    ensures { result ≡ spec.is_ruled mark row.now }
-{
-    mark_at(row, 0) == mark && consists_of(row, mark, ' ')
-}
-
-/// Whether a row is a border or a span rule.
-#[tactic(auto, unfolding(crate::specs::SimpleTable::is_rule))]
+/// Whether a row is a border or a span rule: it begins with `=` or `-`, and holds only this mark and spaces.
+#[tactic(auto, unfolding(crate::specs::SimpleTable::is_rule, crate::specs::SimpleTable::is_ruled))]
 pub(crate) fn is_rule(row: &[Place]) -> bool
     ensures { result ≡ spec.is_rule row.now }
 {
-    is_ruled('=', row) || is_ruled('-', row)
+    (mark_at(row, 0) == '=' && consists_of(row, '=', ' '))
+        || (mark_at(row, 0) == '-' && consists_of(row, '-', ' '))
 }
 
 /// The fault of the borders of the table at place `i`, by its bottom border, which is counted from there. It makes at most two

@@ -122,14 +122,6 @@ impl SimpleLines<'_> {
         Ok(spans.unwrap_or(Vec::new(self.alloc)))
     }
 
-    /// Whether the line at a place begins a row: its first column isn't blank.
-    fn begins_row(&self, k: usize) -> bool
-        ensures { result ≡ spec.begins_row self.now.lines.now k }
-    {
-        let column = span_of(self.columns, 0);
-        !is_clear(row_at(self.lines, k), column.from, column.to)
-    }
-
     /// The first line that isn't blank, from place `low` on and before place `end`.
     fn text_start(&self, low: usize, end: usize) -> Option<usize>
         ensures value { result ≡ first_from (λ k. not (spec.is_empty_row (row_at self.now.lines.now k))) low (end - low) }
@@ -146,9 +138,11 @@ impl SimpleLines<'_> {
         let Some(begin) = self.text_start(low, rule) else {
             return Ok(rows);
         };
+        let column = span_of(self.columns, 0);
         let mut from = begin;
         for to in begin + 1..rule {
-            if self.begins_row(to) {
+            // A row begins where the first column isn't blank.
+            if !is_clear(row_at(self.lines, to), column.from, column.to) {
                 rows.push(RowLines { from, to, rule: 0 })?;
                 from = to;
                 continue;

@@ -33,12 +33,12 @@ loop-rectangle-preserved c =
     let within : c.row.result < length rows = omega (arith, c.row.ensures) in
     let held : c.index_mut.result.now.items ≡ get_or (cells_of rows) c.row.result [] =
     sym (get_or-map (λ (row : Vec Cell Global). row.items) rows c.row.result c.index_mut.result.now [] within ∙ ap (λ (v : Vec Cell Global). v.items) (sym c.index_mut.ensures.value)) in
-    let now : cells_of (set rows c.row.result c.push.new.self) ≡ set (cells_of rows) c.row.result (get_or (cells_of rows) c.row.result [] ++ c.in_ok-cell.cell ∷ []) =
-    map-set (λ (row : Vec Cell Global). row.items) rows c.row.result c.push.new.self
-    ∙ ap (λ l. set (cells_of rows) c.row.result l) (c.in_ok-push.ensures.items ∙ ap (λ l. l ++ c.in_ok-cell.cell ∷ []) held) in
+    let now : cells_of (set rows c.row.result c.push-in-loop-rectangle.new.self) ≡ set (cells_of rows) c.row.result (get_or (cells_of rows) c.row.result [] ++ c.in_ok-cell.cell ∷ []) =
+    map-set (λ (row : Vec Cell Global). row.items) rows c.row.result c.push-in-loop-rectangle.new.self
+    ∙ ap (λ l. set (cells_of rows) c.row.result l) (c.in_ok-push-2.ensures.items ∙ ap (λ l. l ++ c.in_ok-cell.cell ∷ []) held) in
     record {
-      size = length-set rows c.row.result c.push.new.self ∙ size;
-      at = λ n inside. cell_more f g c.args.self.now.lines.now c.args.self.now.rectangles.now c.loop-rectangle.rectangle-index d (cells_of rows) (cells_of (set rows c.row.result c.push.new.self)) c.row.result c.in_ok-cell.cell
+      size = length-set rows c.row.result c.push-in-loop-rectangle.new.self ∙ size;
+      at = λ n inside. cell_more f g c.args.self.now.lines.now c.args.self.now.rectangles.now c.loop-rectangle.rectangle-index d (cells_of rows) (cells_of (set rows c.row.result c.push-in-loop-rectangle.new.self)) c.row.result c.in_ok-cell.cell
           (omega arith) c.row.ensures (omega (arith, length-map rows (λ (row : Vec Cell Global). row.items))) c.in_ok-cell.ensures now n (c.loop-rectangle.invariant.at n inside);
     }
 

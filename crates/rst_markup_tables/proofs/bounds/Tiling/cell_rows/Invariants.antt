@@ -3,6 +3,9 @@ use Rattle.rst_markup_tables.specs.Results.{cells_of}
 use Rattle.rst_markup_tables.specs.GridTable.{row_cells}
 use Rattle.rst_markup_tables.proofs.bounds.Tiling.cell_rows.Given as goal
 
+abbrev pub invariant-loop : goal.invariant-loop
+invariant-loop l = (length l.rows.items ≡ l.counter) × ((n : ℕ) → n < l.counter → get_or (cells_of l.rows.items) n [] ≡ [])
+
 abbrev pub invariant-loop-rectangle : goal.invariant-loop-rectangle
 invariant-loop-rectangle l = record {
   size : length l.rows.items ≡ l.count;
