@@ -39,6 +39,10 @@ pub chars_of_star : chars (42 ∷ []) ≡ 42 ∷ []
 unfolding chars
 chars_of_star = refl
 
+-- the bytes of a text are those that its characters spell
+pub spelled_again : (bs : List ℕ) → IsUtf8 bs → bs ≡ spelled (chars bs)
+spelled_again bs utf8 = sym (encodes-chars bs utf8)
+
 -- ---- what stands in an element that holds a text
 
 some-words : (cs : Text) (bs : List ℕ) → bs ≡ spelled cs → (length bs == 0) ≡ false → words bs bare ≡ text_children cs
@@ -46,7 +50,7 @@ some-words [] bs e h = let none = ap (λ (x : List ℕ). length x == 0) e in abs
 some-words (c ∷ cs) bs e h = ap (λ s. words s bare) e
 
 pub some-children : (bs : List ℕ) → IsUtf8 bs → (length bs == 0) ≡ false → words bs bare ≡ text_children (chars bs)
-some-children bs utf8 h = some-words (chars bs) bs (sym (encodes-chars bs utf8)) h
+some-children bs utf8 h = some-words (chars bs) bs (spelled_again bs utf8) h
 
 pub no-children : (bs : List ℕ) → (length bs == 0) ≡ true → bare ≡ text_children (chars bs)
 unfolding chars
