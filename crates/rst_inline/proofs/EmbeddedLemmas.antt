@@ -4,7 +4,7 @@ use Rattle.std.specs.List.{list_any}
 use Rattle.std.proofs.lemmas.Bool.{lt-ltb, ltb-true, and_parts, or_parts, cond_both}
 use Rattle.std.proofs.lemmas.List.{drop-take, drop-drop, take-take, length-take-le, length-drop}
 use Rattle.rst_text.specs.Characters.{is_white}
-use Rattle.rst_text.specs.Places.{last_from, NoneFrom, IsLast}
+use Rattle.rst_text.specs.Places.{last_from, IsLast}
 use Rattle.rst_text.proofs.PlacesLemmas.{last_from-is}
 use Rattle.rst_inline_scan.specs.Characters.{Text, has, without_white}
 use Rattle.rst_inline_scan.specs.Escapes.{is_escaped, unescaped}

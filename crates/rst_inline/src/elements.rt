@@ -3,10 +3,9 @@ ghost use Rattle.std.specs.Prelude.{◌≡◌, true, chars};
 ghost use Rattle.rst_tree.specs.Attributes.{in_order};
 ghost use Rattle.rst_tree.specs.Forest.{bare};
 ghost use Rattle.rst_tree.specs.declared.node.Node.TheVariants.{Element};
-ghost use Rattle.rst_inline.specs.Elements.{text_children, text_element, uri_target_node, problematic_node};
+ghost use Rattle.rst_inline.specs.Elements.{text_children, text_element, problematic_node};
 ghost use Rattle.rst_tree.specs.Faults.{Gives};
 
-use super::texts::{name_said, said};
 use rst_tree::{Attrs, Children, Entry, Key, Node, Result, Tag, Text, Value};
 use std::alloc::Global;
 
@@ -53,20 +52,6 @@ pub(crate) fn bare_element(alloc: Global, tag: Tag, attrs: Vec<Entry>, line: usi
         children: Children::new(alloc),
         line,
     }
-}
-
-/// The target that an embedded URI leaves, named by its phrase.
-pub(crate) fn uri_target(alloc: Global, shown: &str, uri: &str, line: usize) -> Result<Node>
-    ensures { Gives (λ node. node ≡ uri_target_node (chars shown.now) (chars uri.now) line) result }
-{
-    let name = name_said(alloc, shown)?;
-    let uri = said(alloc, uri)?;
-    let attrs = vec![in alloc;
-        Entry::new(Key::Inline, Value::Number(1)),
-        Entry::new(Key::OwnName, name),
-        Entry::new(Key::Refuri, uri),
-    ]?;
-    Ok(bare_element(alloc, Tag::Target, attrs, line))
 }
 
 /// What is wrong as it is written, with the number of its message.

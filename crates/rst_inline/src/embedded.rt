@@ -1,10 +1,9 @@
 //! Embedded URIs and aliases.
-ghost use Rattle.std.specs.Prelude.{◌≡◌, ◌+◌, ◌<◌, ◌≤◌, length, IfSome, ◌&&◌, ◌==◌, not};
+ghost use Rattle.std.specs.Prelude.{◌≡◌, ◌+◌, ◌<◌, ◌≤◌, length, IfSome, ◌&&◌, ◌==◌};
 ghost use Rattle.std.specs.List.{list_any};
 ghost use Rattle.rst_text.specs.Characters.{is_white};
-ghost use Rattle.rst_inline.specs.Embedded.{ends_with, last_angle, fits_angle, embedded_at, dark_end, enclosed, is_alias};
+ghost use Rattle.rst_inline.specs.Embedded.{ends_with, last_angle, embedded_at, dark_end, is_alias};
 
-use super::texts::part;
 use rst_inline_scan::{escapes, has, is_dark};
 use rst_text::is_white;
 
@@ -23,12 +22,6 @@ fn ends_with(text: &[char], c: char) -> bool
     !escaped
 }
 
-fn is_opening(c: char, escaped: bool) -> bool
-    ensures { result ≡ (c == 60 && not escaped) }
-{
-    c == '<' && !escaped
-}
-
 /// The place of the last `<` that is not escaped.
 fn last_angle(text: &[char]) -> Option<usize>
     ensures exact { result ≡ last_angle text.now }
@@ -38,7 +31,7 @@ fn last_angle(text: &[char]) -> Option<usize>
     let mut escaped = false;
     for place in 0..text.len() {
         let c = text[place];
-        let opens = is_opening(c, escaped);
+        let opens = (c == '<') & !escaped;
         escaped = escapes(c, escaped);
         if opens {
             found = Some(place);
@@ -48,20 +41,8 @@ fn last_angle(text: &[char]) -> Option<usize>
     found
 }
 
-/// Whether what the angle brackets hold, and what stands before them, fits.
-#[tactic(auto, unfolding(crate::specs::Embedded::fits_angle))]
-fn fits_angle(text: &[char], place: usize) -> bool
-    requires { place < length text.now }
-    ensures { result ≡ fits_angle text.now place }
-{
-    place + 2 < text.len()
-        && is_dark(text, place + 1)
-        && is_dark(text, text.len() - 2)
-        && (place == 0 || is_white(text[place - 1]))
-}
-
 /// Where the `<` of an embedded URI or alias stands at the end of a phrase, if it has one.
-#[tactic(auto, unfolding(crate::specs::Embedded::embedded_at), using(crate::proofs::EmbeddedLemmas::fits_inner))]
+#[tactic(auto, unfolding(crate::specs::Embedded::embedded_at, crate::specs::Embedded::fits_angle))]
 pub(crate) fn embedded_at(phrase: &[char]) -> Option<usize>
     ensures exact { result ≡ embedded_at phrase.now }
     ensures below { IfSome result (λ place. place + 2 < length phrase.now) }
@@ -70,19 +51,16 @@ pub(crate) fn embedded_at(phrase: &[char]) -> Option<usize>
         return None;
     }
     let place = last_angle(phrase)?;
-    if fits_angle(phrase, place) {
+    // What the angle brackets hold, and what stands before them, has to fit.
+    if place + 2 < phrase.len()
+        && is_dark(phrase, place + 1)
+        && is_dark(phrase, phrase.len() - 2)
+        && (place == 0 || is_white(phrase[place - 1]))
+    {
         Some(place)
     } else {
         None
     }
-}
-
-/// What the angle brackets hold.
-pub(crate) fn enclosed(phrase: &[char], place: usize) -> &[char]
-    requires { place < length phrase.now }
-    ensures { result.now ≡ enclosed phrase.now place }
-{
-    part(phrase, place + 1, phrase.len() - 1)
 }
 
 /// Whether what the angle brackets hold is an alias.

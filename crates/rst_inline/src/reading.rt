@@ -1,8 +1,7 @@
 //! What pieces mean.
-ghost use Rattle.std.specs.Prelude.{◌<◌, ◌≤◌, ◌+◌, true, ◌≡◌, [], length, IfOk, chars};
+ghost use Rattle.std.specs.Prelude.{◌<◌, ◌≤◌, ◌+◌, ◌≡◌, [], length, IfOk, chars};
 ghost use Rattle.std.specs.Cow.{cow_str_bytes};
 ghost use Rattle.rst_tree.specs.Faults.{Gives};
-ghost use Rattle.rst_tree.specs.declared.note.Level.TheVariants.{Warning};
 ghost use Rattle.rst_tree.specs.declared.tag.Tag.TheVariants.{Literal};
 ghost use Rattle.rst_inline_scan.specs.Escapes.{unescaped};
 ghost use Rattle.rst_inline_scan.specs.Pieces.{IsWithin};
@@ -10,16 +9,14 @@ ghost use Rattle.rst_inline.specs.declared.reading.Meaning.TheVariants.{One, Wro
 ghost use Rattle.rst_inline.specs.Elements.{text_element, inline_target_node, label_reference_node, reference_node, uri_node};
 ghost use Rattle.rst_inline.specs.Embedded.{meant, shown_by};
 ghost use Rattle.rst_inline.specs.Parts.{part, source, content};
-ghost use Rattle.rst_inline.specs.Readings.{unended_phrase, unknown_role, plain_meaning, plain_reading, substitution_reading, embedded_reading, phrase_reading, role_reading, has_prefix_role, interpreted_reading, reading};
+ghost use Rattle.rst_inline.specs.Readings.{plain_meaning, plain_reading, substitution_reading, embedded_reading, phrase_reading, role_reading, has_prefix_role, interpreted_reading, reading};
 
-use super::elements::{element, text_nodes, uri_target};
-use super::embedded::{dark_end, embedded_at, enclosed, has_white, is_alias};
-use super::labels::label_reference;
-use super::references::{
-    alias_reference, embedded_reference, outer_reference, reference, substitution,
-};
+use super::elements::{bare_element, element, text_nodes};
+use super::embedded::{dark_end, embedded_at, has_white, is_alias};
+use super::labels::{are_digits, numbered};
+use super::references::{embedded_reference, named_attrs, outer_reference, reference};
 use super::roles::role_tag;
-use super::texts::{name_said, part, said, spell};
+use super::texts::{name_said, normalized_said, part, said, spell};
 use super::written::Written;
 use rst_inline_scan::{Kind, Markup, Piece, Suffix, unescaped, without_white};
 use rst_tree::{Attrs, Children, Entry, Key, Level, Node, Phrase, Result, Tag, Text, Value};
@@ -33,33 +30,6 @@ pub(crate) enum Meaning {
     One(Node),
     Two(Children),
     Wrong(Level, Text),
-}
-
-/// What is said of a start-string without an end-string.
-fn unended_phrase(markup: Markup) -> Phrase
-    ensures { result ≡ unended_phrase markup }
-{
-    match markup {
-        Markup::Strong => Phrase::UnendedStrong,
-        Markup::Emphasis => Phrase::UnendedEmphasis,
-        Markup::Literal => Phrase::UnendedLiteral,
-        Markup::Target => Phrase::UnendedTarget,
-        Markup::Substitution => Phrase::UnendedSubstitution,
-        Markup::Interpreted => Phrase::UnendedInterpreted,
-    }
-}
-
-fn unknown_role(alloc: Global, name: &str) -> Result<Meaning>
-    ensures { Gives (λ reading. reading ≡ unknown_role name.now) result }
-{
-    let text = format!(in alloc; "Unknown interpreted text role \"{name}\".")?;
-    Ok(Meaning::Wrong(Level::Error, Text::new(text)))
-}
-
-fn warning(alloc: Global, text: &str) -> Result<Meaning>
-    ensures { Gives (λ reading. reading ≡ Wrong Warning text.now) result }
-{
-    Ok(Meaning::Wrong(Level::Warning, Text::from_str(alloc, text)?))
 }
 
 impl Written<'_> {
@@ -125,7 +95,14 @@ impl Written<'_> {
         let shown = self.unescaped(piece.content_from, piece.content_to)?;
         let shown = shown.as_str();
         let inner = self.part(piece.from, piece.content_to + 1);
-        let node = substitution(self.alloc, inner, shown, self.line)?;
+        let written = said(self.alloc, inner)?;
+        let name = normalized_said(self.alloc, shown)?;
+        let attrs = vec![in self.alloc;
+            Entry::new(Key::Rawsource, written),
+            Entry::new(Key::Refname, name),
+        ]?;
+        let tag = Tag::SubstitutionReference;
+        let node = element(self.alloc, tag, attrs, shown, self.line)?;
         match suffix {
             Suffix::Bare => Ok(Meaning::One(node)),
             _ => {
@@ -184,13 +161,25 @@ impl Written<'_> {
         ensures { Gives (λ reading. reading ≡ embedded_reading suffix (chars source.now) (chars shown.now) (chars meaning.now) is_alias self.now.line) result }
     {
         if is_alias {
-            let node = alias_reference(self.alloc, source, shown, meaning, self.line)?;
+            let own = normalized_said(self.alloc, shown)?;
+            let written = said(self.alloc, source)?;
+            let refname = name_said(self.alloc, meaning)?;
+            let attrs = named_attrs(self.alloc, own, written, refname)?;
+            let node = element(self.alloc, Tag::Reference, attrs, shown, self.line)?;
             return Ok(Meaning::One(node));
         }
         let node = embedded_reference(self.alloc, source, shown, meaning, self.line)?;
         match suffix {
             Suffix::Named => {
-                let target = uri_target(self.alloc, shown, meaning, self.line)?;
+                // The target that it leaves, named by the phrase.
+                let name = name_said(self.alloc, shown)?;
+                let uri = said(self.alloc, meaning)?;
+                let attrs = vec![in self.alloc;
+                    Entry::new(Key::Inline, Value::Number(1)),
+                    Entry::new(Key::OwnName, name),
+                    Entry::new(Key::Refuri, uri),
+                ]?;
+                let target = bare_element(self.alloc, Tag::Target, attrs, self.line);
                 let nodes = vec![in self.alloc; node, target]?;
                 Ok(Meaning::Two(Children::of(nodes)))
             }
@@ -208,7 +197,7 @@ impl Written<'_> {
         if let Some(place) = embedded_at(phrase) {
             let shown = self.shown_by(piece, phrase, place)?;
             let meaning = self.meant(piece.content_from + place + 1, piece.content_to - 1)?;
-            let alias = is_alias(enclosed(phrase, place));
+            let alias = is_alias(part(phrase, place + 1, phrase.len() - 1));
             return self.embedded(suffix, source, shown.as_str(), meaning.as_str(), alias);
         }
         let shown = self.unescaped(piece.content_from, piece.content_to)?;
@@ -224,27 +213,10 @@ impl Written<'_> {
     {
         match role_tag(role) {
             Some(tag) => self.shown_in(tag, piece),
-            None => unknown_role(self.alloc, role),
-        }
-    }
-
-    /// Interpreted text with a role in front of it.
-    fn prefixed(&self, suffix: Suffix, piece: Piece) -> Result<Meaning>
-        requires { piece.from + 1 < piece.content_from }
-        ensures { Gives (λ reading. reading ≡ interpreted_reading true suffix self.now.characters.items piece self.now.line) result }
-    {
-        match suffix {
-            Suffix::Bare => {
-                self.with_role(self.part(piece.from + 1, piece.content_from - 2), piece)
+            None => {
+                let text = format!(in self.alloc; "Unknown interpreted text role \"{role}\".")?;
+                Ok(Meaning::Wrong(Level::Error, Text::new(text)))
             }
-            Suffix::Role => warning(
-                self.alloc,
-                "Multiple roles in interpreted text (both prefix and suffix present; only one allowed).",
-            ),
-            Suffix::Named | Suffix::Anonymous => warning(
-                self.alloc,
-                "Mismatch: both interpreted text role and reference suffix.",
-            ),
         }
     }
 
@@ -254,8 +226,22 @@ impl Written<'_> {
         requires { IsWithin self.now.characters.items piece }
         ensures { Gives (λ reading. reading ≡ interpreted_reading (has_prefix_role piece) suffix self.now.characters.items piece self.now.line) result }
     {
+        // A role stands in front.
         if piece.from + 1 < piece.content_from {
-            return self.prefixed(suffix, piece);
+            let wrong = match suffix {
+                Suffix::Bare => {
+                    let role = self.part(piece.from + 1, piece.content_from - 2);
+                    return self.with_role(role, piece);
+                }
+                Suffix::Role => {
+                    "Multiple roles in interpreted text (both prefix and suffix present; only one allowed)."
+                }
+                Suffix::Named | Suffix::Anonymous => {
+                    "Mismatch: both interpreted text role and reference suffix."
+                }
+            };
+            let text = Text::from_str(self.alloc, wrong)?;
+            return Ok(Meaning::Wrong(Level::Warning, text));
         }
         match suffix {
             Suffix::Bare => self.shown_in(Tag::TitleReference, piece),
@@ -265,14 +251,46 @@ impl Written<'_> {
     }
 
     /// A reference to a footnote or a citation.
+    #[tactic(auto, using(crate::proofs::TextLemmas::chars_of_star))]
     #[inline(never)]
     fn label(&self, piece: Piece) -> Result<Meaning>
         ensures { Gives (λ reading. reading ≡ One (label_reference_node (source self.now.characters.items piece) (content self.now.characters.items piece) self.now.line)) result }
     {
         let source = self.part(piece.from, piece.to);
         let label = part(&self.characters, piece.content_from, piece.content_to);
-        let node = label_reference(self.alloc, source, label, self.line)?;
-        Ok(Meaning::One(node))
+        match label {
+            ['#', name @ ..] => {
+                let node = numbered(self.alloc, source, name, self.line)?;
+                Ok(Meaning::One(node))
+            }
+            // A footnote with a symbol.
+            ['*', ..] => {
+                let written = said(self.alloc, source)?;
+                let auto = said(self.alloc, "*")?;
+                let attrs = vec![in self.alloc;
+                    Entry::new(Key::Auto, auto),
+                    Entry::new(Key::Rawsource, written),
+                ]?;
+                let node = bare_element(self.alloc, Tag::FootnoteReference, attrs, self.line);
+                Ok(Meaning::One(node))
+            }
+            _ => {
+                let written = said(self.alloc, source)?;
+                let shown = spell(self.alloc, label)?;
+                let name = name_said(self.alloc, shown.as_str())?;
+                let attrs = vec![in self.alloc;
+                    Entry::new(Key::Rawsource, written),
+                    Entry::new(Key::Refname, name),
+                ]?;
+                let tag = if are_digits(label) {
+                    Tag::FootnoteReference
+                } else {
+                    Tag::CitationReference
+                };
+                let node = element(self.alloc, tag, attrs, shown.as_str(), self.line)?;
+                Ok(Meaning::One(node))
+            }
+        }
     }
 
     /// A reference by a simple name.
@@ -318,10 +336,17 @@ impl Written<'_> {
             Kind::Marked(Markup::Target, _) => self.inline_target(piece),
             Kind::Marked(Markup::Substitution, suffix) => self.substituted(suffix, piece),
             Kind::Marked(Markup::Interpreted, suffix) => self.interpreted(suffix, piece),
-            Kind::Unended(markup) => Ok(Meaning::Wrong(
-                Level::Warning,
-                Text::of_phrase(self.alloc, unended_phrase(markup)),
-            )),
+            Kind::Unended(markup) => {
+                let phrase = match markup {
+                    Markup::Strong => Phrase::UnendedStrong,
+                    Markup::Emphasis => Phrase::UnendedEmphasis,
+                    Markup::Literal => Phrase::UnendedLiteral,
+                    Markup::Target => Phrase::UnendedTarget,
+                    Markup::Substitution => Phrase::UnendedSubstitution,
+                    Markup::Interpreted => Phrase::UnendedInterpreted,
+                };
+                Ok(Meaning::Wrong(Level::Warning, Text::of_phrase(self.alloc, phrase)))
+            }
             Kind::Label => self.label(piece),
             Kind::Reference(suffix) => self.named(suffix, piece),
             Kind::Uri => self.uri(piece),

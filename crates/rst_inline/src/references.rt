@@ -1,21 +1,26 @@
 //! References, and the substitutions that they stand round.
 ghost use Rattle.std.specs.Prelude.{◌≡◌, ◌∷◌, [], chars};
-ghost use Rattle.rst_inline.specs.Elements.{reference_node, embedded_node, substitution_node, outer_attrs, outer_node};
+ghost use Rattle.rst_inline.specs.Elements.{reference_node, embedded_node, outer_node};
 ghost use Rattle.rst_tree.specs.Attributes.{attr};
 ghost use Rattle.rst_tree.specs.Faults.{Gives};
 ghost use Rattle.rst_tree.specs.declared.key.Key.TheVariants.{Name, Rawsource, Refname};
-ghost use Rattle.rst_inline_scan.specs.declared.piece.Suffix.TheVariants.{Named};
 
 use super::elements::element;
-use super::texts::{both_said, name_said, normalized_said, said};
+use super::texts::{name_said, normalized_said, said};
 use rst_inline_scan::Suffix;
-use rst_tree::{Attrs, Children, Entry, Key, Node, Result, Tag, Value};
+use rst_text::both_borrowed;
+use rst_tree::{Attrs, Children, Entry, Key, Node, Result, Tag, TreeFault, Value};
 use std::alloc::Global;
 
 /// The attributes of a reference by a name, with room for the one that tells where it leads, once that is found.
 // A call would move its three values.
 #[inline(always)]
-fn named_attrs(alloc: Global, own: Value, written: Value, refname: Value) -> Result<Vec<Entry>>
+pub(crate) fn named_attrs(
+    alloc: Global,
+    own: Value,
+    written: Value,
+    refname: Value,
+) -> Result<Vec<Entry>>
     ensures { Gives (λ attrs. attrs.items ≡ attr Name own ∷ attr Rawsource written ∷ attr Refname refname ∷ []) result }
 {
     let mut attrs = Vec::with_capacity(alloc, 4)?;
@@ -46,27 +51,12 @@ pub(crate) fn reference(
             attrs
         }
         _ => {
-            let (own, refname) = both_said(alloc, shown)?;
+            let (normalized, name) = both_borrowed(alloc, shown).map_err(|_| TreeFault::NoMemory)?;
+            let own = said(alloc, normalized.as_str())?;
+            let refname = said(alloc, name.as_str())?;
             named_attrs(alloc, own, written, refname)?
         }
     };
-    element(alloc, Tag::Reference, attrs, shown, line)
-}
-
-/// A phrase with an embedded alias.
-pub(crate) fn alias_reference(
-    alloc: Global,
-    source: &str,
-    shown: &str,
-    alias: &str,
-    line: usize,
-) -> Result<Node>
-    ensures { Gives (λ node. node ≡ reference_node Named (chars source.now) (chars shown.now) (chars alias.now) line) result }
-{
-    let own = normalized_said(alloc, shown)?;
-    let written = said(alloc, source)?;
-    let refname = name_said(alloc, alias)?;
-    let attrs = named_attrs(alloc, own, written, refname)?;
     element(alloc, Tag::Reference, attrs, shown, line)
 }
 
@@ -91,21 +81,17 @@ pub(crate) fn embedded_reference(
     element(alloc, Tag::Reference, attrs, shown, line)
 }
 
-/// A substitution.
-pub(crate) fn substitution(alloc: Global, source: &str, shown: &str, line: usize) -> Result<Node>
-    ensures { Gives (λ node. node ≡ substitution_node (chars source.now) (chars shown.now) line) result }
-{
-    let written = said(alloc, source)?;
-    let name = normalized_said(alloc, shown)?;
-    let attrs = vec![in alloc;
-        Entry::new(Key::Rawsource, written),
-        Entry::new(Key::Refname, name),
-    ]?;
-    element(alloc, Tag::SubstitutionReference, attrs, shown, line)
-}
-
-fn outer_attrs(alloc: Global, suffix: Suffix, source: &str, shown: &str) -> Result<Vec<Entry>>
-    ensures { Gives (λ attrs. attrs.items ≡ outer_attrs suffix (chars source.now) (chars shown.now)) result }
+/// The reference that stands round a substitution.
+#[tactic(auto, using(crate::proofs::Orders::outer_in_order))]
+pub(crate) fn outer_reference(
+    alloc: Global,
+    suffix: Suffix,
+    source: &str,
+    shown: &str,
+    inner: Node,
+    line: usize,
+) -> Result<Node>
+    ensures { Gives (λ node. node ≡ outer_node suffix (chars source.now) (chars shown.now) inner line) result }
 {
     let written = said(alloc, source)?;
     let attrs = match suffix {
@@ -121,22 +107,6 @@ fn outer_attrs(alloc: Global, suffix: Suffix, source: &str, shown: &str) -> Resu
             ]?
         }
     };
-    Ok(attrs)
-}
-
-/// The reference that stands round a substitution.
-#[tactic(auto, using(crate::proofs::Orders::outer_in_order))]
-pub(crate) fn outer_reference(
-    alloc: Global,
-    suffix: Suffix,
-    source: &str,
-    shown: &str,
-    inner: Node,
-    line: usize,
-) -> Result<Node>
-    ensures { Gives (λ node. node ≡ outer_node suffix (chars source.now) (chars shown.now) inner line) result }
-{
-    let attrs = outer_attrs(alloc, suffix, source, shown)?;
     let mut list = Vec::with_capacity(alloc, 1)?;
     list.push(inner)?;
     Ok(Node::Element {

@@ -8,7 +8,7 @@ ghost use Rattle.rst_inline.specs.Elements.{said};
 ghost use Rattle.rst_tree.specs.Faults.{Gives};
 
 use rst_inline_scan::unescaped;
-use rst_text::{both_borrowed, characters_of, name_borrowed, normalized_borrowed};
+use rst_text::{characters_of, name_borrowed, normalized_borrowed};
 use rst_tree::{Result, Text, TreeFault, Value};
 use std::alloc::{AllocError, Global};
 
@@ -60,18 +60,6 @@ pub(crate) fn normalized_said(alloc: Global, text: &str) -> Result<Value>
 {
     let name = normalized_borrowed(alloc, text).map_err(|_| TreeFault::NoMemory)?;
     said(alloc, name.as_str())
-}
-
-/// What [`normalized_said`] and [`name_said`] give.
-pub(crate) fn both_said(alloc: Global, text: &str) -> Result<(Value, Value)>
-    ensures normalized { Gives (λ both. both.0 ≡ said (names.normalized_white (chars text.now))) result }
-    ensures name { Gives (λ both. both.1 ≡ said (names.name_of (chars text.now))) result }
-{
-    let (normalized, name) = both_borrowed(alloc, text).map_err(|_| TreeFault::NoMemory)?;
-    Ok((
-        said(alloc, normalized.as_str())?,
-        said(alloc, name.as_str())?,
-    ))
 }
 
 /// The characters from a place on, up to another place.

@@ -16,7 +16,7 @@ loop-place-preserved-then-opens c =
     let t = c.args.text.now in
     let read = get_or_read t _ _ (omega arith) c.index-text-place.is 0 in
     let next = is_escaped-more t 0 c.loop-place.place (omega arith) in
-    let here : opens_angle t c.loop-place.place ≡ true = opens_angle-is t c.loop-place.place c.index-text-place.result c.loop-place.escaped (omega arith) (sym read) c.loop-place.invariant.escaped ∙ sym c.is_opening-opens.ensures ∙ c.if-opens.true in
+    let here : opens_angle t c.loop-place.place ≡ true = opens_angle-is t c.loop-place.place c.index-text-place.result c.loop-place.escaped (omega arith) (sym read) c.loop-place.invariant.escaped ∙ c.if-opens.true in
     record {
       escaped = c.escapes-escaped.ensures ∙ ap (λ x. escapes x c.loop-place.escaped) read ∙ ap (escapes _) c.loop-place.invariant.escaped ∙ sym next;
       last = IsLast-new (opens_angle t) 0 c.loop-place.place (omega arith) here;
@@ -27,7 +27,7 @@ loop-place-preserved c =
     let t = c.args.text.now in
     let read = get_or_read t _ _ (omega arith) c.index-text-place.is 0 in
     let next = is_escaped-more t 0 c.loop-place.place (omega arith) in
-    let here : opens_angle t c.loop-place.place ≡ false = opens_angle-is t c.loop-place.place c.index-text-place.result c.loop-place.escaped (omega arith) (sym read) c.loop-place.invariant.escaped ∙ sym c.is_opening-opens.ensures ∙ c.if-opens.false in
+    let here : opens_angle t c.loop-place.place ≡ false = opens_angle-is t c.loop-place.place c.index-text-place.result c.loop-place.escaped (omega arith) (sym read) c.loop-place.invariant.escaped ∙ c.if-opens.false in
     record {
       escaped = c.escapes-escaped.ensures ∙ ap (λ x. escapes x c.loop-place.escaped) read ∙ ap (escapes _) c.loop-place.invariant.escaped ∙ sym next;
       last = IsLast-one (opens_angle t) 0 c.loop-place.place c.loop-place.found here c.loop-place.invariant.last;

@@ -17,7 +17,7 @@ returns-in-Some c =
     let inside : place + 2 < length (content t p) = subst (λ (phrase : Text). place + 2 < length phrase) phrase c.in-Some.ensures.below in
     let shown = ap chars c.as_str.ensures.value ∙ c.in_ok-shown.ensures ∙ ap (λ (phrase : Text). shown_by phrase place) phrase in
     let meaning = ap chars c.as_str-in-Some.ensures.value ∙ c.in_ok-meaning.ensures ∙ ap meant (enclosed-part t p place c.requires inside) in
-    let alias = c.is_alias-alias.ensures ∙ ap is_alias (c.enclosed.ensures ∙ ap (λ (phrase : Text). enclosed phrase place) phrase) in
+    let alias = c.is_alias-alias.ensures ∙ ap is_alias (c.part.ensures ∙ ap (λ (phrase : Text). enclosed phrase place) phrase) in
     let at : Some place ≡ embedded_at (content t p) = c.in-Some.ensures.exact ∙ ap embedded_at phrase in
     let is = phrase-embedded c.args.suffix (source t p) (content t p) _ _ _ place w.line _ c.part-source.ensures shown meaning alias at in
     subst (λ m. Gives (λ reading. reading ≡ m) c.embedded.result) is c.embedded.ensures
