@@ -1,6 +1,5 @@
 -- The transitions of a document stay in it, in document order.
-use Rattle.std.proofs.Common.{◌≡◌, ◌∙◌, ℕ, List, [], ◌∷◌, ◌++◌, Bool, true, false, Option, Some, None, cond, refl, ap, ap₂, sym, append_assoc, ⊎_elim}
-use Rattle.std.proofs.lemmas.Bool.{cases_Bool, cond_both}
+use Rattle.std.proofs.Common.{◌≡◌, ◌∙◌, ℕ, List, [], ◌∷◌, ◌++◌, Bool, true, false, Option, Some, None, cond, refl, ap, ap₂, sym, append_assoc}
 use Rattle.std.specs.Prelude.{◌&&◌, not, if◌then◌else◌}
 use Rattle.std.proofs.lemmas.List.{append-nil}
 use Rattle.std.proofs.lemmas.List.Elements.{filter-append}
@@ -130,12 +129,16 @@ section_steps last ends t a c l inside s none is kept out =
           (ap (λ xs. xs ++ among o) (joined (Element t a (forest_of inside.placed) l) (forest_of m) ∙ ap (λ xs. xs ++ among m) (own (forest_of inside.placed)))
           ∙ append_assoc (among inside.placed) (among m) (among o) ∙ ap (λ xs. among inside.placed ++ xs) (either last inside.moving) ∙ kept ∙ sym (own c));
       stays = λ h. ap (λ ys. ys ++ o) none ∙ ap (λ b. if b then inside.moving else []) h;
-      ended = λ h. ap (λ ys. ys ++ o) none ∙ cond_both last inside.moving [] (λ ms. ms ≡ []) (λ k. out (ap₂ (λ x y. x && y) h k)) (λ _. refl);
+      ended = λ h. ap (λ ys. ys ++ o) none ∙ ended last (λ k. out (ap₂ (λ x y. x && y) h k));
     }
   where
     either : (b : Bool) (ns : List Node) → among (if b then [] else ns) ++ among (if b then ns else []) ≡ among ns
     either true ns = refl
     either false ns = append-nil (among ns)
+
+    ended : (b : Bool) → (b ≡ true → inside.moving ≡ []) → (if b then inside.moving else []) ≡ []
+    ended true h = h refl
+    ended false h = refl
 
 -- after nodes of which none moves out, or none at all, nodes add their transitions; and none moves out where the document ends
 record All (first : ℕ) (ends : Bool) (s : Siblings) (f : Forest) : Type 0 where
@@ -163,12 +166,13 @@ kept first ends s (element t a c l r) none out =
     let within : All first z (none_yet s.reports) c = kept first z (none_yet s.reports) c (λ h. refl) (λ h. refl) in
     let put : (u : Siblings) → placed_in first ends s (element t a c l r) ≡ placed_in first ends u r → Steps n (is_last r) ends s u → All first ends s (element t a c l r) =
     λ u step k. then_all first ends s u n r step k (kept first ends u r k.stays k.ended) in
-    ⊎_elim
-    (λ is. put (put_section (is_last r) t a l inside s) (rw is refl) (section_steps (is_last r) ends t a c l inside s (none refl) is within.all within.ended))
-    (λ other. ⊎_elim
-    (λ is. put (put_transition first (is_last r) ends n l s) (rw (other, is) refl) (transition_steps first (is_last r) ends n l s (none refl)))
-    (λ is. put (with_node n s) (rw (other, is) refl) (node_steps n (is_last r) ends s (none refl))) (cases_Bool (is_transition t)))
-    (cases_Bool (is_section t))
+    elim (is_section t) as (λ x. is_section t ≡ x → All first ends s (element t a c l r)) [
+      | true ↦ λ is. put (put_section (is_last r) t a l inside s) (rw is refl) (section_steps (is_last r) ends t a c l inside s (none refl) is within.all within.ended)
+      | false ↦ λ other. elim (is_transition t) as (λ x. is_transition t ≡ x → All first ends s (element t a c l r)) [
+        | true ↦ λ is. put (put_transition first (is_last r) ends n l s) (rw (other, is) refl) (transition_steps first (is_last r) ends n l s (none refl))
+        | false ↦ λ is. put (with_node n s) (rw (other, is) refl) (node_steps n (is_last r) ends s (none refl))
+      ] refl
+    ] refl
 
 pub transitions_stay : KeepsTransitions
 transitions_stay document known =

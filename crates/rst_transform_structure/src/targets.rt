@@ -38,7 +38,7 @@ pub fn targets(document: Document, context: &mut Context) -> Result<Document>
     let takers = takers(context.alloc, &document)?;
     let mut walking = Walking::of(context.alloc, takers);
     let node = walk(document.into_node(), &mut walking)?;
-    pass(walking.into_got(), &mut context.names);
+    pass(walking.got, &mut context.names);
     Ok(Document::of(node))
 }
 
@@ -129,13 +129,6 @@ impl Walking {
             names: Vec::new(alloc),
             got: Vec::new(alloc),
         }
-    }
-
-    /// The names that elements keep.
-    fn into_got(self) -> Vec<(Text, Option<u64>)>
-        ensures { result.items ≡ self.got }
-    {
-        self.got
     }
 
     /// Whether the element is a target that hands on its ids.
@@ -234,13 +227,7 @@ fn pass(got: Vec<(Text, Option<u64>)>, names: &mut Names)
     ensures { Passes got.items names.old names.new }
 {
     for (name, number) in got {
-        names.move_to(name.as_str(), holder(number));
+        let holder = number.map_or(Holder::Unregistered, |number| Holder::Element(number));
+        names.move_to(name.as_str(), holder);
     }
-}
-
-/// The element of a number, or one without.
-fn holder(number: Option<u64>) -> Holder
-    ensures { result ≡ holder_of number }
-{
-    number.map_or(Holder::Unregistered, |number| Holder::Element(number))
 }
