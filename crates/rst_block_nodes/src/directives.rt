@@ -1,22 +1,30 @@
 //! Admonitions, topics and program code.
-ghost use Rattle.std.specs.Prelude.{◌≡◌, ◌++◌, option_map};
+ghost use Rattle.std.specs.Prelude.{◌≡◌, option_map};
 ghost use Rattle.rst_tree.specs.Faults.{Gives};
 ghost use Rattle.rst_block_nodes.specs.Admonitions.{title_class, with_title_class};
 ghost use Rattle.rst_markup_directives.specs.Options.{choices_in};
-ghost use Rattle.rst_block_nodes.specs.Options.{tag_of, directive_element, code_element, code_classes, language_classes};
+ghost use Rattle.rst_block_nodes.specs.Options.{directive_element, code_element, code_classes};
 
 use super::nodes::{element_of, preserving, text_nodes};
 use super::settings::{Holder, set_options};
-use super::values::identifier;
 use rst_markup_directives::{Name, Setting};
-use rst_tree::{Attrs, Key, Node, Result, Tag, Text, Texts, Value};
+use rst_text::id_of;
+use rst_tree::{Attrs, Key, Node, Result, Tag, Text, Texts, TreeFault, Value};
 use std::alloc::Global;
 
-/// The element that a directive makes: of `replace`, which makes none of its own, the paragraph that it holds.
-fn tag_of(name: Name) -> Tag
-    ensures { result ≡ tag_of name }
+/// The element of an admonition or a topic, with the classes and the name of its options, without title and content
+/// (Docutils, Directives, 'Admonitions'). Of `replace`, which makes no element of its own, it is the paragraph that it holds.
+///
+/// The only refusal is [`TreeFault::NoMemory`].
+pub fn directive_element(
+    alloc: Global,
+    name: Name,
+    options: &[Setting],
+    line: usize,
+) -> Result<Node>
+    ensures { Gives (λ node. node ≡ directive_element name (choices_in options.now) line) result }
 {
-    match name {
+    let tag = match name {
         Name::Attention => Tag::Attention,
         Name::Caution => Tag::Caution,
         Name::Danger => Tag::Danger,
@@ -32,24 +40,10 @@ fn tag_of(name: Name) -> Tag
         Name::Figure => Tag::Figure,
         Name::Replace => Tag::Paragraph,
         Name::Code => Tag::LiteralBlock,
-    }
-}
-
-/// The element of an admonition or a topic, with the classes and the name of its options, without title and content
-/// (Docutils, Directives, 'Admonitions').
-///
-/// The only refusal is [`TreeFault::NoMemory`].
-pub fn directive_element(
-    alloc: Global,
-    name: Name,
-    options: &[Setting],
-    line: usize,
-) -> Result<Node>
-    ensures { Gives (λ node. node ≡ directive_element name (choices_in options.now) line) result }
-{
+    };
     let mut attrs = Attrs::new(alloc);
     set_options(alloc, &mut attrs, Holder::Body, options)?;
-    Ok(element_of(tag_of(name), attrs, Vec::new(alloc), line))
+    Ok(element_of(tag, attrs, Vec::new(alloc), line))
 }
 
 /// An element of the directive `admonition` with the class that its title gives, unless its options gave it some: the
@@ -69,11 +63,12 @@ pub fn with_title_class(alloc: Global, admonition: Node, title: &Node) -> Result
 }
 
 /// The class that a title gives.
+#[tactic(auto, using(crate::proofs::TextLemmas::bytes_of_chars))]
 fn title_class(alloc: Global, title: &Node) -> Result<Value>
     ensures { Gives (λ class. class ≡ title_class title.now) result }
 {
     let text = title.text_of(alloc)?;
-    let id = identifier(alloc, text.as_str())?;
+    let id = id_of(alloc, text.as_str()).map_err(|_| TreeFault::NoMemory)?;
     let mut class = Text::from_str(alloc, "admonition-")?;
     class.push_str(id.as_str())?;
     let mut classes = Texts::new(alloc);
@@ -106,35 +101,16 @@ pub fn code_block(
 fn code_classes(alloc: Global, language: Option<&str>, own: Option<Value>) -> Result<Value>
     ensures { Gives (λ classes. classes ≡ code_classes (option_map (λ word. word.now) language.entry) own) result }
 {
-    let classes = language_classes(alloc, language)?;
-    match own {
-        Some(Value::List(more)) => Ok(Value::List(joined(classes, &more)?)),
-        _ => Ok(Value::List(classes)),
-    }
-}
-
-/// The classes that program code has whatever its options are.
-fn language_classes(alloc: Global, language: Option<&str>) -> Result<Texts>
-    ensures { Gives (λ classes. classes ≡ language_classes (option_map (λ word. word.now) language.entry)) result }
-{
     let mut classes = Texts::new(alloc);
     classes.push(Text::from_str(alloc, "code")?)?;
-    match language {
-        Some(word) => {
-            classes.push(Text::from_str(alloc, word)?)?;
-            Ok(classes)
-        }
-        None => Ok(classes),
+    if let Some(word) = language {
+        classes.push(Text::from_str(alloc, word)?)?;
     }
-}
-
-/// The classes, and then more.
-fn joined(classes: Texts, more: &Texts) -> Result<Texts>
-    ensures { Gives (λ all. all ≡ classes ++ more.now) result }
-{
-    let mut all = classes;
+    let Some(Value::List(more)) = own else {
+        return Ok(Value::List(classes));
+    };
     for class in more.as_slice() {
-        all.push(class.copy()?)?;
+        classes.push(class.copy()?)?;
     }
-    Ok(all)
+    Ok(Value::List(classes))
 }

@@ -1,11 +1,9 @@
 //! Images and figures.
-ghost use Rattle.std.specs.Prelude.{◌≡◌, ◌∷◌, [], option_map};
+ghost use Rattle.std.specs.Prelude.{◌≡◌, option_map};
 ghost use Rattle.rst_tree.specs.Faults.{Gives};
-ghost use Rattle.rst_tree.specs.Attributes.{attr};
-ghost use Rattle.rst_tree.specs.declared.attrs.Value.TheVariants.{Text as Said};
 ghost use Rattle.rst_markup_directives.specs.Options.{choices_in};
 ghost use Rattle.rst_markup_directives.specs.Target.{destination_of};
-ghost use Rattle.rst_block_nodes.specs.Options.{image_element, image_node, with_alt, image_holder, link_chosen, linked_node, link_attrs, figure_element};
+ghost use Rattle.rst_block_nodes.specs.Options.{image_element, link_chosen, linked_node, figure_element};
 
 use super::nodes::element_of;
 use super::settings::{Holder, set_options};
@@ -28,51 +26,21 @@ pub fn image(
 ) -> Result<Node>
     ensures { Gives (λ node. node ≡ image_element uri.now (choices_in options.now) line in_figure (option_map (λ text. text.now) alt.entry)) result }
 {
-    let image = image_alone(alloc, uri, options, line, in_figure, alt)?;
-    match link_of(options) {
-        Some((to, source)) => linked(alloc, image, to, source, line),
-        None => Ok(image),
-    }
-}
-
-/// The image without what it leads to.
-fn image_alone(
-    alloc: Global,
-    uri: &str,
-    options: &[Setting],
-    line: usize,
-    in_figure: bool,
-    alt: Option<&str>,
-) -> Result<Node>
-    ensures { Gives (λ node. node ≡ image_node uri.now (choices_in options.now) line in_figure (option_map (λ text. text.now) alt.entry)) result }
-{
-    let mut attrs = uri_and_alt(alloc, uri, alt)?;
-    set_options(alloc, &mut attrs, image_holder(in_figure), options)?;
-    Ok(element_of(Tag::Image, attrs, Vec::new(alloc), line))
-}
-
-/// Where an image is, and the text that stands for it.
-fn uri_and_alt(alloc: Global, uri: &str, alt: Option<&str>) -> Result<Attrs>
-    ensures { Gives (λ attrs. attrs ≡ with_alt (option_map (λ text. text.now) alt.entry) (attr Key.Uri (Said uri.now) ∷ [])) result }
-{
     let mut attrs = Attrs::new(alloc);
     attrs.set(Key::Uri, said(alloc, uri)?)?;
-    match alt {
-        Some(text) => {
-            attrs.set(Key::Alt, said(alloc, text)?)?;
-            Ok(attrs)
-        }
-        None => Ok(attrs),
+    if let Some(text) = alt {
+        attrs.set(Key::Alt, said(alloc, text)?)?;
     }
-}
-
-fn image_holder(in_figure: bool) -> Holder
-    ensures { result ≡ image_holder in_figure }
-{
-    if in_figure {
+    let holder = if in_figure {
         Holder::FigureImage
     } else {
         Holder::Image
+    };
+    set_options(alloc, &mut attrs, holder, options)?;
+    let image = element_of(Tag::Image, attrs, Vec::new(alloc), line);
+    match link_of(options) {
+        Some((to, source)) => linked(alloc, image, to, source, line),
+        None => Ok(image),
     }
 }
 
@@ -88,35 +56,24 @@ fn link_of(options: &[Setting]) -> Option<(&Target, &str)>
     None
 }
 
-/// A reference round an image.
+/// A reference round an image: what it leads to, and how it is written.
+#[tactic(auto, using(crate::proofs::TextLemmas::bytes_encoded))]
 fn linked(alloc: Global, image: Node, to: &Target, source: &str, line: usize) -> Result<Node>
     ensures { Gives (λ node. node ≡ linked_node image (destination_of to.now) source.now line) result }
-{
-    let attrs = link_attrs(alloc, to, source)?;
-    let mut nodes = Vec::new(alloc);
-    nodes.push(image)?;
-    Ok(element_of(Tag::Reference, attrs, nodes, line))
-}
-
-/// What a reference leads to, and how it is written.
-#[tactic(auto, using(crate::proofs::TextLemmas::bytes_encoded))]
-fn link_attrs(alloc: Global, to: &Target, source: &str) -> Result<Attrs>
-    ensures { Gives (λ attrs. attrs ≡ link_attrs (destination_of to.now) source.now) result }
 {
     let mut attrs = Attrs::new(alloc);
     attrs.set(Key::Rawsource, said(alloc, source)?)?;
     match to {
-        Target::Uri(uri) => {
-            attrs.set(Key::Refuri, said(alloc, uri.as_str())?)?;
-            Ok(attrs)
-        }
+        Target::Uri(uri) => attrs.set(Key::Refuri, said(alloc, uri.as_str())?)?,
         Target::Name(name) => {
             let shown = normalized(alloc, name.as_str())?;
             attrs.set(Key::Name, Value::Text(Text::new(shown)))?;
             attrs.set(Key::Refname, name_said(alloc, name.as_str())?)?;
-            Ok(attrs)
         }
     }
+    let mut nodes = Vec::new(alloc);
+    nodes.push(image)?;
+    Ok(element_of(Tag::Reference, attrs, nodes, line))
 }
 
 /// A figure, without its image, caption and legend (Docutils, Directives, 'Figure').

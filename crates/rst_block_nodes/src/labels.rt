@@ -1,7 +1,7 @@
 //! Footnotes and citations.
 ghost use Rattle.std.specs.Prelude.{◌≡◌};
 ghost use Rattle.rst_tree.specs.Faults.{Gives};
-ghost use Rattle.rst_block_nodes.specs.Elements.{labelled_node, footnote_node, numbered_node, symbol_node, citation_node};
+ghost use Rattle.rst_block_nodes.specs.Elements.{labelled_node, footnote_node, citation_node};
 
 use super::nodes::{element_of, plain};
 use super::values::{name_said, said};
@@ -17,40 +17,24 @@ use std::alloc::Global;
 pub fn footnote(alloc: Global, label: &str, line: usize) -> Result<Node>
     ensures { Gives (λ node. node ≡ footnote_node label.now line) result }
 {
+    let mut attrs = Attrs::new(alloc);
     if begins_with('#', label) {
-        return numbered(alloc, label, line);
+        let name = skip(label, 1);
+        attrs.set(Key::Auto, Value::Number(1))?;
+        attrs.set(Key::Mark, said(alloc, label)?)?;
+        if !is_blank(name) {
+            attrs.set(Key::OwnName, name_said(alloc, name)?)?;
+        }
+        return labelled(alloc, Tag::Footnote, attrs, "", line);
     }
     if begins_with('*', label) {
-        return symbol(alloc, label, line);
+        attrs.set(Key::Auto, said(alloc, "*")?)?;
+        attrs.set(Key::Mark, said(alloc, label)?)?;
+        return labelled(alloc, Tag::Footnote, attrs, "", line);
     }
-    let mut attrs = Attrs::new(alloc);
     attrs.set(Key::Mark, said(alloc, label)?)?;
     attrs.set(Key::OwnName, name_said(alloc, label)?)?;
     labelled(alloc, Tag::Footnote, attrs, label, line)
-}
-
-/// A footnote that is numbered, and named by what stands behind the first character of its label.
-fn numbered(alloc: Global, label: &str, line: usize) -> Result<Node>
-    ensures { Gives (λ node. node ≡ numbered_node label.now line) result }
-{
-    let name = skip(label, 1);
-    let mut attrs = Attrs::new(alloc);
-    attrs.set(Key::Auto, Value::Number(1))?;
-    attrs.set(Key::Mark, said(alloc, label)?)?;
-    if !is_blank(name) {
-        attrs.set(Key::OwnName, name_said(alloc, name)?)?;
-    }
-    labelled(alloc, Tag::Footnote, attrs, "", line)
-}
-
-/// A footnote that has a symbol.
-fn symbol(alloc: Global, label: &str, line: usize) -> Result<Node>
-    ensures { Gives (λ node. node ≡ symbol_node label.now line) result }
-{
-    let mut attrs = Attrs::new(alloc);
-    attrs.set(Key::Auto, said(alloc, "*")?)?;
-    attrs.set(Key::Mark, said(alloc, label)?)?;
-    labelled(alloc, Tag::Footnote, attrs, "", line)
 }
 
 /// A citation with its label, which names it, without its content (Document Tree, 'citation').

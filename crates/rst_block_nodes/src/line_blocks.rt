@@ -173,12 +173,10 @@ fn deeper_len(lines: &[IndentedText], least: usize) -> usize
     ensures value { result ≡ deeper_len least lines.now }
     ensures within { result ≤ length lines.now }
 {
-    for (i, line) in lines.iter().enumerate() {
-        if line.indent() <= least {
-            return i;
-        }
-    }
-    lines.len()
+    lines
+        .iter()
+        .take_while(|line| line.indent() > least)
+        .count()
 }
 
 /// The line block of some lines, inside which `levels` more may nest.
@@ -192,7 +190,8 @@ fn block_of(
 ) -> Result<Texted, LineBlockFault>
     ensures { Makes (line_block (suc levels) lines.now numbers.old) numbers.new result }
 {
-    numbers.within_u64();
+    // The number fits a `u64`: the proof needs it.
+    let _given = numbers.given();
     let least = least_indent(lines);
     let mut nodes = Vec::new(alloc);
     let mut notes = Vec::new(alloc);
@@ -200,7 +199,9 @@ fn block_of(
     while place < lines.len() {
         let run = deeper_len(&lines[place..], least);
         if run == 0 {
-            let mut made = line_of(alloc, &lines[place], numbers)?;
+            let bar = &lines[place];
+            let text = bar.text.as_str();
+            let mut made = with_text(alloc, Tag::Line, bar.line, text, bar.text_line, numbers)?;
             nodes.push(made.element)?;
             notes.append(&mut made.notes)?;
             place += 1;
@@ -220,12 +221,4 @@ fn block_of(
     let line = first_line(lines);
     let element = element_of(Tag::LineBlock, Attrs::new(alloc), nodes, line);
     Ok(Texted { element, notes })
-}
-
-/// A line, and the messages of its text.
-fn line_of(alloc: Global, line: &IndentedText, numbers: &mut Numbers) -> Result<Texted>
-    ensures { Gives (λ made. texted Line line.now.line line.now.text line.now.text_line numbers.old ≡ Ok ((made.element, made.notes.items), numbers.new)) result }
-{
-    let text = line.text.as_str();
-    with_text(alloc, Tag::Line, line.line, text, line.text_line, numbers)
 }

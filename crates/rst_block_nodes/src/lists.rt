@@ -1,7 +1,7 @@
 //! Bullet lists, enumerated lists and the options of option lists.
 ghost use Rattle.std.specs.Prelude.{◌≡◌, None, option_map};
 ghost use Rattle.rst_tree.specs.Faults.{Gives};
-ghost use Rattle.rst_block_nodes.specs.Elements.{bullet_list_node, sequence_name, prefix, suffix, enumerated_list_node, start_text, delimiter_text, option_node, option_argument_node};
+ghost use Rattle.rst_block_nodes.specs.Elements.{bullet_list_node, enumerated_list_node, start_text, option_node};
 ghost use Rattle.rst_block_nodes.specs.Texts.{message_node};
 
 use super::messages::message;
@@ -24,39 +24,6 @@ pub fn bullet_list(alloc: Global, mark: char, line: usize) -> Result<Node>
     Ok(element_of(Tag::BulletList, attrs, Vec::new(alloc), line))
 }
 
-/// How the enumeration of a list is named.
-fn sequence_name(sequence: Sequence) -> &'static str
-    ensures { result.now ≡ sequence_name sequence }
-{
-    match sequence {
-        Sequence::Arabic => "arabic",
-        Sequence::LowerAlpha => "loweralpha",
-        Sequence::UpperAlpha => "upperalpha",
-        Sequence::LowerRoman => "lowerroman",
-        Sequence::UpperRoman => "upperroman",
-    }
-}
-
-/// What stands before an ordinal.
-fn prefix(format: Format) -> &'static str
-    ensures { result.now ≡ prefix format }
-{
-    match format {
-        Format::Parentheses => "(",
-        Format::Parenthesis | Format::Period => "",
-    }
-}
-
-/// What stands behind an ordinal.
-fn suffix(format: Format) -> &'static str
-    ensures { result.now ≡ suffix format }
-{
-    match format {
-        Format::Parentheses | Format::Parenthesis => ")",
-        Format::Period => ".",
-    }
-}
-
 /// An enumerated list whose first item begins with an enumerator, without its items (Document Tree, 'enumerated_list').
 /// It says its first ordinal if that isn't 1.
 ///
@@ -65,10 +32,22 @@ pub fn enumerated_list(alloc: Global, enumerator: Enumerator, line: usize) -> Re
     ensures { Gives (λ node. node ≡ enumerated_list_node enumerator line) result }
 {
     let reading = first_reading(enumerator.written.ordinals);
+    let sequence = match reading.sequence {
+        Sequence::Arabic => "arabic",
+        Sequence::LowerAlpha => "loweralpha",
+        Sequence::UpperAlpha => "upperalpha",
+        Sequence::LowerRoman => "lowerroman",
+        Sequence::UpperRoman => "upperroman",
+    };
+    let (prefix, suffix) = match enumerator.format {
+        Format::Parentheses => ("(", ")"),
+        Format::Parenthesis => ("", ")"),
+        Format::Period => ("", "."),
+    };
     let mut attrs = Attrs::new(alloc);
-    attrs.set(Key::Enumtype, said(alloc, sequence_name(reading.sequence))?)?;
-    attrs.set(Key::Prefix, said(alloc, prefix(enumerator.format))?)?;
-    attrs.set(Key::Suffix, said(alloc, suffix(enumerator.format))?)?;
+    attrs.set(Key::Enumtype, said(alloc, sequence)?)?;
+    attrs.set(Key::Prefix, said(alloc, prefix)?)?;
+    attrs.set(Key::Suffix, said(alloc, suffix)?)?;
     if reading.ordinal != 1 {
         attrs.set(Key::Start, Value::Number(reading.ordinal))?;
     }
@@ -90,17 +69,6 @@ pub fn start_message(alloc: Global, written: &str, ordinal: u64, line: usize) ->
     message(alloc, Level::Info, line, text.as_str(), None)
 }
 
-/// What stands between an option and its argument.
-fn delimiter_text(delimiter: Delimiter) -> &'static str
-    ensures { result.now ≡ delimiter_text delimiter }
-{
-    match delimiter {
-        Delimiter::Nothing => "",
-        Delimiter::Space => " ",
-        Delimiter::Equals => "=",
-    }
-}
-
 /// An option of an option list, with its argument, if it has one: what stands before it, and its text (Document Tree,
 /// 'option').
 ///
@@ -116,17 +84,14 @@ pub fn option(
     let mut nodes = Vec::new(alloc);
     nodes.push(plain(alloc, Tag::OptionString, line, string)?)?;
     if let Some((delimiter, text)) = argument {
-        nodes.push(option_argument(alloc, delimiter, text, line)?)?;
+        let delimiter = match delimiter {
+            Delimiter::Nothing => "",
+            Delimiter::Space => " ",
+            Delimiter::Equals => "=",
+        };
+        let attrs = Attrs::lone(alloc, Key::Delimiter, said(alloc, delimiter)?)?;
+        let shown = text_nodes(alloc, text)?;
+        nodes.push(element_of(Tag::OptionArgument, attrs, shown, line))?;
     }
     Ok(element_of(Tag::Option, Attrs::new(alloc), nodes, line))
-}
-
-/// The argument of an option.
-fn option_argument(alloc: Global, delimiter: Delimiter, text: &str, line: usize) -> Result<Node>
-    ensures { Gives (λ node. node ≡ option_argument_node delimiter text.now line) result }
-{
-    let value = said(alloc, delimiter_text(delimiter))?;
-    let attrs = Attrs::lone(alloc, Key::Delimiter, value)?;
-    let nodes = text_nodes(alloc, text)?;
-    Ok(element_of(Tag::OptionArgument, attrs, nodes, line))
 }

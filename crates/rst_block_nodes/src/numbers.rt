@@ -1,5 +1,5 @@
 //! The numbers by which messages of texts and their problematics know each other.
-ghost use Rattle.std.specs.Prelude.{◌≡◌, ◌^◌, ◌<◌};
+ghost use Rattle.std.specs.Prelude.{◌≡◌};
 ghost use Rattle.rst_tree.specs.Sends.{counted_on};
 
 use std::marker::Model;
@@ -31,13 +31,6 @@ impl Numbers {
         ensures { result ≡ self.now }
     {
         self.given
-    }
-
-    /// The number fits a `u64`. Nothing is done: it is a fact that the proofs of callers need.
-    pub(crate) fn within_u64(&self)
-        ensures { self.now < 2 ^ 64 }
-    {
-        let _given = self.given;
     }
 
     /// Gives `n` messages more their numbers. The sum can't pass the largest `u64`: each message takes memory.

@@ -3,7 +3,7 @@ ghost use Rattle.std.specs.Prelude.{◌≡◌};
 ghost use Rattle.rst_tree.specs.Faults.{Gives};
 ghost use Rattle.rst_markup_directives.specs.Options.{choices_in};
 ghost use Rattle.rst_markup_directives.specs.Value.{meaning_of};
-ghost use Rattle.rst_block_nodes.specs.Options.{with_choices, value_meant, alignment_name};
+ghost use Rattle.rst_block_nodes.specs.Options.{with_choices, value_meant};
 
 use super::values::{listed, said};
 use rst_markup_directives::{Alignment, OptionName, OptionValue, Setting};
@@ -74,23 +74,14 @@ fn value_of(alloc: Global, value: &OptionValue) -> Result<Value>
         OptionValue::Text(text) => said(alloc, text.as_str()),
         OptionValue::Measure(measure) => said(alloc, measure.as_str()),
         OptionValue::Number(number) => Ok(Value::Number(*number)),
-        OptionValue::Place(alignment) => said(alloc, alignment_name(*alignment)),
+        OptionValue::Place(Alignment::Top) => said(alloc, "top"),
+        OptionValue::Place(Alignment::Middle) => said(alloc, "middle"),
+        OptionValue::Place(Alignment::Bottom) => said(alloc, "bottom"),
+        OptionValue::Place(Alignment::Left) => said(alloc, "left"),
+        OptionValue::Place(Alignment::Center) => said(alloc, "center"),
+        OptionValue::Place(Alignment::Right) => said(alloc, "right"),
         OptionValue::Classes(classes) => listed(alloc, classes),
         OptionValue::Link { source, .. } => said(alloc, source.as_str()),
         OptionValue::Name(name) => said(alloc, name.as_str()),
-    }
-}
-
-/// How an alignment is named.
-fn alignment_name(alignment: Alignment) -> &'static str
-    ensures { result.now ≡ alignment_name alignment }
-{
-    match alignment {
-        Alignment::Top => "top",
-        Alignment::Middle => "middle",
-        Alignment::Bottom => "bottom",
-        Alignment::Left => "left",
-        Alignment::Center => "center",
-        Alignment::Right => "right",
     }
 }

@@ -1,7 +1,7 @@
 //! Parts of tables.
 ghost use Rattle.std.specs.Prelude.{◌≡◌};
 ghost use Rattle.rst_tree.specs.Faults.{Gives};
-ghost use Rattle.rst_block_nodes.specs.Elements.{tgroup_node, colspec_node, entry_node};
+ghost use Rattle.rst_block_nodes.specs.Elements.{tgroup_node, entry_node};
 
 use super::nodes::element_of;
 use rst_tree::{Attrs, Key, Node, Result, Tag, Value};
@@ -16,18 +16,11 @@ pub fn tgroup(alloc: Global, widths: &[usize], line: usize) -> Result<Node>
 {
     let mut nodes = Vec::new(alloc);
     for width in widths {
-        nodes.push(colspec(alloc, *width, line)?)?;
+        let attrs = Attrs::lone(alloc, Key::Colwidth, Value::Number(*width as u64))?;
+        nodes.push(element_of(Tag::Colspec, attrs, Vec::new(alloc), line))?;
     }
     let attrs = Attrs::lone(alloc, Key::Cols, Value::Number(widths.len() as u64))?;
     Ok(element_of(Tag::Tgroup, attrs, nodes, line))
-}
-
-/// A column of a width.
-fn colspec(alloc: Global, width: usize, line: usize) -> Result<Node>
-    ensures { Gives (λ node. node ≡ colspec_node line width) result }
-{
-    let attrs = Attrs::lone(alloc, Key::Colwidth, Value::Number(width as u64))?;
-    Ok(element_of(Tag::Colspec, attrs, Vec::new(alloc), line))
 }
 
 /// An entry of a table that takes so many rows and columns beside its first, without its content (Document Tree, 'entry').

@@ -6,7 +6,7 @@ ghost use Rattle.rst_tree.specs.Faults.{Gives};
 ghost use Rattle.rst_markup_directives.specs.Target.{destination_of};
 ghost use Rattle.rst_block_nodes.specs.Values.{normalized, unescaped};
 ghost use Rattle.rst_block_nodes.specs.Elements.{substitution_definition_node};
-ghost use Rattle.rst_block_nodes.specs.Targets.{target_node, name_attrs, leading_attrs, may_replace, may_stand, may_refer, is_plain_role, is_substitution};
+ghost use Rattle.rst_block_nodes.specs.Targets.{target_node, name_attrs, leading_attrs, may_replace, may_stand, is_substitution};
 
 use super::nodes::element_of;
 use super::values::{name_said, normalized, said, unescaped};
@@ -86,6 +86,7 @@ pub fn may_replace(nodes: &[Node]) -> bool
 }
 
 /// Whether a node may stand in a replacement text.
+#[tactic(auto, using(rst_tree::proofs::Changes::nodes_are))]
 fn may_stand(node: &Node) -> bool
     ensures { result ≡ may_stand node.now }
 {
@@ -96,38 +97,18 @@ fn may_stand(node: &Node) -> bool
             attrs,
             children,
             ..
-        } => may_refer(attrs, children),
-        Node::Element { tag, .. } => is_plain_role(*tag),
+        } => !attrs.has(Key::Anonymous) && !has_substitution(children.as_slice()),
+        Node::Element { tag, .. } => matches!(
+            tag,
+            Tag::Emphasis
+                | Tag::Strong
+                | Tag::Literal
+                | Tag::Subscript
+                | Tag::Superscript
+                | Tag::TitleReference
+                | Tag::SubstitutionReference
+        ),
     }
-}
-
-/// Whether a reference with these attributes and nodes may stand in a replacement text.
-fn may_refer(attrs: &Attrs, children: &Children) -> bool
-    ensures { result ≡ may_refer attrs.now children.now }
-{
-    !attrs.has(Key::Anonymous) && !holds_substitution(children)
-}
-
-fn holds_substitution(children: &Children) -> bool
-    ensures { result ≡ list_any is_substitution (nodes_of children.now) }
-{
-    has_substitution(children.as_slice())
-}
-
-/// Whether elements of this kind may stand in a replacement text, whatever they hold.
-fn is_plain_role(tag: Tag) -> bool
-    ensures { result ≡ is_plain_role tag }
-{
-    matches!(
-        tag,
-        Tag::Emphasis
-            | Tag::Strong
-            | Tag::Literal
-            | Tag::Subscript
-            | Tag::Superscript
-            | Tag::TitleReference
-            | Tag::SubstitutionReference
-    )
 }
 
 /// Whether one of the nodes is a substitution reference.

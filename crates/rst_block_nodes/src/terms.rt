@@ -4,7 +4,7 @@ ghost use Rattle.rst_tree.specs.Faults.{Gives};
 ghost use Rattle.rst_tree.specs.Sends.{counted_on};
 ghost use Rattle.rst_block_nodes.specs.Readings.{termed};
 ghost use Rattle.rst_block_nodes.specs.Results.{HeadsText};
-ghost use Rattle.rst_block_nodes.specs.Terms.{IsPut, groups_of, heads_behind, heads_of, texts_of, letters_from, parts_of, is_bare, is_delimiter, begins_with_space, ends_in_space, dark_len, spelled};
+ghost use Rattle.rst_block_nodes.specs.Terms.{IsPut, groups_of, heads_behind, heads_of, texts_of, letters_from, parts_of, is_bare, is_delimiter, dark_len, spelled};
 
 use super::nodes::element_of;
 use super::numbers::Numbers;
@@ -129,29 +129,15 @@ fn is_bare(letter: Letter, c: char) -> bool
 }
 
 /// Whether a letter behind some and before others is a colon with a space on both sides.
+#[tactic(auto, using(crate::proofs::TermLemmas::ends_in_space_append))]
 fn is_delimiter(before: &[Letter], letter: Letter, behind: &[Letter]) -> bool
     ensures { result ≡ is_delimiter before.now letter behind.now }
 {
-    is_bare(letter, ':') && (ends_in_space(before) && begins_with_space(behind))
-}
-
-fn begins_with_space(letters: &[Letter]) -> bool
-    ensures { result ≡ begins_with_space letters.now }
-{
-    match letters.first() {
-        Some(first) => is_bare(*first, ' '),
-        None => false,
-    }
-}
-
-#[tactic(auto, using(crate::proofs::TermLemmas::ends_in_space_append))]
-fn ends_in_space(letters: &[Letter]) -> bool
-    ensures { result ≡ ends_in_space letters.now }
-{
-    match letters.split_last() {
-        Some((last, _)) => is_bare(*last, ' '),
-        None => false,
-    }
+    is_bare(letter, ':')
+        && (before
+            .split_last()
+            .is_some_and(|(last, _)| is_bare(*last, ' '))
+            && behind.first().is_some_and(|first| is_bare(*first, ' ')))
 }
 
 /// How many letters stand before the spaces at the end.

@@ -3,10 +3,10 @@ ghost use Rattle.std.specs.Prelude.{◌≡◌, string_bytes};
 ghost use Rattle.std.specs.Cow.{cow_str_bytes};
 ghost use Rattle.rst_tree.specs.Faults.{Gives};
 ghost use Rattle.rst_tree.specs.declared.attrs.Value.TheVariants.{Text as Said};
-ghost use Rattle.rst_block_nodes.specs.Values.{name_in, normalized, unescaped, identifier, listed};
+ghost use Rattle.rst_block_nodes.specs.Values.{name_in, normalized, unescaped, listed};
 
 use rst_inline::unescape;
-use rst_text::{id_of, name_of, normalized_white};
+use rst_text::{name_of, normalized_white};
 use rst_tree::{Result, Text, Texts, TreeFault, Value};
 use std::alloc::Global;
 use std::borrow::CowStr;
@@ -46,14 +46,6 @@ pub(crate) fn unescaped(alloc: Global, text: &str) -> Result<CowStr<'_, Global>>
     }
     let shown = unescape(alloc, text).map_err(|_| TreeFault::NoMemory)?;
     Ok(CowStr::Owned(shown))
-}
-
-/// The id that a text gives.
-#[tactic(auto, using(crate::proofs::TextLemmas::bytes_of_chars))]
-pub(crate) fn identifier(alloc: Global, text: &str) -> Result<String>
-    ensures { Gives (λ id. string_bytes id ≡ identifier text.now) result }
-{
-    id_of(alloc, text).map_err(|_| TreeFault::NoMemory)
 }
 
 /// A value that lists texts.

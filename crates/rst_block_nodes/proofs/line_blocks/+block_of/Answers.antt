@@ -11,7 +11,7 @@ loop-place-preserved-then-run-eq0 t c =
     let left : List IndentedLine = drop c.loop-place.place lines in
     let none : deeper_len c.least_indent-least.result left ≡ 0 =
     sym (ap (deeper_len c.least_indent-least.result) (take_rest lines c.loop-place.place)) ∙ sym c.deeper_len-run.ensures.value ∙ c.if-run-eq0.true in
-    one_line c.args.levels c.loop-place.numbers c.line_of.new.numbers (least_indent lines) (first_line lines) left (drop (c.loop-place.place + 1) lines) c.loop-place.nodes.items c.loop-place.notes.items c.push.new.self.items c.append.new.self.items c.index-lines-place.result c.in_ok-made.made (ap (λ n. deeper_len n left) (sym c.least_indent-least.ensures) ∙ none) (line_at _ _ _ c.loop-place-test.true c.index-lines-place.is) c.in_ok-made.ensures c.in_ok-push.ensures.items c.in_ok-append.ensures.items
+    one_line c.args.levels c.loop-place.numbers c.with_text.new.numbers (least_indent lines) (first_line lines) left (drop (c.loop-place.place + 1) lines) c.loop-place.nodes.items c.loop-place.notes.items c.push.new.self.items c.append.new.self.items c.index-lines-place.result c.in_ok-made.made (ap (λ n. deeper_len n left) (sym c.least_indent-least.ensures) ∙ none) (line_at _ _ _ c.loop-place-test.true c.index-lines-place.is) (search rules) c.in_ok-push.ensures.items c.in_ok-append.ensures.items
     ∙ c.loop-place.invariant
 
 pub loop-place-preserved : goal.loop-place-preserved
