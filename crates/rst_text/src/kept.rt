@@ -46,6 +46,10 @@ impl Kept {
         ensures { IfOk result (λ _. self.new ≡ self.old ++ chars text.now ∷ []) }
     {
         self.starts.push(self.text.len() + text.len())?;
+        // Many lines are blank.
+        if text.is_empty() {
+            return Ok(());
+        }
         if let Err(fault) = self.text.push_str(text) {
             self.starts.pop();
             return Err(fault);
