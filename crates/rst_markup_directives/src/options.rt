@@ -98,64 +98,17 @@ pub(crate) fn fields_of(alloc: Global, run: &[&str]) -> Result<Option<Vec<Field>
     while i < run.len() {
         let behind = &run[i + 1..];
         let deep = deep_len(behind);
-        let Some(field) = field_in(alloc, run[i], &behind[..deep])? else {
+        let below = &behind[..deep];
+        let Some(mark) = field_of(run[i]) else {
             return Ok(None);
         };
-        fields.push(field)?;
+        let name = excerpt(alloc, run[i], mark.name)?;
+        let first = characters_of(alloc, skip(run[i], mark.marker.cut))?;
+        let value = joined(alloc, first, below, least_indentation(below))?;
+        fields.push(Field { name, value })?;
         i += 1 + deep;
     }
     Ok(Some(fields))
-}
-
-/// The field that a line begins, with the indented lines below it.
-#[tactic(auto, unfolding(crate::specs::Options::field_in))]
-fn field_in(alloc: Global, line: &str, below: &[&str]) -> Result<Option<Field>, AllocError>
-    ensures { IfOk result (λ field. option_map spec.field_text field ≡ spec.field_in (chars line.now) (texts_of below.now)) }
-{
-    let Some(mark) = field_of(line) else {
-        return Ok(None);
-    };
-    let name = excerpt(alloc, line, mark.name)?;
-    let first = characters_of(alloc, skip(line, mark.marker.cut))?;
-    let value = joined(alloc, first, below, least_indentation(below))?;
-    Ok(Some(Field { name, value }))
-}
-
-/// Whether a name is that of one of some fields.
-fn is_field_name(name: &[char], fields: &[Field]) -> bool
-    ensures { result ≡ spec.is_field_name name.now (spec.field_texts fields.now) }
-{
-    for field in fields {
-        if is_same_word(&field.name, name) {
-            return true;
-        }
-    }
-    false
-}
-
-/// The name of the first field that names no option of a directive.
-fn first_unknown(directive: Name, fields: &[Field]) -> Option<&[char]>
-    ensures { option_map (λ name. name.now) result ≡ spec.first_unknown directive (spec.field_texts fields.now) }
-{
-    for field in fields {
-        let option = OptionName::of(&field.name);
-        if !option.is_some_and(|option| directive.has_option(option)) {
-            return Some(field.name.as_slice());
-        }
-    }
-    None
-}
-
-/// The name of the first field that one before it has.
-fn first_again(fields: &[Field]) -> Option<&[char]>
-    ensures { option_map (λ name. name.now) result ≡ spec.first_again [] (spec.field_texts fields.now) }
-{
-    for i in 0..fields.len() {
-        if is_field_name(&fields[i].name, &fields[..i]) {
-            return Some(fields[i].name.as_slice());
-        }
-    }
-    None
 }
 
 /// The settings of a directive's fields, or what is wrong: of all fields, an unknown option, then a duplicate one, then
@@ -168,34 +121,31 @@ pub(crate) fn settings_of(
 ) -> Result<Result<Vec<Setting>, Detail>, MarkupFault>
     ensures { Gives (λ settings. spec.settings_shown settings ≡ spec.settings_in directive (spec.field_texts fields.now)) result }
 {
-    if let Some(name) = first_unknown(directive, fields) {
-        let name = text_from(alloc, name)?;
-        return Ok(Err(Detail::UnknownOption(name)));
-    }
-    if let Some(name) = first_again(fields) {
-        let name = text_from(alloc, name)?;
-        return Ok(Err(Detail::DuplicateOption(name)));
-    }
-    choices_of(alloc, directive, fields)
-}
-
-/// The settings that fields make, or the first of them whose option can't have its value.
-fn choices_of(
-    alloc: Global,
-    directive: Name,
-    fields: &[Field],
-) -> Result<Result<Vec<Setting>, Detail>, MarkupFault>
-    ensures { Gives (λ settings. spec.settings_shown settings ≡ spec.choices_of directive (spec.field_texts fields.now)) result }
-{
-    let mut settings = Vec::new(alloc);
     for field in fields {
-        if let Some(option) = OptionName::of(&field.name)
-            && let Some(value) = option_value(alloc, directive, option, &field.value)?
+        let option = OptionName::of(&field.name);
+        if !option.is_some_and(|option| directive.has_option(option)) {
+            let name = text_from(alloc, &field.name)?;
+            return Ok(Err(Detail::UnknownOption(name)));
+        }
+    }
+    for i in 0..fields.len() {
+        let name = fields[i].name.as_slice();
+        for before in &fields[..i] {
+            if is_same_word(&before.name, name) {
+                let name = text_from(alloc, name)?;
+                return Ok(Err(Detail::DuplicateOption(name)));
+            }
+        }
+    }
+    let mut settings = Vec::new(alloc);
+    for choice in fields {
+        if let Some(option) = OptionName::of(&choice.name)
+            && let Some(value) = option_value(alloc, directive, option, &choice.value)?
         {
             settings.push(Setting { option, value })?;
             continue;
         }
-        let name = text_from(alloc, &field.name)?;
+        let name = text_from(alloc, &choice.name)?;
         return Ok(Err(Detail::InvalidValue(name)));
     }
     Ok(Ok(settings))

@@ -30,7 +30,14 @@ pub enum Target {
 pub fn target_value(alloc: Global, text: &str) -> Result<Option<Target>, MarkupFault>
     ensures { Gives (λ target. option_map spec.destination_of target ≡ spec.target_value (chars text.now)) result }
 {
-    if is_plain_uri(text) {
+    // Most texts are ASCII without white characters and escapes, and end in no `_`: such a text is the URI that it means.
+    let bytes = text.as_bytes();
+    if !bytes.is_empty()
+        && bytes[bytes.len() - 1] != b'_'
+        && bytes
+            .iter()
+            .all(|byte| byte.is_ascii_graphic() && *byte != b'\\')
+    {
         let uri = String::from_str(alloc, text)?;
         return Ok(Some(Target::Uri(uri)));
     }
@@ -42,31 +49,29 @@ pub fn target_value(alloc: Global, text: &str) -> Result<Option<Target>, MarkupF
     destination_in(alloc, &joined)
 }
 
-/// Whether a text means the URI that it is, as most do: it is ASCII without white characters and escapes, and ends in no `_`.
-fn is_plain_uri(text: &str) -> bool
-    ensures { IsTrue result → (spec.target_value (chars text.now) ≡ Some (spec.located (chars text.now))) }
-{
-    let bytes = text.as_bytes();
-    if bytes.is_empty() || bytes[bytes.len() - 1] == b'_' {
-        return false;
-    }
-    bytes
-        .iter()
-        .all(|byte| byte.is_ascii_graphic() && *byte != b'\\')
-}
-
-/// What a text means as the text of a target.
-#[tactic(auto, unfolding(crate::specs::Target::destination_in, crate::specs::Target::phrase_in))]
+/// What a text means as the text of a target. A phrase in backquotes isn't empty, white stands at neither end, and each
+/// backquote in it is escaped.
+#[tactic(auto, unfolding(crate::specs::Target::destination_in, crate::specs::Target::is_simple_reference, crate::specs::Target::is_phrase_reference, crate::specs::Target::is_phrase, crate::specs::Target::phrase_in))]
 fn destination_in(alloc: Global, text: &[char]) -> Result<Option<Target>, MarkupFault>
     ensures { Gives (λ target. option_map spec.destination_of target ≡ spec.destination_in text.now) result }
 {
-    if is_simple_reference(text) {
-        let name = text_from(alloc, &text[..text.len() - 1])?;
+    let n = text.len();
+    if 0 < n && (has(text, n - 1, '_') && is_simple_name(&text[..n - 1])) {
+        let name = text_from(alloc, &text[..n - 1])?;
         return Ok(Some(Target::Name(name)));
     }
-    if is_phrase_reference(text) {
-        let name = unescaped(alloc, &text[1..text.len() - 2])?;
-        return Ok(Some(Target::Name(text_from(alloc, &name)?)));
+    if 4 <= n
+        && (has(text, 0, '`')
+            && (has(text, n - 1, '_')
+                && (has(text, n - 2, '`') && !ends_escaping(&text[..n - 2]))))
+    {
+        let phrase = &text[1..n - 2];
+        if is_dark(phrase, 0)
+            && (is_dark(phrase, phrase.len() - 1) && !has_bare_backquote(phrase))
+        {
+            let name = unescaped(alloc, phrase)?;
+            return Ok(Some(Target::Name(text_from(alloc, &name)?)));
+        }
     }
     let bare = unescaped(alloc, text)?;
     let uri = without_white(alloc, &bare)?;
@@ -86,36 +91,6 @@ fn ends_escaping(text: &[char]) -> bool
         escaped = escapes(*c, escaped);
     }
     escaped
-}
-
-/// Whether a text is a reference by a simple name.
-#[tactic(auto, unfolding(crate::specs::Target::is_simple_reference))]
-fn is_simple_reference(text: &[char]) -> bool
-    ensures value { result ≡ spec.is_simple_reference text.now }
-    ensures long { IsTrue result → 0 < length text.now }
-{
-    let n = text.len();
-    0 < n && (has(text, n - 1, '_') && is_simple_name(&text[..n - 1]))
-}
-
-/// Whether a text is a reference by a phrase in backquotes: the phrase isn't empty, white stands at neither end, and each
-/// backquote in it is escaped.
-#[tactic(auto, unfolding(crate::specs::Target::is_phrase_reference, crate::specs::Target::is_phrase, crate::specs::Target::phrase_in))]
-fn is_phrase_reference(text: &[char]) -> bool
-    ensures value { result ≡ spec.is_phrase_reference text.now }
-    ensures long { IsTrue result → 4 ≤ length text.now }
-{
-    let n = text.len();
-    if n < 4 {
-        return false;
-    }
-    let phrase = &text[1..n - 2];
-    has(text, 0, '`')
-        && (has(text, n - 1, '_')
-            && (has(text, n - 2, '`')
-                && (!ends_escaping(&text[..n - 2])
-                    && (is_dark(phrase, 0)
-                        && (is_dark(phrase, phrase.len() - 1) && !has_bare_backquote(phrase))))))
 }
 
 /// Whether a backquote in a text isn't escaped.

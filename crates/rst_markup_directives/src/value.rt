@@ -93,18 +93,11 @@ fn ids_of(alloc: Global, text: &[char]) -> Result<Option<Vec<String>>, MarkupFau
         let word = text_from(alloc, word)?;
         ids.push(id_of(alloc, word.as_str())?)?;
     }
-    Ok(all_filled(ids))
-}
-
-/// Some ids, where none of them is empty.
-fn all_filled(ids: Vec<String>) -> Option<Vec<String>>
-    ensures { option_map (λ v. spec.texts_in v.items) result ≡ spec.all_filled (spec.texts_in ids.items) }
-{
     if ids.is_empty() {
-        return None;
+        return Ok(None);
     }
     if ids.iter().any(|id| is_empty(id.as_str())) {
-        return None;
+        return Ok(None);
     }
-    Some(ids)
+    Ok(Some(ids))
 }

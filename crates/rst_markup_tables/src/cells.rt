@@ -16,23 +16,15 @@ use rst_markup_lines::is_blank;
 use rst_text::{indentation, skip};
 use std::alloc::Global;
 
-/// Whether no character begins at a place, or a white one.
-fn is_white(place: Place) -> bool
-    ensures { result ≡ is_white_place place }
-{
-    match place {
-        Place::Character(c) => c.is_whitespace(),
-        Place::Second => true,
-    }
-}
-
 /// Places without those behind the last character that isn't white.
 fn trimmed(row: &[Place]) -> &[Place]
     ensures { characters result.now ≡ drop_trailing_whitespace (characters row.now) }
 {
     let mut size = row.len();
     while size > 0 {
-        if !is_white(row[size - 1]) {
+        if let Place::Character(c) = row[size - 1]
+            && !c.is_whitespace()
+        {
             break;
         }
         size -= 1;
@@ -48,21 +40,6 @@ fn cut_places(row: &[Place], left: usize, right: Option<usize>) -> &[Place]
     &row[left.min(end)..end]
 }
 
-/// The text of the characters that begin at places.
-fn text_of(alloc: Global, places: &[Place]) -> Result<String>
-    requires { all_scalars (characters places.now) ≡ true }
-    ensures { IfOk result (λ text. chars_of text ≡ characters places.now) }
-{
-    let mut text = String::with_capacity(alloc, places.len())?;
-    for place in places {
-        if let Place::Character(c) = place {
-            text.push(*c)?;
-            continue;
-        }
-    }
-    Ok(text)
-}
-
 /// The text of a cell in a line of a table: the characters from place `left` on and before `right`, without the white
 /// ones at their end.
 fn cell_text(
@@ -76,7 +53,14 @@ fn cell_text(
     ensures line { IfOk result (λ text. IsTrue (is_line_text (chars_of text))) }
 {
     let row = row_at(lines, k);
-    let text = text_of(alloc, trimmed(cut_places(row, left, right)))?;
+    let places = trimmed(cut_places(row, left, right));
+    let mut text = String::with_capacity(alloc, places.len())?;
+    for place in places {
+        if let Place::Character(c) = place {
+            text.push(*c)?;
+            continue;
+        }
+    }
     Ok(text)
 }
 

@@ -46,17 +46,6 @@ fn begins_of(alloc: Global, row: &[Place]) -> Result<Vec<usize>>
     Ok(begins)
 }
 
-fn all_begins(alloc: Global, rows: &[TableLine]) -> Result<Vec<Vec<usize>>>
-    ensures { IfOk result (λ all. HasBegins rows.now (lists_of all.items)) }
-{
-    let mut all = Vec::with_capacity(alloc, rows.len())?;
-    for line in rows {
-        let begins = begins_of(alloc, line.places())?;
-        all.push(begins)?;
-    }
-    Ok(all)
-}
-
 // The rows of a grid, and for each of their places where the run of `-` and `+` that ends there begins.
 #[derive(Drop)]
 struct Runs<'a> {
@@ -168,7 +157,11 @@ fn fill(depths: &mut [usize], rectangle: Rectangle) -> bool
 pub(crate) fn tiling(alloc: Global, rows: &[TableLine]) -> Result<Option<Vec<Rectangle>>>
     ensures { IfOk result (λ found. Tiles rows.now (option_map vec_items found)) }
 {
-    let begins = all_begins(alloc, rows)?;
+    let mut begins = Vec::with_capacity(alloc, rows.len())?;
+    for line in rows {
+        let row = begins_of(alloc, line.places())?;
+        begins.push(row)?;
+    }
     let runs = Runs { rows, begins };
     let mut rectangles = Vec::new(alloc);
     let columns = width(rows).saturating_sub(1);

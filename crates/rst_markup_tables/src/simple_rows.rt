@@ -8,9 +8,8 @@ ghost use Rattle.rst_markup_tables.specs.declared.results.TableDetail.TheVariant
 
 use super::Result;
 use super::places::{Place, TableLine, row_at};
-use super::results::TableDetail;
 use super::simple_lines::is_rule;
-use super::spans::{RuleSpan, span_of, spans_of, spread};
+use super::spans::{RuleSpan, behind, last_joined, span_of, spans_of};
 use std::alloc::Global;
 
 /// The lines of a row: from place `from` of the table on, before place `to`. Its columns are those of the rule at place
@@ -89,25 +88,26 @@ fn are_clear(row: &[Place], spans: &[RuleSpan]) -> bool
 }
 
 impl SimpleLines<'_> {
-    /// The spans of a rule, if they cover all columns.
-    fn rule_spans(&self, rule: usize) -> Result<Option<Vec<RuleSpan>>>
+    /// The spans of a rule with how many columns each joins, if they join all, one after the other.
+    pub(crate) fn rule_spans(&self, rule: usize) -> Result<Option<Vec<RuleSpan>>>
         ensures { IfOk result (λ found. option_map vec_items found ≡ spec.rule_spans self.now.lines.now rule) }
     {
         let spans = spans_of(self.alloc, row_at(self.lines, rule))?;
-        spread(self.alloc, self.columns, &spans)
-    }
-
-    /// The fault of the first of the rules whose spans don't cover the columns.
-    pub(crate) fn rule_fault(&self, rules: &[usize]) -> Result<Option<TableDetail>>
-        requires within { (n : ℕ) → n < length rules.now → get_or rules.now n 0 < length self.now.lines.now }
-        ensures { IfOk result (λ fault. fault ≡ option_map (λ k. ColumnSpan (k + 1)) (find (spec.is_unaligned self.now.lines.now) rules.now)) }
-    {
-        for rule in rules {
-            if self.rule_spans(*rule)?.is_none() {
-                return Ok(Some(TableDetail::ColumnSpan { line: *rule + 1 }));
-            }
+        let mut wide = Vec::with_capacity(self.alloc, spans.len())?;
+        let mut left = self.columns;
+        for span in &spans {
+            let Some(last) = last_joined(left, *span) else {
+                return Ok(None);
+            };
+            let columns = last + 1;
+            wide.push(RuleSpan { columns, ..*span })?;
+            left = behind(left, columns);
         }
-        Ok(None)
+        if left.is_empty() {
+            Ok(Some(wide))
+        } else {
+            Ok(None)
+        }
     }
 
     /// The spans of a row.

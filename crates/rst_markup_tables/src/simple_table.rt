@@ -8,7 +8,7 @@ ghost use Rattle.rst_markup_blocks.specs.TableRows.{simple_size, simple_scan};
 
 use super::Result;
 use super::places::{TableLine, row_at};
-use super::results::TableResult;
+use super::results::{TableDetail, TableResult};
 use super::simple_cells::head_size;
 use super::simple_lines::{border_fault, read_lines};
 use super::simple_rows::{SimpleLines, rules_of};
@@ -39,8 +39,11 @@ fn simple_of(
         columns: &columns,
     };
     let rules = rules_of(alloc, lines)?;
-    if let Some(detail) = table.rule_fault(&rules)? {
-        return Ok(malformed(line, first, size, detail));
+    for rule in &rules {
+        if table.rule_spans(*rule)?.is_none() {
+            let detail = TableDetail::ColumnSpan { line: *rule + 1 };
+            return Ok(malformed(line, first, size, detail));
+        }
     }
     let rows = table.rows(&rules)?;
     match table.all_entries(&rows)? {

@@ -32,14 +32,6 @@ fn is_space(row: &[Place], place: usize) -> bool
     mark_at(row, place) == ' '
 }
 
-/// Whether a run of marks begins at a place.
-#[tactic(auto, unfolding(crate::specs::SimpleTable::begins_span))]
-fn begins_span(row: &[Place], place: usize) -> bool
-    ensures { result ≡ spec.begins_span row.now place }
-{
-    !is_space(row, place) && (place == 0 || is_space(row, place - 1))
-}
-
 /// The run that begins at a place, as one column.
 fn span_at(row: &[Place], from: usize) -> RuleSpan
     ensures { result ≡ spec.span_at row.now from }
@@ -58,7 +50,8 @@ pub(crate) fn spans_of(alloc: Global, row: &[Place]) -> Result<Vec<RuleSpan>>
 {
     let mut spans = Vec::new(alloc);
     for place in 0..row.len() {
-        if begins_span(row, place) {
+        let begins = !is_space(row, place) && (place == 0 || is_space(row, place - 1));
+        if begins {
             spans.push(span_at(row, place))?;
             continue;
         }
@@ -75,7 +68,7 @@ fn ending(columns: &[RuleSpan], to: usize) -> Option<usize>
 }
 
 /// The place of the last column that a span joins, if it begins where the first does and ends where a column does.
-fn last_joined(columns: &[RuleSpan], span: RuleSpan) -> Option<usize>
+pub(crate) fn last_joined(columns: &[RuleSpan], span: RuleSpan) -> Option<usize>
     ensures value { result ≡ spec.last_joined columns.now span }
     ensures fits { IfSome result (λ k. k + 1 < 2 ^ 64) }
 {
@@ -87,33 +80,8 @@ fn last_joined(columns: &[RuleSpan], span: RuleSpan) -> Option<usize>
 }
 
 /// The spans behind the first `n`; of fewer nothing is left.
-fn behind(spans: &[RuleSpan], n: usize) -> &[RuleSpan]
+pub(crate) fn behind(spans: &[RuleSpan], n: usize) -> &[RuleSpan]
     ensures { result.now ≡ drop n spans.now }
 {
     &spans[n.min(spans.len())..]
-}
-
-/// The spans with how many columns each joins, if they join all, one after the other.
-pub(crate) fn spread(
-    alloc: Global,
-    columns: &[RuleSpan],
-    spans: &[RuleSpan],
-) -> Result<Option<Vec<RuleSpan>>>
-    ensures { IfOk result (λ found. option_map vec_items found ≡ spec.spread columns.now spans.now) }
-{
-    let mut wide = Vec::with_capacity(alloc, spans.len())?;
-    let mut left = columns;
-    for span in spans {
-        let Some(last) = last_joined(left, *span) else {
-            return Ok(None);
-        };
-        let columns = last + 1;
-        wide.push(RuleSpan { columns, ..*span })?;
-        left = behind(left, columns);
-    }
-    if left.is_empty() {
-        Ok(Some(wide))
-    } else {
-        Ok(None)
-    }
 }

@@ -1,15 +1,19 @@
-use Rattle.std.proofs.Common.{◌≡◌, eqb, rules, tests, map, drop, option_map, sym, ap, ap₂, ◌∙◌, subst, [], List, ℕ, Bor}
+use Rattle.std.proofs.Common.{◌≡◌, eqb, rules, tests, map, drop, option_map, sym, ap, ap₂, ◌∙◌, subst, Some, [], List, ℕ, Bor}
 use Rattle.std.proofs.lemmas.Iterator.Consumers.{YieldsList-end}
+use Rattle.std.proofs.lemmas.Iterator.{YieldsList-from_slice}
+use Rattle.std.proofs.lemmas.Iterator.Search.{all_from_yields_List}
 use Rattle.std.proofs.lemmas.Iterator.Splits.{YieldsList-from_slice_split}
 use Rattle.std.proofs.lemmas.List.{take_rest}
 use Rattle.std.proofs.lemmas.List.Folds.{fold-map}
 use Rattle.std.proofs.lemmas.List.Sums.{fold_push}
 use Rattle.std.specs.Str.{chars}
+use Rattle.rst_text.specs.Text.{chars_of}
 use Rattle.rst_markup_directives.specs.Characters.{unindented}
 use Rattle.rst_markup_directives.specs.Faults.{Gives}
 use Rattle.rst_markup_directives.specs.Lines.{joined, with_line}
-use Rattle.rst_markup_directives.specs.Target.{destination_of, destination_in, target_text, target_value}
+use Rattle.rst_markup_directives.specs.Target.{located, destination_of, destination_in, target_text, target_value}
 use Rattle.rst_markup_directives.proofs.Joins.{joined_onto}
+use Rattle.rst_markup_directives.proofs.PlainUris.{is_plain, plain-uri}
 use Rattle.rst_markup_directives.proofs.target.target_value.Goals as goal
 
 pub loop-line-preserved : goal.loop-line-preserved
@@ -17,6 +21,15 @@ loop-line-preserved c =
     let line : List ℕ = c.in-Some.line.now in
     c.in_ok-add_line.ensures ∙ ap₂ with_line c.loop-line.invariant (take_rest line c.spaces.result ∙ ap (λ n. drop n line) c.spaces.ensures.value)
     ∙ sym (fold_push (λ text (l : Bor (List ℕ)). with_line text (unindented l.now)) [] c.loop-line.yielded c.in-Some.line)
+
+pub returns-then-all : goal.returns-then-all
+returns-then-all c =
+    let bytes = c.as_bytes-bytes.result.now in
+    let each = all_from_yields_List is_plain _ _ c.all.result c.all.ensures.ran (YieldsList-from_slice bytes cc) (λ x b q k. search (rules, tests)) in
+    let plain : target_value (chars c.args.text.now) ≡ Some (located (chars c.args.text.now)) =
+    rw (← c.as_bytes-bytes.ensures.value) (plain-uri bytes (sym c.is_empty.ensures ∙ c.if-not-is_empty.true) c.if-bytes-ne95.true (sym each ∙ c.if-all.true)) in
+    let uri : chars_of c.in_ok-uri.uri ≡ chars c.args.text.now = search rules in
+    ap (λ t. Some (located t)) uri ∙ sym plain
 
 pub returns : goal.returns
 unfolding target_value target_text joined

@@ -3,14 +3,12 @@ use Rattle.rst_markup_tables.specs.Places.{mark_at}
 use Rattle.rst_markup_tables.specs.Search.{Begins, next_begin}
 use Rattle.rst_markup_tables.proofs.Begins.{begins_next, pushed, pushed_size}
 use Rattle.rst_markup_tables.proofs.drawn.begins_of.Goals as goal
-use Rattle.rst_markup_tables.proofs.drawn.begins_of.Goals.{then-not-is_across, else-not-is_across}
 
 pub loop-column-preserved : goal.loop-column-preserved
 unfolding next_begin
 loop-column-preserved c =
     let row = c.args.row.now in
-    let is : c.if-not-is_across.begin ≡ next_begin (mark_at row c.loop-column.column) c.loop-column.begin c.loop-column.column =
-    elim c.if-not-is_across.branch [ then-not-is_across w ↦ grind arith | else-not-is_across w ↦ grind arith ] in
+    let is : c.if-not-is_across.begin ≡ next_begin (mark_at row c.loop-column.column) c.loop-column.begin c.loop-column.column = grind arith in
     let last : Begins row (c.loop-column.column + 1) c.if-not-is_across.begin =
     subst (Begins row (c.loop-column.column + 1)) (sym is) (begins_next row c.loop-column.column c.loop-column.begin c.loop-column.invariant.last) in
     record {

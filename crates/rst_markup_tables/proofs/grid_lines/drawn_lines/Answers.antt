@@ -16,7 +16,6 @@ use Rattle.rst_markup_tables.proofs.Lists.{onto}
 use Rattle.rst_markup_tables.proofs.Numbered.{numbered-from}
 use Rattle.rst_markup_tables.proofs.GridLemmas.{drawn_rows, drawn-row, drawn-none, border-more, scan-over, scan-here}
 use Rattle.rst_markup_tables.proofs.grid_lines.drawn_lines.Goals as goal
-use Rattle.rst_markup_tables.proofs.grid_lines.drawn_lines.Goals.{then-k-i-ge2+then-is_grid_border, else-k-i-ge2, else-k-i-ge2-via-then-k-i-ge2+else-is_grid_border, else-k-i-ge2-via-else-k-i-ge2}
 
 pub returns-then-not-is_drawn : goal.returns-then-not-is_drawn
 returns-then-not-is_drawn c =
@@ -47,14 +46,7 @@ loop-k-preserved c =
     let more = while_more c.loop-k.k Drawn B (omega arith) drawn in
     let step = border-more B c.args.i c.loop-k.k c.loop-k.bottom (omega arith) c.loop-k.invariant.last in
     let size = pushed_size c.loop-k.lines.items c.push.new.self.items c.in_ok-line.line n c.in_ok-push.ensures.items c.loop-k.invariant.size in
-    let new : c.if-k-i-ge2.bottom ≡ cond (leb 2 n && is_grid_border (front_text (drop c.loop-k.k B))) (Some n) c.loop-k.bottom =
-    elim c.if-k-i-ge2.branch [
-      | then-k-i-ge2+then-is_grid_border w ↦ grind (arith, nat_tests, c.line-text.ensures.text)
-      | else-k-i-ge2 w ↦ elim w.else-k-i-ge2.branch [
-        | else-k-i-ge2-via-then-k-i-ge2+else-is_grid_border w' ↦ grind (arith, nat_tests, c.line-text.ensures.text)
-        | else-k-i-ge2-via-else-k-i-ge2 w' ↦ grind (arith, nat_tests)
-      ]
-    ] in
+    let new : c.if-k-i-ge2.bottom ≡ cond (leb 2 n && is_grid_border (front_text (drop c.loop-k.k B))) (Some n) c.loop-k.bottom = grind (arith, nat_tests, c.line-text.ensures.text) in
     record {
       lines = onto _ _ _ _ _ c.in_ok-push.ensures.items (sym (ap (λ l. c.loop-k.lines.items ++ l) rows) ∙ c.loop-k.invariant.lines);
       among = sym more ∙ c.loop-k.invariant.among;
