@@ -29,7 +29,7 @@ use Rattle.rst_markup_blocks.specs.declared.explicit_markup.ExplicitForm.{Explic
 use Rattle.rst_markup_blocks.specs.declared.explicit_markup.ExplicitForm.TheVariants.{Label, Target as TargetForm, Substitution as SubstitutionForm, Directive as DirectiveForm, Comment as CommentForm}
 use Rattle.rst_markup_blocks.specs.declared.forms.CommentCause.TheVariants.{Plain}
 use Rattle.rst_markup_blocks.specs.declared.forms.Explicit.{Explicit}
-use Rattle.rst_markup_blocks.specs.declared.forms.Explicit.TheVariants.{Comment, EmptyComment, Substitution}
+use Rattle.rst_markup_blocks.specs.declared.forms.Explicit.TheVariants.{Comment, EmptyComment, Substitution, Anonymous}
 use Rattle.rst_markup_blocks.specs.declared.forms.Invocation.{Invocation}
 use Rattle.rst_markup_blocks.specs.declared.lines.LineTest.TheVariants.{Blank, Indented}
 use Rattle.rst_markup_blocks.specs.declared.part.Part.{Part}
@@ -239,6 +239,10 @@ explicit_dots i X m e = rw e refl
 pub explicit_other : (i : ℕ) (X : Block) → dots (front_text X) ≡ None → explicit_of i X ≡ anonymous_of i X
 unfolding explicit_of
 explicit_other i X e = rw e refl
+
+pub explicit_anonymous : (i : ℕ) (X : Block) (m : Marker) → dots (front_text X) ≡ None → underscores (front_text X) ≡ Some m → explicit_of i X ≡ Anonymous (target_part i m.cut X)
+unfolding anonymous_of
+explicit_anonymous i X m e f = explicit_other i X e ∙ rw f refl
 
 pub size_dots : (X : Block) (m : Marker) → dots (front_text X) ≡ Some m → explicit_size X ≡ explicit_end 0 (behind_dots 0 m X)
 unfolding explicit_size

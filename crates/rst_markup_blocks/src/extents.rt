@@ -1,5 +1,5 @@
 //! Explicit markup with its extents.
-ghost use Rattle.std.specs.Prelude.{◌≡◌, ◌+◌, ◌-◌, ◌*◌, ◌^◌, ◌<◌, ◌≤◌, Some, is_some, IsTrue, length, drop, chars};
+ghost use Rattle.std.specs.Prelude.{◌≡◌, ◌+◌, ◌-◌, ◌*◌, ◌^◌, ◌<◌, ◌≤◌, Some, IsTrue, length, drop, chars};
 ghost use Rattle.rst_markup_blocks.specs.Prelude.{front_text, Looked, reach, block_of};
 ghost use Rattle.rst_markup_lines.specs.ExplicitMarks as marks;
 ghost use Rattle.rst_markup_lines.specs.Place as places;
@@ -201,23 +201,6 @@ pub(crate) fn behind_dots(
     explicit_by(view, i, text, form, marker, looks)
 }
 
-/// The anonymous target in the line at place `i`, which begins with `__`.
-#[tactic(auto, unfolding(crate::specs::Explicit::anonymous_of))]
-fn anonymous(view: &View<'_>, i: usize, text: &str, looks: &mut Looks) -> Explicit
-    requires inside { i < length (block_of view.now) }
-    requires text { chars text.now ≡ front_text (drop i (block_of view.now)) }
-    requires begins { IsTrue (is_some (marks.underscores (chars text.now))) }
-    ensures explicit { result ≡ spec.anonymous_of i (drop i (block_of view.now)) }
-    ensures looked { Looked (indented_size (drop i (block_of view.now)) - 1) (indented_size (drop i (block_of view.now))) looks.old looks.new }
-{
-    let Some(marker) = underscores(text) else {
-        unreachable!()
-    };
-    Explicit::Anonymous {
-        text: target_part(view, i, marker.cut, looks),
-    }
-}
-
 /// The explicit markup that begins in the line at place `i`: what it is, with its extents (Markup Specification,
 /// 'Explicit Markup Blocks'). Each extent is a part of the view, and each label or name stands in the line. It makes at
 /// most two looks for each line of the markup's reach.
@@ -232,6 +215,14 @@ pub fn explicit(view: &View<'_>, i: usize, looks: &mut Looks) -> Explicit
     let text = view.line(i, looks);
     match dots(text) {
         Some(marker) => behind_dots(view, i, text, marker, looks),
-        None => anonymous(view, i, text, looks),
+        // An anonymous target.
+        None => {
+            let Some(marker) = underscores(text) else {
+                unreachable!()
+            };
+            Explicit::Anonymous {
+                text: target_part(view, i, marker.cut, looks),
+            }
+        }
     }
 }

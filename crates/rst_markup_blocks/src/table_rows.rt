@@ -73,18 +73,6 @@ pub fn is_as_long(view: &View<'_>, i: usize, k: usize, looks: &mut Looks) -> boo
     border_len(border) == border_len(top)
 }
 
-/// Whether the border `k` lines below the top one, at place `i`, closes a head, in three looks.
-fn closes_head(view: &View<'_>, i: usize, k: usize, looks: &mut Looks) -> bool
-    requires inside { i < length (block_of view.now) }
-    requires line { k < length (drop i (block_of view.now)) }
-    ensures value { result ≡ spec.closes_head (drop i (block_of view.now)) k }
-    ensures looked { Looked 0 3 looks.old looks.new }
-{
-    prove!(i < view.len());
-    let next = below_text(view, i, k + 1, looks);
-    is_as_long(view, i, k, looks) && !is_blank(next)
-}
-
 /// Where the borders of a simple table stand that tell its end, counted from its top border.
 #[derive(Clone, Copy, Debug, PartialEq, Eq)]
 pub struct SimpleBorders {
@@ -126,7 +114,10 @@ pub fn simple_borders(view: &View<'_>, i: usize, looks: &mut Looks) -> SimpleBor
             bottom: None,
         };
     };
-    if !closes_head(view, i, first, looks) {
+    prove!(i < view.len());
+    let next = below_text(view, i, first + 1, looks);
+    let closes = is_as_long(view, i, first, looks) & !is_blank(next);
+    if !closes {
         return SimpleBorders {
             head: None,
             bottom: Some(first),
@@ -136,14 +127,4 @@ pub fn simple_borders(view: &View<'_>, i: usize, looks: &mut Looks) -> SimpleBor
         head: Some(first),
         bottom: border_below(view, i, first, looks),
     }
-}
-
-/// The place after the simple table at place `i`.
-pub(crate) fn simple_end(view: &View<'_>, i: usize, looks: &mut Looks) -> usize
-    requires inside { i < length (block_of view.now) }
-    ensures end { result ≡ i + spec.simple_size (drop i (block_of view.now)) }
-    ensures looked { Looked 0 (4 * spec.simple_reach (drop i (block_of view.now))) looks.old looks.new }
-{
-    prove!(i < view.len());
-    i + simple_borders(view, i, looks).size(view.len() - i)
 }
