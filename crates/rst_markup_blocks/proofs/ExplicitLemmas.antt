@@ -272,5 +272,6 @@ target_short n t (AnonymousMark m) w h s = omega (arith, w, length-drop n t)
 pub form_lines : (f g : ExplicitForm) (m : Marker) (X : Block) → f ≡ g → explicit_end 0 (explicit_by f 0 m X) ≡ lines_of g X
 form_lines f g m X e = omega (arith, ap (λ x. explicit_end 0 (explicit_by x 0 m X)) e, form_end 0 m g X)
 
-pub alone_size : (m : Marker) (X : Block) → is_blank (next_text X) ≡ false → explicit_end 0 (dots_alone 0 m X) ≡ hanging_size X
-alone_size m X e = rw e (omega (arith, hanging_to 0 m.cut true X))
+pub alone_size : (m : Marker) (X : Block) → m.bare ≡ true → is_blank (next_text X) ≡ false → explicit_end 0 (behind_dots 0 m X) ≡ hanging_size X
+unfolding behind_dots
+alone_size m X bare e = rw (bare, e) (omega (arith, hanging_to 0 m.cut true X))

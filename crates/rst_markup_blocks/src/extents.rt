@@ -133,21 +133,6 @@ fn substitution_with(
     }
 }
 
-/// Dots with nothing behind them, in the line at place `i`.
-fn dots_alone(view: &View<'_>, i: usize, marker: Marker, looks: &mut Looks) -> Explicit
-    requires inside { i < length (block_of view.now) }
-    ensures explicit { result ≡ spec.dots_alone i marker (drop i (block_of view.now)) }
-    ensures looked { Looked (spec.explicit_end 0 (spec.dots_alone 0 marker (drop i (block_of view.now))) - 1) (2 * reach (spec.explicit_end 0 (spec.dots_alone 0 marker (drop i (block_of view.now)))) (drop i (block_of view.now)) - 1) looks.old looks.new }
-{
-    if is_blank(below_text(view, i, 1, looks)) {
-        return Explicit::EmptyComment;
-    }
-    Explicit::Comment {
-        text: hanging_part(view, i, marker.cut, true, looks),
-        cause: CommentCause::Plain,
-    }
-}
-
 /// The explicit markup of a form in the line at place `i`, behind dots that make this marker.
 fn explicit_by(
     view: &View<'_>,
@@ -195,7 +180,13 @@ pub(crate) fn behind_dots(
     ensures looked { Looked (spec.explicit_end 0 (spec.behind_dots 0 marker (drop i (block_of view.now))) - 1) (2 * reach (spec.explicit_end 0 (spec.behind_dots 0 marker (drop i (block_of view.now)))) (drop i (block_of view.now)) - 1) looks.old looks.new }
 {
     if marker.bare {
-        return dots_alone(view, i, marker, looks);
+        if is_blank(below_text(view, i, 1, looks)) {
+            return Explicit::EmptyComment;
+        }
+        return Explicit::Comment {
+            text: hanging_part(view, i, marker.cut, true, looks),
+            cause: CommentCause::Plain,
+        };
     }
     let form = explicit_form(skip(text, marker.cut));
     explicit_by(view, i, text, form, marker, looks)
