@@ -4,7 +4,8 @@ use Rattle.std.specs.Prelude.{option_map}
 use Rattle.std.proofs.lemmas.List.{drop_all}
 use Rattle.rst_text.specs.Block.{Block, front_text, is_blank, indentation}
 use Rattle.rst_text.specs.MayCut.{is_indented}
-use Rattle.rst_markup_blocks.specs.Attributions.{level_lines, attribution_behind}
+use Rattle.rst_markup_lines.specs.Attribution.{attribution_of}
+use Rattle.rst_markup_blocks.specs.Attributions.{level_lines, attribution_behind, attribution_at}
 use Rattle.rst_markup_blocks.specs.Conditions.{next_text}
 use Rattle.rst_markup_blocks.specs.Parts.{IsBlock}
 use Rattle.rst_markup_blocks.specs.declared.attribution.Attribution.{Attribution}
@@ -80,13 +81,13 @@ lines_some k d end B h = by (level_lines d (drop 1 (drop k B))) (h ∙ ap (λ X.
     by None h = cc
     by (Some n) h = (n, refl, cc)
 
-pub attribution_none : (k d marker : ℕ) (X : Block) → d ≡ indentation (next_text X) → level_lines d (drop 1 X) ≡ None → None ≡ attribution_behind k marker X
-unfolding attribution_behind
-attribution_none k d marker X f h =
-    let g : level_lines (indentation (next_text X)) (drop 1 X) ≡ None = ap (λ i. level_lines i (drop 1 X)) (sym f) ∙ h in rw g refl
+pub attribution_none : (k d marker : ℕ) (X : Block) → d ≡ indentation (next_text X) → level_lines d (drop 1 X) ≡ None → attribution_of (front_text X) ≡ Some marker → None ≡ attribution_at k X
+unfolding attribution_at attribution_behind
+attribution_none k d marker X f h e =
+    let g : level_lines (indentation (next_text X)) (drop 1 X) ≡ None = ap (λ i. level_lines i (drop 1 X)) (sym f) ∙ h in rw (e, g) refl
 
 pub attribution_some : (k d marker n end : ℕ) (X : Block) → d ≡ indentation (next_text X) → level_lines d (drop 1 X) ≡ Some n → end ≡ k + 1 + n
-    → let a : Attribution = record { marker = marker; end = end; indent = d } in Some a ≡ attribution_behind k marker X
-unfolding attribution_behind
-attribution_some k d marker n end X f h p =
-    let g : level_lines (indentation (next_text X)) (drop 1 X) ≡ Some n = ap (λ i. level_lines i (drop 1 X)) (sym f) ∙ h in rw (g, f, p) refl
+    → attribution_of (front_text X) ≡ Some marker → let a : Attribution = record { marker = marker; end = end; indent = d } in Some a ≡ attribution_at k X
+unfolding attribution_at attribution_behind
+attribution_some k d marker n end X f h p e =
+    let g : level_lines (indentation (next_text X)) (drop 1 X) ≡ Some n = ap (λ i. level_lines i (drop 1 X)) (sym f) ∙ h in rw (e, g, f, p) refl

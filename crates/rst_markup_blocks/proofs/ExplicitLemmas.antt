@@ -29,7 +29,7 @@ use Rattle.rst_markup_blocks.specs.declared.explicit_markup.ExplicitForm.{Explic
 use Rattle.rst_markup_blocks.specs.declared.explicit_markup.ExplicitForm.TheVariants.{Label, Target as TargetForm, Substitution as SubstitutionForm, Directive as DirectiveForm, Comment as CommentForm}
 use Rattle.rst_markup_blocks.specs.declared.forms.CommentCause.TheVariants.{Plain}
 use Rattle.rst_markup_blocks.specs.declared.forms.Explicit.{Explicit}
-use Rattle.rst_markup_blocks.specs.declared.forms.Explicit.TheVariants.{Comment, EmptyComment, Substitution}
+use Rattle.rst_markup_blocks.specs.declared.forms.Explicit.TheVariants.{Comment, EmptyComment, Substitution, Anonymous}
 use Rattle.rst_markup_blocks.specs.declared.forms.Invocation.{Invocation}
 use Rattle.rst_markup_blocks.specs.declared.lines.LineTest.TheVariants.{Blank, Indented}
 use Rattle.rst_markup_blocks.specs.declared.part.Part.{Part}
@@ -240,6 +240,10 @@ pub explicit_other : (i : ℕ) (X : Block) → dots (front_text X) ≡ None → 
 unfolding explicit_of
 explicit_other i X e = rw e refl
 
+pub explicit_anonymous : (i : ℕ) (X : Block) (m : Marker) → dots (front_text X) ≡ None → underscores (front_text X) ≡ Some m → explicit_of i X ≡ Anonymous (target_part i m.cut X)
+unfolding anonymous_of
+explicit_anonymous i X m e f = explicit_other i X e ∙ rw f refl
+
 pub size_dots : (X : Block) (m : Marker) → dots (front_text X) ≡ Some m → explicit_size X ≡ explicit_end 0 (behind_dots 0 m X)
 unfolding explicit_size
 size_dots X m e = ap (explicit_end 0) (explicit_dots 0 X m e)
@@ -268,5 +272,6 @@ target_short n t (AnonymousMark m) w h s = omega (arith, w, length-drop n t)
 pub form_lines : (f g : ExplicitForm) (m : Marker) (X : Block) → f ≡ g → explicit_end 0 (explicit_by f 0 m X) ≡ lines_of g X
 form_lines f g m X e = omega (arith, ap (λ x. explicit_end 0 (explicit_by x 0 m X)) e, form_end 0 m g X)
 
-pub alone_size : (m : Marker) (X : Block) → is_blank (next_text X) ≡ false → explicit_end 0 (dots_alone 0 m X) ≡ hanging_size X
-alone_size m X e = rw e (omega (arith, hanging_to 0 m.cut true X))
+pub alone_size : (m : Marker) (X : Block) → m.bare ≡ true → is_blank (next_text X) ≡ false → explicit_end 0 (behind_dots 0 m X) ≡ hanging_size X
+unfolding behind_dots
+alone_size m X bare e = rw (bare, e) (omega (arith, hanging_to 0 m.cut true X))

@@ -7,14 +7,14 @@ ghost use Rattle.rst_markup_blocks.specs.Rows.{is_adornment_row};
 ghost use Rattle.rst_markup_blocks.specs.Sizes as spec;
 
 use super::ends::text_end;
-use super::form::{Adorned, adorned_alone, adorned_below, adorned_over};
+use super::form::{Adorned, adorned_over};
 use super::lines::below_text;
 use rst_markup_lines::{Adornment, adornment_of, is_blank};
 use rst_text::{Looks, View};
 
 /// What the line of one punctuation character at place `i` begins, where `next` is the line below it. It makes a look
 /// where that line isn't blank.
-#[tactic(auto, unfolding(crate::specs::Forms::adorned_form))]
+#[tactic(auto, unfolding(crate::specs::Forms::adorned_form, crate::specs::Forms::adorned_alone, crate::specs::Forms::adorned_below))]
 pub fn adorned_at(
     view: &View<'_>,
     i: usize,
@@ -29,10 +29,19 @@ pub fn adorned_at(
     ensures looked { Looked 0 (spec.overline_looks (next_text (drop i (block_of view.now)))) looks.old looks.new }
 {
     if !titles {
-        return adorned_below(mark);
+        if mark.character == ':' && mark.len == 2 {
+            return Adorned::Text;
+        }
+        if mark.len >= 4 {
+            return Adorned::Unexpected;
+        }
+        return Adorned::ShortAdornment;
     }
     if is_blank(next) {
-        return adorned_alone(mark);
+        if mark.len >= 4 {
+            return Adorned::Transition;
+        }
+        return Adorned::Text;
     }
     if 2 < view.len() - i {
         let after = view.line(i + 2, looks);

@@ -41,31 +41,6 @@ fn level_end(view: &View<'_>, from: usize, indent: usize, looks: &mut Looks) -> 
     Some(len)
 }
 
-/// The attribution with a mark of `marker` characters in the line at place `k`.
-fn attribution_behind(
-    view: &View<'_>,
-    k: usize,
-    marker: usize,
-    looks: &mut Looks,
-) -> Option<Attribution>
-    requires inside { k < length (block_of view.now) }
-    ensures attribution { result ≡ spec.attribution_behind k marker (drop k (block_of view.now)) }
-    ensures text { IfSome result (λ a. IsBlock (block_of view.now) (spec.attribution_part k a)) }
-    ensures looked { Looked 0 (2 + lines_while Filled (drop 1 (drop k (block_of view.now)))) looks.old looks.new }
-    ensures each { IfSome result (λ a. capped (looks.old + (a.end - (k + 1))) ≤ looks.new) }
-{
-    prove!(k < view.len());
-    let indent = indentation(below_text(view, k, 1, looks));
-    match level_end(view, k + 1, indent, looks) {
-        Some(end) => Some(Attribution {
-            marker,
-            end,
-            indent,
-        }),
-        None => None,
-    }
-}
-
 /// The attribution that begins in the line at place `k` of a block quote's block, if one does: a dash with text behind
 /// it, and all lines below it up to a blank one, which share one indentation (Markup Specification, 'Block Quotes').
 /// Whether text and a blank line stand before it isn't looked at. It makes at most three looks more than there are lines
@@ -79,5 +54,14 @@ pub fn attribution_at(view: &View<'_>, k: usize, looks: &mut Looks) -> Option<At
     ensures each { IfSome result (λ a. capped (looks.old + (a.end - k)) ≤ looks.new) }
 {
     let marker = attribution_of(view.line(k, looks))?;
-    attribution_behind(view, k, marker, looks)
+    prove!(k < view.len());
+    let indent = indentation(below_text(view, k, 1, looks));
+    match level_end(view, k + 1, indent, looks) {
+        Some(end) => Some(Attribution {
+            marker,
+            end,
+            indent,
+        }),
+        None => None,
+    }
 }

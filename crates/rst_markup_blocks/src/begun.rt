@@ -1,8 +1,6 @@
 //! What begins at a line, with what its mark says.
 ghost use Rattle.std.specs.Prelude.{◌≡◌, ℕ, List, ◌<◌, false, length, drop, chars};
-ghost use Rattle.std.specs.Char.{is_ascii_alphabetic};
 ghost use Rattle.rst_markup_blocks.specs.Prelude.{Block, front_text, is_blank, Looked, block_of};
-ghost use Rattle.rst_markup_lines.specs.Front.{begins_by};
 ghost use Rattle.rst_markup_blocks.specs.Conditions.{next_text, after_text};
 ghost use Rattle.rst_markup_blocks.specs.Kinds.{first_kind, kind_at, kind_of, later_kinds};
 ghost use Rattle.rst_markup_blocks.specs.Begun as spec;
@@ -82,22 +80,14 @@ pub fn begun_at(view: &View<'_>, at: usize, looks: &mut Looks) -> Begun
         return Begun::Blank;
     }
     // Most lines begin with a letter, at which only an enumerator or a text can begin.
-    if begins_with_letter(text) && enumerator_of(text).is_none() {
-        return Begun::Text;
+    if let Some(c) = front(text) {
+        if c.is_ascii_alphabetic() && enumerator_of(text).is_none() {
+            return Begun::Text;
+        }
     }
     let next = below_text(view, at, 1, looks);
     let after = below_text(view, at, 2, looks);
     begun_by(text, next, after)
-}
-
-/// Whether a text begins with a letter of ASCII.
-fn begins_with_letter(text: &str) -> bool
-    ensures { result ≡ begins_by is_ascii_alphabetic (chars text.now) }
-{
-    match front(text) {
-        Some(c) => c.is_ascii_alphabetic(),
-        None => false,
-    }
 }
 
 /// What begins at a line that isn't blank before the next two: the first row of the table of constructs whose condition holds.

@@ -1,9 +1,4 @@
 //! The rows of the table of constructs.
-ghost use Rattle.std.specs.Prelude.{◌≡◌, ◌+◌, ◌*◌, ◌<◌, length, drop, IsTrue};
-ghost use Rattle.rst_markup_blocks.specs.Prelude.{Looked, reach, block_of};
-ghost use Rattle.rst_markup_blocks.specs.Explicit.{explicit_size};
-ghost use Rattle.rst_markup_blocks.specs.Rows.{is_bullet_row, is_explicit_row};
-ghost use Rattle.rst_markup_blocks.specs.Sizes as spec;
 
 use super::adornment_line::adornment_end;
 use super::construct::Construct;
@@ -12,7 +7,7 @@ use super::extents::behind_dots;
 use super::kind::Kind;
 use super::lines::{LineTest, below_text, lines_end};
 use super::row::{item_enumerator, item_option};
-use super::table_rows::{grid_end, simple_end};
+use super::table_rows::{grid_bottom, simple_borders};
 use rst_markup_lines::{
     adornment_of, begins_with, bullet, doctest, dots, enumerator_of, field_of, is_blank,
     is_grid_border, is_simple_border, line_bar, underscores,
@@ -61,14 +56,32 @@ impl Construct for Kind {
         match *self {
             Kind::Blank => i + 1,
             Kind::Quote => view.block_end(i, None, looks).end,
-            Kind::Bullet => bullet_end(view, i, looks),
-            Kind::Enumerator => enumerator_end(view, i, looks),
+            Kind::Bullet => match bullet(view.line(i, looks)) {
+                Some(marker) => item_end(view, i, marker, looks),
+                None => i + 1,
+            },
+            Kind::Enumerator => match enumerator_of(view.line(i, looks)) {
+                Some(enumerator) => item_end(view, i, enumerator.marker, looks),
+                None => i + 1,
+            },
             Kind::Field | Kind::OptionItem => hanging_end(view, i, looks),
             Kind::Doctest => lines_end(view, i, LineTest::Filled, looks),
             Kind::Line | Kind::Anonymous => indented_end(view, i, looks),
-            Kind::Grid => grid_end(view, i, looks),
-            Kind::Simple => simple_end(view, i, looks),
-            Kind::Explicit => explicit_end(view, i, looks),
+            Kind::Grid => {
+                let end = lines_end(view, i, LineTest::Drawn, looks);
+                match grid_bottom(view, i, end - i, looks) {
+                    Some(k) => i + k + 1,
+                    None => end,
+                }
+            }
+            Kind::Simple => i + simple_borders(view, i, looks).size(view.len() - i),
+            Kind::Explicit => {
+                let text = view.line(i, looks);
+                let Some(marker) = dots(text) else {
+                    unreachable!()
+                };
+                behind_dots(view, i, text, marker, looks).end(i)
+            }
             Kind::Adornment => adornment_end(view, i, titles, looks),
             Kind::Text => {
                 let text = view.line(i, looks);
@@ -77,46 +90,4 @@ impl Construct for Kind {
             }
         }
     }
-}
-
-/// The place after the item of a bullet list at place `i`.
-fn bullet_end(view: &View<'_>, i: usize, looks: &mut Looks) -> usize
-    requires inside { i < length (block_of view.now) }
-    requires begins { IsTrue (is_bullet_row (drop i (block_of view.now))) }
-    ensures end { result ≡ i + spec.bullet_size (drop i (block_of view.now)) }
-    ensures looked { Looked 0 (4 * reach (spec.bullet_size (drop i (block_of view.now))) (drop i (block_of view.now))) looks.old looks.new }
-{
-    prove!(i < view.len());
-    match bullet(view.line(i, looks)) {
-        Some(marker) => item_end(view, i, marker, looks),
-        None => i + 1,
-    }
-}
-
-/// The place after the item of an enumerated list at place `i`.
-fn enumerator_end(view: &View<'_>, i: usize, looks: &mut Looks) -> usize
-    requires inside { i < length (block_of view.now) }
-    ensures end { result ≡ i + spec.enumerator_size (drop i (block_of view.now)) }
-    ensures looked { Looked 0 (4 * reach (spec.enumerator_size (drop i (block_of view.now))) (drop i (block_of view.now))) looks.old looks.new }
-{
-    prove!(i < view.len());
-    match enumerator_of(view.line(i, looks)) {
-        Some(enumerator) => item_end(view, i, enumerator.marker, looks),
-        None => i + 1,
-    }
-}
-
-/// The place after the explicit markup at place `i`, which begins with `..`.
-fn explicit_end(view: &View<'_>, i: usize, looks: &mut Looks) -> usize
-    requires inside { i < length (block_of view.now) }
-    requires begins { IsTrue (is_explicit_row (drop i (block_of view.now))) }
-    ensures end { result ≡ i + explicit_size (drop i (block_of view.now)) }
-    ensures looked { Looked 0 (4 * reach (explicit_size (drop i (block_of view.now))) (drop i (block_of view.now))) looks.old looks.new }
-{
-    prove!(i < view.len());
-    let text = view.line(i, looks);
-    let Some(marker) = dots(text) else {
-        unreachable!()
-    };
-    behind_dots(view, i, text, marker, looks).end(i)
 }

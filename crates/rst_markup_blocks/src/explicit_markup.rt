@@ -23,22 +23,8 @@ pub enum ExplicitForm {
     Comment(CommentCause),
 }
 
-/// Why a text that has no other form is a comment.
-#[tactic(auto, unfolding(crate::specs::ExplicitMarkup::comment_cause))]
-fn comment_cause(text: &str) -> CommentCause
-    ensures { result ≡ spec.comment_cause (chars text.now) }
-{
-    if begins_with('_', text) {
-        return CommentCause::MalformedTarget;
-    }
-    match substitution_of(text) {
-        Some(SubstitutionMark::Unclosed) => CommentCause::MalformedSubstitution,
-        _ => CommentCause::Plain,
-    }
-}
-
 /// The form of explicit markup with this text behind its marker.
-#[tactic(auto, unfolding(crate::specs::ExplicitMarkup::explicit_form))]
+#[tactic(auto, unfolding(crate::specs::ExplicitMarkup::explicit_form, crate::specs::ExplicitMarkup::comment_cause))]
 pub fn explicit_form(text: &str) -> ExplicitForm
     ensures { result ≡ spec.explicit_form (chars text.now) }
 {
@@ -54,7 +40,15 @@ pub fn explicit_form(text: &str) -> ExplicitForm
     if let Some(directive) = directive_of(true, text) {
         return ExplicitForm::Directive(directive);
     }
-    ExplicitForm::Comment(comment_cause(text))
+    if begins_with('_', text) {
+        return ExplicitForm::Comment(CommentCause::MalformedTarget);
+    }
+    match substitution_of(text) {
+        Some(SubstitutionMark::Unclosed) => ExplicitForm::Comment(
+            CommentCause::MalformedSubstitution,
+        ),
+        _ => ExplicitForm::Comment(CommentCause::Plain),
+    }
 }
 
 /// The hanging block of the line at place `i`: the line without `cut` characters, and the indented block below it.

@@ -1,5 +1,5 @@
 //! Explicit markup with its extents.
-ghost use Rattle.std.specs.Prelude.{◌≡◌, ◌+◌, ◌-◌, ◌*◌, ◌^◌, ◌<◌, ◌≤◌, Some, is_some, IsTrue, length, drop, chars};
+ghost use Rattle.std.specs.Prelude.{◌≡◌, ◌+◌, ◌-◌, ◌*◌, ◌^◌, ◌<◌, ◌≤◌, Some, IsTrue, length, drop, chars};
 ghost use Rattle.rst_markup_blocks.specs.Prelude.{front_text, Looked, reach, block_of};
 ghost use Rattle.rst_markup_lines.specs.ExplicitMarks as marks;
 ghost use Rattle.rst_markup_lines.specs.Place as places;
@@ -133,21 +133,6 @@ fn substitution_with(
     }
 }
 
-/// Dots with nothing behind them, in the line at place `i`.
-fn dots_alone(view: &View<'_>, i: usize, marker: Marker, looks: &mut Looks) -> Explicit
-    requires inside { i < length (block_of view.now) }
-    ensures explicit { result ≡ spec.dots_alone i marker (drop i (block_of view.now)) }
-    ensures looked { Looked (spec.explicit_end 0 (spec.dots_alone 0 marker (drop i (block_of view.now))) - 1) (2 * reach (spec.explicit_end 0 (spec.dots_alone 0 marker (drop i (block_of view.now)))) (drop i (block_of view.now)) - 1) looks.old looks.new }
-{
-    if is_blank(below_text(view, i, 1, looks)) {
-        return Explicit::EmptyComment;
-    }
-    Explicit::Comment {
-        text: hanging_part(view, i, marker.cut, true, looks),
-        cause: CommentCause::Plain,
-    }
-}
-
 /// The explicit markup of a form in the line at place `i`, behind dots that make this marker.
 fn explicit_by(
     view: &View<'_>,
@@ -195,27 +180,16 @@ pub(crate) fn behind_dots(
     ensures looked { Looked (spec.explicit_end 0 (spec.behind_dots 0 marker (drop i (block_of view.now))) - 1) (2 * reach (spec.explicit_end 0 (spec.behind_dots 0 marker (drop i (block_of view.now)))) (drop i (block_of view.now)) - 1) looks.old looks.new }
 {
     if marker.bare {
-        return dots_alone(view, i, marker, looks);
+        if is_blank(below_text(view, i, 1, looks)) {
+            return Explicit::EmptyComment;
+        }
+        return Explicit::Comment {
+            text: hanging_part(view, i, marker.cut, true, looks),
+            cause: CommentCause::Plain,
+        };
     }
     let form = explicit_form(skip(text, marker.cut));
     explicit_by(view, i, text, form, marker, looks)
-}
-
-/// The anonymous target in the line at place `i`, which begins with `__`.
-#[tactic(auto, unfolding(crate::specs::Explicit::anonymous_of))]
-fn anonymous(view: &View<'_>, i: usize, text: &str, looks: &mut Looks) -> Explicit
-    requires inside { i < length (block_of view.now) }
-    requires text { chars text.now ≡ front_text (drop i (block_of view.now)) }
-    requires begins { IsTrue (is_some (marks.underscores (chars text.now))) }
-    ensures explicit { result ≡ spec.anonymous_of i (drop i (block_of view.now)) }
-    ensures looked { Looked (indented_size (drop i (block_of view.now)) - 1) (indented_size (drop i (block_of view.now))) looks.old looks.new }
-{
-    let Some(marker) = underscores(text) else {
-        unreachable!()
-    };
-    Explicit::Anonymous {
-        text: target_part(view, i, marker.cut, looks),
-    }
 }
 
 /// The explicit markup that begins in the line at place `i`: what it is, with its extents (Markup Specification,
@@ -232,6 +206,14 @@ pub fn explicit(view: &View<'_>, i: usize, looks: &mut Looks) -> Explicit
     let text = view.line(i, looks);
     match dots(text) {
         Some(marker) => behind_dots(view, i, text, marker, looks),
-        None => anonymous(view, i, text, looks),
+        // An anonymous target.
+        None => {
+            let Some(marker) = underscores(text) else {
+                unreachable!()
+            };
+            Explicit::Anonymous {
+                text: target_part(view, i, marker.cut, looks),
+            }
+        }
     }
 }

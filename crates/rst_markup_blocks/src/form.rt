@@ -43,39 +43,24 @@ pub enum Adorned {
     Unexpected,
 }
 
-/// The form of a text over an underline of this length.
-#[tactic(auto, unfolding(crate::specs::Forms::underlined))]
-fn underlined(len: usize, text: &str) -> TextForm
-    ensures { result ≡ spec.underlined len (chars text.now) }
-{
-    if len >= columns(text) {
-        return TextForm::Title { short: false };
-    }
-    if len < 4 {
-        return TextForm::ShortUnderline;
-    }
-    TextForm::Title { short: true }
-}
-
 /// The form of a text, where this is the next line.
-#[tactic(auto, unfolding(crate::specs::Forms::text_form))]
+#[tactic(auto, unfolding(crate::specs::Forms::text_form, crate::specs::Forms::underlined))]
 pub fn text_form(text: &str, next: &str) -> TextForm
     ensures { result ≡ spec.text_form (chars text.now) (chars next.now) }
 {
     if begins_with(' ', next) {
         return TextForm::Definition;
     }
-    match adornment_of(next) {
-        Some(mark) => underlined(mark.len, text),
-        None => TextForm::Paragraph,
+    let Some(mark) = adornment_of(next) else {
+        return TextForm::Paragraph;
+    };
+    if mark.len >= columns(text) {
+        return TextForm::Title { short: false };
     }
-}
-
-/// Whether two lines of one punctuation character are the same.
-fn is_same_adornment(a: Adornment, b: Adornment) -> bool
-    ensures { result ≡ spec.is_same_adornment a b }
-{
-    a.character == b.character && a.len == b.len
+    if mark.len < 4 {
+        return TextForm::ShortUnderline;
+    }
+    TextForm::Title { short: true }
 }
 
 /// The form of an overline over a title that isn't blank, if it is long enough, where this is the line after the title.
@@ -94,7 +79,7 @@ fn overlined(mark: Adornment, next: &str, after: Option<&str>) -> Adorned
             blank: is_blank(after),
         },
         Some(under) => {
-            if is_same_adornment(mark, under) {
+            if mark == under {
                 Adorned::Title {
                     short: mark.len < columns(next),
                 }
@@ -105,48 +90,15 @@ fn overlined(mark: Adornment, next: &str, after: Option<&str>) -> Adorned
     }
 }
 
-/// Whether a form is a title that is as long as its overline.
-fn is_whole_title(adorned: Adorned) -> bool
-    ensures { result ≡ spec.is_whole_title adorned }
-{
-    matches!(adorned, Adorned::Title { short: false })
-}
-
-/// The form of a line of one punctuation character over a blank line or none, where titles may stand.
-#[tactic(auto, unfolding(crate::specs::Forms::adorned_alone))]
-pub(crate) fn adorned_alone(mark: Adornment) -> Adorned
-    ensures { result ≡ spec.adorned_alone mark }
-{
-    if mark.len >= 4 {
-        Adorned::Transition
-    } else {
-        Adorned::Text
-    }
-}
-
 /// The form of a line of one punctuation character over a line that isn't blank, where titles may stand.
 #[tactic(auto, unfolding(crate::specs::Forms::adorned_over))]
 pub(crate) fn adorned_over(mark: Adornment, next: &str, after: Option<&str>) -> Adorned
     ensures { result ≡ spec.adorned_over mark (chars next.now) (spec.chars_if_any after.entry) }
 {
     let form = overlined(mark, next, after);
-    if mark.len >= 4 || is_whole_title(form) {
+    if mark.len >= 4 || matches!(form, Adorned::Title { short: false }) {
         form
     } else {
         Adorned::ShortOverline
     }
-}
-
-/// The form of a line of one punctuation character where no titles may stand.
-#[tactic(auto, unfolding(crate::specs::Forms::adorned_below))]
-pub(crate) fn adorned_below(mark: Adornment) -> Adorned
-    ensures { result ≡ spec.adorned_below mark }
-{
-    if mark.character == ':' && mark.len == 2 {
-        return Adorned::Text;
-    }
-    if mark.len >= 4 {
-        return Adorned::Unexpected;
-    }
-    Adorned::ShortAdornment
 }

@@ -1,18 +1,18 @@
 //! The rows of tables.
-ghost use Rattle.std.specs.Prelude.{◌≡◌, ◌+◌, ◌-◌, ◌*◌, ◌<◌, ◌≤◌, length, drop, IfSome, IsTrue};
+ghost use Rattle.std.specs.Prelude.{◌≡◌, ◌+◌, ◌-◌, ◌<◌, ◌≤◌, length, drop, IfSome};
 ghost use Rattle.std.specs.Option.{option_or};
 ghost use Rattle.rst_markup_blocks.specs.Prelude.{Looked, capped, block_of};
 ghost use Rattle.rst_markup_blocks.specs.Lines.{lines_while};
 ghost use Rattle.rst_markup_blocks.specs.TableRows as spec;
 
-use super::lines::{LineTest, below_text, lines_end};
+use super::lines::{LineTest, below_text};
 use super::table_line::{border_len, is_lower_border};
 use rst_markup_lines::{is_blank, is_grid_border};
 use rst_text::{Looks, View};
 
 /// The bottom border of the grid table at place `i`, counted from there, where `all` lines from there on begin with `+` or
 /// `|`. It looks at most once at each of them.
-fn grid_bottom(view: &View<'_>, i: usize, all: usize, looks: &mut Looks) -> Option<usize>
+pub(crate) fn grid_bottom(view: &View<'_>, i: usize, all: usize, looks: &mut Looks) -> Option<usize>
     requires inside { i < length (block_of view.now) }
     requires all { all ≡ lines_while LineTest.Drawn (drop i (block_of view.now)) }
     ensures bottom { result ≡ spec.grid_bottom (drop i (block_of view.now)) }
@@ -27,21 +27,6 @@ fn grid_bottom(view: &View<'_>, i: usize, all: usize, looks: &mut Looks) -> Opti
         }
     }
     bottom
-}
-
-/// The place after the grid table at place `i`.
-pub(crate) fn grid_end(view: &View<'_>, i: usize, looks: &mut Looks) -> usize
-    requires inside { i < length (block_of view.now) }
-    requires begins { IsTrue (spec.is_grid_row (drop i (block_of view.now))) }
-    ensures end { result ≡ i + spec.grid_size (drop i (block_of view.now)) }
-    ensures looked { Looked 0 (4 * spec.grid_reach (drop i (block_of view.now))) looks.old looks.new }
-{
-    prove!(i < view.len());
-    let end = lines_end(view, i, LineTest::Drawn, looks);
-    match grid_bottom(view, i, end - i, looks) {
-        Some(k) => i + k + 1,
-        None => end,
-    }
 }
 
 /// The first border of a simple table below line `k`, both counted from place `i`. It looks once at each line below that one
@@ -71,18 +56,6 @@ pub fn is_as_long(view: &View<'_>, i: usize, k: usize, looks: &mut Looks) -> boo
     let top = view.line(i, looks);
     let border = below_text(view, i, k, looks);
     border_len(border) == border_len(top)
-}
-
-/// Whether the border `k` lines below the top one, at place `i`, closes a head, in three looks.
-fn closes_head(view: &View<'_>, i: usize, k: usize, looks: &mut Looks) -> bool
-    requires inside { i < length (block_of view.now) }
-    requires line { k < length (drop i (block_of view.now)) }
-    ensures value { result ≡ spec.closes_head (drop i (block_of view.now)) k }
-    ensures looked { Looked 0 3 looks.old looks.new }
-{
-    prove!(i < view.len());
-    let next = below_text(view, i, k + 1, looks);
-    is_as_long(view, i, k, looks) && !is_blank(next)
 }
 
 /// Where the borders of a simple table stand that tell its end, counted from its top border.
@@ -126,7 +99,10 @@ pub fn simple_borders(view: &View<'_>, i: usize, looks: &mut Looks) -> SimpleBor
             bottom: None,
         };
     };
-    if !closes_head(view, i, first, looks) {
+    prove!(i < view.len());
+    let next = below_text(view, i, first + 1, looks);
+    let closes = is_as_long(view, i, first, looks) & !is_blank(next);
+    if !closes {
         return SimpleBorders {
             head: None,
             bottom: Some(first),
@@ -136,14 +112,4 @@ pub fn simple_borders(view: &View<'_>, i: usize, looks: &mut Looks) -> SimpleBor
         head: Some(first),
         bottom: border_below(view, i, first, looks),
     }
-}
-
-/// The place after the simple table at place `i`.
-pub(crate) fn simple_end(view: &View<'_>, i: usize, looks: &mut Looks) -> usize
-    requires inside { i < length (block_of view.now) }
-    ensures end { result ≡ i + spec.simple_size (drop i (block_of view.now)) }
-    ensures looked { Looked 0 (4 * spec.simple_reach (drop i (block_of view.now))) looks.old looks.new }
-{
-    prove!(i < view.len());
-    i + simple_borders(view, i, looks).size(view.len() - i)
 }

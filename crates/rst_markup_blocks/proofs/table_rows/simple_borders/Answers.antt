@@ -1,4 +1,4 @@
-use Rattle.std.proofs.Common.{rules, ◌≡◌, ◌∙◌, true, false, drop, length, arith}
+use Rattle.std.proofs.Common.{rules, ◌≡◌, ◌∙◌, true, false, drop, length, length-drop, arith}
 use Rattle.std.specs.Prelude.{Some, None}
 use Rattle.rst_text.specs.Block.{Block}
 use Rattle.rst_text.specs.Shown.{block_of}
@@ -13,11 +13,13 @@ returns-in_default-clause-looked c =
     let bottom : None ≡ simple_bottom X = bottom-none X none in
     search (arith, scan-is X None bottom, simple_size-is X None None (head-none X none) bottom, c.in_default.ensures.low, c.in_default.ensures.looks)
 
-pub closes_head-requires-clause-line : goal.closes_head-requires-clause-line
-closes_head-requires-clause-line c = (border_below-below (drop c.args.i (block_of c.args.view.now)) 0 c.in-Some.first c.in-Some.ensures.border).1
+pub overflow_add-first : goal.overflow_add-first
+overflow_add-first c =
+    let B : Block = block_of c.args.view.now in
+    search (arith, length-drop c.args.i B, (border_below-below (drop c.args.i B) 0 c.in-Some.first c.in-Some.ensures.border).1)
 
-pub returns-then-not-closes_head : goal.returns-then-not-closes_head
-returns-then-not-closes_head c =
+pub returns-then-not-closes : goal.returns-then-not-closes
+returns-then-not-closes c =
     let X : Block = drop c.args.i (block_of c.args.view.now) in
     let first = c.in-Some.ensures.border in
     let stays : closes_head X c.in-Some.first ≡ false = cc in

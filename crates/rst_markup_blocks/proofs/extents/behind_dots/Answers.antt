@@ -5,11 +5,11 @@ use Rattle.rst_text.specs.Shown.{block_of}
 use Rattle.rst_markup_blocks.specs.Conditions.{next_text}
 use Rattle.rst_markup_blocks.proofs.EndLemmas.{hanging_some}
 use Rattle.rst_markup_blocks.proofs.ExplicitLemmas.{alone_size}
-use Rattle.rst_markup_blocks.proofs.extents.dots_alone.Goals as goal
+use Rattle.rst_markup_blocks.proofs.extents.behind_dots.Goals as goal
 
-pub returns-clause-looked : goal.returns-clause-looked
-returns-clause-looked c =
+pub returns-then-marker-clause-looked : goal.returns-then-marker-clause-looked
+returns-then-marker-clause-looked c =
     let X : Block = drop c.args.i (block_of c.args.view.now) in
     let e : is_blank (next_text X) ≡ false = ap is_blank (sym c.below_text.ensures.text) ∙ sym c.is_blank.ensures ∙ c.if-is_blank.false in
-    let size = alone_size c.args.marker X e in
+    let size = alone_size c.args.marker X c.if-marker.true e in
     search (arith, hanging_some X, size, ap (λ k. reach k X) size)
