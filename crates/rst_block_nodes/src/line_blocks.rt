@@ -122,26 +122,18 @@ pub fn line_block(
 ) -> Result<Texted, LineBlockFault>
     ensures { Makes (line_block (suc deepest - level) (indented lines.items) numbers.old) numbers.new result }
 {
-    let lines = indented(alloc, lines)?;
-    if deepest < level {
-        return Err(LineBlockFault::TooDeep {
-            line: first_line(&lines),
-        });
-    }
-    block_of(alloc, &lines, deepest - level, numbers)
-}
-
-/// The lines with their indentations.
-fn indented(alloc: Global, lines: Vec<BarText>) -> Result<Vec<IndentedText>>
-    ensures { Gives (λ texts. texts.items ≡ indented lines.items) result }
-{
     let mut texts = Vec::new(alloc);
     let mut last = 0;
     for bar in lines {
         last = bar.indent.unwrap_or(last);
         texts.push(IndentedText::of(last, bar))?;
     }
-    Ok(texts)
+    if deepest < level {
+        return Err(LineBlockFault::TooDeep {
+            line: first_line(&texts),
+        });
+    }
+    block_of(alloc, &texts, deepest - level, numbers)
 }
 
 /// The number of the first line, 0 where there is none.

@@ -23,31 +23,6 @@ pub(crate) enum Holder {
     Body,
 }
 
-impl Holder {
-    ghost use Rattle.rst_block_nodes.specs.Options.{option_key};
-
-    /// The attribute that an option gives the element, if it gives one.
-    fn key(self, option: OptionName) -> Option<Key>
-        ensures { result ≡ option_key self option }
-    {
-        match (self, option) {
-            (Holder::Figure, OptionName::Align) => Some(Key::Align),
-            (Holder::Figure, OptionName::FigureWidth) => Some(Key::Width),
-            (Holder::Figure, OptionName::FigureClass) => Some(Key::Classes),
-            (Holder::Figure, _) => None,
-            (_, OptionName::Class) => Some(Key::Classes),
-            (_, OptionName::Name) => Some(Key::OwnName),
-            (Holder::Body, _) => None,
-            (_, OptionName::Alt) => Some(Key::Alt),
-            (_, OptionName::Height) => Some(Key::Height),
-            (_, OptionName::Width) => Some(Key::Width),
-            (_, OptionName::Scale) => Some(Key::Scale),
-            (Holder::Image, OptionName::Align) => Some(Key::Align),
-            _ => None,
-        }
-    }
-}
-
 /// Lets attributes say what the options of an element's directive say.
 pub(crate) fn set_options(
     alloc: Global,
@@ -58,9 +33,22 @@ pub(crate) fn set_options(
     ensures { Gives (λ _. attrs.new ≡ with_choices holder (choices_in options.now) attrs.old) result }
 {
     for setting in options {
-        if let Some(key) = holder.key(setting.option) {
-            attrs.set(key, value_of(alloc, &setting.value)?)?;
-        }
+        let key = match (holder, setting.option) {
+            (Holder::Figure, OptionName::Align) => Key::Align,
+            (Holder::Figure, OptionName::FigureWidth) => Key::Width,
+            (Holder::Figure, OptionName::FigureClass) => Key::Classes,
+            (Holder::Figure, _) => continue,
+            (_, OptionName::Class) => Key::Classes,
+            (_, OptionName::Name) => Key::OwnName,
+            (Holder::Body, _) => continue,
+            (_, OptionName::Alt) => Key::Alt,
+            (_, OptionName::Height) => Key::Height,
+            (_, OptionName::Width) => Key::Width,
+            (_, OptionName::Scale) => Key::Scale,
+            (Holder::Image, OptionName::Align) => Key::Align,
+            _ => continue,
+        };
+        attrs.set(key, value_of(alloc, &setting.value)?)?;
     }
     Ok(())
 }

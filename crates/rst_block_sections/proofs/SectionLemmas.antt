@@ -1,15 +1,12 @@
 -- Sections that are opened and closed one after the other are those of the definition.
-use Rattle.std.proofs.Common.{◌≡◌, ℕ, suc, ◌+◌, ◌≤◌, Bool, true, false, cond, List, [], ◌∷◌, ◌++◌, ◌<◌, length, map, drop, get_or, Result, Ok, Err, refl, sym, ◌∙◌, ap, ap₂, subst, arith}
+use Rattle.std.proofs.Common.{◌≡◌, ℕ, suc, ◌+◌, ◌≤◌, Bool, true, false, cond, List, [], ◌∷◌, ◌++◌, ◌<◌, length, map, drop, get_or, refl, sym, ◌∙◌, ap, ap₂, subst, arith}
 use Rattle.std.proofs.lemmas.List.{append-nil, append_assoc, length_push, map-append, length-map, at_drop_more, at_drop_all}
 use Rattle.std.proofs.lemmas.Bool.{cond_both, le-leb, lt-leb}
 use Rattle.std.specs.Prelude.{nat_le, nat_lt}
 use Rattle.rst_tree.specs.declared.node.Node.{Node}
 use Rattle.rst_tree.specs.declared.node.Node.TheVariants.{Element}
 use Rattle.rst_tree.specs.declared.tag.Tag.TheVariants.{Document}
-use Rattle.rst_tree.specs.Faults.{Gives}
 use Rattle.rst_tree.specs.Nodes.{forest_of}
-use Rattle.rst_tree.specs.declared.fault.TreeFault.{TreeFault}
-use Rattle.rst_tree.specs.declared.fault.TreeFault.TheVariants.{NoMemory}
 use Rattle.rst_block_sections.specs.declared.heading.Heading.{Heading}
 use Rattle.rst_block_sections.specs.declared.heading.Style.{Style}
 use Rattle.rst_block_sections.specs.declared.sectioning.OpenSection.{OpenSection}
@@ -196,17 +193,6 @@ accepted s m t h items level is low ends len begins more styles =
     ∙ ap (λ n. (closed_with m (section_at n (section_of h (inside n (members es))) ∷ behind n (members es))).0) len
     ∙ ap (λ r. r.0) (ends (section_at level (section_of h (inside level (members es))) ∷ behind level (members es)) (stops_at_section level (section_of h (inside level (members es))) (behind level (members es))))
     ∙ ap (λ ms. (closed_with s ms).0) (ap members same)
-
--- the same where the last call can want memory
-pub accepted_gives : {A : Type 0} (r : Result A TreeFault) (s m t : Sections) (h : Title) (level : ℕ) → level ≡ level_of h.style s.styles.items
-    → nat_lt (length s.outer.items + 1) level ≡ false
-    → ((ms : List Member) → StopsAt level ms → closed_with m ms ≡ closed_with s ms) → length m.outer.items + 1 ≡ level → m.styles.items ≡ with_style h.style s.styles.items
-    → Gives (λ _. (ms : List Member) → closed_with t ms ≡ closed_with m (section_at (length m.outer.items + 1) (section_of h (inside (length m.outer.items + 1) ms)) ∷ behind (length m.outer.items + 1) ms)) r
-    → Gives (λ _. length t.outer.items ≡ length m.outer.items + 1) r → Gives (λ _. t.styles ≡ m.styles) r
-    → Gives (λ _. (items : List Item) → goes_on t items ≡ goes_on s (titled h ∷ items)) r
-accepted_gives (Ok done) s m t h level is low ends len more begins deeper styles =
-    λ items. accepted s m t h items level is low ends len begins deeper (ap (λ ss. ss.items) styles ∙ more)
-accepted_gives (Err NoMemory) s m t h level is low ends len more begins deeper styles = tt
 
 -- ---- the place of a style
 

@@ -1,8 +1,7 @@
 //! Sections, made of the nodes and the titles of a document (Markup Specification, 'Sections').
-ghost use Rattle.std.specs.Prelude.{◌≡◌, ◌+◌, ◌-◌, ◌≤◌, List, ◌∷◌, [], length};
-ghost use Rattle.rst_block_nodes.specs.Texts.{section_node};
+ghost use Rattle.std.specs.Prelude.{◌≡◌, ◌+◌, ◌≤◌, List, ◌∷◌, length};
 ghost use Rattle.rst_tree.specs.Faults.{Gives};
-ghost use Rattle.rst_block_sections.specs.Sections.{Item, titled, Member, section_at, inside, behind, section_of, document_of, inconsistent, level_of, with_style, title_notes, title_of, items_of};
+ghost use Rattle.rst_block_sections.specs.Sections.{Item, titled, Member, document_of, level_of, title_of, items_of};
 ghost use Rattle.rst_block_sections.specs.OpenSections.{goes_on, closed_with, StopsAt};
 
 use crate::heading::{Heading, Style};
@@ -27,14 +26,23 @@ struct OpenSection {
 pub fn document(alloc: Global, nodes: MarkedNodes, headings: Vec<Heading>) -> Result<Marked>
     ensures { Gives (λ root. root ≡ document_of (items_of headings.items nodes)) result }
 {
-    let mut sections = Sections::none(alloc);
+    let mut sections = Sections {
+        outer: Vec::new(alloc),
+        current: OpenSection {
+            element: Node::element(alloc, Tag::Document, 0),
+            nodes: MarkedNodes::none(alloc),
+        },
+        styles: Vec::new(alloc),
+    };
     for mut heading in headings {
         let before = mem::replace(&mut heading.nodes, MarkedNodes::none(alloc));
         sections.current.nodes.append(before)?;
         sections.title(alloc, heading)?;
     }
     sections.current.nodes.append(nodes)?;
-    sections.closed(alloc)
+    sections.end(alloc, 1)?;
+    let OpenSection { element, nodes } = sections.current;
+    completed(alloc, element, nodes)
 }
 
 /// The sections that are open, and the styles of titles in the order of their first use.
@@ -47,20 +55,6 @@ struct Sections {
 }
 
 impl Sections {
-    /// A document without nodes.
-    fn none(alloc: Global) -> Sections
-        ensures { (items : List Item) → goes_on result items ≡ document_of items }
-    {
-        Sections {
-            outer: Vec::new(alloc),
-            current: OpenSection {
-                element: Node::element(alloc, Tag::Document, 0),
-                nodes: MarkedNodes::none(alloc),
-            },
-            styles: Vec::new(alloc),
-        }
-    }
-
     /// Meets a title: begins a new section, or puts the message on a title whose level is inconsistent.
     fn title(&mut self, alloc: Global, heading: Heading) -> Result<()>
         ensures { Gives (λ _. (items : List Item) → goes_on self.new items ≡ goes_on self.old (titled (title_of heading) ∷ items)) result }
@@ -68,12 +62,30 @@ impl Sections {
         let level = level_of(heading.style, self.styles.as_slice());
         // The level of the innermost section is the number of those round it.
         if level > self.outer.len() + 1 {
-            self.current.nodes.push(inconsistent(alloc, &heading)?)?;
+            let text = "Title level inconsistent:";
+            let source = Some(heading.source.as_str());
+            let node = message(alloc, Gravity::Severe, heading.line, text, source)?;
+            self.current.nodes.push(Marked::of(alloc, node)?)?;
             return Ok(());
         }
-        remember(&mut self.styles, heading.style, level)?;
+        if level > self.styles.len() {
+            self.styles.push(heading.style)?;
+        }
         self.end(alloc, level)?;
-        self.enter(alloc, heading)
+        let Heading {
+            title,
+            warning,
+            line,
+            ..
+        } = heading;
+        let mut nodes = MarkedNodes::of(alloc, title.notes)?;
+        if let Some(warning) = warning {
+            nodes.push_new(warning)?;
+        }
+        let element = section(alloc, title.element, nodes.len(), line)?;
+        let inner = OpenSection { element, nodes };
+        self.outer.push(mem::replace(&mut self.current, inner))?;
+        Ok(())
     }
 
     /// Ends those of a level or a deeper one: each is put into the one round it.
@@ -85,42 +97,12 @@ impl Sections {
         ensures styles { Gives (λ _. self.new.styles ≡ self.old.styles) result }
     {
         while level <= self.outer.len() {
-            self.end_innermost(alloc)?;
+            if let Some(round) = self.outer.pop() {
+                let OpenSection { element, nodes } = mem::replace(&mut self.current, round);
+                self.current.nodes.push(completed(alloc, element, nodes)?)?;
+            }
         }
         Ok(())
-    }
-
-    /// Ends the innermost, if it isn't the document.
-    fn end_innermost(&mut self, alloc: Global) -> Result<()>
-        ensures closed { Gives (λ _. (ms : List Member) → StopsAt (length self.old.outer.items) ms → closed_with self.new ms ≡ closed_with self.old ms) result }
-        ensures len { Gives (λ _. length self.new.outer.items ≡ length self.old.outer.items - 1) result }
-        ensures styles { Gives (λ _. self.new.styles ≡ self.old.styles) result }
-    {
-        if let Some(round) = self.outer.pop() {
-            let OpenSection { element, nodes } = mem::replace(&mut self.current, round);
-            self.current.nodes.push(completed(alloc, element, nodes)?)?;
-        }
-        Ok(())
-    }
-
-    /// Begins the section of a title in the innermost one.
-    fn enter(&mut self, alloc: Global, heading: Heading) -> Result<()>
-        ensures closed { let level = length self.old.outer.items + 1 in Gives (λ _. (ms : List Member) → closed_with self.new ms ≡ closed_with self.old (section_at level (section_of (title_of heading) (inside level ms)) ∷ behind level ms)) result }
-        ensures len { Gives (λ _. length self.new.outer.items ≡ length self.old.outer.items + 1) result }
-        ensures styles { Gives (λ _. self.new.styles ≡ self.old.styles) result }
-    {
-        let inner = begun(alloc, heading)?;
-        self.outer.push(mem::replace(&mut self.current, inner))?;
-        Ok(())
-    }
-
-    /// The document with all sections ended.
-    fn closed(mut self, alloc: Global) -> Result<Marked>
-        ensures { Gives (λ root. root ≡ goes_on self []) result }
-    {
-        self.end(alloc, 1)?;
-        let OpenSection { element, nodes } = self.current;
-        completed(alloc, element, nodes)
     }
 }
 
@@ -134,44 +116,4 @@ fn level_of(style: Style, styles: &[Style]) -> usize
         }
     }
     styles.len() + 1
-}
-
-/// Puts a style, whose level this is, behind those in use if it is new.
-fn remember(styles: &mut Vec<Style>, style: Style, level: usize) -> Result<()>
-    requires { level ≡ level_of style styles.old.items }
-    ensures { Gives (λ _. styles.new.items ≡ with_style style styles.old.items) result }
-{
-    if level > styles.len() {
-        styles.push(style)?;
-    }
-    Ok(())
-}
-
-/// The message on a title whose level is inconsistent.
-fn inconsistent(alloc: Global, heading: &Heading) -> Result<Marked>
-    ensures { Gives (λ node. node ≡ inconsistent (title_of heading.now)) result }
-{
-    let text = "Title level inconsistent:";
-    let source = Some(heading.source.as_str());
-    let node = message(alloc, Gravity::Severe, heading.line, text, source)?;
-    Marked::of(alloc, node)
-}
-
-/// The section of a title, with the messages under the title alone.
-fn begun(alloc: Global, heading: Heading) -> Result<OpenSection>
-    ensures element { Gives (λ o. o.element ≡ section_node heading.title.element (length (title_notes (title_of heading))) heading.line) result }
-    ensures nodes { Gives (λ o. o.nodes ≡ title_notes (title_of heading)) result }
-{
-    let Heading {
-        title,
-        warning,
-        line,
-        ..
-    } = heading;
-    let mut nodes = MarkedNodes::of(alloc, title.notes)?;
-    if let Some(warning) = warning {
-        nodes.push_new(warning)?;
-    }
-    let element = section(alloc, title.element, nodes.len(), line)?;
-    Ok(OpenSection { element, nodes })
 }

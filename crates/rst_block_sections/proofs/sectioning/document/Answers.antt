@@ -4,9 +4,15 @@ use Rattle.std.proofs.lemmas.List.{nil_from_length}
 use Rattle.rst_tree.specs.Faults.{Gives}
 use Rattle.rst_tree.specs.declared.node.Node.{Node}
 use Rattle.rst_block_sections.specs.OpenSections.{goes_on}
-use Rattle.rst_block_sections.specs.Sections.{items_of}
-use Rattle.rst_block_sections.proofs.SectionLemmas.{title_met, last_met}
+use Rattle.rst_block_sections.specs.Sections.{document_of, items_of}
+use Rattle.rst_block_sections.proofs.SectionLemmas.{all_closed, begins, holding, title_met, last_met}
 use Rattle.rst_block_sections.proofs.sectioning.document.Goals as goal
+
+pub loop-heading-init : goal.loop-heading-init
+loop-heading-init c =
+    begins (record { outer = c.new.result; current = record { element = c.element.result; nodes = c.none.result }; styles = c.new-2.result }) _ c.new.ensures.items c.new-2.ensures.items c.element.ensures
+    c.none.ensures
+    ∙ ap (λ hs. document_of (items_of hs c.args.nodes)) c.into_iter-heading-iterator.ensures.into_iter_gives.0
 
 pub loop-heading-preserved : goal.loop-heading-preserved
 loop-heading-preserved c =
@@ -19,5 +25,6 @@ pub returns : goal.returns
 returns c =
     let s = c.loop-heading.sections in
     let none : into_iter_items c.loop-heading.heading-iterator ≡ [] = nil_from_length _ (sym c.loop-heading.heading-iterator.rest.ok.0 ∙ c.in-None.ensures.steps.0) in
-    subst (λ (n : Node). Gives (λ root. root ≡ n) c.closed.result)
-    (last_met s c.append-2.new.self c.args.nodes c.in_ok-append-2.ensures ∙ ap (λ hs. goes_on s (items_of hs c.args.nodes)) (sym none) ∙ c.loop-heading.invariant) c.closed.ensures
+    subst (λ (n : Node). Gives (λ root. root ≡ n) c.completed.result)
+    (all_closed (holding s c.append-2.new.self) c.end.new.self c.in_ok-end.ensures.closed c.in_ok-end.ensures.few
+    ∙ last_met s c.append-2.new.self c.args.nodes c.in_ok-append-2.ensures ∙ ap (λ hs. goes_on s (items_of hs c.args.nodes)) (sym none) ∙ c.loop-heading.invariant) c.completed.ensures
