@@ -66,14 +66,6 @@ impl Runs<'_> {
         }
     }
 
-    // Whether both sides go on in the row.
-    #[tactic(auto, unfolding(crate::specs::Search::are_upright))]
-    fn are_upright(&self, row: usize, left: usize, right: usize) -> bool
-        ensures { result ≡ are_upright self.now.rows.now row left right }
-    {
-        is_upright(mark(self.rows, row, left)) && is_upright(mark(self.rows, row, right))
-    }
-
     // Whether the row has a bottom side between the columns.
     fn is_bottom(&self, row: usize, left: usize, right: usize) -> bool
         ensures { Tells result (IsBottom self.now.rows.now row left right) }
@@ -91,6 +83,7 @@ impl Runs<'_> {
     }
 
     // The least bottom edge of a rectangle with these other edges.
+    #[tactic(auto, unfolding(crate::specs::Search::are_upright))]
     fn bottom(&self, top: usize, left: usize, right: usize) -> Option<usize>
         requires top_left { place self.now.rows.now top left ≡ 43 }
         requires top_right { place self.now.rows.now top right ≡ 43 }
@@ -98,7 +91,7 @@ impl Runs<'_> {
     {
         let height = self.rows.len();
         for row in top + 1..height {
-            if !self.are_upright(row, left, right) {
+            if !is_upright(mark(self.rows, row, left)) || !is_upright(mark(self.rows, row, right)) {
                 return None;
             }
             if self.is_bottom(row, left, right) {

@@ -128,21 +128,15 @@ pub(crate) fn grid_fault(bottom: Option<usize>, lines: &[TableLine]) -> Option<T
     })
 }
 
-fn dash(place: Place) -> Place
-    ensures { result ≡ spec.dash place }
-{
-    if place.mark() == '=' {
-        Place::Character('-')
-    } else {
-        place
-    }
-}
-
 /// Places with `-` for each `=`.
 fn dashes(alloc: Global, places: &[Place]) -> Result<Vec<Place>>
     ensures { IfOk result (λ new. new.items ≡ map spec.dash places.now) }
 {
-    places.iter().map(|place| dash(*place)).collect(alloc)
+    let dashed = places.iter().map(|place| match place.mark() {
+        '=' => Place::Character('-'),
+        _ => *place,
+    });
+    dashed.collect(alloc)
 }
 
 /// Makes the rule between head and body one of `-`, if there is one.

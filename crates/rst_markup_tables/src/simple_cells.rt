@@ -12,25 +12,20 @@ use super::simple_rows::{RowLines, SimpleLines};
 use super::spans::{RuleSpan, span_of};
 use std::alloc::Global;
 
-/// How wide a column is.
-fn width_of(columns: &[RuleSpan], longest: usize, k: usize) -> usize
-    ensures { result ≡ spec.width_of columns.now longest k }
-{
-    let column = span_of(columns, k);
-    let width = column.to.saturating_sub(column.from);
-    if columns.len().checked_sub(1) == Some(k) {
-        width.max(longest.saturating_sub(column.from))
-    } else {
-        width
-    }
-}
-
 /// How wide each column is.
 fn column_widths(alloc: Global, columns: &[RuleSpan], longest: usize) -> Result<Vec<usize>>
     ensures { IfOk result (λ widths. widths.items ≡ map (spec.width_of columns.now longest) (range_with_len 0 (length columns.now))) }
 {
     (0..columns.len())
-        .map(|k| width_of(columns, longest, k))
+        .map(|k| {
+            let column = span_of(columns, k);
+            let width = column.to.saturating_sub(column.from);
+            if columns.len().checked_sub(1) == Some(k) {
+                width.max(longest.saturating_sub(column.from))
+            } else {
+                width
+            }
+        })
         .collect(alloc)
 }
 

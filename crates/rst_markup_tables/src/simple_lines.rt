@@ -1,24 +1,15 @@
-//! The lines of a simple table: which of them are rules, and the fault of its borders.
+//! The lines of a simple table, and the fault of its borders.
 ghost use Rattle.std.specs.Prelude.{◌≡◌, ◌+◌, ◌-◌, ◌<◌, ◌≤◌, length, drop, take, IfOk, IfNone};
 ghost use Rattle.rst_markup_blocks.specs.Prelude.{Looked, capped, block_of};
 ghost use Rattle.rst_markup_tables.specs.Places.{AreNumbered, rows_of};
 ghost use Rattle.rst_markup_tables.specs.SimpleTable as spec;
 
 use super::Result;
-use super::places::{Place, TableLine, consists_of, line_of, mark_at};
+use super::places::{TableLine, line_of};
 use super::results::TableDetail;
 use rst_markup_blocks::is_as_long;
 use rst_text::{Looks, View};
 use std::alloc::Global;
-
-/// Whether a row is a border or a span rule: it begins with `=` or `-`, and holds only this mark and spaces.
-#[tactic(auto, unfolding(crate::specs::SimpleTable::is_rule, crate::specs::SimpleTable::is_ruled))]
-pub(crate) fn is_rule(row: &[Place]) -> bool
-    ensures { result ≡ spec.is_rule row.now }
-{
-    (mark_at(row, 0) == '=' && consists_of(row, '=', ' '))
-        || (mark_at(row, 0) == '-' && consists_of(row, '-', ' '))
-}
 
 /// The fault of the borders of the table at place `i`, by its bottom border, which is counted from there. It makes at most two
 /// looks, and none where there is no such border.

@@ -7,8 +7,7 @@ ghost use Rattle.rst_markup_tables.specs.SimpleTable as spec;
 ghost use Rattle.rst_markup_tables.specs.declared.results.TableDetail.TheVariants.{ColumnSpan};
 
 use super::Result;
-use super::places::{Place, TableLine, row_at};
-use super::simple_lines::is_rule;
+use super::places::{Place, TableLine, consists_of, mark_at, row_at};
 use super::spans::{RuleSpan, behind, last_joined, span_of, spans_of};
 use std::alloc::Global;
 
@@ -31,30 +30,29 @@ pub(crate) struct SimpleLines<'a> {
     ghost numbered: { AreNumbered lines.now },
 }
 
-/// The rules below the top border.
+/// The rules below the top border. A rule begins with `=` or `-`, and holds only this mark and spaces.
+#[tactic(auto, unfolding(crate::specs::SimpleTable::is_rule, crate::specs::SimpleTable::is_ruled))]
 pub(crate) fn rules_of(alloc: Global, lines: &[TableLine]) -> Result<Vec<usize>>
     ensures value { IfOk result (λ rules. rules.items ≡ spec.rules_of lines.now) }
     ensures within { IfOk result (λ rules. (n : ℕ) → n < length rules.items → get_or rules.items n 0 < length lines.now) }
 {
     (1..lines.len())
-        .filter(|k| is_rule(row_at(lines, *k)))
+        .filter(|k| {
+            let row = row_at(lines, *k);
+            (mark_at(row, 0) == '=' && consists_of(row, '=', ' '))
+                || (mark_at(row, 0) == '-' && consists_of(row, '-', ' '))
+        })
         .collect(alloc)
 }
 
 #[tactic(auto, unfolding(crate::specs::SimpleTable::is_white_place))]
-fn is_white_place(place: Place) -> bool
-    ensures { result ≡ spec.is_white_place place }
-{
-    match place {
-        Place::Character(c) => c.is_whitespace(),
-        Place::Second => false,
-    }
-}
-
 fn are_white(places: &[Place]) -> bool
     ensures { result ≡ list_all spec.is_white_place places.now }
 {
-    places.iter().all(|place| is_white_place(*place))
+    places.iter().all(|place| match place {
+        Place::Character(c) => c.is_whitespace(),
+        Place::Second => false,
+    })
 }
 
 /// Whether nothing but white stands from one place up to another.

@@ -20,14 +20,16 @@ loop-row-init c =
       none = λ k below closed. let high : c.args.top < k = closed.high in omega arith;
     }
 
-pub returns-then-not-are_upright : goal.returns-then-not-are_upright
-returns-then-not-are_upright c =
-    not_closed c.args.self.now.rows.now c.args.top c.args.left c.args.right c.loop-row.row (omega arith) c.loop-row.invariant.none (cc)
+pub returns-then-not-is_upright : goal.returns-then-not-is_upright
+unfolding are_upright
+returns-then-not-is_upright c =
+    not_closed c.args.self.now.rows.now c.args.top c.args.left c.args.right c.loop-row.row (omega arith) c.loop-row.invariant.none (grind arith)
 
 pub returns-then-is_bottom : goal.returns-then-is_bottom
+unfolding are_upright
 returns-then-is_bottom c =
     let G = c.args.self.now.rows.now in (
-      closed_now G c.args.top c.args.left c.args.right c.loop-row.row (omega arith) c.loop-row.invariant.sides (cc) c.if-is_bottom.ensures,
+      closed_now G c.args.top c.args.left c.args.right c.loop-row.row (omega arith) c.loop-row.invariant.sides (grind arith) c.if-is_bottom.ensures,
       least_now G c.args.top c.args.left c.args.right c.loop-row.row c.loop-row.invariant.none,
     )
 
