@@ -131,21 +131,6 @@ impl Runs<'_> {
     }
 }
 
-// Covers the rectangle's columns down to its bottom, if each is covered down to its top.
-fn fill(depths: &mut [usize], rectangle: Rectangle) -> bool
-    requires wide { rectangle.left < rectangle.right }
-    requires within { rectangle.right ≤ length depths.old }
-    ensures { Fills rectangle depths.old depths.new result }
-{
-    for column in rectangle.left..rectangle.right {
-        if depths[column] != rectangle.top {
-            return false;
-        }
-        depths[column] = rectangle.bottom;
-    }
-    true
-}
-
 /// The rectangles that tile the grid, in reading order, if it is well formed.
 pub(crate) fn tiling(alloc: Global, rows: &[TableLine]) -> Result<Option<Vec<Rectangle>>>
     ensures { IfOk result (λ found. Tiles rows.now (option_map vec_items found)) }
@@ -167,8 +152,12 @@ pub(crate) fn tiling(alloc: Global, rows: &[TableLine]) -> Result<Option<Vec<Rec
             let Some(rectangle) = runs.drawn_from(top, left) else {
                 return Ok(None);
             };
-            if !fill(&mut depths, rectangle) {
-                return Ok(None);
+            // Each of its columns has to be covered down to its top, and is covered down to its bottom then.
+            for column in rectangle.left..rectangle.right {
+                if depths[column] != rectangle.top {
+                    return Ok(None);
+                }
+                depths[column] = rectangle.bottom;
             }
             rectangles.push(rectangle)?;
         }

@@ -77,19 +77,6 @@ pub(crate) fn grid_lines(
     })
 }
 
-/// Whether a row begins with `+=`, ends with `=+`, and holds only `=` and `+`.
-#[tactic(auto, unfolding(crate::specs::GridTable::is_head_rule))]
-fn is_head_rule(row: &[Place]) -> bool
-    ensures { result ≡ spec.is_head_rule row.now }
-{
-    row.len() >= 4
-        && mark_at(row, 0) == '+'
-        && mark_at(row, 1) == '='
-        && mark_at(row, row.len().saturating_sub(2)) == '='
-        && mark_at(row, row.len().saturating_sub(1)) == '+'
-        && consists_of(row, '=', '+')
-}
-
 /// Whether each line has the first one's width and ends in `+` or `|`.
 #[tactic(auto, unfolding(crate::specs::GridTable::is_whole))]
 fn is_square(lines: &[TableLine]) -> bool
@@ -102,12 +89,22 @@ fn is_square(lines: &[TableLine]) -> bool
     })
 }
 
-/// The first line from place `low` on that is a rule between head and body.
+/// The first line from place `low` on that is a rule between head and body: it begins with `+=`, ends with `=+`, and holds
+/// only `=` and `+`.
+#[tactic(auto, unfolding(crate::specs::GridTable::is_head_rule))]
 pub(crate) fn head_from(lines: &[TableLine], low: usize) -> Option<usize>
     ensures value { result ≡ spec.head_from lines.now low }
     ensures within { IfSome result (λ k. k < length lines.now) }
 {
-    (low..lines.len()).find(|k| is_head_rule(row_at(lines, *k)))
+    (low..lines.len()).find(|k| {
+        let row = row_at(lines, *k);
+        row.len() >= 4
+            && mark_at(row, 0) == '+'
+            && mark_at(row, 1) == '='
+            && mark_at(row, row.len().saturating_sub(2)) == '='
+            && mark_at(row, row.len().saturating_sub(1)) == '+'
+            && consists_of(row, '=', '+')
+    })
 }
 
 /// The first fault of the table's lines, the last of which is the bottom border, if there is one.

@@ -1,8 +1,7 @@
 use Rattle.rst_markup_tables.proofs.Begins.{pushed, pushed_size}
-use Rattle.std.proofs.Common.{◌≡◌, ◌<◌, ◌+◌, true, false, List, ℕ, drop, length, get_or, arith, sym, ap, subst, ◌∙◌, [], ◌∷◌, ◌++◌, vec_items}
+use Rattle.std.proofs.Common.{◌≡◌, ◌<◌, ◌+◌, true, length, get_or, arith, sym, ap, subst, ◌∙◌, [], ◌∷◌, ◌++◌, vec_items}
 use Rattle.std.proofs.lemmas.List.{get_or_read, map-append}
-use Rattle.rst_markup_tables.proofs.Lists.{whole}
-use Rattle.rst_markup_tables.specs.Places.{width, row_at, no_row}
+use Rattle.rst_markup_tables.specs.Places.{row_at, no_row}
 use Rattle.rst_markup_tables.specs.Search.{Fills, AreBegins, lists_of}
 use Rattle.rst_markup_tables.proofs.Rectangles.{frame_within}
 use Rattle.rst_markup_tables.proofs.Scan.{Stands, skip, none_drawn, overlap, add, next_row, finish}
@@ -34,31 +33,23 @@ returns-in_default c =
     let s = c.loop-left.invariant in
     none_drawn _ c.loop-top.top c.loop-left.left c.loop-left.rectangles.items s.reached (omega arith) (omega (arith, s.size)) (s.free _ _ wide (omega (arith, had, c.if-index-top.false))) c.in_default.ensures
 
-pub fill-requires : goal.fill-requires
-fill-requires c =
-    let G = c.args.rows.now in
-    let inside = frame_within G c.in-Some.rectangle c.in-Some.ensures.0.frame in
-    let right : c.in-Some.rectangle.right < width G = inside.1 in
-    let same = ap length c.deref_mut.ensures.value in
-    record { wide = c.in-Some.ensures.0.frame.wide; within = omega (arith, same) }
-
-pub returns-then-not-fill : goal.returns-then-not-fill
-returns-then-not-fill c =
+pub returns-then-index-rectangle : goal.returns-then-index-rectangle
+returns-then-index-rectangle c =
     let wide : c.loop-left.left < length c.loop-left.depths.items = omega arith in
     let had : c.index.result.now ≡ get_or c.loop-left.depths.items c.loop-left.left 0 = get_or_read c.loop-left.depths.items _ _ wide c.index.ensures 0 in
-    overlap _ c.loop-top.top c.loop-left.left c.loop-left.depths.items c.fill.new.depths c.loop-left.rectangles.items c.in-Some.rectangle c.loop-left.invariant (omega arith) wide (sym had ∙ c.if-index-top.false)
-    c.in-Some.ensures (subst (λ (d : List ℕ). Fills c.in-Some.rectangle d c.fill.new.depths false) c.deref_mut.ensures.value c.if-not-fill.ensures)
+    let inside = (frame_within c.args.rows.now c.in-Some.rectangle c.in-Some.ensures.0.frame).1 in
+    let held = get_or_read c.loop-column.depths.items _ _ (omega (arith, inside, c.loop-left.invariant.size, c.loop-column.invariant.size)) c.index-in-loop-column.ensures 0 in
+    overlap _ c.loop-top.top c.loop-left.left c.loop-left.depths.items c.loop-column.depths.items c.loop-left.rectangles.items c.in-Some.rectangle c.loop-left.invariant (omega arith) wide (sym had ∙ c.if-index-top.false)
+    c.in-Some.ensures (c.loop-column.column, omega arith, omega arith, λ e. c.if-index-rectangle.true (held ∙ c.loop-column.invariant.kept c.loop-column.column (λ above below. omega arith) ∙ e))
 
 pub loop-left-preserved : goal.loop-left-preserved
 loop-left-preserved c =
     let wide : c.loop-left.left < length c.loop-left.depths.items = omega arith in
     let had : c.index.result.now ≡ get_or c.loop-left.depths.items c.loop-left.left 0 = get_or_read c.loop-left.depths.items _ _ wide c.index.ensures 0 in
-    let filled : Fills c.in-Some.rectangle c.loop-left.depths.items c.fill.new.depths true = subst (λ (d : List ℕ). Fills c.in-Some.rectangle d c.fill.new.depths true) c.deref_mut.ensures.value c.if-not-fill.ensures in
-    let new = add _ c.loop-top.top c.loop-left.left c.loop-left.depths.items c.fill.new.depths c.loop-left.rectangles.items c.in-Some.rectangle c.loop-left.invariant (omega arith) wide (sym had ∙ c.if-index-top.false)
-    c.in-Some.ensures filled in
-    let depths = whole c.loop-left.depths.len c.fill.new.depths (drop (length c.fill.new.depths) c.loop-left.depths.items) (omega (arith, filled.0)) in
-    subst (λ d. Stands c.args.rows.now c.loop-top.top (c.loop-left.left + 1) d c.push-in-loop-left.new.self.items) (sym depths)
-    (subst (λ items. Stands c.args.rows.now c.loop-top.top (c.loop-left.left + 1) c.fill.new.depths items) (sym c.in_ok-push-2.ensures.items) new)
+    let filled : Fills c.in-Some.rectangle c.loop-left.depths.items c.loop-column.depths.items true =
+    (c.loop-column.invariant.size, (λ k above below. c.loop-column.invariant.done k above (omega arith)), (λ k out. c.loop-column.invariant.kept k (λ above below. out above (omega (arith, c.loop-column.auto.column-end, c.in-Some.ensures.0.frame.wide))))) in
+    subst (λ items. Stands c.args.rows.now c.loop-top.top (c.loop-left.left + 1) c.loop-column.depths.items items) (sym c.in_ok-push-2.ensures.items)
+    (add _ c.loop-top.top c.loop-left.left c.loop-left.depths.items c.loop-column.depths.items c.loop-left.rectangles.items c.in-Some.rectangle c.loop-left.invariant (omega arith) wide (sym had ∙ c.if-index-top.false) c.in-Some.ensures filled)
 
 pub loop-top-preserved : goal.loop-top-preserved
 loop-top-preserved c =
