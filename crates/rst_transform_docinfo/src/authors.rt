@@ -33,12 +33,17 @@ pub fn authors_in(alloc: Global, body: &Node, line: usize) -> Result<Option<Vec<
     }
 }
 
-/// The authors that the nodes of a paragraph name: those in a text, or all of it as one author.
+/// The authors that the nodes of a paragraph name: those in a text, or all of it as one author. In a text they are parted by
+/// semicolons, or by commas where there is no semicolon.
 fn named_by(alloc: Global, paragraph: &Children, line: usize) -> Result<Vec<Node>>
     ensures { Gives (λ nodes. nodes.items ≡ named_by line paragraph.now (lone paragraph.now)) result }
 {
     if let Some(Node::Text(text)) = lone(paragraph) {
-        return names_in(alloc, text.as_str(), line);
+        let text = text.as_str();
+        if has_semicolon(text) {
+            return parted(alloc, text, ';', line);
+        }
+        return parted(alloc, text, ',', line);
     }
     let mut nodes = Vec::new(alloc);
     nodes.push(author(alloc, copies(alloc, paragraph)?, line))?;
@@ -57,16 +62,6 @@ fn all_paragraphs(alloc: Global, items: &Children, line: usize) -> Result<Option
         nodes.push(author(alloc, copies(alloc, paragraph)?, line))?;
     }
     Ok(Some(nodes))
-}
-
-/// The authors that a text names: they are parted by semicolons, or by commas where there is no semicolon.
-fn names_in(alloc: Global, text: &str, line: usize) -> Result<Vec<Node>>
-    ensures { Gives (λ nodes. nodes.items ≡ names_in line text.now) result }
-{
-    if has_semicolon(text) {
-        return parted(alloc, text, ';', line);
-    }
-    parted(alloc, text, ',', line)
 }
 
 /// Whether a text holds a semicolon.

@@ -171,19 +171,11 @@ fn out_of_form(name: &str, mut field: Field, context: &mut Context) -> Result<No
         "\" is not in its form.",
     )?;
     let message = context.report_in_place(Level::Warning, field.line, text)?;
-    field.body = with_child(field.body, message)?;
+    if let Node::Element { children, .. } = &mut field.body {
+        children.push(message)?;
+    }
     let node = stays(context.alloc, name, field)?;
     Ok(node)
-}
-
-/// A body with one more node after those in it.
-fn with_child(mut body: Node, node: Node) -> Result<Node>
-    ensures { Gives (λ all. all ≡ with_child node body) result }
-{
-    if let Node::Element { children, .. } = &mut body {
-        children.push(node)?;
-    }
-    Ok(body)
 }
 
 /// What the fields of a bibliography became so far.
@@ -242,7 +234,10 @@ impl Bibliography {
         };
         match made {
             Some(node) => self.put(row, node),
-            None => self.put_field(row, name.as_str(), field, context),
+            None => match row {
+                Row::Generic => Ok(self.info.push(stays(context.alloc, name.as_str(), field)?)?),
+                _ => Ok(self.info.push(out_of_form(name.as_str(), field, context)?)?),
+            },
         }
     }
 
@@ -270,39 +265,24 @@ impl Bibliography {
         Ok(())
     }
 
-    /// Puts a field of a row with this name that stays one after the elements of the `docinfo`.
-    fn put_field(&mut self, row: Row, name: &str, field: Field, context: &mut Context) -> Result<()>
-        ensures gathered { Gives (λ _. so_far self.new context.new.reports.items ≡ by_form context.old.first_number row name.now field None (so_far self.old context.old.reports.items)) result }
-        ensures rest { Gives (λ _. KeepsRest context.old context.new) result }
-    {
-        match row {
-            Row::Generic => self.info.push(stays(context.alloc, name, field)?)?,
-            _ => self.info.push(out_of_form(name, field, context)?)?,
-        }
-        Ok(())
-    }
-
     /// The `docinfo`, if it isn't empty, the dedication and the abstract; `line` is that of the field list.
     pub fn into_nodes(self, alloc: Global, line: usize) -> Result<Vec<Node>>
         ensures { Gives (λ nodes. nodes.items ≡ docinfo_nodes line (so_far self [])) result }
     {
-        let nodes = info_nodes(alloc, self.info, line)?;
-        let nodes = with_topic(nodes, self.dedication)?;
-        with_topic(nodes, self.abstract_)
+        let Bibliography {
+            info,
+            dedication,
+            abstract_,
+            ..
+        } = self;
+        let mut nodes = Vec::new(alloc);
+        if !info.is_empty() {
+            let attrs = Attrs::new(alloc);
+            nodes.push(element(Tag::Docinfo, attrs, Children::of(info), line))?;
+        }
+        let nodes = with_topic(nodes, dedication)?;
+        with_topic(nodes, abstract_)
     }
-}
-
-/// The `docinfo` with these elements, if there are some.
-fn info_nodes(alloc: Global, info: Vec<Node>, line: usize) -> Result<Vec<Node>>
-    ensures { Gives (λ nodes. nodes.items ≡ info_nodes line info.items) result }
-{
-    let mut nodes = Vec::new(alloc);
-    if info.is_empty() {
-        return Ok(nodes);
-    }
-    let attrs = Attrs::new(alloc);
-    nodes.push(element(Tag::Docinfo, attrs, Children::of(info), line))?;
-    Ok(nodes)
 }
 
 /// Nodes, and a topic after them, if there is one.

@@ -214,7 +214,13 @@ fn outcomes_by(
             list.push(Outcome::Fails(report))?;
             continue;
         }
-        if is_label(one.element) {
+        if matches!(
+            one.element,
+            Node::Element {
+                tag: Tag::Label,
+                ..
+            }
+        ) {
             let shown = label_in(labels, one.outer)?;
             list.push(Outcome::Stays { attr: None, shown })?;
             continue;
@@ -248,16 +254,6 @@ fn lead_to_footnote(alloc: Global, linked: &[Linked<'_>], footnote: usize) -> Re
     match first_said(one.element, Key::Ids) {
         Some(id) => Ok(Some(text_attr(alloc, Key::Refid, id)?)),
         None => Ok(None),
-    }
-}
-
-/// Whether a node is a label.
-fn is_label(node: &Node) -> bool
-    ensures { result ≡ is_label node.now }
-{
-    match node {
-        Node::Element { tag, .. } => matches!(tag, Tag::Label),
-        Node::Text(_) => false,
     }
 }
 

@@ -147,27 +147,20 @@ fn behind_first<'t, 'a>(targets: &'t [Linked<'a>]) -> &'t [Linked<'a>]
     &targets[targets.len().min(1)..]
 }
 
-/// What a reference says of the first of some targets, if there is one.
+/// What a reference says of the first of some targets, if there is one: where that leads, or its id, unless it is an indirect one.
 fn first_lead(alloc: Global, targets: &[Linked<'_>]) -> Result<Option<Attr>>
     ensures { Gives (λ lead. lead ≡ first_lead (map held targets.entry.now)) result }
 {
-    match targets.first() {
-        Some(target) => lead_to(alloc, target.element),
-        None => Ok(None),
-    }
-}
-
-/// What a reference says of its target: where that leads, or its id, unless it is an indirect one.
-fn lead_to(alloc: Global, target: &Node) -> Result<Option<Attr>>
-    ensures { Gives (λ lead. lead ≡ lead_to target.now) result }
-{
-    if let Some(attr) = lead_of(alloc, target)? {
+    let Some(target) = targets.first() else {
+        return Ok(None);
+    };
+    if let Some(attr) = lead_of(alloc, target.element)? {
         return Ok(Some(attr));
     }
-    if has(target, Key::Refname) {
+    if has(target.element, Key::Refname) {
         return Ok(None);
     }
-    match first_said(target, Key::Ids) {
+    match first_said(target.element, Key::Ids) {
         Some(id) => Ok(Some(text_attr(alloc, Key::Refid, id)?)),
         None => Ok(None),
     }

@@ -190,21 +190,17 @@ fn anonymous_places(alloc: Global, linked: &[Linked<'_>]) -> Result<Vec<usize>>
     Ok(places)
 }
 
-/// Whether a node is a reference.
-fn is_reference(node: &Node) -> bool
-    ensures { result ≡ is_reference_node node.now }
-{
-    match node {
-        Node::Element { tag, .. } => matches!(tag, Tag::Reference),
-        Node::Text(_) => false,
-    }
-}
-
 /// The place of the element that a reference means by its name, if it does.
 fn named_place(names: &Names, holders: &Holders<'_>, node: &Node) -> Option<usize>
     ensures { result ≡ named_place (held_by names.now) (place_at holders.now.places.items) node.now }
 {
-    if !is_reference(node) {
+    if !matches!(
+        node,
+        Node::Element {
+            tag: Tag::Reference,
+            ..
+        }
+    ) {
         return None;
     }
     let name = text_said(node, Key::Refname)?;

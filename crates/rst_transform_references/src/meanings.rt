@@ -22,16 +22,6 @@ pub enum Meaning {
     Duplicate,
 }
 
-/// Whether a node is a footnote or a citation.
-fn is_footnote_or_citation(node: &Node) -> bool
-    ensures { result ≡ is_footnote_or_citation node.now }
-{
-    match node {
-        Node::Element { tag, .. } => matches!(tag, Tag::Footnote | Tag::Citation),
-        Node::Text(_) => false,
-    }
-}
-
 /// Whether a node is a reference to a footnote or a citation.
 #[inline(always)]
 pub fn refers_to_footnote_or_citation(node: &Node) -> bool
@@ -66,7 +56,12 @@ fn referent_place(element: Option<&Node>, place: Option<usize>) -> Option<usize>
     ensures { result ≡ referent_place (holding element.entry) place }
 {
     match element {
-        Some(node) if is_footnote_or_citation(node) => place,
+        Some(
+            Node::Element {
+                tag: Tag::Footnote | Tag::Citation,
+                ..
+            },
+        ) => place,
         _ => None,
     }
 }
