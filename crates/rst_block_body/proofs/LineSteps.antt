@@ -17,13 +17,13 @@ use Rattle.rst_block_state.specs.Meanings.{joining_in, open_of, within_at, done_
 use Rattle.rst_block_state.specs.NextLine.{IsNextConstruct}
 use Rattle.rst_block_state.specs.Numbered.{Numbered, ◌>>=◌, before}
 use Rattle.rst_block_state.specs.OpenBlocks.{IsMoved, HasRun, HasLine, line_added, lines_end_at}
-use Rattle.rst_block_state.specs.Rest.{OpenRun, no_run, open_list, open_lines, open_markup, joining_with, last_indent, rest, rest_with}
+use Rattle.rst_block_state.specs.Rest.{OpenRun, no_run, open_lines, joining_with, last_indent, rest, rest_with}
 use Rattle.rst_block_state.specs.RestLaws.{found_as}
 use Rattle.rst_block_state.specs.Texts.{joined}
 use Rattle.rst_block_state.specs.Titles.{Item}
 use Rattle.rst_block_state.specs.declared.open_block.OpenBlock.{OpenBlock}
 use Rattle.rst_block_state.specs.declared.run.ListKind.{ListKind}
-use Rattle.rst_block_state.specs.declared.run.ListKind.TheVariants.{Bullet, Enumerated, Definition, Field, OptionItem}
+use Rattle.rst_block_state.specs.declared.run.ListKind.TheVariants.{Bullet}
 use Rattle.rst_block_state.specs.declared.run.Run.{Run}
 use Rattle.rst_block_state.specs.declared.run.Run.TheVariants.{None as NoRun, List as ListRun, Lines, Explicit}
 use Rattle.rst_block_state.proofs.Changes.{done_same, reads_is}

@@ -41,7 +41,7 @@ use Rattle.rst_block_state.specs.declared.waits.Waits.TheVariants.{ListItem as I
 use Rattle.rst_block_state.specs.declared.run.ListKind.{ListKind}
 use Rattle.rst_block_state.specs.declared.run.ListKind.TheVariants.{Bullet, Definition, Field, OptionItem}
 use Rattle.rst_block_state.specs.declared.run.Run.{Run}
-use Rattle.rst_block_state.specs.declared.run.Run.TheVariants.{None as NoRun, List as ListRun, Lines, Explicit}
+use Rattle.rst_block_state.specs.declared.run.Run.TheVariants.{None as NoRun}
 use Rattle.rst_block_state.specs.declared.step.Step.{Step}
 use Rattle.rst_block_state.specs.declared.texts.Pass.{Pass}
 use Rattle.rst_block_state.specs.declared.step.Step.TheVariants.{Open}

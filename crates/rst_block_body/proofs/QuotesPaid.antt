@@ -29,7 +29,7 @@ use Rattle.rst_block_state.specs.declared.open_block.OpenBlock.{OpenBlock}
 use Rattle.rst_block_state.specs.declared.waits.Waits.{Waits}
 use Rattle.rst_block_state.specs.declared.waits.Waits.TheVariants.{Quote}
 use Rattle.rst_block_state.specs.declared.run.Run.{Run}
-use Rattle.rst_block_state.specs.declared.run.Run.TheVariants.{None as NoRun, List as ListRun, Lines, Explicit as ExplicitRun}
+use Rattle.rst_block_state.specs.declared.run.Run.TheVariants.{List as ListRun}
 use Rattle.rst_block_state.specs.declared.step.Step.{Step}
 use Rattle.rst_block_state.specs.declared.step.Step.TheVariants.{Next, Open}
 use Rattle.rst_block_state.proofs.NextConstructs.{next_of, next_some}

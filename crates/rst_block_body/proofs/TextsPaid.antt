@@ -10,7 +10,7 @@ use Rattle.rst_markup_blocks.specs.Kinds.{kind_at}
 use Rattle.rst_markup_blocks.specs.Partition.{construct_size}
 use Rattle.rst_markup_blocks.specs.Sizes.{paragraph_size}
 use Rattle.rst_markup_blocks.specs.declared.kind.Kind.{Kind}
-use Rattle.rst_markup_blocks.specs.declared.kind.Kind.TheVariants.{Blank, Quote, Bullet, Enumerator, Field, OptionItem, Doctest, Line, Grid, Simple, Explicit, Anonymous, Adornment, Text}
+use Rattle.rst_markup_blocks.specs.declared.kind.Kind.TheVariants.{Grid, Simple}
 use Rattle.rst_block_state.specs.Constructs.{Construct, transition, overlined_title, misplaced_lines, underlined_title, paragraph, construct_by}
 use Rattle.rst_block_state.specs.Inside.{opened_by, cells_by}
 use Rattle.rst_block_state.specs.Ledger.{unread_at, totals, run_looks, IsPaid}

@@ -35,7 +35,9 @@ pub(crate) fn definition(
     let body = indented(view, at + 1, &mut pass.looks);
     let kind = ListKind::Definition;
     join_list(view, level, kind, Tag::DefinitionList, body.to, pass)?;
-    put_before(level, infos)?;
+    if let Run::List(open) = &mut level.run {
+        append(&mut open.before, infos)?;
+    }
     let term = view.line(at, &mut pass.looks);
     let heads = term_and_classifiers(pass.alloc, term, line, &mut pass.numbers)?;
     level.go_to(body.to);
@@ -50,14 +52,4 @@ pub(crate) fn definition(
         first: body,
         second: None,
     })
-}
-
-/// Puts messages before the list that is open.
-fn put_before(level: &mut OpenBlock, infos: Vec<Node>) -> Result<()>
-    ensures run { Gives (λ _. HasRun level.old level.new (with_infos infos.items (open_of level.old.run))) result }
-{
-    match &mut level.run {
-        Run::List(open) => Ok(append(&mut open.before, infos)?),
-        _ => Ok(()),
-    }
 }

@@ -36,7 +36,7 @@ pub fn bar_line(
     let at = level.at;
     let end = indented_end(view, at, &mut pass.looks);
     let text = bar_text(view, at, end, marker, pass)?;
-    if lines_end_at(&level.run, at) {
+    if matches!(&level.run, Run::Lines { end, .. } if at == *end) {
         add_line(level, text, end)?;
         return Ok(Step::Next);
     }
@@ -47,13 +47,6 @@ pub fn bar_line(
     };
     add_line(level, text, end)?;
     Ok(Step::Next)
-}
-
-/// Whether the open run is a line block that ends at this place.
-fn lines_end_at(run: &Run, at: usize) -> bool
-    ensures { result ≡ lines_end_at at (open_of run.now) }
-{
-    matches!(run, Run::Lines { end, .. } if at == *end)
 }
 
 /// Puts a line behind the last of the open line block, and goes on where the line ends.
@@ -100,29 +93,15 @@ fn bar_text(
         });
     }
     let first = skip(view.line(at, &mut pass.looks), marker.cut);
-    let text = below_first(pass.alloc, first, &below, further)?;
+    let mut text = String::from_str(pass.alloc, first)?;
+    if 0 < below.len() {
+        text.push('\n')?;
+        text.push_str(further.as_str())?;
+    }
     Ok(BarText {
         indent: Some(marker.cut.saturating_sub(2)),
         line,
         text_line: line,
         text,
     })
-}
-
-/// The text of a line and, if there are lines below it, their text behind a line feed.
-fn below_first(
-    alloc: Global,
-    first: &str,
-    below: &View<'_>,
-    further: String,
-) -> Result<String, AllocError>
-    requires { chars_of further ≡ joined (block_of below.now) }
-    ensures { IfOk result (λ text. chars_of text ≡ text_over (chars first.now) (block_of below.now)) }
-{
-    let mut text = String::from_str(alloc, first)?;
-    if 0 < below.len() {
-        text.push('\n')?;
-        text.push_str(further.as_str())?;
-    }
-    Ok(text)
 }

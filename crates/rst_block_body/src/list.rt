@@ -127,16 +127,9 @@ fn begin_enumerated_list(
     let kind = ListKind::Enumerated(Sequel::of(enumerator));
     let list = enumerated_list(pass.alloc, enumerator, number_at(view, at))?;
     level.begin(pass.alloc, kind, list, end)?;
-    match start_note(pass.alloc, view, at, enumerator, &mut pass.looks)? {
-        Some(note) => put_behind(level, note),
-        None => Ok(()),
-    }
-}
-
-/// Puts a message behind the list that is open.
-fn put_behind(level: &mut OpenBlock, note: Node) -> Result<()>
-    ensures run { blocks.Gives (λ _. HasRun level.old level.new (with_notes (note ∷ []) (open_of level.old.run))) result }
-{
+    let Some(note) = start_note(pass.alloc, view, at, enumerator, &mut pass.looks)? else {
+        return Ok(());
+    };
     match &mut level.run {
         Run::List(open) => Ok(push(&mut open.behind, note)?),
         _ => Ok(()),
@@ -160,25 +153,11 @@ fn start_note(
     if ordinal == 1 {
         return Ok(None);
     }
-    let written = written_ordinal(alloc, view.line(at, looks), enumerator)?;
-    let note = start_message(alloc, written.as_str(), ordinal, number_at(view, at))?;
-    Ok(Some(note))
-}
-
-/// An enumerator's ordinal as it is written in its line.
-fn written_ordinal(alloc: Global, text: &str, enumerator: Enumerator) -> Result<String, AllocError>
-    ensures { IfOk result (λ written. string_bytes written ≡ excerpt (chars text.now) (lists.ordinal_place enumerator)) }
-{
-    let from = ordinal_from(enumerator.format);
-    characters(alloc, text, from, enumerator.written.len)
-}
-
-/// How many characters come before an ordinal.
-fn ordinal_from(format: Format) -> usize
-    ensures { result ≡ lists.ordinal_from format }
-{
-    match format {
+    let from = match enumerator.format {
         Format::Parentheses => 1,
         _ => 0,
-    }
+    };
+    let written = characters(alloc, view.line(at, looks), from, enumerator.written.len)?;
+    let note = start_message(alloc, written.as_str(), ordinal, number_at(view, at))?;
+    Ok(Some(note))
 }

@@ -66,28 +66,16 @@ fn option_group(alloc: Global, text: &str, line: usize) -> Result<Node, TreeFaul
         let from = listed.string.from;
         rest = skip(rest, from.saturating_sub(passed));
         passed = passed.max(from);
-        options.push(option_of(alloc, text, rest, passed, listed, line)?)?;
+        let string = excerpt_after(alloc, text, rest, passed, listed.string)?;
+        let made = match listed.argument {
+            Some(argument) => {
+                let written = excerpt_after(alloc, text, rest, passed, argument.text)?;
+                let argument = Some((argument.delimiter, written.as_str()));
+                option(alloc, string.as_str(), argument, line)?
+            }
+            None => option(alloc, string.as_str(), None, line)?,
+        };
+        options.push(made)?;
     }
     Ok(element_of(Tag::OptionGroup, Attrs::new(alloc), options, line))
-}
-
-/// An option of a line, of which what follows its first characters is at hand.
-fn option_of(
-    alloc: Global,
-    text: &str,
-    rest: &str,
-    passed: usize,
-    listed: ListedOption,
-    line: usize,
-) -> Result<Node, TreeFault>
-    requires { chars rest.now ≡ drop passed (chars text.now) }
-    ensures { Gives (λ node. node ≡ lists.option_in (chars text.now) line listed) result }
-{
-    let string = excerpt_after(alloc, text, rest, passed, listed.string)?;
-    let Some(argument) = listed.argument else {
-        return option(alloc, string.as_str(), None, line);
-    };
-    let written = excerpt_after(alloc, text, rest, passed, argument.text)?;
-    let argument = Some((argument.delimiter, written.as_str()));
-    option(alloc, string.as_str(), argument, line)
 }

@@ -9,7 +9,6 @@ ghost use Rattle.rst_block_state.specs.Texts.{source_of};
 ghost use Rattle.rst_block_state.specs.Titles as titles;
 ghost use Rattle.rst_block_body.specs.TextSteps.{under_style, unexpected_notes};
 ghost use Rattle.rst_text.specs.Block.{front_text, first_number};
-ghost use Rattle.std.specs.Option.{option_to_list};
 ghost use Rattle.rst_block_body.specs.ReadSteps.{IsRead};
 
 use super::definition::definition;
@@ -151,19 +150,11 @@ fn put_unexpected(
         Gives (λ _. HasMoreAt level.old level.new notes (level.old.at + 2)) result }
 {
     let under = number_at(view, level.at.saturating_add(1));
-    push_if_any(level, warning)?;
+    if let Some(warning) = warning {
+        level.push(warning)?;
+    }
     let text = "Unexpected section title.";
     let severe = message(alloc, Level::Severe, under, text, Some(lines))?;
     level.go_to(level.at.saturating_add(2));
     level.push(severe)
-}
-
-/// Puts a node behind the last, if there is one.
-fn push_if_any(level: &mut OpenBlock, node: Option<Node>) -> Result<()>
-    ensures more { Gives (λ _. HasMore level.old level.new (option_to_list node)) result }
-{
-    match node {
-        Some(node) => level.push(node),
-        None => Ok(()),
-    }
 }

@@ -4,7 +4,8 @@ use Rattle.rst_text.specs.Shown.{block_of}
 use Rattle.rst_tree.specs.declared.tag.Tag.TheVariants.{DefinitionListItem, Definition as DefinitionTag}
 use Rattle.rst_block_state.specs.Constructs.{definition_item}
 use Rattle.rst_block_state.specs.Lists.{empty_list, item_with}
-use Rattle.rst_block_state.specs.Meanings.{within_at}
+use Rattle.rst_block_state.specs.Meanings.{open_of, within_at}
+use Rattle.rst_block_state.specs.OpenBlocks.{HasRun, with_infos}
 use Rattle.rst_block_state.specs.declared.waits.Waits.TheVariants.{ListedBody}
 use Rattle.rst_block_state.specs.declared.run.ListKind.TheVariants.{Definition}
 use Rattle.rst_block_state.specs.declared.step.Step.TheVariants.{Open}
@@ -39,14 +40,15 @@ returns c =
     let opened : IsOpened l c.join_list.new.level B Definition (empty_list mark (drop l.at B)) part.to c.args.pass.now.numbers k =
     record { joins = c.in_ok-join_list.ensures.joins; numbers = c.in_ok-join_list.ensures.numbers; begins = c.in_ok-join_list.ensures.begins } in
     let next = next_definition l B infos c.requires.text c.requires.form is in
-    let there = c.go_to.ensures.there (rw (c.in_ok-put_before.ensures.run.at, c.in_ok-join_list.ensures.at) (item_behind next c.requires.inside)) in
+    let run : HasRun c.join_list.new.level c.match-level.level (with_infos infos (open_of c.join_list.new.level.run)) = search rules in
+    let there = c.go_to.ensures.there (rw (run.at, c.in_ok-join_list.ensures.at) (item_behind next c.requires.inside)) in
     record {
       step = search rules;
-      read = plain_item l c.join_list.new.level c.put_before.new.level c.go_to.new.self B mark Definition (Open waits part None) (λ w. item_with w B DefinitionListItem DefinitionTag line part heads.items notes.items) part.to
-          c.args.pass.now.numbers k m refl next opened c.in_ok-put_before.ensures.run c.go_to.ensures.moved there
+      read = plain_item l c.join_list.new.level c.match-level.level c.go_to.new.self B mark Definition (Open waits part None) (λ w. item_with w B DefinitionListItem DefinitionTag line part heads.items notes.items) part.to
+          c.args.pass.now.numbers k m refl next opened run c.go_to.ensures.moved there
           (λ r h. body_means c.go_to.new.self B line DefinitionListItem DefinitionTag heads.items notes.items waits part r m h (λ ns. refl))
           (definition_made (within_at l.depth) B l.at infos (drop l.at B) k refl c.number_at-line.ensures c.line-term.ensures.text is c.in_ok-heads.ensures.read);
       paid = paid_item 25 waits part start start mid c.line-term.new.looks (omega arith) next (definition_is B l.at infos is)
-          (found_below B l.at start mid is c.indented-body.ensures.reach c.indented-body.ensures.low) refl tt refl (c.go_to.ensures.moved.depth ∙ c.in_ok-put_before.ensures.run.depth ∙ opened_depth mark refl opened)
+          (found_below B l.at start mid is c.indented-body.ensures.reach c.indented-body.ensures.low) refl tt refl (c.go_to.ensures.moved.depth ∙ run.depth ∙ opened_depth mark refl opened)
           there (omega arith) (omega (arith, c.in_ok-join_list.ensures.looked.0, c.line-term.ensures.looks)) (omega (arith, c.in_ok-join_list.ensures.looked.1, c.line-term.ensures.looks));
     }

@@ -20,10 +20,10 @@ returns-in_err-close c =
     let B = block_of c.args.view.now in
     let l = c.args.level.now in
     close_refuses c.in_err-close.field-0.0 (search rules) c.in_err-close.ensures.closed
-    (λ line h. sym (ap (reads l B) c.in_ok-text.ensures.numbers) ∙ line_refused _ (sym c.lines_end_at.ensures ∙ c.if-lines_end_at.false) (next_of (Line c.args.marker) l B c.requires.begun tt) h)
+    (λ line h. sym (ap (reads l B) c.in_ok-text.ensures.numbers) ∙ line_refused _ (search rules) (next_of (Line c.args.marker) l B c.requires.begun tt) h)
 
-pub returns-then-lines_end_at : goal.returns-then-lines_end_at
-returns-then-lines_end_at c =
+pub returns-then-matches : goal.returns-then-matches
+returns-then-matches c =
     let B = block_of c.args.view.now in
     let l = c.args.level.now in
     let m = c.args.marker in
@@ -39,7 +39,7 @@ returns-then-lines_end_at c =
     record {
       step = search rules;
       read = ap (reads new B) c.in_ok-text.ensures.numbers
-          ∙ line_joined bar c.args.pass.now.numbers (sym c.lines_end_at.ensures ∙ c.if-lines_end_at.true) next line
+          ∙ line_joined bar c.args.pass.now.numbers (search rules) next line
           (subst (λ i. HasLine l new (line_added bar i (open_of l.run))) stop put.0) (put.1 (omega (arith, stop, some)) ∙ stop);
       paid = line_paid c.indented_end-end.result _ _ _ _ c.requires.inside c.requires.begun stop put.0.depth put.1 c.indented_end-end.ensures.looked
           c.in_ok-text.ensures.looked (omega arith) (omega arith);
@@ -65,7 +65,7 @@ returns c =
     let put = c.in_ok-add_line-2.ensures.line in
     record {
       step = search rules;
-      read = line_begun opened bar l.at (sym c.lines_end_at.ensures ∙ c.if-lines_end_at.false) next line (has_ended B _ closed) run
+      read = line_begun opened bar l.at (search rules) next line (has_ended B _ closed) run
           (subst (λ i. HasLine opened new (line_added bar i (open_of opened.run))) stop put.0) (put.1 (omega (arith, stop, some, c.close.ensures.at)) ∙ stop)
           ∙ ap (reads l B) c.in_ok-text.ensures.numbers;
       paid = line_paid c.indented_end-end.result _ _ _ _ c.requires.inside c.requires.begun stop (put.0.depth ∙ closed.depth) (λ gone. put.1 (omega (arith, c.close.ensures.at, gone)))

@@ -20,16 +20,11 @@ loop-listed-init c = (c.utf8.text, refl, search rules)
 pub skip-rest-requires-text-text : goal.skip-rest-requires-text-text
 skip-rest-requires-text-text c κs = c.loop-listed.invariant.0
 
-pub option_of-requires : goal.option_of-requires
-option_of-requires c =
-    left (chars c.args.text.now) (chars c.loop-listed.rest.now) (chars c.skip-rest.result.now) c.loop-listed.passed c.in-Some.listed.string.from c.saturating_sub.result c.max-passed.result
-    c.loop-listed.invariant.1 c.saturating_sub.ensures c.max-passed.ensures c.skip-rest.ensures.chars
-
 pub loop-listed-preserved : goal.loop-listed-preserved
 loop-listed-preserved c = (
   c.skip-rest.utf8,
   left (chars c.args.text.now) (chars c.loop-listed.rest.now) (chars c.skip-rest.result.now) c.loop-listed.passed c.in-Some.listed.string.from c.saturating_sub.result c.max-passed.result
       c.loop-listed.invariant.1 c.saturating_sub.ensures c.max-passed.ensures c.skip-rest.ensures.chars,
-  one_more (option_in (chars c.args.text.now) c.args.line) c.loop-listed.options.items c.push.new.self.items c.in_ok-option_of.field-0 c.in-Some.listed _ _ _
-      c.in-Some.ensures.steps.0 c.in_ok-option_of.ensures c.in_ok-push.ensures.items c.loop-listed.invariant.2,
+  one_more (option_in (chars c.args.text.now) c.args.line) c.loop-listed.options.items c.push.new.self.items c.match-listed.made c.in-Some.listed _ _ _
+      c.in-Some.ensures.steps.0 (search rules) c.in_ok-push.ensures.items c.loop-listed.invariant.2,
 )
