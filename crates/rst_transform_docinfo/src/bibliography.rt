@@ -233,7 +233,14 @@ impl Bibliography {
             made(context.alloc, row, name.as_str(), &field)?
         };
         match made {
-            Some(node) => self.put(row, node),
+            Some(node) => {
+                match row {
+                    Row::Topic(TopicKind::Dedication) => self.dedication = Some(node),
+                    Row::Topic(TopicKind::Abstract) => self.abstract_ = Some(node),
+                    _ => self.info.push(node)?,
+                }
+                Ok(())
+            }
             None => match row {
                 Row::Generic => Ok(self.info.push(stays(context.alloc, name.as_str(), field)?)?),
                 _ => Ok(self.info.push(out_of_form(name.as_str(), field, context)?)?),
@@ -251,18 +258,6 @@ impl Bibliography {
             Row::Topic(TopicKind::Abstract) => mem::replace(&mut self.has_abstract, true),
             _ => false,
         }
-    }
-
-    /// Puts what a field of a row became to its place.
-    fn put(&mut self, row: Row, node: Node) -> Result<()>
-        ensures { Gives (λ _. (reports : List Report) → so_far self.new reports ≡ with_element row node (so_far self.old reports)) result }
-    {
-        match row {
-            Row::Topic(TopicKind::Dedication) => self.dedication = Some(node),
-            Row::Topic(TopicKind::Abstract) => self.abstract_ = Some(node),
-            _ => self.info.push(node)?,
-        }
-        Ok(())
     }
 
     /// The `docinfo`, if it isn't empty, the dedication and the abstract; `line` is that of the field list.
