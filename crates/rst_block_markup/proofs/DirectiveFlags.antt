@@ -16,7 +16,7 @@ use Rattle.rst_markup_directives.specs.declared.fault.DirectiveFault.TheVariants
 use Rattle.rst_markup_directives.specs.declared.found.Content.{Content}
 use Rattle.rst_markup_directives.specs.declared.found.Place.{Place}
 use Rattle.rst_markup_directives.specs.declared.name.Name.{Name}
-use Rattle.rst_markup_directives.specs.declared.name.Name.TheVariants.{Attention, Caution, Danger, Error, Hint, Important, Note, Tip, Warning, Admonition, Topic, Image, Figure, Replace, Code}
+use Rattle.rst_markup_directives.specs.declared.name.Name.TheVariants.{Replace}
 use Rattle.rst_block_markup.specs.MarkupSteps.{is_replacement}
 
 -- the fault of the content of a directive of this name is the same, whether its block is a single paragraph or not

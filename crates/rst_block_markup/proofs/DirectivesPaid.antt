@@ -15,7 +15,7 @@ use Rattle.rst_markup_directives.specs.Layout.{begins_field, before_field, layou
 use Rattle.rst_markup_directives.specs.Lines.{behind_blank, joined}
 use Rattle.rst_markup_directives.specs.Options.{Choice}
 use Rattle.rst_markup_directives.specs.Wrong.{Wrong, Fault, many_arguments, and_then, unless, fault_in}
-use Rattle.rst_markup_directives.specs.declared.argument.Argument.TheVariants.{Absent, Title, Uri, Language}
+use Rattle.rst_markup_directives.specs.declared.argument.Argument.TheVariants.{Title}
 use Rattle.rst_markup_directives.specs.declared.fault.DirectiveFault.{DirectiveFault}
 use Rattle.rst_markup_directives.specs.declared.found.Content.{Content}
 use Rattle.rst_markup_directives.specs.declared.found.Directive.{Directive}

@@ -32,14 +32,14 @@ use Rattle.rst_block_markup.specs.MarkupSteps.{is_markup, markup_reads, reads_wi
 use Rattle.rst_block_state.specs.Meanings.{joining_in, open_of, within_at, done_of, reads, reads_from, resumed, comes}
 use Rattle.rst_block_state.specs.Numbered.{Numbered, then_read, ◌>>=◌, just, before}
 use Rattle.rst_block_state.specs.OpenBlocks.{IsMoved, HasRun}
-use Rattle.rst_block_state.specs.Rest.{OpenRun, no_run, open_list, open_lines, open_markup, end_of_run, joining_with, rest, rest_with}
+use Rattle.rst_block_state.specs.Rest.{OpenRun, open_markup, end_of_run, joining_with, rest, rest_with}
 use Rattle.rst_block_state.specs.RestLaws.{found_as}
 use Rattle.rst_block_state.specs.Texts.{lines_in}
 use Rattle.rst_block_state.specs.Titles.{Item, plain}
 use Rattle.rst_block_state.specs.declared.open_block.OpenBlock.{OpenBlock}
 use Rattle.rst_block_state.specs.declared.waits.Waits.{Waits}
 use Rattle.rst_block_state.specs.declared.run.ListKind.{ListKind}
-use Rattle.rst_block_state.specs.declared.run.ListKind.TheVariants.{Bullet, Enumerated, Definition, Field, OptionItem}
+use Rattle.rst_block_state.specs.declared.run.ListKind.TheVariants.{Bullet}
 use Rattle.rst_block_state.specs.declared.run.Run.{Run}
 use Rattle.rst_block_state.specs.declared.run.Run.TheVariants.{None as NoRun, List as ListRun, Lines, Explicit as ExplicitRun}
 use Rattle.rst_block_state.specs.declared.step.Step.TheVariants.{Open}

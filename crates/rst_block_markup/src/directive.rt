@@ -81,13 +81,6 @@ pub(crate) fn directive_at(
     )?)
 }
 
-/// Whether a directive of this name is a replacement text.
-fn is_replacement(name: Option<Name>) -> bool
-    ensures { result ≡ is_replacement name }
-{
-    matches!(name, Some(Name::Replace))
-}
-
 /// Whether the block of a replacement text is a single paragraph, which counts for no other directive.
 fn is_paragraph(name: Option<Name>, view: &View<'_>, block: Part, looks: &mut Looks) -> bool
     requires block { IsBlock (block_of view.now) block }
@@ -95,7 +88,7 @@ fn is_paragraph(name: Option<Name>, view: &View<'_>, block: Part, looks: &mut Lo
         ≡ directives.directive_of name B at block place (is_single_paragraph (lines_in (block_of view.now) block)) }
     ensures looked { Looked 0 (block.to - block.from + 6) looks.old looks.new }
 {
-    if is_replacement(name) {
+    if matches!(name, Some(Name::Replace)) {
         return is_single_paragraph(&inside(view, block), looks);
     }
     false
@@ -189,20 +182,6 @@ pub(crate) fn wrong_directive(
     )?)
 }
 
-/// Whether a directive of this name holds program code.
-fn is_code(name: Name) -> bool
-    ensures { result ≡ directives.is_code_name name }
-{
-    matches!(name, Name::Code)
-}
-
-/// Whether a directive of this name is a figure.
-fn is_figure(name: Name) -> bool
-    ensures { result ≡ is_figure name }
-{
-    matches!(name, Name::Figure)
-}
-
 /// What a right directive leaves, or the block that is read for it.
 fn directive_nodes(
     view: &View<'_>,
@@ -257,7 +236,7 @@ fn plain_block(
     ensures { let few = found.now.content.second.to - found.now.content.second.from in
         IsDirectiveRead few (block_of view.now) level.old pass.old found.now given.nothing level.new pass.new result }
 {
-    if is_code(found.name) {
+    if matches!(found.name, Name::Code) {
         return code_nodes(view, level, found, None, pass);
     }
     let line = number_at(view, level.at);
@@ -277,7 +256,7 @@ fn image_block(
     ensures { (pass : Pass) → let few = found.now.end - level.old.at in
         IsDirectiveRead few (block_of view.now) level.old pass found.now (given.uri (chars uri.now)) level.new pass result }
 {
-    if is_figure(found.name) {
+    if matches!(found.name, Name::Figure) {
         return figure_block(alloc, view, level, found, uri);
     }
     let line = number_at(view, level.at);
@@ -349,7 +328,8 @@ fn code_nodes(
     put(level, node, found.end)
 }
 
-/// An admonition or a topic with its title and the messages of that.
+/// An admonition or a topic with its title and the messages of that. The title of an admonition gives its class, unless the options
+/// do.
 fn titled(
     view: &View<'_>,
     found: &Found,
@@ -378,19 +358,12 @@ fn titled(
         &mut pass.numbers,
     )?;
     let node = directive_element(pass.alloc, found.name, found.options.as_slice(), line)?;
-    let node = titled_element(pass.alloc, found.name, node, &title.element)?;
+    let node = match found.name {
+        Name::Admonition => with_title_class(pass.alloc, node, &title.element)?,
+        _ => node,
+    };
     let mut nodes = alone(pass.alloc, title.element)?;
     append(&mut nodes, title.notes)?;
     let node = filled(node, nodes)?;
     Ok(node)
-}
-
-/// The element of a directive with a title: the title of an admonition gives its class, unless the options do.
-fn titled_element(alloc: Global, name: Name, element: Node, title: &Node) -> Result<Node, TreeFault>
-    ensures { faults.Gives (λ node. node ≡ titled_element name element title.now) result }
-{
-    match name {
-        Name::Admonition => with_title_class(alloc, element, title),
-        _ => Ok(element),
-    }
 }

@@ -51,13 +51,6 @@ pub fn explicit_markup(view: &View<'_>, level: &mut OpenBlock, pass: &mut Pass) 
     markup_of(view, level, found, end, pass)
 }
 
-/// Whether explicit markup is open.
-fn is_markup(run: &Run) -> bool
-    ensures { result ≡ is_markup (open_of run.now) }
-{
-    matches!(run, Run::Explicit { .. })
-}
-
 /// Opens explicit markup up to `end`, before which any other open run ends.
 fn begin_markup(view: &View<'_>, level: &mut OpenBlock, end: usize, pass: &mut Pass) -> Result<()>
     ensures at { level.new.at ≡ level.old.at }
@@ -68,7 +61,7 @@ fn begin_markup(view: &View<'_>, level: &mut OpenBlock, end: usize, pass: &mut P
     ensures run { IfOk result (λ _. pass.new.looks + run_looks level.new.run ≤ pass.old.looks + run_looks level.old.run + 1) }
     ensures low { capped pass.old.looks ≤ pass.new.looks }
 {
-    if is_markup(&level.run) {
+    if matches!(level.run, Run::Explicit { .. }) {
         level.run = Run::Explicit { end };
         return Ok(());
     }
@@ -107,7 +100,10 @@ fn markup_of(
         Explicit::Target { name, text } => target_block(view, level, Some(name), text, pass),
         Explicit::Anonymous { text } => target_block(view, level, None, text, pass),
         Explicit::Comment { text, cause } => comment(view, level, text, cause, pass),
-        Explicit::EmptyComment => empty_comment(view, level, end, pass),
+        Explicit::EmptyComment => {
+            let node = preserved(pass.alloc, Tag::Comment, number_at(view, level.at), "")?;
+            put(level, node, end)
+        }
         Explicit::Directive(invocation) => directive_block(view, level, &invocation, pass),
         Explicit::Substitution { name, held, .. } => {
             let name = label_text(pass.alloc, view, level.at, name, &mut pass.looks)?;
@@ -135,23 +131,16 @@ fn labelled_block(
 {
     let line = number_at(view, level.at);
     let label = label_text(pass.alloc, view, level.at, label, &mut pass.looks)?;
-    let element = labelled(pass.alloc, kind, label.as_str(), line)?;
+    let element = match kind {
+        LabelKind::Footnote => footnote(pass.alloc, label.as_str(), line)?,
+        LabelKind::Citation => citation(pass.alloc, label.as_str(), line)?,
+    };
     level.go_to(body.to);
     Ok(Step::Open {
         waits: Waits::Element(element),
         first: body,
         second: None,
     })
-}
-
-/// The element of a footnote or of a citation, which holds its label so far.
-fn labelled(alloc: Global, kind: LabelKind, label: &str, line: usize) -> Result<Node, TreeFault>
-    ensures { faults.Gives (λ node. node ≡ markup.labelled_node kind label.now line) result }
-{
-    match kind {
-        LabelKind::Footnote => footnote(alloc, label, line),
-        LabelKind::Citation => citation(alloc, label, line),
-    }
 }
 
 /// A target, with a name or anonymous.
@@ -171,32 +160,15 @@ fn target_block(
 {
     let alloc = pass.alloc;
     let lines = joined(alloc, &inside(view, text), &mut pass.looks)?;
-    let element = target_of(alloc, view, level.at, name, lines.as_str(), &mut pass.looks)?;
-    put(level, element, text.to)
-}
-
-/// The target in the line at place `at`, which leads to a text.
-fn target_of(
-    alloc: Global,
-    view: &View<'_>,
-    at: usize,
-    name: Option<Characters>,
-    text: &str,
-    looks: &mut Looks,
-) -> Result<Node>
-    requires inside { at < length (block_of view.now) }
-    ensures node { let X = drop at (block_of view.now) in
-        blocks.Gives (λ node. node ≡ target_node (option_map (excerpt (front_text X)) name) text.now (first_number X)) result }
-    ensures looked { Looked 0 1 looks.old looks.new }
-{
-    let line = number_at(view, at);
-    match name {
+    let line = number_at(view, level.at);
+    let element = match name {
         Some(name) => {
-            let name = label_text(alloc, view, at, name, looks)?;
-            Ok(target(alloc, Some(name.as_str()), text, line)?)
+            let name = label_text(alloc, view, level.at, name, &mut pass.looks)?;
+            target(alloc, Some(name.as_str()), lines.as_str(), line)?
         }
-        None => Ok(target(alloc, None, text, line)?),
-    }
+        None => target(alloc, None, lines.as_str(), line)?,
+    };
+    put(level, element, text.to)
 }
 
 /// A comment, with the message on one that isn't meant as such.
@@ -221,22 +193,6 @@ fn comment(
     level.push(node)?;
     put_cause(pass.alloc, level, cause, line)?;
     Ok(Step::Next)
-}
-
-/// An empty comment.
-fn empty_comment(
-    view: &View<'_>,
-    level: &mut OpenBlock,
-    end: usize,
-    pass: &mut Pass,
-) -> Result<Step>
-    requires later { level.old.at < end }
-    ensures { let B = block_of view.now in
-        let node = preserved_node CommentTag (first_number (drop level.old.at B)) [] in
-        IsPartRead 0 B level.old pass.old (just (node ∷ [])) [] end level.new pass.new result }
-{
-    let node = preserved(pass.alloc, Tag::Comment, number_at(view, level.at), "")?;
-    put(level, node, end)
 }
 
 /// The characters of a label or name in the first line of explicit markup.
@@ -268,26 +224,10 @@ pub(crate) fn put(level: &mut OpenBlock, node: Node, end: usize) -> Result<Step>
 fn put_cause(alloc: Global, level: &mut OpenBlock, cause: CommentCause, line: usize) -> Result<()>
     ensures more { blocks.Gives (λ _. blocks.HasMore level.old level.new (markup.cause_notes cause line)) result }
 {
-    match cause {
-        CommentCause::Plain => Ok(()),
-        CommentCause::MalformedTarget => put_warning(
-            alloc,
-            level,
-            line,
-            "malformed hyperlink target.",
-        ),
-        CommentCause::MalformedSubstitution => put_warning(
-            alloc,
-            level,
-            line,
-            "malformed substitution definition.",
-        ),
-    }
-}
-
-/// Puts a warning behind the last node.
-fn put_warning(alloc: Global, level: &mut OpenBlock, line: usize, text: &str) -> Result<()>
-    ensures more { blocks.Gives (λ _. blocks.HasMore level.old level.new (said Warning line text.now ∷ [])) result }
-{
+    let text = match cause {
+        CommentCause::Plain => return Ok(()),
+        CommentCause::MalformedTarget => "malformed hyperlink target.",
+        CommentCause::MalformedSubstitution => "malformed substitution definition.",
+    };
     level.push(message(alloc, Level::Warning, line, text, None)?)
 }

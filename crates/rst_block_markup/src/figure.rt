@@ -97,7 +97,7 @@ fn front_of(node: Node) -> Front
             children,
             line,
         } => {
-            let count = text_messages(&attrs);
+            let count = attrs.number(Key::TextMessages).unwrap_or(0);
             let caption = Node::Element {
                 tag: Tag::Caption,
                 attrs,
@@ -110,27 +110,15 @@ fn front_of(node: Node) -> Front
             tag: Tag::Comment,
             children,
             ..
-        } => comment_front(&children),
+        } => {
+            if children.len() == 0 {
+                Front::Missing
+            } else {
+                Front::Wrong
+            }
+        }
         _ => Front::Wrong,
     }
-}
-
-/// The same of a comment that holds these nodes.
-fn comment_front(children: &Children) -> Front
-    ensures { beginning_in result ≡ spec.comment_beginning children.now }
-{
-    if children.len() == 0 {
-        Front::Missing
-    } else {
-        Front::Wrong
-    }
-}
-
-/// How many messages of its text follow a paragraph.
-fn text_messages(attrs: &Attrs) -> u64
-    ensures { result ≡ spec.message_count attrs.now }
-{
-    attrs.number(Key::TextMessages).unwrap_or(0)
 }
 
 /// The legend of some nodes, if there are some.

@@ -1,6 +1,5 @@
 //! Blocks in blocks that are one paragraph (Directives, 'Replacement Text').
 ghost use Rattle.std.specs.Prelude.{◌≡◌, ◌+◌, ◌-◌, ◌<◌, ◌≤◌, length, true, false};
-ghost use Rattle.std.specs.Str.{chars};
 ghost use Rattle.rst_text.specs.Looked.{Looked, capped};
 ghost use Rattle.rst_text.specs.Shown.{block_of};
 ghost use Rattle.rst_markup_blocks.specs.Conditions.{next_text};
@@ -39,26 +38,17 @@ fn begins_paragraph(view: &View<'_>, looks: &mut Looks) -> bool
 {
     let text = view.line(0, looks);
     let next = below_text(view, 0, 1, looks);
-    begins_text(view, next, looks)
-        && matches!(
-            text_form(text, next),
-            TextForm::Paragraph | TextForm::ShortUnderline
-        )
-}
-
-/// Whether the first line of a block in a block, before the next, begins text.
-fn begins_text(view: &View<'_>, next: &str, looks: &mut Looks) -> bool
-    requires inside { 0 < length (block_of view.now) }
-    requires next { chars next.now ≡ next_text (block_of view.now) }
-    ensures text { result ≡ paragraphs.begins_text (block_of view.now) }
-    ensures looked { Looked 1 (3 + overline_looks (next_text (block_of view.now))) looks.old looks.new }
-{
-    match begun_at(view, 0, looks) {
+    let begins = match begun_at(view, 0, looks) {
         Begun::Text => true,
         Begun::Adornment(mark) => matches!(
             adorned_at(view, 0, false, mark, next, looks),
             Adorned::Text | Adorned::ShortAdornment
         ),
         _ => false,
-    }
+    };
+    begins
+        && matches!(
+            text_form(text, next),
+            TextForm::Paragraph | TextForm::ShortUnderline
+        )
 }

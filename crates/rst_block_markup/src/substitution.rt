@@ -111,16 +111,13 @@ fn holding(
     let line = number_at(view, at);
     match directive_at(view, at, invocation, Place::Substitution, pass)? {
         Directive::Wrong { fault, .. } => {
-            let error = wrong_definition(
-                pass.alloc,
-                view,
-                at,
-                end,
-                &fault,
-                name.as_str(),
-                invocation,
-                &mut pass.looks,
-            )?;
+            let written = excerpt(pass.alloc, view.line(at, &mut pass.looks), invocation.name)?;
+            // Where the definition may not hold the directive, its own name is told.
+            let told = match fault {
+                DirectiveFault::NotInSubstitution => name.as_str(),
+                _ => written.as_str(),
+            };
+            let error = wrong_directive(pass.alloc, view, at, end, &fault, told, &mut pass.looks)?;
             put(level, error, end)
         }
         Directive::Found {
@@ -189,43 +186,6 @@ fn replacement(
     })
 }
 
-/// The message on a substitution definition that holds a wrong directive. One that may not stand here is told by the
-/// definition's name, else the directive's name is told.
-fn wrong_definition(
-    alloc: Global,
-    view: &View<'_>,
-    at: usize,
-    end: usize,
-    fault: &DirectiveFault,
-    name: &str,
-    invocation: &Invocation,
-    looks: &mut Looks,
-) -> Result<Node>
-    requires inside { at < length (block_of view.now) }
-    ensures error { let B = block_of view.now in
-        let X = drop at B in
-        let told = directives.faulty_name (fault_in fault.now) name.now (texts.excerpt (front_text X) invocation.now.name) in
-        let text = fault_text (fault_in fault.now) told in
-        let source = texts.source_of B (record { start = at; stop = end }) in
-        blocks.Gives (λ node. node ≡ texts.shown Error (first_number X) text source) result }
-    ensures most { looks.new ≤ looks.old + 1 + (end - at) }
-    ensures each { IfOk result (λ _. capped (looks.old + 1 + length (slice_range (block_of view.now) at end)) ≤ looks.new) }
-{
-    let written = excerpt(alloc, view.line(at, looks), invocation.name)?;
-    let name = faulty_name(fault, name, written.as_str());
-    wrong_directive(alloc, view, at, end, fault, name, looks)
-}
-
-/// The name that the message on a wrong directive in a definition tells: the definition's, where that may not hold the directive.
-fn faulty_name<'a>(fault: &DirectiveFault, name: &'a str, written: &'a str) -> &'a str
-    ensures { result.now ≡ directives.faulty_name (fault_in fault.now) name.now written.now }
-{
-    match fault {
-        DirectiveFault::NotInSubstitution => name,
-        _ => written,
-    }
-}
-
 /// A substitution definition with its replacement text, or the message on one that may not stand there. The definition is marked
 /// as a new node. Its text was marked in its paragraph, but no replacement text stands in another: so nothing is marked more than
 /// twice.
@@ -262,31 +222,14 @@ fn first_paragraph(alloc: Global, nodes: MarkedNodes) -> Children
 {
     let mut rest = nodes.into_marked();
     while let Some(node) = rest.next(alloc) {
-        if let Some(children) = paragraph_children(node.into_root()) {
+        if let Node::Element {
+            tag: Tag::Paragraph,
+            children,
+            ..
+        } = node.into_root()
+        {
             return children;
         }
     }
     Children::new(alloc)
-}
-
-/// The nodes of a paragraph; another node gives none.
-fn paragraph_children(node: Node) -> Option<Children>
-    ensures { (others : List Node)
-        → option_map_or nodes_of result (directives.first_paragraph others) ≡ directives.first_paragraph (node ∷ others) }
-{
-    match node {
-        Node::Element { tag, children, .. } => children_if(tag, children),
-        Node::Text(_) => None,
-    }
-}
-
-/// The nodes of an element with this tag, if it is a paragraph.
-fn children_if(tag: Tag, children: Children) -> Option<Children>
-    ensures { (others : List Node)
-        → option_map_or nodes_of result others ≡ directives.children_of tag children others }
-{
-    match tag {
-        Tag::Paragraph => Some(children),
-        _ => None,
-    }
 }

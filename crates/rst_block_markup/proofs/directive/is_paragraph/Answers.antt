@@ -1,4 +1,4 @@
-use Rattle.std.proofs.Common.{false, sym, ◌∙◌}
+use Rattle.std.proofs.Common.{false, rules}
 use Rattle.rst_text.specs.Shown.{block_of}
 use Rattle.rst_block_state.specs.Paragraphs.{is_single_paragraph}
 use Rattle.rst_block_state.specs.Texts.{lines_in}
@@ -7,4 +7,4 @@ use Rattle.rst_block_markup.proofs.directive.is_paragraph.Goals as goal
 
 pub returns-clause-flag : goal.returns-clause-flag
 returns-clause-flag c = λ B at place.
-    flag_free c.args.name B at c.args.block place false (is_single_paragraph (lines_in (block_of c.args.view.now) c.args.block)) (sym c.is_replacement.ensures ∙ c.if-is_replacement.false)
+    flag_free c.args.name B at c.args.block place false (is_single_paragraph (lines_in (block_of c.args.view.now) c.args.block)) (search rules)

@@ -1,12 +1,16 @@
-use Rattle.std.proofs.Common.{◌≡◌, ◌-◌, ◌*◌, ◌≤◌, arith, refl, sym, ap, ◌∙◌}
+use Rattle.std.proofs.Common.{◌≡◌, [], ◌∷◌, ◌-◌, ◌*◌, ◌≤◌, arith, refl, sym, ap, ◌∙◌}
 use Rattle.rst_text.specs.Block.{Block}
 use Rattle.rst_text.specs.Shown.{block_of}
+use Rattle.rst_tree.specs.declared.node.Node.{Node}
+use Rattle.rst_tree.specs.declared.tag.Tag.TheVariants.{Comment}
 use Rattle.rst_markup_blocks.specs.Explicit.{explicit_end}
+use Rattle.rst_block_nodes.specs.Elements.{preserved_node}
 use Rattle.rst_block_state.specs.Directives.{substitution_nodes}
 use Rattle.rst_block_state.specs.Meanings.{within_at}
+use Rattle.rst_block_state.specs.Numbered.{just}
 use Rattle.rst_block_state.proofs.NextConstructs.{span_to}
 use Rattle.rst_block_markup.proofs.MarkupPaid.{form_in, held_in, form_read}
-use Rattle.rst_block_markup.proofs.PartLemmas.{part_as}
+use Rattle.rst_block_markup.proofs.PartLemmas.{part_as, put_reads}
 use Rattle.rst_block_markup.proofs.explicit.markup_of.Goals as goal
 
 pub directive_block-requires-clause-begins : goal.directive_block-requires-clause-begins
@@ -45,8 +49,11 @@ returns-in-Comment c =
     let ends : c.args.end ≡ c.in-Comment.text.to = c.requires.end ∙ ap (explicit_end c.args.level.now.at) c.in-Comment.is in
     form_read c.comment.ensures c.in-Comment.is (sym ends) refl (omega arith) (omega (arith, c.requires.later, in_line, ends))
 
-pub returns-in-EmptyComment : goal.returns-in-EmptyComment
-returns-in-EmptyComment c = form_read c.empty_comment.ensures c.in-EmptyComment.is refl refl (omega arith) (omega arith)
+pub returns-in_ok-node-in-EmptyComment : goal.returns-in_ok-node-in-EmptyComment
+returns-in_ok-node-in-EmptyComment c =
+    let node = c.in_ok-node-in-EmptyComment.ensures ∙ ap (λ line. preserved_node Comment line []) c.number_at.ensures in
+    form_read {few = 0} {mid = c.args.pass.now} (put_reads c.in_ok-node-in-EmptyComment.node c.put.ensures c.requires.later (ap (λ (x : Node). just (x ∷ [])) node) refl refl (omega arith) (omega arith)) c.in-EmptyComment.is refl refl
+    (omega arith) (omega arith)
 
 pub returns-in-Directive : goal.returns-in-Directive
 returns-in-Directive c =

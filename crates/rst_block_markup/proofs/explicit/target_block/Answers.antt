@@ -1,5 +1,7 @@
-use Rattle.std.proofs.Common.{◌≡◌, [], ◌∷◌, drop, option_map, arith, refl, ap, ◌∙◌}
+use Rattle.std.proofs.Common.{◌≡◌, [], ◌∷◌, drop, option_map, arith, rules, refl, ap, ◌∙◌}
+use Rattle.std.specs.Prelude.{string_bytes}
 use Rattle.rst_text.specs.Block.{Block, first_number, front_text}
+use Rattle.rst_text.specs.Looked.{Looked}
 use Rattle.rst_text.specs.Shown.{block_of}
 use Rattle.rst_tree.specs.declared.node.Node.{Node}
 use Rattle.rst_block_nodes.specs.Targets.{target_node}
@@ -12,7 +14,9 @@ pub returns : goal.returns
 returns c =
     let B : Block = block_of c.args.view.now in
     let X : Block = drop c.args.level.now.at B in
-    let node : c.in_ok-element.element ≡ target_node (option_map (excerpt (front_text X)) c.args.name) (spelled (lines_in B c.args.text)) (first_number X) =
-    c.in_ok-element.ensures.node ∙ ap (λ t. target_node (option_map (excerpt (front_text X)) c.args.name) t (first_number X)) (c.as_str.ensures.value ∙ c.in_ok-lines.ensures.bytes ∙ ap spelled c.inside.ensures.block) in
-    put_reads c.in_ok-element.element c.put.ensures c.requires.later (ap (λ (x : Node). just (x ∷ [])) node) refl refl
-    (omega (arith, c.in_ok-lines.ensures.each, c.target_of.ensures.looked.0)) (omega (arith, c.joined.ensures.most, c.inside.ensures.lines, c.target_of.ensures.looked.1))
+    let made : c.match-name.element ≡ target_node (option_map (excerpt (front_text X)) c.args.name) (string_bytes c.in_ok-lines.lines) (first_number X) = search rules in
+    let looked : Looked 0 1 c.joined.new.looks c.match-name.pass.looks = search rules in
+    let node : c.match-name.element ≡ target_node (option_map (excerpt (front_text X)) c.args.name) (spelled (lines_in B c.args.text)) (first_number X) =
+    made ∙ ap (λ t. target_node (option_map (excerpt (front_text X)) c.args.name) t (first_number X)) (c.in_ok-lines.ensures.bytes ∙ ap spelled c.inside.ensures.block) in
+    put_reads c.match-name.element c.put.ensures c.requires.later (ap (λ (x : Node). just (x ∷ [])) node) refl (search rules)
+    (omega (arith, c.in_ok-lines.ensures.each, looked.0)) (omega (arith, c.joined.ensures.most, c.inside.ensures.lines, looked.1))

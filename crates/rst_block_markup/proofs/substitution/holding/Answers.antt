@@ -38,7 +38,7 @@ returns-in_ok-error-in-Wrong c =
     let error : c.in_ok-error-in-Wrong.error ≡ shown Error (first_number (drop l.at B)) (fault_text fault (directives.faulty_name fault name written)) (source_of B s) = search rules in
     put_reads c.in_ok-error-in-Wrong.error c.put.ensures c.requires.later
     (ap (λ (x : Node). just (x ∷ [])) error ∙ ap (λ (o : Outcome). directives.holding o (within_at l.depth) B s name written) same) (ap (λ (o : Outcome). definition_blocks o B) same) c.directive_at.ensures.numbers
-    (omega (arith, looked.0, c.in_ok-error-in-Wrong.ensures.each)) (omega (arith, looked.1, c.wrong_definition.ensures.most, c.requires.begins.0, c.requires.begins.1, c.requires.later))
+    (omega (arith, looked.0, c.in_ok-error-in-Wrong.ensures.each)) (omega (arith, looked.1, c.wrong_directive.ensures.most, c.requires.begins.0, c.requires.begins.1, c.requires.later))
 
 pub returns-in_ok-shown-in-Uri : goal.returns-in_ok-shown-in-Uri
 returns-in_ok-shown-in-Uri c =
@@ -51,7 +51,7 @@ returns-in_ok-shown-in-Uri c =
     let known = c.in_ok-fault.ensures.outcome in
     let image = ap outcome_of found.is ∙ ap (λ (a : Argument). outcome_of (Found found.name a found.options found.content)) c.in-Uri.is in
     put_reads c.in_ok-shown-in-Uri.shown c.put-in-Uri.ensures c.requires.later
-    (image_holds outcome found.name (choices_in found.options.items) found.content (string_bytes c.in-Uri.uri) c.as_str-in-Uri.result.now c.as_str-in-Uri-2.result.now (string_bytes c.args.name)
+    (image_holds outcome found.name (choices_in found.options.items) found.content (string_bytes c.in-Uri.uri) c.as_str.result.now c.as_str-in-Uri.result.now (string_bytes c.args.name)
     (excerpt (front_text (drop l.at B)) c.args.invocation.now.name) d B (span_to l.at c.args.end) c.number_at-line.result c.in_ok-shown-in-Uri.shown (sym known ∙ image)
-    c.as_str-in-Uri.ensures.value (encodes-chars c.as_str-in-Uri.result.now c.as_str-in-Uri.utf8) c.as_str-in-Uri-2.ensures.value c.number_at-line.ensures c.in_ok-shown-in-Uri.ensures)
+    c.as_str.ensures.value (encodes-chars c.as_str.result.now c.as_str.utf8) c.as_str-in-Uri.ensures.value c.number_at-line.ensures c.in_ok-shown-in-Uri.ensures)
     (ap (λ (o : Outcome). definition_blocks o B) (sym image ∙ known)) c.directive_at.ensures.numbers (omega (arith, looked.0)) (omega (arith, looked.1, c.requires.begins.0, c.requires.begins.1, c.requires.later))
