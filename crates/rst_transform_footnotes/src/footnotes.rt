@@ -179,17 +179,6 @@ fn leftover(
     Ok(Some(place))
 }
 
-/// The message on a reference, by those on the two orders.
-fn report_of(node: &Node, numbers: Option<usize>, symbols: Option<usize>) -> Option<usize>
-    ensures { result ≡ report_of (reference_order node.now) numbers symbols }
-{
-    match reference_order(node) {
-        Some(Order::Numbers) => numbers,
-        Some(Order::Symbols) => symbols,
-        None => None,
-    }
-}
-
 /// What becomes of the linked elements, by their labels, what they find and the messages on the two orders: a reference shows the label of
 /// its footnote or fails, a label shows that of the footnote that it is in, and a footnote that was to be numbered gets its number as a name.
 fn outcomes_by(
@@ -210,17 +199,20 @@ fn outcomes_by(
             list.push(Outcome::Stays { attr, shown })?;
             continue;
         }
-        if let Some(report) = report_of(one.element, numbers, symbols) {
+        let report = match reference_order(one.element) {
+            Some(Order::Numbers) => numbers,
+            Some(Order::Symbols) => symbols,
+            None => None,
+        };
+        if let Some(report) = report {
             list.push(Outcome::Fails(report))?;
             continue;
         }
-        if matches!(
-            one.element,
-            Node::Element {
-                tag: Tag::Label,
-                ..
-            }
-        ) {
+        if let Node::Element {
+            tag: Tag::Label,
+            ..
+        } = one.element
+        {
             let shown = label_in(labels, one.outer)?;
             list.push(Outcome::Stays { attr: None, shown })?;
             continue;
