@@ -127,37 +127,19 @@ fn begin_enumerated_list(
     let kind = ListKind::Enumerated(Sequel::of(enumerator));
     let list = enumerated_list(pass.alloc, enumerator, number_at(view, at))?;
     level.begin(pass.alloc, kind, list, end)?;
-    let Some(note) = start_note(pass.alloc, view, at, enumerator, &mut pass.looks)? else {
-        return Ok(());
-    };
-    match &mut level.run {
-        Run::List(open) => Ok(push(&mut open.behind, note)?),
-        _ => Ok(()),
-    }
-}
-
-/// The message on an enumerated list that doesn't begin with the first ordinal, at the line of its first item.
-fn start_note(
-    alloc: Global,
-    view: &View<'_>,
-    at: usize,
-    enumerator: Enumerator,
-    looks: &mut Looks,
-) -> Result<Option<Node>, TreeFault>
-    requires inside { at < length (block_of view.now) }
-    ensures note { Gives (λ note. option_to_list note
-        ≡ lists.start_note enumerator (first_reading enumerator.written.ordinals) (drop at (block_of view.now))) result }
-    ensures looked { Looked 0 1 looks.old looks.new }
-{
     let ordinal = first_reading(enumerator.written.ordinals).ordinal;
     if ordinal == 1 {
-        return Ok(None);
+        return Ok(());
     }
     let from = match enumerator.format {
         Format::Parentheses => 1,
         _ => 0,
     };
-    let written = characters(alloc, view.line(at, looks), from, enumerator.written.len)?;
-    let note = start_message(alloc, written.as_str(), ordinal, number_at(view, at))?;
-    Ok(Some(note))
+    let text = view.line(at, &mut pass.looks);
+    let written = characters(pass.alloc, text, from, enumerator.written.len)?;
+    let note = start_message(pass.alloc, written.as_str(), ordinal, number_at(view, at))?;
+    match &mut level.run {
+        Run::List(open) => Ok(push(&mut open.behind, note)?),
+        _ => Ok(()),
+    }
 }

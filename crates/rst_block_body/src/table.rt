@@ -50,7 +50,12 @@ pub fn table(
     level.close(view, pass)?;
     match found {
         TableResult::Malformed { end, note } => {
-            let error = malformed(pass.alloc, view, level.at, end, note, &mut pass.looks)?;
+            let at = level.at;
+            let text = malformed_text(pass.alloc, note.detail)?;
+            let lines = source(pass.alloc, view, at, end, &mut pass.looks)?;
+            let line = number_at(view, at);
+            let shown = Some(lines.as_str());
+            let error = message(pass.alloc, Level::Error, line, text.as_str(), shown)?;
             level.go_to(end);
             level.push(error)?;
             after_table(view, level, pass)?;
@@ -58,32 +63,6 @@ pub fn table(
         }
         found => Ok(Step::Cells(found)),
     }
-}
-
-/// The message on a malformed table, with its lines.
-fn malformed(
-    alloc: Global,
-    view: &View<'_>,
-    at: usize,
-    end: usize,
-    fault: TableFault,
-    looks: &mut Looks,
-) -> Result<Node, TreeFault>
-    ensures error { let B = block_of view.now in
-        let source = source_of B (record { start = at; stop = end }) in
-        Gives (λ node. node ≡ shown Error (first_number (drop at B)) (malformed_text fault.detail) source) result }
-    ensures most { looks.new ≤ looks.old + (end - at) }
-    ensures each { IfOk result (λ _. capped (looks.old + length (slice_range (block_of view.now) at end)) ≤ looks.new) }
-{
-    let text = malformed_text(alloc, fault.detail)?;
-    let lines = source(alloc, view, at, end, looks)?;
-    message(
-        alloc,
-        Level::Error,
-        number_at(view, at),
-        text.as_str(),
-        Some(lines.as_str()),
-    )
 }
 
 /// Puts the message on a table that isn't followed by a blank line behind it.

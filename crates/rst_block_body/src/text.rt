@@ -93,9 +93,10 @@ fn underlined(view: &View<'_>, level: &mut OpenBlock, short: bool, pass: &mut Pa
     ensures looked { IfOk result (λ _. Looked 2 4 pass.old.looks pass.new.looks) }
 {
     let at = level.at;
+    let next = at.saturating_add(1);
     let end = at.saturating_add(2);
     let lines = source(pass.alloc, view, at, end, &mut pass.looks)?;
-    let under = number_at(view, at.saturating_add(1));
+    let under = number_at(view, next);
     let warning = short_warning(
         pass.alloc,
         short,
@@ -104,57 +105,21 @@ fn underlined(view: &View<'_>, level: &mut OpenBlock, short: bool, pass: &mut Pa
         lines.as_str(),
     )?;
     if level.titles() {
-        return put_title(view, level, warning, lines, pass);
+        let style = Style {
+            character: front(text_at(view, next, &mut pass.looks)).unwrap_or(' '),
+            overlined: false,
+        };
+        let text = view.line(at, &mut pass.looks);
+        let heading = heading_of(style, text, number_at(view, at), warning, lines, pass)?;
+        level.go_to(end);
+        return level.push_heading(pass.alloc, heading);
     }
-    put_unexpected(pass.alloc, view, level, warning, lines.as_str())
-}
-
-/// Puts a title over its underline behind the last node.
-fn put_title(
-    view: &View<'_>,
-    level: &mut OpenBlock,
-    warning: Option<Node>,
-    lines: String,
-    pass: &mut Pass,
-) -> Result<()>
-    requires inside { level.old.at + 1 < length (block_of view.now) }
-    requires titles { level.old.depth ≡ 0 }
-    ensures read { let X = drop level.old.at (block_of view.now) in
-        let item = titles.title_item (under_style X) (front_text X) (first_number X) warning (string_bytes lines) pass.old.numbers in
-        Gives (λ _. ReadsItems item level.old level.new (level.old.at + 2) pass.new.numbers) result }
-    ensures looked { Looked 0 2 pass.old.looks pass.new.looks }
-{
-    let at = level.at;
-    let under = text_at(view, at.saturating_add(1), &mut pass.looks);
-    let style = Style {
-        character: front(under).unwrap_or(' '),
-        overlined: false,
-    };
-    let text = view.line(at, &mut pass.looks);
-    let line = number_at(view, at);
-    let heading = heading_of(style, text, line, warning, lines, pass)?;
-    level.go_to(at.saturating_add(2));
-    level.push_heading(pass.alloc, heading)
-}
-
-/// Puts the messages on a title over its underline where none may stand.
-fn put_unexpected(
-    alloc: Global,
-    view: &View<'_>,
-    level: &mut OpenBlock,
-    warning: Option<Node>,
-    lines: &str,
-) -> Result<()>
-    requires inside { level.old.at + 1 < length (block_of view.now) }
-    ensures gone { let notes = unexpected_notes warning lines.now (drop level.old.at (block_of view.now)) in
-        Gives (λ _. HasMoreAt level.old level.new notes (level.old.at + 2)) result }
-{
-    let under = number_at(view, level.at.saturating_add(1));
     if let Some(warning) = warning {
         level.push(warning)?;
     }
     let text = "Unexpected section title.";
-    let severe = message(alloc, Level::Severe, under, text, Some(lines))?;
-    level.go_to(level.at.saturating_add(2));
+    let shown = Some(lines.as_str());
+    let severe = message(pass.alloc, Level::Severe, under, text, shown)?;
+    level.go_to(end);
     level.push(severe)
 }

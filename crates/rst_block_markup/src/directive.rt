@@ -207,7 +207,8 @@ fn directive_nodes(
     }
 }
 
-/// An admonition or a topic.
+/// An admonition or a topic: its title, the messages of that, and then its content. The title of an admonition gives its class,
+/// unless the options do.
 fn titled_block(
     view: &View<'_>,
     level: &mut OpenBlock,
@@ -221,7 +222,25 @@ fn titled_block(
         IsDirectiveRead few (block_of view.now) level.old pass.old found.now (given.title title) level.new pass.new result }
 {
     let line = number_at(view, level.at);
-    let node = titled(view, found, title, line, pass)?;
+    let lines = inside(view, title);
+    let title_line = first_line_or(&lines, line);
+    let text = joined(pass.alloc, &lines, &mut pass.looks)?;
+    let title = with_text(
+        pass.alloc,
+        Tag::Title,
+        title_line,
+        text.as_str(),
+        title_line,
+        &mut pass.numbers,
+    )?;
+    let node = directive_element(pass.alloc, found.name, found.options.as_slice(), line)?;
+    let node = match found.name {
+        Name::Admonition => with_title_class(pass.alloc, node, &title.element)?,
+        _ => node,
+    };
+    let mut nodes = alone(pass.alloc, title.element)?;
+    append(&mut nodes, title.notes)?;
+    let node = filled(node, nodes)?;
     Ok(opened(level, Waits::Element(node), found))
 }
 
@@ -326,44 +345,4 @@ fn code_nodes(
     let options = found.options.as_slice();
     let node = code_block(alloc, language, options, text.as_str(), line)?;
     put(level, node, found.end)
-}
-
-/// An admonition or a topic with its title and the messages of that. The title of an admonition gives its class, unless the options
-/// do.
-fn titled(
-    view: &View<'_>,
-    found: &Found,
-    title: Part,
-    line: usize,
-    pass: &mut Pass,
-) -> Result<Node, TreeFault>
-    requires title { IsBlock (block_of view.now) title }
-    ensures node { let lines = lines_in (block_of view.now) title in
-        let element = directive_element found.now.name (choices_in found.now.options.items) line in
-        let read = texted TitleTag (number_or line lines) (joined lines) (number_or line lines) pass.old.numbers in
-        faults.Gives (λ node. then_read (λ made. just (filled (titled_element found.now.name element made.0) (made.0 ∷ made.1))) read
-        ≡ Ok (node, pass.new.numbers)) result }
-    ensures most { pass.new.looks ≤ pass.old.looks + (title.to - title.from) }
-    ensures each { IfOk result (λ _. capped (pass.old.looks + (title.to - title.from)) ≤ pass.new.looks) }
-{
-    let lines = inside(view, title);
-    let title_line = first_line_or(&lines, line);
-    let text = joined(pass.alloc, &lines, &mut pass.looks)?;
-    let title = with_text(
-        pass.alloc,
-        Tag::Title,
-        title_line,
-        text.as_str(),
-        title_line,
-        &mut pass.numbers,
-    )?;
-    let node = directive_element(pass.alloc, found.name, found.options.as_slice(), line)?;
-    let node = match found.name {
-        Name::Admonition => with_title_class(pass.alloc, node, &title.element)?,
-        _ => node,
-    };
-    let mut nodes = alone(pass.alloc, title.element)?;
-    append(&mut nodes, title.notes)?;
-    let node = filled(node, nodes)?;
-    Ok(node)
 }

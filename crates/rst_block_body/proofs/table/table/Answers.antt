@@ -36,9 +36,10 @@ returns-in_ok-after_table-in-Malformed c =
     let t : IsNextTable l B (Malformed end fault) = next_table l B (Malformed end fault) here in
     let stop : end ≡ l.at + t.lines = t.end in
     let at : c.go_to.new.self.at ≡ end = c.go_to.ensures.there (omega (arith, c.close.ensures.at, stop, next_some t.next c.requires.inside)) in
+    let error : c.in_ok-error-in-Malformed.error ≡ shown Error (first_number (drop mid.at B)) (malformed_text fault.detail) (source_of B (span_to mid.at end)) = search rules in
     let nodes : c.in_ok-error-in-Malformed.error ∷ warned (codes "Blank line required after table.") (drop c.push.new.self.at B)
     ≡ shown Error (first_number (drop mid.at B)) (malformed_text fault.detail) (source_of B (span_to mid.at end)) ∷ warned (codes "Blank line required after table.") (drop end B) =
-    ap (λ (n : Node). n ∷ warned (codes "Blank line required after table.") (drop c.push.new.self.at B)) c.in_ok-error-in-Malformed.ensures.error
+    ap (λ (n : Node). n ∷ warned (codes "Blank line required after table.") (drop c.push.new.self.at B)) error
     ∙ ap (λ i. shown Error (first_number (drop mid.at B)) (malformed_text fault.detail) (source_of B (span_to mid.at end)) ∷ warned (codes "Blank line required after table.") (drop i B)) (c.push.ensures.at ∙ at) in
     let both = more_more c.in_ok-push-in-Malformed.ensures.more c.in_ok-after_table-in-Malformed.ensures.more in
     let more = moved_more c.go_to.ensures.moved at both in
@@ -47,7 +48,7 @@ returns-in_ok-after_table-in-Malformed c =
       kept = more.depth ∙ closed.depth;
       read = ap (reads new B) c.in_ok-after_table-in-Malformed.ensures.numbers ∙ malformed_reads t (has_ended B _ closed) c.go_to.ensures.moved at (subst (HasMore c.go_to.new.self new) nodes both);
       paid = λ before few some. malformed_paid mid.at before _ _ _ _ here c.requires.inside (more.depth ∙ closed.depth) more.at few some c.close.ensures.at
-          c.close.ensures.run c.close.ensures.low c.malformed.ensures.most (omega (arith, c.in_ok-error-in-Malformed.ensures.each)) c.after_table.ensures.looked.1 (omega (arith, c.after_table.ensures.looked.0));
+          c.close.ensures.run c.close.ensures.low c.source.ensures.most (omega (arith, c.in_ok-lines-in-Malformed.ensures.each)) c.after_table.ensures.looked.1 (omega (arith, c.after_table.ensures.looked.0));
     }
 
 pub returns-in_default : goal.returns-in_default
