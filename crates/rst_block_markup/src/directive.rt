@@ -275,11 +275,20 @@ fn image_block(
     ensures { (pass : Pass) → let few = found.now.end - level.old.at in
         IsDirectiveRead few (block_of view.now) level.old pass found.now (given.uri (chars uri.now)) level.new pass result }
 {
+    let at = level.at;
+    let line = number_at(view, at);
+    let options = found.options.as_slice();
     if matches!(found.name, Name::Figure) {
-        return figure_block(alloc, view, level, found, uri);
+        let shown = image(alloc, uri, options, line, true, None)?;
+        let figure = filled(figure(alloc, options, line)?, alone(alloc, shown)?)?;
+        let waits = Waits::Figure {
+            figure,
+            start: at,
+            end: found.end,
+        };
+        return Ok(opened(level, waits, found));
     }
-    let line = number_at(view, level.at);
-    let node = image(alloc, uri, found.options.as_slice(), line, false, None)?;
+    let node = image(alloc, uri, options, line, false, None)?;
     put(level, node, found.end)
 }
 
@@ -296,32 +305,6 @@ fn opened(level: &mut OpenBlock, waits: Waits, found: &Found) -> Step
         first: found.content.first,
         second: Some(found.content.second),
     }
-}
-
-/// Opens the content of a figure with this image.
-fn figure_block(
-    alloc: Global,
-    view: &View<'_>,
-    level: &mut OpenBlock,
-    found: &Found,
-    uri: &str,
-) -> Result<Step>
-    requires right { IsRight (block_of view.now) level.old.at found.now }
-    requires figure { is_figure found.now.name ≡ true }
-    ensures { (pass : Pass) → let few = found.now.end - level.old.at in
-        IsDirectiveRead few (block_of view.now) level.old pass found.now (given.uri (chars uri.now)) level.new pass result }
-{
-    let at = level.at;
-    let line = number_at(view, at);
-    let options = found.options.as_slice();
-    let shown = image(alloc, uri, options, line, true, None)?;
-    let figure = filled(figure(alloc, options, line)?, alone(alloc, shown)?)?;
-    let waits = Waits::Figure {
-        figure,
-        start: at,
-        end: found.end,
-    };
-    Ok(opened(level, waits, found))
 }
 
 /// Program code in a language or in none.
