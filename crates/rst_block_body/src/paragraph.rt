@@ -150,7 +150,18 @@ fn literal(view: &View<'_>, level: &mut OpenBlock, end: usize, pass: &mut Pass) 
     let start = lines_end(view, end, LineTest::Blank, &mut pass.looks);
     let text = text_at(view, start, &mut pass.looks);
     if begins_with(' ', text) {
-        return indented_literal(view, level, start, pass);
+        let lines = indented(view, start, &mut pass.looks);
+        let text = joined(alloc, &inside(view, lines), &mut pass.looks)?;
+        let node = preserved(
+            alloc,
+            Tag::LiteralBlock,
+            number_at(view, start),
+            text.as_str(),
+        )?;
+        let warning = "Literal block ends without a blank line; unexpected unindent.";
+        level.go_to(lines.to);
+        level.push(node)?;
+        return level.warn(view, lines.to, warning, pass);
     }
     match front(text) {
         Some(quote) if is_punctuation(quote) => quoted_literal(view, level, start, quote, pass),
@@ -166,36 +177,6 @@ fn literal(view: &View<'_>, level: &mut OpenBlock, end: usize, pass: &mut Pass) 
             level.push(warning)
         }
     }
-}
-
-/// An indented literal block.
-fn indented_literal(
-    view: &View<'_>,
-    level: &mut OpenBlock,
-    start: usize,
-    pass: &mut Pass,
-) -> Result<()>
-    requires start { start ≤ length (block_of view.now) }
-    requires inside { level.old.at < length (block_of view.now) }
-    requires behind { level.old.at < start }
-    ensures gone { let Z = drop start (block_of view.now) in
-        Gives (λ _. HasMoreAt level.old level.new (literals.indented_literal Z) (start + extent 1 Z)) result }
-    ensures numbers { pass.new.numbers ≡ pass.old.numbers }
-    ensures looked { let Z = drop start (block_of view.now) in
-        IfOk result (λ _. Looked (extent 1 Z) (1 + 2 * reach (extent 1 Z) Z) pass.old.looks pass.new.looks) }
-{
-    let lines = indented(view, start, &mut pass.looks);
-    let text = joined(pass.alloc, &inside(view, lines), &mut pass.looks)?;
-    let node = preserved(
-        pass.alloc,
-        Tag::LiteralBlock,
-        number_at(view, start),
-        text.as_str(),
-    )?;
-    let warning = "Literal block ends without a blank line; unexpected unindent.";
-    level.go_to(lines.to);
-    level.push(node)?;
-    level.warn(view, lines.to, warning, pass)
 }
 
 /// A quoted literal block: lines that begin with one punctuation character.

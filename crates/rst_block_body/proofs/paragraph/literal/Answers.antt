@@ -1,14 +1,17 @@
-use Rattle.std.proofs.Common.{◌≡◌, ◌+◌, ◌-◌, ◌<◌, ◌≤◌, ◌⊎◌, inl, inr, ℕ, [], ◌∷◌, length, drop, true, false, Some, refl, sym, ap, ◌∙◌, arith, rules}
+use Rattle.std.proofs.Common.{◌≡◌, ◌+◌, ◌-◌, ◌<◌, ◌≤◌, ◌⊎◌, inl, inr, ℕ, List, [], ◌∷◌, length, drop, true, false, Some, codes, refl, sym, ap, ◌∙◌, arith, rules}
 use Rattle.std.proofs.lemmas.Result.{IfOk-weaker}
 use Rattle.rst_text.specs.Block.{Block, front_text, first_number}
+use Rattle.rst_text.specs.Extent.{extent}
 use Rattle.rst_text.specs.Shown.{block_of}
+use Rattle.rst_tree.specs.declared.node.Node.{Node}
+use Rattle.rst_block_state.specs.Texts.{lines_in, spelled, warned}
 use Rattle.rst_markup_lines.specs.Adornment.{is_punctuation}
 use Rattle.rst_markup_lines.specs.Front.{first, begins_with}
 use Rattle.rst_markup_blocks.specs.Sizes.{literal_size}
 use Rattle.rst_block_state.specs.Literals.{no_literal, literal_nodes}
 use Rattle.rst_block_state.proofs.Calls.{gives_map, gives_kept}
-use Rattle.rst_block_state.proofs.Changes.{more_as, moved_more}
-use Rattle.rst_block_body.proofs.LiteralLemmas.{no_literal_is, indented_here, quoted_here, other_here, none_here}
+use Rattle.rst_block_state.proofs.Changes.{more_as, more_more, moved_more}
+use Rattle.rst_block_body.proofs.LiteralLemmas.{no_literal_is, indented_whole, indented_here, quoted_here, other_here, none_here}
 use Rattle.rst_block_body.proofs.ParagraphsPaid.{indented_looked, quoted_looked, none_most}
 use Rattle.rst_block_body.proofs.paragraph.literal.Goals.{in_default-via-in-Some+else-is_punctuation, in_default-via-in_default, then-start-len, else-start-len}
 use Rattle.rst_block_body.proofs.paragraph.literal.Goals as goal
@@ -20,13 +23,21 @@ returns-then-begins_with c =
     let end : ℕ = c.args.end in
     let ends = c.lines_end-start.ensures in
     let text = c.text_at-text.ensures in
-    let made = c.indented_literal.ensures in
     let space : begins_with 32 (front_text (drop start B)) ≡ true = rw text.text at (sym c.begins_with.ensures ∙ c.if-begins_with.true) in
     let h = indented_here B end start (first_number (drop (end - 1) B)) ends.end space in
+    let to : ℕ = c.indented-lines.result.to in
+    let e : to ≡ start + extent 1 (drop start B) = ap (λ p. p.to) c.indented-lines.ensures.part in
+    let bytes = c.as_str.ensures.value ∙ c.in_ok-text.ensures.bytes ∙ ap spelled c.inside.ensures.block ∙ ap (λ p. spelled (lines_in B p)) c.indented-lines.ensures.part in
+    let notes : List Node = warned (codes "Literal block ends without a blank line; unexpected unindent.") (drop to B) in
+    let nodes = ap (λ (node : Node). node ∷ notes) c.in_ok-node.ensures ∙ indented_whole B start to c.number_at.result c.as_str.result.now e c.number_at.ensures bytes in
+    let first = moved_more c.go_to.ensures.moved (c.go_to.ensures.there (omega (arith, c.requires.behind, ends.end, e)) ∙ e) c.in_ok-push.ensures.more in
     record {
-      gone = gives_map _ _ c.indented_literal.result made.gone (λ _ g. more_as h.0 h.1 g);
+      gone = gives_map _ _ c.warn.result c.warn.ensures.more (λ _ g. more_as h.0 h.1 (more_as nodes refl (more_more first g)));
       numbers = search rules;
-      looked = IfOk-weaker c.indented_literal.result _ _ (λ _ g. indented_looked B end start _ _ _ _ ends.end space ends.looked text.looked g) made.looked;
+      looked = gives_kept _ _ c.warn.result c.warn.ensures.more (λ _ _. indented_looked B end start _ _ _ _ ends.end space ends.looked text.looked (
+        omega (arith, c.indented-lines.ensures.low, c.in_ok-text.ensures.each, c.warn.ensures.low),
+        omega (arith, e, c.indented-lines.ensures.from, c.indented-lines.ensures.reach, c.inside.ensures.lines, c.joined.ensures.most, c.warn.ensures.looks),
+      ));
     }
 
 pub returns-in-Some : goal.returns-in-Some
@@ -58,15 +69,15 @@ returns-in_ok-warning-in_default c =
       | in_default-via-in-Some+else-is_punctuation w ↦ other_here B end start last w.in-Some.quote c.lines_end-start.ensures.end space (rw c.text_at-text.ensures.text at (sym c.front.ensures ∙ w.in-Some.is)) (sym w.is_punctuation.ensures ∙ w.if-is_punctuation.false)
       | in_default-via-in_default w ↦ none_here B end start last c.lines_end-start.ensures.end (rw c.text_at-text.ensures.text at (sym c.front.ensures ∙ w.in_default.is))
     ] in
-    let place : ((start < length B) × (c.number_at.result ≡ first_number (drop start B))) ⊎ ((length B ≤ start) × (c.number_at.result ≡ last)) = elim c.if-start-len.branch [
-      | then-start-len w ↦ inl (omega (arith, w.if-start-len.true, c.len.ensures), c.number_at.ensures ∙ ap (λ i. first_number (drop i B)) w.place-is)
-      | else-start-len w ↦ inr (omega (arith, w.if-start-len.false, c.len.ensures), c.number_at.ensures ∙ ap (λ i. first_number (drop i B)) (let e : c.if-start-len.place ≡ end - 1 = omega arith in e))
+    let place : ((start < length B) × (c.number_at-in_default.result ≡ first_number (drop start B))) ⊎ ((length B ≤ start) × (c.number_at-in_default.result ≡ last)) = elim c.if-start-len.branch [
+      | then-start-len w ↦ inl (omega (arith, w.if-start-len.true, c.len.ensures), c.number_at-in_default.ensures ∙ ap (λ i. first_number (drop i B)) w.place-is)
+      | else-start-len w ↦ inr (omega (arith, w.if-start-len.false, c.len.ensures), c.number_at-in_default.ensures ∙ ap (λ i. first_number (drop i B)) (let e : c.if-start-len.place ≡ end - 1 = omega arith in e))
     ] in
-    let nodes = ap (λ node. node ∷ []) c.in_ok-warning-in_default.ensures ∙ no_literal_is B start c.number_at.result last place ∙ h.0 in
+    let nodes = ap (λ node. node ∷ []) c.in_ok-warning-in_default.ensures ∙ no_literal_is B start c.number_at-in_default.result last place ∙ h.0 in
     record {
-      gone = gives_map _ _ c.push.result c.push.ensures.more (λ _ g. more_as nodes refl (moved_more c.go_to.ensures.moved (c.go_to.ensures.there c.requires.behind ∙ h.1) g));
+      gone = gives_map _ _ c.push-in_default.result c.push-in_default.ensures.more (λ _ g. more_as nodes refl (moved_more c.go_to-in_default.ensures.moved (c.go_to-in_default.ensures.there c.requires.behind ∙ h.1) g));
       numbers = search rules;
-      looked = gives_kept _ _ c.push.result c.push.ensures.more (λ _ _. (
+      looked = gives_kept _ _ c.push-in_default.result c.push-in_default.ensures.more (λ _ _. (
         omega (arith, h.1, c.lines_end-start.ensures.looked.0, c.text_at-text.ensures.looked.0),
         none_most B end start (literal_size (drop end B)) _ _ _ c.lines_end-start.ensures.end h.1 c.lines_end-start.ensures.looks c.text_at-text.ensures.looks,
       ));
