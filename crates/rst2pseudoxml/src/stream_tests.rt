@@ -1,9 +1,10 @@
 //! Runs over readers and writers in memory that fail in mid-stream, and what is reported of each end.
-ghost use Rattle.std.specs.Prelude.{◌≤◌, Some};
+ghost use Rattle.std.specs.Prelude.{◌≡◌, ◌≤◌, false, Some};
+ghost use Rattle.rst_text.specs.Counted.{has_failed};
 
 use super::whole_document::DOCUMENT;
 use rst_settings::Settings;
-use rst_text::Counted;
+use rst_text::{Counted, ReadCall};
 use rst2pseudoxml_options::OptionFault;
 use rst2pseudoxml_run::{End, Stop, report, run};
 use std::alloc::Global;
@@ -86,30 +87,41 @@ impl Read for Bytes {
     }
 }
 
-/// How a run over a text ends, and what its writer to standard output holds then.
-fn run_into(alloc: Global, text: &[u8], mut out: Narrow) -> (End, Narrow) {
-    let mut input = Counted::of(text);
-    let mut counted = Counted::of(&mut out);
-    let mut err = Counted::of(Narrow::new(alloc, 0, 0, true));
-    let settings = Settings::usual();
+/// How a run over such a reader ends, and what its writers to standard output and standard error hold then.
+fn run_between<R: ReadCall>(
+    alloc: Global,
+    input: &mut Counted<R>,
+    mut out: Narrow,
+    mut err: Narrow,
+) -> (End, Narrow, Narrow)
+    requires { has_failed input.old ≡ false }
+{
     let end = run(
         alloc,
-        &settings,
+        &Settings::usual(),
         "<stdin>",
-        &mut input,
-        &mut counted,
-        &mut err,
+        input,
+        &mut Counted::of(&mut out),
+        &mut Counted::of(&mut err),
     );
+    (end, out, err)
+}
+
+/// A writer with room for all that a short text gives.
+fn wide(alloc: Global) -> Narrow {
+    Narrow::new(alloc, 40_000, 1000, true)
+}
+
+/// How a run over a text ends, and what its writer to standard output holds then.
+fn run_into(alloc: Global, text: &[u8], out: Narrow) -> (End, Narrow) {
+    let (end, out, _) = run_between(alloc, &mut Counted::of(text), out, wide(alloc));
     (end, out)
 }
 
 /// How a run over such a reader ends, and how often the reader was called.
 fn run_over(alloc: Global, bytes: Bytes) -> (End, u64) {
     let mut input = Counted::of(bytes);
-    let mut out = Counted::of(Narrow::new(alloc, 0, 0, true));
-    let mut err = Counted::of(Narrow::new(alloc, 0, 0, true));
-    let settings = Settings::usual();
-    let end = run(alloc, &settings, "<stdin>", &mut input, &mut out, &mut err);
+    let (end, _, _) = run_between(alloc, &mut input, wide(alloc), wide(alloc));
     (end, input.inner().calls)
 }
 
@@ -131,7 +143,7 @@ fn shows_texts(rt: HostRuntime) -> std::result::Result<(), Fail> {
         (b"a\xC2\x85b\x1C\x1Cc\x1Ed\xE2\x80\xA9", two),
     ];
     for (text, want) in rows {
-        let (end, out) = run_into(rt.alloc(), text, Narrow::new(rt.alloc(), 1000, 1000, true));
+        let (end, out) = run_into(rt.alloc(), text, wide(rt.alloc()));
         assert_eq!(rt; end, End::Done(0));
         assert_eq!(rt; out.held.as_slice(), want.as_bytes());
     }
@@ -149,7 +161,7 @@ fn refuses_texts(rt: HostRuntime) -> std::result::Result<(), Fail> {
         (b"abc\xE2\x80", End::NotUtf8 { at: 3 }),
     ];
     for (text, want) in rows {
-        let (end, out) = run_into(rt.alloc(), text, Narrow::new(rt.alloc(), 1000, 1000, true));
+        let (end, out) = run_into(rt.alloc(), text, wide(rt.alloc()));
         assert_eq!(rt; end, want);
         assert!(rt; out.held.is_empty());
     }
@@ -182,16 +194,8 @@ fn keeps_what_a_narrow_error_writer_took(rt: HostRuntime) -> std::result::Result
         for room in [0usize, 1, 30, 71] {
             for fails in [false, true] {
                 let mut input = Counted::of(b"*a".as_slice());
-                let mut out = Narrow::new(rt.alloc(), 1000, 1000, true);
-                let mut err = Narrow::new(rt.alloc(), room, step, fails);
-                let end = run(
-                    rt.alloc(),
-                    &Settings::usual(),
-                    "<stdin>",
-                    &mut input,
-                    &mut Counted::of(&mut out),
-                    &mut Counted::of(&mut err),
-                );
+                let err = Narrow::new(rt.alloc(), room, step, fails);
+                let (end, out, err) = run_between(rt.alloc(), &mut input, wide(rt.alloc()), err);
                 assert_eq!(rt; end, End::WriteErr { done: room });
                 assert_eq!(rt; err.held.as_slice(), &message.as_bytes()[..room]);
                 assert!(rt; out.held.is_empty());
@@ -257,15 +261,7 @@ fn reads_line_ends_to_the_limit(rt: HostRuntime) {
             fails: false,
             calls: 0,
         });
-        let mut out = Narrow::new(rt.alloc(), 1000, 1000, true);
-        let end = run(
-            rt.alloc(),
-            &Settings::usual(),
-            "<stdin>",
-            &mut input,
-            &mut Counted::of(&mut out),
-            &mut Counted::of(Narrow::new(rt.alloc(), 0, 0, true)),
-        );
+        let (end, out, _) = run_between(rt.alloc(), &mut input, wide(rt.alloc()), wide(rt.alloc()));
         assert_eq!(rt; end, want);
         assert_eq!(rt; out.held.as_slice(), shown.as_bytes());
     }
@@ -293,17 +289,13 @@ impl Read for Front {
 /// these hold then.
 fn run_whole(alloc: Global, out_room: usize, err_room: usize) -> (End, Narrow, Narrow) {
     let mut input = Counted::of(DOCUMENT.as_bytes());
-    let mut out = Narrow::new(alloc, out_room, 1000, true);
-    let mut err = Narrow::new(alloc, err_room, 1000, true);
-    let end = run(
+    let out = Narrow::new(alloc, out_room, 1000, true);
+    run_between(
         alloc,
-        &Settings::usual(),
-        "<stdin>",
         &mut input,
-        &mut Counted::of(&mut out),
-        &mut Counted::of(&mut err),
-    );
-    (end, out, err)
+        out,
+        Narrow::new(alloc, err_room, 1000, true),
+    )
 }
 
 /// Reads of the document with every construct fail at each place. Nothing is made of it then.
@@ -313,15 +305,11 @@ fn tells_each_failed_read_of_the_document(rt: HostRuntime) {
         let mut input = Counted::of(Front {
             left: &DOCUMENT.as_bytes()[..n],
         });
-        let mut out = Narrow::new(rt.alloc(), 1000, 1000, true);
-        let mut err = Narrow::new(rt.alloc(), 1000, 1000, true);
-        let end = run(
+        let (end, out, err) = run_between(
             rt.alloc(),
-            &Settings::usual(),
-            "<stdin>",
             &mut input,
-            &mut Counted::of(&mut out),
-            &mut Counted::of(&mut err),
+            wide(rt.alloc()),
+            wide(rt.alloc()),
         );
         assert_eq!(rt; end, End::Read);
         assert!(rt; out.held.is_empty() && err.held.is_empty());
