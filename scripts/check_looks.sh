@@ -4,7 +4,7 @@
 # those that are named below.
 set -euo pipefail
 cd -- "$(dirname -- "$0")/.."
-below=(rst_markup_lines rst_markup_blocks rst_markup_directives rst_markup_tables rst_block_nodes rst_block_sections rst_block_state rst_block_body rst_block_markup)
+below=(rst_markup_lines rst_markup_blocks rst_markup_directives rst_markup_tables rst_block_nodes rst_block_state rst_block_body rst_block_markup)
 # What the elements of lists may be, which aren't lines.
 no_lines='N|Node|Note|Texted|Heading|Style|OpenSection|OpenList|OpenReplacement|Frame|Option<Box<Frame|Setting|ListedOption|Letter|Place|Rectangle|RowLines|RuleSpan|bool|char|usize|Vec<usize'
 # The lists of lines, or of texts, that there are: the lines of a table while it is read, and its cells while it is open; the lines of a directive in

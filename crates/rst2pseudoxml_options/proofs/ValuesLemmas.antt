@@ -3,14 +3,10 @@ use Rattle.std.proofs.Common.{◌≡◌, ◌≢◌, ℕ, ◌^◌, ◌<◌, ◌�
 use Rattle.std.specs.Result.{OkIff}
 use Rattle.std.specs.Str.{all_ascii_digits}
 use Rattle.std.specs.Str.Parse.{digits_value, ParsesUnsigned}
-use Rattle.std.proofs.lemmas.Bool.{leb-true, le-leb, lt-leb}
+use Rattle.std.proofs.lemmas.Bool.{and_parts, leb-true, le-leb, lt-leb}
 use Rattle.std.proofs.lemmas.Str.{digit_value_digit}
 use Rattle.std.proofs.lemmas.Str.Parse.{IsNumeralModel, numerals_by_value, tells_all_ascii_digits, parse_plain, digits_value-take-le}
 use Rattle.rst2pseudoxml_options.specs.Values.{begins_from_one, number_to}
-
-and_parts : (a b : Bool) → (a && b) ≡ true → (a ≡ true) × (b ≡ true)
-and_parts true b h = (refl, h)
-and_parts false b h = absurd (cc)
 
 first_digit : (d : ℕ) (ds : List ℕ) → begins_from_one (d ∷ ds) ≡ true → (49 ≤ d) × (d ≤ 57)
 first_digit d ds h =

@@ -6,10 +6,8 @@ unfolding
     Rattle.rst_text.proofs.Computing.rst_text Rattle.rst_tree.proofs.Computing.rst_tree Rattle.rst_markup_lines.proofs.Computing.rst_markup_lines
     Rattle.rst_markup_blocks.proofs.Computing.rst_markup_blocks Rattle.rst_markup_directives.proofs.Computing.rst_markup_directives
     Rattle.rst_markup_tables.proofs.Computing.rst_markup_tables Rattle.rst_block_nodes.proofs.Computing.rst_block_nodes
-    Rattle.rst_block_sections.proofs.Computing.rst_block_sections Rattle.rst_block_state.proofs.Computing.rst_block_state
-    Rattle.rst_transform.proofs.Computing.rst_transform Rattle.rst_transform_work.proofs.Computing.rst_transform_work
-    Rattle.rst_transform_substitutions.proofs.Computing.rst_transform_substitutions Rattle.rst_transform_links.proofs.Computing.rst_transform_links
-    Rattle.rst_transform_footnotes.proofs.Computing.rst_transform_footnotes Rattle.rst_transform_hyperlinks.proofs.Computing.rst_transform_hyperlinks
+    Rattle.rst_block_state.proofs.Computing.rst_block_state Rattle.rst_transform.proofs.Computing.rst_transform
+    Rattle.rst_transform_work.proofs.Computing.rst_transform_work Rattle.rst_transform_substitutions.proofs.Computing.rst_transform_substitutions
     Rattle.rst_transform_references.proofs.Computing.rst_transform_references Rattle.rst_transform_structure.proofs.Computing.rst_transform_structure
     Rattle.rst_transform_docinfo.proofs.Computing.rst_transform_docinfo Rattle.rst_transform_messages.proofs.Computing.rst_transform_messages
     Rattle.rst_transform_names.proofs.Computing.rst_transform_names Rattle.rst2pseudoxml_run.specs.CodeCalls.begins_call

@@ -14,7 +14,7 @@ use Rattle.rst_tree.specs.declared.tag.Tag.{Tag}
 use Rattle.rst_block.specs.Documents.{document}
 use Rattle.rst_block_state.specs.Nodes.{document_items}
 use Rattle.rst_block_state.specs.Numbered.{just, then_read}
-use Rattle.rst_block_sections.specs.Sections.{document_of, Item}
+use Rattle.rst_block_nodes.specs.Sections.{document_of, Item}
 use Rattle.rst_transform_work.specs.States.{node_tag, IsDocument}
 use Rattle.rst2pseudoxml_run.specs.Reading.{read_by, read_of, IsReadOf}
 

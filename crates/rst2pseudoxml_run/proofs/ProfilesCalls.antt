@@ -1,7 +1,8 @@
 -- After the name of a directive in explicit markup follows a call; so explicit markup calls the same directives with and without program code.
-use Rattle.std.proofs.Common.{◌≡◌, ℕ, zero, suc, ◌+◌, Bool, true, false, not, cond, ◌&&◌, ◌||◌, ◌==◌, [], ◌∷◌, drop, Option, Some, None, is_some, option_map, refl, sym, ap, subst, ◌∙◌, arith, true≢false}
+use Rattle.std.proofs.Common.{◌≡◌, ℕ, zero, suc, ◌+◌, Bool, true, false, not, cond, ◌&&◌, ◌||◌, ◌==◌, [], ◌∷◌, drop, Option, Some, None, option_map, refl, sym, ap, subst, ◌∙◌, arith}
 use Rattle.std.proofs.lemmas.List.{drop-drop}
 use Rattle.std.specs.Option.{option_and_then}
+use Rattle.rst_text.proofs.Choices.{none_is}
 use Rattle.rst_text.specs.Block.{Block, front_text, is_blank}
 use Rattle.rst_markup_lines.specs.ExplicitMarks.{colons, directive_by, directive_of, dots, label_of, substitution_of, target_of}
 use Rattle.rst_markup_lines.specs.Front.{begins_with}
@@ -33,16 +34,12 @@ use Rattle.rst2pseudoxml_run.proofs.ProfilesCode.{and_right, both, directive_ali
 use Rattle.rst2pseudoxml_run.proofs.ProfilesNeeds.{CallsAgreeUnder}
 use Rattle.rst_block.proofs.InsideReads.{CallsAgree}
 
--- nothing is no mark
-none_is : {A B : Type 0} (x : A) → None ≡ Some x → B
-none_is x h = absurd (true≢false (sym (ap is_some h)))
-
 -- two colons, and the length of the mark before them
 abbrev Colons : ℕ → ℕ → Text → DirectiveMark → Type 0
 Colons len n t mark = (begins_with 58 (drop n t) ≡ true) × (begins_with 58 (drop (n + 1) t) ≡ true) × (mark.len ≡ len)
 
 marked_len : (len : ℕ) (m : Option Marker) (mark : DirectiveMark) → option_and_then (λ m. Some (record { len = len; marker = m })) m ≡ Some mark → mark.len ≡ len
-marked_len len None mark h = none_is mark h
+marked_len len None mark h = absurd (none_is h)
 marked_len len (Some m) mark h = sym (ap (λ o. option_len o) h)
   where
     option_len : Option DirectiveMark → ℕ
@@ -55,8 +52,8 @@ colons_follow len n t mark h = by (begins_with 58 (drop n t)) (begins_with 58 (d
   where
     by : (a b : Bool) → cond (not a || not b) None (option_and_then (λ m. Some (record { len = len; marker = m })) (marker_of (n + 2) t)) ≡ Some mark → (a ≡ true) × (b ≡ true) × (mark.len ≡ len)
     by true true k = (refl, refl, marked_len len (marker_of (n + 2) t) mark k)
-    by true false k = none_is mark k
-    by false b k = none_is mark k
+    by true false k = absurd (none_is k)
+    by false b k = absurd (none_is k)
 
 -- n characters are the name
 marked_call : (spaced : Bool) (n : ℕ) (t : Text) (mark : DirectiveMark) → directive_by spaced n t ≡ Some mark → begins_call (drop mark.len t) ≡ true
@@ -70,7 +67,7 @@ marked_call spaced n t mark h = by (n == 0) (spaced && begins_with 32 (drop n t)
     two k a b = both _ _ a (ap (begins_with 58) (next k) ∙ b)
 
     by : (none space : Bool) → (spaced && begins_with 32 (drop n t)) ≡ space → cond none None (cond space (colons n (n + 1) t) (colons n n t)) ≡ Some mark → begins_call (drop mark.len t) ≡ true
-    by true space e k = none_is mark k
+    by true space e k = absurd (none_is k)
     by false true e k =
         let c = colons_follow n (n + 1) t mark k in
         subst (λ i. begins_call (drop i t) ≡ true) (sym c.2)

@@ -7,7 +7,7 @@ use Rattle.rst_text.specs.Block.{Block, is_blank}
 use Rattle.rst_tree.specs.declared.node.Node.{Node}
 use Rattle.rst_markup_blocks.specs.Partition.{Span, spans_from, construct_size}
 use Rattle.rst_block_nodes.specs.LineBlocks.{IndentedLine, LinePart, level_line, deeper_lines, least_indent, parts_of, part_node, line_block}
-use Rattle.rst_block_sections.specs.Sections.{document_of}
+use Rattle.rst_block_nodes.specs.Sections.{document_of}
 use Rattle.rst_block_state.specs.Constructs.{Construct, nothing, block_quote, item_of_list, doctest_block, bar_line, grid, simple, explicit_markup, transition, overlined_title, misplaced_lines, underlined_title, paragraph, Found, found_at}
 use Rattle.rst_block.specs.Documents.{document}
 use Rattle.rst_block_state.specs.Joins.{runs_of, joining_of, joining_after}

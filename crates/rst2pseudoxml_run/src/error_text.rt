@@ -1,6 +1,5 @@
 //! The text for standard error: the messages that are reported.
-ghost use Rattle.std.specs.Prelude.{◌≡◌, ◌++◌, ◌≤◌, Some, IfOk, string_bytes};
-ghost use Rattle.rst_text.specs.Counted.{inner_of};
+ghost use Rattle.std.specs.Prelude.{◌≡◌, ◌≤◌, Some, IfOk, string_bytes};
 ghost use Rattle.rst2pseudoxml_run.specs.Shown as spec;
 
 use crate::end::End;

@@ -6,7 +6,7 @@ use Rattle.rst_markup_tables.specs.declared.results.Cell.{Cell}
 use Rattle.rst_markup_tables.specs.declared.results.TableResult.{TableResult}
 use Rattle.rst_markup_tables.specs.declared.results.TableResult.TheVariants.{Table}
 use Rattle.rst_block_nodes.specs.Elements.{entry_node}
-use Rattle.rst_block_sections.specs.Sections.{filled}
+use Rattle.rst_block_nodes.specs.Sections.{filled}
 use Rattle.rst_block_state.specs.Constructs.{grid}
 use Rattle.rst_block_state.specs.Joins.{alone_ending}
 use Rattle.rst_block_state.specs.Meanings.{Keeps, comes, deepest, done_of, reads, reads_from, text_items, text_with, within_at}

@@ -3,6 +3,7 @@ use Rattle.std.proofs.Common.{◌≡◌, ℕ, ◌+◌, ◌-◌, ◌<◌, ◌≤�
 use Rattle.std.specs.Prelude.{IfSome, unwrap_or, option_map}
 use Rattle.std.specs.Option.{option_and_then}
 use Rattle.std.proofs.lemmas.List.{drop-drop}
+use Rattle.rst_markup_blocks.proofs.ExplicitLemmas.{label_end, explicit_ends, hanging_block}
 use Rattle.rst_text.specs.Block.{Block, front_text, is_blank}
 use Rattle.rst_text.proofs.CutLaws.{length-cut}
 use Rattle.rst_markup_lines.specs.ExplicitMarks.{dots, label_of, target_of, substitution_of, directive_of}
@@ -26,7 +27,6 @@ use Rattle.rst_markup_blocks.specs.declared.forms.Explicit.{Explicit}
 use Rattle.rst_markup_blocks.specs.declared.forms.Explicit.TheVariants.{EmptyComment, Comment as CommentMarkup}
 use Rattle.rst_markup_blocks.specs.declared.forms.Invocation.{Invocation}
 use Rattle.rst_markup_blocks.specs.declared.part.Part.{Part}
-use Rattle.rst_markup_blocks.proofs.ExplicitLemmas.{explicit_ends, hanging_block}
 use Rattle.rst_markup_directives.specs.declared.found.Place.TheVariants.{Top, Body, Substitution as InDefinition}
 use Rattle.rst_block_state.specs.Budget.{sum_of}
 use Rattle.rst_block_state.specs.BudgetLaws.{is_trimmed, IsFronted, AreWithin}
@@ -108,10 +108,6 @@ label_is : (c : Within) (B : Block) (i : ℕ) (k : LabelKind) (label : Character
 unfolding sum_of
 label_is c B i FootnoteLabel label body f few = record { few = omega (arith, few); fronted = (f, tt) }
 label_is c B i CitationLabel label body f few = record { few = omega (arith, few); fronted = (f, tt) }
-
-label_end : (i : ℕ) (k : LabelKind) (label : Characters) (body : Part) → explicit_end i (label_with k label body) ≡ body.to
-label_end i FootnoteLabel label body = refl
-label_end i CitationLabel label body = refl
 
 -- the blocks of markup that ends at its place
 abbrev AreOf : Explicit → Within → Block → ℕ → Type 0

@@ -4,6 +4,7 @@ use Rattle.std.specs.Prelude.{IfSome, is_some}
 use Rattle.std.specs.Option.{option_map_or}
 use Rattle.std.proofs.lemmas.Bool.{cases_Bool as cases_bool, cases_lt}
 use Rattle.std.proofs.lemmas.List.{drop-drop}
+use Rattle.rst_text.proofs.Choices.{chosen}
 use Rattle.rst_text.specs.Block.{Block, front_text, is_blank}
 use Rattle.rst_text.specs.Characters.{columns}
 use Rattle.rst_text.specs.Extent.{extent}
@@ -146,11 +147,7 @@ item_mark t next e h = by (enumerator_of t) h
   where
     by : (o : Option Enumerator) → if_listed o next ≡ Some e → o ≡ Some e
     by None h = cc
-    by (Some f) h = if_then (is_loose next || begins_next f next) f h
-      where
-        if_then : (b : Bool) (f : Enumerator) → cond b (Some f) None ≡ Some e → Some f ≡ Some e
-        if_then true f h = h
-        if_then false f h = cc
+    by (Some f) h = (chosen (is_loose next || begins_next f next) (Some f) e h).1
 
 option_mark : (t next after : List ℕ) (m : Marker) → item_option t next after ≡ Some m → option_marker t ≡ Some m
 unfolding item_option
@@ -158,11 +155,7 @@ option_mark t next after m h = by (option_marker t) h
   where
     by : (o : Option Marker) → if_described o next after ≡ Some m → o ≡ Some m
     by None h = cc
-    by (Some f) h = if_then (not f.bare || (begins_with 32 next || (is_blank next && begins_with 32 after))) f h
-      where
-        if_then : (b : Bool) (f : Marker) → cond b (Some f) None ≡ Some m → Some f ≡ Some m
-        if_then true f h = h
-        if_then false f h = cc
+    by (Some f) h = (chosen (not f.bare || (begins_with 32 next || (is_blank next && begins_with 32 after))) (Some f) m h).1
 
 told : {A : Type 0} (P : A → Type 0) (o : Option A) (a : A) → o ≡ Some a → IfSome o P → P a
 told P o a e h = subst (λ x. IfSome x P) e h

@@ -5,7 +5,7 @@ use Rattle.rst_text.specs.Shown.{block_of, placement_block}
 use Rattle.rst_text.specs.declared.view.View.{View}
 use Rattle.rst_tree.specs.declared.node.Node.{Node}
 use Rattle.rst_markup_blocks.specs.declared.part.Part.{Part}
-use Rattle.rst_block_sections.specs.Sections.{items_of}
+use Rattle.rst_block_nodes.specs.Sections.{items_of}
 use Rattle.rst_block_state.specs.Frames.{ended_as}
 use Rattle.rst_block_state.specs.Meanings.{IsNew, Keeps, after, comes, deepest, done_of, open_of, plug, reads, reads_from, resumed, with_item, within_at}
 use Rattle.rst_block_state.specs.Nodes.{block_items, nodes_among}

@@ -9,7 +9,6 @@ ghost use Rattle.rst_block_state.specs.Ledger.{Takes, ended_least, ended_most, l
 use super::resume::resume;
 use rst_block_state::{Ended, Frame, OpenBlock, Pass, Result, inside};
 use rst_text::View;
-use std::alloc::Global;
 use std::mem;
 
 /// What follows the end of a block inside the one that waits, where `level` is what was read of it, and `whole` shows all lines

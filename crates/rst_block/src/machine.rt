@@ -6,7 +6,7 @@ ghost use Rattle.rst_text.specs.Shown.{block_of, source_of};
 ghost use Rattle.rst_markup_blocks.specs.Parts.{IsBlock};
 ghost use Rattle.rst_tree.specs.declared.tag.Tag.TheVariants.{Row};
 ghost use Rattle.rst_block_nodes.specs.Elements.{element_of, entry_node};
-ghost use Rattle.rst_block_sections.specs.Sections.{filled};
+ghost use Rattle.rst_block_nodes.specs.Sections.{filled};
 ghost use Rattle.rst_block_state.specs.Meanings.{IsNew, Keeps, TellsBlank, comes, deepest, done_of, plug, reads, text_items, within_at};
 ghost use Rattle.rst_block_state.specs.OpenBlocks.{Gives, HasMore};
 ghost use Rattle.rst_block_state.specs.Steps as spec;

@@ -7,8 +7,7 @@ ghost use Rattle.std.specs.Prelude.{IfOk};
 
 use super::frames::Frames;
 use super::machine::read;
-use rst_block_nodes::Numbers;
-use rst_block_sections::document;
+use rst_block_nodes::{Numbers, document};
 use rst_block_state::{OpenBlock, Pass, Result};
 use rst_text::{Lines, Looks};
 use rst_tree_index::Parsed;

@@ -14,8 +14,7 @@ ghost use Rattle.rst_block_state.specs.declared.waits.Waits.TheVariants.{Quote};
 
 use rst_block_body::quote::quote_part;
 use rst_block_markup::{finished_figure, finished_replacement};
-use rst_block_nodes::Texted;
-use rst_block_sections::completed;
+use rst_block_nodes::{Texted, completed};
 use rst_block_state::{OpenBlock, Pass, Result, Step, Waits};
 use rst_markup_blocks::Part;
 use rst_text::View;

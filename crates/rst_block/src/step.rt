@@ -21,7 +21,6 @@ use rst_block_state::{OpenBlock, Pass, Result, Step};
 use rst_markup_blocks::{Begun, LineTest, begun_at, lines_end};
 use rst_markup_tables::{grid, simple};
 use rst_text::View;
-use std::alloc::Global;
 
 /// Reads the construct at the next line.
 #[inline(always)]

@@ -15,7 +15,7 @@ use Rattle.rst_markup_blocks.specs.Sizes.{adornment_size, adorned_size, fixed_si
 use Rattle.rst_markup_blocks.specs.declared.begun.Begun.TheVariants as begun
 use Rattle.rst_markup_blocks.specs.declared.form.Adorned.{Adorned}
 use Rattle.rst_markup_blocks.specs.declared.form.Adorned.TheVariants.{Title as AdornedTitle, Text, Unexpected, ShortAdornment}
-use Rattle.rst_block_sections.specs.declared.heading.Style.{Style}
+use Rattle.rst_block_nodes.specs.declared.heading.Style.{Style}
 use Rattle.rst_block_state.specs.Constructs.{adorned_by, misplaced_lines}
 use Rattle.rst_block_state.specs.NextLine.{IsNextConstruct, IsMessageOn}
 use Rattle.rst_block_state.specs.Texts.{source_of}

@@ -4,6 +4,7 @@ use Rattle.std.proofs.Math.Bool.{not}
 use Rattle.std.specs.Option.{is_some, option_map_or}
 use Rattle.std.proofs.lemmas.Bool.{cases_lt}
 use Rattle.std.proofs.lemmas.List.{drop-drop}
+use Rattle.rst_text.proofs.Choices.{chosen, some_is}
 use Rattle.rst_text.specs.Block.{Block, front_text, indentation, is_blank}
 use Rattle.rst_text.specs.Places.{first_from, NoneFrom}
 use Rattle.rst_text.proofs.PlacesLemmas.{NoneFrom-join, NoneFrom-more, IsFirst-unique, first_from-IsFirst}
@@ -173,11 +174,7 @@ Unfound-end Q end u h = none_first Q (end + 1) u.none (omega arith)
 
 level_is : (n : ℕ) (Y : Block) (m : ℕ) → level_lines n Y ≡ Some m → m ≡ lines_while Filled Y
 unfolding level_lines
-level_is n Y m h = by _ h
-  where
-    by : (b : Bool) → cond b (Some (lines_while Filled Y)) None ≡ Some m → m ≡ lines_while Filled Y
-    by true e = cc
-    by false e = cc
+level_is n Y m h = sym (some_is (chosen _ (Some (lines_while Filled Y)) m h).1)
 
 with_end : (k marker indent w : ℕ) (o : Option ℕ) (a : Attribution) → ((m : ℕ) → o ≡ Some m → m ≡ w) → Some a ≡ attribution_with k marker indent o → a.end ≡ k + 1 + w
 with_end k marker indent w None a h e = cc

@@ -3,6 +3,7 @@ use Rattle.std.proofs.Common.{◌≡◌, ℕ, ◌+◌, ◌<◌, Bool, true, fals
 use Rattle.std.specs.Prelude.{◌⊎◌, ◌||◌, if◌then◌else◌, slice_range}
 use Rattle.std.specs.Option.{option_and_then, option_map_or}
 use Rattle.std.proofs.lemmas.List.{drop-drop}
+use Rattle.rst_text.proofs.Choices.{chosen}
 use Rattle.rst_text.specs.Block.{Block, front_text, first_number}
 use Rattle.rst_text.specs.Extent.{extent}
 use Rattle.rst_tree.specs.declared.node.Node.{Node}
@@ -90,11 +91,7 @@ bullet_sized X mark marker h = ap (λ o. option_map_or (λ m. item_size m X) o 1
 -- an enumerator of an item is the enumerator of its line
 listed_is : (o : Option Enumerator) (next : List ℕ) (e : Enumerator) → if_listed o next ≡ Some e → o ≡ Some e
 listed_is None next e h = h
-listed_is (Some f) next e h = by (is_loose next || begins_next f next) h
-  where
-    by : (b : Bool) → (if b then Some f else None) ≡ Some e → Some f ≡ Some e
-    by true k = k
-    by false k = cc
+listed_is (Some f) next e h = (chosen (is_loose next || begins_next f next) (Some f) e h).1
 
 -- an item of an enumerated list has as many lines as its marker says
 enumerator_sized : (X : Block) (e : Enumerator) → IsBegun X (begun.Enumerator e) → enumerator_size X ≡ item_size e.marker X

@@ -9,7 +9,7 @@ use Rattle.rst_text.specs.Looked.{capped}
 use Rattle.rst_text.specs.Reach.{reach}
 use Rattle.rst_tree.specs.declared.node.Node.{Node}
 use Rattle.rst_tree.specs.declared.tag.Tag.TheVariants.{LiteralBlock, DoctestBlock}
-use Rattle.rst_inline_scan.specs.Escapes.{is_escaped}
+use Rattle.rst_text.specs.Escapes.{is_escaped}
 use Rattle.rst_markup_lines.specs.Adornment.{is_punctuation}
 use Rattle.rst_markup_lines.specs.Closing.{ends_in_colons}
 use Rattle.rst_markup_lines.specs.Front.{first, begins_with}

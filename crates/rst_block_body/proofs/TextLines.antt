@@ -9,8 +9,8 @@ use Rattle.rst_markup_blocks.specs.Conditions.{next_text}
 use Rattle.rst_markup_blocks.specs.Forms.{text_form}
 use Rattle.rst_markup_blocks.specs.Sizes.{paragraph_size}
 use Rattle.rst_markup_blocks.specs.declared.form.TextForm.{TextForm}
-use Rattle.rst_block_sections.specs.declared.heading.Heading.{Heading}
-use Rattle.rst_block_sections.specs.Sections.{title_of}
+use Rattle.rst_block_nodes.specs.declared.heading.Heading.{Heading}
+use Rattle.rst_block_nodes.specs.Sections.{title_of}
 use Rattle.rst_block_state.specs.Constructs.{paragraph, underlined_title, short_underline}
 use Rattle.rst_block_state.specs.Literals.{paragraph_nodes}
 use Rattle.rst_block_state.specs.Meanings.{done_of, reads}

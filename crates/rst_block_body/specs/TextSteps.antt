@@ -10,7 +10,7 @@ use Rattle.rst_markup_lines.specs.Closing.{ends_in_colons}
 use Rattle.rst_markup_lines.specs.Front.{first}
 use Rattle.rst_markup_blocks.specs.Conditions.{next_text}
 use Rattle.rst_markup_blocks.specs.Sizes.{literal_size}
-use Rattle.rst_block_sections.specs.declared.heading.Style.{Style}
+use Rattle.rst_block_nodes.specs.declared.heading.Style.{Style}
 use Rattle.rst_block_state.specs.Literals.{announced, text_paragraph, after_paragraph}
 use Rattle.rst_block_state.specs.Numbered.{Numbered, ◌>>=◌, just}
 use Rattle.rst_block_state.specs.Texts.{shown, unless_blank}

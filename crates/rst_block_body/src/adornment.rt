@@ -12,8 +12,7 @@ ghost use Rattle.rst_block_state.specs.Texts.{said};
 ghost use Rattle.rst_block_body.specs.ReadSteps.{BeginsAt, IsRead};
 
 use super::text::text_line;
-use rst_block_nodes::message;
-use rst_block_sections::Style;
+use rst_block_nodes::{Style, message};
 use rst_block_state::{
     OpenBlock, Pass, Result, Step, alone, heading_of, number_at, short_warning, source,
 };
@@ -21,7 +20,6 @@ use rst_markup_blocks::{Adorned, adorned_at, below_text, text_at};
 use rst_markup_lines::Adornment;
 use rst_text::{View, indentation, skip};
 use rst_tree::{Level, Node, Tag};
-use std::alloc::Global;
 
 /// A line of one punctuation character.
 pub fn adornment(

@@ -5,18 +5,14 @@ ghost use Rattle.rst_text.specs.Block.{front_text};
 ghost use Rattle.rst_markup_blocks.specs.Conditions.{next_text};
 ghost use Rattle.rst_markup_blocks.specs.Forms.{text_form};
 ghost use Rattle.rst_markup_blocks.specs.declared.form.TextForm.TheVariants.{Definition};
-ghost use Rattle.rst_block_state.specs.Meanings.{open_of};
 ghost use Rattle.rst_block_state.specs.NextLine.{IsText};
-ghost use Rattle.rst_block_state.specs.OpenBlocks.{Gives, HasRun, with_infos};
 ghost use Rattle.rst_block_body.specs.ReadSteps.{IsRead};
 
 use super::field::join_list;
-use rst_block_nodes::term_and_classifiers;
-use rst_block_sections::append;
+use rst_block_nodes::{append, term_and_classifiers};
 use rst_block_state::{ListKind, OpenBlock, Pass, Result, Run, Step, Waits, indented, number_at};
 use rst_text::View;
 use rst_tree::{Node, Tag};
-use std::alloc::Global;
 
 /// An item of a definition list. The messages that say why its term is a text stand before the whole list.
 pub(crate) fn definition(

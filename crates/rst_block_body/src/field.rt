@@ -18,7 +18,6 @@ use rst_block_state::{
 use rst_markup_lines::FieldMark;
 use rst_text::View;
 use rst_tree::{Node, Tag};
-use std::alloc::Global;
 
 /// A field.
 pub fn field(

@@ -1,15 +1,12 @@
 //! Lines of line blocks (Markup Specification, 'Line Blocks').
 ghost use Rattle.std.specs.Prelude.{◌≡◌, ℕ, ◌+◌, ◌-◌, ◌*◌, ◌^◌, ◌<◌, length, unwrap_or, IfOk};
-ghost use Rattle.std.specs.Str.{chars};
 ghost use Rattle.rst_text.specs.Looked.{Looked};
 ghost use Rattle.rst_text.specs.Shown.{block_of};
-ghost use Rattle.rst_text.specs.Text.{chars_of};
 ghost use Rattle.rst_block_nodes.specs.LineBlocks.{indented_by};
 ghost use Rattle.rst_markup_blocks.specs.declared.begun.Begun.TheVariants.{Line};
 ghost use Rattle.rst_block_state.specs.LineRuns.{indented_line, indentation_of};
-ghost use Rattle.rst_block_body.specs.TextSteps.{text_over};
 ghost use Rattle.rst_block_state.specs.Meanings.{open_of};
-ghost use Rattle.rst_block_state.specs.OpenBlocks.{Gives, HasLine, line_added, lines_end_at};
+ghost use Rattle.rst_block_state.specs.OpenBlocks.{Gives, HasLine, line_added};
 ghost use Rattle.rst_block_state.specs.Texts.{joined};
 ghost use Rattle.rst_block_body.specs.ReadSteps.{BeginsAt, IsRead};
 
@@ -21,7 +18,7 @@ use rst_block_state::{
 use rst_markup_blocks::indented_end;
 use rst_markup_lines::Marker;
 use rst_text::{View, skip};
-use std::alloc::{AllocError, Global};
+use std::alloc::AllocError;
 
 /// A line of a line block. It joins the lines before it where no blank one stands between.
 pub fn bar_line(

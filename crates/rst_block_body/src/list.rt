@@ -1,7 +1,6 @@
 //! Items of bullet lists and of enumerated lists (Markup Specification, 'Bullet Lists', 'Enumerated Lists').
-ghost use Rattle.std.specs.Prelude.{◌≡◌, ◌-◌, ◌^◌, ◌<◌, length, drop, string_bytes, IfOk, [], ◌∷◌, None, option_map};
-ghost use Rattle.std.specs.Option.{option_and_then, option_to_list};
-ghost use Rattle.std.specs.Str.{chars};
+ghost use Rattle.std.specs.Prelude.{◌≡◌, ◌-◌, ◌^◌, ◌<◌, length, drop, None, option_map};
+ghost use Rattle.std.specs.Option.{option_and_then};
 ghost use Rattle.rst_text.specs.Block.{Block};
 ghost use Rattle.rst_text.specs.Looked.{Looked};
 ghost use Rattle.rst_text.specs.Shown.{block_of};
@@ -10,13 +9,12 @@ ghost use Rattle.rst_markup_lines.specs.Enumerator.{first_reading};
 ghost use Rattle.rst_markup_blocks.specs.Parts.{IsBlock};
 ghost use Rattle.rst_block_state.specs.Lists as lists;
 ghost use Rattle.rst_block_state.specs.Steps as spec;
-ghost use Rattle.rst_block_state.specs.Texts.{excerpt};
 ghost use Rattle.rst_markup_blocks.specs.declared.begun.Begun.TheVariants.{Bullet, Enumerator as ItemEnumerator};
 ghost use Rattle.rst_block_state.specs.Constructs.{enumerated_item, item_of_list};
 ghost use Rattle.rst_block_state.specs.Joins.{list_joining_after};
-ghost use Rattle.rst_block_state.specs.Meanings.{joining_in, list_kind_in, open_of};
+ghost use Rattle.rst_block_state.specs.Meanings.{joining_in, list_kind_in};
 ghost use Rattle.rst_block_state.specs.OpenBlocks as blocks;
-ghost use Rattle.rst_block_state.specs.OpenBlocks.{HasRun, IsMoved, with_notes};
+ghost use Rattle.rst_block_state.specs.OpenBlocks.{HasRun, IsMoved};
 ghost use Rattle.rst_block_state.specs.Rest.{begun_run};
 ghost use Rattle.rst_block_state.specs.declared.waits.Waits.TheVariants.{ListItem};
 ghost use Rattle.rst_block_state.specs.declared.step.Step.TheVariants.{Open};
@@ -29,9 +27,7 @@ use rst_block_state::{
 };
 use rst_markup_blocks::Part;
 use rst_markup_lines::{Enumerator, Format, Marker, first_reading};
-use rst_text::{Looks, View};
-use rst_tree::{Node, TreeFault};
-use std::alloc::{AllocError, Global};
+use rst_text::View;
 
 /// Opens the block of an item.
 fn opened(level: &mut OpenBlock, line: usize, body: Part) -> Step

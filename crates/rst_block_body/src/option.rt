@@ -1,5 +1,5 @@
 //! Items of option lists (Markup Specification, 'Option Lists').
-ghost use Rattle.std.specs.Prelude.{◌≡◌, ◌<◌, drop};
+ghost use Rattle.std.specs.Prelude.{◌≡◌, ◌<◌};
 ghost use Rattle.std.specs.Str.{chars};
 ghost use Rattle.rst_text.specs.Shown.{block_of};
 ghost use Rattle.rst_tree.specs.Faults.{Gives};
@@ -12,7 +12,7 @@ use rst_block_nodes::{element_of, option};
 use rst_block_state::{
     ListKind, OpenBlock, Pass, Result, Step, Waits, excerpt_after, hanging, number_at,
 };
-use rst_markup_lines::{ListedOption, Marker, listed_options};
+use rst_markup_lines::{Marker, listed_options};
 use rst_text::{View, skip};
 use rst_tree::{Attrs, Node, Tag, TreeFault};
 use std::alloc::Global;

@@ -15,7 +15,6 @@ ghost use Rattle.rst_markup_blocks.specs.Sizes.{paragraph_size, literal_size};
 ghost use Rattle.rst_markup_blocks.specs.declared.lines.LineTest.TheVariants.{Begins};
 ghost use Rattle.rst_markup_lines.specs.Front.{begins_with};
 ghost use Rattle.rst_text.specs.Block.{first_number, front_text};
-ghost use Rattle.rst_text.specs.Extent.{extent};
 ghost use Rattle.rst_text.specs.Looked.{Looked, capped};
 ghost use Rattle.rst_text.specs.Reach.{reach};
 ghost use Rattle.rst_block_body.specs.ReadSteps.{BeginsAt, IsRead};

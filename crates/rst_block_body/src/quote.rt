@@ -20,7 +20,6 @@ use rst_block_state::{OpenBlock, Pass, Result, Step, Waits, indented, inside, jo
 use rst_markup_blocks::{Attribution, LineTest, Part, attribution_at, lines_end};
 use rst_text::{Looks, View};
 use rst_tree::{Tag, TreeFault};
-use std::alloc::Global;
 
 /// A block quote.
 pub fn block_quote(view: &View<'_>, level: &mut OpenBlock, pass: &mut Pass) -> Result<Step>

@@ -1,6 +1,5 @@
 //! Tables (Markup Specification, 'Tables').
-ghost use Rattle.std.specs.Prelude.{◌≡◌, ◌+◌, ◌-◌, ◌<◌, ◌≤◌, ◌==◌, [], ◌∷◌, codes, length, drop, slice_range, nat_lt, if◌then◌else◌, IfOk, ℕ, ◌*◌};
-ghost use Rattle.rst_text.specs.Block.{first_number};
+ghost use Rattle.std.specs.Prelude.{◌≡◌, ◌+◌, ◌-◌, ◌<◌, ◌≤◌, ◌==◌, [], ◌∷◌, codes, length, drop, nat_lt, if◌then◌else◌, IfOk, ℕ, ◌*◌};
 ghost use Rattle.rst_text.specs.Looked.{Looked, capped};
 ghost use Rattle.rst_text.specs.Shown.{block_of};
 ghost use Rattle.rst_tree.specs.Faults.{Gives};
@@ -8,10 +7,10 @@ ghost use Rattle.rst_tree.specs.declared.note.Level.TheVariants.{Error};
 ghost use Rattle.rst_tree.specs.declared.tag.Tag.TheVariants.{Thead};
 ghost use Rattle.rst_markup_tables.specs.Messages.{malformed_text};
 ghost use Rattle.rst_block_nodes.specs.Elements.{element_of, entry_node};
-ghost use Rattle.rst_block_sections.specs.Sections.{filled};
+ghost use Rattle.rst_block_nodes.specs.Sections.{filled};
 ghost use Rattle.rst_block_state.specs.Steps as spec;
 ghost use Rattle.rst_block_state.specs.Tables.{table_node};
-ghost use Rattle.rst_block_state.specs.Texts.{shown, source_of, warned};
+ghost use Rattle.rst_block_state.specs.Texts.{shown, warned};
 ghost use Rattle.rst_block_state.specs.Meanings.{Keeps, comes, reads};
 ghost use Rattle.rst_block_state.specs.NextLine.{IsTableAt};
 ghost use Rattle.rst_block_state.specs.OpenBlocks as blocks;
@@ -19,12 +18,11 @@ ghost use Rattle.rst_block_state.specs.Ledger.{IsPaid};
 ghost use Rattle.rst_block_state.specs.Reaches.{reach_at};
 ghost use Rattle.rst_markup_blocks.specs.Partition.{construct_size};
 
-use rst_block_nodes::{entry, message, tgroup};
-use rst_block_sections::completed;
+use rst_block_nodes::{completed, entry, message, tgroup};
 use rst_block_state::{OpenBlock, Pass, Result, Step, number_at, parted, source};
-use rst_markup_tables::{TableFault, TableResult, malformed_text};
-use rst_text::{Looks, View};
-use rst_tree::{Attrs, Level, Node, Tag, TreeFault};
+use rst_markup_tables::{TableResult, malformed_text};
+use rst_text::View;
+use rst_tree::{Attrs, Level, Tag, TreeFault};
 use rst_tree_index::{Marked, MarkedNodes};
 use std::alloc::Global;
 

@@ -1,20 +1,17 @@
 //! Lines of text: titles, items of definition lists and paragraphs.
-ghost use Rattle.std.specs.Prelude.{◌≡◌, ◌+◌, ◌<◌, ◌==◌, length, drop, string_bytes, IfOk};
+ghost use Rattle.std.specs.Prelude.{◌+◌, ◌<◌, ◌==◌, length, drop, IfOk};
 ghost use Rattle.rst_text.specs.Looked.{Looked};
 ghost use Rattle.rst_text.specs.Shown.{block_of};
 ghost use Rattle.rst_block_state.specs.NextLine.{IsText};
-ghost use Rattle.rst_block_state.specs.OpenBlocks.{Gives, ReadsItems, HasMoreAt, HasMore};
+ghost use Rattle.rst_block_state.specs.OpenBlocks.{Gives, ReadsItems, HasMore};
 ghost use Rattle.rst_block_state.specs.Constructs as constructs;
 ghost use Rattle.rst_block_state.specs.Texts.{source_of};
 ghost use Rattle.rst_block_state.specs.Titles as titles;
-ghost use Rattle.rst_block_body.specs.TextSteps.{under_style, unexpected_notes};
-ghost use Rattle.rst_text.specs.Block.{front_text, first_number};
 ghost use Rattle.rst_block_body.specs.ReadSteps.{IsRead};
 
 use super::definition::definition;
 use super::paragraph::paragraph;
-use rst_block_nodes::message;
-use rst_block_sections::Style;
+use rst_block_nodes::{Style, message};
 use rst_block_state::{
     OpenBlock, Pass, Result, Step, heading_of, number_at, short_warning, source,
 };

@@ -2,6 +2,7 @@
 use Rattle.std.proofs.Common.{◌≡◌, ℕ, ◌+◌, ◌-◌, ◌≤◌, ◌==◌, Bool, true, false, not, ◌&&◌, cond, List, [], ◌∷◌, length, take, drop, length-drop, length-take, Option, None, Some, option_map, Result, Ok, Err, arith, sym, ap, ◌∙◌, subst}
 use Rattle.std.proofs.lemmas.List.{drop-drop, length-map}
 use Rattle.std.proofs.lemmas.List.Sums.{prefix_len-le-length}
+use Rattle.rst_markup_directives.proofs.DirectiveParts.{run_in-le}
 use Rattle.rst_text.specs.Block.{Block, cut}
 use Rattle.rst_text.proofs.CutLaws.{take-cut, drop-cut}
 use Rattle.rst_markup_blocks.proofs.RowLaws.{while_le}
@@ -33,14 +34,6 @@ use Rattle.rst_block_state.proofs.MarkFacts.{chosen}
 use Rattle.rst_block_state.proofs.PartFacts.{trimmed_drop, take_le, take_fronted, blanks_fronted}
 
 -- ---- places in a block
-
-pub run_in-le : (name : Name) (late : Bool) (H : Block) → length (run_in name late H) ≤ length H
-unfolding run_in
-run_in-le name late H = by (late && is_code_name name)
-  where
-    by : (b : Bool) → length (cond b [] (first_run H)) ≤ length H
-    by true = omega arith
-    by false = simp (length-map, length-take) (omega arith)
 
 -- the two parts of the content of a block H: its first lines, and those from a place on
 record IsLaid (first second : ℕ) (H : Block) : Type 0 where

@@ -14,7 +14,7 @@ use Rattle.rst_markup_directives.specs.declared.name.Name.{Name}
 use Rattle.rst_markup_directives.specs.declared.name.Name.TheVariants.{Figure, Code}
 use Rattle.rst_markup_directives.specs.declared.options.Setting.{Setting}
 use Rattle.rst_block_nodes.specs.Options.{directive_element, figure_element, image_element}
-use Rattle.rst_block_sections.specs.Sections.{filled}
+use Rattle.rst_block_nodes.specs.Sections.{filled}
 use Rattle.rst_block_state.specs.Directives.{content_nodes, titled_element, titled_nodes, plain_nodes, figure_of, code_nodes, right_by}
 use Rattle.rst_block_state.specs.Figures.{caption_error, figure_nodes}
 use Rattle.rst_block_state.specs.Inside.{content_blocks, directive_content}

@@ -3,7 +3,7 @@ use Rattle.std.proofs.Common.{◌≡◌, ℕ, ◌-◌, ◌≤◌, Bool, true, fa
 use Rattle.std.proofs.lemmas.List.Sums.{prefix_len-le-length}
 use Rattle.rst_text.specs.Block.{Block}
 use Rattle.rst_text.specs.Names.{normalized_white}
-use Rattle.rst_inline_scan.specs.Characters.{is_among}
+use Rattle.rst_text.specs.Characters.{is_among}
 use Rattle.rst_markup_blocks.specs.declared.forms.Invocation.{Invocation}
 use Rattle.rst_markup_blocks.specs.declared.part.Part.{Part}
 use Rattle.rst_markup_directives.specs.Argument.{Given, title, language, title_of, uri_of, word_of, language_of, argument_of}
@@ -28,7 +28,7 @@ use Rattle.rst_block_state.specs.Ledger.{argument_lines}
 use Rattle.rst_block_state.specs.Paragraphs.{is_single_paragraph}
 use Rattle.rst_block_state.specs.Texts.{lines_in}
 use Rattle.rst_block_state.specs.Within.{Within}
-use Rattle.rst_block_markup.proofs.ContentFacts.{run_in-le}
+use Rattle.rst_markup_directives.proofs.DirectiveParts.{run_in-le}
 use Rattle.rst_block_state.proofs.PartFacts.{part_le}
 
 -- ---- the lines of a directive's parts

@@ -23,7 +23,7 @@ use Rattle.rst_markup_blocks.specs.declared.part.Part.{Part}
 use Rattle.rst_markup_blocks.proofs.ExplicitLemmas.{indented_some, size_other}
 use Rattle.rst_markup_blocks.proofs.RowLemmas.{row_at}
 use Rattle.rst_markup_directives.specs.declared.found.Content.{Content}
-use Rattle.rst_block_sections.specs.Sections.{filled}
+use Rattle.rst_block_nodes.specs.Sections.{filled}
 use Rattle.rst_block_state.specs.Constructs.{explicit_markup}
 use Rattle.rst_block_state.specs.Directives.{content_nodes}
 use Rattle.rst_block_state.specs.Joins.{joining_after}

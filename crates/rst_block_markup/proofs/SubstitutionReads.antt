@@ -19,7 +19,7 @@ use Rattle.rst_block_nodes.specs.Options.{image_element}
 use Rattle.rst_block_nodes.specs.Targets.{may_replace}
 use Rattle.rst_block_nodes.specs.Texts.{message_node}
 use Rattle.rst_block_nodes.specs.Values.{normalized, unescaped}
-use Rattle.rst_block_sections.specs.Sections.{filled}
+use Rattle.rst_block_nodes.specs.Sections.{filled}
 use Rattle.rst_block_state.specs.Directives.{about, holding, replacement, substitution_nodes}
 use Rattle.rst_block_state.specs.Numbered.{just}
 use Rattle.rst_block_state.specs.Texts.{source_of}

@@ -1,31 +1,27 @@
 //! Directives as blocks (Markup Specification, 'Directives').
-ghost use Rattle.std.specs.Prelude.{◌≡◌, ℕ, ◌+◌, ◌-◌, ◌*◌, ◌<◌, ◌≤◌, ◌==◌, [], ◌∷◌, true, length, drop, slice_range, option_map, Some, Ok, IfOk};
+ghost use Rattle.std.specs.Prelude.{◌≡◌, ℕ, ◌+◌, ◌-◌, ◌*◌, ◌<◌, ◌≤◌, ◌==◌, [], true, length, drop, slice_range, option_map, Some, Ok, IfOk};
 ghost use Rattle.std.specs.Str.{chars};
 ghost use Rattle.rst_text.specs.Block.{Block, first_number};
 ghost use Rattle.rst_text.specs.Looked.{Looked, capped};
 ghost use Rattle.rst_text.specs.Shown.{block_of};
 ghost use Rattle.rst_tree.specs.Faults as faults;
 ghost use Rattle.rst_tree.specs.declared.note.Level.TheVariants.{Error};
-ghost use Rattle.rst_tree.specs.declared.tag.Tag.TheVariants.{Title as TitleTag};
 ghost use Rattle.rst_markup_directives.specs.Argument as given;
 ghost use Rattle.rst_markup_directives.specs.Directive as directives;
 ghost use Rattle.rst_markup_directives.specs.Message.{fault_text};
-ghost use Rattle.rst_markup_directives.specs.Options.{choices_in};
 ghost use Rattle.rst_markup_directives.specs.Wrong.{fault_in};
 ghost use Rattle.rst_block_nodes.specs.Options.{directive_element};
-ghost use Rattle.rst_block_sections.specs.Sections.{filled};
+ghost use Rattle.rst_block_nodes.specs.Sections.{filled};
 ghost use Rattle.rst_block_state.specs.Directives as meaning;
-ghost use Rattle.rst_block_state.specs.Directives.{titled_element};
-ghost use Rattle.rst_block_state.specs.LineRuns.{number_or};
-ghost use Rattle.rst_block_markup.specs.MarkupSteps.{IsDirectiveRead, IsPartRead, IsRight, is_figure, is_replacement, place_in, read_of};
+ghost use Rattle.rst_block_markup.specs.MarkupSteps.{IsDirectiveRead, IsPartRead, IsRight, place_in, read_of};
 ghost use Rattle.rst_block_state.specs.Meanings.{within_at};
-ghost use Rattle.rst_block_state.specs.Numbered.{then_read, just};
+ghost use Rattle.rst_block_state.specs.Numbered.{just};
 ghost use Rattle.rst_markup_directives.specs.Call.{IsArgumentIn, IsDirectiveIn};
 ghost use Rattle.rst_markup_directives.specs.declared.found.Place.{Place};
 ghost use Rattle.rst_markup_blocks.specs.Parts.{IsBlock, IsCall};
 ghost use Rattle.rst_block_state.specs.OpenBlocks.{Gives, IsMoved};
 ghost use Rattle.rst_block_state.specs.Paragraphs.{is_single_paragraph};
-ghost use Rattle.rst_block_state.specs.Texts.{joined, lines_in, shown, source_of, texted};
+ghost use Rattle.rst_block_state.specs.Texts.{joined, lines_in, shown, source_of};
 ghost use Rattle.rst_block_state.specs.declared.step.Step.TheVariants.{Open};
 ghost use Rattle.rst_block_state.specs.declared.texts.Pass.{Pass};
 ghost use Rattle.rst_block_state.specs.Ledger.{argument_lines, unread_at};
@@ -34,9 +30,9 @@ ghost use Rattle.rst_block_state.specs.Inside.{directive_blocks};
 use super::explicit::put;
 use super::single::is_single_paragraph;
 use rst_block_nodes::{
-    code_block, directive_element, figure, image, message, with_text, with_title_class,
+    append, code_block, directive_element, figure, filled, image, message, with_text,
+    with_title_class,
 };
-use rst_block_sections::{append, filled};
 use rst_block_state::{
     OpenBlock, Pass, Result, Step, Waits, alone, excerpt, first_line_or, inside, joined, number_at,
     source,
@@ -47,7 +43,7 @@ use rst_markup_directives::{
     message as fault_text,
 };
 use rst_text::{Looks, View};
-use rst_tree::{Level, Node, Tag, TreeFault};
+use rst_tree::{Level, Node, Tag};
 use std::alloc::Global;
 
 /// What a directive is, where `place` is where it stands.

@@ -1,7 +1,7 @@
 //! Explicit markup blocks (Markup Specification, 'Explicit Markup Blocks').
 ghost use Rattle.std.specs.Prelude.{◌≡◌, ◌+◌, ◌-◌, ◌*◌, ◌<◌, ◌≤◌, [], ◌∷◌, length, drop, string_bytes, option_map, IfOk, IsTrue};
 ghost use Rattle.rst_text.specs.Block.{first_number, front_text};
-ghost use Rattle.rst_text.specs.Looked.{Looked, capped};
+ghost use Rattle.rst_text.specs.Looked.{capped};
 ghost use Rattle.rst_text.specs.Shown.{block_of};
 ghost use Rattle.rst_markup_blocks.specs.Parts.{IsBlock};
 ghost use Rattle.rst_tree.specs.Faults as faults;
@@ -12,13 +12,13 @@ ghost use Rattle.rst_markup_blocks.specs.Kinds.{kind_of};
 ghost use Rattle.rst_block_nodes.specs.Elements.{preserved_node};
 ghost use Rattle.rst_block_nodes.specs.Targets.{target_node};
 ghost use Rattle.rst_block_state.specs.Markup as markup;
-ghost use Rattle.rst_block_markup.specs.MarkupSteps.{IsPartRead, is_markup, markup_reads, reads_with};
-ghost use Rattle.rst_block_state.specs.Meanings.{Keeps, comes, open_of, reads, within_at};
+ghost use Rattle.rst_block_markup.specs.MarkupSteps.{IsPartRead, markup_reads, reads_with};
+ghost use Rattle.rst_block_state.specs.Meanings.{Keeps, comes, reads, within_at};
 ghost use Rattle.rst_block_state.specs.Numbered.{just};
 ghost use Rattle.rst_block_state.specs.OpenBlocks as blocks;
 ghost use Rattle.rst_block_state.specs.declared.step.Step.TheVariants.{Next};
 ghost use Rattle.rst_block_state.specs.Steps as spec;
-ghost use Rattle.rst_block_state.specs.Texts.{excerpt, lines_in, said, spelled};
+ghost use Rattle.rst_block_state.specs.Texts.{excerpt, lines_in, spelled};
 ghost use Rattle.rst_block_state.specs.Ledger.{IsPaid, run_looks, unread_at};
 ghost use Rattle.rst_block_state.specs.Inside.{markup_blocks};
 
@@ -31,7 +31,7 @@ use rst_block_state::{
 use rst_markup_blocks::{CommentCause, Explicit, Part, explicit};
 use rst_markup_lines::{Characters, LabelKind};
 use rst_text::{Looks, View};
-use rst_tree::{Level, Node, Tag, TreeFault};
+use rst_tree::{Level, Node, Tag};
 use std::alloc::{AllocError, Global};
 
 /// Explicit markup, which joins other explicit markup before it.

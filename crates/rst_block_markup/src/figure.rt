@@ -4,16 +4,15 @@ ghost use Rattle.rst_text.specs.Block.{first_number};
 ghost use Rattle.rst_text.specs.Looked.{capped};
 ghost use Rattle.rst_text.specs.Shown.{block_of};
 ghost use Rattle.rst_tree.specs.Faults.{Gives};
-ghost use Rattle.rst_block_sections.specs.Sections.{filled};
+ghost use Rattle.rst_block_nodes.specs.Sections.{filled};
 ghost use Rattle.rst_block_state.specs.Figures as spec;
 ghost use Rattle.rst_block_state.specs.Texts.{source_of};
 ghost use Rattle.rst_block_markup.specs.MarkupSteps.{beginning_in};
 
-use rst_block_nodes::message;
-use rst_block_sections::completed;
+use rst_block_nodes::{completed, message};
 use rst_block_state::{number_at, parted, source};
 use rst_text::{Looks, View};
-use rst_tree::{Attrs, Children, Key, Level, Node, Tag, TreeFault};
+use rst_tree::{Attrs, Key, Level, Node, Tag, TreeFault};
 use rst_tree_index::{Marked, MarkedIter, MarkedNodes};
 use std::alloc::Global;
 

@@ -1,21 +1,17 @@
 //! Substitution definitions (Markup Specification, 'Substitution Definitions').
-ghost use Rattle.std.specs.Prelude.{◌≡◌, ◌+◌, ◌-◌, ◌*◌, ◌<◌, ◌≤◌, List, ◌∷◌, [], false, Some, length, drop, slice_range, string_bytes, IfOk, IfSome};
-ghost use Rattle.std.specs.Option.{option_map_or};
+ghost use Rattle.std.specs.Prelude.{◌≡◌, ◌-◌, ◌*◌, ◌<◌, ◌≤◌, ◌∷◌, [], false, Some, length, drop, string_bytes, IfOk, IfSome};
 ghost use Rattle.rst_text.specs.Block.{first_number, front_text};
-ghost use Rattle.rst_text.specs.Looked.{capped};
 ghost use Rattle.rst_text.specs.Shown.{block_of};
 ghost use Rattle.rst_tree.specs.Faults.{Gives};
 ghost use Rattle.rst_tree.specs.Nodes.{nodes_of};
 ghost use Rattle.rst_tree.specs.declared.note.Level.TheVariants.{Error};
-ghost use Rattle.rst_markup_directives.specs.Message.{fault_text};
 ghost use Rattle.rst_markup_directives.specs.Options.{choices_in};
-ghost use Rattle.rst_markup_directives.specs.Wrong.{fault_in};
 ghost use Rattle.rst_markup_directives.specs.declared.found.Place.TheVariants.{Substitution};
 ghost use Rattle.rst_block_nodes.specs.Elements.{substitution_definition_node};
 ghost use Rattle.rst_block_nodes.specs.Options.{image_element};
 ghost use Rattle.rst_markup_directives.specs.Call.{IsContentIn};
 ghost use Rattle.rst_markup_blocks.specs.Parts.{IsCall};
-ghost use Rattle.rst_block_sections.specs.Sections.{filled};
+ghost use Rattle.rst_block_nodes.specs.Sections.{filled};
 ghost use Rattle.rst_block_state.specs.Directives as directives;
 ghost use Rattle.rst_block_markup.specs.MarkupSteps.{IsPartRead, made_of};
 ghost use Rattle.rst_block_state.specs.Meanings.{within_at};
@@ -27,15 +23,14 @@ ghost use Rattle.rst_block_state.specs.Inside.{content_blocks, definition_blocks
 use super::directive::{directive_at, wrong_directive};
 use super::explicit::put;
 use rst_block_nodes::{
-    image, may_replace, message, substitution_definition as definition, substitution_name,
+    filled, image, may_replace, message, substitution_definition as definition, substitution_name,
 };
-use rst_block_sections::filled;
 use rst_block_state::{
     OpenBlock, OpenReplacement, Pass, Result, Step, Waits, alone, excerpt, number_at, source,
 };
 use rst_markup_blocks::Invocation;
 use rst_markup_directives::{Argument, Content, Directive, DirectiveFault, Place, Setting};
-use rst_text::{Looks, View};
+use rst_text::View;
 use rst_tree::{Children, Level, Node, Tag, TreeFault};
 use rst_tree_index::MarkedNodes;
 use std::alloc::{AllocError, Global};

@@ -7,3 +7,4 @@ pub mod ReadLemmas
 pub mod TermLemmas
 pub mod LineBlockLemmas
 pub mod ReadingBridges
+pub mod SectionLemmas

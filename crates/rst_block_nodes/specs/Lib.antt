@@ -10,3 +10,6 @@ pub mod Numbered
 pub mod Readings
 pub mod LineBlocks
 pub mod Whole
+pub mod Sections
+pub mod OpenSections
+pub mod Written

@@ -2,7 +2,7 @@
 use Rattle.std.specs.Prelude.{◌≡◌, ℕ, zero, suc, Bool, true, false, ◌&&◌, ◌==◌, not, List, [], ◌∷◌, ◌++◌, take, map, if◌then◌else◌, encode_utf8_all}
 use Rattle.rst_text.specs.Characters.{is_white}
 use Rattle.std.specs.List.{flat_map}
-use Rattle.rst_inline_scan.specs.Escapes.{escapes}
+use Rattle.rst_text.specs.Escapes.{escapes}
 use Rattle.rst_inline_scan.specs.declared.piece.Kind.{Kind}
 use Rattle.rst_inline_scan.specs.declared.piece.Kind.TheVariants.{Plain}
 use Rattle.rst_inline_scan.specs.declared.piece.Piece.{Piece}

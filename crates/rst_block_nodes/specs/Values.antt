@@ -3,7 +3,7 @@ use Rattle.std.specs.Prelude.{ℕ, List, map, encode_utf8_all, string_bytes}
 use Rattle.std.specs.Str.{chars}
 use Rattle.std.specs.declared.string.String.{String}
 use Rattle.rst_text.specs.Names as names
-use Rattle.rst_inline_scan.specs.Escapes as escapes
+use Rattle.rst_text.specs.Escapes as escapes
 use Rattle.rst_tree.specs.declared.attrs.Value.{Value}
 use Rattle.rst_tree.specs.declared.attrs.Value.TheVariants.{List as Listed}
 

@@ -63,7 +63,7 @@ pub fn with_title_class(alloc: Global, admonition: Node, title: &Node) -> Result
 }
 
 /// The class that a title gives.
-#[tactic(auto, using(crate::proofs::TextLemmas::bytes_of_chars))]
+#[tactic(auto, using(rst_text::proofs::TextLemmas::bytes_of_chars))]
 fn title_class(alloc: Global, title: &Node) -> Result<Value>
     ensures { Gives (λ class. class ≡ title_class title.now) result }
 {

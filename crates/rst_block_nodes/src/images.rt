@@ -57,7 +57,7 @@ fn link_of(options: &[Setting]) -> Option<(&Target, &str)>
 }
 
 /// A reference round an image: what it leads to, and how it is written.
-#[tactic(auto, using(crate::proofs::TextLemmas::bytes_encoded))]
+#[tactic(auto, using(rst_text::proofs::TextLemmas::bytes_encoded))]
 fn linked(alloc: Global, image: Node, to: &Target, source: &str, line: usize) -> Result<Node>
     ensures { Gives (λ node. node ≡ linked_node image (destination_of to.now) source.now line) result }
 {

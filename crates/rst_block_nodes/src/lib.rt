@@ -1,8 +1,11 @@
 //! The elements of the document tree that blocks make: lists, footnotes, targets, tables, images and the others, from
-//! texts and numbers (Document Tree, 'Element Reference'). Nothing here looks at lines of the source.
+//! texts and numbers (Document Tree, 'Element Reference'); and the sections that titles make of a document's nodes.
+//! Nothing here looks at lines of the source.
 #![tactic(auto)]
 
+mod contents;
 mod directives;
+mod heading;
 mod images;
 mod labels;
 mod laws;
@@ -12,7 +15,7 @@ mod messages;
 mod nodes;
 mod numbers;
 pub mod rows;
-mod sections;
+mod sectioning;
 mod settings;
 mod tables;
 mod targets;
@@ -20,7 +23,9 @@ mod terms;
 mod texted;
 mod values;
 
+pub use contents::{append, completed, filled};
 pub use directives::{code_block, directive_element, with_title_class};
+pub use heading::{Heading, Style};
 pub use images::{figure, image};
 pub use labels::{citation, footnote};
 pub use laws::texts_are_read;
@@ -29,7 +34,7 @@ pub use lists::{bullet_list, enumerated_list, option, start_message};
 pub use messages::message;
 pub use nodes::{element_of, plain, preserved};
 pub use numbers::Numbers;
-pub use sections::section;
+pub use sectioning::document;
 pub use tables::{entry, tgroup};
 pub use targets::{may_replace, substitution_definition, substitution_name, target};
 pub use terms::{Heads, term_and_classifiers};

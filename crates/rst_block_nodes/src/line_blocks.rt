@@ -1,8 +1,6 @@
 //! Line blocks.
 ghost use Rattle.std.specs.Prelude.{◌≡◌, ◌≤◌, ◌-◌, suc, length, Ok};
-ghost use Rattle.rst_tree.specs.Faults.{Gives};
 ghost use Rattle.rst_tree.specs.declared.tag.Tag.TheVariants.{Line};
-ghost use Rattle.rst_block_nodes.specs.Readings.{texted};
 ghost use Rattle.rst_block_nodes.specs.LineBlocks.{Makes, line_block, indented, first_line, least_indent, deeper_len};
 ghost use Rattle.rst_block_nodes.specs.declared.line_blocks.LineBlockFault.TheVariants.{NoMemory};
 

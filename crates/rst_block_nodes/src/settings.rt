@@ -54,7 +54,7 @@ pub(crate) fn set_options(
 }
 
 /// What the value of an option says as the value of an attribute: of a target, the text that it is written with.
-#[tactic(auto, using(crate::proofs::TextLemmas::bytes_encoded, crate::proofs::TextLemmas::listed_bytes))]
+#[tactic(auto, using(rst_text::proofs::TextLemmas::bytes_encoded, crate::proofs::TextLemmas::listed_bytes))]
 fn value_of(alloc: Global, value: &OptionValue) -> Result<Value>
     ensures { Gives (λ said. said ≡ value_meant (meaning_of value.now)) result }
 {

@@ -1,7 +1,6 @@
 //! Targets and substitution definitions.
 ghost use Rattle.std.specs.Prelude.{◌≡◌, ◌∷◌, [], string_bytes, option_map};
 ghost use Rattle.std.specs.List.{list_any};
-ghost use Rattle.rst_tree.specs.Nodes.{nodes_of};
 ghost use Rattle.rst_tree.specs.Faults.{Gives};
 ghost use Rattle.rst_markup_directives.specs.Target.{destination_of};
 ghost use Rattle.rst_block_nodes.specs.Values.{normalized, unescaped};
@@ -11,7 +10,7 @@ ghost use Rattle.rst_block_nodes.specs.Targets.{target_node, name_attrs, leading
 use super::nodes::element_of;
 use super::values::{name_said, normalized, said, unescaped};
 use rst_markup_directives::{Target, target_value};
-use rst_tree::{Attrs, Children, Entry, Key, Node, Result, Tag, Text, TreeFault, Value};
+use rst_tree::{Attrs, Entry, Key, Node, Result, Tag, Text, TreeFault, Value};
 use std::alloc::Global;
 
 /// A target that is a block: its name as it is written, still with escapes, if it has one, and its text, whose lines are
@@ -43,7 +42,7 @@ fn name_attr(alloc: Global, name: Option<&str>) -> Result<Entry>
 }
 
 /// Lets a target's attributes say what it leads to.
-#[tactic(auto, using(crate::proofs::TextLemmas::bytes_encoded))]
+#[tactic(auto, using(rst_text::proofs::TextLemmas::bytes_encoded))]
 fn add_lead(alloc: Global, attrs: &mut Attrs, destination: Option<Target>) -> Result<()>
     ensures { Gives (λ _. attrs.new ≡ leading_attrs attrs.old (option_map destination_of destination)) result }
 {

@@ -10,8 +10,8 @@ use super::nodes::element_of;
 use super::numbers::Numbers;
 use super::texted::{counting, messages_of};
 use rst_inline::{Pieces, inline_from, part};
-use rst_inline_scan::{Kind, Piece, escapes, pieces_of};
-use rst_text::{characters_of, is_white};
+use rst_inline_scan::{Kind, Piece, pieces_of};
+use rst_text::{characters_of, escapes, is_white};
 use rst_tree::{Attrs, Node, Result, Tag, Text};
 use std::alloc::{AllocError, Global};
 

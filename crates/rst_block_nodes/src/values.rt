@@ -20,7 +20,7 @@ pub(crate) fn said(alloc: Global, text: &str) -> Result<Value>
 }
 
 /// A value that says the name that a text gives.
-#[tactic(auto, using(crate::proofs::TextLemmas::bytes_of_chars))]
+#[tactic(auto, using(rst_text::proofs::TextLemmas::bytes_of_chars))]
 pub(crate) fn name_said(alloc: Global, text: &str) -> Result<Value>
     ensures { Gives (λ value. value ≡ Said (name_in text.now)) result }
 {
@@ -29,7 +29,7 @@ pub(crate) fn name_said(alloc: Global, text: &str) -> Result<Value>
 }
 
 /// A text with each run of white characters as one space, and none at its ends.
-#[tactic(auto, using(crate::proofs::TextLemmas::bytes_of_chars))]
+#[tactic(auto, using(rst_text::proofs::TextLemmas::bytes_of_chars))]
 pub(crate) fn normalized(alloc: Global, text: &str) -> Result<String>
     ensures { Gives (λ shown. string_bytes shown ≡ normalized text.now) result }
 {
@@ -37,7 +37,7 @@ pub(crate) fn normalized(alloc: Global, text: &str) -> Result<String>
 }
 
 /// A text without its escapes. Most texts have none, and aren't copied for them.
-#[tactic(auto, using(crate::proofs::TextLemmas::bytes_of_chars))]
+#[tactic(auto, using(rst_text::proofs::TextLemmas::bytes_of_chars))]
 pub(crate) fn unescaped(alloc: Global, text: &str) -> Result<CowStr<'_, Global>>
     ensures { Gives (λ shown. cow_str_bytes shown ≡ unescaped text.now) result }
 {

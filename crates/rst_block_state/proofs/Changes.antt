@@ -3,8 +3,8 @@ use Rattle.std.proofs.Common.{◌≡◌, ℕ, List, [], ◌∷◌, ◌++◌, map
 use Rattle.std.proofs.lemmas.List.{map-append}
 use Rattle.rst_text.specs.Block.{Block}
 use Rattle.rst_tree.specs.declared.node.Node.{Node}
-use Rattle.rst_block_sections.specs.Sections.{items_of, title_of}
-use Rattle.rst_block_sections.specs.declared.heading.Heading.{Heading}
+use Rattle.rst_block_nodes.specs.Sections.{items_of, title_of}
+use Rattle.rst_block_nodes.specs.declared.heading.Heading.{Heading}
 use Rattle.rst_block_state.specs.Meanings.{open_of, within_at, done_of, reads, reads_from, with_item}
 use Rattle.rst_block_state.specs.Numbered.{before}
 use Rattle.rst_block_state.specs.OpenBlocks.{IsMoved, HasRun, HasMoreAt, HasMore, IsClosed, HasItemIn, HasItem, HasTitle}

@@ -20,8 +20,8 @@ use Rattle.rst_markup_blocks.specs.declared.kind.Kind.TheVariants as kinds
 use Rattle.rst_markup_blocks.specs.declared.lines.LineTest.TheVariants.{Blank as BlankTest}
 use Rattle.rst_markup_blocks.proofs.PartitionLemmas.{end_inside}
 use Rattle.rst_markup_blocks.proofs.RowLemmas.{row_at}
-use Rattle.rst_block_sections.specs.Sections.{title_of}
-use Rattle.rst_block_sections.specs.declared.heading.Heading.{Heading}
+use Rattle.rst_block_nodes.specs.Sections.{title_of}
+use Rattle.rst_block_nodes.specs.declared.heading.Heading.{Heading}
 use Rattle.rst_block_state.specs.Begins.{construct_with}
 use Rattle.rst_block_state.specs.Constructs.{Construct, Found, text_by}
 use Rattle.rst_block_state.specs.Joins.{alone_ending}

@@ -1,9 +1,10 @@
 -- The run that is open, as a walk over the constructs keeps it: it gives what the runs of the definition give.
 use Rattle.std.proofs.Common.{◌≡◌, ℕ, suc, Bool, true, false, List, [], ◌∷◌, ◌++◌, drop, map, Option, Some, None, Result, Ok, Err, refl, sym, ◌∙◌, ap, subst, append_assoc, append-nil}
-use Rattle.std.specs.Prelude.{◌==◌, if◌then◌else◌}
+use Rattle.std.specs.Prelude.{◌==◌}
 use Rattle.std.specs.Option.{option_map_or}
 use Rattle.std.proofs.lemmas.Grind.{flat_map-append}
 use Rattle.std.proofs.lemmas.List.{map-append}
+use Rattle.rst_text.proofs.Choices.{chosen, none_is, some_is}
 use Rattle.rst_text.specs.Block.{Block}
 use Rattle.rst_tree.specs.declared.node.Node.{Node}
 use Rattle.rst_markup_lines.specs.Enumerator.{is_same_format, ordinal_in}
@@ -12,7 +13,7 @@ use Rattle.rst_markup_lines.specs.declared.enumerator.Ordinals.{Ordinals}
 use Rattle.rst_markup_lines.specs.declared.enumerator.Ordinals.TheVariants.{Auto, Arabic, Letters}
 use Rattle.rst_markup_lines.specs.declared.enumerator.Sequence.{Sequence}
 use Rattle.rst_markup_blocks.specs.Partition.{Span, spans}
-use Rattle.rst_block_sections.specs.Sections.{filled}
+use Rattle.rst_block_nodes.specs.Sections.{filled}
 use Rattle.rst_block_state.specs.Constructs.{Construct, nothing, block_quote, item_of_list, doctest_block, bar_line, grid, simple, explicit_markup, transition, overlined_title, misplaced_lines, underlined_title, paragraph, ItemMark, bullet_item, enumerated_item, definition_item, field_item, option_item, Found, found_at}
 use Rattle.rst_block_state.specs.Joins.{Joining, bullets, enumerators, definitions, fields, options, lines_from, explicits, none, list_joining, enumerators_by, is_next_after, list_joining_after, joining_of, joining_after, joined_ending, alone_ending}
 use Rattle.rst_block_state.specs.LineRuns.{indented_line, indented_lines, indentation_of, line_block}
@@ -85,44 +86,29 @@ none_joins _ s = refl
 
 -- ---- a construct that joins
 
-some_is : (x y : Joining) → Some x ≡ Some y → x ≡ y
-some_is x y e = ap (λ o. option_map_or (λ j. j) o x) e
-
-none_some : (x : Joining) → None ≡ Some x → ⊥
-none_some x e = cc
-
 not_both : false ≡ true → ⊥
 not_both e = cc
-
-if_some : (b : Bool) (x next : Joining) → (if b then Some x else None) ≡ Some next → x ≡ next
-if_some true x next e = some_is x next e
-if_some false x next e = absurd (none_some next e)
 
 -- after an item a list is open that is still of its kind
 abbrev pub GoesOn : Joining → Joining → Type 0
 GoesOn j next = (is_list next ≡ true) × (joined_ending next ≡ joined_ending j)
 
 number_goes_on : (f : Format) (q : Sequence) (last : Option ℕ) (ordinals : Ordinals) (next : Joining) → enumerators_by f q last ordinals ≡ Some next → GoesOn (enumerators f q last) next
-number_goes_on f q last Auto next e = subst (GoesOn (enumerators f q last)) (some_is (enumerators f q None) next e) (refl, refl)
-number_goes_on f q None (Arabic n) next e = absurd (none_some next e)
-number_goes_on f q None (Letters k a r) next e = absurd (none_some next e)
+number_goes_on f q last Auto next e = subst (GoesOn (enumerators f q last)) (some_is e) (refl, refl)
+number_goes_on f q None (Arabic n) next e = absurd (none_is e)
+number_goes_on f q None (Letters k a r) next e = absurd (none_is e)
 number_goes_on f q (Some last) (Arabic n) next e =
-    subst (GoesOn (enumerators f q (Some last))) (if_some (is_next_after last (ordinal_in q (Arabic n))) (enumerators f q (Some (suc last))) next e) (refl, refl)
+    subst (GoesOn (enumerators f q (Some last))) (some_is (chosen (is_next_after last (ordinal_in q (Arabic n))) (Some (enumerators f q (Some (suc last)))) next e).1) (refl, refl)
 number_goes_on f q (Some last) (Letters k a r) next e =
-    subst (GoesOn (enumerators f q (Some last))) (if_some (is_next_after last (ordinal_in q (Letters k a r))) (enumerators f q (Some (suc last))) next e) (refl, refl)
-
-enumerator_goes_on : (b : Bool) (f : Format) (q : Sequence) (last : Option ℕ) (ordinals : Ordinals) (next : Joining)
-    → (if b then enumerators_by f q last ordinals else None) ≡ Some next → GoesOn (enumerators f q last) next
-enumerator_goes_on true f q last ordinals next e = number_goes_on f q last ordinals next e
-enumerator_goes_on false f q last ordinals next e = absurd (none_some next e)
+    subst (GoesOn (enumerators f q (Some last))) (some_is (chosen (is_next_after last (ordinal_in q (Letters k a r))) (Some (enumerators f q (Some (suc last)))) next e).1) (refl, refl)
 
 list_goes_on : (j : Joining) (mark : ItemMark) (next : Joining) → list_joining_after j mark ≡ Some next → GoesOn j next
-list_goes_on (bullets c) (bullet_item d m) next e = subst (GoesOn (bullets c)) (if_some (c == d) (bullets c) next e) (refl, refl)
-list_goes_on (enumerators f q last) (enumerated_item i) next e = enumerator_goes_on (is_same_format f i.format) f q last i.written.ordinals next e
-list_goes_on definitions (definition_item infos) next e = subst (GoesOn definitions) (some_is definitions next e) (refl, refl)
-list_goes_on fields (field_item m) next e = subst (GoesOn fields) (some_is fields next e) (refl, refl)
-list_goes_on options (option_item m) next e = subst (GoesOn options) (some_is options next e) (refl, refl)
-list_goes_on j mark next e = absurd (none_some next e)
+list_goes_on (bullets c) (bullet_item d m) next e = subst (GoesOn (bullets c)) (some_is (chosen (c == d) (Some (bullets c)) next e).1) (refl, refl)
+list_goes_on (enumerators f q last) (enumerated_item i) next e = number_goes_on f q last i.written.ordinals next (chosen (is_same_format f i.format) (enumerators_by f q last i.written.ordinals) next e).1
+list_goes_on definitions (definition_item infos) next e = subst (GoesOn definitions) (some_is e) (refl, refl)
+list_goes_on fields (field_item m) next e = subst (GoesOn fields) (some_is e) (refl, refl)
+list_goes_on options (option_item m) next e = subst (GoesOn options) (some_is e) (refl, refl)
+list_goes_on j mark next e = absurd (none_is e)
 
 -- what joins a list is an item, which waits for the list's end
 joins_list : (j : Joining) (what : Construct) (s : Span) (next : Joining) (more : List Item) → is_list j ≡ true → joining_after j what s ≡ Some next
@@ -135,7 +121,7 @@ joins_list (enumerators f q last) (item_of_list mark) s next more h e = (refl, r
 joins_list definitions (item_of_list mark) s next more h e = (refl, refl, list_goes_on definitions mark next e)
 joins_list fields (item_of_list mark) s next more h e = (refl, refl, list_goes_on fields mark next e)
 joins_list options (item_of_list mark) s next more h e = (refl, refl, list_goes_on options mark next e)
-joins_list j what s next more h e = absurd (none_some next e)
+joins_list j what s next more h e = absurd (none_is e)
 
 lines_join_none : (end : ℕ) (mark : ItemMark) → list_joining_after (lines_from end) mark ≡ None
 lines_join_none end (bullet_item c m) = refl
@@ -148,20 +134,20 @@ explicits_join_none _ = refl
 -- what joins a line block is a line
 joins_lines : (end : ℕ) (what : Construct) (s : Span) (next : Joining) (more : List Item) → joining_after (lines_from end) what s ≡ Some next
     → (at_once what more ≡ []) × (alone_ending what ≡ None) × (next ≡ lines_from s.stop)
-joins_lines end (item_of_list mark) s next more e = absurd (none_some next (sym (lines_join_none end mark) ∙ e))
-joins_lines end (bar_line m) s next more e = (refl, refl, sym (if_some (s.start == end) (lines_from s.stop) next e))
-joins_lines end what s next more e = absurd (none_some next e)
+joins_lines end (item_of_list mark) s next more e = absurd (none_is (sym (lines_join_none end mark) ∙ e))
+joins_lines end (bar_line m) s next more e = (refl, refl, sym (some_is (chosen (s.start == end) (Some (lines_from s.stop)) next e).1))
+joins_lines end what s next more e = absurd (none_is e)
 
 -- what joins explicit markup is explicit markup
 joins_markup : (what : Construct) (s : Span) (next : Joining) (more : List Item) → joining_after explicits what s ≡ Some next
     → (at_once what more ≡ more) × (alone_ending what ≡ None) × (next ≡ explicits)
-joins_markup (item_of_list mark) s next more e = absurd (none_some next (sym (explicits_join_none mark) ∙ e))
-joins_markup explicit_markup s next more e = (refl, refl, sym (some_is explicits next e))
-joins_markup what s next more e = absurd (none_some next e)
+joins_markup (item_of_list mark) s next more e = absurd (none_is (sym (explicits_join_none mark) ∙ e))
+joins_markup explicit_markup s next more e = (refl, refl, sym (some_is e))
+joins_markup what s next more e = absurd (none_is e)
 
 -- nothing joins a construct by itself
 joins_none : {A : Type 0} (j : Joining) (x : Found) (next : Joining) → j ≡ none → joining_after j x.what x.span ≡ Some next → A
-joins_none j x next h e = absurd (none_some next (sym (none_joins x.what x.span) ∙ ap (λ i. joining_after i x.what x.span) (sym h) ∙ e))
+joins_none j x next h e = absurd (none_is (sym (none_joins x.what x.span) ∙ ap (λ i. joining_after i x.what x.span) (sym h) ∙ e))
 
 joins_as : (j i : Joining) (x : Found) (next : Joining) → j ≡ i → joining_after j x.what x.span ≡ Some next → joining_after i x.what x.span ≡ Some next
 joins_as j i x next h e = ap (λ i. joining_after i x.what x.span) (sym h) ∙ e

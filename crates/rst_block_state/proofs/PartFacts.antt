@@ -3,6 +3,7 @@ use Rattle.std.proofs.Common.{◌≡◌, ℕ, zero, suc, ◌+◌, ◌-◌, ◌<�
 use Rattle.std.specs.Char.{is_whitespace}
 use Rattle.std.proofs.lemmas.Bool.{eqb-true, leb-true, and_parts, or_parts, not-true, not_from_false}
 use Rattle.std.proofs.lemmas.List.{drop-drop, length-map}
+use Rattle.rst_markup_directives.proofs.Parts.{length-shorten_all}
 use Rattle.rst_text.specs.Block.{Line, Block, front_text, is_blank, indentation, shorten, shorten_all, cut}
 use Rattle.rst_text.specs.Extent.{extent}
 use Rattle.rst_text.specs.Lines.{ends_white}
@@ -72,10 +73,6 @@ white_front (l ∷ ls) h = not-true (ends_white l.text) (and_parts (not (ends_wh
 
 -- ---- lines of a part
 
-length_all : (f r : ℕ) (B : Block) → length (shorten_all f r B) ≡ length B
-length_all f r [] = refl
-length_all f r (l ∷ ls) = ap suc (length-map ls (shorten r))
-
 pub take_le : (n : ℕ) (B : Block) → (length (take n B) ≤ n) × (length (take n B) ≤ length B)
 take_le n B = (omega (arith, length-take n B), omega (arith, length-take n B))
 
@@ -84,7 +81,7 @@ pub part_le : (B : Block) (p : Part) → (length (lines_in B p) ≤ p.to - p.fro
 part_le B p =
     let X : Block = drop p.from B in
     let t = take_le (p.to - p.from) X in
-    (omega (arith, length_all p.first_cut p.rest_cut (take (p.to - p.from) X), t.0), omega (arith, length_all p.first_cut p.rest_cut (take (p.to - p.from) X), t.1, length-drop p.from B))
+    (omega (arith, length-shorten_all p.first_cut p.rest_cut (take (p.to - p.from) X), t.0), omega (arith, length-shorten_all p.first_cut p.rest_cut (take (p.to - p.from) X), t.1, length-drop p.from B))
 
 front_all : (f r n : ℕ) (X : Block) → 1 ≤ length (shorten_all f r (take n X)) → front_text (shorten_all f r (take n X)) ≡ drop f (front_text X)
 front_all f r zero X h = absurd (omega (arith, h))

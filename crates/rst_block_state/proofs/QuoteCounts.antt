@@ -1,6 +1,7 @@
 -- The count that bounds the quotes of some lines may be any that is large enough.
-use Rattle.std.proofs.Common.{◌≡◌, ℕ, zero, suc, ◌+◌, ◌-◌, ◌<◌, ◌≤◌, Bool, true, false, List, [], ◌∷◌, ◌++◌, length, length-drop, drop, take, Option, Some, None, arith, refl, ap, option_map, option_and_then, is_some, if◌then◌else◌}
+use Rattle.std.proofs.Common.{◌≡◌, ℕ, zero, suc, ◌+◌, ◌-◌, ◌<◌, ◌≤◌, List, [], ◌∷◌, ◌++◌, length, length-drop, drop, take, Option, Some, None, arith, refl, ap, option_map, option_and_then, is_some}
 use Rattle.std.specs.Option.{option_map_or}
+use Rattle.rst_text.proofs.Choices.{chosen, none_is}
 use Rattle.rst_text.specs.Block.{Block, front_text, is_blank, first_number, indentation}
 use Rattle.rst_text.specs.Places.{first_from, IsFirst}
 use Rattle.rst_text.proofs.PlacesLemmas.{first_from-IsFirst}
@@ -19,45 +20,38 @@ use Rattle.rst_block_state.specs.Texts.{joined, lines_in, texted}
 use Rattle.rst_block_state.specs.Within.{Within}
 use Rattle.rst_block_state.proofs.NumberedLemmas.{same_after}
 
-none_is : {A : Type 0} (a : A) → None ≡ Some a → ⊥
-none_is a e = cc
-
 -- an attribution at place k, before m lines in all, has a line and ends with the last of them or before
 abbrev IsInside : ℕ → ℕ → Attribution → Type 0
 IsInside k m a = (k < a.end) × (a.end ≤ k + m)
 
 inside_with : (k marker indent : ℕ) (o : Option ℕ) (X : Block) (a : Attribution) → 1 ≤ length X → level_lines indent (drop 1 X) ≡ o → attribution_with k marker indent o ≡ Some a
     → IsInside k (length X) a
-inside_with k marker indent None X a some h e = absurd (none_is a e)
+inside_with k marker indent None X a some h e = absurd (none_is e)
 inside_with k marker indent (Some n) X a some h e =
     let f : k + 1 + n ≡ a.end = ap (λ o. option_map_or (λ (x : Attribution). x.end) o 0) e in
     (omega (arith, f), omega (arith, f, some, level_lines-le indent n (drop 1 X) h, length-drop 1 X))
 
 inside_by : (o : Option ℕ) (k : ℕ) (X : Block) (a : Attribution) → 1 ≤ length X → attribution_by o k X ≡ Some a → IsInside k (length X) a
 unfolding attribution_behind
-inside_by None k X a some e = absurd (none_is a e)
+inside_by None k X a some e = absurd (none_is e)
 inside_by (Some marker) k X a some e = inside_with k marker (indentation (next_text X)) (level_lines (indentation (next_text X)) (drop 1 X)) X a some refl e
 
 inside_at : (k : ℕ) (X : Block) (a : Attribution) → 1 ≤ length X → attribution_at k X ≡ Some a → IsInside k (length X) a
 unfolding attribution_at
 inside_at k X a some e = inside_by (attribution_of (front_text X)) k X a some e
 
-inside_if : (b : Bool) (k : ℕ) (X : Block) (a : Attribution) → 1 ≤ length X → (if b then attribution_at k X else None) ≡ Some a → IsInside k (length X) a
-inside_if true k X a some e = inside_at k X a some e
-inside_if false k X a some e = absurd (none_is a e)
-
 inside_in : (Q : Block) (o : Option Attribution) (i k : ℕ) (a : Attribution) → i < length Q → attribution_in Q i ≡ o → option_map {U = ℕ × Attribution} (λ b. (i, b)) o ≡ Some (k, a)
     → (k < a.end) × (a.end ≤ length Q)
-inside_in Q None i k a h is e = absurd (none_is (k, a) e)
+inside_in Q None i k a h is e = absurd (none_is e)
 inside_in Q (Some b) i k a h is e =
     let place : i ≡ k = ap (λ o. option_map_or (λ (x : ℕ × Attribution). x.0) o 0) e in
     let end : b.end ≡ a.end = ap (λ o. option_map_or (λ (x : ℕ × Attribution). x.1.end) o 0) e in
-    let w = inside_if (is_blank (text_at Q (i - 1))) i (drop i Q) b (omega (arith, h, length-drop i Q)) is in
+    let w = inside_at i (drop i Q) b (omega (arith, h, length-drop i Q)) (chosen (is_blank (text_at Q (i - 1))) _ b is).1 in
     (omega (arith, place, end, w.0), omega (arith, end, w.1, h, length-drop i Q))
 
 inside_from : (Q : Block) (o : Option ℕ) (k : ℕ) (a : Attribution) → IsFirst (λ i. is_some (attribution_in Q i)) 1 (1 + (length Q - 1)) o
     → option_and_then {U = ℕ × Attribution} (λ (i : ℕ). option_map {U = ℕ × Attribution} (λ b. (i, b)) (attribution_in Q i)) o ≡ Some (k, a) → (k < a.end) × (a.end ≤ length Q)
-inside_from Q None k a first e = absurd (none_is (k, a) e)
+inside_from Q None k a first e = absurd (none_is e)
 inside_from Q (Some i) k a first e = inside_in Q (attribution_in Q i) i k a (omega (arith, first.0, first.1)) refl e
 
 -- the first attribution of a quote ends behind its first line, and within the quote

@@ -7,8 +7,8 @@ use Rattle.rst_tree.specs.declared.tag.Tag.TheVariants.{Title as TitleTag}
 use Rattle.rst_block_nodes.specs.Results.{HoldsText}
 use Rattle.rst_block_nodes.specs.declared.texted.Texted.{Texted}
 use Rattle.rst_block_nodes.proofs.ReadingBridges.{texted_read}
-use Rattle.rst_block_sections.specs.declared.heading.Style.{Style}
-use Rattle.rst_block_sections.specs.Sections.{filled}
+use Rattle.rst_block_nodes.specs.declared.heading.Style.{Style}
+use Rattle.rst_block_nodes.specs.Sections.{filled}
 use Rattle.rst_markup_directives.specs.declared.name.Name.{Name}
 use Rattle.rst_block_state.specs.Directives.{titled_element}
 use Rattle.rst_block_state.specs.Numbered.{then_read, just}

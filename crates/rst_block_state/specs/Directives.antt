@@ -24,7 +24,7 @@ use Rattle.rst_block_nodes.specs.Admonitions.{with_title_class}
 use Rattle.rst_block_nodes.specs.Elements.{substitution_definition_node}
 use Rattle.rst_block_nodes.specs.Targets.{may_replace}
 use Rattle.rst_block_nodes.specs.Values.{normalized, unescaped}
-use Rattle.rst_block_sections.specs.Sections.{filled}
+use Rattle.rst_block_nodes.specs.Sections.{filled}
 use Rattle.rst_block_nodes.specs.Options.{code_element, directive_element, figure_element, image_element}
 use Rattle.rst_block_state.specs.Figures.{caption_error, figure_nodes}
 use Rattle.rst_block_state.specs.LineRuns.{number_or}

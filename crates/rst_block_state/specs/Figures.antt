@@ -10,7 +10,7 @@ use Rattle.rst_tree.specs.declared.note.Level.TheVariants.{Error}
 use Rattle.rst_tree.specs.declared.tag.Tag.{Tag}
 use Rattle.rst_tree.specs.declared.tag.Tag.TheVariants.{Caption, Comment, Legend, Paragraph}
 use Rattle.rst_block_nodes.specs.Elements.{element_of}
-use Rattle.rst_block_sections.specs.Sections.{filled}
+use Rattle.rst_block_nodes.specs.Sections.{filled}
 use Rattle.rst_block_state.specs.Texts.{shown}
 
 -- What the content of a figure begins with: a caption, and the number of the messages on its text, which follow it; an empty comment in place of a

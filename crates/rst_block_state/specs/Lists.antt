@@ -21,7 +21,7 @@ use Rattle.rst_markup_lines.specs.declared.options.ListedOption.{ListedOption}
 use Rattle.rst_markup_lines.specs.declared.place.Characters.{Characters}
 use Rattle.rst_markup_blocks.specs.declared.part.Part.{Part}
 use Rattle.rst_block_nodes.specs.Elements.{element_of, bullet_list_node, enumerated_list_node, start_text, option_node}
-use Rattle.rst_block_sections.specs.Sections.{filled}
+use Rattle.rst_block_nodes.specs.Sections.{filled}
 use Rattle.rst_block_state.specs.Constructs.{ItemMark, bullet_item, enumerated_item, definition_item, field_item, option_item, Construct, item_of_list}
 use Rattle.rst_block_state.specs.Numbered.{Numbered, ◌>>=◌, just}
 use Rattle.rst_block_state.specs.Texts.{excerpt, lines_in, said, termed, texted}

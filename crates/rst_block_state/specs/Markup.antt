@@ -15,7 +15,7 @@ use Rattle.rst_markup_blocks.specs.declared.forms.Explicit.TheVariants.{Footnote
 use Rattle.rst_markup_blocks.specs.declared.part.Part.{Part}
 use Rattle.rst_block_nodes.specs.Elements.{footnote_node, citation_node, preserved_node}
 use Rattle.rst_block_nodes.specs.Targets.{target_node}
-use Rattle.rst_block_sections.specs.Sections.{filled}
+use Rattle.rst_block_nodes.specs.Sections.{filled}
 use Rattle.rst_block_state.specs.Directives.{directive_nodes, substitution_nodes}
 use Rattle.rst_block_state.specs.Numbered.{Numbered, ◌>>=◌, just}
 use Rattle.rst_block_state.specs.Texts.{excerpt, lines_in, said, spelled}

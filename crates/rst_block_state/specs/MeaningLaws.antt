@@ -11,8 +11,8 @@ use Rattle.rst_markup_blocks.specs.declared.attribution.Attribution.{Attribution
 use Rattle.rst_markup_blocks.specs.declared.lines.LineTest.TheVariants.{Blank}
 use Rattle.rst_markup_blocks.specs.declared.part.Part.{Part}
 use Rattle.rst_block_nodes.specs.declared.texted.Texted.{Texted}
-use Rattle.rst_block_sections.specs.declared.heading.Heading.{Heading}
-use Rattle.rst_block_sections.specs.Sections.{title_of}
+use Rattle.rst_block_nodes.specs.declared.heading.Heading.{Heading}
+use Rattle.rst_block_nodes.specs.Sections.{title_of}
 use Rattle.rst_block_state.specs.Lists.{list_item}
 use Rattle.rst_block_state.specs.Meanings.{IsNew, open_of, deepest, within_at, done_of, reads, reads_from, quotes_from, with_item, resumed, after, plug, comes}
 use Rattle.rst_block_state.specs.Nodes.{below_last_level, block_items, nodes_among}

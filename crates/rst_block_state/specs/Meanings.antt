@@ -11,7 +11,7 @@ use Rattle.rst_markup_tables.specs.Ends.{end_of}
 use Rattle.rst_block_nodes.specs.Elements.{element_of}
 use Rattle.rst_block_nodes.specs.LineBlocks.{indented}
 use Rattle.rst_block_nodes.specs.declared.texted.Texted.{Texted}
-use Rattle.rst_block_sections.specs.Sections.{items_of, filled}
+use Rattle.rst_block_nodes.specs.Sections.{items_of, filled}
 use Rattle.rst_block_state.specs.Constructs.{block_quote, grid}
 use Rattle.rst_block_state.specs.Directives.{first_paragraph, replacement}
 use Rattle.rst_block_state.specs.Figures.{caption_error, figure_nodes}

@@ -3,7 +3,7 @@ use Rattle.std.specs.Prelude.{◌≡◌, ℕ, ◌==◌, Bool, false, List, [], �
 use Rattle.rst_tree.specs.declared.node.Node.{Node}
 use Rattle.rst_block_nodes.specs.LineBlocks.{indented_by}
 use Rattle.rst_block_nodes.specs.declared.line_blocks.BarText.{BarText}
-use Rattle.rst_block_sections.specs.declared.heading.Heading.{Heading}
+use Rattle.rst_block_nodes.specs.declared.heading.Heading.{Heading}
 use Rattle.rst_block_state.specs.Joins.{Joining}
 use Rattle.rst_block_state.specs.Meanings.{open_of, done_of}
 use Rattle.rst_block_state.specs.Rest.{OpenRun, open_list, open_lines, last_indent, with_items}
@@ -28,11 +28,6 @@ begun_at joining end element =
 abbrev pub with_infos : List Node → OpenRun → OpenRun
 with_infos infos (open_list l) = open_list (record l { notes_before = l.notes_before ++ infos })
 with_infos infos o = o
-
--- an open list with more messages after it; no other run has some
-abbrev pub with_notes : List Node → OpenRun → OpenRun
-with_notes notes (open_list l) = open_list (record l { notes_after = l.notes_after ++ notes })
-with_notes notes o = o
 
 -- the open run is a line block that ends at a place
 abbrev pub lines_end_at : ℕ → OpenRun → Bool

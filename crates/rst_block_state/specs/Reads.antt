@@ -5,7 +5,7 @@ use Rattle.rst_text.specs.Written.{block, written}
 use Rattle.rst_tree.specs.Print.{print_of}
 use Rattle.rst_tree.specs.declared.node.Node.{Node}
 use Rattle.rst_block_nodes.specs.Whole.{whole}
-use Rattle.rst_block_sections.specs.Sections.{document_of}
+use Rattle.rst_block_nodes.specs.Sections.{document_of}
 use Rattle.rst_block_state.specs.Nodes.{document_items}
 use Rattle.rst_block_state.specs.Numbered.{◌>>=◌, just}
 

@@ -4,7 +4,7 @@ use Rattle.std.specs.Prelude.{ℕ, Bool, List, [], ◌∷◌, ◌++◌, drop, ma
 use Rattle.rst_text.specs.Block.{Block}
 use Rattle.rst_tree.specs.declared.node.Node.{Node}
 use Rattle.rst_markup_blocks.specs.Partition.{Span, spans_from, construct_end}
-use Rattle.rst_block_sections.specs.Sections.{filled}
+use Rattle.rst_block_nodes.specs.Sections.{filled}
 use Rattle.rst_block_state.specs.Constructs.{Construct, item_of_list, bar_line, explicit_markup, Found, found_at}
 use Rattle.rst_block_state.specs.Joins.{Joining, lines_from, explicits, none, list_joining, joining_after, joined_ending, alone_ending}
 use Rattle.rst_block_state.specs.LineRuns.{IndentedLine, indented_lines, line_block}

@@ -10,7 +10,7 @@ use Rattle.rst_markup_tables.specs.declared.results.Cell.{Cell}
 use Rattle.rst_markup_tables.specs.declared.results.TableResult.{TableResult}
 use Rattle.rst_markup_tables.specs.declared.results.TableResult.TheVariants.{Table, Malformed}
 use Rattle.rst_block_nodes.specs.Elements.{element_of, tgroup_node, entry_node}
-use Rattle.rst_block_sections.specs.Sections.{filled}
+use Rattle.rst_block_nodes.specs.Sections.{filled}
 use Rattle.rst_block_state.specs.Numbered.{Numbered, ◌>>=◌, just, each}
 use Rattle.rst_block_state.specs.Texts.{shown, source_of}
 use Rattle.rst_block_state.specs.Within.{Within}

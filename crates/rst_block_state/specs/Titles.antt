@@ -10,8 +10,8 @@ use Rattle.rst_tree.specs.declared.tag.Tag.TheVariants.{Title as TitleTag, Trans
 use Rattle.rst_markup_lines.specs.Front.{first, unindented}
 use Rattle.rst_markup_lines.specs.declared.adornment.Adornment.{Adornment}
 use Rattle.rst_markup_blocks.specs.Conditions.{next_text}
-pub use Rattle.rst_block_sections.specs.Sections.{Title, Item, plain, titled}
-use Rattle.rst_block_sections.specs.declared.heading.Style.{Style}
+pub use Rattle.rst_block_nodes.specs.Sections.{Title, Item, plain, titled}
+use Rattle.rst_block_nodes.specs.declared.heading.Style.{Style}
 use Rattle.rst_block_state.specs.Numbered.{Numbered, ◌>>=◌, just}
 use Rattle.rst_block_state.specs.Texts.{shown, texted}
 

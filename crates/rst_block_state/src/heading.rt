@@ -1,12 +1,11 @@
 //! Titles of sections, as they are read.
 ghost use Rattle.std.specs.Prelude.{◌≡◌, ◌∷◌, [], Ok, string_bytes, chars};
 ghost use Rattle.rst_tree.specs.Faults.{Gives};
-ghost use Rattle.rst_block_sections.specs.Sections.{title_of};
+ghost use Rattle.rst_block_nodes.specs.Sections.{title_of};
 ghost use Rattle.rst_block_state.specs.Titles.{short_warning, title_item, titled};
 
 use super::texts::Pass;
-use rst_block_nodes::{message, with_text};
-use rst_block_sections::{Heading, Style};
+use rst_block_nodes::{Heading, Style, message, with_text};
 use rst_tree::{Level, Node, Tag, TreeFault};
 use rst_tree_index::MarkedNodes;
 use std::alloc::Global;

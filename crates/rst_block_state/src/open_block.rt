@@ -4,7 +4,7 @@ ghost use Rattle.std.specs.Prelude.{◌≡◌, ◌<◌, []};
 use super::fault::Result;
 use super::run::{ListKind, OpenList, Run};
 use super::texts::{Pass, number_at, unindent};
-use rst_block_sections::Heading;
+use rst_block_nodes::Heading;
 use rst_markup_blocks::text_at;
 use rst_markup_lines::is_blank;
 use rst_text::View;

@@ -2,7 +2,7 @@
 ghost use Rattle.std.specs.Prelude.{◌≡◌, suc, ◌-◌, ◌∷◌, ◌++◌, Some, None, IfSome, IfNone, option_map};
 ghost use Rattle.rst_tree.specs.Faults.{Gives};
 ghost use Rattle.rst_block_nodes.specs.LineBlocks.{indented};
-ghost use Rattle.rst_block_sections.specs.Sections.{filled};
+ghost use Rattle.rst_block_nodes.specs.Sections.{filled};
 ghost use Rattle.rst_block_state.specs.Constructs.{enumerated_item};
 ghost use Rattle.rst_block_state.specs.Joins as joins;
 ghost use Rattle.rst_block_state.specs.Joins.{enumerators, enumerators_by, joined_ending, list_joining, list_joining_after};
@@ -12,8 +12,7 @@ ghost use Rattle.rst_block_state.specs.Rest.{end_of_run, joining_of_run, open_li
 
 use super::fault::{BlockFault, Result};
 use super::texts::Pass;
-use rst_block_nodes::{BarText, LineBlockFault, line_block};
-use rst_block_sections::completed;
+use rst_block_nodes::{BarText, LineBlockFault, completed, line_block};
 use rst_markup_lines::{
     Enumerator, Format, Ordinals, Sequence, first_reading, is_same_format, ordinal_in,
 };

@@ -1,6 +1,6 @@
 -- What a text means to the program and to the library, and what is made of it.
 use Rattle.std.proofs.Common.{◌≡◌, ◌≤◌, ◌∙◌, ℕ, List, [], ◌++◌, Option, Some, None, Result, Ok, Err, Bool, true, false, length, refl, sym, ap, inl, inr, subst}
-use Rattle.std.proofs.lemmas.Bool.{le-ltb}
+use Rattle.std.proofs.lemmas.Bool.{le-ltb, false_from_ne_true}
 use Rattle.std.proofs.lemmas.Str.{IsUtf8-from_is_utf8, is_utf8-from_IsUtf8}
 use Rattle.std.specs.Prelude.{nat_lt, if◌then◌else◌}
 use Rattle.std.specs.Result.{IsErrAnd}
@@ -66,12 +66,8 @@ module _ (settings : Settings) (source bytes : List ℕ) where
   wanted_of_text : IsUtf8 source → print_wanted (Some settings) source bytes ≡ made_by shows (left_of settings bytes)
   wanted_of_text utf8 = rw (is_utf8-from_IsUtf8 source utf8) left_shown
 
-  not_true : (b : Bool) → (b ≡ true → ⊥) → b ≡ false
-  not_true true refuted = absurd (refuted refl)
-  not_true false refuted = refl
-
   pub source_refused : (IsUtf8 source → ⊥) → Makes (print_wanted (Some settings) source bytes) (Err Source)
-  source_refused refuted = inl (rw (not_true (is_utf8 source) (λ is. refuted (IsUtf8-from_is_utf8 source is))) refl)
+  source_refused refuted = inl (rw (false_from_ne_true (is_utf8 source) (λ is. refuted (IsUtf8-from_is_utf8 source is))) refl)
 
   pub text_refused : (end : End) → IsUtf8 source → Finds settings bytes (Err end) → Makes (print_wanted (Some settings) source bytes) (Err (Text end))
   text_refused end utf8 finds = subst (λ w. Makes w (Err (Text end))) (sym (wanted_of_text utf8)) (nothing_made shows settings bytes end finds)

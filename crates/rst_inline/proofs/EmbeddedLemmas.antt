@@ -3,12 +3,11 @@ use Rattle.std.proofs.Common.{◌≡◌, ℕ, ◌+◌, ◌-◌, ◌<◌, ◌≤�
 use Rattle.std.specs.List.{list_any}
 use Rattle.std.proofs.lemmas.Bool.{lt-ltb, ltb-true, and_parts, or_parts, cond_both}
 use Rattle.std.proofs.lemmas.List.{drop-take, drop-drop, take-take, length-take-le, length-drop}
-use Rattle.rst_text.specs.Characters.{is_white}
+use Rattle.rst_text.specs.Characters.{is_white, Text, has, without_white}
 use Rattle.rst_text.specs.Places.{last_from, IsLast}
 use Rattle.rst_text.proofs.PlacesLemmas.{last_from-is}
-use Rattle.rst_inline_scan.specs.Characters.{Text, has, without_white}
-use Rattle.rst_inline_scan.specs.Escapes.{is_escaped, unescaped}
-use Rattle.rst_inline_scan.proofs.EscapeLemmas.{unescaped_from, unescaped-read}
+use Rattle.rst_text.specs.Escapes.{is_escaped, unescaped}
+use Rattle.rst_text.proofs.EscapeLemmas.{unescaped_from, unescaped-read}
 use Rattle.rst_inline.specs.Embedded.{opens_angle, ends_with, last_angle, fits_angle, embedded_at, dark_end, enclosed, is_alias, meant, shown_by}
 use Rattle.rst_inline.specs.Readings.{embedded_reading, phrase_reading_at, phrase_reading}
 use Rattle.rst_inline_scan.specs.declared.piece.Suffix.{Suffix}
@@ -35,11 +34,6 @@ last_angle-is t r h = last_from-is (opens_angle t) 0 (length t) r h ∙ ap (last
 pub last-below : (p : ℕ → Bool) (low high : ℕ) (r : Option ℕ) → IsLast p low high r → IfSome r (λ place. place < high)
 last-below p low high (Some i) h = h.1
 last-below p low high None h = tt
-
--- what stands between the brackets is not empty
-pub fits_inner : (t : Text) (k : ℕ) → fits_angle t k ≡ true → k + 2 < length t
-unfolding fits_angle
-fits_inner t k h = ltb-true (k + 2) (length t) (and_parts (nat_lt (k + 2) (length t)) _ h).0
 
 -- ---- the end of what is not white
 

@@ -1,7 +1,7 @@
 -- The attributes of references are in order.
 use Rattle.std.proofs.Common.{◌≡◌, true, refl}
 use Rattle.rst_tree.specs.Attributes.{in_order}
-use Rattle.rst_inline_scan.specs.Characters.{Text}
+use Rattle.rst_text.specs.Characters.{Text}
 use Rattle.rst_inline_scan.specs.declared.piece.Suffix.{Suffix}
 use Rattle.rst_inline_scan.specs.declared.piece.Suffix.TheVariants.{Bare, Role, Named, Anonymous}
 use Rattle.rst_inline.specs.Elements.{outer_attrs, reference_attrs}

@@ -2,12 +2,12 @@
 use Rattle.std.proofs.Common.{◌≡◌, ℕ, ◌++◌, [], ◌∷◌, true, length, refl, sym, ap, ◌∙◌, arith}
 use Rattle.std.proofs.lemmas.List.{take_all}
 use Rattle.rst_tree.specs.Nodes.{nodes_of}
-use Rattle.rst_inline_scan.specs.Characters.{Text}
-use Rattle.rst_inline_scan.specs.Escapes.{unescaped}
+use Rattle.rst_text.specs.Characters.{Text}
+use Rattle.rst_text.specs.Escapes.{unescaped}
 use Rattle.rst_inline_scan.specs.Pieces.{plain_from}
 use Rattle.rst_inline_scan.specs.Quiet.{quiet}
 use Rattle.rst_inline_scan.specs.declared.piece.Piece.{Piece}
-use Rattle.rst_inline_scan.proofs.EscapeLemmas.{unescaped-plain}
+use Rattle.rst_text.proofs.EscapeLemmas.{unescaped-plain}
 use Rattle.rst_inline_scan.proofs.QuietLemmas.{whole, quiet-pieces, quiet-plain}
 use Rattle.rst_inline.specs.declared.nodes.Pieces.{Pieces}
 use Rattle.rst_inline.specs.Elements.{text_children}

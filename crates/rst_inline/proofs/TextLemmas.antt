@@ -9,7 +9,7 @@ use Rattle.std.proofs.lemmas.List.{append-nil, drop_all, drop-take, take_min, dr
 use Rattle.std.proofs.lemmas.Str.{chars_from_encodes, encodes-chars, IsUtf8-string_bytes}
 use Rattle.rst_tree.specs.Forest.{bare, words}
 use Rattle.rst_tree.specs.declared.node.Node.TheVariants.{Text as Words}
-use Rattle.rst_inline_scan.specs.Characters.{Text}
+use Rattle.rst_text.specs.Characters.{Text}
 use Rattle.rst_inline.specs.declared.reading.Meaning.TheVariants.{Nothing, One}
 use Rattle.rst_inline.specs.Elements.{text_children}
 use Rattle.rst_inline.specs.Parts.{part, spelled}

@@ -10,8 +10,8 @@ use Rattle.std.proofs.lemmas.List.Folds.{list_any-append}
 use Rattle.rst_text.proofs.Cuts.{scalars-drop, scalars-take}
 use Rattle.rst_text.proofs.LineTexts.{none-parts}
 use Rattle.rst_text.proofs.Scanning.{past_char}
-use Rattle.rst_inline_scan.specs.Characters.{Text}
-use Rattle.rst_inline_scan.specs.Escapes.{has_backslash}
+use Rattle.rst_text.specs.Characters.{Text}
+use Rattle.rst_text.specs.Escapes.{has_backslash}
 use Rattle.rst_inline.specs.Parts.{part, starts_of}
 
 -- ---- the byte at which a character begins

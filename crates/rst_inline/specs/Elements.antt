@@ -13,7 +13,7 @@ use Rattle.rst_tree.specs.declared.node.Node.{Node}
 use Rattle.rst_tree.specs.declared.node.Node.TheVariants.{Element}
 use Rattle.rst_tree.specs.declared.tag.Tag.{Tag}
 use Rattle.rst_tree.specs.declared.tag.Tag.TheVariants.{Target, Reference, SubstitutionReference, FootnoteReference, CitationReference, Problematic}
-use Rattle.rst_inline_scan.specs.Characters.{Text}
+use Rattle.rst_text.specs.Characters.{Text}
 use Rattle.rst_inline_scan.specs.declared.piece.Suffix.{Suffix}
 use Rattle.rst_inline_scan.specs.declared.piece.Suffix.TheVariants.{Anonymous as Nameless}
 use Rattle.rst_inline.specs.Parts.{spelled}

@@ -1,9 +1,8 @@
 -- Embedded URIs and aliases (Markup Specification, 'Embedded URIs and Aliases').
 use Rattle.std.specs.Prelude.{ℕ, ◌+◌, ◌-◌, Bool, not, ◌&&◌, ◌||◌, ◌==◌, nat_lt, Option, None, Some, slice_index, length, unwrap_or, if◌then◌else◌}
-use Rattle.rst_text.specs.Characters.{is_white}
+use Rattle.rst_text.specs.Characters.{is_white, Text, has, without_white, is_dark}
 use Rattle.rst_text.specs.Places.{last_from}
-use Rattle.rst_inline_scan.specs.Characters.{Text, has, without_white, is_dark}
-use Rattle.rst_inline_scan.specs.Escapes.{is_escaped, unescaped}
+use Rattle.rst_text.specs.Escapes.{is_escaped, unescaped}
 use Rattle.rst_inline.specs.Parts.{part}
 
 -- an unescaped `<` stands at the place

@@ -1,6 +1,6 @@
 -- The characters of pieces of inline markup (Markup Specification, 'Inline Markup').
 use Rattle.std.specs.Prelude.{ℕ, ◌+◌, List, [], ◌∷◌, length, take, drop, encode_utf8, encode_utf8_all}
-use Rattle.rst_inline_scan.specs.Characters.{Text}
+use Rattle.rst_text.specs.Characters.{Text}
 use Rattle.rst_inline_scan.specs.declared.piece.Piece.{Piece}
 
 -- the characters from a place on, up to another place

@@ -9,8 +9,8 @@ use Rattle.rst_tree.specs.Nodes.{forest_of}
 use Rattle.rst_tree.specs.Phrases.{phrase_text}
 use Rattle.rst_tree.specs.declared.tag.Tag.{Tag}
 use Rattle.rst_tree.specs.declared.tag.Tag.TheVariants as tag
-use Rattle.rst_inline_scan.specs.Characters.{Text}
-use Rattle.rst_inline_scan.specs.Escapes.{unescaped}
+use Rattle.rst_text.specs.Characters.{Text}
+use Rattle.rst_text.specs.Escapes.{unescaped}
 use Rattle.rst_inline_scan.specs.declared.piece.Kind.TheVariants.{Plain, Marked, Unended, Label, Reference, Uri}
 use Rattle.rst_inline_scan.specs.declared.piece.Markup.{Markup}
 use Rattle.rst_inline_scan.specs.declared.piece.Markup.TheVariants.{Strong, Emphasis, Literal, Target, Substitution, Interpreted}

@@ -11,7 +11,7 @@ use Rattle.rst_tree.specs.LevelNames.{level_name}
 use Rattle.rst_tree.specs.Nodes.{forest_of}
 use Rattle.rst_tree.specs.Print.{Line, attribute_opening, printed, text_lines, value_text}
 use Rattle.rst_tree.specs.TagNames.{tag_name}
-use Rattle.rst_inline_scan.specs.Characters.{Text}
+use Rattle.rst_text.specs.Characters.{Text}
 use Rattle.rst_inline_scan.specs.Reading.{pieces_of}
 use Rattle.rst_inline_scan.specs.declared.piece.Piece.{Piece}
 use Rattle.rst_inline.specs.Results.{nodes_behind, notes_of}

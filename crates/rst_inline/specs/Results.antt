@@ -5,7 +5,7 @@ use Rattle.rst_tree.specs.Sends.{counted_on}
 use Rattle.rst_tree.specs.declared.node.Node.{Node}
 use Rattle.rst_tree.specs.declared.note.Note.{Note}
 use Rattle.rst_tree.specs.Nodes.{nodes_of}
-use Rattle.rst_inline_scan.specs.Characters.{Text}
+use Rattle.rst_text.specs.Characters.{Text}
 use Rattle.rst_inline_scan.specs.Pieces.{IsPieces}
 use Rattle.rst_inline_scan.specs.declared.piece.Piece.{Piece}
 use Rattle.rst_inline.specs.declared.reading.Meaning.{Meaning}

@@ -4,8 +4,7 @@ ghost use Rattle.std.specs.List.{list_any};
 ghost use Rattle.rst_text.specs.Characters.{is_white};
 ghost use Rattle.rst_inline.specs.Embedded.{ends_with, last_angle, embedded_at, dark_end, is_alias};
 
-use rst_inline_scan::{escapes, has, is_dark};
-use rst_text::is_white;
+use rst_text::{escapes, has, is_dark, is_white};
 
 /// Whether the last character is this one, and not escaped.
 fn ends_with(text: &[char], c: char) -> bool
@@ -31,6 +30,7 @@ fn last_angle(text: &[char]) -> Option<usize>
     let mut escaped = false;
     for place in 0..text.len() {
         let c = text[place];
+        // By `&` the loop has one path to prove, by `&&` it would have two.
         let opens = (c == '<') & !escaped;
         escaped = escapes(c, escaped);
         if opens {

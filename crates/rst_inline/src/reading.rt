@@ -3,7 +3,7 @@ ghost use Rattle.std.specs.Prelude.{◌<◌, ◌≤◌, ◌+◌, ◌≡◌, [], 
 ghost use Rattle.std.specs.Cow.{cow_str_bytes};
 ghost use Rattle.rst_tree.specs.Faults.{Gives};
 ghost use Rattle.rst_tree.specs.declared.tag.Tag.TheVariants.{Literal};
-ghost use Rattle.rst_inline_scan.specs.Escapes.{unescaped};
+ghost use Rattle.rst_text.specs.Escapes.{unescaped};
 ghost use Rattle.rst_inline_scan.specs.Pieces.{IsWithin};
 ghost use Rattle.rst_inline.specs.declared.reading.Meaning.TheVariants.{One, Wrong};
 ghost use Rattle.rst_inline.specs.Elements.{text_element, inline_target_node, label_reference_node, reference_node, uri_node};
@@ -18,7 +18,8 @@ use super::references::{embedded_reference, named_attrs, outer_reference, refere
 use super::roles::role_tag;
 use super::texts::{name_said, normalized_said, part, said, spell};
 use super::written::Written;
-use rst_inline_scan::{Kind, Markup, Piece, Suffix, unescaped, without_white};
+use rst_inline_scan::{Kind, Markup, Piece, Suffix};
+use rst_text::{unescaped, without_white};
 use rst_tree::{Attrs, Children, Entry, Key, Level, Node, Phrase, Result, Tag, Text, Value};
 use std::alloc::{AllocError, Global};
 use std::borrow::CowStr;

@@ -2,13 +2,12 @@
 ghost use Rattle.std.specs.Prelude.{◌≡◌, string_bytes, IfOk, chars};
 ghost use Rattle.rst_text.specs.Names as names;
 ghost use Rattle.rst_text.specs.Text.{chars_of};
-ghost use Rattle.rst_inline_scan.specs.Escapes.{unescaped};
+ghost use Rattle.rst_text.specs.Escapes.{unescaped};
 ghost use Rattle.rst_inline.specs.Parts.{part, spelled};
 ghost use Rattle.rst_inline.specs.Elements.{said};
 ghost use Rattle.rst_tree.specs.Faults.{Gives};
 
-use rst_inline_scan::unescaped;
-use rst_text::{characters_of, name_borrowed, normalized_borrowed};
+use rst_text::{characters_of, name_borrowed, normalized_borrowed, unescaped};
 use rst_tree::{Result, Text, TreeFault, Value};
 use std::alloc::{AllocError, Global};
 

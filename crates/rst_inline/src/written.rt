@@ -2,13 +2,13 @@
 ghost use Rattle.std.specs.Prelude.{◌≡◌, ◌<◌, ◌≤◌, length, vec_len, take, true, false, IfOk};
 ghost use Rattle.std.specs.Str.{all_scalars, chars, IsAscii};
 ghost use Rattle.std.specs.Cow.{cow_str_bytes};
-ghost use Rattle.rst_inline_scan.specs.Escapes.{has_backslash, unescaped};
+ghost use Rattle.rst_text.specs.Escapes.{has_backslash, unescaped};
 ghost use Rattle.rst_inline_scan.specs.Pieces.{IsPieces};
 ghost use Rattle.rst_inline.specs.Parts.{part, spelled, starts_of};
 
 use super::texts::{part, spell};
-use rst_inline_scan::{Piece, pieces_of, pieces_of_ascii, unescaped};
-use rst_text::ascii_characters;
+use rst_inline_scan::{Piece, pieces_of, pieces_of_ascii};
+use rst_text::{ascii_characters, unescaped};
 use std::alloc::{AllocError, Global};
 use std::borrow::CowStr;
 

@@ -8,13 +8,15 @@ use Rattle.std.proofs.lemmas.Bool.Decides.{nat_tests}
 use Rattle.std.proofs.Math.Bool.{and-true, and-false}
 use Rattle.rst_text.specs.Runs.{PassBetween}
 use Rattle.rst_text.proofs.PlacesLemmas.{cases_bool, lt_eq_gt}
-use Rattle.rst_inline_scan.specs.Characters.{Text, has, is_free_behind}
-use Rattle.rst_inline_scan.specs.Escapes.{is_escaped}
-use Rattle.rst_inline_scan.specs.Names.{is_joint, is_name_at, ends_name}
+use Rattle.rst_text.specs.Characters.{Text, has}
+use Rattle.rst_inline_scan.specs.Characters.{is_free_behind}
+use Rattle.rst_text.specs.Escapes.{is_escaped}
+use Rattle.rst_text.specs.SimpleNames.{is_joint, is_name_at}
+use Rattle.rst_inline_scan.specs.Names.{ends_name}
 use Rattle.rst_inline_scan.specs.Tails.{name_tail}
 use Rattle.rst_inline_scan.specs.Calm.{AreBytesOf, byte_of, is_calm, is_calm_at, AreCalm, is_of_name, IsStep}
 use Rattle.rst_inline_scan.specs.Pieces.{piece_at, HasNoStart}
-use Rattle.rst_inline_scan.proofs.EscapeLemmas.{other-bare, is_escaped-bare}
+use Rattle.rst_text.proofs.EscapeLemmas.{other-bare, is_escaped-bare}
 use Rattle.rst_inline_scan.proofs.WordLemmas.{letter-low, differs, absent, letter-behind, unmarked, no-label, no-letter-at, IsBarred, no-piece-barred}
 use Rattle.rst_inline_scan.proofs.NameLemmas.{no-underscore}
 

@@ -4,12 +4,10 @@ unfoldable pub rst_inline_scan : Unit {0}
 unfolding
     lib.Utf8.encode Rattle.std.specs.Fmt.digits Rattle.rst_text.proofs.Computing.rst_text Rattle.ucd_category.proofs.Computing.ucd_category
     Rattle.rst_inline_scan.specs.Characters.may_precede Rattle.rst_inline_scan.specs.Characters.may_follow
-    Rattle.rst_inline_scan.specs.Characters.is_pair Rattle.rst_inline_scan.specs.Escapes.is_escaped Rattle.rst_inline_scan.specs.Footnotes.label_stop
-    Rattle.rst_inline_scan.specs.Footnotes.label Rattle.rst_inline_scan.specs.Marked.markup_of Rattle.rst_inline_scan.specs.Marked.start_of
-    Rattle.rst_inline_scan.specs.Marked.starts Rattle.rst_inline_scan.specs.Marked.tail_of Rattle.rst_inline_scan.specs.Marked.ends
-    Rattle.rst_inline_scan.specs.Marked.markup_end Rattle.rst_inline_scan.specs.Marked.marked Rattle.rst_inline_scan.specs.Names.is_joint
-    Rattle.rst_inline_scan.specs.Names.is_name_at Rattle.rst_inline_scan.specs.Names.is_simple_name Rattle.rst_inline_scan.specs.Names.name_stop
-    Rattle.rst_inline_scan.specs.Names.simple_name Rattle.rst_inline_scan.specs.Names.role_end Rattle.rst_inline_scan.specs.Names.ends_name
+    Rattle.rst_inline_scan.specs.Characters.is_pair Rattle.rst_inline_scan.specs.Footnotes.label_stop Rattle.rst_inline_scan.specs.Footnotes.label
+    Rattle.rst_inline_scan.specs.Marked.markup_of Rattle.rst_inline_scan.specs.Marked.start_of Rattle.rst_inline_scan.specs.Marked.starts
+    Rattle.rst_inline_scan.specs.Marked.tail_of Rattle.rst_inline_scan.specs.Marked.ends Rattle.rst_inline_scan.specs.Marked.markup_end
+    Rattle.rst_inline_scan.specs.Marked.marked Rattle.rst_inline_scan.specs.Names.role_end Rattle.rst_inline_scan.specs.Names.ends_name
     Rattle.rst_inline_scan.specs.Names.is_reference Rattle.rst_inline_scan.specs.Names.name_end Rattle.rst_inline_scan.specs.Names.reference
     Rattle.rst_inline_scan.specs.Pieces.markup_at Rattle.rst_inline_scan.specs.Pieces.is_free Rattle.rst_inline_scan.specs.Pieces.piece_at
     Rattle.rst_inline_scan.specs.Reading.pieces_of Rattle.rst_inline_scan.specs.Tails.name_tail Rattle.rst_inline_scan.specs.Uri.scheme_end

@@ -1,8 +1,10 @@
 -- Pieces lie within the text, and are not empty.
 use Rattle.std.proofs.Common.{◌≡◌, ℕ, ◌+◌, ◌<◌, ◌≤◌, Bool, true, false, ◌&&◌, cond, Option, Some, None, length, refl, sym, subst, arith}
 use Rattle.std.specs.Option.{option_or}
-use Rattle.std.proofs.lemmas.Bool.{ltb-true, and_parts, cond_both}
-use Rattle.rst_inline_scan.specs.Characters.{Text, has, is_free_behind}
+use Rattle.std.proofs.lemmas.Bool.{ltb-true, and_parts}
+use Rattle.rst_text.specs.Characters.{Text, has}
+use Rattle.rst_text.proofs.Choices.{either, none_is, some_is}
+use Rattle.rst_inline_scan.specs.Characters.{is_free_behind}
 use Rattle.rst_inline_scan.specs.Tails.{anonymous_tail, named_tail, name_tail, role_tail, bare_tail}
 use Rattle.rst_inline_scan.specs.declared.piece.Piece.{Piece}
 use Rattle.rst_inline_scan.specs.declared.piece.Tail.{Tail}
@@ -23,24 +25,11 @@ Fit t i r = (p : Piece) → r ≡ Some p → Fits t i p
 pub has-lt : (t : Text) (i c : ℕ) → has t i c ≡ true → i < length t
 has-lt t i c h = ltb-true i (length t) (and_parts _ _ h).0
 
-pub Some-same : {X : Type 0} {x y : X} → Some x ≡ Some y → x ≡ y
-Some-same h = cc
-
-pub Some-None : {X : Type 0} {x : X} → Some x ≡ None → ⊥
-Some-None h = cc
-
-pub either : {X : Type 0} (b : Bool) (r s : X) (P : X → Type 0) → (b ≡ true → P r) → P s → P (cond b r s)
-either b r s P h k = cond_both b r s P h (λ e. k)
-
-pub chosen : {X : Type 0} (b : Bool) (r : Option X) (x : X) → cond b r None ≡ Some x → (b ≡ true) × (r ≡ Some x)
-chosen true r x h = (refl, h)
-chosen false r x h = absurd (Some-None (sym h))
-
 pub Fit-none : (t : Text) (i : ℕ) → Fit t i None
-Fit-none t i p h = absurd (Some-None (sym h))
+Fit-none t i p h = absurd (none_is h)
 
 pub Fit-some : (t : Text) (i : ℕ) (q : Piece) → Fits t i q → Fit t i (Some q)
-Fit-some t i q fits p h = subst (Fits t i) (Some-same h) fits
+Fit-some t i q fits p h = subst (Fits t i) (some_is h) fits
 
 pub Fit-or : (t : Text) (i : ℕ) (r s : Option Piece) → Fit t i r → Fit t i s → Fit t i (option_or r s)
 Fit-or t i (Some q) s first second p h = first p h
@@ -53,10 +42,10 @@ abbrev pub TailFits : Text → ℕ → Option Tail → Type 0
 TailFits t e r = (tail : Tail) → r ≡ Some tail → (e ≤ tail.to) × (tail.to ≤ length t)
 
 no_tail : (t : Text) (e : ℕ) → TailFits t e None
-no_tail t e tail h = absurd (Some-None (sym h))
+no_tail t e tail h = absurd (none_is h)
 
 tail_if : (t : Text) (e : ℕ) (b : Bool) (made : Tail) → (b ≡ true → (e ≤ made.to) × (made.to ≤ length t)) → TailFits t e (cond b (Some made) None)
-tail_if t e b made fits = either b (Some made) None (TailFits t e) (λ yes tail h. subst (λ (tail : Tail). (e ≤ tail.to) × (tail.to ≤ length t)) (Some-same h) (fits yes)) (no_tail t e)
+tail_if t e b made fits = either b (Some made) None (TailFits t e) (λ yes tail h. subst (λ (tail : Tail). (e ≤ tail.to) × (tail.to ≤ length t)) (some_is h) (fits yes)) (no_tail t e)
 
 pub TailFits-or : (t : Text) (e : ℕ) (r s : Option Tail) → TailFits t e r → TailFits t e s → TailFits t e (option_or r s)
 TailFits-or t e (Some q) s first second tail h = first tail h

@@ -1,5 +1,4 @@
 pub mod Computing
-pub mod EscapeLemmas
 pub mod FitLemmas
 pub mod NameLemmas
 pub mod MarkedLemmas

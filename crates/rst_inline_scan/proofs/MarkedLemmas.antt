@@ -5,7 +5,8 @@ use Rattle.std.proofs.lemmas.Bool.Decides.{nat_tests}
 use Rattle.rst_text.specs.Places.{IsFirst}
 use Rattle.rst_text.proofs.PlacesLemmas.{first_from-is, first_from-IsFirst}
 use Rattle.std.specs.Option.{is_some, option_or}
-use Rattle.rst_inline_scan.specs.Characters.{Text, has, has_string, is_dark}
+use Rattle.rst_text.specs.Characters.{Text, has, is_dark}
+use Rattle.rst_inline_scan.specs.Characters.{has_string}
 use Rattle.rst_inline_scan.specs.Tails.{name_tail, role_tail, bare_tail}
 use Rattle.rst_inline_scan.specs.Names.{role_end}
 use Rattle.rst_inline_scan.specs.Marked.{start_string, end_string, mark, start_len, end_len, has_start, has_end, has_escapes, start_of, starts, tail_of, ends, markup_end, unended_piece, ended_piece, marked_piece, marked_from, marked}
@@ -13,8 +14,9 @@ use Rattle.rst_inline_scan.specs.Missing.{IsUnended}
 use Rattle.rst_inline_scan.specs.declared.piece.Markup.{Markup}
 use Rattle.rst_inline_scan.specs.declared.piece.Markup.TheVariants.{Strong, Emphasis, Literal, Target, Substitution, Interpreted}
 use Rattle.rst_inline_scan.specs.declared.piece.Tail.{Tail}
-use Rattle.rst_inline_scan.proofs.EscapeLemmas.{IsBare, has-bare, is_escaped-agree}
-use Rattle.rst_inline_scan.proofs.FitLemmas.{Fits, Fit, Fit-none, Fit-some, has-lt, either, TailFits, TailFits-or, bare_tail-fits, name_tail-fits, role_tail-fits}
+use Rattle.rst_text.proofs.EscapeLemmas.{IsBare, has-bare, is_escaped-agree}
+use Rattle.rst_inline_scan.proofs.FitLemmas.{Fits, Fit, Fit-none, Fit-some, has-lt, TailFits, TailFits-or, bare_tail-fits, name_tail-fits, role_tail-fits}
+use Rattle.rst_text.proofs.Choices.{either}
 use Rattle.rst_inline_scan.proofs.NameLemmas.{role_end-fits}
 
 -- ---- marks lie within the text, and begin with no backslash

@@ -1,6 +1,6 @@
 -- What is remembered stays true.
 use Rattle.std.proofs.Common.{ℕ, ◌≤◌, length, arith}
-use Rattle.rst_inline_scan.specs.Characters.{Text}
+use Rattle.rst_text.specs.Characters.{Text}
 use Rattle.rst_inline_scan.specs.Missing.{with_unended, IsUnended, IsMissing}
 use Rattle.rst_inline_scan.specs.declared.piece.Markup.{Markup}
 use Rattle.rst_inline_scan.specs.declared.piece.Markup.TheVariants.{Strong, Emphasis, Literal, Target, Substitution, Interpreted}

@@ -1,4 +1,4 @@
--- Simple names, roles and references.
+-- Roles and references.
 use Rattle.std.proofs.Common.{◌≡◌, ◌==◌, get_or, true≢false, ⊎_elim, ℕ, ltb, ◌+◌, ◌-◌, ◌<◌, ◌≤◌, Bool, true, false, not, ◌&&◌, Option, Some, None, IfSome, length, option_and_then, option_map, refl, sym, ap, ◌∙◌, arith}
 use Rattle.std.proofs.lemmas.Bool.{and_left, and_parts, cases_lt, le-ltb}
 use Rattle.std.specs.Prelude.{nat_lt}
@@ -6,35 +6,15 @@ use Rattle.std.proofs.lemmas.Bool.Decides.{nat_tests}
 use Rattle.std.proofs.Math.Bool.{and-true}
 use Rattle.rst_text.specs.Places.{first_from, last_from, all_from, IsFirst, IsLast}
 use Rattle.rst_text.proofs.PlacesLemmas.{first_from-is, first_from-IsFirst, last_from-is, last_from-IsLast, all_from-at, all_from-all, all_from-stop}
-use Rattle.rst_inline_scan.specs.Characters.{Text, has, is_alnum_at}
+use Rattle.rst_text.specs.Characters.{Text, has, is_alnum_at}
 use Rattle.rst_inline_scan.specs.Tails.{name_tail}
-use Rattle.rst_inline_scan.specs.Names.{is_name_at, is_simple_name, name_stop, behind_colon, role_end, ends_name, is_reference, name_end, reference_piece, reference_to, reference}
+use Rattle.rst_text.specs.SimpleNames.{is_name_at, name_stop}
+use Rattle.rst_inline_scan.specs.Names.{behind_colon, role_end, ends_name, is_reference, name_end, reference_piece, reference_to, reference}
 use Rattle.rst_inline_scan.specs.declared.piece.Tail.{Tail}
-use Rattle.rst_inline_scan.proofs.FitLemmas.{Fit, Fit-none, Fit-some, has-lt, Some-same, Some-None, either, chosen, TailFits, name_tail-fits}
+use Rattle.rst_inline_scan.proofs.FitLemmas.{Fit, Fit-none, Fit-some, has-lt, TailFits, name_tail-fits}
+use Rattle.rst_text.proofs.Choices.{some_is, none_is, either, chosen}
 
 -- ---- simple names
-
--- a text with a place that can't be one of a simple name is none
-pub not_simple : (t : Text) (i : ℕ) → i < length t → is_name_at t i ≡ false → is_simple_name t ≡ false
-unfolding is_simple_name
-not_simple t i within h =
-    let all : length t - 0 ≡ length t = omega arith in
-    let none : all_from (is_name_at t) 0 (length t) ≡ false = ap (all_from (is_name_at t) 0) (sym all) ∙ all_from-stop (is_name_at t) 0 i (length t) (omega arith) within h in
-    rw none (grind (arith, nat_tests))
-
--- a text of which each place may be one of a simple name is one, unless it is empty
-pub simple-where : (t : Text) (i : ℕ) → length t ≤ i → ((k : ℕ) → k < i → is_name_at t k ≡ true) → ltb 0 (length t) ≡ is_simple_name t
-unfolding is_simple_name
-simple-where t i past h = rw (all_from-all (is_name_at t) 0 (length t) (λ k above below. h k (omega arith))) (grind (arith, nat_tests))
-
--- what a search for the name's end found, where it begins with a letter or a number
-pub name_stop-is : (t : Text) (i : ℕ) (r : Option ℕ) → is_alnum_at t i ≡ true → IsFirst (λ k. not (is_name_at t k)) i (length t) r → r ≡ name_stop t i
-unfolding name_stop
-name_stop-is t i r alnum h = rw alnum (first_from-is (λ k. not (is_name_at t k)) i (length t) r h)
-
-pub name_stop-none : (t : Text) (i : ℕ) → is_alnum_at t i ≡ false → name_stop t i ≡ None
-unfolding name_stop
-name_stop-none t i h = rw h refl
 
 first-above : (p : ℕ → Bool) (low high : ℕ) (r : Option ℕ) → IsFirst p low high r → IfSome r (λ e. low ≤ e)
 first-above p low high (Some e) h = h.0
@@ -51,9 +31,9 @@ behind_colon-fits : (t : Text) (i : ℕ) (r : Option ℕ) (e : ℕ) → IfSome r
 behind_colon-fits t i (Some s) e h k =
     let found = chosen (has t s 58) (Some (s + 1)) e k in
     let less : s < length t = has-lt t s 58 found.0 in
-    let same : s + 1 ≡ e = Some-same found.1 in
+    let same : s + 1 ≡ e = some_is found.1 in
     (omega arith, omega arith)
-behind_colon-fits t i None e h k = absurd (Some-None (sym k))
+behind_colon-fits t i None e h k = absurd (none_is k)
 
 pub role_end-fits : (t : Text) (i e : ℕ) → role_end t i ≡ Some e → (i < e) × (e ≤ length t)
 unfolding role_end

@@ -4,13 +4,15 @@ use Rattle.std.proofs.lemmas.Bool.{and_parts}
 use Rattle.std.proofs.lemmas.List.Elements.{All-nil, All-cons}
 use Rattle.std.specs.Prelude.{All}
 use Rattle.rst_text.proofs.PlacesLemmas.{lt_eq_gt}
-use Rattle.rst_inline_scan.specs.Characters.{Text, has, is_alnum_at, is_free_behind}
-use Rattle.rst_inline_scan.specs.Names.{name_stop}
+use Rattle.rst_text.specs.Characters.{Text, has, is_alnum_at}
+use Rattle.rst_inline_scan.specs.Characters.{is_free_behind}
+use Rattle.rst_text.specs.SimpleNames.{name_stop}
 use Rattle.rst_inline_scan.specs.Footnotes.{label_stop, closes_label, label_piece, label}
 use Rattle.rst_inline_scan.specs.Pieces.{markup_at, is_free, piece_at, HasNoStart, plain_from, IsPlain, IsWithin, IsPieces, nothing, last, other, plain}
 use Rattle.rst_inline_scan.specs.declared.piece.Markup.TheVariants.{Strong, Emphasis, Literal, Target, Substitution, Interpreted}
 use Rattle.rst_inline_scan.specs.declared.piece.Piece.{Piece}
-use Rattle.rst_inline_scan.proofs.FitLemmas.{Fits, Fit, Fit-none, Fit-some, Fit-or, has-lt, Some-same, Some-None, either, chosen}
+use Rattle.rst_inline_scan.proofs.FitLemmas.{Fits, Fit, Fit-none, Fit-some, Fit-or, has-lt}
+use Rattle.rst_text.proofs.Choices.{some_is, none_is, either, chosen}
 use Rattle.rst_inline_scan.proofs.NameLemmas.{name_stop-fits, reference-fits}
 use Rattle.rst_inline_scan.proofs.MarkedLemmas.{marked-fits}
 use Rattle.rst_inline_scan.proofs.UriLemmas.{uri-fits}
@@ -90,7 +92,7 @@ inside_at t from i p within h =
     let end = fits.within in omega arith
 
 no-start : (t : Text) (from i : ℕ) (p : Piece) → piece_at t from i ≡ Some p → piece_at t from i ≡ None → ⊥
-no-start t from i p h none = Some-None (sym h ∙ none)
+no-start t from i p h none = none_is (sym none ∙ h)
 
 IsPlain-same : (t : Text) (from : ℕ) (p q : Piece) → IsPlain t from p → IsPlain t from q → p.to ≡ q.to → p ≡ q
 IsPlain-same t from p q a b to = a.is_plain ∙ ap (plain_from from) to ∙ sym b.is_plain
@@ -132,7 +134,7 @@ IsPieces-unique t from _ _ (last p a e) (plain q r qs b s k) =
 IsPieces-unique t from _ _ (other p ps a h) (nothing f) = absurd (no-piece t from from p f a)
 IsPieces-unique t from _ _ (other p ps a h) (last q b f) = absurd (not-plain t from q p b a)
 IsPieces-unique t from _ _ (other p ps a h) (other q qs b k) =
-    let same : p ≡ q = Some-same (sym a ∙ b) in
+    let same : p ≡ q = some_is (sym a ∙ b) in
     ap₂ (λ p ps. p ∷ ps) same (IsPieces-unique t p.to ps qs h (subst (λ (r : Piece). IsPieces t r.to qs) (sym same) k))
 IsPieces-unique t from _ _ (other p ps a h) (plain q r qs b s k) = absurd (not-plain t from q p b a)
 IsPieces-unique t from _ _ (plain p r ps a s h) (nothing f) = absurd (not-end t from p a f)
@@ -141,7 +143,7 @@ IsPieces-unique t from _ _ (plain p r ps a s h) (last q b f) =
 IsPieces-unique t from _ _ (plain p r ps a s h) (other q qs b k) = absurd (not-plain t from p q a b)
 IsPieces-unique t from _ _ (plain p r ps a s h) (plain q r′ qs b s′ k) =
     let same = IsPlain-unique t from p q a b (inr (r, s)) (inr (r′, s′)) in
-    let next : r ≡ r′ = Some-same (sym s ∙ subst (λ (x : Piece). piece_at t from x.to ≡ Some r′) (sym same) s′) in
+    let next : r ≡ r′ = some_is (sym s ∙ subst (λ (x : Piece). piece_at t from x.to ≡ Some r′) (sym same) s′) in
     ap₂ (λ p ps. p ∷ ps) same (ap₂ (λ p ps. p ∷ ps) next (IsPieces-unique t r.to ps qs h (subst (λ (x : Piece). IsPieces t x.to qs) (sym next) k)))
 
 -- ---- each piece lies within the text

@@ -11,8 +11,8 @@ use Rattle.std.proofs.lemmas.List.Elements.{All-from_get_or}
 use Rattle.std.proofs.lemmas.List.Folds.{list_all_at, list_all-append}
 use Rattle.std.proofs.lemmas.List.Sums.{list_all-from_AllPass}
 use Rattle.rst_text.proofs.PlacesLemmas.{cases_bool}
-use Rattle.rst_inline_scan.specs.Characters.{Text, has}
-use Rattle.rst_inline_scan.specs.Escapes.{has_backslash}
+use Rattle.rst_text.specs.Characters.{Text, has}
+use Rattle.rst_text.specs.Escapes.{has_backslash}
 use Rattle.rst_inline_scan.specs.Footnotes.{label_stop, closes_label, label_piece, label}
 use Rattle.rst_inline_scan.specs.Pieces.{piece_at, plain_from, IsPieces, nothing, last}
 use Rattle.rst_text.specs.Runs.{IsRun}

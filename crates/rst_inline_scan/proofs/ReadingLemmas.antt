@@ -4,7 +4,7 @@ use Rattle.std.specs.Prelude.{is_some}
 use Rattle.std.proofs.lemmas.Bool.{cases_lt}
 use Rattle.rst_text.specs.Places.{IsFirst}
 use Rattle.rst_text.proofs.PlacesLemmas.{first_from-first}
-use Rattle.rst_inline_scan.specs.Characters.{Text}
+use Rattle.rst_text.specs.Characters.{Text}
 use Rattle.rst_inline_scan.specs.Pieces.{piece_at, HasNoStart, plain_from, IsPieces, nothing, last, other, plain}
 use Rattle.rst_inline_scan.specs.Reading.{next_start, pieces_by, pieces_from, pieces_of, plain_if}
 use Rattle.rst_inline_scan.specs.declared.piece.Piece.{Piece}

@@ -12,9 +12,11 @@ use Rattle.std.proofs.lemmas.List.Sums.{AllPass-from_list_all, list_all-from_All
 use Rattle.std.proofs.lemmas.Bool.Decides.{nat_tests}
 use Rattle.rst_text.specs.Places.{first_from, last_from, NoneFrom, IsFirst, IsLast}
 use Rattle.rst_text.proofs.PlacesLemmas.{cases_bool, lt_eq_gt, first_from-is, first_from-IsFirst, last_from-is, last_from-last, NoneFrom-within}
-use Rattle.rst_inline_scan.specs.Characters.{Text, is_free_behind}
+use Rattle.rst_text.specs.Characters.{Text}
+use Rattle.rst_inline_scan.specs.Characters.{is_free_behind}
 use Rattle.rst_inline_scan.specs.Uri.{has_letter, has_any_case, schemes, scheme_end, is_uri_char, is_uri_trail, uri_stop, uri_close, uri_behind, if_free, uri_end, uri_piece, uri, IsUri}
-use Rattle.rst_inline_scan.proofs.FitLemmas.{Fit, Fit-none, Fit-some, Some-same, Some-None, chosen}
+use Rattle.rst_inline_scan.proofs.FitLemmas.{Fit, Fit-none, Fit-some}
+use Rattle.rst_text.proofs.Choices.{some_is, none_is, chosen}
 
 -- ---- the scheme
 
@@ -75,13 +77,13 @@ abbrev scheme_of : Text → ℕ → List Text → Option ℕ
 scheme_of t i words = option_map (λ scheme. i + length scheme) (find (has_any_case t i) words)
 
 first-begins : (t : Text) (i : ℕ) (words : List Text) (behind : ℕ) → list_all (λ word. list_all is_uri_char word) words ≡ true → scheme_of t i words ≡ Some behind → Begins t i behind
-first-begins t i [] behind all h = absurd (Some-None (sym h))
+first-begins t i [] behind all h = absurd (none_is h)
 first-begins t i (word ∷ words) behind all h =
     let fits = and_parts (list_all is_uri_char word) (list_all (λ word. list_all is_uri_char word) words) all in
     elim (cases_bool (has_any_case t i word)) [
       | inl stands ↦
           (let same : Some (i + length word) ≡ Some behind = rw stands at h in
-          subst (Begins t i) (Some-same same) (record { above = omega arith; within = λ within. scheme-fits t i word stands within; chars = scheme-uri t i word stands fits.0 }))
+          subst (Begins t i) (some_is same) (record { above = omega arith; within = λ within. scheme-fits t i word stands within; chars = scheme-uri t i word stands fits.0 }))
       | inr other ↦ first-begins t i words behind fits.1 (rw other at h)
     ]
 
@@ -145,7 +147,7 @@ uri_close-last t i stop e h = ⊎_elim
     (λ order.
     let same : stop + 1 - (i + 1) ≡ stop - i = omega arith in
     subst (IsLast (CloseTest t) (i + 1) (stop + 1)) h (subst (λ n. IsLast (CloseTest t) (i + 1) (stop + 1) (last_from (CloseTest t) (i + 1) n)) same (last_from-last (CloseTest t) (i + 1) (stop + 1) (omega arith))))
-    (λ past. let none : stop - i ≡ 0 = omega arith in absurd (Some-None (sym h ∙ ap (last_from (CloseTest t) (i + 1)) none)))
+    (λ past. let none : stop - i ≡ 0 = omega arith in absurd (none_is (sym (ap (last_from (CloseTest t) (i + 1)) none) ∙ h)))
     (cases_lt i (stop + 1))
 
 -- ---- the whole
@@ -196,7 +198,7 @@ none-inside t start m e within h k stuck i above below = inside t start m e i (s
 
 if_free-some : (t : Text) (r : Option ℕ) (e : ℕ) → option_and_then (if_free t) r ≡ Some e → r ≡ Some e
 if_free-some t (Some f) e h = (chosen (is_free_behind t f) (Some f) e h).1
-if_free-some t None e h = absurd (Some-None (sym h))
+if_free-some t None e h = absurd (none_is h)
 
 behind-fits : (t : Text) (i : ℕ) (r : Option ℕ) (e : ℕ) → i ≤ length t → scheme_end t i ≡ r → option_and_then (uri_behind t) r ≡ Some e → (i < e) × (e ≤ length t)
 behind-fits t i (Some m) e within h k =
@@ -208,7 +210,7 @@ behind-fits t i (Some m) e within h k =
     let from : m + 1 ≤ e = close.0 in
     let less = close.1 in
     (omega arith, omega arith)
-behind-fits t i None e within h k = absurd (Some-None (sym k))
+behind-fits t i None e within h k = absurd (none_is k)
 
 pub uri_end-fits : (t : Text) (i e : ℕ) → i ≤ length t → uri_end t i ≡ Some e → (i < e) × (e ≤ length t)
 unfolding uri_end
@@ -281,7 +283,7 @@ behind-uri t (Some m) scheme h =
     (λ back. not-false (is_uri_char (get_or t k 0)) (run.none k back (omega arith)))
     (cases_lt k m))) in
     rw (lt-ltb m (length t) (omega arith), all) close.2
-behind-uri t None scheme h = absurd (Some-None (sym h))
+behind-uri t None scheme h = absurd (none_is h)
 
 from-IsUri : (t : Text) → IsUri t → is_ascii_uri t ≡ true
 unfolding uri_end

@@ -8,13 +8,14 @@ use Rattle.std.specs.Char.{is_ascii_alphanumeric, to_ascii_lowercase}
 use Rattle.std.proofs.lemmas.Bool.{cond_both, ne_eqb, lt-ltb, eqb-true, not-true, false_from_ne_true, and_parts, and_left, or_parts, cases_lt}
 use Rattle.std.proofs.lemmas.Bool.Decides.{nat_tests}
 use Rattle.std.proofs.Math.Bool.{and-true, and-false}
-use Rattle.rst_text.specs.Characters.{is_white}
+use Rattle.rst_text.specs.Characters.{is_white, Text, has, is_alnum_at}
 use Rattle.rst_text.specs.Places.{all_from}
 use Rattle.rst_text.proofs.CharacterLemmas.{is_alphanumeric-ascii}
 use Rattle.rst_text.proofs.PlacesLemmas.{cases_bool, lt_eq_gt, all_from-at, all_from-stop, last_from-is}
-use Rattle.rst_inline_scan.specs.Characters.{Text, has, may_precede, may_follow, is_alnum_at}
-use Rattle.rst_inline_scan.specs.Escapes.{is_escaped}
-use Rattle.rst_inline_scan.specs.Names.{is_joint, is_name_at, role_end, ends_name, is_reference, name_end, reference_to, reference}
+use Rattle.rst_inline_scan.specs.Characters.{may_precede, may_follow}
+use Rattle.rst_text.specs.Escapes.{is_escaped}
+use Rattle.rst_text.specs.SimpleNames.{is_joint, is_name_at}
+use Rattle.rst_inline_scan.specs.Names.{role_end, ends_name, is_reference, name_end, reference_to, reference}
 use Rattle.rst_inline_scan.specs.Marked.{has_start, markup_of, start_of, starts, marked_from, marked}
 use Rattle.rst_inline_scan.specs.Footnotes.{label}
 use Rattle.rst_inline_scan.specs.Uri.{has_letter, has_any_case, schemes, scheme_end, uri_piece, uri}
@@ -22,7 +23,7 @@ use Rattle.rst_inline_scan.specs.Words.{IsWord, goes_on}
 use Rattle.rst_inline_scan.specs.Pieces.{markup_at, is_free, piece_at, HasNoStart}
 use Rattle.rst_inline_scan.specs.declared.piece.Markup.{Markup}
 use Rattle.rst_inline_scan.specs.declared.piece.Markup.TheVariants.{Strong, Emphasis, Literal, Target, Substitution, Interpreted}
-use Rattle.rst_inline_scan.proofs.EscapeLemmas.{IsBare, other-bare, is_escaped-bare}
+use Rattle.rst_text.proofs.EscapeLemmas.{IsBare, other-bare, is_escaped-bare}
 use Rattle.rst_inline_scan.proofs.NameLemmas.{no-underscore, not_reference, is_reference-past}
 use Rattle.rst_inline_scan.proofs.UriLemmas.{letter_at, uri_end-none}
 

@@ -1,8 +1,8 @@
 -- Steps over what holds no markup. No rule of markup: the scanner is faster by them.
 use Rattle.std.specs.Prelude.{◌≡◌, ℕ, ◌+◌, ◌-◌, ◌<◌, ◌≤◌, Bool, true, not, ◌&&◌, ◌||◌, ◌==◌, nat_lt, [], ◌∷◌, ◌≢◌, slice_index, length, if◌then◌else◌}
 use Rattle.std.specs.Char.{is_ascii_alphanumeric}
-use Rattle.rst_inline_scan.specs.Characters.{Text, is_among}
-use Rattle.rst_inline_scan.specs.Names.{is_joint}
+use Rattle.rst_text.specs.Characters.{Text, is_among}
+use Rattle.rst_text.specs.SimpleNames.{is_joint}
 use Rattle.rst_inline_scan.specs.Pieces.{HasNoStart}
 
 -- each byte is the text's character at its place where that is ASCII, and past ASCII where the character is

@@ -1,7 +1,8 @@
 -- References to footnotes and citations (Markup Specification, 'Footnote References', 'Citation References').
 use Rattle.std.specs.Prelude.{ℕ, ◌+◌, Bool, ◌&&◌, Option, None, Some, option_and_then, if◌then◌else◌}
-use Rattle.rst_inline_scan.specs.Characters.{Text, has, is_alnum_at, is_free_behind}
-use Rattle.rst_inline_scan.specs.Names.{name_stop}
+use Rattle.rst_text.specs.Characters.{Text, has, is_alnum_at}
+use Rattle.rst_inline_scan.specs.Characters.{is_free_behind}
+use Rattle.rst_text.specs.SimpleNames.{name_stop}
 use Rattle.rst_inline_scan.specs.declared.piece.Kind.TheVariants.{Label}
 use Rattle.rst_inline_scan.specs.declared.piece.Piece.{Piece}
 

@@ -2,8 +2,9 @@
 -- 'Emphasis', 'Strong Emphasis', 'Interpreted Text', 'Inline Literals', 'Inline Internal Targets', 'Substitution References').
 use Rattle.std.specs.Prelude.{ℕ, ◌+◌, ◌-◌, Bool, true, false, not, ◌&&◌, ◌||◌, ◌==◌, Option, None, Some, [], ◌∷◌, slice_index, length, unwrap_or, option_map, option_and_then, codes, if◌then◌else◌}
 use Rattle.std.specs.Option.{is_some, option_or}
-use Rattle.rst_inline_scan.specs.Characters.{Text, has, has_string, is_dark, is_pair}
-use Rattle.rst_inline_scan.specs.Escapes.{is_escaped}
+use Rattle.rst_text.specs.Characters.{Text, has, is_dark}
+use Rattle.rst_inline_scan.specs.Characters.{has_string, is_pair}
+use Rattle.rst_text.specs.Escapes.{is_escaped}
 use Rattle.rst_text.specs.Places.{first_from}
 use Rattle.rst_inline_scan.specs.declared.piece.Tail.{Tail}
 use Rattle.rst_inline_scan.specs.Tails.{name_tail, role_tail, bare_tail}

@@ -1,33 +1,13 @@
--- Simple reference names, roles, and references by such a name (Markup Specification, 'Reference Names', 'Interpreted Text',
--- 'Hyperlink References').
-use Rattle.std.specs.Prelude.{ℕ, ◌+◌, ◌-◌, Bool, not, ◌&&◌, ◌||◌, ◌==◌, nat_lt, Option, None, Some, slice_index, length, unwrap_or, option_map, option_and_then, if◌then◌else◌}
+-- Roles, and references by a simple name (Markup Specification, 'Interpreted Text', 'Hyperlink References').
+use Rattle.std.specs.Prelude.{ℕ, ◌+◌, ◌-◌, Bool, ◌&&◌, Option, None, Some, length, option_map, option_and_then, if◌then◌else◌}
 use Rattle.std.specs.Option.{is_some}
-use Rattle.rst_inline_scan.specs.Characters.{Text, has, is_alnum_at}
-use Rattle.rst_text.specs.Places.{first_from, last_from, all_from}
+use Rattle.rst_text.specs.Characters.{Text, has, is_alnum_at}
+use Rattle.rst_text.specs.Places.{last_from, all_from}
+use Rattle.rst_text.specs.SimpleNames.{is_name_at, name_stop}
 use Rattle.rst_inline_scan.specs.declared.piece.Tail.{Tail}
 use Rattle.rst_inline_scan.specs.Tails.{name_tail}
 use Rattle.rst_inline_scan.specs.declared.piece.Kind.TheVariants.{Reference}
 use Rattle.rst_inline_scan.specs.declared.piece.Piece.{Piece}
-
--- one of - _ . : +
-unfoldable pub is_joint : ℕ → Bool
-is_joint c = c == 45 || (c == 95 || (c == 46 || (c == 58 || c == 43)))
-
--- The place may be one of a simple reference name: a letter or a number stands there, or a joint between two of these.
-unfoldable pub is_name_at : Text → ℕ → Bool
-is_name_at t i = is_alnum_at t i || (is_joint (slice_index t i) && (nat_lt 0 i && (is_alnum_at t (i - 1) && is_alnum_at t (i + 1))))
-
--- the text is a simple reference name: it isn't empty, and each of its places may be one of such a name
-unfoldable pub is_simple_name : Text → Bool
-is_simple_name t = nat_lt 0 (length t) && all_from (is_name_at t) 0 (length t)
-
--- the end of the longest simple name that begins at the place, where something stands behind it
-unfoldable pub name_stop : Text → ℕ → Option ℕ
-name_stop t i = if is_alnum_at t i then first_from (λ k. not (is_name_at t k)) i (length t - i) else None
-
--- how many characters the longest simple name has that a text begins with; 0 where it begins with none
-unfoldable pub simple_name : Text → ℕ
-simple_name t = if is_alnum_at t 0 then unwrap_or (name_stop t 0) (length t) else 0
 
 -- ---- roles
 

@@ -1,8 +1,9 @@
 -- The pieces of an inline text (Markup Specification, 'Inline markup recognition rules', 'Recognition order').
 use Rattle.std.specs.Prelude.{◌≡◌, ℕ, ◌-◌, ◌<◌, ◌≤◌, Bool, not, ◌&&◌, ◌||◌, ◌==◌, List, [], ◌∷◌, Option, None, Some, slice_index, length, if◌then◌else◌}
 use Rattle.std.specs.Option.{option_or}
-use Rattle.rst_inline_scan.specs.Characters.{Text, may_precede}
-use Rattle.rst_inline_scan.specs.Escapes.{is_escaped}
+use Rattle.rst_text.specs.Characters.{Text}
+use Rattle.rst_inline_scan.specs.Characters.{may_precede}
+use Rattle.rst_text.specs.Escapes.{is_escaped}
 use Rattle.rst_inline_scan.specs.Marked.{marked}
 use Rattle.rst_inline_scan.specs.Names.{reference}
 use Rattle.rst_inline_scan.specs.Footnotes.{label}

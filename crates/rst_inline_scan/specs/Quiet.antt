@@ -1,7 +1,7 @@
 -- Quiet texts. No rule of markup: no markup begins in one, so it isn't scanned.
 use Rattle.std.specs.Prelude.{ℕ, Bool, not, [], ◌∷◌}
 use Rattle.std.specs.List.{list_all}
-use Rattle.rst_inline_scan.specs.Characters.{Text, is_among}
+use Rattle.rst_text.specs.Characters.{Text, is_among}
 
 -- none of * _ ` | : \
 abbrev pub is_quiet : ℕ → Bool

@@ -1,7 +1,7 @@
 -- The pieces of a text, found from left to right (Markup Specification, 'Inline markup recognition rules').
 use Rattle.std.specs.Prelude.{ℕ, zero, suc, ◌-◌, nat_lt, List, [], ◌∷◌, ◌++◌, length, Option, Some, None, is_some, if◌then◌else◌}
 use Rattle.rst_text.specs.Places.{first_from}
-use Rattle.rst_inline_scan.specs.Characters.{Text}
+use Rattle.rst_text.specs.Characters.{Text}
 use Rattle.rst_inline_scan.specs.Pieces.{piece_at, plain_from}
 use Rattle.rst_inline_scan.specs.declared.piece.Piece.{Piece}
 

@@ -1,7 +1,7 @@
 -- The pieces of a text that is written out, for worked examples. No rule of markup.
 use Prim.Native.String.{String}
 use Rattle.std.specs.Prelude.{◌≡◌, List, map, take, drop, codes}
-use Rattle.rst_inline_scan.specs.Characters.{Text}
+use Rattle.rst_text.specs.Characters.{Text}
 use Rattle.rst_inline_scan.specs.Reading.{pieces_of}
 use Rattle.rst_inline_scan.specs.declared.piece.Kind.{Kind}
 use Rattle.rst_inline_scan.specs.declared.piece.Piece.{Piece}

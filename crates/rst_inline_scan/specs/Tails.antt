@@ -2,7 +2,8 @@
 -- 'Hyperlink References', 'Substitution References').
 use Rattle.std.specs.Prelude.{ℕ, ◌+◌, ◌&&◌, Option, None, Some, if◌then◌else◌}
 use Rattle.std.specs.Option.{option_or}
-use Rattle.rst_inline_scan.specs.Characters.{Text, has, is_free_behind}
+use Rattle.rst_text.specs.Characters.{Text, has}
+use Rattle.rst_inline_scan.specs.Characters.{is_free_behind}
 use Rattle.rst_inline_scan.specs.declared.piece.Suffix.TheVariants.{Bare, Role, Named, Anonymous}
 use Rattle.rst_inline_scan.specs.declared.piece.Tail.{Tail}
 

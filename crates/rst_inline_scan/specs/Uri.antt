@@ -1,7 +1,8 @@
 -- Standalone hyperlinks (Markup Specification, 'Standalone Hyperlinks').
 use Rattle.std.specs.Prelude.{◌≡◌, ℕ, ◌+◌, ◌-◌, Bool, true, not, ◌&&◌, ◌||◌, ◌==◌, nat_lt, List, [], ◌∷◌, Option, None, Some, slice_index, length, find, unwrap_or, option_map, option_and_then, codes, if◌then◌else◌}
 use Rattle.std.specs.Char.{to_ascii_lowercase, is_ascii_alphanumeric}
-use Rattle.rst_inline_scan.specs.Characters.{Text, is_among, is_free_behind}
+use Rattle.rst_text.specs.Characters.{Text, is_among}
+use Rattle.rst_inline_scan.specs.Characters.{is_free_behind}
 use Rattle.rst_text.specs.Places.{first_from, last_from}
 use Rattle.rst_inline_scan.specs.declared.piece.Kind.TheVariants.{Uri}
 use Rattle.rst_inline_scan.specs.declared.piece.Piece.{Piece}

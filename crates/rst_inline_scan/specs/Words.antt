@@ -1,8 +1,8 @@
 -- Words: runs of ASCII letters and digits. No rule of markup: inside one nothing begins, so the scanner steps over it.
 use Rattle.std.specs.Prelude.{◌≡◌, ℕ, ◌<◌, ◌≤◌, Bool, true, false, ◌&&◌, ◌||◌, nat_lt, slice_index, length}
 use Rattle.std.specs.Char.{is_ascii_alphanumeric}
-use Rattle.rst_inline_scan.specs.Characters.{Text, has}
-use Rattle.rst_inline_scan.specs.Names.{is_name_at}
+use Rattle.rst_text.specs.Characters.{Text, has}
+use Rattle.rst_text.specs.SimpleNames.{is_name_at}
 
 -- The run from one place up to another, which may be empty, is one of ASCII letters and digits, and none stands behind it.
 pub record IsWord (t : Text) (from to : ℕ) : Type 0 where

@@ -2,8 +2,7 @@
 ghost use Rattle.std.specs.Prelude.{◌≡◌, ℕ, ◌-◌, ◌<◌, ◌≤◌, ◌&&◌, ◌==◌, false, List, slice_index, length, IfOk, map};
 ghost use Rattle.rst_inline_scan.specs.Calm.{AreBytesOf, byte_of, is_of_name, IsStep};
 
-use super::names::is_joint;
-use rst_text::{ByteTest, run_end};
+use rst_text::{ByteTest, is_joint, run_end};
 use std::alloc::{AllocError, Global};
 use std::simd::prelude::*;
 
@@ -65,9 +64,9 @@ fn name_start(bytes: &[u8], from: usize, to: usize) -> usize
     start
 }
 
-/// The place behind the bytes from the place on that are calm, or underscores before a letter or a digit, but not inside a name.
-/// Up to `searched` earlier steps have looked, so there nothing is looked for again. And whether what stands there is escaped if what
-/// stands at `place` is or not.
+/// The place behind the bytes from the place on that are calm, or underscores before a letter or a digit, but not inside a name; and
+/// whether the character there is escaped, where `escaped` says whether the one at `place` is. Up to `searched` earlier steps have
+/// looked, so there nothing is looked for again.
 pub(crate) fn step(bytes: &[u8], place: usize, escaped: bool, searched: &mut usize) -> (usize, bool)
     requires { place < length bytes.now }
     ensures over { (text : List ℕ) → AreBytesOf text bytes.now → IsStep text place result.0 }

@@ -2,9 +2,9 @@
 ghost use Rattle.std.specs.Prelude.{◌≡◌, ◌<◌, length};
 ghost use Rattle.rst_inline_scan.specs.Footnotes.{label};
 
-use super::characters::{has, is_alnum_at, is_free_behind};
-use super::names::name_stop;
+use super::characters::is_free_behind;
 use super::piece::{Kind, Piece};
+use rst_text::{has, is_alnum_at, name_stop};
 
 /// The reference to a footnote or a citation that begins at the place.
 #[tactic(auto, unfolding(crate::specs::Footnotes::label, crate::specs::Footnotes::label_stop))]

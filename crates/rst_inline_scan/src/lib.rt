@@ -3,7 +3,6 @@
 
 mod calm;
 mod characters;
-mod escaping;
 mod footnotes;
 mod laws;
 mod marked;
@@ -17,10 +16,7 @@ mod tails;
 mod uri;
 mod words;
 
-pub use characters::{has, is_dark, without_white};
-pub use escaping::{escapes, unescaped};
 pub use laws::{one_list_of_pieces, pieces_are_found, quiet_is_one_piece};
-pub use names::{is_joint, is_simple_name};
 pub use piece::{Kind, Markup, Piece, Suffix};
 pub use quiet::is_quiet;
 pub use scanner::{pieces_of, pieces_of_ascii};

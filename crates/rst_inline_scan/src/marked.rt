@@ -2,15 +2,15 @@
 ghost use Rattle.std.specs.Prelude.{◌≡◌, ℕ, ◌+◌, ◌<◌, ◌≤◌, true, Some, length, option_map, IfSome};
 ghost use Rattle.std.specs.Option.{is_some};
 ghost use Rattle.rst_inline_scan.specs.Marked.{start_len, end_len, mark, has_start, start_of, starts, tail_of, ends, markup_end, marked};
-ghost use Rattle.rst_inline_scan.specs.Escapes.{is_escaped};
+ghost use Rattle.rst_text.specs.Escapes.{is_escaped};
 ghost use Rattle.rst_inline_scan.specs.Missing.{IsMissing};
 
-use super::characters::{has, is_dark, is_free_behind};
-use super::escaping::escapes;
+use super::characters::is_free_behind;
 use super::missing::Missing;
 use super::names::role_end;
 use super::piece::{Kind, Markup, Piece, Suffix, Tail};
 use super::tails::name_tail;
+use rst_text::{escapes, has, is_dark};
 
 impl Markup {
     /// How many characters the start-string has.

@@ -2,10 +2,8 @@
 //! that is written out.
 #![tactic(auto, unfolding(crate::proofs::Computing::rst_inline_scan))]
 
-ghost use Rattle.std.specs.Prelude.{◌≡◌, true, false, codes, filter, [], ◌∷◌};
+ghost use Rattle.std.specs.Prelude.{◌≡◌, codes, filter, [], ◌∷◌};
 ghost use Rattle.rst_inline_scan.specs.Characters.{may_follow, may_precede};
-ghost use Rattle.rst_inline_scan.specs.Escapes.{unescaped};
-ghost use Rattle.rst_inline_scan.specs.Names.{is_simple_name};
 ghost use Rattle.rst_inline_scan.specs.Reads.{Cuts, contents};
 ghost use Rattle.rst_inline_scan.specs.Uri.{is_uri_char, is_uri_trail};
 ghost use Rattle.rst_inline_scan.specs.declared.piece.Kind.TheVariants.{Plain, Marked, Unended, Label, Reference, Uri};
@@ -108,15 +106,6 @@ pub fn references()
     ensures escaped { Cuts "a\\_ \\b_" ((Plain, "a\\_ \\b_") ∷ []) }
 {}
 
-/// Simple names (Markup Specification, 'Reference Names').
-pub fn names()
-    ensures joined { is_simple_name (codes "a-1_b") ≡ true }
-    ensures two_joints { is_simple_name (codes "a..b") ≡ false }
-    ensures joint_in_front { is_simple_name (codes "-a") ≡ false }
-    ensures joint_at_the_end { is_simple_name (codes "a-") ≡ false }
-    ensures empty { is_simple_name [] ≡ false }
-{}
-
 /// References to footnotes and citations (Markup Specification, 'Footnote References').
 pub fn labels()
     ensures number { Cuts "[1]_" ((Label, "[1]_") ∷ []) }
@@ -157,14 +146,6 @@ pub fn uris()
     ensures not_free { Cuts "http://x< http://xé" ((Plain, "http://x< http://xé") ∷ []) }
     ensures reference_first { Cuts "mailto:a_ http://a_" ((Reference Named, "mailto:a_") ∷ (Plain, " ") ∷ (Uri, "http://a_") ∷ []) }
     ensures escaped { Cuts "\\http://a" ((Plain, "\\http://a") ∷ []) }
-{}
-
-/// A text without its escapes (Markup Specification, 'Escaping Mechanism').
-pub fn escapes()
-    ensures white { unescaped (codes "a\\ b\\\nc") ≡ codes "abc" }
-    ensures character { unescaped (codes "\\*a\\b") ≡ codes "*ab" }
-    ensures backslash { unescaped (codes "\\\\ \\\\\\*") ≡ codes "\\ \\*" }
-    ensures last { unescaped (codes "a\\") ≡ codes "a" }
 {}
 
 /// What the markup of pieces encloses (Markup Specification, 'Inline Markup').

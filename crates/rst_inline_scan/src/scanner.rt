@@ -1,21 +1,21 @@
 //! The scanner.
 ghost use Rattle.std.specs.Prelude.{◌≡◌, ℕ, ◌<◌, length, IfOk};
 ghost use Rattle.rst_inline_scan.specs.Calm.{AreBytesOf};
-ghost use Rattle.rst_inline_scan.specs.Escapes.{is_escaped};
+ghost use Rattle.rst_text.specs.Escapes.{is_escaped};
 ghost use Rattle.rst_inline_scan.specs.Marked.{markup_of};
 ghost use Rattle.rst_inline_scan.specs.Pieces.{markup_at, piece_at, plain_from, IsPieces};
 ghost use Rattle.rst_inline_scan.specs.Missing.{IsMissing};
 ghost use Rattle.rst_inline_scan.specs.Words.{IsWord};
 
 use super::calm::{bytes_of, step};
-use super::characters::{has, may_precede};
-use super::escaping::escapes;
+use super::characters::may_precede;
 use super::footnotes::label;
 use super::missing::Missing;
 use super::names::reference;
 use super::piece::{Kind, Markup, Piece};
 use super::uri::uri;
 use super::words::{goes_on, word_end};
+use rst_text::{escapes, has};
 use std::alloc::{AllocError, Global};
 
 /// The only markup that may begin at the place.

@@ -2,8 +2,9 @@
 ghost use Rattle.std.specs.Prelude.{◌≡◌, ◌≤◌, length};
 ghost use Rattle.rst_inline_scan.specs.Tails.{name_tail};
 
-use super::characters::{has, is_free_behind};
+use super::characters::is_free_behind;
 use super::piece::{Suffix, Tail};
+use rst_text::has;
 
 /// The underscores behind a name, two where both fit.
 #[tactic(auto, unfolding(crate::specs::Tails::name_tail))]

@@ -2,7 +2,7 @@
 ghost use Rattle.std.specs.Prelude.{◌≡◌, ◌≤◌, length};
 ghost use Rattle.rst_inline_scan.specs.Words.{IsWord, goes_on};
 
-use super::names::is_name_at;
+use rst_text::is_name_at;
 
 /// The end of the word that begins at the place, which may be empty.
 pub(crate) fn word_end(text: &[char], place: usize) -> usize
@@ -10,7 +10,7 @@ pub(crate) fn word_end(text: &[char], place: usize) -> usize
     ensures { IsWord text.now place result }
 {
     for at in place..text.len() {
-        // Most are in lower case.
+        // Most characters of words are in lower case.
         if !text[at].is_ascii_lowercase() && !text[at].is_ascii_alphanumeric() {
             return at;
         }

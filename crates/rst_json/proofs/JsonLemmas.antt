@@ -5,6 +5,7 @@ use Rattle.std.proofs.lemmas.List.Folds.{flat_map-map}
 use Rattle.std.specs.Fmt.{decimal}
 use Rattle.std.specs.List.{flat_map, list_any}
 use Rattle.std.specs.Prelude.{Bool, ◌||◌, ◌==◌, nat_lt, if◌then◌else◌, map, codes}
+use Rattle.std.proofs.lemmas.Bool.{or_parts}
 use Rattle.rst_json.specs.Json.{Adds, behind_comma, control, escaped_byte, is_escaped, json_attr, json_block, json_node, json_nodes, json_note, json_object, json_string, parted}
 use Rattle.rst_tree.proofs.PrintedParts.{flat_map-flat_map}
 use Rattle.rst_tree.specs.declared.attrs.Attr.{Attr}
@@ -26,15 +27,11 @@ plain_byte b false true s h = cc
 plain_byte b false false true h = cc
 plain_byte b false false false h = refl
 
-neither : (a b : Bool) → (a || b) ≡ false → (a ≡ false) × (b ≡ false)
-neither true b h = cc
-neither false b h = (refl, h)
-
 -- a text of such bytes
 pub unescaped : (t : List ℕ) → list_any is_escaped t ≡ false → flat_map escaped_byte t ≡ t
 unescaped [] h = refl
 unescaped (b ∷ t) h =
-    let k = neither (is_escaped b) (list_any is_escaped t) h in rw (plain_byte b (nat_lt b 32) (b == 34) (b == 92) k.0, unescaped t k.1) refl
+    let k = or_parts (is_escaped b) (list_any is_escaped t) h in rw (plain_byte b (nat_lt b 32) (b == 34) (b == 92) k.0, unescaped t k.1) refl
 
 -- one more item
 pub next_item : {X : Type 0} (f : X → List ℕ) (xs : List X) (i : ℕ) (x : X) (start out next : List ℕ) → x ≡ get_or xs i x → i < length xs

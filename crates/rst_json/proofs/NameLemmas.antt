@@ -5,6 +5,7 @@ use borrow.Author.Tests.{eqb-false}
 use denote.Enum.Bare.{Bare, same_true, sameb, tag_one}
 use denote.Enum.Declared.{Declared, tag_of, variants}
 use denote.Enum.Enum.{tag_below}
+use Rattle.std.proofs.lemmas.Bool.{and_parts}
 use Rattle.rst_json.specs.Reader.{keys, key_named, tags, tag_named}
 use Rattle.rst_tree.specs.contracts.key.Key as key
 use Rattle.rst_tree.specs.contracts.tag.Tag as tag
@@ -12,10 +13,6 @@ use Rattle.rst_tree.specs.declared.key.Key.{Key}
 use Rattle.rst_tree.specs.declared.tag.Tag.{Tag}
 use Rattle.rst_tree.specs.KeyNames.{key_name}
 use Rattle.rst_tree.specs.TagNames.{tag_name}
-
-both : (a b : Bool) → (a && b) ≡ true → (a ≡ true) × (b ≡ true)
-both true b h = (refl, h)
-both false b h = cc
 
 module _ (D : Declared) (bare : Bare D.parts) (found : D.D → Option D.D) where
   abbrev is_found : D.D → Option D.D → Bool
@@ -35,12 +32,12 @@ module _ (D : Declared) (bare : Bare D.parts) (found : D.D → Option D.D) where
       → (tag_of D e == n) ≡ here → found e ≡ Some e
   among [] n e here h low high is = absurd (omega arith)
   among (d ∷ ds) n e true h low high is =
-      let first = both (tag_of D d == n) (is_found d (found d) && are_found (n + 1) ds) h in
+      let first = and_parts (tag_of D d == n) (is_found d (found d) && are_found (n + 1) ds) h in
       let same : d ≡ e = tag_one D bare d e (eqb-true _ _ first.0 ∙ sym (eqb-true _ _ is)) in
-      subst (λ z. found z ≡ Some z) same (finds d (found d) (both (is_found d (found d)) (are_found (n + 1) ds) first.1).0)
+      subst (λ z. found z ≡ Some z) same (finds d (found d) (and_parts (is_found d (found d)) (are_found (n + 1) ds) first.1).0)
   among (d ∷ ds) n e false h low high is =
-      let first = both (tag_of D d == n) (is_found d (found d) && are_found (n + 1) ds) h in
-      let rest = (both (is_found d (found d)) (are_found (n + 1) ds) first.1).1 in
+      let first = and_parts (tag_of D d == n) (is_found d (found d) && are_found (n + 1) ds) h in
+      let rest = (and_parts (is_found d (found d)) (are_found (n + 1) ds) first.1).1 in
       let other = eqb-false (tag_of D e) n is in
       among ds (n + 1) e (tag_of D e == (n + 1)) rest (omega (arith, other)) (omega arith) refl
 

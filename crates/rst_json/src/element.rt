@@ -2,7 +2,6 @@
 
 ghost use Rattle.std.specs.Prelude.{◌≡◌, map, None, Some, flat_map};
 ghost use Rattle.rst_json.specs.Json.{Adds, behind_comma, json_array, json_attr, json_node, json_object, json_string};
-ghost use Rattle.rst_tree.specs.Attributes.{value_of, said_number, with_attr};
 ghost use Rattle.rst_tree.specs.Faults.{Gives};
 ghost use Rattle.rst_tree.specs.KeyNames.{key_name};
 ghost use Rattle.rst_tree.specs.PrintedAttributes.{printed_attrs, with_printed_attrs};

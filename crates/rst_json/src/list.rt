@@ -1,6 +1,6 @@
 //! Arrays and objects.
 
-ghost use Rattle.std.specs.Prelude.{◌≡◌, ◌++◌, ◌∷◌, ◌≤◌, ◌+◌, [], length, take, drop};
+ghost use Rattle.std.specs.Prelude.{◌++◌, ◌∷◌, ◌≤◌, ◌+◌, [], length, take, drop};
 ghost use Rattle.rst_json.specs.Json.{Adds};
 
 use rst_tree::Result;

@@ -1,6 +1,5 @@
 //! Messages.
 
-ghost use Rattle.std.specs.Prelude.{◌≡◌};
 ghost use Rattle.rst_json.specs.Json.{Adds, behind_comma, json_note};
 
 use crate::string::{put_number, put_string};

@@ -1,7 +1,7 @@
 //! Strings and numbers.
 
 ghost use Rattle.std.specs.Prelude.{◌≡◌, ◌<◌, decimal};
-ghost use Rattle.std.specs.List.{flat_map, list_any};
+ghost use Rattle.std.specs.List.{list_any};
 ghost use Rattle.rst_json.specs.Json.{Adds, escaped_byte, hex, is_escaped, json_string};
 
 use itoa::Buffer;

@@ -184,7 +184,7 @@ unfolding hanging_part
 hanging_to i cut true X = refl
 hanging_to i cut false X = refl
 
-label_end : (i : ℕ) (k : LabelKind) (label : Characters) (body : Part) → explicit_end i (label_with k label body) ≡ body.to
+pub label_end : (i : ℕ) (k : LabelKind) (label : Characters) (body : Part) → explicit_end i (label_with k label body) ≡ body.to
 label_end i FootnoteLabel label body = refl
 label_end i CitationLabel label body = refl
 

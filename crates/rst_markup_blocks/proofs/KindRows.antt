@@ -4,6 +4,7 @@ use Rattle.std.specs.Prelude.{if◌then◌else◌, is_some}
 use Rattle.std.specs.Char.{is_ascii_alphabetic}
 use Rattle.std.specs.List.{list_all}
 use Rattle.std.proofs.lemmas.Bool.Decides.{nat_tests}
+use Rattle.rst_markup_lines.proofs.EnumeratorLemmas.{letter_not}
 use Rattle.rst_text.specs.Block.{Block, front_text, is_blank}
 use Rattle.rst_markup_lines.specs.Front.{begins_by, begins_with, first}
 use Rattle.rst_markup_lines.specs.OptionMarker.{option_at, options_from}
@@ -72,9 +73,6 @@ bullet_is t = refl
 -- ---- a text that begins with a letter
 
 -- a letter is none of the characters that the other rows begin with
-other : (c d : ℕ) → is_ascii_alphabetic c ≡ true → is_ascii_alphabetic d ≡ false → (c == d) ≡ false
-other c d h k = ne_eqb c d (λ e. true≢false (sym h ∙ ap is_ascii_alphabetic e ∙ k))
-
 no-punctuation : (c : ℕ) → is_ascii_alphabetic c ≡ true → is_punctuation c ≡ false
 no-punctuation c h = grind (arith, nat_tests)
 
@@ -83,15 +81,15 @@ no-marks : (c : ℕ) (cs next after : List ℕ) → is_ascii_alphabetic c ≡ tr
     × (line_bar (c ∷ cs) ≡ None) × (is_grid_border (c ∷ cs) ≡ false) × (is_simple_border (c ∷ cs) ≡ false) × (dots (c ∷ cs) ≡ None) × (underscores (c ∷ cs) ≡ None) × (adornment_of (c ∷ cs) ≡ None)
 unfolding bullet field_of item_option options_from option_at doctest line_bar is_grid_border is_simple_border dots underscores adornment_of
 no-marks c cs next after h = (
-  rw (other c 42 h refl, other c 43 h refl, other c 45 h refl, other c 0x2022 h refl, other c 0x2023 h refl, other c 0x2043 h refl) refl,
-  rw (other c 58 h refl) refl,
-  rw (other c 47 h refl, other c 45 h refl, other c 43 h refl) refl,
-  rw (other c 62 h refl) refl,
-  rw (other c 124 h refl) refl,
-  rw (other c 43 h refl, and_right (list_all (is_in (Either 45 43)) (c ∷ cs)) false refl) (and_right _ _ refl),
-  rw (other c 61 h refl) (and_right _ _ refl),
-  rw (other c 46 h refl) refl,
-  rw (other c 95 h refl) refl,
+  rw (letter_not c 42 h refl, letter_not c 43 h refl, letter_not c 45 h refl, letter_not c 0x2022 h refl, letter_not c 0x2023 h refl, letter_not c 0x2043 h refl) refl,
+  rw (letter_not c 58 h refl) refl,
+  rw (letter_not c 47 h refl, letter_not c 45 h refl, letter_not c 43 h refl) refl,
+  rw (letter_not c 62 h refl) refl,
+  rw (letter_not c 124 h refl) refl,
+  rw (letter_not c 43 h refl, and_right (list_all (is_in (Either 45 43)) (c ∷ cs)) false refl) (and_right _ _ refl),
+  rw (letter_not c 61 h refl) (and_right _ _ refl),
+  rw (letter_not c 46 h refl) refl,
+  rw (letter_not c 95 h refl) refl,
   rw (no-punctuation c h) refl,
 )
 
@@ -107,4 +105,4 @@ letter_kind X (c ∷ cs) h none a =
     let after = after_text X in
     let marks = no-marks c cs next after h in
     kind_at_is X (c ∷ cs) next after a refl refl
-    ∙ rw (no-item (c ∷ cs) next none, later_kind_is X (c ∷ cs) a, other c 32 h refl, marks.0, marks.1, marks.2, marks.3, marks.4, marks.5, marks.6, marks.7, marks.8, marks.9) refl
+    ∙ rw (no-item (c ∷ cs) next none, later_kind_is X (c ∷ cs) a, letter_not c 32 h refl, marks.0, marks.1, marks.2, marks.3, marks.4, marks.5, marks.6, marks.7, marks.8, marks.9) refl

@@ -4,7 +4,7 @@ use Rattle.std.proofs.lemmas.Bool.{lt-ltb}
 use Rattle.std.specs.Option.{is_some}
 use Rattle.rst_text.specs.Places.{first_from, NoneFrom, IsFirst}
 use Rattle.rst_text.proofs.PlacesLemmas.{first_from-is}
-use Rattle.rst_inline_scan.specs.Escapes.{is_escaped}
+use Rattle.rst_text.specs.Escapes.{is_escaped}
 use Rattle.rst_markup_directives.specs.Escapes.{is_bare_backquote, has_bare_backquote}
 
 pub bare-at : (t : List ℕ) (i c : ℕ) (escaped b : Bool) → i < length t → c ≡ get_or t i 0 → escaped ≡ is_escaped t 0 i → (c == 96 && not escaped) ≡ b → is_bare_backquote t i ≡ b

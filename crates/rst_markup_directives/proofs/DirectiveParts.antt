@@ -7,7 +7,7 @@ use Rattle.std.proofs.lemmas.List.Folds.{length-prefix_len}
 use Rattle.rst_text.specs.Block.{Line, Block, cut, is_blank}
 use Rattle.rst_text.specs.Names.{normalized_white}
 use Rattle.rst_text.proofs.Indented.{is_indented-part}
-use Rattle.rst_inline_scan.specs.Characters.{is_among}
+use Rattle.rst_text.specs.Characters.{is_among}
 use Rattle.rst_markup_blocks.specs.Parts.{IsBlock}
 use Rattle.rst_markup_blocks.specs.declared.part.Part.{Part}
 use Rattle.rst_markup_blocks.proofs.RowLaws.{while_le}
@@ -75,7 +75,7 @@ first_run-le B =
 blank_len-le : (B : Block) → blank_len B ≤ length B
 blank_len-le B = while_le Blank B
 
-run_in-le : (name : Name) (late : Bool) (H : Block) → length (run_in name late H) ≤ length H
+pub run_in-le : (name : Name) (late : Bool) (H : Block) → length (run_in name late H) ≤ length H
 unfolding run_in
 run_in-le name late H = grind (arith, first_run-le H)
 

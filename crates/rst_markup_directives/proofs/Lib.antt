@@ -11,4 +11,3 @@ pub mod DirectiveParts
 pub mod Bare
 pub mod Indentations
 pub mod Tables
-pub mod MessageLemmas

@@ -3,7 +3,7 @@ use Rattle.std.proofs.Common.{◌≡◌, ℕ, ◌-◌, ◌≤◌, [], ◌∷◌,
 use Rattle.std.proofs.lemmas.List.{length-map, length-take-le}
 use Rattle.rst_text.specs.Block.{Block, shorten, shorten_all, cut}
 
-length-shorten_all : (f r : ℕ) (ls : Block) → length (shorten_all f r ls) ≡ length ls
+pub length-shorten_all : (f r : ℕ) (ls : Block) → length (shorten_all f r ls) ≡ length ls
 length-shorten_all f r [] = refl
 length-shorten_all f r (l ∷ ls) = ap suc (length-map ls (shorten r))
 

@@ -11,9 +11,8 @@ use Rattle.std.proofs.lemmas.List.Splits.{slice_split_none}
 use Rattle.std.proofs.lemmas.List.Sums.{AllPass-from_list_all}
 use Rattle.std.proofs.lemmas.Str.{chars-IsAscii}
 use Rattle.std.proofs.lemmas.Str.Ascii.{IsAscii-from_all}
-use Rattle.rst_text.specs.Characters.{is_white}
-use Rattle.rst_inline_scan.specs.Characters.{has, without_white}
-use Rattle.rst_inline_scan.proofs.EscapeLemmas.{unescaped-plain}
+use Rattle.rst_text.specs.Characters.{is_white, has, without_white}
+use Rattle.rst_text.proofs.EscapeLemmas.{unescaped-plain}
 use Rattle.rst_markup_directives.specs.Lines.{joined}
 use Rattle.rst_markup_directives.specs.Target.{located, located_if, is_simple_reference, is_phrase_reference, destination_in, target_text, target_value}
 

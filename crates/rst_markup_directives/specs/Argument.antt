@@ -2,7 +2,7 @@
 use Rattle.std.specs.Prelude.{List, [], ◌∷◌, Result, Ok, Err, if◌then◌else◌}
 use Rattle.rst_text.specs.Names.{normalized_white}
 use Rattle.rst_text.specs.Text.{chars_of}
-use Rattle.rst_inline_scan.specs.Characters.{is_among, without_white}
+use Rattle.rst_text.specs.Characters.{is_among, without_white}
 use Rattle.rst_markup_directives.specs.Characters.{Text}
 use Rattle.rst_markup_directives.specs.Name.{takes}
 use Rattle.rst_markup_directives.specs.Lines.{joined}

@@ -5,7 +5,7 @@ use Rattle.std.specs.Borrow.{Bor}
 use Rattle.std.specs.Char.{to_ascii_lowercase}
 use Rattle.std.specs.Str.{bytes_eq}
 -- a text: the list of its characters
-pub use Rattle.rst_inline_scan.specs.Characters.{Text}
+pub use Rattle.rst_text.specs.Characters.{Text}
 -- a text without the spaces that it begins with
 pub use Rattle.rst_markup_lines.specs.Front.{unindented}
 use Rattle.rst_markup_lines.specs.Class.{run}

@@ -2,8 +2,8 @@
 use Rattle.std.specs.Prelude.{ℕ, Bool, not, ◌&&◌, length}
 use Rattle.std.specs.Option.{is_some}
 use Rattle.rst_text.specs.Places.{first_from}
-use Rattle.rst_inline_scan.specs.Characters.{has}
-use Rattle.rst_inline_scan.specs.Escapes.{is_escaped}
+use Rattle.rst_text.specs.Characters.{has}
+use Rattle.rst_text.specs.Escapes.{is_escaped}
 use Rattle.rst_markup_directives.specs.Characters.{Text}
 
 -- a character behind the text is escaped: an odd number of backslashes ends it

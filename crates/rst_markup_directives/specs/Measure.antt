@@ -2,7 +2,7 @@
 use Rattle.std.specs.Prelude.{ℕ, ◌+◌, Bool, not, ◌&&◌, ◌||◌, ◌==◌, nat_lt, List, [], ◌∷◌, ◌++◌, take, drop, codes, Option, Some, None, if◌then◌else◌}
 use Rattle.std.specs.List.{list_any}
 use Rattle.rst_text.specs.Block.{is_blank}
-use Rattle.rst_inline_scan.specs.Characters.{has}
+use Rattle.rst_text.specs.Characters.{has}
 use Rattle.rst_markup_lines.specs.Decimal.{number_of}
 use Rattle.rst_markup_directives.specs.Characters.{Text, digits, unindented, is_exactly, lookup}
 use Rattle.rst_markup_directives.specs.declared.measure.Alignment.{Alignment}

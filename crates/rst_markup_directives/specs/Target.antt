@@ -3,9 +3,9 @@ use Rattle.std.specs.Prelude.{◌-◌, Bool, not, ◌&&◌, ◌==◌, nat_lt, na
 use Rattle.std.specs.List.{slice_split}
 use Rattle.rst_text.specs.Block.{is_blank}
 use Rattle.rst_text.specs.Text.{chars_of}
-use Rattle.rst_inline_scan.specs.Characters.{has, without_white, is_dark}
-use Rattle.rst_inline_scan.specs.Escapes.{unescaped}
-use Rattle.rst_inline_scan.specs.Names.{is_simple_name}
+use Rattle.rst_text.specs.Characters.{has, without_white, is_dark}
+use Rattle.rst_text.specs.Escapes.{unescaped}
+use Rattle.rst_text.specs.SimpleNames.{is_simple_name}
 use Rattle.rst_markup_directives.specs.Characters.{Text, unindented}
 use Rattle.rst_markup_directives.specs.Escapes.{ends_escaping, has_bare_backquote}
 use Rattle.rst_markup_directives.specs.Lines.{joined}

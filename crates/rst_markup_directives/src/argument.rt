@@ -1,6 +1,6 @@
 //! The arguments of directives.
 ghost use Rattle.std.specs.Prelude.{◌≡◌, Ok};
-ghost use Rattle.rst_inline_scan.specs.Characters.{without_white};
+ghost use Rattle.rst_text.specs.Characters.{without_white};
 ghost use Rattle.rst_text.specs.Names.{normalized_white};
 ghost use Rattle.rst_markup_directives.specs.Argument as spec;
 ghost use Rattle.rst_markup_directives.specs.Faults.{Gives};
@@ -10,9 +10,8 @@ use super::characters::{has_character, text_from};
 use super::fault::{Detail, MarkupFault};
 use super::name::{Name, Takes};
 use super::options::joined;
-use rst_inline_scan::without_white;
 use rst_markup_blocks::Part;
-use rst_text::{characters_of, normalized_white};
+use rst_text::{characters_of, normalized_white, without_white};
 use std::alloc::Global;
 
 /// The argument of a directive.

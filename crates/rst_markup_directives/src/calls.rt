@@ -1,5 +1,5 @@
 //! Directives as they are called.
-ghost use Rattle.std.specs.Prelude.{◌≡◌, true, ◌+◌, ◌-◌, ◌≤◌, ◌&&◌, length, take, drop};
+ghost use Rattle.std.specs.Prelude.{◌≡◌, true, ◌+◌, ◌-◌, ◌≤◌, ◌&&◌, length};
 ghost use Rattle.rst_markup_blocks.specs.Prelude.{cut, Looked, capped, block_of};
 ghost use Rattle.rst_markup_blocks.specs.Parts.{IsBlock, IsCall};
 ghost use Rattle.rst_markup_directives.specs.Faults.{Gives};

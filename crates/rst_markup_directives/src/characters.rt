@@ -2,7 +2,7 @@
 ghost use Rattle.std.specs.Prelude.{◌≡◌, ◌≤◌, IfOk, length};
 ghost use Rattle.rst_text.specs.Block.{indentation, is_blank};
 ghost use Rattle.rst_text.specs.Text.{chars_of};
-ghost use Rattle.rst_inline_scan.specs.Characters.{is_among};
+ghost use Rattle.rst_text.specs.Characters.{is_among};
 ghost use Rattle.rst_markup_directives.specs.Characters as spec;
 
 use std::alloc::{AllocError, Global};

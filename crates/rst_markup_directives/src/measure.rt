@@ -3,8 +3,8 @@ ghost use Rattle.std.specs.Prelude.{◌≡◌, ◌≤◌, length, IfOk, option_m
 ghost use Rattle.rst_markup_directives.specs.Measure as spec;
 
 use super::characters::{digits, is_blank, is_exactly, spaces, text_from};
-use rst_inline_scan::has;
 use rst_markup_lines::number_of;
+use rst_text::has;
 use std::alloc::{AllocError, Global};
 
 /// Where an image or a figure stands.

@@ -40,7 +40,7 @@ pub fn message(alloc: Global, fault: &DirectiveFault, name: &str) -> Result<Stri
 }
 
 /// What is wrong inside a directive, the line below `Error in ..`.
-#[tactic(auto, using(crate::proofs::MessageLemmas::name_bytes))]
+#[tactic(auto, using(rst_text::proofs::TextLemmas::bytes_encoded))]
 fn detail_of(alloc: Global, detail: &Detail) -> Result<String, AllocError>
     ensures { IfOk result (λ text. string_bytes text ≡ spec.wrong_text (wrong_in detail.now)) }
 {

@@ -1,5 +1,5 @@
 //! The options of a directive's block.
-ghost use Rattle.std.specs.Prelude.{◌≡◌, ◌+◌, ◌≤◌, ◌<◌, ◌∷◌, [], length, map, drop, slice_range, take_while, IfOk, option_map, chars};
+ghost use Rattle.std.specs.Prelude.{◌≡◌, ◌+◌, ◌≤◌, ◌<◌, ◌∷◌, length, map, drop, slice_range, IfOk, option_map, chars};
 ghost use Rattle.std.specs.List.{prefix_len};
 ghost use Rattle.rst_markup_lines.specs.Front as fronts;
 ghost use Rattle.rst_markup_directives.specs.Faults.{Gives};

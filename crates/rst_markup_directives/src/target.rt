@@ -1,17 +1,16 @@
 //! What the text of a target means.
-ghost use Rattle.std.specs.Prelude.{◌≡◌, ◌+◌, ◌<◌, ◌≤◌, ◌&&◌, ◌==◌, not, IfOk, IsTrue, Some, option_map, length, chars};
+ghost use Rattle.std.specs.Prelude.{◌≡◌, ◌<◌, ◌&&◌, ◌==◌, Some, option_map, chars};
 ghost use Rattle.rst_markup_directives.specs.Faults.{Gives};
-ghost use Rattle.rst_inline_scan.specs.Characters.{without_white};
-ghost use Rattle.rst_inline_scan.specs.Escapes.{unescaped};
+ghost use Rattle.rst_text.specs.Characters.{without_white};
+ghost use Rattle.rst_text.specs.Escapes.{unescaped};
 ghost use Rattle.rst_markup_directives.specs.Escapes as escapes;
 ghost use Rattle.rst_markup_directives.specs.Target as spec;
 
 use super::characters::{is_blank, spaces, text_from};
 use super::fault::MarkupFault;
 use super::lines::add_line;
-use rst_inline_scan::{escapes, has, is_dark, is_simple_name, unescaped, without_white};
-use rst_text::characters_of;
-use std::alloc::{AllocError, Global};
+use rst_text::{characters_of, escapes, has, is_dark, is_simple_name, unescaped, without_white};
+use std::alloc::Global;
 
 /// What a target leads to.
 #[derive(Debug, Drop)]

@@ -8,8 +8,8 @@ use Rattle.rst_text.specs.Characters.{is_white}
 use Rattle.rst_text.specs.Block.{is_blank}
 use Rattle.rst_text.specs.Places.{first_from, IsFirst}
 use Rattle.rst_text.proofs.PlacesLemmas.{first_from-is, first_from-IsFirst}
-use Rattle.rst_inline_scan.specs.Escapes.{escapes, is_escaped}
-use Rattle.rst_inline_scan.proofs.EscapeLemmas.{is_escaped-more}
+use Rattle.rst_text.specs.Escapes.{escapes, is_escaped}
+use Rattle.rst_text.proofs.EscapeLemmas.{is_escaped-more}
 use Rattle.rst_markup_lines.specs.Closing.{is_closing, is_behind_dark, closes, closed, ends_in_colons}
 use Rattle.rst_markup_lines.specs.Front.{begins_with, first}
 use Rattle.rst_markup_lines.specs.declared.closing.Closing.{Closing}

@@ -68,7 +68,7 @@ one_letter c cs n h e = run_cons Letter c cs ∙ ap (λ b. cond b (suc (run Lett
 letter_digit : (c : ℕ) → is_ascii_alphabetic c ≡ true → is_ascii_digit c ≡ false
 letter_digit c h = grind (arith, nat_tests)
 
-letter_not : (c d : ℕ) → is_ascii_alphabetic c ≡ true → is_ascii_alphabetic d ≡ false → (c == d) ≡ false
+pub letter_not : (c d : ℕ) → is_ascii_alphabetic c ≡ true → is_ascii_alphabetic d ≡ false → (c == d) ≡ false
 letter_not c d h k = ne_eqb c d (λ same. true≢false (sym h ∙ ap is_ascii_alphabetic same ∙ k))
 
 neither : (a b : Bool) → not (a || b) ≡ true → (a ≡ false) × (b ≡ false)

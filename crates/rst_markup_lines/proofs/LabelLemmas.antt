@@ -7,13 +7,12 @@ use Rattle.std.proofs.Math.Bool.{and-false}
 use Rattle.std.proofs.lemmas.List.{get_or-take, length-take-le}
 use Rattle.rst_markup_lines.proofs.Runs.{run_cons}
 use Rattle.rst_text.specs.Block.{is_blank}
-use Rattle.rst_text.specs.Characters.{is_alphanumeric}
+use Rattle.rst_text.specs.Characters.{is_alphanumeric, is_alnum_at}
 use Rattle.rst_text.specs.Places.{first_from, IsFirst}
 use Rattle.rst_text.proofs.CharacterLemmas.{is_alphanumeric-ascii}
 use Rattle.rst_text.proofs.PlacesLemmas.{first_from-IsFirst}
-use Rattle.rst_inline_scan.specs.Characters.{is_alnum_at}
-use Rattle.rst_inline_scan.specs.Names.{is_joint, is_name_at, is_simple_name, name_stop, simple_name}
-use Rattle.rst_inline_scan.proofs.NameLemmas.{not_simple, simple-where, name_stop-is}
+use Rattle.rst_text.specs.SimpleNames.{is_joint, is_name_at, is_simple_name, name_stop, simple_name}
+use Rattle.rst_text.proofs.SimpleNameLemmas.{not_simple, simple-where, name_stop-is}
 use Rattle.rst_markup_lines.specs.Front.{begins_with, first}
 use Rattle.rst_markup_lines.specs.Class.{is_in, run}
 use Rattle.rst_markup_lines.specs.ExplicitMarks.{label_kind}

@@ -3,8 +3,8 @@ use Rattle.std.proofs.Common.{◌≡◌, inl, inr, ℕ, ◌+◌, ◌≤◌, ◌=
 use Rattle.std.proofs.lemmas.Bool.{and_parts, cases_Bool, not-false, or_parts}
 use Rattle.std.specs.Option.{option_and_then}
 use Rattle.rst_text.specs.Block.{is_blank}
-use Rattle.rst_inline_scan.specs.Names.{simple_name}
-use Rattle.rst_inline_scan.proofs.FitLemmas.{chosen}
+use Rattle.rst_text.specs.SimpleNames.{simple_name}
+use Rattle.rst_text.proofs.Choices.{chosen}
 use Rattle.rst_markup_lines.specs.declared.explicit_marks.SubstitutionMark.{SubstitutionMark}
 use Rattle.rst_markup_lines.specs.Front.{begins_with}
 use Rattle.rst_markup_lines.specs.Class.{run}

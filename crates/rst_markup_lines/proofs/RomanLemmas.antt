@@ -11,7 +11,7 @@ use Rattle.rst_text.specs.Places.{all_from, IsFirst}
 use Rattle.rst_text.proofs.PlacesLemmas.{all_from-at, cases_bool, first_from-is}
 use Rattle.rst_markup_lines.proofs.Runs.{run_cons}
 use Rattle.rst_markup_lines.proofs.OptionLemmas.{run_le}
-use Rattle.rst_markup_lines.proofs.TextLemmas.{length-chars}
+use Rattle.rst_text.proofs.LinesLemmas.{length-chars}
 use Rattle.rst_markup_lines.specs.Class.{is_in, run}
 use Rattle.rst_markup_lines.specs.Roman.{digits, digit_at, digit_to, letters_of, numeral_of, roman}
 use Rattle.rst_markup_lines.specs.declared.class.Class.TheVariants.{Letter}

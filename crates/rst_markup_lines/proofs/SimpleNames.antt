@@ -3,11 +3,10 @@ use Rattle.std.proofs.Common.{◌≡◌, ⊎_elim, inl, inr, ℕ, zero, suc, ◌
 use Rattle.std.proofs.lemmas.Bool.{and_parts, or_parts, lt-ltb, le-ltb}
 use Rattle.std.proofs.lemmas.List.{drop-drop}
 use Rattle.std.proofs.lemmas.Bool.Decides.{nat_tests}
-use Rattle.rst_text.specs.Characters.{is_alphanumeric}
+use Rattle.rst_text.specs.Characters.{is_alphanumeric, is_alnum_at}
 use Rattle.rst_text.proofs.PlacesLemmas.{cases_bool, lt_eq_gt}
-use Rattle.rst_inline_scan.specs.Characters.{is_alnum_at}
-use Rattle.rst_inline_scan.specs.Names.{is_joint, is_name_at, name_stop, simple_name}
-use Rattle.rst_inline_scan.proofs.NameLemmas.{name_stop-is}
+use Rattle.rst_text.specs.SimpleNames.{is_joint, is_name_at, name_stop, simple_name}
+use Rattle.rst_text.proofs.SimpleNameLemmas.{name_stop-is}
 use Rattle.rst_markup_lines.specs.Front.{first}
 
 -- a letter or a number, or a joint with one of these behind it

@@ -17,9 +17,6 @@ none_behind text h = rw (no_chars text h) refl
 pub none_first : (text : List ℕ) (P : Type 0) → length text ≡ 0 → IsSome (first (chars text)) → P
 none_first text P h some = absurd (true≢false (sym (rw (no_chars text h) at some)))
 
-pub length-chars : (text : List ℕ) → IsUtf8 text → length (chars text) ≤ length text
-length-chars text good = omega (arith, length-le-encodes (chars text), ap length (encodes-chars text good))
-
 indentation_le : (cs : List ℕ) → indentation cs ≤ length cs
 indentation_le [] = omega arith
 indentation_le (c ∷ cs) = cond_both (c == 32) (suc (indentation cs)) 0 (λ n. n ≤ suc (length cs)) (λ e. omega (arith, indentation_le cs)) (λ e. omega arith)

@@ -2,8 +2,8 @@
 -- 'Substitution Definitions', 'Literal Blocks').
 use Rattle.std.specs.Prelude.{ℕ, ◌+◌, ◌-◌, Bool, not, ◌&&◌, ◌==◌, nat_lt, nat_le, List, drop, length, slice_index, Option}
 use Rattle.rst_text.specs.Places.{first_from}
-use Rattle.rst_inline_scan.specs.Characters.{has, is_dark}
-use Rattle.rst_inline_scan.specs.Escapes.{is_escaped}
+use Rattle.rst_text.specs.Characters.{has, is_dark}
+use Rattle.rst_text.specs.Escapes.{is_escaped}
 use Rattle.rst_markup_lines.specs.Front.{begins_with, is_loose}
 use Rattle.rst_markup_lines.specs.declared.closing.Closing.{Closing}
 use Rattle.rst_markup_lines.specs.declared.closing.Closing.TheVariants.{Colon, QuotedColon, Bar, SpacedBar}

@@ -5,7 +5,7 @@ use Rattle.std.specs.List.{list_all}
 use Rattle.std.specs.Option.{option_and_then}
 use Rattle.rst_text.specs.Block.{is_blank}
 use Rattle.rst_text.specs.Characters.{is_white}
-use Rattle.rst_inline_scan.specs.Names.{simple_name, is_simple_name}
+use Rattle.rst_text.specs.SimpleNames.{simple_name, is_simple_name}
 use Rattle.rst_markup_lines.specs.Front.{begins_by, begins_with}
 use Rattle.rst_markup_lines.specs.Class.{is_in, run}
 use Rattle.rst_markup_lines.specs.Closing.{closed}

@@ -5,8 +5,7 @@ ghost use Rattle.rst_markup_lines.specs.Closing as spec;
 ghost use Rattle.rst_markup_lines.specs.Front as fronts;
 
 use super::text::{after_first, begins_with, front, is_blank, is_loose};
-use rst_inline_scan::escapes;
-use rst_text::{is_white, skip};
+use rst_text::{escapes, is_white, skip};
 
 /// What closes.
 #[derive(Clone, Copy, Debug, PartialEq, Eq)]

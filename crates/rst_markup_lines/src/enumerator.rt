@@ -94,6 +94,7 @@ fn letters(text: &str) -> Option<Written>
         return Some(Written {
             ordinals: Ordinals::Letters {
                 case,
+                // 96 and 64 are the codes before `a` and `A`.
                 alphabet: match first {
                     'a'..='z' => Some(first as u64 - 96),
                     'A'..='Z' => Some(first as u64 - 64),

@@ -1,8 +1,8 @@
 //! Marks of explicit markup: `..` and `__`, and what stands behind `..`.
 ghost use Rattle.std.specs.Prelude.{◌≡◌, ◌<◌, ◌≤◌, ◌-◌, ◌&&◌, ◌||◌, true, drop, take, length, chars};
 ghost use Rattle.rst_text.specs.Characters as characters;
-ghost use Rattle.rst_inline_scan.specs.Characters.{is_alnum_at};
-ghost use Rattle.rst_inline_scan.specs.Names as names;
+ghost use Rattle.rst_text.specs.Characters.{is_alnum_at};
+ghost use Rattle.rst_text.specs.SimpleNames as names;
 ghost use Rattle.rst_markup_lines.specs.ExplicitMarks as spec;
 ghost use Rattle.rst_markup_lines.specs.Front.{begins_with};
 
@@ -10,8 +10,7 @@ use super::class::{Class, run};
 use super::closing::{Closing, closed};
 use super::marker::{Marker, marker_of};
 use super::text::{after_first, begins_with, front, is_blank};
-use rst_inline_scan::is_joint;
-use rst_text::{is_alphanumeric, is_white, skip};
+use rst_text::{is_alphanumeric, is_joint, is_white, skip};
 
 /// The marker of explicit markup: `..`.
 #[tactic(auto, unfolding(crate::specs::ExplicitMarks::dots))]

@@ -22,10 +22,6 @@ pub covers_yes : (r : Rectangle) (i j : ℕ) → r.top ≤ i → i < r.bottom �
 unfolding covers
 covers_yes r i j a b c d = ap one_if (and_from _ _ (le-leb r.top i a) (and_from _ _ (lt-ltb i r.bottom b) (and_from _ _ (le-leb r.left j c) (lt-ltb j r.right d))))
 
-pub covers_parts : (r : Rectangle) (i j : ℕ) → covers r i j ≡ true → (r.top ≤ i) × (i < r.bottom) × (r.left ≤ j) × (j < r.right)
-unfolding covers
-covers_parts r i j h = (grind arith, grind arith, grind arith, grind arith)
-
 pub covers_no : (r : Rectangle) (i j : ℕ) → (r.top ≤ i → i < r.bottom → r.left ≤ j → j < r.right → ⊥) → one_if (covers r i j) ≡ 0
 unfolding covers
 covers_no r i j h = grind arith

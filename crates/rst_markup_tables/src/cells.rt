@@ -1,12 +1,12 @@
 //! The lines of a cell.
-ghost use Rattle.std.specs.Prelude.{◌≡◌, ◌-◌, ℕ, List, drop, filter, length, true, IfOk, IsTrue, map};
+ghost use Rattle.std.specs.Prelude.{◌≡◌, ◌-◌, ℕ, List, drop, filter, length, IfOk, IsTrue, map};
 ghost use Rattle.std.specs.List.{range_with_len};
-ghost use Rattle.std.specs.Str.{all_scalars, drop_trailing_whitespace};
+ghost use Rattle.std.specs.Str.{drop_trailing_whitespace};
 ghost use Rattle.rst_text.specs.Extent.{least_indent};
 ghost use Rattle.rst_text.specs.Lines.{are_lines, is_line_text};
 ghost use Rattle.rst_text.specs.Text.{chars_of};
 ghost use Rattle.rst_text.specs.Source.{texts_with};
-ghost use Rattle.rst_markup_tables.specs.Cells.{as_lines, characters, cut_places, cell_text, cell_block, is_white_place, reaches, reaching, texts_among};
+ghost use Rattle.rst_markup_tables.specs.Cells.{as_lines, characters, cut_places, cell_text, cell_block, reaches, reaching, texts_among};
 ghost use Rattle.rst_markup_tables.specs.Places.{AreNumbered};
 
 use super::Result;

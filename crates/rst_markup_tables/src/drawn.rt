@@ -1,8 +1,8 @@
 //! The rectangles that a grid table draws, and the tiling by them.
-ghost use Rattle.std.specs.Prelude.{◌≡◌, ◌<◌, ◌≤◌, ◌^◌, IfOk, option_map, vec_items, length};
+ghost use Rattle.std.specs.Prelude.{◌≡◌, ◌<◌, IfOk, option_map, vec_items};
 ghost use Rattle.rst_markup_tables.specs.Places.{width, place};
 ghost use Rattle.rst_markup_tables.specs.Drawn.{is_across, is_upright, Tiles};
-ghost use Rattle.rst_markup_tables.specs.Search.{are_upright, lists_of, begin_at, IsBottom, Tells, Closes, AreBegins, HasBegins, next_begin, Draws, Fills};
+ghost use Rattle.rst_markup_tables.specs.Search.{are_upright, lists_of, begin_at, IsBottom, Tells, Closes, AreBegins, HasBegins, Draws};
 
 use super::Result;
 use super::places::{Place, TableLine, mark, mark_at, width};

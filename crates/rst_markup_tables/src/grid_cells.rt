@@ -10,7 +10,6 @@ use super::cells::{all_places, cell_lines, reaching};
 use super::counts::{marked, ranks};
 use super::drawn::Rectangle;
 use super::results::{Cell, Rows, TableResult, Widths};
-use std::alloc::Global;
 
 /// How many bounds stand before each row and column.
 #[derive(Drop)]

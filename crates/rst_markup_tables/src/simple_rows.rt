@@ -4,7 +4,6 @@ ghost use Rattle.std.specs.List.{list_all};
 ghost use Rattle.rst_markup_tables.specs.Places.{AreNumbered, row_at};
 ghost use Rattle.rst_text.specs.Places.{first_from};
 ghost use Rattle.rst_markup_tables.specs.SimpleTable as spec;
-ghost use Rattle.rst_markup_tables.specs.declared.results.TableDetail.TheVariants.{ColumnSpan};
 
 use super::Result;
 use super::places::{Place, TableLine, consists_of, mark_at, row_at};

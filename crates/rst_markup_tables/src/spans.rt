@@ -1,5 +1,5 @@
 //! The spans of a simple table's rules.
-ghost use Rattle.std.specs.Prelude.{◌≡◌, ◌+◌, ◌^◌, ◌<◌, ◌==◌, drop, position, IfOk, IfSome, option_map, vec_items};
+ghost use Rattle.std.specs.Prelude.{◌≡◌, ◌+◌, ◌^◌, ◌<◌, ◌==◌, drop, position, IfOk, IfSome};
 ghost use Rattle.rst_markup_tables.specs.SimpleTable as spec;
 
 use super::Result;

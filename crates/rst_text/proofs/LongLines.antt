@@ -4,7 +4,7 @@ use Rattle.std.specs.List.{find}
 use Rattle.std.specs.Str.{IsUtf8, chars}
 use Rattle.std.proofs.Math.Utf8.{encode}
 use Rattle.std.proofs.Math.Nat.{div-mul-le_self, suc-mul}
-use Rattle.std.proofs.lemmas.Bool.{eqb-true, lt-ltb, le-ltb}
+use Rattle.std.proofs.lemmas.Bool.{eqb-true, lt-ltb, le-ltb, false_from_ne_true}
 use Rattle.std.proofs.lemmas.List.{length-replicate}
 use Rattle.std.proofs.lemmas.Nat.{mul-le}
 use Rattle.std.proofs.lemmas.Str.{chars_past_char}
@@ -13,7 +13,6 @@ use Rattle.rst_text.specs.Lines.{expanded, first_longer, numbered_from, pieces, 
 use Rattle.rst_text.proofs.Indenting.{no_chars}
 use Rattle.rst_text.proofs.LinesLemmas.{length-chars}
 use Rattle.rst_text.proofs.Scanning.{past_char}
-use Rattle.rst_text.proofs.TextLemmas.{not_true}
 use Rattle.rst_text.proofs.Tabs.{expanded_from, expanded_from-start}
 
 -- how many columns a character takes that stands at a column
@@ -24,7 +23,7 @@ pub width-tab : (tab column c : ℕ) → c ≡ 9 → tab - column % tab ≡ widt
 width-tab tab column c is = rw is refl
 
 pub width-other : (tab column c : ℕ) → (c ≡ 9 → ⊥) → 1 ≡ width tab column c
-width-other tab column c other = rw (not_true (c == 9) (λ t. other (eqb-true c 9 t))) refl
+width-other tab column c other = rw (false_from_ne_true (c == 9) (λ t. other (eqb-true c 9 t))) refl
 
 expanded-width : (tab column c : ℕ) (cs : List ℕ) → length (expanded_from tab column (c ∷ cs)) ≡ width tab column c + length (expanded_from tab (column + width tab column c) cs)
 expanded-width tab column c cs = by (c == 9)

@@ -1,5 +1,7 @@
 -- Lemmas on the text of bytes.
 use Rattle.std.proofs.Common.{◌≡◌, ℕ, nat_eq, Bool, true, false, List, take, drop, [], ◌∷◌, ◌++◌, Option, None, Some, MatchOption, refl, sym, ap, ◌∙◌, Bor, unwrap_or}
+use Rattle.std.specs.Prelude.{string_bytes, encode_utf8_all}
+use Rattle.std.specs.declared.string.String.{String}
 use Rattle.std.specs.Str.{IsUtf8, is_utf8, chars}
 use Rattle.std.specs.Str.Pattern.{FindsCharPrefix, StripsPrefix}
 use Rattle.std.proofs.Math.Utf8.{encode, encodes}
@@ -7,11 +9,16 @@ use Rattle.std.proofs.lemmas.Bool.{eqb-true, false_from_ne_true, and_parts}
 use Rattle.std.proofs.lemmas.List.{take-append-drop}
 use Rattle.std.proofs.lemmas.List.Folds.{list_all-append}
 use Rattle.std.specs.List.{list_all}
-use Rattle.std.proofs.lemmas.Str.{IsUtf8-from_is_utf8, is_utf8-from_IsUtf8, chars_past_char, encodes-chars}
-use Rattle.rst_text.specs.Text.{text_of, without_mark}
+use Rattle.std.proofs.lemmas.Str.{IsUtf8-from_is_utf8, IsUtf8-string_bytes, is_utf8-from_IsUtf8, chars_past_char, encodes-chars}
+use Rattle.rst_text.specs.Text.{chars_of, text_of, without_mark}
 
-pub not_true : (b : Bool) → (b ≡ true → ⊥) → b ≡ false
-not_true b h = false_from_ne_true b h
+-- a text is the bytes of its characters
+pub bytes_encoded : {A : Type 0} (s : String A) → string_bytes s ≡ encode_utf8_all (chars_of s)
+bytes_encoded s = sym (encodes-chars (string_bytes s) (IsUtf8-string_bytes s))
+
+-- the bytes of a text with some characters
+pub bytes_of_chars : {A : Type 0} (s : String A) (cs : List ℕ) → chars_of s ≡ cs → string_bytes s ≡ encode_utf8_all cs
+bytes_of_chars s cs e = bytes_encoded s ∙ ap encode_utf8_all e
 
 -- where each element passes a test, each of a front does, and each of the rest
 pub all-parts : {X : Type 0} (p : X → Bool) (n : ℕ) (xs : List X) → list_all p xs ≡ true → (list_all p (take n xs) ≡ true) × (list_all p (drop n xs) ≡ true)
@@ -22,7 +29,7 @@ all-between p i m xs h = (all-parts p m (drop i xs) (all-parts p i xs h).1).0
 
 -- bytes that are no UTF-8 have no text
 pub text_of_none : (bytes : List ℕ) → ¬ (IsUtf8 bytes) → text_of bytes ≡ None
-text_of_none bytes bad = let e : is_utf8 bytes ≡ false = not_true (is_utf8 bytes) (λ t. bad (IsUtf8-from_is_utf8 bytes t)) in rw e refl
+text_of_none bytes bad = let e : is_utf8 bytes ≡ false = false_from_ne_true (is_utf8 bytes) (λ t. bad (IsUtf8-from_is_utf8 bytes t)) in rw e refl
 
 pub text_of_some : (bytes : List ℕ) → IsUtf8 bytes → text_of bytes ≡ Some (without_mark (chars bytes))
 text_of_some bytes good = rw (is_utf8-from_IsUtf8 bytes good) refl
@@ -31,7 +38,7 @@ text_of_some bytes good = rw (is_utf8-from_IsUtf8 bytes good) refl
 without_mark-kept : (cs : List ℕ) → ((ds : List ℕ) → cs ≡ 0xFEFF ∷ ds → ⊥) → without_mark cs ≡ cs
 without_mark-kept [] absent = refl
 without_mark-kept (c ∷ cs) absent =
-    let e : nat_eq c 0xFEFF ≡ false = not_true (nat_eq c 0xFEFF) (λ t. absent cs (ap (λ x. x ∷ cs) (eqb-true c 0xFEFF t))) in rw e refl
+    let e : nat_eq c 0xFEFF ≡ false = false_from_ne_true (nat_eq c 0xFEFF) (λ t. absent cs (ap (λ x. x ∷ cs) (eqb-true c 0xFEFF t))) in rw e refl
 
 -- what is left when a mark was stripped
 pub chars-stripped : (whole kept : Bor (List ℕ)) (r : Option (Bor (List ℕ))) → IsUtf8 whole.now

@@ -12,6 +12,8 @@ pub mod Laws
 pub mod Places
 pub mod Characters
 pub mod Names
+pub mod SimpleNames
+pub mod Escapes
 pub mod Faults
 pub mod Counted
 pub mod Runs

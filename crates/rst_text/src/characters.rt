@@ -65,3 +65,43 @@ pub fn ascii_characters(alloc: Global, bytes: &[u8]) -> Result<Vec<char>, AllocE
     }
     Ok(characters)
 }
+
+/// Whether the character stands at the place.
+pub fn has(text: &[char], place: usize, c: char) -> bool
+    ensures { result ≡ spec.has text.now place c }
+{
+    text.get(place) == Some(&c)
+}
+
+/// Whether a character that isn't white stands at the place.
+pub fn is_dark(text: &[char], place: usize) -> bool
+    ensures { result ≡ spec.is_dark text.now place }
+{
+    match text.get(place) {
+        Some(c) => !is_white(*c),
+        None => false,
+    }
+}
+
+/// Whether a letter or a number stands at the place.
+pub fn is_alnum_at(text: &[char], place: usize) -> bool
+    ensures { result ≡ spec.is_alnum_at text.now place }
+{
+    match text.get(place) {
+        Some(c) => is_alphanumeric(*c),
+        None => false,
+    }
+}
+
+/// A text without its white characters.
+pub fn without_white(alloc: Global, text: &[char]) -> Result<Vec<char>, AllocError>
+    ensures { IfOk result (λ dark. dark.items ≡ spec.without_white text.now) }
+{
+    let mut dark = Vec::with_capacity(alloc, text.len())?;
+    for c in text {
+        if !is_white(*c) {
+            dark.push(*c)?;
+        }
+    }
+    Ok(dark)
+}

@@ -5,7 +5,9 @@
 ghost use Rattle.std.specs.Prelude.{◌≡◌, ◌++◌, true, false, Some, None, codes, filter, map, [], ◌∷◌};
 ghost use Rattle.rst_text.specs.Characters.{columns, is_alphanumeric, is_letter, is_white};
 ghost use Rattle.rst_text.specs.Lines.{expanded, lines_of, first_longer};
+ghost use Rattle.rst_text.specs.Escapes.{unescaped};
 ghost use Rattle.rst_text.specs.Names.{id_of, name_of};
+ghost use Rattle.rst_text.specs.SimpleNames.{is_simple_name};
 ghost use Rattle.rst_text.specs.Written.{block};
 
 /// Lines of a text (Markup Specification, 'Whitespace').
@@ -28,6 +30,23 @@ pub fn names()
     ensures each_to_one { name_of (codes
         "ẞİıKÅΣςǄǅﬁⅧⒶꭰᎠͅµ𐐀ſÉ")
         ≡ codes "ßİıkåσσǆǆﬁⅷⓐᎠᎠιμ𐐨sé" }
+{}
+
+/// Simple names (Markup Specification, 'Reference Names').
+pub fn simple_names()
+    ensures joined { is_simple_name (codes "a-1_b") ≡ true }
+    ensures two_joints { is_simple_name (codes "a..b") ≡ false }
+    ensures joint_in_front { is_simple_name (codes "-a") ≡ false }
+    ensures joint_at_the_end { is_simple_name (codes "a-") ≡ false }
+    ensures empty { is_simple_name [] ≡ false }
+{}
+
+/// A text without its escapes (Markup Specification, 'Escaping Mechanism').
+pub fn escapes()
+    ensures white { unescaped (codes "a\\ b\\\nc") ≡ codes "abc" }
+    ensures character { unescaped (codes "\\*a\\b") ≡ codes "*ab" }
+    ensures backslash { unescaped (codes "\\\\ \\\\\\*") ≡ codes "\\ \\*" }
+    ensures last { unescaped (codes "a\\") ≡ codes "a" }
 {}
 
 /// Ids that names give (Directives, 'Identifier Normalization').

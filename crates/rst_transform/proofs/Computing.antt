@@ -3,8 +3,7 @@
 unfoldable pub rst_transform : Unit {0}
 unfolding
     lib.Utf8.encode Rattle.std.specs.Fmt.digits Rattle.rst_transform_work.proofs.Computing.rst_transform_work
-    Rattle.rst_transform_substitutions.proofs.Computing.rst_transform_substitutions Rattle.rst_transform_links.proofs.Computing.rst_transform_links
-    Rattle.rst_transform_footnotes.proofs.Computing.rst_transform_footnotes Rattle.rst_transform_hyperlinks.proofs.Computing.rst_transform_hyperlinks
+    Rattle.rst_transform_substitutions.proofs.Computing.rst_transform_substitutions
     Rattle.rst_transform_references.proofs.Computing.rst_transform_references Rattle.rst_transform_structure.proofs.Computing.rst_transform_structure
     Rattle.rst_transform_docinfo.proofs.Computing.rst_transform_docinfo Rattle.rst_transform_messages.proofs.Computing.rst_transform_messages
     Rattle.rst_transform_names.proofs.Computing.rst_transform_names Rattle.rst_text.proofs.Computing.rst_text

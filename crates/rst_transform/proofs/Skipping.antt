@@ -5,11 +5,11 @@ use Rattle.std.specs.List.{list_all}
 use Rattle.rst_transform_work.specs.declared.document.Document.{Document}
 use Rattle.rst_transform_work.specs.declared.context.Context.{Context}
 use Rattle.rst_transform_work.specs.Known.{Holds, Known, Makes}
-use Rattle.rst_transform_links.specs.declared.links.Outcome.{Outcome}
-use Rattle.rst_transform_links.specs.Linkings.{linked_of, Held}
-use Rattle.rst_transform_links.specs.Links.{changed_document, is_idle}
-use Rattle.rst_transform_links.specs.Settling.{link_changes}
-use Rattle.rst_transform_links.proofs.Idle.{idle_document}
+use Rattle.rst_transform_references.specs.declared.links.Outcome.{Outcome}
+use Rattle.rst_transform_references.specs.Linkings.{linked_of, Held}
+use Rattle.rst_transform_references.specs.Links.{changed_document, is_idle}
+use Rattle.rst_transform_references.specs.Settling.{link_changes}
+use Rattle.rst_transform_references.proofs.Idle.{idle_document}
 use Rattle.rst_transform.specs.declared.linking.LinkStep.{LinkStep}
 use Rattle.rst_transform.specs.Linking.{decision_of, first_changes, linked_by}
 

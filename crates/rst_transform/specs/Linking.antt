@@ -3,13 +3,13 @@ use Rattle.std.specs.Prelude.{ℕ, ◌+◌, if◌then◌else◌, List, [], ◌�
 use Rattle.std.specs.List.{list_all}
 use Rattle.rst_transform_work.specs.declared.document.Document.{Document}
 use Rattle.rst_transform_work.specs.Known.{Known}
-use Rattle.rst_transform_links.specs.declared.links.Outcome.{Outcome}
-use Rattle.rst_transform_links.specs.Linkings.{linked_of, Held}
-use Rattle.rst_transform_links.specs.Links.{changed_document, is_idle}
-use Rattle.rst_transform_links.specs.Settling.{link_changes}
-use Rattle.rst_transform_hyperlinks.specs.Anonymous.{anonymous_outcomes}
-use Rattle.rst_transform_hyperlinks.specs.Indirect.{indirect_outcomes}
-use Rattle.rst_transform_footnotes.specs.Footnotes.{footnote_outcomes}
+use Rattle.rst_transform_references.specs.declared.links.Outcome.{Outcome}
+use Rattle.rst_transform_references.specs.Linkings.{linked_of, Held}
+use Rattle.rst_transform_references.specs.Links.{changed_document, is_idle}
+use Rattle.rst_transform_references.specs.Settling.{link_changes}
+use Rattle.rst_transform_references.specs.Anonymous.{anonymous_outcomes}
+use Rattle.rst_transform_references.specs.Indirect.{indirect_outcomes}
+use Rattle.rst_transform_references.specs.Footnotes.{footnote_outcomes}
 use Rattle.rst_transform_references.specs.Resolving.{reference_outcomes}
 use Rattle.rst_transform.specs.declared.linking.LinkStep.{LinkStep}
 use Rattle.rst_transform.specs.declared.linking.LinkStep.TheVariants.{Anonymous, Indirect, Footnotes, References}

@@ -1,15 +1,14 @@
 //! The transforms of links, in order.
 ghost use Rattle.std.specs.Prelude.{◌<◌, ◌≤◌, length, map};
 ghost use Rattle.rst_tree.specs.Faults.{Gives};
-ghost use Rattle.rst_transform_links.specs.Linkings.{held};
+ghost use Rattle.rst_transform_references.specs.Linkings.{held};
 ghost use Rattle.rst_transform_work.specs.Known.{Makes};
 ghost use Rattle.rst_transform.specs.Linking.{decision_of, first_changes, linked_by, with_links};
 
-use rst_transform_footnotes::footnotes::footnote_outcomes;
-use rst_transform_hyperlinks::anonymous::anonymous_outcomes;
-use rst_transform_hyperlinks::indirect::indirect_outcomes;
-use rst_transform_links::{Changes, Linked, Outcome, linked_in, settle, with_changes};
-use rst_transform_references::resolve::reference_outcomes;
+use rst_transform_references::{
+    Changes, Linked, Outcome, anonymous_outcomes, footnote_outcomes, indirect_outcomes, linked_in,
+    reference_outcomes, settle, with_changes,
+};
 use rst_transform_work::{Context, Document};
 use rst_tree::Result;
 

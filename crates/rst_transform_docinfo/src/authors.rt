@@ -4,7 +4,7 @@ ghost use Rattle.std.specs.List.{list_any};
 ghost use Rattle.std.specs.Str.{chars};
 ghost use Rattle.rst_tree.specs.Faults.{Gives};
 ghost use Rattle.rst_tree.specs.Nodes.{nodes_of};
-ghost use Rattle.rst_transform_docinfo.specs.Authors.{all_paragraphs, author, author_named, authors_in, named_by, names_in, parted};
+ghost use Rattle.rst_transform_docinfo.specs.Authors.{all_paragraphs, author, author_named, authors_in, named_by, parted};
 ghost use Rattle.rst_transform_docinfo.specs.Fields.{lone};
 
 use crate::field::{lone, lone_in, paragraph_in};

@@ -3,12 +3,11 @@ ghost use Rattle.std.specs.Prelude.{◌≡◌, ◌++◌, [], List, None};
 ghost use Rattle.std.specs.Option.{option_to_list};
 ghost use Rattle.rst_tree.specs.Faults.{Gives};
 ghost use Rattle.rst_tree.specs.Nodes.{nodes_of};
-ghost use Rattle.rst_tree.specs.Paths.{with_child};
 ghost use Rattle.rst_transform_work.specs.declared.report.Report.{Report};
 ghost use Rattle.rst_transform_docinfo.specs.Bibliography.{element_of, fault_node, fault_report, made, row_of, stays, title_node, titled, topic_title, with_class};
-ghost use Rattle.rst_transform_docinfo.specs.Gathered.{by_form, docinfo_nodes, info_nodes, is_further, none_yet, so_far, with_element, with_field, with_node, with_seen};
+ghost use Rattle.rst_transform_docinfo.specs.Gathered.{docinfo_nodes, is_further, none_yet, so_far, with_field, with_node, with_seen};
 ghost use Rattle.rst_transform_docinfo.specs.Fields.{nodes_in, paragraph_in};
-ghost use Rattle.rst_transform_work.specs.Reports.{report_node, IsReported, KeepsRest};
+ghost use Rattle.rst_transform_work.specs.Reports.{IsReported, KeepsRest};
 
 use crate::authors::authors_in;
 use crate::field::{Field, paragraph_in};

@@ -3,7 +3,7 @@ ghost use Rattle.std.specs.Prelude.{◌≡◌, slice_get};
 ghost use Rattle.std.specs.List.{prefix_len};
 ghost use Rattle.rst_tree.specs.Faults.{Gives};
 ghost use Rattle.rst_tree.specs.Nodes.{forest_of, nodes_of};
-ghost use Rattle.rst_transform_docinfo.specs.Docinfo.{first_named, is_list, leading_list, list_place, may_lead, nodes_with, replaced, with_docinfo};
+ghost use Rattle.rst_transform_docinfo.specs.Docinfo.{first_named, is_list, leading_list, list_place, nodes_with, replaced, with_docinfo};
 ghost use Rattle.rst_transform_work.specs.Known.{Makes};
 ghost use Rattle.rst_transform_work.specs.Reports.{KeepsRest};
 ghost use Rattle.rst_transform_work.specs.Reading.{is_title};

@@ -1,12 +1,12 @@
 //! Worked examples of bibliographic fields, as theorems on the definitions alone.
 #![tactic(auto, unfolding(crate::proofs::Computing::rst_transform_docinfo))]
 
-ghost use Rattle.std.specs.Prelude.{◌≡◌, Some, None, codes, [], ◌∷◌, map};
-ghost use Rattle.rst_tree.specs.declared.key.Key.TheVariants.{Ids, Names};
+ghost use Rattle.std.specs.Prelude.{◌≡◌, codes, [], ◌∷◌, map};
+ghost use Rattle.rst_tree.specs.declared.key.Key.TheVariants.{Ids};
 ghost use Rattle.rst_tree.specs.declared.tag.Tag.TheVariants.{Author, BulletList, Comment, Contact, Copyright, Date, Emphasis, Field, FieldBody, FieldList, FieldName, ListItem, Organization, Paragraph, Revision, Status, Subtitle, SystemMessage, Title, Version};
 ghost use Rattle.rst_transform_docinfo.specs.declared.bibliography.Row.TheVariants.{Simple, Address, Authors, Topic, Generic};
 ghost use Rattle.rst_transform_docinfo.specs.declared.bibliography.TopicKind.TheVariants.{Dedication, Abstract};
-ghost use Rattle.rst_transform_names.specs.Trees.{document, element, lists, paragraph, says, text, Prints};
+ghost use Rattle.rst_transform_names.specs.Trees.{document, element, lists, paragraph, text, Prints};
 ghost use Rattle.rst_transform_work.specs.Written.{document_of, knowing, Shows};
 ghost use Rattle.rst_transform_docinfo.specs.Authors.{names_in};
 ghost use Rattle.rst_transform_docinfo.specs.Bibliography.{row_of};

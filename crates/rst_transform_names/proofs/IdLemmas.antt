@@ -21,10 +21,6 @@ use Rattle.rst_tree.specs.TagNames.{hyphenated, tag_name}
 use Rattle.rst_transform_names.specs.Ids.{numbered, number_of, last_of, taken_by, is_among, is_taken, id_by, kind_id, least_free, least_from, numbered_id, wanted_id, AreTaken, IsLeastFree, Takes, TakesNone, GivesId, GivesNumber, GivesNumbered}
 use Rattle.rst_transform_names.proofs.IdNumbers.{number_of-numbered, some_same, number_of-is}
 
--- the bytes of a text with some characters
-pub bytes_of_chars : {A : Type 0} (s : String A) (cs : List ℕ) → chars_of s ≡ cs → string_bytes s ≡ encode_utf8_all cs
-bytes_of_chars s cs e = sym (encodes-chars (string_bytes s) (IsUtf8-string_bytes s)) ∙ ap encode_utf8_all e
-
 -- ---- ids taken
 
 -- two ids of which other things are read aren't the same

@@ -1,20 +1,20 @@
 //! Names and ids, given one element after the other.
-ghost use Rattle.std.specs.Prelude.{◌≡◌, ℕ, length, map, option_map};
+ghost use Rattle.std.specs.Prelude.{◌≡◌, length, map};
 ghost use Rattle.rst_tree.specs.Faults.{Gives};
 ghost use Rattle.rst_tree.specs.PrintedAttributes.{given};
 ghost use Rattle.rst_tree_index.specs.Registered.{item_of};
 ghost use Rattle.rst_transform_names.specs.DuplicateMessages.{duplicate_definition, duplicate_name};
 ghost use Rattle.rst_transform_names.specs.Gathered as spec;
 ghost use Rattle.rst_transform_names.specs.Names.{held_by, Knows};
-ghost use Rattle.rst_transform_names.specs.Registering.{all_registered, nothing_known, with_definition, with_element, with_message, with_named, Holds, Makes};
-ghost use Rattle.rst_transform_names.specs.Registry.{strength_of, is_same_text, target_uri, known_by, losing, rule_named, definer};
+ghost use Rattle.rst_transform_names.specs.Registering.{all_registered, nothing_known, with_definition, with_element, with_named, Holds, Makes};
+ghost use Rattle.rst_transform_names.specs.Registry.{strength_of, target_uri, known_by, losing, rule_named, definer};
 
 use super::duplicate_messages::{duplicate_definition, duplicate_name};
 use super::ids::Ids;
 use super::message_ids::KnownMessages;
 use super::names::{Holder, NameEntry, Names, Strength};
 use super::registrants::own_name;
-use super::rulings::{DuplicateMessage, NO_RULING, Now, Ruling, ruling_for};
+use super::rulings::{NO_RULING, Now, Ruling, ruling_for};
 use rst_tree::{Key, Node, Result, Tag, Text};
 use rst_tree_index::Element;
 use std::alloc::Global;

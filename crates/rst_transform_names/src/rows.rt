@@ -4,13 +4,12 @@
 
 ghost use Rattle.std.specs.Prelude.{◌≡◌, true, false, Some, None, codes, [], ◌∷◌};
 ghost use Rattle.rst_tree.specs.declared.key.Key.TheVariants.{Inline, Message, OwnName, Refuri, Serial, TextMessages};
-ghost use Rattle.rst_tree.specs.declared.node.Node.{Node};
 ghost use Rattle.rst_tree.specs.declared.note.Level.TheVariants.{Info, Warning};
 ghost use Rattle.rst_tree.specs.declared.tag.Tag.TheVariants.{Attribution, BlockQuote, Caption, Classifier, Definition, DefinitionListItem, Field, FieldBody, FieldName, Figure, Footnote, Image, Line, LineBlock, Paragraph, Problematic, Reference, Section, SubstitutionDefinition, SystemMessage, Target, Term, Title};
 ghost use Rattle.rst_tree.specs.Walk.{item, walked_node};
 ghost use Rattle.rst_tree_index.specs.Marks.{heeded_next, heeded_out};
 ghost use Rattle.rst_tree_index.specs.Registered.{is_registered};
-ghost use Rattle.rst_transform_names.specs.declared.names.Holder.TheVariants.{Nobody, Element as By, Unregistered};
+ghost use Rattle.rst_transform_names.specs.declared.names.Holder.TheVariants.{Nobody, Element as By};
 ghost use Rattle.rst_transform_names.specs.declared.names.Strength.TheVariants.{Implicit, Explicit};
 ghost use Rattle.rst_transform_names.specs.declared.rulings.Now.TheVariants.{Old, New, Nobody as NobodyNow};
 ghost use Rattle.rst_transform_names.specs.DuplicateMessages.{duplicate_definition, duplicate_name};
@@ -19,7 +18,7 @@ ghost use Rattle.rst_transform_names.specs.NameMessages.{message_on, with_name_m
 ghost use Rattle.rst_transform_names.specs.Registering.{registration};
 ghost use Rattle.rst_transform_names.specs.Registry.{rule_by, standing};
 ghost use Rattle.rst_transform_names.specs.Rulings.{ruling_for};
-ghost use Rattle.rst_transform_names.specs.Trees.{counts, document, element, lists, paragraph, says, text, Prints, PrintsRegistered};
+ghost use Rattle.rst_transform_names.specs.Trees.{counts, document, element, paragraph, says, text, Prints, PrintsRegistered};
 ghost use Rattle.rst_transform_names.specs.Written.{given, left_behind, with_given};
 
 /// What a name gives as an id, and the numbers at the end of ids (Directives, 'Identifier Normalization').

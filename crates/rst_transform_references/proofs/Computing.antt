@@ -2,7 +2,6 @@
 
 unfoldable pub rst_transform_references : Unit {0}
 unfolding
-    lib.Utf8.encode Rattle.std.specs.Fmt.digits Rattle.rst_transform_links.proofs.Computing.rst_transform_links
-    Rattle.rst_transform_work.proofs.Computing.rst_transform_work Rattle.rst_transform_names.proofs.Computing.rst_transform_names
-    Rattle.rst_tree.proofs.Computing.rst_tree
+    lib.Utf8.encode Rattle.std.specs.Fmt.digits Rattle.rst_transform_work.proofs.Computing.rst_transform_work
+    Rattle.rst_transform_names.proofs.Computing.rst_transform_names Rattle.rst_tree.proofs.Computing.rst_tree
 rst_transform_references = tt

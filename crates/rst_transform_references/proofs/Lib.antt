@@ -1,3 +1,15 @@
 pub mod Computing
 pub mod Referring
 pub mod Resolves
+pub mod Holding
+pub mod Idle
+pub mod Linking
+pub mod SettlingLemmas
+pub mod TurnsInOrder
+pub mod FreeNumbers
+pub mod FootnoteLemmas
+pub mod HoldingNumbers
+pub mod Numbering
+pub mod Agreeing
+pub mod Following
+pub mod Leading

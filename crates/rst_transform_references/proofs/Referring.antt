@@ -1,6 +1,6 @@
 -- The ids of references, gathered one after another.
 use Rattle.std.proofs.Common.{◌≡◌, ℕ, zero, suc, ◌+◌, ◌≤◌, ◌<◌, List, [], ◌∷◌, ◌++◌, length, map, drop, get_or, replicate, refl, sym, ◌∙◌, ap, arith, Bool, true, false, append_assoc, eq-eqb}
-use Rattle.std.proofs.lemmas.Bool.{eqb-true}
+use Rattle.std.proofs.lemmas.Bool.{eqb-true, or_parts}
 use Rattle.std.proofs.lemmas.List.{append-nil, drop_all, drop_more}
 use Rattle.std.specs.Prelude.{◌||◌, if◌then◌else◌, nat_eq, slice_get, slice_set, slice_index_or, Option, Some, None}
 use Rattle.std.specs.List.{cons_option, enumerate_from, list_any, range_with_len, zip}
@@ -8,12 +8,12 @@ use Rattle.rst_transform_names.specs.declared.names.Holder.{Holder}
 use Rattle.rst_transform_names.specs.declared.names.NameEntry.{NameEntry}
 use Rattle.rst_tree.specs.declared.key.Key.TheVariants.{Ids}
 use Rattle.rst_tree.specs.declared.node.Node.{Node}
-use Rattle.rst_transform_links.specs.declared.links.Linked.{Linked}
-use Rattle.rst_transform_links.specs.declared.links.Outcome.{Outcome}
+use Rattle.rst_transform_references.specs.declared.links.Linked.{Linked}
+use Rattle.rst_transform_references.specs.declared.links.Outcome.{Outcome}
 use Rattle.rst_transform_references.specs.Backrefs.{id_of_reference, ids_of_references, is_at, reference_ids, referent_at, referents_of, referred_to, with_backrefs, with_reference}
-use Rattle.rst_transform_links.specs.Linkings.{Held, held}
+use Rattle.rst_transform_references.specs.Linkings.{Held, held}
 use Rattle.rst_transform_references.specs.Meanings.{refers_to_footnote_or_citation}
-use Rattle.rst_transform_links.specs.FootnoteOrders.{found_by_order}
+use Rattle.rst_transform_references.specs.FootnoteOrders.{found_by_order}
 use Rattle.rst_transform_work.specs.Reading.{list_said}
 
 -- ---- one id more
@@ -127,15 +127,11 @@ gather_short referents linked place lists all past before = sym (complete (ids_o
 
 -- ---- where nothing refers to a footnote or a citation
 
-neither : (a b : Bool) → (a || b) ≡ false → (a ≡ false) × (b ≡ false)
-neither true b h = absurd (cc)
-neither false b h = (refl, h)
-
 none_meant : (places : Holder → Option ℕ) (all : List Held) (names : List ℕ → Option NameEntry) (found : List (Option ℕ)) (i place : ℕ) (linked : List Held) → list_any (λ (one : Held). refers_to_footnote_or_citation one.0) linked ≡ false
     → ids_of_references (map (referent_at places all names found) (enumerate_from place linked)) linked i ≡ []
 none_meant places all names found i place [] none = refl
 none_meant places all names found i place (one ∷ more) none =
-    let parts = neither (refers_to_footnote_or_citation one.0) _ none in
+    let parts = or_parts (refers_to_footnote_or_citation one.0) _ none in
     rw (parts.0) (none_meant places all names found i (place + 1) more parts.1)
 
 unreferred : (ids : ℕ → List (List ℕ)) (place : ℕ) (outcomes : List Outcome) → ((i : ℕ) → ids i ≡ []) → map (λ p. referred_to p.0 p.1) (zip (map ids (range_with_len place (length outcomes))) outcomes) ≡ outcomes

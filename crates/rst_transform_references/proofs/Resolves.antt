@@ -15,12 +15,12 @@ use Rattle.rst_transform_work.specs.Reading.{line_of}
 use Rattle.rst_transform_work.specs.declared.report.Report.{Report}
 use Rattle.rst_transform_work.specs.Reports.{next_report, report_in, IsReported, KeepsRest}
 use Rattle.rst_transform_work.proofs.Holding.{holds_reports}
-use Rattle.rst_transform_links.specs.declared.links.Linked.{Linked}
-use Rattle.rst_transform_links.specs.declared.links.Outcome.{Outcome}
-use Rattle.rst_transform_links.specs.declared.links.Outcome.TheVariants.{Fails}
-use Rattle.rst_transform_links.specs.Holders.{holder_place, place_at}
-use Rattle.rst_transform_links.specs.Linkings.{Held, held}
-use Rattle.rst_transform_links.specs.Outcomes.{fails}
+use Rattle.rst_transform_references.specs.declared.links.Linked.{Linked}
+use Rattle.rst_transform_references.specs.declared.links.Outcome.{Outcome}
+use Rattle.rst_transform_references.specs.declared.links.Outcome.TheVariants.{Fails}
+use Rattle.rst_transform_references.specs.Holders.{holder_place, place_at}
+use Rattle.rst_transform_references.specs.Linkings.{Held, held}
+use Rattle.rst_transform_references.specs.Outcomes.{fails}
 use Rattle.rst_transform_references.specs.declared.meanings.Meaning.{Meaning}
 use Rattle.rst_transform_references.specs.Backrefs.{referents_of, with_backrefs}
 use Rattle.rst_transform_references.specs.Meanings.{meaning_to}

@@ -7,13 +7,13 @@ use Rattle.rst_tree.specs.declared.attrs.Value.TheVariants.{List as Listed}
 use Rattle.rst_tree.specs.declared.key.Key.TheVariants.{Backrefs, Ids}
 use Rattle.rst_tree.specs.declared.node.Node.{Node}
 use Rattle.rst_tree.specs.Attributes.{attr}
-use Rattle.rst_transform_links.specs.declared.links.Outcome.{Outcome}
+use Rattle.rst_transform_references.specs.declared.links.Outcome.{Outcome}
 use Rattle.rst_transform_references.specs.declared.meanings.Meaning.{Meaning}
 use Rattle.rst_transform_references.specs.declared.meanings.Meaning.TheVariants.{Leads, Unknown, Duplicate}
-use Rattle.rst_transform_links.specs.Linkings.{Held}
+use Rattle.rst_transform_references.specs.Linkings.{Held}
 use Rattle.rst_transform_references.specs.Meanings.{meaning_to, refers_to_footnote_or_citation}
-use Rattle.rst_transform_links.specs.FootnoteOrders.{found_by_order}
-use Rattle.rst_transform_links.specs.Outcomes.{adds}
+use Rattle.rst_transform_references.specs.FootnoteOrders.{found_by_order}
+use Rattle.rst_transform_references.specs.Outcomes.{adds}
 use Rattle.rst_transform_work.specs.Lists.{at_place}
 use Rattle.rst_transform_work.specs.Reading.{list_said}
 

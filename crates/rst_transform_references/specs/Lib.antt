@@ -1,3 +1,16 @@
 pub mod Backrefs
 pub mod Meanings
 pub mod Resolving
+pub mod Holders
+pub mod Law
+pub mod Linkings
+pub mod Links
+pub mod FootnoteOrders
+pub mod Outcomes
+pub mod Settling
+pub mod Written
+pub mod Footnotes
+pub mod FootnoteLabels
+pub mod Anonymous
+pub mod Indirect
+pub mod Chains

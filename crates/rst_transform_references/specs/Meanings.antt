@@ -11,8 +11,8 @@ use Rattle.rst_tree.specs.declared.tag.Tag.TheVariants.{Citation, CitationRefere
 use Rattle.rst_tree.specs.Attributes.{said_text, value_of}
 use Rattle.rst_transform_references.specs.declared.meanings.Meaning.{Meaning}
 use Rattle.rst_transform_references.specs.declared.meanings.Meaning.TheVariants.{Leads, Unknown, Duplicate}
-use Rattle.rst_transform_links.specs.Holders.{element_at, is_nobody, name_lead}
-use Rattle.rst_transform_links.specs.Linkings.{Held}
+use Rattle.rst_transform_references.specs.Holders.{element_at, is_nobody, name_lead}
+use Rattle.rst_transform_references.specs.Linkings.{Held}
 
 abbrev pub is_footnote_or_citation : Node → Bool
 is_footnote_or_citation (Element Footnote a c l) = true

@@ -8,16 +8,16 @@ use Rattle.rst_tree.specs.declared.note.Level.TheVariants.{Error}
 use Rattle.rst_tree.specs.Nodes.{nodes_of}
 use Rattle.rst_tree.specs.Paths.{node_value}
 use Rattle.rst_tree.specs.Tree.{text_in}
-use Rattle.rst_transform_links.specs.declared.links.Outcome.{Outcome}
-use Rattle.rst_transform_links.specs.declared.links.Outcome.TheVariants.{Stays, Fails}
+use Rattle.rst_transform_references.specs.declared.links.Outcome.{Outcome}
+use Rattle.rst_transform_references.specs.declared.links.Outcome.TheVariants.{Stays, Fails}
 use Rattle.rst_transform_references.specs.declared.meanings.Meaning.{Meaning}
 use Rattle.rst_transform_references.specs.declared.meanings.Meaning.TheVariants.{Leads, Unknown, Duplicate}
 use Rattle.rst_transform_work.specs.Known.{Known}
-use Rattle.rst_transform_links.specs.Holders.{element_at, holder_place}
-use Rattle.rst_transform_links.specs.Linkings.{Held}
+use Rattle.rst_transform_references.specs.Holders.{element_at, holder_place}
+use Rattle.rst_transform_references.specs.Linkings.{Held}
 use Rattle.rst_transform_references.specs.Backrefs.{referents_of, with_backrefs}
 use Rattle.rst_transform_references.specs.Meanings.{meaning_to, refers_to_footnote_or_citation}
-use Rattle.rst_transform_links.specs.Outcomes.{adds, fails}
+use Rattle.rst_transform_references.specs.Outcomes.{adds, fails}
 use Rattle.rst_transform_work.specs.Reading.{line_of, text_said}
 use Rattle.rst_transform_work.specs.Reports.{reported}
 

@@ -3,13 +3,15 @@ ghost use Rattle.std.specs.Prelude.{◌≡◌, [], map, replicate};
 ghost use Rattle.std.specs.List.{list_any};
 ghost use Rattle.rst_tree.specs.Faults.{Gives};
 ghost use Rattle.rst_transform_references.specs.Backrefs.{reference_ids, referent_of, referents_of, referred_to, with_backrefs, with_reference};
-ghost use Rattle.rst_transform_links.specs.Holders.{place_at};
-ghost use Rattle.rst_transform_links.specs.Linkings.{held};
+ghost use Rattle.rst_transform_references.specs.Holders.{place_at};
+ghost use Rattle.rst_transform_references.specs.Linkings.{held};
 ghost use Rattle.rst_transform_names.specs.Names.{held_by};
 ghost use Rattle.rst_transform_references.specs.Meanings.{refers_to_footnote_or_citation};
 
+use crate::footnote_orders::found_by_order;
+use crate::holders::Holders;
+use crate::links::{Linked, Outcome};
 use crate::meanings::{Meaning, meaning_to, refers_to_footnote_or_citation};
-use rst_transform_links::{Holders, Linked, Outcome, found_by_order};
 use rst_transform_names::Names;
 use rst_transform_work::{at_place, first_said};
 use rst_tree::{Attr, Key, Node, Result, Text, Texts, Value};

@@ -2,14 +2,13 @@
 ghost use Rattle.std.specs.Prelude.{◌≡◌, map, MatchOption, None, Some};
 ghost use Rattle.rst_tree.specs.Faults.{Gives};
 ghost use Rattle.rst_transform_names.specs.Names.{held_by};
-ghost use Rattle.rst_transform_links.specs.Holders.{holding, place_at};
-ghost use Rattle.rst_transform_links.specs.Linkings.{held};
-ghost use Rattle.rst_transform_references.specs.Meanings.{held_meaning, is_footnote_or_citation, meaning_to, reference_name, referent_place, refers_to_footnote_or_citation};
+ghost use Rattle.rst_transform_references.specs.Holders.{holding, place_at};
+ghost use Rattle.rst_transform_references.specs.Linkings.{held};
+ghost use Rattle.rst_transform_references.specs.Meanings.{meaning_to, reference_name, referent_place, refers_to_footnote_or_citation};
 
-use rst_transform_links::{Holders, Linked, element_at, is_lost, lead_by_name};
-use rst_transform_names::{NameEntry, Names};
+use crate::holders::{Holders, element_at, is_lost, lead_by_name};
+use rst_transform_names::Names;
 use rst_tree::{Attr, Key, Node, Result, Tag};
-use std::alloc::Global;
 
 /// What a name means to a reference (Markup Specification, 'Hyperlink References').
 #[derive(Drop)]

@@ -2,17 +2,17 @@
 ghost use Rattle.std.specs.Prelude.{◌≡◌, ◌||◌, ◌++◌, [], codes, map};
 ghost use Rattle.rst_tree.specs.Faults.{Gives};
 ghost use Rattle.rst_transform_work.specs.Known.{Makes};
-ghost use Rattle.rst_transform_links.specs.Holders.{place_at};
-ghost use Rattle.rst_transform_links.specs.Linkings.{held};
-ghost use Rattle.rst_transform_links.specs.Outcomes.{fails};
-ghost use Rattle.rst_transform_references.specs.Resolving.{duplicate, failing, is_gone, label_of, name_of, outcome_of, reference_outcomes, resolved_from, shown_for, shows_label, unknown, what_becomes};
+ghost use Rattle.rst_transform_references.specs.Holders.{place_at};
+ghost use Rattle.rst_transform_references.specs.Linkings.{held};
+ghost use Rattle.rst_transform_references.specs.Outcomes.{fails};
+ghost use Rattle.rst_transform_references.specs.Resolving.{failing, is_gone, name_of, outcome_of, reference_outcomes, resolved_from, shown_for, what_becomes};
 
 use crate::backrefs::with_backrefs;
+use crate::holders::{Holders, element_at};
+use crate::links::{Linked, Outcome};
 use crate::meanings::{Meaning, meaning_to, refers_to_footnote_or_citation};
-use rst_transform_links::{Holders, Linked, Outcome, element_at};
 use rst_transform_work::{Context, has, line_of, text_said};
 use rst_tree::{Key, Level, Node, Result, Text};
-use std::alloc::Global;
 
 /// Lets each reference by name refer to what the name means, and each footnote and citation tell its references (Markup
 /// Specification, 'Hyperlink References').

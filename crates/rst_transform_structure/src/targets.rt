@@ -4,7 +4,7 @@ ghost use Rattle.rst_tree.specs.Faults.{Gives};
 ghost use Rattle.rst_tree.specs.Walk.{item};
 ghost use Rattle.rst_transform_work.specs.States.{elements_of};
 ghost use Rattle.rst_transform_work.specs.Known.{Makes};
-ghost use Rattle.rst_transform_structure.specs.Passing.{holder_of, with_number, Passes};
+ghost use Rattle.rst_transform_structure.specs.Passing.{with_number, Passes};
 ghost use Rattle.rst_transform_structure.specs.Targets.{given, got_by, handed, handed_by, hands_on, reached, referring, takers, takes_ids, with_refid, with_targets, TakesTaker};
 
 use rst_transform_names::{Holder, Names};

@@ -1,5 +1,5 @@
 //! The title and the subtitle of a document.
-ghost use Rattle.std.specs.Prelude.{◌≡◌, ◌++◌, None};
+ghost use Rattle.std.specs.Prelude.{◌≡◌, None};
 ghost use Rattle.std.specs.List.{list_all};
 ghost use Rattle.rst_tree.specs.declared.key.Key.TheVariants.{Names as OfNames};
 ghost use Rattle.rst_tree.specs.Faults.{Gives};

@@ -5,14 +5,14 @@ ghost use Rattle.rst_tree.specs.Faults.{Gives};
 ghost use Rattle.rst_tree.specs.Nodes.{nodes_of};
 ghost use Rattle.rst_transform_work.specs.Known.{Makes};
 ghost use Rattle.rst_transform_substitutions.specs.Definitions.{found_by, known_place};
-ghost use Rattle.rst_transform_substitutions.specs.Expanded.{at_fault, expanded_in, is_reference_node, opened, replaced, with_expansions, within_element};
+ghost use Rattle.rst_transform_substitutions.specs.Expanded.{expanded_in, is_reference_node, opened, replaced, with_expansions, within_element};
 ghost use Rattle.rst_transform_substitutions.specs.Outcomes.{Remembers};
 
 use crate::definitions::Definitions;
-use crate::expansion::{ExpansionFault, is_reference};
+use crate::expansion::is_reference;
 use crate::outcomes::{Outcome, Outcomes, reference_outcome};
 use rst_transform_work::{Context, Document, said, take_source};
-use rst_tree::{Attrs, Children, Key, Level, Node, Result, Tag};
+use rst_tree::{Attrs, Children, Key, Level, Node, Result};
 use std::alloc::Global;
 use std::mem;
 

@@ -1,9 +1,7 @@
 //! Numbers of definitions, which show that one doesn't lead to another.
-ghost use Rattle.std.specs.Prelude.{◌≡◌, ◌++◌, slice_get, true, map, List, ℕ};
+ghost use Rattle.std.specs.Prelude.{◌≡◌, slice_get, true, map, List, ℕ};
 ghost use Rattle.std.specs.List.{list_all};
-ghost use Rattle.std.specs.Option.{option_to_list};
 ghost use Rattle.rst_tree.specs.Faults.{Gives};
-ghost use Rattle.rst_transform_substitutions.specs.Definitions.{known_found};
 ghost use Rattle.rst_transform_substitutions.specs.Numbering.{may_lead, places_found, AreOrdered};
 
 use crate::definitions::Definitions;

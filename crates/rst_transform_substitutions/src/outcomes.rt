@@ -1,13 +1,11 @@
 //! What references come to, remembered for those that follow.
-ghost use Rattle.std.specs.Prelude.{◌≡◌, if◌then◌else◌, nat_eq, true, false, ℕ, Option, Some, MatchOption, OnOk};
+ghost use Rattle.std.specs.Prelude.{◌≡◌, if◌then◌else◌, true, false, Option, Some, MatchOption, OnOk};
 ghost use Rattle.std.specs.BTreeMap.{get};
-ghost use Rattle.std.specs.Ordering.{nat_cmp};
 ghost use Rattle.rst_tree.specs.Faults.{Gives};
-ghost use Rattle.rst_transform_substitutions.specs.declared.definitions.Definitions.{Definitions as AnyDefinitions};
 ghost use Rattle.rst_transform_substitutions.specs.Definitions.{found_by};
 ghost use Rattle.rst_transform_substitutions.specs.Expansion.{nodes_for};
 ghost use Rattle.rst_transform_substitutions.specs.Numbering.{may_lead};
-ghost use Rattle.rst_transform_substitutions.specs.Outcomes.{came, kept_of, GoesInto, HoldsTrue, Remembers};
+ghost use Rattle.rst_transform_substitutions.specs.Outcomes.{came, GoesInto, HoldsTrue, Remembers};
 
 use crate::definitions::Definitions;
 use crate::expansion::{ExpansionFault, Halted, expansion};

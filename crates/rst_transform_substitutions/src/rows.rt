@@ -1,7 +1,7 @@
 //! Worked examples of what stands for substitution references, as theorems on the definitions alone.
 #![tactic(auto, unfolding(crate::proofs::Computing::rst_transform_substitutions))]
 
-ghost use Rattle.std.specs.Prelude.{◌≡◌, ℕ, ◌+◌, nat_lt, Some, None, Ok, Err, codes, [], ◌∷◌, length, replicate, if◌then◌else◌};
+ghost use Rattle.std.specs.Prelude.{◌≡◌, nat_lt, Some, None, Ok, Err, codes, [], ◌∷◌, length, replicate, if◌then◌else◌};
 ghost use Rattle.rst_tree.specs.declared.key.Key.TheVariants.{Name, Refname, Serial};
 ghost use Rattle.rst_tree.specs.declared.tag.Tag.TheVariants.{Emphasis, Image, Paragraph, Reference, SubstitutionReference};
 ghost use Rattle.rst_tree.specs.declared.node.Node.TheVariants.{Text as Words};

@@ -1,5 +1,4 @@
 pub mod Computing
 pub mod Listing
 pub mod Holding
-pub mod Spelling
 pub mod Orders

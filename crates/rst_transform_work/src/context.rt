@@ -1,5 +1,5 @@
 //! What is known beside the document between two transforms.
-ghost use Rattle.std.specs.Prelude.{◌≡◌, ◌+◌, false, slice_get, vec_len};
+ghost use Rattle.std.specs.Prelude.{◌≡◌, ◌+◌, false, vec_len};
 ghost use Rattle.rst_tree.specs.Faults.{Gives};
 ghost use Rattle.rst_transform_work.specs.Known.{Makes};
 ghost use Rattle.rst_transform_work.specs.Problematics as spec;

@@ -1,5 +1,5 @@
 //! What problematics tell.
-ghost use Rattle.std.specs.Prelude.{◌≡◌, ◌++◌, Some, None};
+ghost use Rattle.std.specs.Prelude.{◌≡◌, ◌++◌, Some};
 ghost use Rattle.rst_tree.specs.Faults.{Gives};
 ghost use Rattle.rst_transform_work.specs.Problematics.{message_attrs, problematic_attrs};
 

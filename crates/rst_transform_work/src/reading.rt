@@ -5,7 +5,7 @@ ghost use Rattle.rst_tree.specs.Faults.{Gives};
 ghost use Rattle.rst_tree.specs.Paths.{node_value};
 ghost use Rattle.rst_transform_work.specs.Reading.{text_said, number_said, list_said, line_of, may_precede, is_title};
 
-use rst_tree::{Attrs, Children, Key, Node, Result, Said, Tag, Texts};
+use rst_tree::{Attrs, Key, Node, Result, Said, Tag, Texts};
 use std::alloc::Global;
 
 /// What the attribute of a name says, where it is a text.

@@ -1,14 +1,14 @@
 //! Worked examples of messages of transforms, their problematics, and names and ids that pass on, as theorems on the definitions alone.
 #![tactic(auto, unfolding(crate::proofs::Computing::rst_transform_work))]
 
-ghost use Rattle.std.specs.Prelude.{◌≡◌, true, false, Some, None, codes, [], ◌∷◌, map};
+ghost use Rattle.std.specs.Prelude.{◌≡◌, true, false, Some, codes, [], ◌∷◌, map};
 ghost use Rattle.rst_tree.specs.declared.key.Key.TheVariants.{Dupnames, Ids, Names};
 ghost use Rattle.rst_tree.specs.declared.note.Level.TheVariants.{Error, Warning};
 ghost use Rattle.rst_tree.specs.declared.node.Node.TheVariants.{Element};
 ghost use Rattle.rst_tree.specs.declared.tag.Tag.TheVariants.{Comment, Paragraph, Problematic, Section, Subtitle, SubstitutionDefinition, SystemMessage, Target, Title};
 ghost use Rattle.rst_tree.specs.Forest.{bare};
-ghost use Rattle.rst_transform_names.specs.Trees.{counts, document, element, lists, paragraph, says, text, Prints};
-ghost use Rattle.rst_transform_work.specs.Lists.{named, with_listed};
+ghost use Rattle.rst_transform_names.specs.Trees.{element, lists, paragraph, text, Prints};
+ghost use Rattle.rst_transform_work.specs.Lists.{named};
 ghost use Rattle.rst_transform_work.specs.Problematics.{problematic_attrs, referring};
 ghost use Rattle.rst_transform_work.specs.Reading.{identifier, is_title, may_precede, name_in};
 ghost use Rattle.rst_transform_work.specs.Reports.{next_report, report_node};

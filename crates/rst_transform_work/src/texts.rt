@@ -11,7 +11,7 @@ use rst_tree::{Attrs, Children, Key, Node, Result, Tag, Text, TreeFault, Value};
 use std::alloc::Global;
 
 /// The name that a text gives, by `name_of`.
-#[tactic(auto, using(crate::proofs::Spelling::bytes_of_chars))]
+#[tactic(auto, using(rst_text::proofs::TextLemmas::bytes_of_chars))]
 pub fn folded(alloc: Global, text: &str) -> Result<String>
     ensures { Gives (λ name. string_bytes name ≡ name_in text.now) result }
 {
@@ -20,7 +20,7 @@ pub fn folded(alloc: Global, text: &str) -> Result<String>
 }
 
 /// The id that a text gives, by `id_of`.
-#[tactic(auto, using(crate::proofs::Spelling::bytes_of_chars))]
+#[tactic(auto, using(rst_text::proofs::TextLemmas::bytes_of_chars))]
 pub fn identified(alloc: Global, text: &str) -> Result<String>
     ensures { Gives (λ id. string_bytes id ≡ identifier text.now) result }
 {

@@ -1,8 +1,7 @@
 //! Messages as elements.
 ghost use Rattle.std.specs.Prelude.{◌≡◌};
 ghost use Rattle.rst_tree.specs.Faults.{Gives};
-ghost use Rattle.rst_tree.specs.Nodes.{forest_of};
-ghost use Rattle.rst_tree.specs.Messages.{holding, note_nodes, note_node, message_with, numbered_node};
+ghost use Rattle.rst_tree.specs.Messages.{holding, note_node, message_with, numbered_node};
 
 use crate::attrs::{Attrs, Value};
 use crate::entry::Entry;

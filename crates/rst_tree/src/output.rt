@@ -1,14 +1,14 @@
 //! The texts of nodes and messages, piece by piece.
-ghost use Rattle.std.specs.Prelude.{◌≡◌, ◌≢◌, ◌+◌, ◌*◌, ◌-◌, ◌^◌, ◌<◌, ◌∷◌, ◌++◌, [], false, length, take, drop, map, replicate};
+ghost use Rattle.std.specs.Prelude.{◌≡◌, ◌+◌, ◌*◌, ◌-◌, ◌<◌, false, replicate};
 ghost use Rattle.rst_tree.specs.Sends.{Sends};
-ghost use Rattle.rst_tree.specs.Print.{is_escaped, escaped_byte, escaped, spaced, value_text, shown_attr, start_tag, line_len, printed_line, printed, text_lines, printed_node};
+ghost use Rattle.rst_tree.specs.Print.{is_escaped, escaped, spaced, value_text, shown_attr, printed_line, text_lines, printed_node};
 ghost use Rattle.rst_tree.specs.Attributes.{attr, before, behind};
 ghost use Rattle.rst_tree.specs.Entries.{said};
 ghost use Rattle.rst_tree.specs.KeyNames.{is_hidden};
 ghost use Rattle.rst_tree.specs.PrintedAttributes.{given, printed_attrs, with_source, with_printed_attrs, with_type};
 ghost use Rattle.rst_tree.specs.declared.attrs.Value.TheVariants.{Text as Words, Number};
 ghost use Rattle.rst_tree.specs.declared.tag.Tag.TheVariants.{SystemMessage};
-ghost use Rattle.rst_tree.specs.Message.{message_head, block_text, message_of};
+ghost use Rattle.rst_tree.specs.Message.{block_text, message_of};
 ghost use Rattle.std.specs.List.{flat_map, list_any};
 ghost use Rattle.std.specs.Fmt.{decimal};
 

@@ -1,5 +1,5 @@
 //! A node with the places of the elements that registration needs, these elements, and changes at them.
-ghost use Rattle.std.specs.Prelude.{◌≡◌, ◌++◌, [], map, if◌then◌else◌, filter};
+ghost use Rattle.std.specs.Prelude.{◌≡◌, ◌++◌, map, if◌then◌else◌, filter};
 ghost use Rattle.rst_tree.specs.Faults.{Gives};
 ghost use Rattle.rst_tree.specs.Walk.{item, node_items, after, walked_node};
 ghost use Rattle.rst_tree_index.specs.MarkPaths.{node_paths};

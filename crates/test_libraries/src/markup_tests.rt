@@ -2,7 +2,7 @@
 ghost use Rattle.rst_text.specs.Shown.{block_of};
 ghost use Rattle.rst_markup_blocks.specs.Parts.{IsCall};
 
-use rst_markup::{Explicit, Invocation, explicit, kind_of};
+use rst_markup_blocks::{Explicit, Invocation, explicit, kind_of};
 use rst_markup_directives::{
     Detail, Directive, DirectiveFault, MarkupFault, Place, called, directive, message, target_value,
 };

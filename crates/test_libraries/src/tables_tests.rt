@@ -1,7 +1,6 @@
 //! Tables: what they are, and what is wrong with those that are malformed. The answers come from outside.
-use rst_markup::{Cell, TableResult, grid, simple};
 use rst_markup_blocks::{Construct, Kind};
-use rst_markup_tables::malformed_text;
+use rst_markup_tables::{Cell, TableResult, grid, malformed_text, simple};
 use rst_text::{Lines, Looks, TextFault, View};
 use std::alloc::{AllocError, Global};
 use std::test::Fail;

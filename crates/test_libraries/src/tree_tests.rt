@@ -8,8 +8,8 @@ ghost use Rattle.rst_tree.specs.declared.tag.Tag.TheVariants.{Transition};
 
 use rst_text::Counted;
 use rst_tree::{
-    Attrs, Children, Entry, Key, Level, Node, Note, Rewriter, Said, Tag, Text, Texts, Tree,
-    TreeFault, Value, message_line, print, print_with_source, rewrite_in,
+    Attrs, Children, Key, Level, Node, Note, Rewriter, Said, Tag, Text, Texts, Tree, TreeFault,
+    Value, message_line, print, print_with_source, rewrite_in,
 };
 use std::alloc::Global;
 use std::process::Abort;

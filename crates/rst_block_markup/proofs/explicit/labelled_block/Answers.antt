@@ -2,7 +2,7 @@ use Rattle.std.proofs.Common.{◌≡◌, [], ◌∷◌, drop, refl, ap, ◌∙�
 use Rattle.std.specs.Prelude.{string_bytes}
 use Rattle.rst_text.specs.Block.{front_text}
 use Rattle.rst_text.specs.Shown.{block_of}
-use Rattle.rst_block_sections.specs.Sections.{filled}
+use Rattle.rst_block_nodes.specs.Sections.{filled}
 use Rattle.rst_block_state.specs.Markup.{labelled_node, noted}
 use Rattle.rst_block_markup.specs.MarkupSteps.{reads_with}
 use Rattle.rst_block_state.specs.Meanings.{within_at}

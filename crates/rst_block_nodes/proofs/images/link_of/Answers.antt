@@ -3,7 +3,7 @@ use Rattle.rst_markup_directives.specs.Target.{destination_of}
 use Rattle.rst_markup_directives.specs.Value.{meaning_of}
 use Rattle.rst_block_nodes.specs.Options.{link_meant}
 use Rattle.rst_block_nodes.proofs.OptionLemmas.{link_found}
-use Rattle.rst_block_nodes.proofs.TextLemmas.{bytes_encoded}
+use Rattle.rst_text.proofs.TextLemmas.{bytes_encoded}
 use Rattle.rst_block_nodes.proofs.images.link_of.Goals as goal
 
 pub returns-in-Link : goal.returns-in-Link

@@ -2,8 +2,8 @@ use Rattle.std.proofs.Common.{◌∙◌, sym, ap}
 use Rattle.std.specs.Prelude.{encode_utf8_all}
 use Rattle.std.specs.Str.{chars}
 use Rattle.std.proofs.lemmas.Str.{encodes-chars}
-use Rattle.rst_inline_scan.specs.Escapes.{has_backslash}
-use Rattle.rst_inline_scan.proofs.EscapeLemmas.{unescaped-plain}
+use Rattle.rst_text.specs.Escapes.{has_backslash}
+use Rattle.rst_text.proofs.EscapeLemmas.{unescaped-plain}
 use Rattle.rst_inline.proofs.WrittenLemmas.{plain-chars}
 use Rattle.rst_block_nodes.proofs.values.unescaped.Goals as goal
 

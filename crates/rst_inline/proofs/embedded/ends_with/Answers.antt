@@ -1,8 +1,8 @@
 use Rattle.std.proofs.Common.{◌≡◌, ◌-◌, ◌&&◌, not, length, refl, sym, ◌∙◌, arith, ap}
 use Rattle.std.proofs.lemmas.List.{get_or_read}
-use Rattle.rst_inline_scan.specs.Characters.{has}
-use Rattle.rst_inline_scan.specs.Escapes.{escapes, is_escaped}
-use Rattle.rst_inline_scan.proofs.EscapeLemmas.{is_escaped-start, is_escaped-more}
+use Rattle.rst_text.specs.Characters.{has}
+use Rattle.rst_text.specs.Escapes.{escapes, is_escaped}
+use Rattle.rst_text.proofs.EscapeLemmas.{is_escaped-start, is_escaped-more}
 use Rattle.rst_inline.proofs.EmbeddedLemmas.{ends_with-is}
 use Rattle.rst_inline.proofs.embedded.ends_with.Goals as goal
 

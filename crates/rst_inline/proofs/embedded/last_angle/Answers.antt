@@ -2,8 +2,8 @@ use Rattle.std.proofs.Common.{◌≡◌, true, false, sym, ◌∙◌, arith, ap,
 use Rattle.std.proofs.lemmas.List.{get_or_read}
 use Rattle.rst_text.specs.Places.{IsLast}
 use Rattle.rst_text.proofs.PlacesLemmas.{IsLast-new, IsLast-one}
-use Rattle.rst_inline_scan.specs.Escapes.{escapes}
-use Rattle.rst_inline_scan.proofs.EscapeLemmas.{is_escaped-start, is_escaped-more}
+use Rattle.rst_text.specs.Escapes.{escapes}
+use Rattle.rst_text.proofs.EscapeLemmas.{is_escaped-start, is_escaped-more}
 use Rattle.rst_inline.specs.Embedded.{opens_angle}
 use Rattle.rst_inline.proofs.EmbeddedLemmas.{opens_angle-is, last_angle-is, last-below}
 use Rattle.rst_inline.proofs.embedded.last_angle.Goals as goal

@@ -1,6 +1,6 @@
 use Rattle.std.proofs.Common.{◌≡◌}
 use Rattle.rst_text.specs.Places.{IsLast}
-use Rattle.rst_inline_scan.specs.Escapes.{is_escaped}
+use Rattle.rst_text.specs.Escapes.{is_escaped}
 use Rattle.rst_inline.specs.Embedded.{opens_angle}
 use Rattle.rst_inline.proofs.embedded.last_angle.Given as goal
 

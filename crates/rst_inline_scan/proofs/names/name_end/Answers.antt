@@ -1,8 +1,9 @@
 use Rattle.std.proofs.Common.{subst, ◌≡◌, ◌∙◌, ℕ, ◌+◌, ◌<◌, ◌≤◌, length, None, Some, Option, IfSome, true, false, arith}
 use Rattle.rst_text.specs.Places.{IsLast}
 use Rattle.rst_text.proofs.PlacesLemmas.{last_from-is, all_from-more, all_from-stop, IsLast-new, IsLast-one, IsLast-kept}
-use Rattle.rst_inline_scan.specs.Characters.{Text, is_alnum_at}
-use Rattle.rst_inline_scan.specs.Names.{ends_name, is_name_at, is_reference, name_end}
+use Rattle.rst_text.specs.Characters.{Text, is_alnum_at}
+use Rattle.rst_inline_scan.specs.Names.{ends_name, is_reference, name_end}
+use Rattle.rst_text.specs.SimpleNames.{is_name_at}
 use Rattle.rst_inline_scan.proofs.NameLemmas.{is_reference-here, is_reference-past, is_reference-none, is_reference-below, nameless}
 use Rattle.rst_inline_scan.proofs.names.name_end.Goals as goal
 

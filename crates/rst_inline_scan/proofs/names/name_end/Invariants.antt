@@ -1,6 +1,7 @@
 use Rattle.std.proofs.Common.{◌≡◌, ◌+◌, ◌-◌, ◌≤◌, length, true}
 use Rattle.rst_text.specs.Places.{all_from, IsLast}
-use Rattle.rst_inline_scan.specs.Names.{is_name_at, is_reference}
+use Rattle.rst_text.specs.SimpleNames.{is_name_at}
+use Rattle.rst_inline_scan.specs.Names.{is_reference}
 use Rattle.rst_inline_scan.proofs.names.name_end.Given as goal
 
 abbrev pub decreases-loop-place : goal.decreases-loop-place

@@ -1,8 +1,8 @@
 use Rattle.std.proofs.Common.{◌≡◌, ◌+◌, Some, None, sym, ap, ◌∙◌, arith, subst, vec_items, [], ◌∷◌, ◌++◌, ◌&&◌, ◌==◌}
 use Rattle.std.proofs.lemmas.List.{get_or_read}
-use Rattle.rst_inline_scan.specs.Escapes.{escapes}
+use Rattle.rst_text.specs.Escapes.{escapes}
 use Rattle.rst_inline_scan.specs.Pieces.{piece_at, IsPieces}
-use Rattle.rst_inline_scan.proofs.EscapeLemmas.{is_escaped-start, is_escaped-more}
+use Rattle.rst_text.proofs.EscapeLemmas.{is_escaped-start, is_escaped-more}
 use Rattle.rst_inline_scan.proofs.PieceLemmas.{Told, piece_at-fits, told-start, told-other, told-plain, told-last, told-end}
 use Rattle.rst_inline_scan.proofs.MissingLemmas.{IsMissing-later}
 use Rattle.rst_inline_scan.proofs.CalmLemmas.{stepped}

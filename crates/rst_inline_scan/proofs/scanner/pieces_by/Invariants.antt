@@ -1,5 +1,5 @@
 use Rattle.std.proofs.Common.{◌≡◌, ◌-◌, ◌≤◌, length}
-use Rattle.rst_inline_scan.specs.Escapes.{is_escaped}
+use Rattle.rst_text.specs.Escapes.{is_escaped}
 use Rattle.rst_inline_scan.specs.Pieces.{HasNoStart}
 use Rattle.rst_inline_scan.specs.Missing.{IsMissing}
 use Rattle.rst_inline_scan.proofs.PieceLemmas.{Told}

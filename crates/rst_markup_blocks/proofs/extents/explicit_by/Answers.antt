@@ -3,7 +3,7 @@ use Rattle.std.specs.Str.{chars}
 use Rattle.rst_text.specs.Block.{Block}
 use Rattle.rst_text.specs.Reach.{reach}
 use Rattle.rst_text.specs.Shown.{block_of}
-use Rattle.rst_markup_lines.proofs.TextLemmas.{length-chars}
+use Rattle.rst_text.proofs.LinesLemmas.{length-chars}
 use Rattle.rst_markup_blocks.specs.declared.explicit_markup.ExplicitForm.TheVariants.{Label, Target, Substitution, Directive}
 use Rattle.rst_markup_blocks.proofs.ExplicitLemmas.{form_within_at, target_short, indented_some, form_lines}
 use Rattle.rst_markup_blocks.proofs.extents.explicit_by.Goals as goal

@@ -4,7 +4,7 @@ use Rattle.rst_text.specs.Block.{Block, front_text}
 use Rattle.rst_text.specs.Shown.{block_of}
 use Rattle.rst_markup_lines.specs.ExplicitMarks.{directive_of}
 use Rattle.rst_markup_lines.proofs.MarkBounds.{directive_within}
-use Rattle.rst_markup_lines.proofs.TextLemmas.{length-chars}
+use Rattle.rst_text.proofs.LinesLemmas.{length-chars}
 use Rattle.rst_markup_blocks.proofs.ExplicitLemmas.{substitution_some}
 use Rattle.rst_markup_blocks.proofs.extents.substitution_with.Goals as goal
 

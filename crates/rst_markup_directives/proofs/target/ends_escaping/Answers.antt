@@ -1,7 +1,7 @@
 use Rattle.std.proofs.Common.{sym, ◌∙◌, ap, arith}
 use Rattle.std.proofs.lemmas.List.{get_or_read}
-use Rattle.rst_inline_scan.specs.Escapes.{escapes}
-use Rattle.rst_inline_scan.proofs.EscapeLemmas.{is_escaped-start, is_escaped-more}
+use Rattle.rst_text.specs.Escapes.{escapes}
+use Rattle.rst_text.proofs.EscapeLemmas.{is_escaped-start, is_escaped-more}
 use Rattle.rst_markup_directives.proofs.target.ends_escaping.Goals as goal
 
 pub loop-c-init : goal.loop-c-init

@@ -2,8 +2,8 @@ use Rattle.std.proofs.Common.{true, false, sym, ◌∙◌, ap, arith}
 use Rattle.std.proofs.lemmas.Bool.Decides.{nat_tests}
 use Rattle.std.proofs.lemmas.List.{get_or_read}
 use Rattle.rst_text.proofs.PlacesLemmas.{NoneFrom-more}
-use Rattle.rst_inline_scan.specs.Escapes.{escapes}
-use Rattle.rst_inline_scan.proofs.EscapeLemmas.{is_escaped-start, is_escaped-more}
+use Rattle.rst_text.specs.Escapes.{escapes}
+use Rattle.rst_text.proofs.EscapeLemmas.{is_escaped-start, is_escaped-more}
 use Rattle.rst_markup_directives.specs.Escapes.{is_bare_backquote}
 use Rattle.rst_markup_directives.proofs.Bare.{bare-at, bare-some, bare-none}
 use Rattle.rst_markup_directives.proofs.target.has_bare_backquote.Goals as goal

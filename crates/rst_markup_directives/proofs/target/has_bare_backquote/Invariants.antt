@@ -1,6 +1,6 @@
 use Rattle.std.proofs.Common.{◌≡◌}
 use Rattle.rst_text.specs.Places.{NoneFrom}
-use Rattle.rst_inline_scan.specs.Escapes.{is_escaped}
+use Rattle.rst_text.specs.Escapes.{is_escaped}
 use Rattle.rst_markup_directives.specs.Escapes.{is_bare_backquote}
 use Rattle.rst_markup_directives.proofs.target.has_bare_backquote.Given as goal
 

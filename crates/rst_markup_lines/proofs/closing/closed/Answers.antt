@@ -2,7 +2,7 @@ use Rattle.std.proofs.Common.{◌≡◌, ◌<◌, ◌&&◌, true, false, not, le
 use Rattle.std.specs.Str.{chars}
 use Rattle.std.proofs.lemmas.List.{drop-drop}
 use Rattle.rst_text.proofs.PlacesLemmas.{NoneFrom-more}
-use Rattle.rst_inline_scan.specs.Escapes.{is_escaped}
+use Rattle.rst_text.specs.Escapes.{is_escaped}
 use Rattle.rst_markup_lines.specs.Closing.{is_closing, closes}
 use Rattle.rst_markup_lines.proofs.ClosingLemmas.{closes-here, escaped-next, dark-next, closed-is, past-end}
 use Rattle.rst_markup_lines.proofs.SimpleNames.{inside}

@@ -3,7 +3,7 @@ use denote.Shadow.{shadow}
 use denote.Text.{Utf8}
 use Rattle.std.specs.Str.{chars}
 use Rattle.rst_text.specs.Places.{NoneFrom}
-use Rattle.rst_inline_scan.specs.Escapes.{is_escaped}
+use Rattle.rst_text.specs.Escapes.{is_escaped}
 use Rattle.rst_markup_lines.specs.Closing.{is_behind_dark, closes}
 use Rattle.rst_markup_lines.proofs.closing.closed.Given as goal
 

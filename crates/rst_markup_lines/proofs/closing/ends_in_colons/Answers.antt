@@ -5,7 +5,7 @@ use Rattle.std.specs.Str.{chars}
 use Rattle.std.specs.List.{slice_get}
 use Rattle.std.proofs.lemmas.List.{drop-drop}
 use Rattle.rst_text.specs.Block.{is_blank}
-use Rattle.rst_inline_scan.specs.Escapes.{is_escaped}
+use Rattle.rst_text.specs.Escapes.{is_escaped}
 use Rattle.rst_markup_lines.specs.Front.{begins_with}
 use Rattle.rst_markup_lines.proofs.ColonLemmas.{no_colons}
 use Rattle.rst_markup_lines.proofs.ClosingLemmas.{place_of_rest, none-start, rest-next, escaped-next, colons-none, colons-there, colons-end}

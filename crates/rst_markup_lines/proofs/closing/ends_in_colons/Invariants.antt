@@ -2,7 +2,7 @@ use Rattle.std.proofs.Common.{◌≡◌, ◌≤◌, length, drop}
 use denote.Shadow.{shadow}
 use denote.Text.{Utf8}
 use Rattle.std.specs.Str.{chars}
-use Rattle.rst_inline_scan.specs.Escapes.{is_escaped}
+use Rattle.rst_text.specs.Escapes.{is_escaped}
 use Rattle.rst_markup_lines.proofs.ClosingLemmas.{place_of_rest, AreNone}
 use Rattle.rst_markup_lines.proofs.closing.ends_in_colons.Given as goal
 

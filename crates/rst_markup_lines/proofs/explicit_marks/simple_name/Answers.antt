@@ -1,7 +1,7 @@
 use Rattle.std.proofs.Common.{◌≡◌, ◌<◌, drop, length, true, false, arith, rules, ap, sym, ◌∙◌}
 use Rattle.std.specs.Str.{chars}
 use Rattle.std.proofs.lemmas.List.{drop-drop}
-use Rattle.rst_inline_scan.specs.Characters.{is_alnum_at}
+use Rattle.rst_text.specs.Characters.{is_alnum_at}
 use Rattle.rst_markup_lines.proofs.SimpleNames.{goes_on, names-more, name-stops, name-ends, name-none, inside}
 use Rattle.rst_markup_lines.proofs.explicit_marks.simple_name.Goals as goal
 

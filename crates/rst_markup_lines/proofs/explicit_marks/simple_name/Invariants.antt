@@ -2,7 +2,7 @@ use Rattle.std.proofs.Common.{◌≡◌, ℕ, ◌+◌, ◌<◌, ◌≤◌, lengt
 use denote.Shadow.{shadow}
 use denote.Text.{Utf8}
 use Rattle.std.specs.Str.{chars}
-use Rattle.rst_inline_scan.specs.Names.{is_name_at}
+use Rattle.rst_text.specs.SimpleNames.{is_name_at}
 use Rattle.rst_markup_lines.proofs.explicit_marks.simple_name.Given as goal
 
 abbrev pub invariant-loop-c : goal.invariant-loop-c

@@ -4,7 +4,7 @@ use Rattle.rst_markup_lines.specs.OptionMarker.{option_tail, moved, options_from
 use Rattle.rst_markup_lines.specs.declared.option.OptionTail.TheVariants.{Last, Next, Wrong}
 use Rattle.rst_markup_lines.proofs.OptionLemmas.{last_within, next_within}
 use Rattle.rst_markup_lines.proofs.PlacedLemmas.{moved_nowhere, marker_last, marker_next, marker_wrong}
-use Rattle.rst_markup_lines.proofs.TextLemmas.{length-chars}
+use Rattle.rst_text.proofs.LinesLemmas.{length-chars}
 use Rattle.rst_markup_lines.proofs.option.option_marker.Goals as goal
 
 pub overflow_add-result : goal.overflow_add-result

@@ -2,7 +2,7 @@ use Rattle.std.proofs.Common.{◌≡◌, Some, length, arith, sym, ◌∙◌}
 use Rattle.std.specs.Str.{chars}
 use Rattle.rst_markup_lines.specs.OptionMarker.{option_at}
 use Rattle.rst_markup_lines.proofs.OptionLemmas.{width_within, argument_len_below}
-use Rattle.rst_markup_lines.proofs.TextLemmas.{length-chars}
+use Rattle.rst_text.proofs.LinesLemmas.{length-chars}
 use Rattle.rst_markup_lines.proofs.option.option_tail.Goals as goal
 
 pub argument_width-requires : goal.argument_width-requires

@@ -6,7 +6,7 @@ use Rattle.rst_markup_lines.specs.declared.option.OptionTail.TheVariants.{Last, 
 use Rattle.rst_markup_lines.proofs.OptionLemmas.{width_within, next_within}
 use Rattle.rst_markup_lines.proofs.PlacedLemmas.{moved_nowhere}
 use Rattle.rst_markup_lines.proofs.ListedLemmas.{listed_none, listed_wrong, listed_last, listed_next, listed_all_within}
-use Rattle.rst_markup_lines.proofs.TextLemmas.{length-chars}
+use Rattle.rst_text.proofs.LinesLemmas.{length-chars}
 use Rattle.rst_markup_lines.proofs.options.listed_options.Goals as goal
 
 pub loop-option-init : goal.loop-option-init

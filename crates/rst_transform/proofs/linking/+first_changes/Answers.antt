@@ -1,6 +1,6 @@
 use Rattle.std.proofs.Common.{map, sym}
-use Rattle.rst_transform_links.specs.Linkings.{held}
-use Rattle.rst_transform_links.specs.Settling.{settled}
+use Rattle.rst_transform_references.specs.Linkings.{held}
+use Rattle.rst_transform_references.specs.Settling.{settled}
 use Rattle.rst_transform.proofs.Sequence.{makes_then}
 use Rattle.rst_transform.proofs.Skipping.{first_of_busy, first_of_idle}
 use Rattle.rst_transform.specs.Linking.{decision_of}

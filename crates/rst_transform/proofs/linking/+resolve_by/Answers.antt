@@ -1,6 +1,6 @@
 use Rattle.std.proofs.Common.{◌∙◌, ◌-◌, drop, take, length, map, ap, arith}
 use Rattle.std.proofs.lemmas.List.{length-drop, take_all}
-use Rattle.rst_transform_links.specs.Linkings.{held}
+use Rattle.rst_transform_references.specs.Linkings.{held}
 use Rattle.rst_transform.proofs.Skipping.{resolves}
 use Rattle.rst_transform.proofs.linking.+resolve_by.Goals as goal
 

@@ -1,5 +1,5 @@
 use Rattle.std.proofs.Common.{rules, ◌≤◌, map, length, arith}
-use Rattle.rst_transform_links.specs.Linkings.{held}
+use Rattle.rst_transform_references.specs.Linkings.{held}
 use Rattle.rst_transform_references.proofs.Referring.{gather_end, gather_more, gather_none, gather_short}
 use Rattle.rst_transform_references.proofs.backrefs.reference_ids.Goals as goal
 

@@ -1,7 +1,7 @@
 use Rattle.std.proofs.Common.{◌≡◌, map, drop}
 use Rattle.rst_transform_references.proofs.Referring.{completed}
 use Rattle.rst_transform_references.specs.Backrefs.{reference_ids}
-use Rattle.rst_transform_links.specs.Linkings.{held}
+use Rattle.rst_transform_references.specs.Linkings.{held}
 use Rattle.rst_transform_references.proofs.backrefs.reference_ids.Given as goal
 
 abbrev pub invariant-loop-place : goal.invariant-loop-place

@@ -1,9 +1,9 @@
 use Rattle.std.proofs.Common.{◌≡◌, ◌++◌, map, drop}
 use Rattle.std.specs.List.{enumerate_from}
 use Rattle.rst_transform_references.specs.Backrefs.{referent_at, referents_of}
-use Rattle.rst_transform_links.specs.Holders.{place_at}
+use Rattle.rst_transform_references.specs.Holders.{place_at}
 use Rattle.rst_transform_names.specs.Names.{held_by}
-use Rattle.rst_transform_links.specs.Linkings.{held}
+use Rattle.rst_transform_references.specs.Linkings.{held}
 use Rattle.rst_transform_references.proofs.backrefs.referents_of.Given as goal
 
 abbrev pub invariant-loop-place : goal.invariant-loop-place

@@ -1,6 +1,6 @@
 use Rattle.std.proofs.Common.{◌∙◌, map, sym}
 use Rattle.rst_transform_names.specs.Names.{held_by}
-use Rattle.rst_transform_links.specs.Linkings.{held}
+use Rattle.rst_transform_references.specs.Linkings.{held}
 use Rattle.rst_transform_references.specs.Meanings.{refers_to_footnote_or_citation}
 use Rattle.rst_transform_references.proofs.Referring.{any_held, none_listed}
 use Rattle.rst_transform_references.proofs.backrefs.with_backrefs.Goals as goal

@@ -1,6 +1,6 @@
-use Rattle.rst_transform_links.specs.Linkings.{held}
+use Rattle.rst_transform_references.specs.Linkings.{held}
 use Rattle.std.proofs.Common.{map}
-use Rattle.rst_transform_links.specs.Holders.{place_at}
+use Rattle.rst_transform_references.specs.Holders.{place_at}
 use Rattle.rst_transform_references.proofs.Resolves.{decided}
 use Rattle.rst_transform_references.proofs.resolve.reference_outcomes.Goals as goal
 

@@ -2,9 +2,9 @@ use Rattle.std.proofs.Common.{rules, arith, refl, sym, ◌≡◌, ◌++◌, ◌�
 use Rattle.std.specs.Prelude.{◌||◌}
 use Rattle.std.proofs.lemmas.List.{drop_all}
 use Rattle.rst_transform_work.specs.Known.{Makes}
-use Rattle.rst_transform_links.specs.Holders.{place_at}
-use Rattle.rst_transform_links.specs.Linkings.{held}
-use Rattle.rst_transform_links.specs.Outcomes.{fails}
+use Rattle.rst_transform_references.specs.Holders.{place_at}
+use Rattle.rst_transform_references.specs.Linkings.{held}
+use Rattle.rst_transform_references.specs.Outcomes.{fails}
 use Rattle.rst_transform_references.specs.Resolving.{is_gone, resolved_from}
 use Rattle.rst_transform_references.proofs.Resolves.{next_element}
 use Rattle.rst_transform_references.proofs.resolve.resolved.Goals as goal

@@ -1,9 +1,9 @@
 use Rattle.std.proofs.Common.{◌++◌, List, [], map, drop}
 use Rattle.rst_transform_work.specs.declared.context.Context.{Context}
 use Rattle.rst_transform_work.specs.Known.{Makes}
-use Rattle.rst_transform_links.specs.declared.links.Outcome.{Outcome}
-use Rattle.rst_transform_links.specs.Holders.{place_at}
-use Rattle.rst_transform_links.specs.Linkings.{held}
+use Rattle.rst_transform_references.specs.declared.links.Outcome.{Outcome}
+use Rattle.rst_transform_references.specs.Holders.{place_at}
+use Rattle.rst_transform_references.specs.Linkings.{held}
 use Rattle.rst_transform_references.specs.Resolving.{resolved_from}
 use Rattle.rst_transform_references.proofs.resolve.resolved.Given as goal
 

@@ -1,6 +1,6 @@
 use Rattle.std.proofs.Common.{◌∙◌, sym, map}
-use Rattle.rst_transform_links.specs.Holders.{place_at}
-use Rattle.rst_transform_links.specs.Linkings.{held}
+use Rattle.rst_transform_references.specs.Holders.{place_at}
+use Rattle.rst_transform_references.specs.Linkings.{held}
 use Rattle.rst_transform_references.proofs.Resolves.{with_meaning}
 use Rattle.rst_transform_references.proofs.resolve.what_becomes.Goals as goal
 

@@ -3,9 +3,8 @@ use Rattle.std.specs.Cow.{cow_str_bytes}
 use Rattle.std.specs.List.{list_any}
 use Rattle.std.specs.Str.{chars}
 use Rattle.std.proofs.lemmas.List.{length-drop, length-take-le}
-use Rattle.rst_text.specs.Characters.{is_white}
-use Rattle.rst_inline_scan.specs.Characters.{Text, without_white}
-use Rattle.rst_inline_scan.specs.Escapes.{unescaped}
+use Rattle.rst_text.specs.Characters.{is_white, Text, without_white}
+use Rattle.rst_text.specs.Escapes.{unescaped}
 use Rattle.rst_inline.specs.Embedded.{is_alias}
 use Rattle.rst_inline.specs.Parts.{part}
 use Rattle.rst_inline.proofs.EmbeddedLemmas.{alias-some, alias-part, dark-unescaped}

@@ -2,7 +2,7 @@ use Rattle.std.proofs.Common.{◌≡◌, ◌∙◌, false, sym, ap, subst}
 use Rattle.std.specs.Prelude.{encode_utf8_all}
 use Rattle.std.specs.Str.{all_scalars}
 use Rattle.std.proofs.lemmas.Str.{encodes-chars, scalars-chars}
-use Rattle.rst_inline_scan.specs.Escapes.{has_backslash}
+use Rattle.rst_text.specs.Escapes.{has_backslash}
 use Rattle.rst_inline.proofs.WrittenLemmas.{plain-chars}
 use Rattle.rst_inline.proofs.written.Written.of.Goals as goal
 

@@ -1,6 +1,6 @@
 use Rattle.std.proofs.Common.{◌≡◌, ◌<◌, ◌+◌, ◌∙◌, length, Some, ap, subst}
 use Rattle.std.specs.Str.{chars}
-use Rattle.rst_inline_scan.specs.Characters.{Text}
+use Rattle.rst_text.specs.Characters.{Text}
 use Rattle.rst_inline.specs.Embedded.{embedded_at, enclosed, is_alias, meant, shown_by}
 use Rattle.rst_tree.specs.Faults.{Gives}
 use Rattle.rst_inline.specs.Parts.{content, source}

@@ -2,8 +2,8 @@ use Rattle.std.proofs.Common.{◌≡◌, ◌+◌, ◌-◌, ◌<◌, ◌≤◌, �
 use Rattle.std.specs.Cow.{cow_str_bytes}
 use Rattle.std.specs.Str.{chars}
 use Rattle.std.proofs.lemmas.Bool.{ne_eqb}
-use Rattle.rst_inline_scan.specs.Characters.{Text}
-use Rattle.rst_inline_scan.specs.Escapes.{unescaped}
+use Rattle.rst_text.specs.Characters.{Text}
+use Rattle.rst_text.specs.Escapes.{unescaped}
 use Rattle.rst_inline.specs.Embedded.{dark_end, enclosed, meant, shown_by}
 use Rattle.rst_inline.specs.Parts.{part}
 use Rattle.rst_inline.proofs.EmbeddedLemmas.{enclosed-part, before-part}

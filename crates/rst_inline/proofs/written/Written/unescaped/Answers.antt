@@ -1,5 +1,5 @@
 use Rattle.std.proofs.Common.{◌≡◌, false, ◌∙◌, sym}
-use Rattle.rst_inline_scan.proofs.EscapeLemmas.{unescaped-plain}
+use Rattle.rst_text.proofs.EscapeLemmas.{unescaped-plain}
 use Rattle.rst_inline.specs.Parts.{part}
 use Rattle.rst_inline.proofs.WrittenLemmas.{plain-part}
 use Rattle.rst_inline.proofs.written.Written.unescaped.Goals as goal

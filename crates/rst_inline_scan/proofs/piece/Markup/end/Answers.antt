@@ -2,9 +2,9 @@ use Rattle.std.specs.Option.{is_some}
 use Rattle.std.proofs.Common.{◌≡◌, ◌+◌, ◌≤◌, true, false, sym, ◌∙◌, arith, ap, below_more, length, Some, None}
 use Rattle.std.proofs.lemmas.List.{get_or_read}
 use Rattle.rst_text.proofs.PlacesLemmas.{first_from-is}
-use Rattle.rst_inline_scan.specs.Escapes.{escapes}
+use Rattle.rst_text.specs.Escapes.{escapes}
 use Rattle.rst_inline_scan.specs.Marked.{start_len, ends, markup_end}
-use Rattle.rst_inline_scan.proofs.EscapeLemmas.{is_escaped-bare, is_escaped-more}
+use Rattle.rst_text.proofs.EscapeLemmas.{is_escaped-bare, is_escaped-more}
 use Rattle.rst_inline_scan.proofs.MarkedLemmas.{start-bare, no-end}
 use Rattle.rst_inline_scan.proofs.piece.Markup.end.Goals as goal
 use Rattle.rst_inline_scan.proofs.piece.Markup.end.Goals.{then-text-at+then-open-at+in_default, else-text-at, else-text-at-via-then-text-at+else-open-at, else-text-at-via-else-text-at}

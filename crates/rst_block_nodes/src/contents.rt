@@ -1,0 +1,76 @@
+//! More nodes behind others, in lists and in elements.
+ghost use Rattle.std.specs.Prelude.{◌≡◌, ◌++◌};
+ghost use Rattle.rst_tree.specs.Faults.{Gives};
+ghost use Rattle.rst_block_nodes.specs.Sections.{filled};
+
+use rst_tree::{Children, Node, Result};
+use rst_tree_index::{Marked, MarkedNodes};
+use std::alloc::Global;
+
+/// Puts more nodes behind the last.
+///
+/// The only refusal is [`TreeFault::NoMemory`].
+pub fn append(nodes: &mut Vec<Node>, mut more: Vec<Node>) -> Result<()>
+    ensures { Gives (λ _. nodes.new.items ≡ nodes.old.items ++ more.items) result }
+{
+    if nodes.is_empty() {
+        *nodes = more;
+        return Ok(());
+    }
+    if !more.is_empty() {
+        nodes.append(&mut more)?;
+    }
+    Ok(())
+}
+
+/// An element with more nodes in it; a text stays as it is.
+///
+/// The only refusal is [`TreeFault::NoMemory`].
+pub fn filled(element: Node, more: Vec<Node>) -> Result<Node>
+    ensures { Gives (λ node. node ≡ filled element more.items) result }
+{
+    match element {
+        Node::Element {
+            tag,
+            attrs,
+            children,
+            line,
+        } => {
+            let mut nodes = children.into_list();
+            append(&mut nodes, more)?;
+            Ok(Node::Element {
+                tag,
+                attrs,
+                children: Children::of(nodes),
+                line,
+            })
+        }
+        Node::Text(text) => Ok(Node::Text(text)),
+    }
+}
+
+/// The same where the marks of the nodes are known. Those of the element are found by a pass over it: it was made for these
+/// nodes, and nobody marked it before. Most such elements are empty, and need no pass.
+///
+/// The only refusal is [`TreeFault::NoMemory`].
+pub fn completed(alloc: Global, element: Node, more: MarkedNodes) -> Result<Marked>
+    ensures { Gives (λ node. node ≡ filled element more) result }
+{
+    match element {
+        Node::Element {
+            tag,
+            attrs,
+            children,
+            line,
+        } => {
+            if children.len() == 0 {
+                return more.into_element(tag, attrs, line);
+            }
+            let mut nodes = MarkedNodes::of(alloc, children.into_list())?;
+            nodes.reserve(more.len())?;
+            nodes.append(more)?;
+            nodes.into_element(tag, attrs, line)
+        }
+        Node::Text(text) => Marked::of(alloc, Node::Text(text)),
+    }
+}

@@ -1,3 +1,0 @@
-pub mod Sections
-pub mod OpenSections
-pub mod Written

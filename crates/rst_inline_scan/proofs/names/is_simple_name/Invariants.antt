@@ -1,6 +1,0 @@
-use Rattle.std.proofs.Common.{◌≡◌, ℕ, ◌<◌, true}
-use Rattle.rst_inline_scan.specs.Names.{is_name_at}
-use Rattle.rst_inline_scan.proofs.names.is_simple_name.Given as goal
-
-abbrev pub invariant-loop-place : goal.invariant-loop-place
-invariant-loop-place l = (k : ℕ) → k < l.place → is_name_at l.text k ≡ true

@@ -1,0 +1,12 @@
+use Rattle.std.proofs.Common.{refl}
+use Rattle.rst_text.proofs.Computing.{rst_text}
+use Rattle.rst_text.proofs.rows.escapes.Goals as goal
+
+pub returns : goal.returns
+unfolding rst_text
+returns c = record {
+  white = refl;
+  character = refl;
+  backslash = refl;
+  last = refl;
+}

@@ -1,0 +1,13 @@
+use Rattle.std.proofs.Common.{refl}
+use Rattle.rst_text.proofs.Computing.{rst_text}
+use Rattle.rst_text.proofs.rows.simple_names.Goals as goal
+
+pub returns : goal.returns
+unfolding rst_text
+returns c = record {
+  joined = refl;
+  two_joints = refl;
+  joint_in_front = refl;
+  joint_at_the_end = refl;
+  empty = refl;
+}

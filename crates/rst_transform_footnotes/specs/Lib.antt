@@ -1,3 +1,0 @@
-pub mod Footnotes
-pub mod FootnoteLabels
-pub mod Written

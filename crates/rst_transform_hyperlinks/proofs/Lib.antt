@@ -1,4 +1,0 @@
-pub mod Computing
-pub mod Agreeing
-pub mod Following
-pub mod Leading

@@ -1,8 +1,0 @@
-use Rattle.std.proofs.Common.{◌≡◌, ◌++◌, map, drop}
-use Rattle.rst_transform_hyperlinks.specs.Anonymous.{anonymous_targets}
-use Rattle.rst_transform_links.specs.Linkings.{held}
-use Rattle.rst_transform_hyperlinks.proofs.anonymous.anonymous_targets.Given as goal
-
-abbrev pub invariant-loop-one : goal.invariant-loop-one
-invariant-loop-one l =
-    map held l.list.items ++ anonymous_targets (map held (drop l.one-index l.linked)) ≡ anonymous_targets (map held l.fn.linked)

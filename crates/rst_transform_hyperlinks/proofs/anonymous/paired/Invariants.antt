@@ -1,8 +1,0 @@
-use Rattle.std.proofs.Common.{◌≡◌, ◌++◌, map, drop}
-use Rattle.rst_transform_hyperlinks.specs.Anonymous.{paired}
-use Rattle.rst_transform_links.specs.Linkings.{held}
-use Rattle.rst_transform_hyperlinks.proofs.anonymous.paired.Given as goal
-
-abbrev pub invariant-loop-one : goal.invariant-loop-one
-invariant-loop-one l =
-    l.outcomes.items ++ paired (map held (drop l.one-index l.linked)) (map held l.left) ≡ paired (map held l.fn.linked) (map held l.fn.targets)

@@ -1,7 +1,0 @@
-use Rattle.std.proofs.Common.{◌≡◌, drop}
-use Rattle.rst_transform_hyperlinks.specs.Chains.{filled}
-use Rattle.rst_transform_hyperlinks.proofs.chains.fill.Given as goal
-
-abbrev pub invariant-loop-place : goal.invariant-loop-place
-invariant-loop-place l =
-    filled l.found (drop l.place-index l.chain) l.answers.items ≡ filled l.fn.found l.fn.chain l.fn.answers.items

@@ -1,8 +1,0 @@
-use Rattle.std.proofs.Common.{◌≡◌, ◌++◌, map, drop}
-use Rattle.rst_transform_hyperlinks.specs.Indirect.{anonymous_from}
-use Rattle.rst_transform_links.specs.Linkings.{held}
-use Rattle.rst_transform_hyperlinks.proofs.indirect.anonymous_places.Given as goal
-
-abbrev pub invariant-loop-place : goal.invariant-loop-place
-invariant-loop-place l =
-    l.places.items ++ anonymous_from l.place (map held (drop l.place l.linked)) ≡ anonymous_from 0 (map held l.fn.linked)

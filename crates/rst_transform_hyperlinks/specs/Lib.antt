@@ -1,3 +1,0 @@
-pub mod Anonymous
-pub mod Indirect
-pub mod Chains

@@ -1,9 +1,0 @@
-use Rattle.std.proofs.Common.{refl}
-use Rattle.rst_transform_links.proofs.Computing.{rst_transform_links}
-use Rattle.rst_transform_links.proofs.rows.changes.Goals as goal
-
-pub returns : goal.returns
-unfolding rst_transform_links
-returns c = record {
-  document = refl;
-}

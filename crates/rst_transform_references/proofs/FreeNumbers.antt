@@ -1,0 +1,86 @@
+-- There is a free number for each footnote that is to be numbered.
+use Rattle.std.proofs.Common.{◌≡◌, ℕ, zero, suc, ◌+◌, ◌<◌, ◌≤◌, List, [], ◌∷◌, ◌++◌, length, map, drop, refl, sym, ◌∙◌, ap, arith, Bool, true, false, not, ◌&&◌, codes, nat_le, nat_eq}
+use Rattle.std.specs.Prelude.{if◌then◌else◌, Option, Some, None}
+use Rattle.std.specs.List.{cons_option, filter, list_any, range_with_len, starts_with, AllByRecursion, IsDistinct}
+use Rattle.std.proofs.lemmas.Bool.{and_parts, eqb-true}
+use Rattle.std.proofs.lemmas.Bool.Decides.{nat_tests}
+use Rattle.std.proofs.lemmas.Cmp.{nat_eq_equiv}
+use Rattle.std.proofs.lemmas.List.{append-nil, drop_all}
+use Rattle.std.proofs.lemmas.List.Filters.{length-filter_both}
+use Rattle.std.proofs.lemmas.List.FromFn.{length-range_with_len}
+use Rattle.std.proofs.lemmas.Map.Made.{length-le_from_is_member}
+use Rattle.std.proofs.lemmas.Map.Views.{any-filter_same}
+use Rattle.rst_transform_names.specs.Ids.{number_in}
+use Rattle.rst_transform_names.proofs.IdNumbers.{no_first}
+use Rattle.rst_transform_references.specs.declared.links.Linked.{Linked}
+use Rattle.rst_transform_references.specs.Linkings.{Held, held}
+use Rattle.rst_transform_references.specs.FootnoteOrders.{mark_of}
+use Rattle.rst_transform_references.specs.FootnoteLabels.{free_numbers, is_to_number, is_written, number_of, numbers_in, to_number}
+
+-- ---- no more numbers are written than elements say
+
+one_apart : (passes : Bool) (a b : ℕ) (rest : List ℕ) → b < a → AllByRecursion (λ y. nat_eq b y ≡ false) rest → AllByRecursion (λ y. nat_eq b y ≡ false) (if passes then a ∷ rest else rest)
+one_apart true a b rest low h = (grind (arith, nat_tests), h)
+one_apart false a b rest low h = h
+
+apart : (p : ℕ → Bool) (n a b : ℕ) → b < a → AllByRecursion (λ y. nat_eq b y ≡ false) (filter p (range_with_len a n))
+apart p zero a b low = tt
+apart p (suc n) a b low = one_apart (p a) a b (filter p (range_with_len (a + 1) n)) low (apart p n (a + 1) b (omega (arith, low)))
+
+one_distinct : (passes : Bool) (a : ℕ) (rest : List ℕ) → AllByRecursion (λ y. nat_eq a y ≡ false) rest → IsDistinct nat_eq rest → IsDistinct nat_eq (if passes then a ∷ rest else rest)
+unfolding IsDistinct
+one_distinct true a rest h d = (h, d)
+one_distinct false a rest h d = d
+
+distinct : (p : ℕ → Bool) (n a : ℕ) → IsDistinct nat_eq (filter p (range_with_len a n))
+unfolding IsDistinct
+distinct p zero a = tt
+distinct p (suc n) a = one_distinct (p a) a (filter p (range_with_len (a + 1) n)) (apart p n (a + 1) a (omega arith)) (distinct p n (a + 1))
+
+-- what is among those that pass a test passes it
+passing : (p : ℕ → Bool) (xs : List ℕ) (q : ℕ) → list_any (nat_eq q) (filter p xs) ≡ true → p q ≡ true
+passing p xs q h =
+    (and_parts (p q) (list_any (nat_eq q) xs) (sym (any-filter_same (nat_eq q) p (p q) (λ k is. ap p (sym (eqb-true q k is))) xs) ∙ h)).0
+
+written_within : (linked : List Held) → length (filter (λ number. is_written number linked) (range_with_len 1 (length linked))) ≤ length (numbers_in linked)
+written_within linked =
+    length-le_from_is_member nat_eq_equiv (filter (λ number. is_written number linked) (range_with_len 1 (length linked))) (numbers_in linked)
+    (distinct (λ number. is_written number linked) (length linked) 1) (passing (λ number. is_written number linked) (range_with_len 1 (length linked)))
+
+-- ---- what is to be numbered was written with no number
+
+sign_first : (c : ℕ) → nat_eq 35 c ≡ true → (nat_le 49 c && nat_le c 57) ≡ false
+sign_first c h = grind (arith, h)
+
+signed : (c : ℕ) (b : Bool) → (nat_eq 35 c && b) ≡ true → nat_eq 35 c ≡ true
+signed c b h = grind (arith, h)
+
+no_number : (mark : List ℕ) → starts_with nat_eq mark (codes "#") ≡ true → number_in mark ≡ None
+no_number [] h = absurd (cc)
+no_number (c ∷ cs) h = no_first (c ∷ cs) (sign_first c (signed c true h))
+
+unsaid : (mark : Option (List ℕ)) → is_to_number mark ≡ true → number_of mark ≡ None
+unsaid None h = refl
+unsaid (Some mark) h = no_number mark h
+
+one_more : (b : Bool) (said : Option ℕ) (one : Held) (rest : List Held) (numbers : List ℕ) (count : ℕ) → (b ≡ true → said ≡ None) → length numbers + length rest ≤ count
+    → length (cons_option said numbers) + length (if b then one ∷ rest else rest) ≤ suc count
+one_more true None one rest numbers count none h = omega (arith, h)
+one_more true (Some n) one rest numbers count none h = absurd (let e : Some n ≡ None = none refl in cc)
+one_more false None one rest numbers count none h = omega (arith, h)
+one_more false (Some n) one rest numbers count none h = omega (arith, h)
+
+numbers_apart : (linked : List Held) → length (numbers_in linked) + length (to_number linked) ≤ length linked
+numbers_apart [] = omega arith
+numbers_apart (one ∷ more) = one_more (is_to_number (mark_of one.0)) (number_of (mark_of one.0)) one (to_number more) (numbers_in more) (length more) (unsaid (mark_of one.0)) (numbers_apart more)
+
+enough_of_all : (linked : List Held) → length (to_number linked) ≤ length (free_numbers linked)
+enough_of_all linked =
+    let parts = length-filter_both (λ number. is_written number linked) (λ number. not (is_written number linked)) (λ number. refl) (range_with_len 1 (length linked)) in
+    omega (arith, parts, length-range_with_len 1 (length linked), written_within linked, numbers_apart linked)
+
+-- the same of the numbers found free, once there is no further element
+pub enough : (linked : List Linked) (free : List ℕ) (place : ℕ) → length linked ≤ place
+    → free ++ filter (λ number. not (is_written number (map held linked))) (range_with_len (place + 1) (length (map held (drop place linked)))) ≡ free_numbers (map held linked)
+    → length (to_number (map held linked)) ≤ length free
+enough linked free place past is = rw (sym (append-nil free) ∙ (rw (drop_all place linked past) at is)) (enough_of_all (map held linked))

@@ -1,0 +1,18 @@
+use Rattle.std.proofs.Common.{refl}
+use Rattle.rst_transform_references.proofs.Computing.{rst_transform_references}
+use Rattle.rst_transform_references.proofs.rows.hyperlinks.indirect.Goals as goal
+
+pub returns : goal.returns
+unfolding rst_transform_references
+returns c = record {
+  name = refl;
+  lost_name = refl;
+  missing = refl;
+  circle = refl;
+  anonymous_target = refl;
+  one_message_each = refl;
+  places_of_messages = refl;
+  target = refl;
+  failed_target = refl;
+  reference_to_a_failed_one = refl;
+}

@@ -1,0 +1,10 @@
+use Rattle.std.proofs.Common.{refl}
+use Rattle.rst_transform_references.proofs.Computing.{rst_transform_references}
+use Rattle.rst_transform_references.proofs.rows.links.holders.Goals as goal
+
+pub returns : goal.returns
+unfolding rst_transform_references
+returns c = record {
+  last_of_a_number = refl;
+  no_element = refl;
+}

@@ -1,0 +1,11 @@
+use Rattle.std.proofs.Common.{refl}
+use Rattle.rst_transform_references.proofs.Computing.{rst_transform_references}
+use Rattle.rst_transform_references.proofs.rows.references.backrefs.Goals as goal
+
+pub returns : goal.returns
+unfolding rst_transform_references
+returns c = record {
+  in_order = refl;
+  by_name = refl;
+  by_order = refl;
+}
