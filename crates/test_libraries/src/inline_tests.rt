@@ -1,6 +1,6 @@
 //! Nodes and messages of texts. The answers were worked out from the public Markup Specification, not by this crate.
 use super::tree_tests::printed;
-use rst_inline::{Pieces, inline, unescape};
+use rst_inline::{Pieces, inline};
 use rst_tree::{Attrs, Children, Node, Tag};
 use std::alloc::Global;
 use std::test::Fail;
@@ -89,20 +89,6 @@ fn shown(alloc: Global, text: &str) -> Result<String, Fail> {
 fn reads_inline_markup(rt: HostRuntime) -> Result<(), Fail> {
     for &(text, want) in TEXTS {
         let got = shown(rt.alloc(), text)?;
-        assert_eq!(rt; got.as_str(), want, "{text}");
-    }
-    Ok(())
-}
-
-#[test]
-fn unescapes(rt: HostRuntime) -> Result<(), Fail> {
-    for &(text, want) in &[
-        ("", ""),
-        ("*a", "*a"),
-        ("a\\ b\\\\c\\", "ab\\c"),
-        ("\\*a\\\u{A0}b", "*ab"),
-    ] {
-        let got = unescape(rt.alloc(), text)?;
         assert_eq!(rt; got.as_str(), want, "{text}");
     }
     Ok(())

@@ -16,8 +16,6 @@ mod refused_tests;
 #[cfg(test)]
 mod tables_tests;
 #[cfg(test)]
-mod text_tests;
-#[cfg(test)]
 mod transforms_tests;
 #[cfg(test)]
 mod tree_tests;
