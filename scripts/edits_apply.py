@@ -3,13 +3,14 @@
 
     scripts/edits_apply.py
 
-It looks at the edits of all crates, in must-fail/ and more-edits/. It doesn't compile or prove anything: scripts/edits.sh does.
+It looks at the edits of all crates, in the folders that KINDS names. It doesn't compile or prove anything: scripts/edits.py does.
 """
 
 import pathlib
 import sys
 
 TOP = pathlib.Path(__file__).resolve().parent.parent
+KINDS = ("must-fail", "wrong-bodies", "more-edits")
 
 
 def pairs(edit):
@@ -46,7 +47,7 @@ def fault(edit):
 
 
 def main():
-    edits = sorted(TOP.glob("crates/*/must-fail/*.edit")) + sorted(TOP.glob("crates/*/more-edits/*.edit"))
+    edits = [edit for kind in KINDS for edit in sorted(TOP.glob(f"crates/*/{kind}/*.edit"))]
     wrong = 0
     for edit in edits:
         why = fault(edit)

@@ -1,18 +1,17 @@
 #!/usr/bin/env python3
-"""Writes docs/ROWS.md from the worked examples that are theorems: the clauses of the functions in crates/*/src/rows.rt and src/rows/. With --check
-it only compares. A function's comment ends with the section of the standard that its rows are of, as (Markup Specification, 'Bullet Lists')."""
+"""Prints the worked examples that are theorems, as a page: the clauses of the functions in crates/*/src/rows.rt and src/rows/. With --check it prints
+nothing, and fails if a function's comment doesn't end with the section of the standard that its rows are of, as (Markup Specification, 'Bullet
+Lists')."""
 
 import pathlib
 import re
 import sys
 
 TOP = pathlib.Path(__file__).resolve().parent.parent
-PAGE = TOP / "docs/ROWS.md"
 OPENING = """# Worked examples as theorems
 
 Each example is a theorem on the definition alone, in the order of the standard's sections: the prover computes what the definition gives for a text,
-and compares. No code of the program is run for it. `scripts/rows_page.py` writes this page from the theorems; the name of each is that of a clause
-in the crate's `src/rows.rt` or `src/rows/`.
+and compares. No code of the program is run for it. The name of each is that of a clause in the crate's `src/rows.rt` or `src/rows/`.
 
 Where two trees are given, the second is what is printed on standard error. `Outputs` and `Reports` give what the program prints; any other tree of
 a document is the one before the transforms: titles are sections, and references aren't resolved yet. Where the count of messages on texts is
@@ -32,7 +31,7 @@ SECTIONS = {
     "Directives": """Specific Admonitions; Generic Admonition; Image; Figure; Topic; Code; Replacement Text; Common Options; Identifier Normalization""",
     "Roles": "Standard Roles",
     "Document Tree": "Element Reference; Attribute Reference",
-    "Configuration": "line_length_limit; report_level; halt_level",
+    "Configuration": "doctitle_xform; docinfo_xform; line_length_limit; report_level; halt_level",
 }
 ORDER = [(document, section) for document, sections in SECTIONS.items() for section in re.split(r";\s+", sections)]
 FUNCTION = re.compile(r"((?:^///.*\n)+)pub fn (\w+)\(\)\n((?:    .*\n)+)\{\}", re.M)
@@ -105,13 +104,11 @@ def page():
 
 
 def main():
-    if sys.argv[1:] == ["--check"]:
-        if PAGE.read_text() != page():
-            sys.exit("docs/ROWS.md isn't what scripts/rows_page.py writes")
-    elif sys.argv[1:]:
+    if sys.argv[1:] not in ([], ["--check"]):
         sys.exit("usage: scripts/rows_page.py [--check]")
-    else:
-        PAGE.write_text(page())
+    text = page()
+    if not sys.argv[1:]:
+        print(text, end="")
 
 
 if __name__ == "__main__":

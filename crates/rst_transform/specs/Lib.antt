@@ -1,3 +1,4 @@
 pub mod Finishing
 pub mod Law
 pub mod Linking
+pub mod Written

@@ -4,6 +4,7 @@
 mod finishing;
 pub mod laws;
 mod linking;
+pub mod rows;
 
 pub use finishing::{Finished, finish};
 pub use rst_settings::Settings;

@@ -1,0 +1,10 @@
+use Rattle.std.proofs.Common.{refl}
+use Rattle.rst_transform.proofs.Computing.{rst_transform}
+use Rattle.rst_transform.proofs.rows.report_levels.Goals as goal
+
+pub returns : goal.returns
+unfolding rst_transform
+returns c = record {
+  below_it = refl;
+  in_the_list = refl;
+}
