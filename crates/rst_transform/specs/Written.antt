@@ -1,7 +1,7 @@
 -- Documents that are written out, and what is left of them after all transforms, for worked examples. No rule of markup.
 use Prim.Native.String.{String}
 use Rattle.std.proofs.Common.{arith}
-use Rattle.std.specs.Prelude.{◌≡◌, ℕ, true, List, [], ◌∷◌, codes, map}
+use Rattle.std.specs.Prelude.{◌≡◌, true, List, [], ◌∷◌, codes, map}
 use Rattle.rst_settings.specs.Profile.{profile_of}
 use Rattle.rst_settings.specs.declared.Settings.{Settings}
 use Rattle.rst_settings.specs.declared.Threshold.TheVariants.{Never, Severe, Warning}
