@@ -61,6 +61,7 @@ FREE = {
 
 BREACHES = [
     ("a struct that keeps lines", "rst_block_state/texts.rt", "pub struct Pass {", "pub struct Pass {\n    pub seen: Lines,"),
+    ("a struct of one text", "rst_block_state/texts.rt", "pub struct Pass {", "pub struct Seen(String);\npub struct Pass {"),
     ("lines joined in a text", "rst_block_state/open_block.rt", "pub struct OpenBlock {", "pub struct OpenBlock {\n    pub seen: String,"),
     ("an array of texts", "rst_block_state/texts.rt", "pub struct Pass {", "pub struct Pass {\n    pub seen: [Option<String>; 9],"),
     ("texts of elements", "rst_block/machine.rt", "    let whole", "    let seen = rst_tree::Texts::none(alloc);\n    let whole"),
@@ -126,14 +127,15 @@ def types(text):
 
 def structs(text):
     """What structs and enums hold: their names, each with the types of one line."""
-    for name, body in re.findall(r"^(?:pub(?:\(\w+\))? )?(?:struct|enum) (\w+)[^{;]*\{(.*?)^\}", text, re.MULTILINE | re.DOTALL):
-        for line in body.splitlines():
+    form = r"^( *)(?:pub(?:\(\w+\))? )?(?:struct|enum) (\w+)[^{;(]*(?:\{(.*?)^\1\}|\(([^;]*)\);)"
+    for _, name, fields, row in re.findall(form, text, re.MULTILINE | re.DOTALL):
+        for line in [*fields.splitlines(), row]:
             yield name, types(re.sub(r"^ +[A-Z]\w*", "", line)) | set(re.findall(r"\bchar\b", line))
 
 
 def functions(text):
     """What functions take over or may change: their names, each with the types of one parameter."""
-    for name, row in re.findall(r"\bfn (\w+)(?:<[^(]*>)?\((.*?)\)\s*(?:->|\{|;|where)", text, re.DOTALL):
+    for name, row in re.findall(r"\bfn (\w+)(?:<.*?>)?\((.*?)\)\s*(?:->|\{|;|where)", text, re.DOTALL):
         for parameter in parameters(row):
             if not re.search(r": (?:Option<)?&(?:'\w+ )?(?!mut\b|')", parameter):
                 yield name, types(parameter)
@@ -146,9 +148,9 @@ def free(text):
     for name, body in re.findall(r"^pub struct (View|Lines)\b(.*?)^\}", text, re.MULTILINE | re.DOTALL):
         yield name, set(re.findall(r"^    pub (\w+)", body, re.MULTILINE))
     for trait, name, body in re.findall(r"^impl(?:<[^{]*?>)? (?:(\w+).* for )?(View|Lines)\b[^{]*\{(.*?)^\}", text, re.MULTILINE | re.DOTALL):
-        calls = re.findall(r"^    pub fn (\w+)(?:<[^(]*>)?\((.*?)\)\s*(?:->|\{)", body, re.MULTILINE | re.DOTALL)
+        calls = re.findall(r"^    pub fn (\w+)(?:<.*?>)?\((.*?)\)\s*(?:->|\{)", body, re.MULTILINE | re.DOTALL)
         yield name, {call for call, row in calls if "looks: &mut Looks" not in row} | {trait} - {""}
-    calls = re.findall(r"^pub fn (\w+)(?:<[^(]*>)?\((.*?)\)\s*(?:->|\{)", text, re.MULTILINE | re.DOTALL)
+    calls = re.findall(r"^pub fn (\w+)(?:<.*?>)?\((.*?)\)\s*(?:->|\{)", text, re.MULTILINE | re.DOTALL)
     yield from ((call, {"View"}) for call, row in calls if re.search(r"\b(?:View|Lines)\b", row))
 
 
