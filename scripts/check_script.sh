@@ -40,24 +40,25 @@ warning='<stdin>:1: (WARNING/2) Inline emphasis start-string without end-string.
 same 'a message that halts' "1 $warning"$'\nExiting due to level-2 (WARNING) system message.' "$(answer '*a' --halt=2)"
 same 'an exit status' "12 ${hello/Hello, world/$'*\n        a'}" "$(answer '*a' -q --exit-status=2)"
 same 'nested too deep' '1 rst2pseudoxml: line 3: nesting too deep' "$(answer "text\n\n$(printf -- '- %.0s' {1..251})a")"
-tables() { # COUNT: tables of one cell, one inside another
-  awk -v count="$1" '
+tables() { # COUNT TEXT: tables of one cell, one inside another; the text of the innermost
+  awk -v count="$1" -v text="$2" '
     function border(depth,    bars) {
       bars = substr(all, 1, depth - 1)
-      return bars "+" substr(dashes, 1, 3 + 2 * (count - depth)) "+" bars
+      return bars "+" substr(dashes, 1, length(text) + 2 * (count - depth)) "+" bars
     }
     BEGIN {
       for (i = 0; i < count; i++) { all = all "|"; dashes = dashes "--" }
-      dashes = dashes "---"
+      for (i = 0; i < length(text); i++) dashes = dashes "-"
       for (i = 1; i <= count; i++) print border(i)
-      print all "abc" all
+      print all text all
       for (i = count; i >= 1; i--) print border(i)
     }'
 }
-tables 250 >deepest
-(ulimit -s 512 && "$top/rst2pseudoxml" deepest) >out 2>err
-same 'the deepest tables, with a stack of 512 KiB' '0 abc' "$? $(cat err)$(tail -n 1 out | tr -d ' ')"
-same 'tables that are too deep' '1 rst2pseudoxml: line 252: nesting too deep' "$(answer "$(tables 251)")"
+tables 250 '_`a` _`a`' >deepest
+(ulimit -s 1536 && "$top/rst2pseudoxml" deepest) >out 2>err
+equal_names='Duplicate explicit target name: "a".'
+same 'equal names in the deepest tables, with a stack of 1.5 MiB' "0 deepest:251: (WARNING/2) $equal_names$equal_names" "$? $(cat err)$(tail -n 1 out | sed 's/^ *//')"
+same 'tables that are too deep' '1 rst2pseudoxml: line 252: nesting too deep' "$(answer "$(tables 251 abc)")"
 same 'by a link' "$hello" "$(printf 'Hello, world' | ./linked)"
 head -c 16777216 /dev/zero | tr '\0' '\n' | "$top/rst2pseudoxml" >out 2>err
 same 'as many bytes as are read' '0 <document source="<stdin>">' "$? $(cat out err)"

@@ -8,7 +8,8 @@ use clap::error::ErrorKind;
 use std::alloc::AllocError;
 use thiserror::Error;
 
-/// Why the words choose no settings, in the order in which faults are looked for; the last may come at any point.
+/// Why the words choose no settings. `options` names the order in which faults are looked for; callers may count on the
+/// places of the variants, so a fault that is new comes last.
 #[derive(Clone, Copy, Debug, PartialEq, Eq, Error)]
 pub enum OptionFault {
     /// An unknown option, one that is given twice or lacks its value, a flag with a value, a second SOURCE, or one
@@ -21,15 +22,15 @@ pub enum OptionFault {
     /// A tab width that is no decimal number from 1 to 99, or begins with a zero.
     #[error("bad tab width")]
     BadTab,
-    /// A line limit that is no decimal number from 1 to 16,777,216, or begins with a zero.
-    #[error("bad line limit")]
-    BadLimit,
     /// More than one option for the report level, or for the halt level.
     #[error("two levels")]
     TwoLevels,
     /// A growth was refused.
     #[error("out of memory")]
     NoMemory,
+    /// A line limit that is no decimal number from 1 to 16,777,216, or begins with a zero.
+    #[error("bad line limit")]
+    BadLimit,
 }
 
 impl From<AllocError> for OptionFault {

@@ -1,6 +1,6 @@
 //! Grid tables: which lines they are, and what is wrong with them.
 ghost use Rattle.std.specs.Prelude.{◌≡◌, ◌+◌, ◌^◌, ◌<◌, ◌≤◌, length, map, drop, take, IfOk, OnOk, IfSome};
-ghost use Rattle.rst_markup_blocks.specs.Prelude.{capped, block_of};
+ghost use Rattle.rst_markup_blocks.specs.Prelude.{Looked, capped, block_of};
 ghost use Rattle.rst_markup_blocks.specs.Lines.{lines_while};
 ghost use Rattle.rst_markup_blocks.specs.TableRows.{grid_bottom, grid_size, grid_scan};
 ghost use Rattle.rst_markup_blocks.specs.declared.lines.LineTest.TheVariants.{Drawn};
@@ -29,8 +29,8 @@ fn drawn_lines(alloc: Global, view: &View<'_>, i: usize, looks: &mut Looks) -> R
     ensures lines { IfOk result (λ found. found.lines.items ≡ rows_of (take (lines_while Drawn (drop i (block_of view.now))) (drop i (block_of view.now)))) }
     ensures numbered { IfOk result (λ found. AreNumbered found.lines.items) }
     ensures bottom { IfOk result (λ found. found.bottom ≡ grid_bottom (drop i (block_of view.now))) }
-    ensures looks { looks.new ≤ looks.old + grid_scan (drop i (block_of view.now)) }
-    ensures low { IfOk result (λ _. capped (looks.old + lines_while Drawn (drop i (block_of view.now))) ≤ looks.new) }
+    ensures looked { Looked 0 (grid_scan (drop i (block_of view.now))) looks.old looks.new }
+    ensures each { IfOk result (λ _. capped (looks.old + lines_while Drawn (drop i (block_of view.now))) ≤ looks.new) }
 {
     let mut lines = Vec::new(alloc);
     let mut bottom = None;
@@ -61,8 +61,8 @@ pub(crate) fn grid_lines(
     ensures lines { IfOk result (λ found. found.lines.items ≡ rows_of (take (grid_size (drop i (block_of view.now))) (drop i (block_of view.now)))) }
     ensures numbered { IfOk result (λ found. AreNumbered found.lines.items) }
     ensures bottom { IfOk result (λ found. found.bottom ≡ grid_bottom (drop i (block_of view.now))) }
-    ensures looks { looks.new ≤ looks.old + grid_scan (drop i (block_of view.now)) }
-    ensures low { IfOk result (λ _. capped (looks.old + grid_size (drop i (block_of view.now))) ≤ looks.new) }
+    ensures looked { Looked 0 (grid_scan (drop i (block_of view.now))) looks.old looks.new }
+    ensures each { IfOk result (λ _. capped (looks.old + grid_size (drop i (block_of view.now))) ≤ looks.new) }
 {
     prove!(i < view.len());
     let drawn = drawn_lines(alloc, view, i, looks)?;

@@ -1,6 +1,6 @@
 //! Grid tables.
 ghost use Rattle.std.specs.Prelude.{◌≡◌, ◌+◌, ◌^◌, ◌<◌, ◌≤◌, length, drop, IfOk};
-ghost use Rattle.rst_markup_blocks.specs.Prelude.{capped, block_of};
+ghost use Rattle.rst_markup_blocks.specs.Prelude.{Looked, capped, block_of};
 ghost use Rattle.rst_markup_tables.specs.Ends.{end_of};
 ghost use Rattle.rst_markup_tables.specs.Places.{AreNumbered};
 ghost use Rattle.rst_markup_tables.specs.GridTable as spec;
@@ -14,7 +14,7 @@ use super::results::{TableDetail, TableFault, TableResult};
 use rst_text::{Looks, View};
 use std::alloc::Global;
 
-/// So many lines from place `first` on that are no table; `line` is the number of the first.
+/// Lines that are no table, as many as `size` says, from place `first` on; `line` is the number of the first.
 pub(crate) fn malformed(line: usize, first: usize, size: usize, detail: TableDetail) -> TableResult
     requires { first + size < 2 ^ 64 }
     ensures { result ≡ spec.malformed line first size detail }
@@ -31,7 +31,7 @@ pub(crate) fn malformed(line: usize, first: usize, size: usize, detail: TableDet
     }
 }
 
-/// What the lines of a table are. The first has this number and stands at place `first`.
+/// What the lines of a table are. The first has this number and is at place `first`.
 fn grid_of(alloc: Global, line: usize, first: usize, found: GridLines) -> Result<TableResult>
     requires fits { first + length found.lines.items < 2 ^ 64 }
     requires numbered { AreNumbered found.lines.items }
@@ -60,13 +60,13 @@ fn grid_of(alloc: Global, line: usize, first: usize, found: GridLines) -> Result
 /// drawn rectangles, or malformed with its first fault (Markup Specification, 'Grid Tables'). It ends where the row of grid
 /// tables says. It looks once at each line of the table, and at those after it through the one that stops the scan.
 ///
-/// The only error is want of memory, which leaves all but `looks` as it was.
+/// The only error is that memory ran out, which leaves all but `looks` as it was; looks that were taken stay counted.
 pub fn grid(alloc: Global, view: &View<'_>, i: usize, looks: &mut Looks) -> Result<TableResult>
     requires there { i < length (block_of view.now) }
     ensures table { IfOk result (spec.IsGridTable (block_of view.now) i) }
     ensures end { IfOk result (λ table. end_of table ≡ i + grid_size (drop i (block_of view.now))) }
-    ensures looks { looks.new ≤ looks.old + grid_scan (drop i (block_of view.now)) }
-    ensures low { IfOk result (λ _. capped (looks.old + grid_size (drop i (block_of view.now))) ≤ looks.new) }
+    ensures looked { Looked 0 (grid_scan (drop i (block_of view.now))) looks.old looks.new }
+    ensures each { IfOk result (λ _. capped (looks.old + grid_size (drop i (block_of view.now))) ≤ looks.new) }
 {
     let found = grid_lines(alloc, view, i, looks)?;
     let table = grid_of(alloc, view.number(i), i, found)?;

@@ -18,7 +18,7 @@ returns-in_ok-found-in-Grid c =
     let B : Block = block_of c.args.view.now in
     let l = c.args.level.now in
     let begun = subst (IsBegun (drop l.at B)) c.in-Grid.is c.requires.here.begun in
-    let looks = grid_found (l.depth == 0) (drop l.at B) _ _ begun c.grid.ensures.looks c.in_ok-found-in-Grid.ensures.low in
+    let looks = grid_found (l.depth == 0) (drop l.at B) _ _ begun c.grid.ensures.looked.1 c.in_ok-found-in-Grid.ensures.each in
     record { step = c.table.ensures.step; read = c.table.ensures.read; paid = c.table.ensures.paid _ looks.0 looks.1 }
 
 pub returns-in_ok-found-in-Simple : goal.returns-in_ok-found-in-Simple

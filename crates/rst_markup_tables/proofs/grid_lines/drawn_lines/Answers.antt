@@ -27,15 +27,15 @@ returns-then-not-is_drawn c =
       lines = drawn-none (drop c.loop-k.k B) c.loop-k.lines.items (drawn_rows (drop c.args.i B)) (while_stop c.loop-k.k Drawn B (omega arith) stop).0 c.loop-k.invariant.lines;
       numbered = numbered-from _ _ c.loop-k.invariant.numbered;
       bottom = grid_bottom-is X (c.loop-k.k - c.args.i) c.loop-k.bottom all c.loop-k.invariant.last;
-      looks = omega (arith, scan-here (block_of c.args.view.now) c.args.i c.loop-k.k (omega arith) (omega arith) c.loop-k.invariant.among, c.loop-k.invariant.looked.1, c.line-text.ensures.looks);
-      low = omega (arith, (while_stop c.loop-k.k Drawn B (omega arith) stop).0, c.loop-k.invariant.among, c.loop-k.invariant.looked.0, c.line-text.ensures.looks);
+      looked = search (arith, scan-here (block_of c.args.view.now) c.args.i c.loop-k.k (omega arith) (omega arith) c.loop-k.invariant.among, c.loop-k.invariant.looked.1, c.line-text.ensures.looks);
+      each = omega (arith, (while_stop c.loop-k.k Drawn B (omega arith) stop).0, c.loop-k.invariant.among, c.loop-k.invariant.looked.0, c.line-text.ensures.looks);
     }
 
-pub returns-in_err-line-clause-looks : goal.returns-in_err-line-clause-looks
-returns-in_err-line-clause-looks c = omega (arith, scan-here (block_of c.args.view.now) c.args.i c.loop-k.k (omega arith) (omega arith) c.loop-k.invariant.among, c.loop-k.invariant.looked.1, c.line-text.ensures.looks)
+pub returns-in_err-line-clause-looked : goal.returns-in_err-line-clause-looked
+returns-in_err-line-clause-looked c = search (arith, scan-here (block_of c.args.view.now) c.args.i c.loop-k.k (omega arith) (omega arith) c.loop-k.invariant.among, c.loop-k.invariant.looked.1, c.line-text.ensures.looks)
 
-pub returns-in_err-push-clause-looks : goal.returns-in_err-push-clause-looks
-returns-in_err-push-clause-looks c = omega (arith, scan-here (block_of c.args.view.now) c.args.i c.loop-k.k (omega arith) (omega arith) c.loop-k.invariant.among, c.loop-k.invariant.looked.1, c.line-text.ensures.looks)
+pub returns-in_err-push-clause-looked : goal.returns-in_err-push-clause-looked
+returns-in_err-push-clause-looked c = search (arith, scan-here (block_of c.args.view.now) c.args.i c.loop-k.k (omega arith) (omega arith) c.loop-k.invariant.among, c.loop-k.invariant.looked.1, c.line-text.ensures.looks)
 
 pub loop-k-preserved : goal.loop-k-preserved
 loop-k-preserved c =
@@ -64,15 +64,15 @@ returns-clause-bottom c =
     let all : c.loop-k.k - c.args.i - 2 ≡ lines_while Drawn X - 2 = omega (arith, c.loop-k.invariant.among, while_end c.loop-k.k Drawn B (omega arith)) in
     grid_bottom-is X (c.loop-k.k - c.args.i) c.loop-k.bottom all c.loop-k.invariant.last
 
-pub returns-clause-looks : goal.returns-clause-looks
-returns-clause-looks c =
+pub returns-clause-looked : goal.returns-clause-looked
+returns-clause-looked c =
     let B : Block = block_of c.args.view.now in
     let X : Block = drop c.args.i B in
     let over = scan-over X (c.loop-k.k - c.args.i) (omega (arith, c.loop-k.invariant.among)) (omega (arith, length-drop c.args.i B)) in
-    omega (arith, over, c.loop-k.invariant.looked.1)
+    search (arith, over, c.loop-k.invariant.looked)
 
-pub returns-clause-low : goal.returns-clause-low
-returns-clause-low c =
+pub returns-clause-each : goal.returns-clause-each
+returns-clause-each c =
     let B : Block = block_of c.args.view.now in
     omega (arith, while_end c.loop-k.k Drawn B (omega arith), c.loop-k.invariant.among, c.loop-k.invariant.looked.0)
 

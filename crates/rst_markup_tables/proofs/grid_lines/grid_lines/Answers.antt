@@ -30,11 +30,11 @@ returns-clause-lines c =
     let X : Block = drop c.args.i (block_of c.args.view.now) in
     c.truncate.ensures.items ∙ table_rows-are X c.in_ok-drawn.drawn.lines.items (Some c.in-Some.k) c.in_ok-drawn.ensures.lines (sym c.in-Some.is ∙ c.in_ok-drawn.ensures.bottom)
 
-pub returns-in_default-clause-low : goal.returns-in_default-clause-low
-returns-in_default-clause-low c = omega (arith, grid_size_le (drop c.args.i (block_of c.args.view.now)), c.in_ok-drawn.ensures.low)
+pub returns-in_default-clause-each : goal.returns-in_default-clause-each
+returns-in_default-clause-each c = omega (arith, grid_size_le (drop c.args.i (block_of c.args.view.now)), c.in_ok-drawn.ensures.each)
 
-pub returns-clause-low : goal.returns-clause-low
-returns-clause-low c = omega (arith, grid_size_le (drop c.args.i (block_of c.args.view.now)), c.in_ok-drawn.ensures.low)
+pub returns-clause-each : goal.returns-clause-each
+returns-clause-each c = omega (arith, grid_size_le (drop c.args.i (block_of c.args.view.now)), c.in_ok-drawn.ensures.each)
 
 pub returns-clause-numbered : goal.returns-clause-numbered
 returns-clause-numbered c = subst AreNumbered (sym c.truncate.ensures.items) (numbered-take (c.in-Some.k + 1) c.in_ok-drawn.drawn.lines.items c.in_ok-drawn.ensures.numbered)
