@@ -32,7 +32,7 @@ SECTIONS = {
     "Directives": """Specific Admonitions; Generic Admonition; Image; Figure; Topic; Code; Replacement Text; Common Options; Identifier Normalization""",
     "Roles": "Standard Roles",
     "Document Tree": "Element Reference; Attribute Reference",
-    "Configuration": "line_length_limit; report_level; halt_level",
+    "Configuration": "input_encoding; line_length_limit; report_level; halt_level",
 }
 ORDER = [(document, section) for document, sections in SECTIONS.items() for section in re.split(r";\s+", sections)]
 FUNCTION = re.compile(r"((?:^///.*\n)+)pub fn (\w+)\(\)\n((?:    .*\n)+)\{\}", re.M)
