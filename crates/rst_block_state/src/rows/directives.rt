@@ -98,10 +98,6 @@ pub fn wrong_images()
         ("<document>" ∷ "    <system_message level=\"3\">" ∷ "        <paragraph>" ∷ "            Error in \"image\" directive:"
         ∷ "            1 argument(s) required, 0 supplied." ∷ "        <literal_block xml:space=\"preserve\">" ∷ "            .. image::"
         ∷ "               :alt: a" ∷ []) }
-    ensures content_without_a_uri { Reads (".. image::" ∷ "   :alt: a" ∷ "" ∷ "   b" ∷ [])
-        ("<document>" ∷ "    <system_message level=\"3\">" ∷ "        <paragraph>" ∷ "            Error in \"image\" directive:"
-        ∷ "            1 argument(s) required, 0 supplied." ∷ "        <literal_block xml:space=\"preserve\">" ∷ "            .. image::"
-        ∷ "               :alt: a" ∷ "            " ∷ "               b" ∷ []) }
     ensures content { Reads (".. image:: a" ∷ "" ∷ "   b" ∷ [])
         ("<document>" ∷ "    <system_message level=\"3\">" ∷ "        <paragraph>" ∷ "            Error in \"image\" directive:"
         ∷ "            no content permitted." ∷ "        <literal_block xml:space=\"preserve\">" ∷ "            .. image:: a" ∷ "            "

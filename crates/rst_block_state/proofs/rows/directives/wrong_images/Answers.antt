@@ -6,7 +6,6 @@ pub returns : goal.returns
 unfolding rst_block_state
 returns c = record {
   without_a_uri = refl;
-  content_without_a_uri = refl;
   content = refl;
   unknown_option = refl;
   duplicate_option = refl;
