@@ -46,7 +46,7 @@ ESCAPES = {"n": "\n", "t": "\t", "r": "␍"}
 
 def lines_of(words):
     """The texts of a list of strings."""
-    return [re.sub(r"\\(.)", lambda m: ESCAPES.get(m[1], m[1]), text) for text in STRINGS.findall(words)]
+    return [re.sub(r"\\(u\{(\w+)\}|.)", lambda m: chr(int(m[2], 16)) if m[2] else ESCAPES.get(m[1], m[1]), text) for text in STRINGS.findall(words)]
 
 
 def fenced(lines):
