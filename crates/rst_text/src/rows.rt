@@ -28,7 +28,7 @@ pub fn lines()
     ensures none_longer { first_longer 4 (block ("ab" ∷ "abcd" ∷ [])) ≡ None }
 {}
 
-/// A byte order mark at the front of a text (Configuration, 'input_encoding').
+/// A byte order mark at the beginning of a text (Configuration, 'input_encoding').
 pub fn byte_order_marks()
     ensures one { without_mark (codes "\u{feff}\u{feff}a") ≡ codes "\u{feff}a" }
     ensures inside { without_mark (codes "a\u{feff}") ≡ codes "a\u{feff}" }
