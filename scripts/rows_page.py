@@ -31,7 +31,7 @@ SECTIONS = {
     "Directives": """Specific Admonitions; Generic Admonition; Image; Figure; Topic; Code; Replacement Text; Common Options; Identifier Normalization""",
     "Roles": "Standard Roles",
     "Document Tree": "Element Reference; Attribute Reference",
-    "Configuration": "doctitle_xform; docinfo_xform; line_length_limit; report_level; halt_level",
+    "Configuration": "docinfo_xform; doctitle_xform; halt_level; input_encoding; line_length_limit; report_level",
 }
 ORDER = [(document, section) for document, sections in SECTIONS.items() for section in re.split(r";\s+", sections)]
 FUNCTION = re.compile(r"((?:^///.*\n)+)pub fn (\w+)\(\)\n((?:    .*\n)+)\{\}", re.M)
@@ -45,7 +45,7 @@ ESCAPES = {"n": "\n", "t": "\t", "r": "␍"}
 
 def lines_of(words):
     """The texts of a list of strings."""
-    return [re.sub(r"\\(.)", lambda m: ESCAPES.get(m[1], m[1]), text) for text in STRINGS.findall(words)]
+    return [re.sub(r"\\(u\{(\w+)\}|.)", lambda m: chr(int(m[2], 16)) if m[2] else ESCAPES.get(m[1], m[1]), text) for text in STRINGS.findall(words)]
 
 
 def fenced(lines):

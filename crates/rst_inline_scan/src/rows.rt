@@ -22,9 +22,11 @@ pub fn characters()
 pub fn starts()
     ensures inside_a_word { Cuts "a*b*" ((Plain, "a*b*") ∷ []) }
     ensures after_punctuation_past_ascii { Cuts "。*c*" ((Plain, "。") ∷ (Marked Emphasis Bare, "*c*") ∷ []) }
+    ensures beside_white_past_ascii { Cuts "a\u{3000}*b*\u{2003}c" ((Plain, "a\u{3000}") ∷ (Marked Emphasis Bare, "*b*") ∷ (Plain, "\u{2003}c") ∷ []) }
     ensures before_white { Cuts "2 * 3 * 4" ((Plain, "2 * 3 * 4") ∷ []) }
     ensures quoted { Cuts "'*' \"*\" <*> (*) [*] {*}" ((Plain, "'*' \"*\" <*> (*) [*] {*}") ∷ []) }
     ensures quoted_after_a_quoted { Cuts "'*'*' <*>*>" ((Plain, "'*'*' <*>*>") ∷ []) }
+    ensures quoted_past_ascii { Cuts "«*»" ((Plain, "«") ∷ (Unended Emphasis, "*") ∷ (Plain, "»") ∷ []) }
     ensures other_bracket { Cuts "(*]" ((Plain, "(") ∷ (Unended Emphasis, "*") ∷ (Plain, "]") ∷ []) }
     ensures quoted_role { Cuts "(:sub:`)x`" ((Plain, "(:sub:") ∷ (Marked Interpreted Bare, "`)x`") ∷ []) }
     ensures escaped { Cuts "\\*a*" ((Plain, "\\*a*") ∷ []) }

@@ -300,6 +300,9 @@ pub fn directives()
     ensures content_of_an_image { directive_at false (block ("x" ∷ ".. image:: a" ∷ "" ∷ "   b"
         ∷ [])) 1 (record { name = record { from = 3; to = 8 }; block = record { from = 1; to = 4; first_cut = 11; rest_cut = 3 } }) Body true
         ≡ wrong (inside faults.content_not_permitted) (record { from = 1; to = 4; first_cut = 0; rest_cut = 0 }) }
+    ensures argument_before_content { directive_at false (block (".. image::" ∷ "   :alt: a" ∷ "" ∷ "   b"
+        ∷ [])) 0 (record { name = record { from = 3; to = 8 }; block = record { from = 1; to = 4; first_cut = 3; rest_cut = 3 } }) Body false
+        ≡ wrong (inside no_argument) (record { from = 0; to = 4; first_cut = 0; rest_cut = 0 }) }
     ensures options_before_content { directive_at false (block (".. topic::" ∷ "   :foo:"
         ∷ [])) 0 (record { name = record { from = 3; to = 8 }; block = record { from = 1; to = 2; first_cut = 3; rest_cut = 3 } }) Body false
         ≡ wrong (inside (unknown (codes "foo"))) (record { from = 0; to = 2; first_cut = 0; rest_cut = 0 }) }

@@ -3,8 +3,10 @@
 
 ghost use Rattle.std.specs.Prelude.{◌≡◌, codes, map, [], ◌∷◌};
 ghost use Rattle.rst_text.specs.Written.{block};
+ghost use Rattle.rst_markup_tables.specs.GridTable.{malformed};
 ghost use Rattle.rst_markup_tables.specs.Messages.{malformed_text};
 ghost use Rattle.rst_markup_tables.specs.Reads.{BreaksGrid, BreaksSimple, MakesGrid, MakesSimple, cell, plain};
+ghost use Rattle.rst_markup_tables.specs.SimpleTable.{simple_table};
 ghost use Rattle.rst_markup_tables.specs.Tiling.{grid_table};
 ghost use Rattle.rst_markup_tables.specs.declared.results.TableDetail.TheVariants.{BottomBorderMissing, RightEdgeBroken, TwoHeadRules, ParseIncomplete, BorderMismatch, BottomMissing, ColumnSpan, Margin};
 ghost use Rattle.rst_markup_tables.specs.declared.results.TableResult.TheVariants.{Table};
@@ -78,6 +80,8 @@ pub fn grid_faults()
     ensures wide_space { BreaksGrid ("+---+" ∷ "| \u{3000}a |" ∷ "+---+" ∷ []) RightEdgeBroken 3 }
     ensures open_line { BreaksGrid ("+---+" ∷ "| a x" ∷ "+---+" ∷ []) RightEdgeBroken 3 }
     ensures two_head_rules { BreaksGrid ("+---+" ∷ "| a |" ∷ "+===+" ∷ "| b |" ∷ "+===+" ∷ "| c |" ∷ "+---+" ∷ []) (TwoHeadRules 3 5) 7 }
+    ensures three_head_rules { BreaksGrid ("+---+" ∷ "+===+" ∷ "+===+" ∷ "+===+" ∷ "+---+" ∷ []) (TwoHeadRules 2 3) 5 }
+    ensures head_rules_below_a_text { grid_table (block ("x" ∷ "" ∷ "+---+" ∷ "+===+" ∷ "+===+" ∷ "+---+" ∷ [])) 2 ≡ malformed 3 2 4 (TwoHeadRules 2 3) }
     ensures no_tiling { BreaksGrid ("+---+---+" ∷ "| a | b |" ∷ "+---+   |" ∷ "| c   d |" ∷ "+---+---+" ∷ []) ParseIncomplete 5 }
     ensures bent_cells { BreaksGrid ("+-+-+-+" ∷ "| |   |" ∷ "+-+-+ |" ∷ "| | | |" ∷ "| +-+-+" ∷ "|   | |" ∷ "+---+-+" ∷ []) ParseIncomplete 7 }
 {}
@@ -105,6 +109,8 @@ pub fn simple_rows()
         ((plain 2 ("a" ∷ []) ∷ plain 2 ("b" ∷ []) ∷ []) ∷ (plain 3 ("" ∷ []) ∷ plain 3 ("c" ∷ []) ∷ []) ∷ []) 4 }
     ensures no_break_space { MakesSimple ("== ==" ∷ "a  b" ∷ "\u{a0}  c" ∷ "== ==" ∷ []) (2 ∷ 2 ∷ []) 0
         ((plain 2 ("a" ∷ "" ∷ []) ∷ plain 2 ("b" ∷ "c" ∷ []) ∷ []) ∷ []) 4 }
+    ensures no_break_space_in_the_margin { MakesSimple ("== ==" ∷ "a \u{a0}b" ∷ "== ==" ∷ []) (2 ∷ 2 ∷ []) 0
+        ((plain 2 ("a" ∷ []) ∷ plain 2 ("b" ∷ []) ∷ []) ∷ []) 3 }
 {}
 
 /// The heads of simple tables (Markup Specification, 'Simple Tables').
@@ -146,7 +152,11 @@ pub fn simple_faults()
     ensures column_left_out { BreaksSimple ("== == ==" ∷ "a     c" ∷ "--    --" ∷ "== == ==" ∷ []) (ColumnSpan 3) 4 }
     ensures rule_to_the_middle_of_a_column { BreaksSimple ("==  ==" ∷ "a   b" ∷ "-----" ∷ "==  ==" ∷ []) (ColumnSpan 3) 4 }
     ensures rule_from_a_margin { BreaksSimple ("==  ==" ∷ "a x b" ∷ "-- ---" ∷ "==  ==" ∷ []) (ColumnSpan 3) 4 }
+    ensures rule_up_to_the_last_column { BreaksSimple ("== ==" ∷ "a  b" ∷ "--" ∷ "== ==" ∷ []) (ColumnSpan 3) 4 }
+    ensures rule_that_ends_no_row { BreaksSimple ("== ==" ∷ "-" ∷ "a  b" ∷ "== ==" ∷ []) (ColumnSpan 2) 4 }
     ensures one_dash { BreaksSimple ("== ==" ∷ "a  b" ∷ "-" ∷ "== ==" ∷ []) (ColumnSpan 3) 4 }
+    ensures margin_below_a_text { simple_table (block ("x" ∷ "" ∷ "== ==" ∷ "abc d" ∷ "== ==" ∷ [])) 2 ≡ malformed 3 2 3 (Margin 2) }
+    ensures rule_below_a_text { simple_table (block ("x" ∷ "" ∷ "== ==" ∷ "a  b" ∷ "-- -" ∷ "== ==" ∷ [])) 2 ≡ malformed 3 2 4 (ColumnSpan 3) }
     ensures rules_before_margins { BreaksSimple ("== ==" ∷ "abc d" ∷ "a  b" ∷ "-- -" ∷ "== ==" ∷ []) (ColumnSpan 4) 5 }
     ensures longer_border { BreaksSimple ("== ==" ∷ "a  b" ∷ "== ===" ∷ []) BorderMismatch 3 }
     ensures shorter_head_border { BreaksSimple ("== ==" ∷ "a  b" ∷ "== =" ∷ "c  d" ∷ "== ==" ∷ []) BorderMismatch 3 }

@@ -8,17 +8,30 @@ ghost use Rattle.rst_text.specs.Lines.{expanded, lines_of, first_longer};
 ghost use Rattle.rst_text.specs.Escapes.{unescaped};
 ghost use Rattle.rst_text.specs.Names.{id_of, name_of};
 ghost use Rattle.rst_text.specs.SimpleNames.{is_simple_name};
+ghost use Rattle.rst_text.specs.Text.{without_mark};
 ghost use Rattle.rst_text.specs.Written.{block};
 
 /// Lines of a text (Markup Specification, 'Whitespace').
 pub fn lines()
     ensures line_ends { map (λ l. l.text) (lines_of 8 (codes "a\r\nb\rc\n\nd")) ≡ codes "a" ∷ codes "b" ∷ codes "c" ∷ [] ∷ codes "d" ∷ [] }
+    ensures further_line_ends { map (λ l. l.text) (lines_of 8 (codes "a\u{1c}b\u{1d}c\u{1e}d\u{85}e\u{2028}f\u{2029}g\u{1b}h\u{1f}i"))
+        ≡ codes "a" ∷ codes "b" ∷ codes "c" ∷ codes "d" ∷ codes "e" ∷ codes "f" ∷ codes "g\u{1b}h\u{1f}i" ∷ [] }
     ensures numbers { map (λ l. l.number) (block ("a" ∷ "" ∷ "b" ∷ [])) ≡ 1 ∷ 2 ∷ 3 ∷ [] }
     ensures tab { expanded 8 (codes "ab\tc") ≡ codes "ab      c" }
     ensures tab_at_a_stop { expanded 4 (codes "abcd\te") ≡ codes "abcd    e" }
+    ensures tab_after_a_wide_character { expanded 8 (codes "中\tb") ≡ codes "中       b" }
+    ensures vertical_tab_and_form_feed { expanded 8 (codes "a\u{b}b\u{c}c") ≡ codes "a b c" }
     ensures white_at_the_end { map (λ l. l.text) (lines_of 8 (codes "a \t\n")) ≡ codes "a" ∷ [] }
+    ensures white_past_ascii_at_the_end { map (λ l. l.text) (lines_of 8 (codes "a\u{3000}\n=\u{2003}\u{a0}\nb\u{1f}"))
+        ≡ codes "a" ∷ codes "=" ∷ codes "b\u{1f}" ∷ [] }
     ensures longer { first_longer 2 (block ("ab" ∷ "abc" ∷ "abcd" ∷ [])) ≡ Some 2 }
     ensures none_longer { first_longer 4 (block ("ab" ∷ "abcd" ∷ [])) ≡ None }
+{}
+
+/// A byte order mark at the beginning of a text (Configuration, 'input_encoding').
+pub fn byte_order_marks()
+    ensures one { without_mark (codes "\u{feff}\u{feff}a") ≡ codes "\u{feff}a" }
+    ensures inside { without_mark (codes "a\u{feff}") ≡ codes "a\u{feff}" }
 {}
 
 /// Names that references are compared by (Markup Specification, 'Reference Names').

@@ -149,8 +149,6 @@ pub fn transitions()
         ("<document>" ∷ "    <section>" ∷ "        <title>" ∷ "        <paragraph>" ∷ "            a" ∷ "        <transition>"
         ∷ "        <system_message level=\"3\" line=\"1\" type=\"ERROR\">" ∷ "            <paragraph>"
         ∷ "                Document may not end with a transition." ∷ []) }
-    ensures in_a_quote { Shows (with_transitions (document_of (element BlockQuote [] (element Transition [] [] ∷ []) ∷ paragraph "a" ∷ [])) (known_from 0 [])).0
-        ("<document>" ∷ "    <block_quote>" ∷ "        <transition>" ∷ "    <paragraph>" ∷ "        a" ∷ []) }
     ensures numbers { map (λ r. r.number) (with_transitions (document_of (element Transition [] [] ∷ element Transition [] [] ∷ [])) (known_from 4 [])).1.reports
         ≡ 4 ∷ 5 ∷ 6 ∷ [] }
 {}

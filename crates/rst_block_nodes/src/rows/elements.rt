@@ -115,8 +115,14 @@ pub fn line_blocks()
         ∷ record { indent = 0; line = 6; text_line = 6; text = codes "d" } ∷ []) 0))
         ("<line_block> 3" ∷ "    <line_block> 3" ∷ "        <line> 3" ∷ "            a" ∷ "        <line_block> 4" ∷ "            <line> 4"
         ∷ "                b" ∷ "        <line> 5" ∷ "            c" ∷ "    <line> 6" ∷ "        d" ∷ []) }
+    ensures deepest_first { Says (read_nodes (line_block 3 (record { indent = 2; line = 3; text_line = 3; text = codes "a" }
+        ∷ record { indent = 1; line = 4; text_line = 4; text = codes "b" } ∷ record { indent = 0; line = 5; text_line = 5; text = codes "c" }
+        ∷ []) 0))
+        ("<line_block> 3" ∷ "    <line_block> 3" ∷ "        <line_block> 3" ∷ "            <line> 3" ∷ "                a" ∷ "        <line> 4"
+        ∷ "            b" ∷ "    <line> 5" ∷ "        c" ∷ []) }
     ensures too_deep { line_block 1 (record { indent = 0; line = 3; text_line = 3; text = codes "a" }
-        ∷ record { indent = 1; line = 4; text_line = 4; text = codes "b" } ∷ []) 0 ≡ Err 4 }
+        ∷ record { indent = 1; line = 4; text_line = 4; text = codes "b" } ∷ record { indent = 1; line = 5; text_line = 5; text = codes "c" }
+        ∷ []) 0 ≡ Err 4 }
     ensures messages { Says (read_nodes (line_block 2 (record { indent = 1; line = 3; text_line = 4; text = codes "*a" }
         ∷ record { indent = 0; line = 5; text_line = 5; text = codes "b" } ∷ []) 7))
         ("<line_block> 3" ∷ "    <line_block> 3" ∷ "        <line text_messages=\"1\"> 3" ∷ "            <problematic message=\"7\"> 4"

@@ -16,6 +16,9 @@ pub fn literals()
         ∷ "    <system_message level=\"1\">" ∷ "        <paragraph>" ∷ "            Possible title underline, too short for the title."
         ∷ "            Treating it as ordinary text because it's so short." ∷ "    <paragraph>" ∷ "        abc"
         ∷ "    <literal_block xml:space=\"preserve\">" ∷ "        d" ∷ []) }
+    ensures all_white_before_the_colons { Reads ("a  ::" ∷ "" ∷ "  b" ∷ "" ∷ "c\u{3000}::" ∷ "" ∷ "  d" ∷ [])
+        ("<document>" ∷ "    <paragraph>" ∷ "        a" ∷ "    <literal_block xml:space=\"preserve\">" ∷ "        b" ∷ "    <paragraph>"
+        ∷ "        c" ∷ "    <literal_block xml:space=\"preserve\">" ∷ "        d" ∷ []) }
     ensures escaped_colons { Reads ("a\\::" ∷ "" ∷ "b\\\\::" ∷ "" ∷ "  c" ∷ [])
         ("<document>" ∷ "    <paragraph>" ∷ "        a::" ∷ "    <paragraph>" ∷ "        b\\:" ∷ "    <literal_block xml:space=\"preserve\">"
         ∷ "        c" ∷ []) }
@@ -153,6 +156,9 @@ pub fn attributions()
     ensures deeper { Reads ("    a" ∷ "" ∷ "    -- b" ∷ "" ∷ "  c" ∷ [])
         ("<document>" ∷ "    <block_quote>" ∷ "        <block_quote>" ∷ "            <paragraph>" ∷ "                a"
         ∷ "            <attribution>" ∷ "                b" ∷ "        <paragraph>" ∷ "            c" ∷ []) }
+    ensures before_a_deeper_text { Reads ("    a" ∷ "" ∷ "    -- b" ∷ "" ∷ "      c" ∷ [])
+        ("<document>" ∷ "    <block_quote>" ∷ "        <paragraph>" ∷ "            a" ∷ "        <attribution>" ∷ "            b"
+        ∷ "    <block_quote>" ∷ "        <block_quote>" ∷ "            <paragraph>" ∷ "                c" ∷ []) }
     ensures in_an_item { Reads ("- a" ∷ "" ∷ "  -- b" ∷ [])
         ("<document>" ∷ "    <bullet_list bullet=\"-\">" ∷ "        <list_item>" ∷ "            <paragraph>" ∷ "                a"
         ∷ "            <paragraph>" ∷ "                -- b" ∷ []) }

@@ -58,6 +58,8 @@ pub fn admonitions()
 pub fn topics()
     ensures one { Reads (".. topic:: A" ∷ "   :class: b" ∷ "" ∷ "   c" ∷ [])
         ("<document>" ∷ "    <topic classes=\"b\">" ∷ "        <title>" ∷ "            A" ∷ "        <paragraph>" ∷ "            c" ∷ []) }
+    ensures without_a_class { Reads (".. topic:: A" ∷ "" ∷ "   b" ∷ [])
+        ("<document>" ∷ "    <topic>" ∷ "        <title>" ∷ "            A" ∷ "        <paragraph>" ∷ "            b" ∷ []) }
     ensures in_an_item { Means ("- .. topic:: A" ∷ "" ∷ "     b" ∷ []) 0
         ("<document> 0" ∷ "    <bullet_list bullet=\"-\"> 1" ∷ "        <list_item> 1" ∷ "            <system_message level=\"3\"> 1"
         ∷ "                <paragraph> 1" ∷ "                    The \"topic\" directive may not be used within topics or body elements."

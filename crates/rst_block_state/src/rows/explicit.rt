@@ -24,6 +24,9 @@ pub fn citations()
         ("<document> 0" ∷ "    <citation own_name=\"ab-1\"> 1" ∷ "        <label> 1" ∷ "            Ab-1" ∷ "        <paragraph> 1"
         ∷ "            c" ∷ "    <citation own_name=\"２\"> 2" ∷ "        <label> 2" ∷ "            ２" ∷ "        <paragraph> 2"
         ∷ "            d" ∷ []) }
+    ensures body_below { Means (".. [A]" ∷ "" ∷ "   b" ∷ []) 0
+        ("<document> 0" ∷ "    <citation own_name=\"a\"> 1" ∷ "        <label> 1" ∷ "            A" ∷ "        <paragraph> 3"
+        ∷ "            b" ∷ []) }
     ensures no_label { Reads (".. [a b] c" ∷ []) ("<document>" ∷ "    <comment xml:space=\"preserve\">" ∷ "        [a b] c" ∷ []) }
 {}
 
@@ -76,16 +79,17 @@ pub fn wrong_substitutions()
         ("<document> 0" ∷ "    <system_message level=\"2\"> 1" ∷ "        <paragraph> 1"
         ∷ "            Substitution definition \"a B\" empty or invalid." ∷ "        <literal_block xml:space=\"preserve\"> 1"
         ∷ "            .. |a  B| c" ∷ []) }
-    ensures other_directive { Reads (".. |a| note:: b" ∷ "" ∷ ".. |c| nope:: d" ∷ [])
-        ("<document>" ∷ "    <system_message level=\"3\">" ∷ "        <paragraph>"
-        ∷ "            Substitution definition \"a\" may hold only image or replace." ∷ "        <literal_block xml:space=\"preserve\">"
-        ∷ "            .. |a| note:: b" ∷ "    <system_message level=\"3\">" ∷ "        <paragraph>"
-        ∷ "            Substitution definition \"c\" may hold only image or replace." ∷ "        <literal_block xml:space=\"preserve\">"
-        ∷ "            .. |c| nope:: d" ∷ []) }
-    ensures anonymous_reference { Reads (".. |a| replace:: b__" ∷ [])
-        ("<document>" ∷ "    <system_message level=\"3\">" ∷ "        <paragraph>"
-        ∷ "            Substitution definition \"a\" contains an illegal element." ∷ "        <literal_block xml:space=\"preserve\">"
-        ∷ "            .. |a| replace:: b__" ∷ []) }
+    ensures other_directive { Means ("x" ∷ "" ∷ ".. |a| note::" ∷ "   b" ∷ "" ∷ ".. |c| nope:: d" ∷ []) 0
+        ("<document> 0" ∷ "    <paragraph> 1" ∷ "        x" ∷ "    <system_message level=\"3\"> 3" ∷ "        <paragraph> 3"
+        ∷ "            Substitution definition \"a\" may hold only image or replace."
+        ∷ "        <literal_block xml:space=\"preserve\"> 3" ∷ "            .. |a| note::" ∷ "               b"
+        ∷ "    <system_message level=\"3\"> 6" ∷ "        <paragraph> 6"
+        ∷ "            Substitution definition \"c\" may hold only image or replace."
+        ∷ "        <literal_block xml:space=\"preserve\"> 6" ∷ "            .. |c| nope:: d" ∷ []) }
+    ensures anonymous_reference { Means ("x" ∷ "" ∷ ".. |a| replace::" ∷ "   b__" ∷ []) 0
+        ("<document> 0" ∷ "    <paragraph> 1" ∷ "        x" ∷ "    <system_message level=\"3\"> 3" ∷ "        <paragraph> 3"
+        ∷ "            Substitution definition \"a\" contains an illegal element."
+        ∷ "        <literal_block xml:space=\"preserve\"> 3" ∷ "            .. |a| replace::" ∷ "               b__" ∷ []) }
     ensures footnote_reference { Reads (".. |c| replace:: [1]_" ∷ [])
         ("<document>" ∷ "    <system_message level=\"3\">" ∷ "        <paragraph>"
         ∷ "            Substitution definition \"c\" contains an illegal element." ∷ "        <literal_block xml:space=\"preserve\">"
@@ -102,14 +106,15 @@ pub fn wrong_substitutions()
         ("<document>" ∷ "    <system_message level=\"3\">" ∷ "        <paragraph>"
         ∷ "            Substitution definition \"i\" contains an illegal element." ∷ "        <literal_block xml:space=\"preserve\">"
         ∷ "            .. |i| replace:: *j" ∷ []) }
-    ensures two_paragraphs { Reads (".. |a| replace:: b" ∷ "" ∷ "   c" ∷ [])
-        ("<document>" ∷ "    <system_message level=\"3\">" ∷ "        <paragraph>" ∷ "            Error in \"replace\" directive:"
-        ∷ "            may contain a single paragraph only." ∷ "        <literal_block xml:space=\"preserve\">"
-        ∷ "            .. |a| replace:: b" ∷ "            " ∷ "               c" ∷ []) }
-    ensures no_replacement { Reads (".. |a| replace::" ∷ [])
-        ("<document>" ∷ "    <system_message level=\"3\">" ∷ "        <paragraph>"
-        ∷ "            Content block expected for the \"replace\" directive; none found." ∷ "        <literal_block xml:space=\"preserve\">"
-        ∷ "            .. |a| replace::" ∷ []) }
+    ensures two_paragraphs { Means ("x" ∷ "" ∷ ".. |a| replace::" ∷ "   b" ∷ "" ∷ "   c" ∷ []) 0
+        ("<document> 0" ∷ "    <paragraph> 1" ∷ "        x" ∷ "    <system_message level=\"3\"> 3" ∷ "        <paragraph> 3"
+        ∷ "            Error in \"replace\" directive:" ∷ "            may contain a single paragraph only."
+        ∷ "        <literal_block xml:space=\"preserve\"> 3" ∷ "            .. |a| replace::" ∷ "               b" ∷ "            "
+        ∷ "               c" ∷ []) }
+    ensures no_replacement { Means ("x" ∷ "" ∷ ".. |a| replace::" ∷ []) 0
+        ("<document> 0" ∷ "    <paragraph> 1" ∷ "        x" ∷ "    <system_message level=\"3\"> 3" ∷ "        <paragraph> 3"
+        ∷ "            Content block expected for the \"replace\" directive; none found."
+        ∷ "        <literal_block xml:space=\"preserve\"> 3" ∷ "            .. |a| replace::" ∷ []) }
     ensures malformed { Means (".. |a" ∷ []) 0
         ("<document> 0" ∷ "    <comment xml:space=\"preserve\"> 1" ∷ "        |a" ∷ "    <system_message level=\"2\"> 1"
         ∷ "        <paragraph> 1" ∷ "            malformed substitution definition." ∷ []) }
@@ -124,10 +129,14 @@ pub fn wrong_substitutions()
         ("<document>" ∷ "    <system_message level=\"3\">" ∷ "        <paragraph>" ∷ "            Error in \"replace\" directive:"
         ∷ "            may contain a single paragraph only." ∷ "        <literal_block xml:space=\"preserve\">"
         ∷ "            .. |c| replace:: ::" ∷ []) }
-    ensures literal_block_in_a_replacement { Reads (".. |d| replace:: e::" ∷ "" ∷ "     f" ∷ [])
+    ensures literal_block_in_a_replacement { Reads (".. |d| replace::" ∷ "   e::" ∷ "" ∷ "     f" ∷ [])
         ("<document>" ∷ "    <system_message level=\"3\">" ∷ "        <paragraph>" ∷ "            Error in \"replace\" directive:"
         ∷ "            may contain a single paragraph only." ∷ "        <literal_block xml:space=\"preserve\">"
-        ∷ "            .. |d| replace:: e::" ∷ "            " ∷ "                 f" ∷ []) }
+        ∷ "            .. |d| replace::" ∷ "               e::" ∷ "            " ∷ "                 f" ∷ []) }
+    ensures quoted_literal_block_in_a_replacement { Reads (".. |a| replace:: e::" ∷ "" ∷ "   > f" ∷ [])
+        ("<document>" ∷ "    <system_message level=\"3\">" ∷ "        <paragraph>" ∷ "            Error in \"replace\" directive:"
+        ∷ "            may contain a single paragraph only." ∷ "        <literal_block xml:space=\"preserve\">"
+        ∷ "            .. |a| replace:: e::" ∷ "            " ∷ "               > f" ∷ []) }
     ensures definition_list_in_a_replacement { Reads (".. |g| replace::" ∷ "   h" ∷ "     i" ∷ [])
         ("<document>" ∷ "    <system_message level=\"3\">" ∷ "        <paragraph>" ∷ "            Error in \"replace\" directive:"
         ∷ "            may contain a single paragraph only." ∷ "        <literal_block xml:space=\"preserve\">"

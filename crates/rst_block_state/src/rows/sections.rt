@@ -22,6 +22,11 @@ pub fn paragraphs()
         ("<document> 0" ∷ "    <paragraph text_messages=\"1\"> 1" ∷ "        a" ∷ "        <problematic message=\"0\"> 1" ∷ "            *"
         ∷ "        b" ∷ "    <system_message level=\"2\" message=\"0\"> 1" ∷ "        <paragraph> 1"
         ∷ "            Inline emphasis start-string without end-string." ∷ "    <paragraph> 4" ∷ "        c" ∷ []) }
+    ensures message_on_a_text_before_an_indented_line { Means ("a" ∷ "*b" ∷ "  c" ∷ []) 1
+        ("<document> 0" ∷ "    <paragraph text_messages=\"1\"> 1" ∷ "        a" ∷ "        <problematic message=\"0\"> 1" ∷ "            *"
+        ∷ "        b" ∷ "    <system_message level=\"2\" message=\"0\"> 1" ∷ "        <paragraph> 1"
+        ∷ "            Inline emphasis start-string without end-string." ∷ "    <system_message level=\"3\"> 3" ∷ "        <paragraph> 3"
+        ∷ "            Unexpected indentation." ∷ "    <block_quote> 3" ∷ "        <paragraph> 3" ∷ "            c" ∷ []) }
     ensures line_ends { Means ("a\tb\r" ∷ "\r" ∷ "-\tc\rd" ∷ []) 0
         ("<document> 0" ∷ "    <paragraph> 1" ∷ "        a       b" ∷ "    <bullet_list bullet=\"-\"> 3" ∷ "        <list_item> 3"
         ∷ "            <paragraph> 3" ∷ "                c" ∷ "    <system_message level=\"2\"> 4" ∷ "        <paragraph> 4"

@@ -139,8 +139,8 @@ pub fn malformed_simple_tables()
         ("<document>" ∷ "    <system_message level=\"3\">" ∷ "        <paragraph>" ∷ "            Malformed table."
         ∷ "            Column span alignment problem in table line 3." ∷ "        <literal_block xml:space=\"preserve\">"
         ∷ "            == ==" ∷ "            a  b" ∷ "            -- -" ∷ "            == ==" ∷ []) }
-    ensures text_in_a_margin { Reads ("== ==" ∷ "abc d" ∷ "== ==" ∷ [])
-        ("<document>" ∷ "    <system_message level=\"3\">" ∷ "        <paragraph>" ∷ "            Malformed table."
-        ∷ "            Text in column margin in table line 2." ∷ "        <literal_block xml:space=\"preserve\">" ∷ "            == =="
-        ∷ "            abc d" ∷ "            == ==" ∷ []) }
+    ensures text_in_a_margin { Means ("x" ∷ "" ∷ "== ==" ∷ "abc d" ∷ "== ==" ∷ []) 0
+        ("<document> 0" ∷ "    <paragraph> 1" ∷ "        x" ∷ "    <system_message level=\"3\"> 3" ∷ "        <paragraph> 3"
+        ∷ "            Malformed table." ∷ "            Text in column margin in table line 2."
+        ∷ "        <literal_block xml:space=\"preserve\"> 3" ∷ "            == ==" ∷ "            abc d" ∷ "            == ==" ∷ []) }
 {}

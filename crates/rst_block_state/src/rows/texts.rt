@@ -128,7 +128,11 @@ pub fn nesting()
     ensures figure { IsTooDeep 1 (".. figure:: a" ∷ "" ∷ "   b" ∷ "" ∷ "   - c" ∷ []) 5 }
     ensures wrong_directive { IsTooDeep 0 (".. note::" ∷ "   :alt: c" ∷ "" ∷ "   x" ∷ "a" ∷ "  b" ∷ []) 6 }
     ensures cell { IsTooDeep 1 ("+-----+" ∷ "| a   |" ∷ "|     |" ∷ "| - b |" ∷ "+-----+" ∷ []) 4 }
+    ensures cells_of_blank_lines { IsTooDeep 0 ("+---+---+" ∷ "|   |   |" ∷ "|   | a |" ∷ "|   |   |" ∷ "+---+---+" ∷ []) 3 }
     ensures line_blocks { IsTooDeep 1 ("| a" ∷ "|  b" ∷ "|   c" ∷ []) 3 }
+    ensures line_blocks_in_an_item { IsTooDeep 2 ("- | a" ∷ "  |  b" ∷ "  |   c" ∷ []) 3 }
     ensures replacement { IsTooDeep 0 (".. |a| replace:: b" ∷ []) 1 }
+    ensures wrong_replacement { IsTooDeep 0 (".. |a| replace:: - b" ∷ "- c" ∷ []) 2 }
+    ensures code { IsTooDeep 0 (".. code::" ∷ "" ∷ "   a" ∷ "- b" ∷ []) 4 }
     ensures in_order { IsTooDeep 1 ("- a" ∷ "" ∷ "  - b" ∷ "" ∷ "- - c" ∷ []) 3 }
 {}

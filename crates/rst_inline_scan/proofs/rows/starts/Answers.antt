@@ -7,9 +7,11 @@ unfolding rst_inline_scan
 returns c = record {
   inside_a_word = refl;
   after_punctuation_past_ascii = refl;
+  beside_white_past_ascii = refl;
   before_white = refl;
   quoted = refl;
   quoted_after_a_quoted = refl;
+  quoted_past_ascii = refl;
   other_bracket = refl;
   quoted_role = refl;
   escaped = refl;

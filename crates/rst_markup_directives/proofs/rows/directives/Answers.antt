@@ -10,5 +10,6 @@ returns c = record {
   late_code = refl;
   code_in_the_next_line = refl;
   content_of_an_image = refl;
+  argument_before_content = refl;
   options_before_content = refl;
 }

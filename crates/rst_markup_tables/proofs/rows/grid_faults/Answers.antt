@@ -12,6 +12,8 @@ returns c = record {
   wide_space = refl;
   open_line = refl;
   two_head_rules = refl;
+  three_head_rules = refl;
+  head_rules_below_a_text = refl;
   no_tiling = refl;
   bent_cells = refl;
 }

@@ -17,4 +17,5 @@ returns c = record {
   wide_character = refl;
   wide_space = refl;
   no_break_space = refl;
+  no_break_space_in_the_margin = refl;
 }

@@ -15,6 +15,5 @@ returns c = record {
   at_the_end_of_a_section = refl;
   out_of_two_sections = refl;
   last_in_the_last_section = refl;
-  in_a_quote = refl;
   numbers = refl;
 }

@@ -7,6 +7,7 @@ unfolding rst_block_nodes
 returns c = record {
   level = refl;
   nested = refl;
+  deepest_first = refl;
   too_deep = refl;
   messages = refl;
 }

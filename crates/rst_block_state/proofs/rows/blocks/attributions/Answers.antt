@@ -12,6 +12,7 @@ returns c = record {
   before_a_text = refl;
   message = refl;
   deeper = refl;
+  before_a_deeper_text = refl;
   in_an_item = refl;
   after_another = refl;
 }

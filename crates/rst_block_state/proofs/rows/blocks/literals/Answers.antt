@@ -8,6 +8,7 @@ returns c = record {
   indented = refl;
   colons_alone = refl;
   white_before_the_colons = refl;
+  all_white_before_the_colons = refl;
   escaped_colons = refl;
   no_markup = refl;
   without_a_blank_line = refl;

@@ -6,6 +6,7 @@ pub returns : goal.returns
 unfolding rst_block_state
 returns c = record {
   one = refl;
+  without_a_class = refl;
   in_an_item = refl;
   in_an_item_without_content = refl;
 }

@@ -6,5 +6,6 @@ pub returns : goal.returns
 unfolding rst_block_state
 returns c = record {
   one = refl;
+  body_below = refl;
   no_label = refl;
 }

@@ -19,6 +19,7 @@ returns c = record {
   list_in_a_replacement = refl;
   colons_in_a_replacement = refl;
   literal_block_in_a_replacement = refl;
+  quoted_literal_block_in_a_replacement = refl;
   definition_list_in_a_replacement = refl;
   white_after_the_bar = refl;
   wrong_image = refl;

@@ -11,5 +11,6 @@ returns c = record {
   tab = refl;
   unexpected_indentation = refl;
   message_on_a_text = refl;
+  message_on_a_text_before_an_indented_line = refl;
   line_ends = refl;
 }

@@ -20,7 +20,11 @@ returns c = record {
   figure = refl;
   wrong_directive = refl;
   cell = refl;
+  cells_of_blank_lines = refl;
   line_blocks = refl;
+  line_blocks_in_an_item = refl;
   replacement = refl;
+  wrong_replacement = refl;
+  code = refl;
   in_order = refl;
 }
