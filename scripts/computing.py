@@ -12,6 +12,7 @@ TOP = pathlib.Path(__file__).resolve().parent.parent
 KIT = {
     "std": ["lib.Utf8.encode", "Rattle.std.specs.Fmt.digits"],
     **{library: [f"Rattle.{library}.proofs.Computing.{library}"] for library in ("ucd_case", "ucd_category", "unicode_width", "unicode_normalization")},
+    "clap": ["Rattle.clap.proofs.OnLiterals.clap_on_literals"],
 }
 # the further names of `std` that the definitions of a crate go through
 FURTHER = {
@@ -102,7 +103,7 @@ def main():
     stale = []
     for line in (TOP / "crates.txt").read_text().splitlines():
         crate, _, libraries = line.split("#")[0].partition(":")
-        for path, text in written(crate.strip(), libraries.split()):
+        for path, text in written(crate.split(" ")[0], libraries.split()):
             if not check:
                 path.parent.mkdir(parents=True, exist_ok=True)
                 path.write_text(text)
