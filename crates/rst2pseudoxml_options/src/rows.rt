@@ -44,7 +44,7 @@ pub fn forms()
     ensures upper_case_name { Fails ("--Verbose" ∷ []) Usage }
 {}
 
-/// SOURCE, and `--`, after which only SOURCE may stand (The command line, 'Options').
+/// SOURCE, and `--`, which only SOURCE may follow (The command line, 'Options').
 pub fn sources()
     ensures alone { Names ("a.rst" ∷ []) "a.rst" }
     ensures after_hyphens { Names ("--" ∷ "a.rst" ∷ []) "a.rst" }

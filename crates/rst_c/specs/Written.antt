@@ -18,6 +18,6 @@ usual_options = record {
   unused = 0 ∷ 0 ∷ [];
 }
 
--- a tree, or what stands for it, and messages were made, with this exit status
+-- a tree, JSON or records, and messages were made, with this exit status
 abbrev pub made : String → String → ℕ → Wanted
 made tree messages status = Ok (record { out = codes tree; err = codes messages; status = status })

@@ -43,7 +43,7 @@ pub fn settings()
     ensures no_doc_info { Sets (record usual_options { no_doc_info = 1; line_length_limit = 1000 }) (record usual { info = false }) }
 {}
 
-/// What is told of each end (Header, 'rst_end').
+/// The result of each end (Header, 'rst_end').
 pub fn ends()
     ensures done { answer_of (made "abc" "de" 12) ≡ record { end = 0; status = 12; at = 0; length = 3; messages = 2 } }
     ensures halted { answer_of (made "" "a" 1) ≡ record { end = 0; status = 1; at = 0; length = 0; messages = 1 } }
@@ -116,4 +116,18 @@ pub fn messages()
     ensures halting { parts_as MessagesJson (record usual { report = threshold.Never; halt = threshold.Warning })
         (Element tag.Document [] bare 0, record { level = level.Warning; line = 1; text = codes "a"; block = None } ∷ [])
         ≡ record { out = codes "[{\"line\":1,\"level\":2,\"type\":\"WARNING\",\"text\":\"a\"}]"; err = []; status = 1 } }
+{}
+
+/// What is printed of a text, and what is where a message halts the run (Header, 'rst_print').
+pub fn prints()
+    ensures tree { print_wanted (Some usual) (codes "x") (codes "a\n") ≡ made "<document source=\"x\">\n    <paragraph>\n        a\n" "" 0 }
+    ensures halted { print_wanted (Some (record usual { halt = threshold.Warning })) (codes "x") (codes "*a")
+        ≡ made "" "x:1: (WARNING/2) Inline emphasis start-string without end-string.\nExiting due to level-2 (WARNING) system message.\n" 1 }
+{}
+
+/// What each form shows of a text (Header, 'rst_json').
+pub fn texts()
+    ensures json { form_wanted DocumentJson (Some usual) (codes "a\n") ≡ made "[\"document\",0,{},[\"paragraph\",1,{},\"a\"]]" "" 0 }
+    ensures messages { form_wanted MessagesJson (Some usual) (codes "*a")
+        ≡ made "[{\"line\":1,\"level\":2,\"type\":\"WARNING\",\"text\":\"Inline emphasis start-string without end-string.\"}]" "" 0 }
 {}

@@ -14,7 +14,7 @@ ghost use Rattle.rst_tree.specs.declared.node.Node.TheVariants.{Element, Text as
 ghost use Rattle.rst_tree.specs.declared.note.Level.TheVariants as level;
 ghost use Rattle.rst_tree.specs.declared.tag.Tag.TheVariants as tag;
 
-/// Strings: what is written behind a backslash, and what stands as it is (JSON, 'Strings').
+/// Strings: what is written after a backslash, and what stays as it is (JSON, 'Strings').
 pub fn strings()
     ensures plain { json_string (codes "a b") ≡ codes "\"a b\"" }
     ensures empty { json_string [] ≡ codes "\"\"" }

@@ -50,7 +50,7 @@ pub fn refusals()
     ensures two { reads (codes "\"a\",\"b\"") ≡ None }
 {}
 
-/// Strings that are read: also what may stand behind a backslash and never does here (JSON, 'Strings').
+/// Strings that are read, also with escapes that no JSON of a tree has (JSON, 'Strings').
 pub fn strings()
     ensures quote_and_backslash { reads (codes "\"a\\\"b\\\\\"") ≡ Some (Words (codes "a\"b\\")) }
     ensures line_end { reads (codes "\"a\\nb\"") ≡ Some (Words (codes "a\nb")) }
