@@ -12,6 +12,7 @@ TOP = pathlib.Path(__file__).resolve().parent.parent
 KIT = {
     "std": ["lib.Utf8.encode", "Rattle.std.specs.Fmt.digits"],
     **{library: [f"Rattle.{library}.proofs.Computing.{library}"] for library in ("ucd_case", "ucd_category", "unicode_width", "unicode_normalization")},
+    "clap": ["Rattle.clap.proofs.OnLiterals.clap_on_literals"],
 }
 # the further names of `std` that the definitions of a crate go through
 FURTHER = {
@@ -58,8 +59,18 @@ def text_of(crate, libraries):
     )
 
 
-def computed(clause):
+def records(crate):
+    """The fields of each record of equations in the definitions of a crate, by its name."""
+    for path in sorted((TOP / "crates" / crate / "specs").glob("*.antt")):
+        for name, fields in re.findall(r"^pub record (\w+) .*where\n((?:  .*\n)+)", path.read_text(), re.M):
+            yield name, re.findall(r"^  pub (\w+) :", fields, re.M)
+
+
+def computed(clause, equations):
     """The proof of a clause: each of the equations that it joins holds by computing, for all values that it begins with."""
+    named = equations.get(re.match(r"\{ (\w*)", clause)[1])
+    if named:
+        return f"record {{ {'; '.join(f'{field} = refl' for field in named)} }}"
     values = "".join(f"λ {name}. " for name in re.findall(r"(?:^\{|→) \((\w+) : \w+\)(?= →)", clause))
     joined = clause.count("\n        × ")
     return values + (f"({', '.join(['refl'] * (joined + 1))})" if joined else "refl")
@@ -67,6 +78,7 @@ def computed(clause):
 
 def answers(crate):
     """The proofs of a crate's worked examples, each with its path."""
+    equations = dict(records(crate))
     sources = TOP / "crates" / crate / "src"
     proofs = TOP / "crates" / crate / "proofs"
     for path in sorted([*sources.glob("rows.rt"), *sources.glob("rows/*.rt")]):
@@ -81,7 +93,7 @@ def answers(crate):
                 "pub returns : goal.returns",
                 f"unfolding {crate}",
                 "returns c = record {",
-                *(f"  {clause} = {computed(text)};" for clause, text in re.findall(r"^    ensures (\w+) (.*?)(?=^    ensures|\Z)", clauses, re.M | re.S)),
+                *(f"  {clause} = {computed(text, equations)};" for clause, text in re.findall(r"^    ensures (\w+) (.*?)(?=^    ensures|\Z)", clauses, re.M | re.S)),
                 "}",
                 "",
             ]
@@ -102,7 +114,7 @@ def main():
     stale = []
     for line in (TOP / "crates.txt").read_text().splitlines():
         crate, _, libraries = line.split("#")[0].partition(":")
-        for path, text in written(crate.strip(), libraries.split()):
+        for path, text in written(crate.split(" ")[0], libraries.split()):
             if not check:
                 path.parent.mkdir(parents=True, exist_ok=True)
                 path.write_text(text)

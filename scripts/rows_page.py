@@ -1,7 +1,7 @@
 #!/usr/bin/env python3
 """Prints the worked examples that are theorems, as a page: the clauses of the functions in crates/*/src/rows.rt and src/rows/. With --check it prints
 nothing, and fails if a function's comment doesn't end with the section of the standard that its rows are of, as (Markup Specification, 'Bullet
-Lists')."""
+Lists'), or with that of a page of this repository."""
 
 import pathlib
 import re
@@ -17,8 +17,11 @@ Where two trees are given, the second is what is printed on standard error. `Out
 a document is the one before the transforms: titles are sections, and references aren't resolved yet. Where the count of messages on texts is
 given, the tree has all attributes, also those that only the transforms read, and each element's line. An example of a single definition is its
 clause.
+
+The last sections aren't of the standard: those of [the command line](profile/options.md), of [JSON](JSON.md), of [records](RECORDS.md) and of the
+[header](../include/rst2pseudoxml.h) of the library for C.
 """
-# the documents of the standard, each with its sections in their order
+# the documents, each with its sections in their order: those of the standard first
 SECTIONS = {
     "Markup Specification": """Whitespace; Indentation; Escaping Mechanism; Reference Names; Document; Document Title; Sections; Transitions;
         Body Elements; Paragraphs; Bullet Lists; Enumerated Lists; Definition Lists; Field Lists; Bibliographic Fields; Option Lists; Literal Blocks;
@@ -32,6 +35,11 @@ SECTIONS = {
     "Roles": "Standard Roles",
     "Document Tree": "Element Reference; Attribute Reference",
     "Configuration": "docinfo_xform; doctitle_xform; halt_level; input_encoding; line_length_limit; report_level",
+    # pages of this repository, and its header
+    "The command line": "Options; Faults",
+    "JSON": "The document; The messages; Strings",
+    "Records": "Nodes and attributes",
+    "Header": "rst_options; rst_end; rst_print; rst_json; rst_messages",
 }
 ORDER = [(document, section) for document, sections in SECTIONS.items() for section in re.split(r";\s+", sections)]
 FUNCTION = re.compile(r"((?:^///.*\n)+)pub fn (\w+)\(\)\n((?:    .*\n)+)\{\}", re.M)
@@ -73,7 +81,7 @@ def shown(name, clause):
 def functions():
     """Of each function of rows: its section, its name, its comment, and its clauses."""
     for line in (TOP / "crates.txt").read_text().splitlines():
-        crate = line.split(":")[0].strip()
+        crate = re.split("[ :]", line)[0]
         folder = TOP / "crates" / crate / "src"
         for path in [folder / "rows.rt", *sorted(folder.glob("rows/*.rt"))]:
             if path.exists():
@@ -89,7 +97,7 @@ def page():
     for name, comment, clauses in functions():
         section = SECTION.search(comment)
         if not section or section.groups() not in groups:
-            sys.exit(f"{name}: its comment names no section of the standard: {comment}")
+            sys.exit(f"{name}: its comment names no section of a document: {comment}")
         groups[section.groups()].append((name, SECTION.sub("", comment).replace(" .", "."), clauses))
         count += len(clauses)
     lines = [OPENING, f"{count} theorems."]

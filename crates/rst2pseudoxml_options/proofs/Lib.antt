@@ -1,3 +1,4 @@
+pub mod Computing
 pub mod CommandLemmas
 pub mod OptionsLemmas
 pub mod ValuesLemmas

@@ -1,3 +1,4 @@
 pub mod Command
 pub mod Values
 pub mod Options
+pub mod Written

@@ -8,6 +8,7 @@ mod choice;
 mod command;
 mod fault;
 mod found;
+pub mod rows;
 mod values;
 
 use choice::choice_of;

@@ -7,7 +7,8 @@ unfolding
     Rattle.rst_markup_blocks.proofs.Computing.rst_markup_blocks Rattle.rst_markup_directives.proofs.Computing.rst_markup_directives
     Rattle.rst_markup_tables.proofs.Computing.rst_markup_tables Rattle.rst_block_nodes.proofs.Computing.rst_block_nodes
     Rattle.rst_block_state.proofs.Computing.rst_block_state Rattle.rst_transform.proofs.Computing.rst_transform
-    Rattle.rst_transform_work.proofs.Computing.rst_transform_work Rattle.rst_transform_substitutions.proofs.Computing.rst_transform_substitutions
+    Rattle.rst2pseudoxml_options.proofs.Computing.rst2pseudoxml_options Rattle.rst_transform_work.proofs.Computing.rst_transform_work
+    Rattle.rst_transform_substitutions.proofs.Computing.rst_transform_substitutions
     Rattle.rst_transform_references.proofs.Computing.rst_transform_references Rattle.rst_transform_structure.proofs.Computing.rst_transform_structure
     Rattle.rst_transform_docinfo.proofs.Computing.rst_transform_docinfo Rattle.rst_transform_messages.proofs.Computing.rst_transform_messages
     Rattle.rst_transform_names.proofs.Computing.rst_transform_names Rattle.rst2pseudoxml_run.specs.CodeCalls.begins_call

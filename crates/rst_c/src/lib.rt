@@ -8,6 +8,7 @@ ghost use Rattle.rst_c.specs.declared.document.Form.TheVariants.{DocumentJson, D
 mod answer;
 mod document;
 mod options;
+pub mod rows;
 
 use answer::{RstResult, tell};
 use document::{Form, formed, printed};

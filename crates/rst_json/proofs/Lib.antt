@@ -1,3 +1,4 @@
+pub mod Computing
 pub mod JsonLemmas
 pub mod NameLemmas
 pub mod ReaderLemmas

@@ -1,3 +1,4 @@
 pub mod Json
 pub mod Reader
 pub mod Records
+pub mod Written

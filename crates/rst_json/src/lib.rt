@@ -6,6 +6,7 @@ pub mod laws;
 mod list;
 mod message;
 mod record;
+pub mod rows;
 mod string;
 
 pub use element::put_node;

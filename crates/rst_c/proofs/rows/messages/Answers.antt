@@ -1,0 +1,11 @@
+use Rattle.std.proofs.Common.{refl}
+use Rattle.rst_c.proofs.Computing.{rst_c}
+use Rattle.rst_c.proofs.rows.messages.Goals as goal
+
+pub returns : goal.returns
+unfolding rst_c
+returns c = record {
+  none = refl;
+  reported = refl;
+  halting = refl;
+}

@@ -1,0 +1,10 @@
+use Rattle.std.proofs.Common.{refl}
+use Rattle.rst_c.proofs.Computing.{rst_c}
+use Rattle.rst_c.proofs.rows.prints.Goals as goal
+
+pub returns : goal.returns
+unfolding rst_c
+returns c = record {
+  tree = refl;
+  halted = refl;
+}

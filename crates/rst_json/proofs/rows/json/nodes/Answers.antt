@@ -1,0 +1,14 @@
+use Rattle.std.proofs.Common.{refl}
+use Rattle.rst_json.proofs.Computing.{rst_json}
+use Rattle.rst_json.proofs.rows.json.nodes.Goals as goal
+
+pub returns : goal.returns
+unfolding rst_json
+returns c = record {
+  text = refl;
+  document = refl;
+  without_nodes = refl;
+  with_a_text = refl;
+  nodes = refl;
+  nested = refl;
+}

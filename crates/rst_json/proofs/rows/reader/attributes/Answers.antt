@@ -1,0 +1,10 @@
+use Rattle.std.proofs.Common.{refl}
+use Rattle.rst_json.proofs.Computing.{rst_json}
+use Rattle.rst_json.proofs.rows.reader.attributes.Goals as goal
+
+pub returns : goal.returns
+unfolding rst_json
+returns c = record {
+  text = refl;
+  list = refl;
+}
