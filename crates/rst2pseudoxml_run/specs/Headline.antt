@@ -1,8 +1,6 @@
 -- What a run does to its reader and its writers.
-use Rattle.std.specs.Prelude.{◌≡◌, ◌⊎◌, ℕ, ◌+◌, ◌<◌, ◌≤◌, true, false, List, length, take, Option, None, Some, Result, Ok, Err, Vec}
-use Rattle.std.specs.List.{concat}
-use Rattle.rst_text.specs.declared.counted.Counted.{Counted}
-use Rattle.rst_text.specs.Counted.{inner_of, has_failed, between, Stream, Untouched, Gains, HandsOut, IsReadOut, IsCutShort, Written}
+use Rattle.std.specs.Prelude.{◌≡◌, ◌⊎◌, ℕ, ◌+◌, ◌<◌, ◌≤◌, true, false, List, length, Option, None, Some, Result, Ok, Err, Vec}
+use Rattle.rst_text.specs.Counted.{Stream, Untouched, Gains, HandsOut, IsReadOut, IsCutShort}
 use Rattle.rst2pseudoxml_run.specs.declared.end.End.{End}
 use Rattle.rst2pseudoxml_run.specs.declared.end.End.TheVariants.{Done, Read, TooLong, NotUtf8, NoMemory, WriteErr, WriteOut, TooDeep}
 use Rattle.rst_tree.specs.Faults.{CutShort}
@@ -57,15 +55,6 @@ pub data ReadsOn {R : Type 0} (Gives : R → Option ℕ → List ℕ → R → T
   enough : {came : ℕ} {r : R} → ReadsOn Gives came r r
   some : {came n : ℕ} {buf : List ℕ} {r r' r'' : R} → came ≤ 16777216 → 0 < n → Gives r (Some n) buf r' → ReadsOn Gives (came + n) r' r'' → ReadsOn Gives came r r''
   last : {came : ℕ} {buf : List ℕ} {r r' : R} → came ≤ 16777216 → Gives r None buf r' ⊎ Gives r (Some 0) buf r' → ReadsOn Gives came r r'
-
--- A text is written to a writer, as some pieces: all of the text, or its first bytes, up to a call that fails.
-pub record IsSent {W : Type 0} (Takes : W → Option ℕ → List ℕ → W → Type 0) (contents : W → Option (List ℕ)) (old new : Counted W) (text : List ℕ) : Type 0 where
-  pub pieces : List (List ℕ)
-  pub taken : ℕ
-  pub are_pieces : concat pieces ≡ text
-  pub calls : Written Takes (inner_of old) pieces (inner_of new) taken
-  pub gained : Gains (between contents old new) (take taken text)
-  pub whole : has_failed new ≡ false → taken ≡ length text
 
 -- No call is made of a writer to which nothing is to be written: of neither where the run was refused or memory ran out, and not of standard
 -- output where a message halts the run, as its status 1 says, or a write to standard error failed.

@@ -1,6 +1,6 @@
 //! The line by which a fault is reported.
 ghost use Rattle.std.specs.Prelude.{◌≡◌, ◌++◌, decimal, flat_map};
-ghost use Rattle.rst2pseudoxml_run.specs.Headline.{IsSent};
+ghost use Rattle.rst_text.specs.Counted.{IsSent};
 ghost use Rattle.rst2pseudoxml_run.specs.Report.{line_of, status_of, option_message, fault_line};
 
 use crate::end::End;

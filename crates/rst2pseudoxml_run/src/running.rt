@@ -1,9 +1,9 @@
 //! A run from a reader to two writers.
 ghost use Rattle.std.specs.Prelude.{◌≡◌, ◌≤◌, ℕ, false, List};
 ghost use Rattle.rst_settings.specs.Profile.{profile_of};
-ghost use Rattle.rst_text.specs.Counted.{inner_of, has_failed, between};
+ghost use Rattle.rst_text.specs.Counted.{inner_of, has_failed, between, IsSent};
 ghost use Rattle.rst_transform_messages.specs.Messages.{highest_level};
-ghost use Rattle.rst2pseudoxml_run.specs.Headline.{Headline, Shows, ReadsOn, IsSent, IsQuiet};
+ghost use Rattle.rst2pseudoxml_run.specs.Headline.{Headline, Shows, ReadsOn, IsQuiet};
 ghost use Rattle.rst2pseudoxml_run.specs.Shown.{parts_of, result_of};
 
 use crate::document::document_of;
@@ -21,7 +21,7 @@ use std::mem;
 ///
 /// Where the input is refused nothing is written. After a failed write the writer holds the front of its part that it
 /// had taken, each byte once, and standard output holds nothing if standard error failed. No read is made once more than
-/// 16,777,216 bytes have come, and no write of an empty text.
+/// 16,777,216 bytes have come. No write is of an empty text, and none follows one that failed.
 pub fn run<R: ReadCall, O: WriteCall, E: WriteCall>(
     alloc: Global,
     settings: &Settings,
@@ -39,6 +39,7 @@ pub fn run<R: ReadCall, O: WriteCall, E: WriteCall>(
         (between O.contents out.old out.new)
         (between E.contents err.old err.new) result }
     ensures reads { ReadsOn R.call_gives 0 (inner_of input.old) (inner_of input.new) }
+    ensures out { (text : List ℕ) × IsSent O.call_takes O.contents out.old out.new text }
     ensures err { (text : List ℕ) × IsSent E.call_takes E.contents err.old err.new text }
     ensures quiet { IsQuiet result (out.new ≡ out.old) (err.new ≡ err.old) }
 {
@@ -77,6 +78,7 @@ pub fn show<O: WriteCall, E: WriteCall>(
     ensures shows { Shows (parts_of settings.now source.now finished.now.tree finished.now.notes.items)
         (between O.contents out.old out.new)
         (between E.contents err.old err.new) result }
+    ensures out { (text : List ℕ) × IsSent O.call_takes O.contents out.old out.new text }
     ensures err { (text : List ℕ) × IsSent E.call_takes E.contents err.old err.new text }
     ensures quiet { IsQuiet result (out.new ≡ out.old) (err.new ≡ err.old) }
 {

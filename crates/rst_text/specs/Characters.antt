@@ -24,8 +24,6 @@ is_alphanumeric c = in_group Letter (general_category c) || in_group Number (gen
 unfoldable pub columns : List ℕ → ℕ
 columns text = str_width false text
 
--- ---- places: a text is the list of its characters, and a place in it is a number from 0
-
 -- a text is the list of its characters; a place in it is a number from 0
 abbrev pub Text : Type 0
 Text = List ℕ

@@ -1,5 +1,6 @@
 -- What the calls of a reader or a writer that keeps whether it failed do. No rule of markup: they bring the bytes in and out.
 use Rattle.std.specs.Prelude.{◌≡◌, ◌⊎◌, ℕ, ◌+◌, ◌<◌, ◌≤◌, Bool, true, false, List, [], ◌∷◌, length, take, drop, Option, None, Some, Result, Ok, Err}
+use Rattle.std.specs.List.{concat}
 use Rattle.std.specs.Io.KnownBytes.{Keeps, Appends, Consumes, IsAtEnd}
 use Rattle.rst_text.specs.declared.counted.Counted.{Counted}
 
@@ -77,3 +78,12 @@ pub data Written {W : Type 0} (Takes : W → Option ℕ → List ℕ → W → T
       → 0 < n → n ≤ length piece → Takes w (Some n) piece w' → Written Takes w' (drop n piece ∷ pieces) w'' taken → Written Takes w (piece ∷ pieces) w'' (n + taken)
   last : {w w' : W} {piece : List ℕ} {pieces : List (List ℕ)}
       → 0 < length piece → WriteIsToldBy (λ answer. Takes w answer piece w') None piece → Written Takes w (piece ∷ pieces) w' 0
+
+-- A text is written to a writer, as some pieces: all of the text, or its first bytes, up to a call that fails.
+pub record IsSent {W : Type 0} (Takes : W → Option ℕ → List ℕ → W → Type 0) (contents : W → Option (List ℕ)) (old new : Counted W) (text : List ℕ) : Type 0 where
+  pub pieces : List (List ℕ)
+  pub taken : ℕ
+  pub are_pieces : concat pieces ≡ text
+  pub calls : Written Takes (inner_of old) pieces (inner_of new) taken
+  pub gained : Gains (between contents old new) (take taken text)
+  pub whole : has_failed new ≡ false → taken ≡ length text

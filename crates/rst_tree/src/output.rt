@@ -22,12 +22,11 @@ use crate::tag::Tag;
 use crate::text::Text;
 use itoa::Buffer;
 use memchr::memchr;
-use rst_text::Counted;
-use std::io::Write;
+use rst_text::{Counted, WriteCall};
 
 /// Writes a number in decimal digits.
-fn put_number<W: Write, const N: usize>(out: &mut Counted<W>, page: &mut Page<N>, number: u64)
-    ensures { Sends W.contents (decimal number) out.old page.old out.new page.new }
+fn put_number<W: WriteCall, const N: usize>(out: &mut Counted<W>, page: &mut Page<N>, number: u64)
+    ensures { Sends W.call_takes W.contents (decimal number) out.old page.old out.new page.new }
 {
     let mut buffer = Buffer::new();
     let digits = buffer.format(number);
@@ -49,8 +48,8 @@ fn has_escaped(text: &[u8]) -> bool
 
 /// Writes a member of a list, in which a backslash stands before a space and before a backslash. Mostly it has none, and is written
 /// at once.
-fn put_escaped<W: Write, const N: usize>(out: &mut Counted<W>, page: &mut Page<N>, text: &[u8])
-    ensures { Sends W.contents (escaped text.now) out.old page.old out.new page.new }
+fn put_escaped<W: WriteCall, const N: usize>(out: &mut Counted<W>, page: &mut Page<N>, text: &[u8])
+    ensures { Sends W.call_takes W.contents (escaped text.now) out.old page.old out.new page.new }
 {
     if !has_escaped(text) {
         page.put(out, text);
@@ -66,8 +65,8 @@ fn put_escaped<W: Write, const N: usize>(out: &mut Counted<W>, page: &mut Page<N
 }
 
 /// Writes the members of a list, parted by spaces.
-fn put_texts<W: Write, const N: usize>(out: &mut Counted<W>, page: &mut Page<N>, texts: &[Text])
-    ensures { Sends W.contents (spaced texts.now) out.old page.old out.new page.new }
+fn put_texts<W: WriteCall, const N: usize>(out: &mut Counted<W>, page: &mut Page<N>, texts: &[Text])
+    ensures { Sends W.call_takes W.contents (spaced texts.now) out.old page.old out.new page.new }
 {
     if let [first, rest @ ..] = texts {
         put_escaped(out, page, first.as_bytes());
@@ -79,8 +78,12 @@ fn put_texts<W: Write, const N: usize>(out: &mut Counted<W>, page: &mut Page<N>,
 }
 
 /// Writes a value.
-fn put_value<W: Write, const N: usize>(out: &mut Counted<W>, page: &mut Page<N>, value: Said<'_>)
-    ensures { Sends W.contents (value_text (said value.entry)) out.old page.old out.new page.new }
+fn put_value<W: WriteCall, const N: usize>(
+    out: &mut Counted<W>,
+    page: &mut Page<N>,
+    value: Said<'_>,
+)
+    ensures { Sends W.call_takes W.contents (value_text (said value.entry)) out.old page.old out.new page.new }
 {
     match value {
         Said::Text(text) => page.put(out, text.as_bytes()),
@@ -91,7 +94,7 @@ fn put_value<W: Write, const N: usize>(out: &mut Counted<W>, page: &mut Page<N>,
 
 /// Writes the attributes that an element is printed with: a document has its source too, a message its line, its source and its type
 /// (Document Tree, `source` and `system_message`).
-fn put_printed_attrs<W: Write, const N: usize>(
+fn put_printed_attrs<W: WriteCall, const N: usize>(
     out: &mut Counted<W>,
     page: &mut Page<N>,
     tag: Tag,
@@ -99,7 +102,7 @@ fn put_printed_attrs<W: Write, const N: usize>(
     line: usize,
     source: Option<&str>,
 )
-    ensures { Sends W.contents (flat_map shown_attr (printed_attrs (given source.entry) tag attrs.now line)) out.old page.old out.new page.new }
+    ensures { Sends W.call_takes W.contents (flat_map shown_attr (printed_attrs (given source.entry) tag attrs.now line)) out.old page.old out.new page.new }
 {
     match tag {
         Tag::Document => put_source_and_type(out, page, attrs.as_slice(), source, None),
@@ -116,14 +119,14 @@ fn put_printed_attrs<W: Write, const N: usize>(
 }
 
 /// Writes the attributes with the source, if one is given, and the type of the level that has a number, if one is said.
-fn put_source_and_type<W: Write, const N: usize>(
+fn put_source_and_type<W: WriteCall, const N: usize>(
     out: &mut Counted<W>,
     page: &mut Page<N>,
     attrs: &[Entry],
     source: Option<&str>,
     level: Option<u64>,
 )
-    ensures { Sends W.contents (flat_map shown_attr (with_type level (with_source (given source.entry) attrs.now))) out.old page.old out.new page.new }
+    ensures { Sends W.call_takes W.contents (flat_map shown_attr (with_type level (with_source (given source.entry) attrs.now))) out.old page.old out.new page.new }
 {
     match source {
         None => put_with_type(out, page, attrs, level),
@@ -136,13 +139,13 @@ fn put_source_and_type<W: Write, const N: usize>(
 }
 
 /// Writes the attributes with the type of the level that has a number, if one is said.
-fn put_with_type<W: Write, const N: usize>(
+fn put_with_type<W: WriteCall, const N: usize>(
     out: &mut Counted<W>,
     page: &mut Page<N>,
     attrs: &[Entry],
     level: Option<u64>,
 )
-    ensures { Sends W.contents (flat_map shown_attr (with_type level attrs.now)) out.old page.old out.new page.new }
+    ensures { Sends W.call_takes W.contents (flat_map shown_attr (with_type level attrs.now)) out.old page.old out.new page.new }
 {
     match level {
         None => put_attrs(out, page, attrs),
@@ -156,13 +159,13 @@ fn put_with_type<W: Write, const N: usize>(
 
 /// Writes the first attributes, whose names come before the name of one that is added, and gives those after it. One of that name isn't
 /// among them: the added one takes its place.
-fn put_before<'a, W: Write, const N: usize>(
+fn put_before<'a, W: WriteCall, const N: usize>(
     out: &mut Counted<W>,
     page: &mut Page<N>,
     attrs: &'a [Entry],
     key: Key,
 ) -> &'a [Entry]
-    ensures sent { Sends W.contents (flat_map shown_attr (before key attrs.now)) out.old page.old out.new page.new }
+    ensures sent { Sends W.call_takes W.contents (flat_map shown_attr (before key attrs.now)) out.old page.old out.new page.new }
     ensures rest { result.now ≡ behind key attrs.now }
 {
     let place = place_of(attrs, key);
@@ -174,14 +177,14 @@ fn put_before<'a, W: Write, const N: usize>(
 }
 
 /// Writes an attribute that says a text and doesn't serve the transforms alone.
-fn put_text_attr<W: Write, const N: usize>(
+fn put_text_attr<W: WriteCall, const N: usize>(
     out: &mut Counted<W>,
     page: &mut Page<N>,
     key: Key,
     text: &str,
 )
     requires { is_hidden key ≡ false }
-    ensures { Sends W.contents (shown_attr (attr key (Words text.now))) out.old page.old out.new page.new }
+    ensures { Sends W.call_takes W.contents (shown_attr (attr key (Words text.now))) out.old page.old out.new page.new }
 {
     page.put(out, key.opening().as_bytes());
     page.put(out, text.as_bytes());
@@ -189,8 +192,12 @@ fn put_text_attr<W: Write, const N: usize>(
 }
 
 /// Writes the attributes that are shown.
-fn put_attrs<W: Write, const N: usize>(out: &mut Counted<W>, page: &mut Page<N>, attrs: &[Entry])
-    ensures { Sends W.contents (flat_map shown_attr attrs.now) out.old page.old out.new page.new }
+fn put_attrs<W: WriteCall, const N: usize>(
+    out: &mut Counted<W>,
+    page: &mut Page<N>,
+    attrs: &[Entry],
+)
+    ensures { Sends W.call_takes W.contents (flat_map shown_attr attrs.now) out.old page.old out.new page.new }
 {
     for attr in attrs {
         if attr.is_left_out() {
@@ -209,8 +216,8 @@ const LEVELS: usize = 256;
 const SPACES: [u8; 1024] = [b' '; 1024];
 
 /// Writes the indentation of a level.
-fn put_indent<W: Write, const N: usize>(out: &mut Counted<W>, page: &mut Page<N>, level: usize)
-    ensures { Sends W.contents (replicate (4 * level) 32) out.old page.old out.new page.new }
+fn put_indent<W: WriteCall, const N: usize>(out: &mut Counted<W>, page: &mut Page<N>, level: usize)
+    ensures { Sends W.call_takes W.contents (replicate (4 * level) 32) out.old page.old out.new page.new }
 {
     let mut left = level;
     while left > LEVELS {
@@ -221,13 +228,13 @@ fn put_indent<W: Write, const N: usize>(out: &mut Counted<W>, page: &mut Page<N>
 }
 
 /// Writes the lines of a text, each behind its indentation. The last may have no LF.
-fn put_text<W: Write, const N: usize>(
+fn put_text<W: WriteCall, const N: usize>(
     out: &mut Counted<W>,
     page: &mut Page<N>,
     level: usize,
     text: &[u8],
 )
-    ensures { Sends W.contents (flat_map (λ l. printed_line (level, l)) (text_lines text.now)) out.old page.old out.new page.new }
+    ensures { Sends W.call_takes W.contents (flat_map (λ l. printed_line (level, l)) (text_lines text.now)) out.old page.old out.new page.new }
 {
     let mut rest = text;
     while !rest.is_empty() {
@@ -241,14 +248,14 @@ fn put_text<W: Write, const N: usize>(
 }
 
 /// Writes a node at a level: its first line, and the nodes in it one level deeper, each with the attributes that it is printed with.
-pub fn put_node<W: Write, const N: usize>(
+pub fn put_node<W: WriteCall, const N: usize>(
     out: &mut Counted<W>,
     page: &mut Page<N>,
     level: usize,
     node: &Node,
     source: Option<&str>,
 )
-    ensures { Sends W.contents (printed_node level (with_printed_attrs (given source.entry) node.now)) out.old page.old out.new page.new }
+    ensures { Sends W.call_takes W.contents (printed_node level (with_printed_attrs (given source.entry) node.now)) out.old page.old out.new page.new }
 {
     match node {
         Node::Element {
@@ -276,12 +283,12 @@ pub fn put_node<W: Write, const N: usize>(
 }
 
 /// Writes the source text that a message shows, behind a blank line.
-fn put_block<W: Write, const N: usize>(
+fn put_block<W: WriteCall, const N: usize>(
     out: &mut Counted<W>,
     page: &mut Page<N>,
     block: &Option<Text>,
 )
-    ensures { Sends W.contents (block_text block.now) out.old page.old out.new page.new }
+    ensures { Sends W.call_takes W.contents (block_text block.now) out.old page.old out.new page.new }
 {
     if let Some(text) = block {
         page.put(out, b"\n");
@@ -291,13 +298,13 @@ fn put_block<W: Write, const N: usize>(
 }
 
 /// Writes a message, behind its head: `source:line: (TYPE/level) `.
-pub fn put_message<W: Write, const N: usize>(
+pub fn put_message<W: WriteCall, const N: usize>(
     out: &mut Counted<W>,
     page: &mut Page<N>,
     source: &str,
     note: &Note,
 )
-    ensures { Sends W.contents (message_of source.now note.now) out.old page.old out.new page.new }
+    ensures { Sends W.call_takes W.contents (message_of source.now note.now) out.old page.old out.new page.new }
 {
     page.put(out, source.as_bytes());
     page.put(out, b":");

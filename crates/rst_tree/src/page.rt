@@ -1,10 +1,9 @@
 //! What is written piece by piece to a writer that may fail, gathered in a page: after a failure nothing more is written.
-ghost use Rattle.std.specs.Prelude.{◌≡◌, ◌++◌, ◌+◌, ◌≤◌, [], length};
-ghost use Rattle.rst_text.specs.Counted.{between};
+ghost use Rattle.std.specs.Prelude.{◌≡◌, ◌++◌, ◌+◌, ◌≤◌, [], false, length};
+ghost use Rattle.rst_text.specs.Counted.{has_failed};
 
 use crate::fault::PrintFault;
-use rst_text::Counted;
-use std::io::Write;
+use rst_text::{Counted, WriteCall};
 
 /// What is gathered on its way to a writer.
 #[derive(Drop)]
@@ -18,7 +17,7 @@ pub struct Page<const N: usize> {
 }
 
 impl<const N: usize> Page<N> {
-    ghost use Rattle.rst_tree.specs.Sends.{held, Sends, Turns, Takes};
+    ghost use Rattle.rst_tree.specs.Sends.{held, IsTaken, Sends, Turns};
     ghost use Rattle.rst_tree.specs.Faults.{IsEnd};
 
     /// An empty page of a text of which nothing was written.
@@ -35,8 +34,8 @@ impl<const N: usize> Page<N> {
 
     /// Gathers all of the bytes, unless a write has failed.
     #[inline(always)]
-    pub fn put<W: Write>(&mut self, out: &mut Counted<W>, bytes: &[u8])
-        ensures { Sends W.contents bytes.now out.old self.old out.new self.new }
+    pub fn put<W: WriteCall>(&mut self, out: &mut Counted<W>, bytes: &[u8])
+        ensures { Sends W.call_takes W.contents bytes.now out.old self.old out.new self.new }
     {
         if out.failed() {
             return;
@@ -64,8 +63,8 @@ impl<const N: usize> Page<N> {
     /// The same as `put`, where the bytes don't fit behind what the page holds: that is written first.
     #[cold]
     #[inline(never)]
-    fn put_over<W: Write>(&mut self, out: &mut Counted<W>, bytes: &[u8])
-        ensures { Sends W.contents bytes.now out.old self.old out.new self.new }
+    fn put_over<W: WriteCall>(&mut self, out: &mut Counted<W>, bytes: &[u8])
+        ensures { Sends W.call_takes W.contents bytes.now out.old self.old out.new self.new }
     {
         self.turn(out);
         if out.failed() {
@@ -79,17 +78,16 @@ impl<const N: usize> Page<N> {
         }
     }
 
-    /// Writes what the page holds, unless a write has failed. It goes on holding what the writer doesn't take.
-    pub fn turn<W: Write>(&mut self, out: &mut Counted<W>)
-        ensures { Turns W.contents out.old self.old out.new self.new }
+    /// Writes what the page holds, unless a write has failed.
+    pub fn turn<W: WriteCall>(&mut self, out: &mut Counted<W>)
+        ensures { Turns W.call_takes W.contents out.old self.old out.new self.new }
     {
         if out.failed() {
             return;
         }
         let count = Self::write(out, &self.bytes[..self.len]);
         self.taken = self.taken.saturating_add(count);
-        self.bytes.copy_within(count..self.len, 0);
-        self.len -= count;
+        self.len = 0;
     }
 
     /// How the printing of a text ends that has reached the writer, or at which a write has failed.
@@ -103,9 +101,10 @@ impl<const N: usize> Page<N> {
         }
     }
 
-    /// Writes the bytes, and tells how many of them were taken: all of them, unless a write failed.
-    fn write<W: Write>(out: &mut Counted<W>, bytes: &[u8]) -> usize
-        ensures { Takes (between W.contents out.old out.new) bytes.now result }
+    /// Writes the bytes to a writer that hasn't failed. Gives how many of them were taken: all of them, unless a write failed.
+    fn write<W: WriteCall>(out: &mut Counted<W>, bytes: &[u8]) -> usize
+        requires { has_failed out.old ≡ false }
+        ensures { IsTaken W.call_takes W.contents out.old out.new bytes.now result }
     {
         match out.write_all(bytes) {
             Ok(()) => bytes.len(),

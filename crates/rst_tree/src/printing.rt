@@ -1,6 +1,6 @@
 //! Trees and messages as they are printed.
 ghost use Rattle.std.specs.Prelude.{◌≡◌, false, None, Some};
-ghost use Rattle.rst_text.specs.Counted.{between, has_failed};
+ghost use Rattle.rst_text.specs.Counted.{between, has_failed, IsSent};
 ghost use Rattle.rst_tree.specs.Print.{print_of};
 ghost use Rattle.rst_tree.specs.Message.{message_of};
 ghost use Rattle.rst_tree.specs.PrintedAttributes.{given, with_printed_attrs};
@@ -12,8 +12,7 @@ use crate::note::Note;
 use crate::output::{put_message, put_node};
 use crate::page::Page;
 use crate::tree::Tree;
-use rst_text::Counted;
-use std::io::Write;
+use rst_text::{Counted, WriteCall};
 
 /// How many bytes of a tree are gathered for a write: a writer takes them faster than many pieces of a few bytes.
 const TREE_PAGE: usize = 8192;
@@ -26,9 +25,10 @@ const MESSAGE_PAGE: usize = 512;
 /// references back; `xml:space` is one like any other, which the makers of literal blocks, doctest blocks, comments and addresses set.
 /// Each message is printed with its line and its type (Document Tree, `system_message`), which the tree itself needn't hold: the line
 /// is that of the element, and the type is that of its level.
-pub fn print<W: Write>(tree: &Tree, out: &mut Counted<W>) -> Result<(), PrintFault>
+pub fn print<W: WriteCall>(tree: &Tree, out: &mut Counted<W>) -> Result<(), PrintFault>
     requires { has_failed out.old ≡ false }
-    ensures { Prints (between W.contents out.old out.new) (print_of (with_printed_attrs None tree.now)) result }
+    ensures prints { Prints (between W.contents out.old out.new) (print_of (with_printed_attrs None tree.now)) result }
+    ensures calls { IsSent W.call_takes W.contents out.old out.new (print_of (with_printed_attrs None tree.now)) }
 {
     print_given(tree.root(), None, out)
 }
@@ -36,25 +36,27 @@ pub fn print<W: Write>(tree: &Tree, out: &mut Counted<W>) -> Result<(), PrintFau
 /// Prints a document to a writer that hasn't failed, with its source as an attribute of the document and of its messages
 /// (Document Tree, `source`). The nodes themselves needn't have these attributes, so that nobody goes through them for that. Any
 /// node can be printed, so nobody needs to know that it is a [`Tree`].
-pub fn print_with_source<W: Write>(
+pub fn print_with_source<W: WriteCall>(
     document: &Node,
     source: &str,
     out: &mut Counted<W>,
 ) -> Result<(), PrintFault>
     requires { has_failed out.old ≡ false }
-    ensures { Prints (between W.contents out.old out.new) (print_of (with_printed_attrs (Some source.now) document.now)) result }
+    ensures prints { Prints (between W.contents out.old out.new) (print_of (with_printed_attrs (Some source.now) document.now)) result }
+    ensures calls { IsSent W.call_takes W.contents out.old out.new (print_of (with_printed_attrs (Some source.now) document.now)) }
 {
     print_given(document, Some(source), out)
 }
 
 /// Prints a node, with the source if one is given.
-fn print_given<W: Write>(
+fn print_given<W: WriteCall>(
     node: &Node,
     source: Option<&str>,
     out: &mut Counted<W>,
 ) -> Result<(), PrintFault>
     requires { has_failed out.old ≡ false }
-    ensures { Prints (between W.contents out.old out.new) (print_of (with_printed_attrs (given source.entry) node.now)) result }
+    ensures prints { Prints (between W.contents out.old out.new) (print_of (with_printed_attrs (given source.entry) node.now)) result }
+    ensures calls { IsSent W.call_takes W.contents out.old out.new (print_of (with_printed_attrs (given source.entry) node.now)) }
 {
     let mut page: Page<TREE_PAGE> = Page::new();
     put_node(out, &mut page, 0, node, source);
@@ -64,13 +66,14 @@ fn print_given<W: Write>(
 
 /// Prints a message to a writer that hasn't failed, as `source:line: (TYPE/level) text` and, behind a blank line, the
 /// source text that it shows.
-pub fn message_line<W: Write>(
+pub fn message_line<W: WriteCall>(
     note: &Note,
     source: &str,
     out: &mut Counted<W>,
 ) -> Result<(), PrintFault>
     requires { has_failed out.old ≡ false }
-    ensures { Prints (between W.contents out.old out.new) (message_of source.now note.now) result }
+    ensures prints { Prints (between W.contents out.old out.new) (message_of source.now note.now) result }
+    ensures calls { IsSent W.call_takes W.contents out.old out.new (message_of source.now note.now) }
 {
     let mut page: Page<MESSAGE_PAGE> = Page::new();
     put_message(out, &mut page, source, note);

@@ -1,8 +1,8 @@
 use Rattle.std.proofs.Common.{◌≡◌, refl, ap, append-nil, subst, List, ℕ, codes, decimal, ◌∙◌, ◌++◌}
-use Rattle.rst2pseudoxml_run.specs.Headline.{IsSent}
+use Rattle.rst_text.specs.Counted.{IsSent}
 use Rattle.rst2pseudoxml_run.specs.Report.{fault_line}
 use Rattle.rst2pseudoxml_run.specs.declared.end.End.TheVariants.{Done}
-use Rattle.rst2pseudoxml_run.proofs.StreamLemmas.{sent_nothing}
+use Rattle.rst_text.proofs.WriteLemmas.{sent_nothing}
 use Rattle.rst2pseudoxml_run.proofs.reporting.report.Goals as goal
 
 pub returns-in-Options-clause-line : goal.returns-in-Options-clause-line
@@ -42,4 +42,4 @@ returns-in-TooDeep g c = rw (c.in-Ran.is, c.in-TooDeep.is) (record { line = c.sa
 pub returns-in-Ran-Done-clause-line : goal.returns-in-Ran-Done-clause-line
 returns-in-Ran-Done-clause-line g c =
     let done : c.in-Ran-Done.field-0 ≡ Done c.in-Ran-Done.status = rw c.in-Ran-Done.is at c.in-Ran-Done.field-0-is in
-    rw (c.in-Ran-Done.is, done) (sent_nothing g.E.WriteCall.call_takes g.E.Write.contents c.args.err.now)
+    rw (c.in-Ran-Done.is, done) (sent_nothing c.args.err.now)

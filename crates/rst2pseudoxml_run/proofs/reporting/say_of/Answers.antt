@@ -1,5 +1,5 @@
 use Rattle.std.proofs.Common.{List, ℕ, subst, codes}
-use Rattle.rst2pseudoxml_run.specs.Headline.{IsSent}
+use Rattle.rst_text.specs.Counted.{IsSent}
 use Rattle.rst2pseudoxml_run.proofs.StreamLemmas.{line-joined}
 use Rattle.rst2pseudoxml_run.proofs.reporting.say_of.Goals as goal
 

@@ -1,48 +1,36 @@
-use Rattle.std.proofs.Common.{◌∙◌, ◌+◌, sym, length, take, add-zero, true≢false}
-use Rattle.std.proofs.lemmas.List.{drop_all, take_all}
-use Rattle.std.specs.List.{flat_map}
-use Rattle.rst_text.specs.Counted.{between, inner_of}
-use Rattle.rst_text.specs.Counted.Written.{all}
-use Rattle.rst_tree.proofs.Sending.{Appends-append}
-use Rattle.rst2pseudoxml_run.proofs.StreamLemmas.{sent_part, sent_whole, texts_of, joined, first_cut, one_more, flat_map_step}
+use Rattle.std.proofs.Common.{◌≡◌, ◌∙◌, ◌+◌, ◌<◌, ◌++◌, ℕ, List, Ok, Err, refl, ap, subst, arith, length, length-append, take, drop}
+use Rattle.std.proofs.lemmas.List.{take_all}
+use Rattle.rst_text.proofs.WriteLemmas.{sent_at_once, sent_cut, sent_nothing, sent_then}
+use Rattle.rst_text.specs.Counted.{IsSent}
+use Rattle.rst2pseudoxml_run.proofs.StreamLemmas.{joined, one_more, parted}
 use Rattle.rst2pseudoxml_run.proofs.reporting.write_pieces.Goals as goal
 
+pub loop-piece-init : goal.loop-piece-init
+unfolding sent_nothing
+loop-piece-init g c = (sent_nothing c.args.err.now, refl)
+
 pub loop-piece-preserved : goal.loop-piece-preserved
+unfolding sent_at_once sent_then
 loop-piece-preserved g c =
-    let h = c.loop-piece.invariant in
-    let grown = flat_map_step c.args.pieces.now c.loop-piece.piece-index _ c.as_bytes.result.now c.loop-piece-test.true c.as_bytes.ensures.value in
-    record {
-      gained = rw grown (Appends-append _ _ _ _ _ h.gained c.in_default.ensures.bytes.0);
-      same = c.in_default.ensures.bytes.1 ∙ h.same;
-      calls = λ w taken later.
-          one_more _ c.args.pieces.now c.loop-piece.piece-index _ c.as_bytes.result.now taken c.loop-piece-test.true c.as_bytes.ensures.value c.in_default.ensures.call (h.calls w) later;
-    }
+    let front = joined (take c.loop-piece.piece-index c.args.pieces.now) in
+    let before = c.loop-piece.invariant in
+    let now : IsSent g.E.WriteCall.call_takes g.E.Write.contents c.loop-piece.err c.write_all.new.self c.as_bytes.result.now = sent_at_once {A = ℕ} (Ok 0) c.in_default.ensures.bytes c.in_default.ensures.call in
+    let P : List ℕ → Type 0 = λ text. (sent : IsSent g.E.WriteCall.call_takes g.E.Write.contents c.args.err.now c.write_all.new.self text) × (sent.taken ≡ length text) in
+    let whole : before.0.taken + length c.as_bytes.result.now ≡ length (front ++ c.as_bytes.result.now) = omega (arith, before.1, length-append front c.as_bytes.result.now) in
+    subst P (one_more c.args.pieces.now c.loop-piece.piece-index _ c.as_bytes.result.now c.loop-piece-test.true c.as_bytes.ensures.value) (sent_then before.0 before.1 now, whole)
 
 pub returns-in-Err : goal.returns-in-Err
+unfolding sent_at_once sent_then
 returns-in-Err g c =
-    let h = c.loop-piece.invariant in
-    let front = flat_map (λ piece. piece.now) (take c.loop-piece.piece-index c.args.pieces.now) in
-    record {
-      pieces = texts_of c.args.pieces.now;
-      taken = length front + c.in-Err.field-0;
-      are_pieces = joined c.args.pieces.now;
-      calls = h.calls _ c.in-Err.field-0 (first_cut _ c.args.pieces.now c.loop-piece.piece-index _ c.as_bytes.result.now c.loop-piece-test.true c.as_bytes.ensures.value c.in-Err.ensures.call c.in-Err.ensures.bytes.0);
-      gained = sent_part _ (between g.E.Write.contents c.loop-piece.err c.write_all.new.self) c.args.pieces.now c.loop-piece.piece-index c.in-Err.field-0 _ c.as_bytes.result.now
-          c.loop-piece-test.true c.as_bytes.ensures.value h.gained c.in-Err.ensures.bytes;
-      whole = λ e. absurd (true≢false (sym c.in-Err.ensures.bytes.2 ∙ e));
-    }
+    let i = c.loop-piece.piece-index in
+    let pieces = c.args.pieces.now in
+    let front = joined (take i pieces) in
+    let before = c.loop-piece.invariant in
+    let now : IsSent g.E.WriteCall.call_takes g.E.Write.contents c.loop-piece.err c.write_all.new.self c.as_bytes.result.now = sent_at_once {A = ℕ} (Err c.in-Err.field-0) c.in-Err.ensures.bytes c.in-Err.ensures.call in
+    let P : List ℕ → Type 0 = λ text. IsSent g.E.WriteCall.call_takes g.E.Write.contents c.args.err.now c.write_all.new.self text in
+    let so_far = one_more pieces i _ c.as_bytes.result.now c.loop-piece-test.true c.as_bytes.ensures.value in
+    let short : before.0.taken + c.in-Err.field-0 < length (front ++ c.as_bytes.result.now) = omega (arith, before.1, c.in-Err.ensures.bytes.0, length-append front c.as_bytes.result.now) in
+    subst P (ap (λ l. l ++ joined (drop (i + 1) pieces)) so_far ∙ parted pieces (i + 1)) (sent_cut (joined (drop (i + 1) pieces)) (sent_then before.0 before.1 now) short)
 
 pub returns : goal.returns
-returns g c =
-    let h = c.loop-piece.invariant in
-    let texts = c.args.pieces.now in
-    let i = c.loop-piece.piece-index in
-    let front = flat_map (λ piece. piece.now) (take i texts) in
-    record {
-      pieces = texts_of texts;
-      taken = length front + 0;
-      are_pieces = joined texts;
-      calls = h.calls (inner_of c.loop-piece.err) 0 (rw (drop_all i texts c.loop-piece-test.false) all);
-      gained = sent_whole _ _ texts i c.loop-piece-test.false h.gained;
-      whole = λ e. rw (take_all i texts c.loop-piece-test.false) (add-zero (length (flat_map (λ piece. piece.now) texts)));
-    }
+returns g c = rw (take_all c.loop-piece.piece-index c.args.pieces.now c.loop-piece-test.false) at c.loop-piece.invariant.0

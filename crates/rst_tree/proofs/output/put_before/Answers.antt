@@ -3,12 +3,12 @@ use Rattle.std.proofs.lemmas.List.{take_rest}
 use Rattle.std.specs.List.{flat_map}
 use Rattle.rst_tree.specs.Attributes.{is_at, places_below}
 use Rattle.rst_tree.specs.Print.{shown_attr}
-use Rattle.rst_tree.proofs.Sending.{Gets-as}
+use Rattle.rst_tree.proofs.Sending.{Sends-as}
 use Rattle.rst_tree.proofs.PrintedAttributeParts.{before_place, behind_there, behind_between}
 use Rattle.rst_tree.proofs.output.put_before.Goals as goal
 
 pub returns-then-is_at-clause-sent : goal.returns-then-is_at-clause-sent
-returns-then-is_at-clause-sent g c = Gets-as c.put_attrs.ensures (rw c.place_of-place.ensures.place (ap (flat_map shown_attr) (before_place c.args.key c.args.attrs.now)))
+returns-then-is_at-clause-sent g c = Sends-as c.put_attrs.ensures (rw c.place_of-place.ensures.place (ap (flat_map shown_attr) (before_place c.args.key c.args.attrs.now)))
 
 pub returns-then-is_at-clause-rest : goal.returns-then-is_at-clause-rest
 returns-then-is_at-clause-rest g c =
@@ -16,7 +16,7 @@ returns-then-is_at-clause-rest g c =
     take_rest c.args.attrs.now (c.place_of-place.result + 1) ∙ (rw c.place_of-place.ensures.place (behind_there c.args.key c.args.attrs.now at))
 
 pub returns-clause-sent : goal.returns-clause-sent
-returns-clause-sent g c = Gets-as c.put_attrs.ensures (rw c.place_of-place.ensures.place (ap (flat_map shown_attr) (before_place c.args.key c.args.attrs.now)))
+returns-clause-sent g c = Sends-as c.put_attrs.ensures (rw c.place_of-place.ensures.place (ap (flat_map shown_attr) (before_place c.args.key c.args.attrs.now)))
 
 pub returns-clause-rest : goal.returns-clause-rest
 returns-clause-rest g c =

@@ -1,8 +1,9 @@
 use Rattle.std.proofs.Common.{◌≡◌, ◌∙◌, ◌<◌, ◌+◌, ap, arith, length, length-drop, add_assoc, add-zero}
+use Rattle.std.proofs.KnownBytes.{Appends-trans}
+use Rattle.std.proofs.Math.Seq.{take-add}
 use Rattle.std.proofs.lemmas.List.{drop_all, drop-drop, take_rest}
 use Rattle.rst_text.specs.Counted.{inner_of}
 use Rattle.rst_text.specs.Counted.Written.{all, empty, some, last}
-use Rattle.rst_text.proofs.WriteLemmas.{Appends-more}
 use Rattle.rst_text.proofs.counted.Counted.write_all.Goals as goal
 
 pub returns-in-None-clause-call : goal.returns-in-None-clause-call
@@ -21,7 +22,7 @@ loop-done-preserved g c =
     let s = take_rest c.args.bytes.now c.loop-done.done in
     record {
       within = let h = ap length s in omega (arith, e.0, length-drop c.loop-done.done c.args.bytes.now);
-      gained = Appends-more _ _ _ c.loop-done.done c.in-Some.count c.args.bytes.now c.loop-done.invariant.gained (rw s at e.2);
+      gained = rw (take-add c.loop-done.done c.in-Some.count c.args.bytes.now) (Appends-trans _ _ _ _ _ c.loop-done.invariant.gained (rw s at e.2));
       same = e.3 ∙ c.loop-done.invariant.same;
       calls = λ w taken h.
           let some_taken : 0 < c.in-Some.count = e.1 (let k = ap length s in omega (arith, length-drop c.loop-done.done c.args.bytes.now)) in
