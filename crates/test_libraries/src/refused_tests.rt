@@ -85,6 +85,27 @@ fn cuts_lines(rt: HostRuntime) {
 }
 
 #[test]
+fn places_lines(rt: HostRuntime) {
+    let mut looks = Looks::none();
+    let mut refusals = Refusals::none();
+    for _ in 0..2 {
+        let Ok(text) = String::from_str(rt.alloc(), "x") else {
+            return;
+        };
+        match Lines::numbered(rt.alloc(), 5, 4, &[(2, text)]) {
+            Ok(lines) => {
+                let view = View::whole(&lines);
+                assert!(rt; 2 < view.len());
+                assert_eq!(rt; view.number(2), 7);
+                assert_eq!(rt; view.line(2, &mut looks), "x");
+            }
+            Err(fault) => refusals.add(&rt, fault == TextFault::NoMemory),
+        }
+    }
+    refusals.judge(&rt);
+}
+
+#[test]
 fn names(rt: HostRuntime) {
     let alloc = rt.alloc();
     let text = "  Gr\u{F6}\u{DF}e \u{FB01}\n 1 ";
