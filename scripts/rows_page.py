@@ -14,10 +14,10 @@ Each example is a theorem on the definition alone, in the order of the standard'
 and compares. No code of the program is run for it. `scripts/rows_page.py` writes this page from the theorems; the name of each is that of a clause
 in the crate's `src/rows.rt` or `src/rows/`.
 
-Where two trees are given, the second is what is printed on standard error. `Outputs` and `Reports` give what the program prints; any other tree of
-a document is the one before the transforms: titles are sections, and references aren't resolved yet. Where the count of messages on texts is
-given, the tree has all attributes, also those that only the transforms read, and each element's line. An example of a single definition is its
-clause.
+Where two trees are given, the second is what is printed on standard error. `Outputs`, `Reports` and `ReportsOn` give what the program prints; any
+other tree of a document is the one before the transforms: titles are sections, and references aren't resolved yet. Where the count of messages on
+texts is given, the tree has all attributes, also those that only the transforms read, and each element's line. An example of a single definition is
+its clause.
 """
 # the documents of the standard, each with its sections in their order
 SECTIONS = {
@@ -31,8 +31,8 @@ SECTIONS = {
         Error Handling""",
     "Directives": """Specific Admonitions; Generic Admonition; Image; Figure; Topic; Code; Replacement Text; Common Options; Identifier Normalization""",
     "Roles": "Standard Roles",
-    "Document Tree": "Element Reference; Attribute Reference",
-    "Configuration": "line_length_limit; report_level; halt_level",
+    "Document Tree": "Introduction; Element Reference; Attribute Reference",
+    "Configuration": "doctitle_xform; docinfo_xform; tab_width; line_length_limit; report_level; halt_level; exit_status_level",
 }
 ORDER = [(document, section) for document, sections in SECTIONS.items() for section in re.split(r";\s+", sections)]
 FUNCTION = re.compile(r"((?:^///.*\n)+)pub fn (\w+)\(\)\n((?:    .*\n)+)\{\}", re.M)
@@ -40,13 +40,14 @@ CLAUSE = re.compile(r"^    ensures (\w+) \{ (.*?) \}(?=\n    ensures|\n*\Z)", re
 SECTION = re.compile(r"\(([A-Z][\w ]+), '([^']+)'\)")
 STRINGS = re.compile(r'"((?:[^"\\]|\\.)*)"')
 LIST = r"(\[\]|\(.*?∷ \[\]\))"
-TREE = re.compile(rf"(?:Reads|Means|Outputs|Reports (\w+|\(.*?\}}\)))\s+{LIST}\s*(\d*)\s*{LIST}(?:\s*{LIST}\s*(\d+))?", re.S)
-ESCAPES = {"n": "\n", "t": "\t", "r": "␍"}
+EXACT = r'(\(codes "(?:[^"\\]|\\.)*"\))'
+TREE = re.compile(rf"(?:Reads|Means|Outputs|(?:Reports|ReportsOn) (\w+|\(.*?\}}\)))\s+(?:{LIST}|{EXACT})\s*(\d*)\s*{LIST}(?:\s*{LIST}\s*(\d+))?", re.S)
+ESCAPES = {"n": "\n", "t": "\t", "r": "␍", "0": "␀"}
 
 
 def lines_of(words):
     """The texts of a list of strings."""
-    return [re.sub(r"\\(.)", lambda m: ESCAPES.get(m[1], m[1]), text) for text in STRINGS.findall(words)]
+    return [re.sub(r"\\(u\{\w+\}|.)", lambda m: m[0] if m[1][1:] else ESCAPES.get(m[1], m[1]), text) for text in STRINGS.findall(words)]
 
 
 def fenced(lines):
@@ -59,15 +60,16 @@ def shown(name, clause):
     if not tree:
         one = re.sub(r"\n *", " ", clause)
         return [f"- `{name}`: `{one}`"]
-    settings, text, count, printed, messages, status = tree.groups()
+    settings, lines, exact, count, printed, messages, status = tree.groups()
     said = [f"`{name}`"]
     if count:
         said.append(f"{count} messages on texts")
     if settings and settings != "usual":
-        said.append(f"`{re.search(r'{ (.*) }', settings)[1]}`")
+        changed = re.search(r"{ (.*) }", settings)
+        said.append(f"`{changed[1] if changed else settings}`")
     if int(status or 0):
         said.append(f"exit status {status}")
-    blocks = [text, printed, *([messages] if messages else [])]
+    blocks = [lines or exact, printed, *([messages] if messages and messages != "[]" else [])]
     return ["", ", ".join(said), *(line for block in blocks for line in ["", *fenced(lines_of(block))]), ""]
 
 
