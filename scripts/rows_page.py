@@ -41,7 +41,7 @@ SECTION = re.compile(r"\(([A-Z][\w ]+), '([^']+)'\)")
 STRINGS = re.compile(r'"((?:[^"\\]|\\.)*)"')
 LIST = r"(\[\]|\(.*?∷ \[\]\))"
 EXACT = r'(\(codes "(?:[^"\\]|\\.)*"\))'
-TREE = re.compile(rf"(?:Reads|Means|Outputs|(?:Reports|ReportsOn) (\w+|\(.*?\}}\)))\s+(?:{LIST}|{EXACT})\s*(\d*)\s*{LIST}(?:\s*{LIST}\s*(\d+))?", re.S)
+TREE = re.compile(rf"(?:Reads|Means|Outputs|Reports(?:On)? (\w+|\(.*?\}}\)))\s+(?:{LIST}|{EXACT})\s*(\d*)\s*{LIST}(?:\s*{LIST}\s*(\d+))?", re.S)
 ESCAPES = {"n": "\n", "t": "\t", "r": "␍", "0": "␀"}
 
 

@@ -26,7 +26,7 @@ pub fn halt_levels()
         ("x:1: (WARNING/2) Inline emphasis start-string without end-string." ∷ "Exiting due to level-2 (WARNING) system message." ∷ []) 1 }
 {}
 
-/// The exit status tells the highest level of a message, if it is high enough (Configuration, 'exit_status_level').
+/// The exit status gives the highest level of the messages, if that is high enough (Configuration, 'exit_status_level').
 pub fn exit_statuses()
     ensures warning { Reports (record usual { exit = Warning }) ("a" ∷ "*b" ∷ [])
         ("<document source=\"x\">" ∷ "    <paragraph>" ∷ "        a" ∷ "        <problematic ids=\"problematic-1\" refid=\"system-message-1\">"
