@@ -13,10 +13,10 @@ OPENING = """# Worked examples as theorems
 Each example is a theorem on the definition alone, in the order of the standard's sections: the prover computes what the definition gives for a text,
 and compares. No code of the program is run for it. The name of each is that of a clause in the crate's `src/rows.rt` or `src/rows/`.
 
-Where two trees are given, the second is what is printed on standard error. `Outputs` and `Reports` give what the program prints; any other tree of
-a document is the one before the transforms: titles are sections, and references aren't resolved yet. Where the count of messages on texts is
-given, the tree has all attributes, also those that only the transforms read, and each element's line. An example of a single definition is its
-clause.
+Where two trees are given, the second is what is printed on standard error. `Outputs`, `Reports` and `ReportsOn` give what the program prints; any
+other tree of a document is the one before the transforms: titles are sections, and references aren't resolved yet. Where the count of messages on
+texts is given, the tree has all attributes, also those that only the transforms read, and each element's line. An example of a single definition is
+its clause.
 
 The last sections aren't of the standard: those of [the command line](profile/options.md), of [JSON](JSON.md), of [records](RECORDS.md) and of the
 [header](../include/rst2pseudoxml.h) of the library for C.
@@ -33,8 +33,8 @@ SECTIONS = {
         Error Handling""",
     "Directives": """Specific Admonitions; Generic Admonition; Image; Figure; Topic; Code; Replacement Text; Common Options; Identifier Normalization""",
     "Roles": "Standard Roles",
-    "Document Tree": "Element Reference; Attribute Reference",
-    "Configuration": "docinfo_xform; doctitle_xform; halt_level; input_encoding; line_length_limit; report_level",
+    "Document Tree": "Introduction; Element Reference; Attribute Reference",
+    "Configuration": """docinfo_xform; doctitle_xform; exit_status_level; halt_level; input_encoding; line_length_limit; report_level; tab_width""",
     # pages of this repository, and its header
     "The command line": "Options; Faults",
     "JSON": "The document; The messages; Strings",
@@ -47,13 +47,14 @@ CLAUSE = re.compile(r"^    ensures (\w+) \{ (.*?) \}(?=\n    ensures|\n*\Z)", re
 SECTION = re.compile(r"\(([A-Z][\w ]+), '([^']+)'\)")
 STRINGS = re.compile(r'"((?:[^"\\]|\\.)*)"')
 LIST = r"(\[\]|\(.*?∷ \[\]\))"
-TREE = re.compile(rf"(?:Reads|Means|Outputs|Reports (\w+|\(.*?\}}\)))\s+{LIST}\s*(\d*)\s*{LIST}(?:\s*{LIST}\s*(\d+))?", re.S)
-ESCAPES = {"n": "\n", "t": "\t", "r": "␍"}
+EXACT = r'(\(codes "(?:[^"\\]|\\.)*"\))'
+TREE = re.compile(rf"(?:Reads|Means|Outputs|Reports(?:On)? (\w+|\(.*?\}}\)))\s+(?:{LIST}|{EXACT})\s*(\d*)\s*{LIST}(?:\s*{LIST}\s*(\d+))?", re.S)
+ESCAPES = {"n": "\n", "t": "\t", "r": "␍", "0": "␀"}
 
 
 def lines_of(words):
     """The texts of a list of strings."""
-    return [re.sub(r"\\(u\{(\w+)\}|.)", lambda m: chr(int(m[2], 16)) if m[2] else ESCAPES.get(m[1], m[1]), text) for text in STRINGS.findall(words)]
+    return [re.sub(r"\\(u\{\w+\}|.)", lambda m: m[0] if m[1][1:] else ESCAPES.get(m[1], m[1]), text) for text in STRINGS.findall(words)]
 
 
 def fenced(lines):
@@ -66,15 +67,16 @@ def shown(name, clause):
     if not tree:
         one = re.sub(r"\n *", " ", clause)
         return [f"- `{name}`: `{one}`"]
-    settings, text, count, printed, messages, status = tree.groups()
+    settings, lines, exact, count, printed, messages, status = tree.groups()
     said = [f"`{name}`"]
     if count:
         said.append(f"{count} messages on texts")
     if settings and settings != "usual":
-        said.append(f"`{re.search(r'{ (.*) }', settings)[1]}`")
+        changed = re.search(r"{ (.*) }", settings)
+        said.append(f"`{changed[1] if changed else settings}`")
     if int(status or 0):
         said.append(f"exit status {status}")
-    blocks = [text, printed, *([messages] if messages else [])]
+    blocks = [lines or exact, printed, *([messages] if messages and messages != "[]" else [])]
     return ["", ", ".join(said), *(line for block in blocks for line in ["", *fenced(lines_of(block))]), ""]
 
 

@@ -8,16 +8,23 @@ use Rattle.rst_settings.specs.declared.Threshold.TheVariants.{Never, Severe, War
 use Rattle.rst_text.specs.Written.{written}
 use Rattle.rst2pseudoxml_run.specs.Shown.{result_of}
 
--- the settings of a call without options, but for the length of lines
+-- the settings of a call without options
 abbrev pub usual : Settings
-usual = record { report = Warning; halt = Severe; exit = Never; title = true; info = true; tab = 8; limit = 1000; tab_from = omega arith; tab_to = omega arith }
+usual = record { report = Warning; halt = Severe; exit = Never; title = true; info = true; tab = 8; limit = 10000; tab_from = omega arith; tab_to = omega arith }
 
--- For these lines, from the source `x`, these are printed on standard output and on standard error, with this exit status. (Blocks may be nested nine
--- levels.)
-abbrev pub Reports : Settings → List String → List String → List String → ℕ → Type 0
-Reports settings text tree messages status =
-    result_of (record (profile_of settings) { nesting = 9 }) settings (codes "x") (encode_utf8_all (written text))
+-- the same with tab stops every four columns
+abbrev pub narrow_tabs : Settings
+narrow_tabs = record usual { tab = 4; tab_from = omega arith; tab_to = omega arith }
+
+-- For this text, from the source `x`, these lines are printed on standard output and on standard error, with this exit status.
+abbrev pub ReportsOn : Settings → List ℕ → List String → List String → ℕ → Type 0
+ReportsOn settings text tree messages status =
+    result_of (profile_of settings) settings (codes "x") (encode_utf8_all text)
     ≡ Ok (record { out = encode_utf8_all (written tree); err = encode_utf8_all (written messages); status = status })
+
+-- the same of a text of these lines
+abbrev pub Reports : Settings → List String → List String → List String → ℕ → Type 0
+Reports settings text tree messages status = ReportsOn settings (written text) tree messages status
 
 -- the same without messages, under the usual settings
 abbrev pub Outputs : List String → List String → Type 0

@@ -1,103 +1,18 @@
-//! Worked examples of the whole program, as theorems on the definition alone: what it prints for a text that is written out.
-#![tactic(auto, unfolding(crate::proofs::Computing::rst2pseudoxml_run))]
+//! Worked examples of the whole program, as theorems on the definition alone: the prover computes what is printed for a text that is written out,
+//! and compares it with the texts that are written out beside it.
 
-ghost use Rattle.std.specs.Prelude.{◌≡◌, codes, [], ◌∷◌, Err};
-ghost use Rattle.rst_settings.specs.Profile.{profile_of};
-ghost use Rattle.rst_settings.specs.declared.Threshold.TheVariants.{Error, Info, Warning};
-ghost use Rattle.rst2pseudoxml_run.specs.declared.end.End.TheVariants.{NotUtf8, TooDeep};
-ghost use Rattle.rst2pseudoxml_run.specs.Shown.{result_of};
-ghost use Rattle.rst2pseudoxml_run.specs.Written.{usual, Outputs, Reports};
-
-/// Titles and subtitles of documents (Markup Specification, 'Document Title').
-pub fn document_titles()
-    ensures title { Outputs ("A" ∷ "=" ∷ "" ∷ "B" ∷ "-" ∷ "" ∷ "c" ∷ []) ("<document ids=\"a\" names=\"a\" source=\"x\" title=\"A\">" ∷ "    <title>" ∷ "        A" ∷ "    <subtitle ids=\"b\" names=\"b\">" ∷ "        B" ∷ "    <paragraph>" ∷ "        c" ∷ []) }
-    ensures comment_before { Outputs (".. c" ∷ "" ∷ "A" ∷ "=" ∷ "" ∷ "b" ∷ []) ("<document ids=\"a\" names=\"a\" source=\"x\" title=\"A\">" ∷ "    <title>" ∷ "        A" ∷ "    <comment xml:space=\"preserve\">" ∷ "        c" ∷ "    <paragraph>" ∷ "        b" ∷ []) }
-    ensures two_sections { Outputs ("A" ∷ "=" ∷ "" ∷ "B" ∷ "=" ∷ "" ∷ []) ("<document source=\"x\">" ∷ "    <section ids=\"a\" names=\"a\">" ∷ "        <title>" ∷ "            A" ∷ "    <section ids=\"b\" names=\"b\">" ∷ "        <title>" ∷ "            B" ∷ []) }
-{}
-
-/// Equal names, the messages on them, and where references to them lead (Markup Specification, 'Implicit Hyperlink Targets').
-pub fn equal_names()
-    ensures sections { Outputs ("x" ∷ "" ∷ "A b" ∷ "===" ∷ "" ∷ "A  B" ∷ "====" ∷ []) ("<document source=\"x\">" ∷ "    <paragraph>" ∷ "        x" ∷ "    <section dupnames=\"a\\ b\" ids=\"a-b\">" ∷ "        <title>" ∷ "            A b" ∷ "    <section dupnames=\"a\\ b\" ids=\"a-b-1\">" ∷ "        <title>" ∷ "            A  B" ∷ []) }
-    ensures target_after_section { Outputs ("x" ∷ "" ∷ "A" ∷ "=" ∷ "" ∷ ".. _a: u" ∷ "" ∷ "a_" ∷ []) ("<document source=\"x\">" ∷ "    <paragraph>" ∷ "        x" ∷ "    <section dupnames=\"a\" ids=\"a\">" ∷ "        <title>" ∷ "            A" ∷ "        <target ids=\"a-1\" names=\"a\" refuri=\"u\">" ∷ "        <paragraph>" ∷ "            <reference name=\"a\" refuri=\"u\">" ∷ "                a" ∷ []) }
-    ensures two_targets { Reports usual (".. _a: u" ∷ ".. _A: v" ∷ "" ∷ "a_" ∷ []) ("<document source=\"x\">" ∷ "    <target dupnames=\"a\" ids=\"a\" refuri=\"u\">" ∷ "    <system_message backrefs=\"a-1\" level=\"2\" line=\"2\" source=\"x\" type=\"WARNING\">" ∷ "        <paragraph>" ∷ "            Duplicate explicit target name: \"a\"." ∷ "    <target dupnames=\"a\" ids=\"a-1\" refuri=\"v\">" ∷ "    <paragraph>" ∷ "        <problematic ids=\"problematic-1\" refid=\"system-message-1\">" ∷ "            a_" ∷ "    <section classes=\"system-messages\">" ∷ "        <title>" ∷ "            Docutils System Messages" ∷ "        <system_message backrefs=\"problematic-1\" ids=\"system-message-1\" level=\"3\" line=\"4\" source=\"x\" type=\"ERROR\">" ∷ "            <paragraph>" ∷ "                Duplicate target name, cannot be used as a unique reference: \"a\"." ∷ []) ("x:2: (WARNING/2) Duplicate explicit target name: \"a\"." ∷ "x:4: (ERROR/3) Duplicate target name, cannot be used as a unique reference: \"a\"." ∷ []) 0 }
-    ensures one_uri { Outputs (".. _a: u" ∷ ".. _a: u" ∷ "" ∷ "a_" ∷ []) ("<document source=\"x\">" ∷ "    <target ids=\"a\" names=\"a\" refuri=\"u\">" ∷ "    <target dupnames=\"a\" ids=\"a-1\" refuri=\"u\">" ∷ "    <paragraph>" ∷ "        <reference name=\"a\" refuri=\"u\">" ∷ "            a" ∷ []) }
-{}
-
-/// External, internal and indirect targets (Markup Specification, 'Hyperlink Targets').
-pub fn targets()
-    ensures external { Outputs ("a_ `b c`__" ∷ "" ∷ ".. _a: u" ∷ "__ v" ∷ []) ("<document source=\"x\">" ∷ "    <paragraph>" ∷ "        <reference name=\"a\" refuri=\"u\">" ∷ "            a" ∷ "         " ∷ "        <reference anonymous=\"1\" name=\"b c\" refuri=\"v\">" ∷ "            b c" ∷ "    <target ids=\"a\" names=\"a\" refuri=\"u\">" ∷ "    <target anonymous=\"1\" ids=\"target-1\" refuri=\"v\">" ∷ []) }
-    ensures internal { Outputs (".. _a:" ∷ "" ∷ "b" ∷ "" ∷ "a_" ∷ []) ("<document source=\"x\">" ∷ "    <target refid=\"a\">" ∷ "    <paragraph ids=\"a\" names=\"a\">" ∷ "        b" ∷ "    <paragraph>" ∷ "        <reference name=\"a\" refid=\"a\">" ∷ "            a" ∷ []) }
-    ensures chained { Outputs (".. _a:" ∷ ".. _b:" ∷ "" ∷ "c" ∷ "" ∷ "a_ b_" ∷ []) ("<document source=\"x\">" ∷ "    <target refid=\"a\">" ∷ "    <target refid=\"b\">" ∷ "    <paragraph ids=\"b a\" names=\"b a\">" ∷ "        c" ∷ "    <paragraph>" ∷ "        <reference name=\"a\" refid=\"a\">" ∷ "            a" ∷ "         " ∷ "        <reference name=\"b\" refid=\"b\">" ∷ "            b" ∷ []) }
-    ensures indirect { Outputs ("a_" ∷ "" ∷ ".. _a: b_" ∷ ".. _b: u" ∷ []) ("<document source=\"x\">" ∷ "    <paragraph>" ∷ "        <reference name=\"a\" refuri=\"u\">" ∷ "            a" ∷ "    <target ids=\"a\" names=\"a\" refuri=\"u\">" ∷ "    <target ids=\"b\" names=\"b\" refuri=\"u\">" ∷ []) }
-    ensures circle { Reports usual ("a_" ∷ "" ∷ ".. _a: b_" ∷ ".. _b: a_" ∷ []) ("<document source=\"x\">" ∷ "    <paragraph>" ∷ "        <problematic ids=\"problematic-1\" refid=\"system-message-1\">" ∷ "            a_" ∷ "    <target ids=\"a\" names=\"a\">" ∷ "    <target ids=\"b\" names=\"b\">" ∷ "    <section classes=\"system-messages\">" ∷ "        <title>" ∷ "            Docutils System Messages" ∷ "        <system_message backrefs=\"problematic-1\" ids=\"system-message-1\" level=\"3\" line=\"3\" source=\"x\" type=\"ERROR\">" ∷ "            <paragraph>" ∷ "                Indirect hyperlink target \"a\" is circular." ∷ "        <system_message level=\"3\" line=\"4\" source=\"x\" type=\"ERROR\">" ∷ "            <paragraph>" ∷ "                Indirect hyperlink target \"b\" is circular." ∷ []) ("x:3: (ERROR/3) Indirect hyperlink target \"a\" is circular." ∷ "x:4: (ERROR/3) Indirect hyperlink target \"b\" is circular." ∷ []) 0 }
-    ensures missing { Reports usual ("a_" ∷ "" ∷ ".. _a: b_" ∷ []) ("<document source=\"x\">" ∷ "    <paragraph>" ∷ "        <problematic ids=\"problematic-1\" refid=\"system-message-1\">" ∷ "            a_" ∷ "    <target ids=\"a\" names=\"a\">" ∷ "    <section classes=\"system-messages\">" ∷ "        <title>" ∷ "            Docutils System Messages" ∷ "        <system_message backrefs=\"problematic-1\" ids=\"system-message-1\" level=\"3\" line=\"3\" source=\"x\" type=\"ERROR\">" ∷ "            <paragraph>" ∷ "                Indirect hyperlink target \"a\" refers to target \"b\", which does not exist." ∷ []) ("x:3: (ERROR/3) Indirect hyperlink target \"a\" refers to target \"b\", which does not exist." ∷ []) 0 }
-{}
-
-/// References whose names mean nothing (Markup Specification, 'Hyperlink References').
-pub fn references()
-    ensures unknown { Reports usual ("a_ b_" ∷ []) ("<document source=\"x\">" ∷ "    <paragraph>" ∷ "        <problematic ids=\"problematic-1\" refid=\"system-message-1\">" ∷ "            a_" ∷ "         " ∷ "        <problematic ids=\"problematic-2\" refid=\"system-message-2\">" ∷ "            b_" ∷ "    <section classes=\"system-messages\">" ∷ "        <title>" ∷ "            Docutils System Messages" ∷ "        <system_message backrefs=\"problematic-1\" ids=\"system-message-1\" level=\"3\" line=\"1\" source=\"x\" type=\"ERROR\">" ∷ "            <paragraph>" ∷ "                Unknown target name: \"a\"." ∷ "        <system_message backrefs=\"problematic-2\" ids=\"system-message-2\" level=\"3\" line=\"1\" source=\"x\" type=\"ERROR\">" ∷ "            <paragraph>" ∷ "                Unknown target name: \"b\"." ∷ []) ("x:1: (ERROR/3) Unknown target name: \"a\"." ∷ "x:1: (ERROR/3) Unknown target name: \"b\"." ∷ []) 0 }
-{}
-
-/// Anonymous references and targets (Markup Specification, 'Anonymous Hyperlinks').
-pub fn anonymous_references()
-    ensures mismatch { Reports usual ("a__ b__" ∷ "" ∷ "__ u" ∷ []) ("<document source=\"x\">" ∷ "    <paragraph>" ∷ "        <problematic ids=\"problematic-1\" refid=\"system-message-1\">" ∷ "            a__" ∷ "         " ∷ "        <problematic ids=\"problematic-2\" refid=\"system-message-1\">" ∷ "            b__" ∷ "    <target anonymous=\"1\" ids=\"target-1\" refuri=\"u\">" ∷ "    <section classes=\"system-messages\">" ∷ "        <title>" ∷ "            Docutils System Messages" ∷ "        <system_message backrefs=\"problematic-1 problematic-2\" ids=\"system-message-1\" level=\"3\" line=\"1\" source=\"x\" type=\"ERROR\">" ∷ "            <paragraph>" ∷ "                Anonymous hyperlink mismatch: 2 references but 1 targets." ∷ []) ("x:1: (ERROR/3) Anonymous hyperlink mismatch: 2 references but 1 targets." ∷ []) 0 }
-{}
-
-/// Numbers of footnotes, and references to them (Markup Specification, 'Auto-Numbered Footnotes').
-pub fn numbered_footnotes()
-    ensures numbered { Outputs ("[#]_ [2]_ [#a]_" ∷ "" ∷ ".. [#a] x" ∷ ".. [2] y" ∷ ".. [#] z" ∷ []) ("<document source=\"x\">" ∷ "    <paragraph>" ∷ "        <footnote_reference auto=\"1\" ids=\"footnote-reference-1\" refid=\"footnote-2\">" ∷ "            3" ∷ "         " ∷ "        <footnote_reference ids=\"footnote-reference-2\" refid=\"footnote-1\">" ∷ "            2" ∷ "         " ∷ "        <footnote_reference auto=\"1\" ids=\"footnote-reference-3\" refid=\"a\">" ∷ "            1" ∷ "    <footnote auto=\"1\" backrefs=\"footnote-reference-3\" ids=\"a\" names=\"a\">" ∷ "        <label>" ∷ "            1" ∷ "        <paragraph>" ∷ "            x" ∷ "    <footnote backrefs=\"footnote-reference-2\" ids=\"footnote-1\" names=\"2\">" ∷ "        <label>" ∷ "            2" ∷ "        <paragraph>" ∷ "            y" ∷ "    <footnote auto=\"1\" backrefs=\"footnote-reference-1\" ids=\"footnote-2\" names=\"3\">" ∷ "        <label>" ∷ "            3" ∷ "        <paragraph>" ∷ "            z" ∷ []) }
-    ensures too_many { Reports usual ("[#]_ [#]_" ∷ "" ∷ ".. [#] x" ∷ []) ("<document source=\"x\">" ∷ "    <paragraph>" ∷ "        <footnote_reference auto=\"1\" ids=\"footnote-reference-1\" refid=\"footnote-1\">" ∷ "            1" ∷ "         " ∷ "        <problematic ids=\"problematic-1\" refid=\"system-message-1\">" ∷ "            [#]_" ∷ "    <footnote auto=\"1\" backrefs=\"footnote-reference-1\" ids=\"footnote-1\" names=\"1\">" ∷ "        <label>" ∷ "            1" ∷ "        <paragraph>" ∷ "            x" ∷ "    <section classes=\"system-messages\">" ∷ "        <title>" ∷ "            Docutils System Messages" ∷ "        <system_message backrefs=\"problematic-1\" ids=\"system-message-1\" level=\"3\" line=\"1\" source=\"x\" type=\"ERROR\">" ∷ "            <paragraph>" ∷ "                Too many autonumbered footnote references: only 1 corresponding footnotes available." ∷ []) ("x:1: (ERROR/3) Too many autonumbered footnote references: only 1 corresponding footnotes available." ∷ []) 0 }
-{}
-
-/// Symbols of footnotes (Markup Specification, 'Auto-Symbol Footnotes').
-pub fn symbol_footnotes()
-    ensures symbols { Outputs ("[*]_ [*]_" ∷ "" ∷ ".. [*] x" ∷ ".. [*] y" ∷ []) ("<document source=\"x\">" ∷ "    <paragraph>" ∷ "        <footnote_reference auto=\"*\" ids=\"footnote-reference-1\" refid=\"footnote-1\">" ∷ "            *" ∷ "         " ∷ "        <footnote_reference auto=\"*\" ids=\"footnote-reference-2\" refid=\"footnote-2\">" ∷ "            †" ∷ "    <footnote auto=\"*\" backrefs=\"footnote-reference-1\" ids=\"footnote-1\">" ∷ "        <label>" ∷ "            *" ∷ "        <paragraph>" ∷ "            x" ∷ "    <footnote auto=\"*\" backrefs=\"footnote-reference-2\" ids=\"footnote-2\">" ∷ "        <label>" ∷ "            †" ∷ "        <paragraph>" ∷ "            y" ∷ []) }
-{}
-
-/// Citations and references to them (Markup Specification, 'Citations').
-pub fn citations()
-    ensures citation { Reports usual ("[A]_ [b]_" ∷ "" ∷ ".. [A] x" ∷ []) ("<document source=\"x\">" ∷ "    <paragraph>" ∷ "        <citation_reference ids=\"citation-reference-1\" refid=\"a\">" ∷ "            A" ∷ "         " ∷ "        <problematic ids=\"problematic-1\" refid=\"system-message-1\">" ∷ "            [b]_" ∷ "    <citation backrefs=\"citation-reference-1\" ids=\"a\" names=\"a\">" ∷ "        <label>" ∷ "            A" ∷ "        <paragraph>" ∷ "            x" ∷ "    <section classes=\"system-messages\">" ∷ "        <title>" ∷ "            Docutils System Messages" ∷ "        <system_message backrefs=\"problematic-1\" ids=\"system-message-1\" level=\"3\" line=\"1\" source=\"x\" type=\"ERROR\">" ∷ "            <paragraph>" ∷ "                Unknown target name: \"b\"." ∷ []) ("x:1: (ERROR/3) Unknown target name: \"b\"." ∷ []) 0 }
-{}
-
-/// Substitution references give way to what their definitions hold (Markup Specification, 'Substitution Definitions').
-pub fn substitutions()
-    ensures replaced { Outputs ("|a|" ∷ "" ∷ ".. |a| replace:: b *c*" ∷ []) ("<document source=\"x\">" ∷ "    <paragraph>" ∷ "        b " ∷ "        <emphasis>" ∷ "            c" ∷ "    <substitution_definition names=\"a\">" ∷ "        b " ∷ "        <emphasis>" ∷ "            c" ∷ []) }
-    ensures by_its_name { Outputs ("|A  b|" ∷ "" ∷ ".. |a b| replace:: c" ∷ []) ("<document source=\"x\">" ∷ "    <paragraph>" ∷ "        c" ∷ "    <substitution_definition names=\"a\\ b\">" ∷ "        c" ∷ []) }
-    ensures nested { Outputs ("|a|" ∷ "" ∷ ".. |a| replace:: x |b|" ∷ ".. |b| replace:: y" ∷ []) ("<document source=\"x\">" ∷ "    <paragraph>" ∷ "        x " ∷ "        y" ∷ "    <substitution_definition names=\"a\">" ∷ "        x " ∷ "        y" ∷ "    <substitution_definition names=\"b\">" ∷ "        y" ∷ []) }
-    ensures circle { Reports usual ("|a|" ∷ "" ∷ ".. |a| replace:: |b|" ∷ ".. |b| replace:: |a|" ∷ []) ("<document source=\"x\">" ∷ "    <paragraph>" ∷ "        <problematic ids=\"problematic-1\" refid=\"system-message-1\">" ∷ "            |a|" ∷ "    <substitution_definition names=\"a\">" ∷ "        <problematic ids=\"problematic-2\" refid=\"system-message-2\">" ∷ "            |b|" ∷ "    <substitution_definition names=\"b\">" ∷ "        <problematic ids=\"problematic-3\" refid=\"system-message-3\">" ∷ "            |a|" ∷ "    <section classes=\"system-messages\">" ∷ "        <title>" ∷ "            Docutils System Messages" ∷ "        <system_message backrefs=\"problematic-1\" ids=\"system-message-1\" level=\"3\" line=\"1\" source=\"x\" type=\"ERROR\">" ∷ "            <paragraph>" ∷ "                Circular substitution definition referenced: \"a\"." ∷ "        <system_message backrefs=\"problematic-2\" ids=\"system-message-2\" level=\"3\" line=\"3\" source=\"x\" type=\"ERROR\">" ∷ "            <paragraph>" ∷ "                Circular substitution definition referenced: \"a\"." ∷ "        <system_message backrefs=\"problematic-3\" ids=\"system-message-3\" level=\"3\" line=\"4\" source=\"x\" type=\"ERROR\">" ∷ "            <paragraph>" ∷ "                Circular substitution definition referenced: \"b\"." ∷ []) ("x:1: (ERROR/3) Circular substitution definition referenced: \"a\"." ∷ "x:3: (ERROR/3) Circular substitution definition referenced: \"a\"." ∷ "x:4: (ERROR/3) Circular substitution definition referenced: \"b\"." ∷ []) 0 }
-    ensures undefined { Reports usual ("|a|" ∷ []) ("<document source=\"x\">" ∷ "    <paragraph>" ∷ "        <problematic ids=\"problematic-1\" refid=\"system-message-1\">" ∷ "            |a|" ∷ "    <section classes=\"system-messages\">" ∷ "        <title>" ∷ "            Docutils System Messages" ∷ "        <system_message backrefs=\"problematic-1\" ids=\"system-message-1\" level=\"3\" line=\"1\" source=\"x\" type=\"ERROR\">" ∷ "            <paragraph>" ∷ "                Undefined substitution referenced: \"a\"." ∷ []) ("x:1: (ERROR/3) Undefined substitution referenced: \"a\"." ∷ []) 0 }
-{}
-
-/// The bibliography of a document (Markup Specification, 'Bibliographic Fields').
-pub fn bibliographic_fields()
-    ensures fields { Outputs ("A" ∷ "=" ∷ "" ∷ ":Author: me" ∷ ":Date: now" ∷ ":x: y" ∷ "" ∷ "b" ∷ []) ("<document ids=\"a\" names=\"a\" source=\"x\" title=\"A\">" ∷ "    <title>" ∷ "        A" ∷ "    <docinfo>" ∷ "        <author>" ∷ "            me" ∷ "        <date>" ∷ "            now" ∷ "        <field classes=\"x\">" ∷ "            <field_name>" ∷ "                x" ∷ "            <field_body>" ∷ "                <paragraph>" ∷ "                    y" ∷ "    <paragraph>" ∷ "        b" ∷ []) }
-    ensures topics { Outputs (":Abstract: a" ∷ ":Dedication: b" ∷ []) ("<document source=\"x\">" ∷ "    <topic classes=\"dedication\">" ∷ "        <title>" ∷ "            Dedication" ∷ "        <paragraph>" ∷ "            b" ∷ "    <topic classes=\"abstract\">" ∷ "        <title>" ∷ "            Abstract" ∷ "        <paragraph>" ∷ "            a" ∷ []) }
-    ensures form { Reports usual (":Date: a" ∷ "" ∷ "  b" ∷ []) ("<document source=\"x\">" ∷ "    <docinfo>" ∷ "        <field classes=\"date\">" ∷ "            <field_name>" ∷ "                Date" ∷ "            <field_body>" ∷ "                <paragraph>" ∷ "                    a" ∷ "                <paragraph>" ∷ "                    b" ∷ "                <system_message level=\"2\" line=\"1\" source=\"x\" type=\"WARNING\">" ∷ "                    <paragraph>" ∷ "                        Bibliographic field \"date\" is not in its form." ∷ []) ("x:1: (WARNING/2) Bibliographic field \"date\" is not in its form." ∷ []) 0 }
-{}
-
-/// Transitions, and where none may be (Markup Specification, 'Transitions').
-pub fn transitions()
-    ensures between { Outputs ("a" ∷ "" ∷ "----" ∷ "" ∷ "b" ∷ []) ("<document source=\"x\">" ∷ "    <paragraph>" ∷ "        a" ∷ "    <transition>" ∷ "    <paragraph>" ∷ "        b" ∷ []) }
-    ensures out_of_a_section { Outputs ("x" ∷ "" ∷ "A" ∷ "=" ∷ "" ∷ "a" ∷ "" ∷ "----" ∷ "" ∷ "B" ∷ "=" ∷ "" ∷ "b" ∷ []) ("<document source=\"x\">" ∷ "    <paragraph>" ∷ "        x" ∷ "    <section ids=\"a\" names=\"a\">" ∷ "        <title>" ∷ "            A" ∷ "        <paragraph>" ∷ "            a" ∷ "    <transition>" ∷ "    <section ids=\"b\" names=\"b\">" ∷ "        <title>" ∷ "            B" ∷ "        <paragraph>" ∷ "            b" ∷ []) }
-    ensures begins { Reports usual ("----" ∷ "" ∷ "a" ∷ []) ("<document source=\"x\">" ∷ "    <system_message level=\"3\" line=\"1\" source=\"x\" type=\"ERROR\">" ∷ "        <paragraph>" ∷ "            Document or section may not begin with a transition." ∷ "    <transition>" ∷ "    <paragraph>" ∷ "        a" ∷ []) ("x:1: (ERROR/3) Document or section may not begin with a transition." ∷ []) 0 }
-    ensures ends { Reports usual ("a" ∷ "" ∷ "----" ∷ []) ("<document source=\"x\">" ∷ "    <paragraph>" ∷ "        a" ∷ "    <transition>" ∷ "    <system_message level=\"3\" line=\"3\" source=\"x\" type=\"ERROR\">" ∷ "        <paragraph>" ∷ "            Document may not end with a transition." ∷ []) ("x:3: (ERROR/3) Document may not end with a transition." ∷ []) 0 }
-{}
-
-/// Messages below the report level are left out, and problematics whose messages are become texts (Configuration, 'report_level').
-pub fn report_levels()
-    ensures text_of_a_problematic { Reports (record usual { report = Error }) ("a" ∷ "*b" ∷ []) ("<document source=\"x\">" ∷ "    <paragraph>" ∷ "        a" ∷ "        *" ∷ "        b" ∷ []) [] 0 }
-    ensures infos { Reports (record usual { report = Info }) ("x" ∷ "" ∷ "A" ∷ "=" ∷ "" ∷ "A" ∷ "=" ∷ []) ("<document source=\"x\">" ∷ "    <paragraph>" ∷ "        x" ∷ "    <section dupnames=\"a\" ids=\"a\">" ∷ "        <title>" ∷ "            A" ∷ "    <section dupnames=\"a\" ids=\"a-1\">" ∷ "        <title>" ∷ "            A" ∷ "        <system_message backrefs=\"a-1\" level=\"1\" line=\"6\" source=\"x\" type=\"INFO\">" ∷ "            <paragraph>" ∷ "                Duplicate implicit target name: \"a\"." ∷ []) ("x:6: (INFO/1) Duplicate implicit target name: \"a\"." ∷ []) 0 }
-    ensures in_the_exit_status { Reports (record usual { exit = Warning }) ("a" ∷ "*b" ∷ []) ("<document source=\"x\">" ∷ "    <paragraph>" ∷ "        a" ∷ "        <problematic ids=\"problematic-1\" refid=\"system-message-1\">" ∷ "            *" ∷ "        b" ∷ "    <system_message backrefs=\"problematic-1\" ids=\"system-message-1\" level=\"2\" line=\"1\" source=\"x\" type=\"WARNING\">" ∷ "        <paragraph>" ∷ "            Inline emphasis start-string without end-string." ∷ []) ("x:1: (WARNING/2) Inline emphasis start-string without end-string." ∷ []) 12 }
-{}
-
-/// A message at or above the halt level ends the run without a document (Configuration, 'halt_level').
-pub fn halt_levels()
-    ensures halted { Reports (record usual { halt = Warning }) ("a" ∷ "*b" ∷ []) [] ("x:1: (WARNING/2) Inline emphasis start-string without end-string." ∷ "Exiting due to level-2 (WARNING) system message." ∷ []) 1 }
-{}
-
-/// What is refused: a line that is too long, blocks that are nested too deeply, and bytes that aren't UTF-8 (Configuration, 'line_length_limit').
-pub fn refusals()
-    ensures long_line { Reports (record usual { limit = 3 }) ("abc" ∷ "abcd" ∷ []) ("<document source=\"x\">" ∷ "    <system_message level=\"3\" line=\"2\" source=\"x\" type=\"ERROR\">" ∷ "        <paragraph>" ∷ "            Line 2 exceeds the line-length-limit." ∷ []) ("x:2: (ERROR/3) Line 2 exceeds the line-length-limit." ∷ []) 0 }
-    ensures too_deep { result_of (record (profile_of usual) { nesting = 1 }) usual (codes "x") (codes "- - a") ≡ Err (TooDeep 1) }
-    ensures not_utf8 { result_of (profile_of usual) usual (codes "x") (97 ∷ 255 ∷ []) ≡ Err (NotUtf8 1) }
-{}
+pub mod bodies;
+pub mod directives;
+pub mod docinfo;
+pub mod documents;
+pub mod footnotes;
+pub mod inline;
+pub mod lines;
+pub mod order;
+pub mod refusals;
+pub mod settings;
+pub mod statuses;
+pub mod substitutions;
+pub mod tables;
+pub mod targets;
+pub mod transitions;

@@ -34,13 +34,13 @@ pub fn options()
 
 /// The settings that options choose (Header, 'rst_options').
 pub fn settings()
-    ensures usual { Sets usual_options (record usual { limit = 10000 }) }
-    ensures levels { Sets (record usual_options { report = 1; halt = 2; exit_status = 3; line_length_limit = 1000 })
+    ensures usual { Sets usual_options usual }
+    ensures levels { Sets (record usual_options { report = 1; halt = 2; exit_status = 3 })
         (record usual { report = threshold.Info; halt = threshold.Warning; exit = threshold.Error }) }
-    ensures higher_levels { Sets (record usual_options { report = 4; halt = 5; exit_status = 1; line_length_limit = 1000 })
+    ensures higher_levels { Sets (record usual_options { report = 4; halt = 5; exit_status = 1 })
         (record usual { report = threshold.Severe; halt = threshold.Never; exit = threshold.Info }) }
-    ensures no_doc_title { Sets (record usual_options { no_doc_title = 1; line_length_limit = 1000 }) (record usual { title = false }) }
-    ensures no_doc_info { Sets (record usual_options { no_doc_info = 1; line_length_limit = 1000 }) (record usual { info = false }) }
+    ensures no_doc_title { Sets (record usual_options { no_doc_title = 1 }) (record usual { title = false }) }
+    ensures no_doc_info { Sets (record usual_options { no_doc_info = 1 }) (record usual { info = false }) }
 {}
 
 /// The result of each end (Header, 'rst_end').

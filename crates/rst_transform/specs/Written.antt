@@ -11,9 +11,9 @@ use Rattle.rst_tree.specs.declared.tag.Tag.TheVariants.{FootnoteReference, Parag
 use Rattle.rst_transform_names.specs.Trees.{counts, document, element, Prints, says, text}
 use Rattle.rst_transform.specs.Finishing.{leaves}
 
--- the settings of a run without options, but for the length of lines
+-- the settings of a run without options
 abbrev pub usual : Settings
-usual = record { report = Warning; halt = Severe; exit = Never; title = true; info = true; tab = 8; limit = 1000; tab_from = omega arith; tab_to = omega arith }
+usual = record { report = Warning; halt = Severe; exit = Never; title = true; info = true; tab = 8; limit = 10000; tab_from = omega arith; tab_to = omega arith }
 
 -- of a document of these nodes, in which no number was given to a message, these lines are printed after all transforms, without a source
 abbrev pub Leaves : Settings → List Node → List String → Type 0

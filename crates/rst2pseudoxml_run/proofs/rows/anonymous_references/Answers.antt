@@ -1,9 +1,0 @@
-use Rattle.std.proofs.Common.{refl}
-use Rattle.rst2pseudoxml_run.proofs.Computing.{rst2pseudoxml_run}
-use Rattle.rst2pseudoxml_run.proofs.rows.anonymous_references.Goals as goal
-
-pub returns : goal.returns
-unfolding rst2pseudoxml_run
-returns c = record {
-  mismatch = refl;
-}

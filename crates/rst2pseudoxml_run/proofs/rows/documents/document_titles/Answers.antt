@@ -1,0 +1,12 @@
+use Rattle.std.proofs.Common.{refl}
+use Rattle.rst2pseudoxml_run.proofs.Computing.{rst2pseudoxml_run}
+use Rattle.rst2pseudoxml_run.proofs.rows.documents.document_titles.Goals as goal
+
+pub returns : goal.returns
+unfolding rst2pseudoxml_run
+returns c = record {
+  title = refl;
+  subtitle = refl;
+  comment_before = refl;
+  two_sections = refl;
+}

@@ -1,0 +1,10 @@
+use Rattle.std.proofs.Common.{refl}
+use Rattle.rst2pseudoxml_run.proofs.Computing.{rst2pseudoxml_run}
+use Rattle.rst2pseudoxml_run.proofs.rows.inline.emphasis.Goals as goal
+
+pub returns : goal.returns
+unfolding rst2pseudoxml_run
+returns c = record {
+  without_an_end = refl;
+  end_inside_a_word = refl;
+}

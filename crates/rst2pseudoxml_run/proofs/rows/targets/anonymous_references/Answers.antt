@@ -1,0 +1,11 @@
+use Rattle.std.proofs.Common.{refl}
+use Rattle.rst2pseudoxml_run.proofs.Computing.{rst2pseudoxml_run}
+use Rattle.rst2pseudoxml_run.proofs.rows.targets.anonymous_references.Goals as goal
+
+pub returns : goal.returns
+unfolding rst2pseudoxml_run
+returns c = record {
+  one = refl;
+  more_references = refl;
+  more_targets = refl;
+}
