@@ -1,18 +1,15 @@
 -- Texts that are written out, and what the program shows of them, for worked examples. No rule of markup.
 use Prim.Native.String.{String}
 use Rattle.std.proofs.Common.{arith}
-use Rattle.std.specs.Prelude.{◌≡◌, ℕ, true, List, [], Ok, codes, encode_utf8_all}
+use Rattle.std.specs.Prelude.{◌≡◌, ℕ, List, [], Ok, codes, encode_utf8_all}
 use Rattle.rst_settings.specs.Profile.{profile_of}
 use Rattle.rst_settings.specs.declared.Settings.{Settings}
-use Rattle.rst_settings.specs.declared.Threshold.TheVariants.{Never, Severe, Warning}
 use Rattle.rst_text.specs.Written.{written}
+-- the settings of a call without options
+pub use Rattle.rst_transform.specs.Written.{usual}
 use Rattle.rst2pseudoxml_run.specs.Shown.{result_of}
 
--- the settings of a call without options
-abbrev pub usual : Settings
-usual = record { report = Warning; halt = Severe; exit = Never; title = true; info = true; tab = 8; limit = 10000; tab_from = omega arith; tab_to = omega arith }
-
--- the same with tab stops every four columns
+-- the usual settings with tab stops every four columns
 abbrev pub narrow_tabs : Settings
 narrow_tabs = record usual { tab = 4; tab_from = omega arith; tab_to = omega arith }
 
