@@ -199,6 +199,12 @@ def doubled(name, references):
     return f"{references}\n{twice}.. |a11| replace:: |{name}|\n.. |{name.upper()}| replace:: b\n"
 
 
+def use_next(n, uses, first="", last="\\"):
+    """Definitions in about n / 500 chains of 99, each of which uses the next one so many times after a text; and what the last one stands for."""
+    chain = "".join(f".. |b{{k}}-{j}| replace:: {first}" + "\\ ".join([f"|b{{k}}-{j + 1}|"] * uses) + "\n" for j in range(98))
+    return numbered(max(1, n // 500), chain + f".. |b{{k}}-98| replace:: {last}\n")
+
+
 # For n, a family makes a document of some multiple of n bytes; it is measured at n, 2n and 4n.
 FAMILIES = {
     "paragraphs": lambda n: "some words\nin two lines\n\n" * n,
@@ -261,6 +267,9 @@ FAMILIES = {
     "a definition that uses them all": lambda n: alone(n, "*z* " * 2400, ".. |b| replace:: " + numbered(n, "|u{k}| ") + "\n"),
     "definitions that use a long alt": lambda n: long_alt(n // 4, n // 20),
     "definitions that use a deep one": lambda n: chained(1, 90, "d", "c") + alone(n // 20, "\\ ".join(["|a0|"] * 100)),
+    "definitions that each use the next one": lambda n: use_next(n, 1),
+    "definitions that each use the next one twice": lambda n: use_next(n, 2),
+    "definitions that use many, and one without a definition": lambda n: doubled("c", use_next(n, 1, "|a2|\\ ", "|u|")),
     "substitutions of a long name in another case": lambda n: doubled("x" * n, "|a0|\n"),
     "definitions that use a long name in another case": lambda n: doubled("x" * n, numbered(n // 500, ".. |b{k}| replace:: |a0|\n")),
     "directives": lambda n: ".. note:: text\n\n" * n,

@@ -29,11 +29,11 @@ unfolding given_within
 circular_within found zero path name left one is among = rw (is, among) refl
 circular_within found (suc more) path name left one is among = rw (is, among) refl
 
-too_deep_within : (found : List ℕ → Option (ℕ × Forest)) (path name : List ℕ) (left : ℕ) (one : ℕ × Forest) → found name ≡ Some one → list_any (λ place. place == one.0) path ≡ false → given_within found zero path name left ≡ Err TooLarge
+pub too_deep_within : (found : List ℕ → Option (ℕ × Forest)) (path name : List ℕ) (left : ℕ) (one : ℕ × Forest) → found name ≡ Some one → list_any (λ place. place == one.0) path ≡ false → given_within found zero path name left ≡ Err TooLarge
 unfolding given_within
 too_deep_within found path name left one is among = rw (is, among) refl
 
-entered_within : (found : List ℕ → Option (ℕ × Forest)) (more : ℕ) (path name : List ℕ) (left : ℕ) (one : ℕ × Forest) → found name ≡ Some one → list_any (λ place. place == one.0) path ≡ false
+pub entered_within : (found : List ℕ → Option (ℕ × Forest)) (more : ℕ) (path name : List ℕ) (left : ℕ) (one : ℕ × Forest) → found name ≡ Some one → list_any (λ place. place == one.0) path ≡ false
     → given_within found (suc more) path name left ≡ expanded (given_within found more (path ++ one.0 ∷ [])) one.1 left
 unfolding given_within
 entered_within found more path name left one is among = rw (is, among) refl

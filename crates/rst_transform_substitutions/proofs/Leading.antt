@@ -27,7 +27,7 @@ use Rattle.rst_transform_substitutions.specs.Numbering.{is_at_least, may_lead, n
 use Rattle.rst_transform_substitutions.specs.Outcomes.{came}
 
 -- a test that a weaker one follows from
-weaker : (one two : ℕ → Bool) → ((x : ℕ) → one x ≡ true → two x ≡ true) → (xs : List ℕ) → list_all one xs ≡ true → list_all two xs ≡ true
+pub weaker : (one two : ℕ → Bool) → ((x : ℕ) → one x ≡ true → two x ≡ true) → (xs : List ℕ) → list_all one xs ≡ true → list_all two xs ≡ true
 weaker one two follows [] all = refl
 weaker one two follows (x ∷ xs) all =
     let parts = and_parts (one x) (list_all one xs) all in

@@ -2,6 +2,8 @@ pub mod Computing
 pub mod Defining
 pub mod Expanding
 pub mod Leading
+pub mod Measuring
 pub mod NoReferences
 pub mod Remembering
 pub mod Replacing
+pub mod Sizing

@@ -15,6 +15,7 @@ use Rattle.rst_transform_substitutions.specs.declared.outcomes.Outcomes.{Outcome
 use Rattle.rst_transform_substitutions.specs.Definitions.{found_by, known_found}
 use Rattle.rst_transform_substitutions.specs.Expansion.{nodes_for, path_from}
 use Rattle.rst_transform_substitutions.specs.Numbering.{AreOrdered}
+use Rattle.rst_transform_substitutions.specs.Sizes.{AreSized}
 
 -- an outcome, as the definition gives it
 abbrev pub came : Outcome → Result (List Node) ExpansionFault
@@ -38,8 +39,9 @@ HoldsTrue known memory =
     (place : ℕ) (kept : Kept) (name : List ℕ) → get nat_cmp memory place ≡ Some kept → GoesInto known kept.within place name
     → came kept.outcome ≡ nodes_for (found_by known) kept.within name
 
--- so it is in definitions and outside of them, and the numbers tell which definition doesn't lead to which
+-- so it is in definitions and outside of them, the numbers tell which definition doesn't lead to which, and the sizes are those of the definitions
 pub record Remembers (known : Definitions) (outcomes : Outcomes) : Type 0 where
   pub ordered : AreOrdered known outcomes.numbers.items
+  pub sized : AreSized known
   pub outside : HoldsTrue known outcomes.outside
   pub inside : HoldsTrue known outcomes.inside

@@ -6,6 +6,7 @@ ghost use Rattle.rst_tree.specs.Faults.{Gives};
 ghost use Rattle.rst_transform_work.specs.Reading.{name_in};
 
 use crate::listing::Listed;
+use crate::sizes::Size;
 use rst_transform_work::{copies, folded, said};
 use rst_tree::{Attrs, Children, Key, Result, Tag};
 use std::alloc::Global;
@@ -19,6 +20,8 @@ use std::collections::BTreeMap;
 pub struct Definitions {
     /// The nodes that stand for references.
     pub contents: Vec<Children>,
+    /// Their sizes, once they are measured.
+    pub sizes: Vec<Option<Size>>,
     /// The place of the last definition of a name as it was written.
     exact: BTreeMap<String, usize>,
     /// The place of the last definition of a name by `name_of`.
@@ -40,6 +43,7 @@ impl Definitions {
         let listed = Listed::of(alloc, nodes)?;
         let mut definitions = Definitions {
             contents: Vec::with_capacity(alloc, listed.definitions.len())?,
+            sizes: Vec::new(alloc),
             exact: BTreeMap::new(alloc),
             normalized: BTreeMap::new(alloc),
             remembered: BTreeMap::new(alloc),

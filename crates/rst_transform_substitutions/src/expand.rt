@@ -10,7 +10,9 @@ ghost use Rattle.rst_transform_substitutions.specs.Outcomes.{Remembers};
 
 use crate::definitions::Definitions;
 use crate::expansion::is_reference;
+use crate::numbering::numbered;
 use crate::outcomes::{Outcome, Outcomes, reference_outcome};
+use crate::sizes::sizes_of;
 use rst_transform_work::{Context, Document, said, take_source};
 use rst_tree::{Attrs, Children, Key, Level, Node, Result};
 use std::alloc::Global;
@@ -42,8 +44,11 @@ use std::mem;
 pub fn expand(mut document: Document, context: &mut Context) -> Result<Document>
     ensures { Gives (Makes (with_expansions document) context.old context.new) result }
 {
-    let definitions = Definitions::of(context.alloc, &document.children)?;
-    let mut outcomes = Outcomes::new(context.alloc, &definitions)?;
+    let mut definitions = Definitions::of(context.alloc, &document.children)?;
+    let numbering = numbered(context.alloc, &definitions)?;
+    let sizes = sizes_of(context.alloc, &definitions, &numbering.order)?;
+    definitions.sizes = sizes;
+    let mut outcomes = Outcomes::new(context.alloc, numbering.numbers);
     let nodes = &mut document.children;
     expand_in(&definitions, nodes, None, &mut outcomes, context)?;
     Ok(document)

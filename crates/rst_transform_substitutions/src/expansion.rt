@@ -1,13 +1,15 @@
 //! What stands for one substitution reference.
-ghost use Rattle.std.specs.Prelude.{◌≡◌, ◌+◌, ◌≤◌, nat_le, true, take, vec_len, ◌-◌, OnOk};
+ghost use Rattle.std.specs.Prelude.{◌≡◌, ◌+◌, ◌≤◌, nat_le, true, take, vec_len, ◌-◌, IfOk, OnOk, Some};
 ghost use Rattle.rst_tree.specs.Faults.{Gives};
 ghost use Rattle.rst_tree_index.specs.Kinds.{is_reference};
 ghost use Rattle.rst_transform_substitutions.specs.declared.expansion.ExpansionFault.TheVariants.{Undefined};
 ghost use Rattle.rst_transform_substitutions.specs.declared.expansion.Halted.TheVariants.{By as HaltedBy, NoMemory as HaltedByMemory};
 ghost use Rattle.rst_transform_substitutions.specs.Definitions.{found_by};
-ghost use Rattle.rst_transform_substitutions.specs.Expansion.{behind, copied, expanded, fault_text, given, left_of, nodes_for, size_of, ComesTo, Enters};
+ghost use Rattle.rst_transform_substitutions.specs.Expansion.{behind, copied, expanded, fault_text, given, left_of, most_visited, nodes_for, size_of, ComesTo, Enters};
+ghost use Rattle.rst_transform_substitutions.specs.Sizes.{content_last, AreSized, Passes};
 
 use crate::definitions::Definitions;
+use crate::sizes::{are_above, size_at};
 use rst_transform_work::{element, said};
 use rst_tree::{Attrs, Children, Key, Node, Result, Tag, Text, TreeFault};
 use std::alloc::{AllocFailed, Global};
@@ -108,10 +110,39 @@ impl Progress {
         self.left -= characters + 1;
         true
     }
+
+    /// Counts at once what is visited in the definition that was gone into last, if nothing is copied, its size is known and it can't
+    /// lead to one on the path; whether it does.
+    fn passes(&mut self, definitions: &Definitions, copies: bool) -> Result<bool, Halted>
+        requires sized { AreSized definitions.now }
+        requires left { self.old.left ≤ most_visited }
+        ensures passes { Passes copies (left_of (expanded (given (found_by definitions.now) self.old.path.items) (content_last definitions.now self.old.path.items) self.old.left)) self.old.left self.new.left result }
+        ensures path { self.new.path ≡ self.old.path }
+        ensures left { self.new.left ≤ self.old.left }
+    {
+        if copies {
+            return Ok(false);
+        }
+        let Some(last) = self.path.last() else {
+            return Ok(false);
+        };
+        let Some(size) = size_at(&definitions.sizes, *last) else {
+            return Ok(false);
+        };
+        if !are_above(&definitions.sizes, size.nested, &self.path) {
+            return Ok(false);
+        }
+        let more = MOST_NESTED.saturating_sub(self.path.len());
+        if size.nested > more || size.visited > self.left {
+            return Err(Halted::By(ExpansionFault::TooLarge));
+        }
+        self.left -= size.visited;
+        Ok(true)
+    }
 }
 
 /// How many characters a text has; an element has none of its own.
-fn characters_in(node: &Node) -> usize
+pub fn characters_in(node: &Node) -> usize
     ensures { result + 1 ≡ size_of node.now }
 {
     match node {
@@ -136,6 +167,8 @@ fn add_expanded(
     progress: &mut Progress,
     nodes: &mut Vec<Node>,
 ) -> Result<(), Halted>
+    requires sized { AreSized definitions.now }
+    requires left { progress.old.left ≤ most_visited }
     ensures visits { ComesTo (left_of (expanded (given (found_by definitions.now) progress.old.path.items) content.now progress.old.left)) (λ _. progress.new.left) result }
     ensures nodes { copies ≡ true → ComesTo (behind nodes.old.items (expanded (given (found_by definitions.now) progress.old.path.items) content.now progress.old.left)) (λ _. (nodes.new.items, progress.new.left)) result }
     ensures path { OnOk result (progress.new.path.items ≡ progress.old.path.items) }
@@ -161,6 +194,10 @@ fn add_expanded(
             } => {
                 if is_reference(*tag) {
                     let inner = entered(alloc, definitions, said(attrs, Key::Refname), progress)?;
+                    if progress.passes(definitions, copies)? {
+                        progress.path.pop();
+                        continue;
+                    }
                     add_expanded(alloc, definitions, inner, copies, progress, nodes)?;
                     progress.path.pop();
                     continue;
@@ -195,6 +232,7 @@ fn entered<'a>(
     progress: &mut Progress,
 ) -> Result<&'a Children, Halted>
     ensures content { let reference = given (found_by definitions.now) progress.old.path.items name.now in Enters reference (λ content. expanded (given (found_by definitions.now) progress.new.path.items) content.now) result }
+    ensures there { IfOk result (λ content. content_last definitions.now progress.new.path.items ≡ content.now) }
     ensures path { OnOk result (take (vec_len progress.new.path - 1) progress.new.path.items ≡ progress.old.path.items) }
     ensures left { progress.new.left ≡ progress.old.left }
 {
@@ -230,6 +268,7 @@ pub fn expansion(
     name: &str,
     within: Option<usize>,
 ) -> Result<Vec<Node>, Halted>
+    requires { AreSized definitions.now }
     ensures { ComesTo (nodes_for (found_by definitions.now) within name.now) (λ nodes. nodes.items) result }
 {
     let mut progress = Progress {
@@ -240,15 +279,17 @@ pub fn expansion(
         progress.path.push(place)?;
     }
     let content = entered(alloc, definitions, name, &mut progress)?;
-    let mut nodes = Vec::new(alloc);
-    add_expanded(
-        alloc,
-        definitions,
-        content,
-        false,
-        &mut progress,
-        &mut nodes,
-    )?;
+    if !progress.passes(definitions, false)? {
+        let mut nodes = Vec::new(alloc);
+        add_expanded(
+            alloc,
+            definitions,
+            content,
+            false,
+            &mut progress,
+            &mut nodes,
+        )?;
+    }
     progress.left = MOST_VISITED;
     let mut nodes = Vec::new(alloc);
     add_expanded(alloc, definitions, content, true, &mut progress, &mut nodes)?;

@@ -8,3 +8,4 @@ mod listing;
 mod numbering;
 mod outcomes;
 pub mod rows;
+mod sizes;

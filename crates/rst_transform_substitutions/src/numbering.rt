@@ -18,18 +18,30 @@ enum Step {
     Leave(usize),
 }
 
-/// A number for each definition: none refers to one of a lower number, and two have equal numbers only if each leads to the other.
+/// What a search over the definitions finds.
+#[derive(Drop)]
+pub struct Numbering {
+    /// A number for each definition: none refers to one of a lower number, and two have equal numbers only if each leads to the other.
+    pub numbers: Vec<usize>,
+    /// The places of the definitions, each after those that it refers to, but for those that lead back to it.
+    pub order: Vec<usize>,
+}
+
+/// The numbers of the definitions, and their order.
 ///
-/// The first half is checked in the end, since what is remembered rests on it.
-pub fn numbered(alloc: Global, definitions: &Definitions) -> Result<Vec<usize>>
-    ensures { Gives (λ numbers. AreOrdered definitions.now numbers.items) result }
+/// That no definition refers to one of a lower number is checked in the end, since what is remembered rests on it.
+pub fn numbered(alloc: Global, definitions: &Definitions) -> Result<Numbering>
+    ensures { Gives (λ numbering. AreOrdered definitions.now numbering.numbers.items) result }
 {
     let referred = referred(alloc, definitions)?;
-    let numbers = component_numbers(alloc, &referred)?;
-    if !are_ordered(&referred, &numbers) {
-        return Ok(Vec::new(alloc));
+    let found = searched(alloc, &referred)?;
+    if !are_ordered(&referred, &found.numbers) {
+        return Ok(Numbering {
+            numbers: Vec::new(alloc),
+            order: found.order,
+        });
     }
-    Ok(numbers)
+    Ok(found)
 }
 
 /// The places that each definition refers to.
@@ -83,12 +95,13 @@ pub fn may_lead(numbers: &[usize], place: usize, other: usize) -> bool
     numbers.get(place) <= numbers.get(other)
 }
 
-/// The numbers before they are checked: one for each set of places that lead to one another, lower if it was left later. A place is
-/// entered if it has no number yet: its number is the count of steps.
+/// The places in the order in which they are left, and the numbers before they are checked: one for each set of places that lead to one
+/// another, lower if it was left later. A place is entered if it has no number yet: its number is the count of steps.
 ///
 /// A number below the count of steps is one of a place that isn't left, or leads to one that isn't (Pearce, 'A space-efficient
 /// algorithm for finding strongly connected components').
-fn component_numbers(alloc: Global, referred: &[Vec<usize>]) -> Result<Vec<usize>> {
+fn searched(alloc: Global, referred: &[Vec<usize>]) -> Result<Numbering> {
+    let mut order = Vec::with_capacity(alloc, referred.len())?;
     let mut numbers = vec![in alloc; 0; referred.len()]?;
     let mut open = Vec::new(alloc);
     let mut steps = Vec::new(alloc);
@@ -113,10 +126,11 @@ fn component_numbers(alloc: Global, referred: &[Vec<usize>]) -> Result<Vec<usize
             }
             Some(Step::Leave(place)) => {
                 leave(referred, place, usize::MAX - count, &mut numbers, &mut open)?;
+                order.push(place)?;
             }
         }
     }
-    Ok(numbers)
+    Ok(Numbering { numbers, order })
 }
 
 /// Leaves a place: it takes the least number of those that it refers to, or, if none is less than its own, closes the set of those

@@ -4,12 +4,14 @@ ghost use Rattle.std.specs.BTreeMap.{get};
 ghost use Rattle.rst_tree.specs.Faults.{Gives};
 ghost use Rattle.rst_transform_substitutions.specs.Definitions.{found_by};
 ghost use Rattle.rst_transform_substitutions.specs.Expansion.{nodes_for};
-ghost use Rattle.rst_transform_substitutions.specs.Numbering.{may_lead};
+ghost use Rattle.rst_transform_substitutions.specs.Numbering.{may_lead, AreOrdered};
 ghost use Rattle.rst_transform_substitutions.specs.Outcomes.{came, GoesInto, HoldsTrue, Remembers};
+ghost use Rattle.rst_transform_substitutions.specs.Sizes.{AreSized};
+ghost use Rattle.rst_transform_substitutions.specs.declared.definitions.Definitions.{Definitions};
 
 use crate::definitions::Definitions;
 use crate::expansion::{ExpansionFault, Halted, expansion};
-use crate::numbering::{may_lead, numbered};
+use crate::numbering::may_lead;
 use rst_transform_work::copies;
 use rst_tree::{Children, Result, TreeFault};
 use std::alloc::Global;
@@ -65,14 +67,14 @@ pub struct Outcomes {
 
 impl Outcomes {
     /// Nothing is remembered yet.
-    pub fn new(alloc: Global, definitions: &Definitions) -> Result<Outcomes>
-        ensures { Gives (Remembers definitions.now) result }
+    pub fn new(alloc: Global, numbers: Vec<usize>) -> Outcomes
+        ensures { (known : Definitions) → AreOrdered known numbers.items → AreSized known → Remembers known result }
     {
-        Ok(Outcomes {
-            numbers: numbered(alloc, definitions)?,
+        Outcomes {
+            numbers,
             outside: BTreeMap::new(alloc),
             inside: BTreeMap::new(alloc),
-        })
+        }
     }
 
     /// The place of a definition where a reference to another comes to what it comes to in an outer one: that of the outer one
@@ -118,6 +120,7 @@ fn new_outcome(
     name: &str,
     within: Option<usize>,
 ) -> Result<Outcome>
+    requires { AreSized definitions.now }
     ensures { Gives (λ outcome. came outcome ≡ nodes_for (found_by definitions.now) within name.now) result }
 {
     match expansion(alloc, definitions, name, within) {
@@ -137,6 +140,7 @@ fn remembered(
     within: Option<usize>,
     memory: &mut Memory,
 ) -> Result<Outcome>
+    requires sized { AreSized definitions.now }
     requires goes { GoesInto definitions.now within place name.now }
     requires holds { HoldsTrue definitions.now memory.old }
     ensures came { Gives (λ outcome. came outcome ≡ nodes_for (found_by definitions.now) within name.now) result }

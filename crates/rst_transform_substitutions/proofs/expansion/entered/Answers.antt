@@ -1,8 +1,10 @@
-use Rattle.std.proofs.Common.{◌≡◌, refl, List, ℕ, sym, ◌∙◌, ap, arith, rules, Some, Err, [], ◌∷◌, ◌++◌}
+use Rattle.std.proofs.Common.{◌≡◌, refl, List, ℕ, subst, sym, ◌∙◌, ap, arith, rules, Some, Err, [], ◌∷◌, ◌++◌}
 use Rattle.rst_transform_substitutions.specs.declared.expansion.ExpansionFault.TheVariants.{Circular}
 use Rattle.rst_transform_substitutions.specs.Definitions.{found_by}
 use Rattle.rst_transform_substitutions.specs.Expansion.{expanded, given, Expansion}
 use Rattle.rst_transform_substitutions.proofs.Expanding.{circular_within, found-some, given-entered, given-too_deep, undefined_within}
+use Rattle.rst_transform_substitutions.specs.Sizes.{content_last}
+use Rattle.rst_transform_substitutions.proofs.Sizing.{content_pushed}
 use Rattle.rst_transform_substitutions.proofs.expansion.entered.Goals as goal
 
 pub returns-in_default-clause-content : goal.returns-in_default-clause-content
@@ -30,3 +32,8 @@ returns-clause-content c = λ left.
     let path : c.args.progress.now.path.items ++ c.in-Some.place ∷ [] ≡ c.push.new.self.items = sym c.in_ok-push.ensures.items in
     given-entered _ _ _ left _ found (search (rules, c.if-contains.false)) (omega arith)
     ∙ ap (λ (path : List ℕ). expanded (given (found_by c.args.definitions.now) path) c.in-Some-content.content.now left) path
+
+pub returns-clause-there : goal.returns-clause-there
+returns-clause-there c =
+    let path : c.args.progress.now.path.items ++ c.in-Some.place ∷ [] ≡ c.push.new.self.items = sym c.in_ok-push.ensures.items in
+    subst (λ path. content_last c.args.definitions.now path ≡ c.in-Some-content.content.now) path (content_pushed c.args.definitions.now c.args.progress.now.path.items c.in-Some.place c.in-Some-content.content.now c.in-Some-content.ensures)

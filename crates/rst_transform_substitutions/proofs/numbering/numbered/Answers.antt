@@ -6,5 +6,5 @@ returns-then-not-are_ordered c = nothing_ordered c.args.definitions.now c.new.re
 
 pub returns : goal.returns
 returns c =
-    ordered_all (λ places. places.items) c.args.definitions.now c.in_ok-referred.referred.items c.in_ok-numbers.numbers.items c.in_ok-referred.ensures
+    ordered_all (λ places. places.items) c.args.definitions.now c.in_ok-referred.referred.items c.in_ok-found.found.numbers.items c.in_ok-referred.ensures
     (rw (c.deref-2.ensures.value, c.deref-3.ensures.value) at (c.are_ordered.ensures c.if-not-are_ordered.false))

@@ -4,8 +4,9 @@ use Rattle.rst_transform_substitutions.proofs.Remembering.{remembers-none}
 use Rattle.rst_transform_substitutions.proofs.outcomes.Outcomes.new.Goals as goal
 
 pub returns : goal.returns
-returns c = record {
-  ordered = c.in_ok-numbered.ensures;
-  outside = remembers-none c.args.definitions.now c.new.result (λ place. grind (arith, common_steps));
-  inside = remembers-none c.args.definitions.now c.new-2.result (λ place. grind (arith, common_steps));
+returns c = λ known ordered sized. record {
+  ordered = ordered;
+  sized = sized;
+  outside = remembers-none known c.new.result (λ place. grind (arith, common_steps));
+  inside = remembers-none known c.new-2.result (λ place. grind (arith, common_steps));
 }

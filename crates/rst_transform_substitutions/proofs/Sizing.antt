@@ -1,0 +1,204 @@
+-- What an expansion comes to by the sizes of definitions.
+use Rattle.std.proofs.Common.{◌≡◌, ℕ, zero, suc, ◌+◌, ◌-◌, ◌^◌, ◌<◌, ◌≤◌, ◌++◌, ◌==◌, ◌&&◌, List, [], ◌∷◌, Bool, true, false, length, length-append, refl, sym, subst, ◌∙◌, ap, arith}
+use Rattle.std.specs.Prelude.{if◌then◌else◌, nat_le, option_and_then, option_map, slice_get, unwrap_or, Option, Some, None, Result, Ok, Err}
+use Rattle.std.specs.List.{list_all, list_any}
+use Rattle.std.proofs.lemmas.Bool.{and_parts, leb-true, le-leb}
+use Rattle.std.proofs.lemmas.List.Folds.{list_all-append}
+use Rattle.rst_tree.specs.declared.attrs.Attr.{Attr}
+use Rattle.rst_tree.specs.declared.node.Node.{Node}
+use Rattle.rst_tree.specs.declared.node.Node.TheVariants.{Text}
+use Rattle.rst_tree.specs.declared.tag.Tag.{Tag}
+use Rattle.rst_tree.specs.Forest.{Forest, bare, element, words}
+use Rattle.rst_tree_index.specs.Kinds.{is_reference}
+use Rattle.rst_transform_substitutions.specs.declared.definitions.Definitions.{Definitions}
+use Rattle.rst_transform_substitutions.specs.declared.expansion.ExpansionFault.{ExpansionFault}
+use Rattle.rst_transform_substitutions.specs.declared.expansion.ExpansionFault.TheVariants.{TooLarge}
+use Rattle.rst_transform_substitutions.specs.declared.sizes.Size.{Size}
+use Rattle.rst_transform_substitutions.specs.Definitions.{found_by, known_found}
+use Rattle.rst_transform_substitutions.specs.Expansion.{and_then, behind, expanded, given, given_within, inside, left_of, most_nested, most_visited, name_said, size_of, Expansion}
+use Rattle.rst_transform_substitutions.specs.Sizes.{added, both, content_last, deeper, flat, is_above, measured, size_at, size_found, AreMeasured, AreSized}
+use Rattle.rst_transform_substitutions.proofs.Expanding.{entered_within, found-some, too_deep_within}
+use Rattle.rst_transform_substitutions.proofs.Leading.{weaker}
+
+-- what nodes of a size come to, where so many definitions more may be gone into and so much may be visited
+abbrev pub takes : Size → ℕ → ℕ → Result ℕ ExpansionFault
+takes s more left = if nat_le s.nested more && nat_le s.visited left then Ok (left - s.visited) else Err TooLarge
+
+-- two sizes that are known together
+pub both_parts : (a b : Option Size) (s : Size) → both a b ≡ Some s → (P : Type 0) → ((x y : Size) → a ≡ Some x → b ≡ Some y → added x y ≡ s → P) → P
+both_parts None b s is P made = absurd (cc)
+both_parts (Some x) None s is P made = absurd (cc)
+both_parts (Some x) (Some y) s is P made = made x y refl refl (cc)
+
+-- a size, and what is visited then
+takes_both : (a b : Size) (more left : ℕ) → left ≤ most_visited → a.nested ≤ more → a.visited ≤ left → takes b more (left - a.visited) ≡ takes (added a b) more left
+takes_both a b more left small deep fits = grind arith
+
+takes_first : (a b : Size) (more left : ℕ) (fault : ExpansionFault) → left ≤ most_visited → takes a more left ≡ Err fault → takes (added a b) more left ≡ Err fault
+takes_first a b more left fault small is = grind arith
+
+takes_fits : (a : Size) (more left done : ℕ) → takes a more left ≡ Ok done → (a.nested ≤ more) × ((a.visited ≤ left) × (done ≡ left - a.visited))
+takes_fits a more left done is = grind arith
+
+takes_flat : (more left : ℕ) → Ok left ≡ takes (flat 0) more left
+takes_flat more left = grind arith
+
+pub takes_ok : (s : Size) (more left : ℕ) → s.nested ≤ more → s.visited ≤ left → takes s more left ≡ Ok (left - s.visited)
+takes_ok s more left deep fits = grind arith
+
+pub takes_deep : (s : Size) (more left : ℕ) → more < s.nested → takes s more left ≡ Err TooLarge
+takes_deep s more left deep = grind arith
+
+pub takes_large : (s : Size) (more left : ℕ) → left < s.visited → takes s more left ≡ Err TooLarge
+takes_large s more left large = grind arith
+
+left_behind : (nodes : List Node) (e : Expansion) → left_of (behind nodes e) ≡ left_of e
+left_behind nodes (Ok done) = refl
+left_behind nodes (Err fault) = refl
+
+left_inside : (t : Tag) (a : List Attr) (l : ℕ) (e : Expansion) → left_of (inside t a l e) ≡ left_of e
+left_inside t a l (Ok done) = refl
+left_inside t a l (Err fault) = refl
+
+then_case : (a b : Size) (more left : ℕ) (rest : ℕ → Expansion) → left ≤ most_visited → ((m : ℕ) → m ≤ left → left_of (rest m) ≡ takes b more m) → (e : Expansion) → left_of e ≡ takes a more left → left_of (and_then e rest) ≡ takes (added a b) more left
+then_case a b more left rest small is (Ok done) first =
+    let fits = takes_fits a more left done.1 (sym first) in
+    left_behind done.0 (rest done.1) ∙ is done.1 (omega (arith, fits.1.1)) ∙ ap (takes b more) fits.1.1 ∙ takes_both a b more left small fits.0 fits.1.0
+then_case a b more left rest small is (Err fault) first = sym (takes_first a b more left fault small (sym first))
+
+visit_case : (k : ℕ) (b : Size) (more left : ℕ) (rest : ℕ → Expansion) → left ≤ most_visited → ((m : ℕ) → m ≤ left → left_of (rest m) ≡ takes b more m) → (fits : Bool) → nat_le k left ≡ fits → left_of (if fits then rest (left - k) else Err TooLarge) ≡ takes (added (flat k) b) more left
+visit_case k b more left rest small is true fits = is (left - k) (omega arith) ∙ takes_both (flat k) b more left small (omega arith) (leb-true k left fits)
+visit_case k b more left rest small is false fits = grind arith
+
+-- given what references of a known size come to, where no more than n are nested
+module _ (given : List ℕ → ℕ → Expansion) (size : List ℕ → Option Size) (more n : ℕ) (told : (name : List ℕ) (s : Size) (left : ℕ) → size name ≡ Some s → s.nested ≤ n → left ≤ most_visited → left_of (given name left) ≡ takes s more left) where
+  here_takes : (is : Bool) (t : Tag) (a : List Attr) (c : Forest) (l : ℕ) (s : Size) (left : ℕ) → (if is then size (name_said a) else measured size c) ≡ Some s → s.nested ≤ n → left ≤ most_visited → ((s : Size) → measured size c ≡ Some s → s.nested ≤ n → left_of (expanded given c left) ≡ takes s more left)
+      → left_of (if is then given (name_said a) left else inside t a l (expanded given c left)) ≡ takes s more left
+  here_takes true t a c l s left known low small inner = told (name_said a) s left known low small
+  here_takes false t a c l s left known low small inner = left_inside t a l (expanded given c left) ∙ inner s known low
+
+  -- nodes of a known size come to what the size says
+  nodes_take : (c : Forest) (s : Size) (left : ℕ) → measured size c ≡ Some s → s.nested ≤ n → left ≤ most_visited → left_of (expanded given c left) ≡ takes s more left
+  nodes_take bare s left known low small =
+      let e : flat 0 ≡ s = cc in
+      subst (λ s. left_of (expanded given bare left) ≡ takes s more left) e (takes_flat more left)
+  nodes_take (words t r) s left known low small =
+      both_parts (Some (flat (size_of (Text t)))) (measured size r) s known (left_of (expanded given (words t r) left) ≡ takes s more left)
+      (λ own rest is_own is_rest sum.
+      let e : flat (size_of (Text t)) ≡ own = cc in
+      let low_rest : rest.nested ≤ n = grind arith in
+      rw (← sum, ← e)
+      (visit_case (size_of (Text t)) rest more left (λ m. behind (Text t ∷ []) (expanded given r m)) small
+      (λ m le. left_behind (Text t ∷ []) (expanded given r m) ∙ nodes_take r rest m is_rest low_rest (omega (arith, le, small))) (nat_le (size_of (Text t)) left) refl))
+  nodes_take (element t a c l r) s left known low small =
+      both_parts (Some (flat 1)) (both (if is_reference t then size (name_said a) else measured size c) (measured size r)) s known (left_of (expanded given (element t a c l r) left) ≡ takes s more left)
+      (λ own after is_own is_after sum.
+      both_parts (if is_reference t then size (name_said a) else measured size c) (measured size r) after is_after (left_of (expanded given (element t a c l r) left) ≡ takes s more left)
+      (λ here rest is_here is_rest inner_sum.
+      let e : flat 1 ≡ own = cc in
+      let low_here : here.nested ≤ n = grind arith in
+      let low_rest : rest.nested ≤ n = grind arith in
+      rw (← sum, ← e, ← inner_sum)
+      (visit_case 1 (added here rest) more left (λ m. and_then (if is_reference t then given (name_said a) m else inside t a l (expanded given c m)) (λ then_more. expanded given r then_more)) small
+      (λ m le.
+      let small_m : m ≤ most_visited = omega (arith, le, small) in
+      then_case here rest more m (λ then_more. expanded given r then_more) small_m (λ m2 le2. nodes_take r rest m2 is_rest low_rest (omega (arith, le2, small_m)))
+      (if is_reference t then given (name_said a) m else inside t a l (expanded given c m))
+      (here_takes (is_reference t) t a c l here m is_here low_here small_m (λ s known low. nodes_take c s m known low small_m)))
+      (nat_le 1 left) refl)))
+
+-- a definition whose size is known isn't on a path where at least as many are nested in each
+apart_case : (sizes : List (Option Size)) (place n : ℕ) (size : Size) (p : ℕ) (at : Option Size) → size_at sizes place ≡ Some size → size.nested < n → size_at sizes p ≡ at → is_above sizes n p ≡ true → (same : Bool) → p == place ≡ same → same ≡ false
+apart_case sizes place n size p at there low is above false e = refl
+apart_case sizes place n size p None there low is above true e = let same : p ≡ place = grind (arith, e) in absurd (cc)
+apart_case sizes place n size p (Some other) there low is above true e =
+    let same : p ≡ place = grind (arith, e) in
+    let equal : other ≡ size = cc in
+    let high : nat_le n other.nested ≡ true = rw is at above in
+    let higher : n ≤ other.nested = leb-true n other.nested high in
+    let nested : other.nested ≡ size.nested = ap (λ (s : Size). s.nested) equal in
+    absurd (omega (arith, higher, nested, low))
+
+apart : (sizes : List (Option Size)) (place n : ℕ) (size : Size) → size_at sizes place ≡ Some size → size.nested < n → (path : List ℕ) → list_all (is_above sizes n) path ≡ true → list_any (λ p. p == place) path ≡ false
+apart sizes place n size there low [] above = refl
+apart sizes place n size there low (p ∷ path) above =
+    let parts = and_parts (is_above sizes n p) (list_all (is_above sizes n) path) above in
+    rw (apart_case sizes place n size p (size_at sizes p) there low refl parts.0 (p == place) refl) (apart sizes place n size there low path parts.1)
+
+lower_case : (sizes : List (Option Size)) (low high p : ℕ) (at : Option Size) → size_at sizes p ≡ at → low ≤ high → is_above sizes high p ≡ true → is_above sizes low p ≡ true
+lower_case sizes low high p None is le above = rw is refl
+lower_case sizes low high p (Some size) is le above =
+    let high_is : nat_le high size.nested ≡ true = rw is at above in
+    let below : high ≤ size.nested = leb-true high size.nested high_is in
+    rw is (le-leb low size.nested (omega (arith, le, below)))
+
+-- a path to a definition in which fewer are nested, and that definition
+above_more : (sizes : List (Option Size)) (place n : ℕ) (size : Size) → size_at sizes place ≡ Some size → size.nested ≤ n → (path : List ℕ) → list_all (is_above sizes n) path ≡ true → list_all (is_above sizes size.nested) (path ++ place ∷ []) ≡ true
+above_more sizes place n size there low path above =
+    let own : is_above sizes size.nested place ≡ true = rw there (le-leb size.nested size.nested (omega arith)) in
+    list_all-append (is_above sizes size.nested) path (place ∷ []) ∙ rw (own, weaker (is_above sizes n) (is_above sizes size.nested) (λ p. lower_case sizes size.nested n p (size_at sizes p) refl low) path above) refl
+
+-- the definition that a reference of a known size finds
+deeper_case : (inner s : Size) (most : Bool) → inner.nested == 2 ^ 64 - 1 ≡ most → (if most then None else Some (record { visited = inner.visited; nested = inner.nested + 1 })) ≡ Some s → (inner.visited ≡ s.visited) × (inner.nested + 1 ≡ s.nested)
+deeper_case inner s true e is = absurd (cc)
+deeper_case inner s false e is = (ap (λ (o : Option Size). unwrap_or (option_map (λ (x : Size). x.visited) o) 0) is, ap (λ (o : Option Size). unwrap_or (option_map (λ (x : Size). x.nested) o) 0) is)
+
+found_at : (sizes : List (Option Size)) (place : ℕ) (s : Size) (at : Option Size) → size_at sizes place ≡ at → option_and_then deeper at ≡ Some s → (P : Type 0) → ((inner : Size) → size_at sizes place ≡ Some inner → inner.visited ≡ s.visited → inner.nested + 1 ≡ s.nested → P) → P
+found_at sizes place s None is told P made = absurd (cc)
+found_at sizes place s (Some inner) is told P made = let parts = deeper_case inner s (inner.nested == 2 ^ 64 - 1) refl told in made inner is parts.0 parts.1
+
+found_parts : (known : Definitions) (sizes : List (Option Size)) (name : List ℕ) (s : Size) (found : Option ℕ) → known_found known name ≡ found → option_and_then deeper (option_and_then (size_at sizes) found) ≡ Some s → (P : Type 0)
+    → ((place : ℕ) (inner : Size) → known_found known name ≡ Some place → size_at sizes place ≡ Some inner → inner.visited ≡ s.visited → inner.nested + 1 ≡ s.nested → P) → P
+found_parts known sizes name s None is told P made = absurd (cc)
+found_parts known sizes name s (Some place) is told P made = found_at sizes place s (size_at sizes place) refl told P (λ inner there visited nested. made place inner is there visited nested)
+
+content_parts : {A : Type 0} (f : Forest → Option A) (x : A) (there : Option Forest) → option_and_then f there ≡ Some x → (P : Type 0) → ((content : Forest) → there ≡ Some content → f content ≡ Some x → P) → P
+content_parts f x None is P made = absurd (cc)
+content_parts f x (Some content) is P made = made content refl is
+
+takes_none : (s : Size) (nested left : ℕ) → nested + 1 ≡ s.nested → Err TooLarge ≡ takes s zero left
+takes_none s nested left is = grind arith
+
+takes_deeper : (inner s : Size) (more left : ℕ) → inner.visited ≡ s.visited → inner.nested + 1 ≡ s.nested → takes inner more left ≡ takes s (suc more) left
+takes_deeper inner s more left visited nested = grind arith
+
+-- a reference of a known size comes to what the size says
+given_takes : (known : Definitions) (sizes : List (Option Size)) → AreMeasured known sizes → (more n : ℕ) (path : List ℕ) → list_all (is_above sizes n) path ≡ true → (name : List ℕ) (s : Size) (left : ℕ) → size_found known sizes name ≡ Some s → s.nested ≤ n → left ≤ most_visited
+    → left_of (given_within (found_by known) more path name left) ≡ takes s more left
+given_takes known sizes sized zero n path above name s left is low small =
+    found_parts known sizes name s (known_found known name) refl is (left_of (given_within (found_by known) zero path name left) ≡ takes s zero left)
+    (λ place inner finds there visited nested.
+    content_parts (measured (size_found known sizes)) inner (slice_get known.contents.items place) (sized place inner there) (left_of (given_within (found_by known) zero path name left) ≡ takes s zero left)
+    (λ content at size_is.
+    ap left_of (too_deep_within (found_by known) path name left (place, content) (found-some known name place content finds at) (apart sizes place n inner there (omega (arith, nested, low)) path above)) ∙ takes_none s inner.nested left nested))
+given_takes known sizes sized (suc more) n path above name s left is low small =
+    found_parts known sizes name s (known_found known name) refl is (left_of (given_within (found_by known) (suc more) path name left) ≡ takes s (suc more) left)
+    (λ place inner finds there visited nested.
+    content_parts (measured (size_found known sizes)) inner (slice_get known.contents.items place) (sized place inner there) (left_of (given_within (found_by known) (suc more) path name left) ≡ takes s (suc more) left)
+    (λ content at size_is.
+    let lower : inner.nested < n = omega (arith, nested, low) in
+    let deeper_above = above_more sizes place n inner there (omega (arith, lower)) path above in
+    ap left_of (entered_within (found_by known) more path name left (place, content) (found-some known name place content finds at) (apart sizes place n inner there lower path above))
+    ∙ nodes_take (given_within (found_by known) more (path ++ place ∷ [])) (size_found known sizes) more inner.nested (λ name s left. given_takes known sizes sized more inner.nested (path ++ place ∷ []) deeper_above name s left) content inner left size_is (omega arith) small
+    ∙ takes_deeper inner s more left visited nested))
+
+-- so do the nodes of the definition that was gone into last
+pub last_takes : (known : Definitions) (path : List ℕ) (place : ℕ) (size : Size) (left : ℕ) → AreSized known → slice_get path (length path - 1) ≡ Some place → size_at known.sizes.items place ≡ Some size → list_all (is_above known.sizes.items size.nested) path ≡ true → left ≤ most_visited
+    → left_of (expanded (given (found_by known) path) (content_last known path) left) ≡ takes size (most_nested - length path) left
+last_takes known path place size left sized last there above small =
+    content_parts (measured (size_found known known.sizes.items)) size (slice_get known.contents.items place) (sized place size there) (left_of (expanded (given (found_by known) path) (content_last known path) left) ≡ takes size (most_nested - length path) left)
+    (λ content at is.
+    let content_is : content_last known path ≡ content = rw (last, at) refl in
+    rw content_is
+    (nodes_take (given (found_by known) path) (size_found known known.sizes.items) (most_nested - length path) size.nested
+    (λ name s left. given_takes known known.sizes.items sized (most_nested - length path) size.nested path above name s left) content size left is (omega arith) small))
+
+-- the definition that was gone into last
+at_end : (xs : List ℕ) (x : ℕ) → slice_get (xs ++ x ∷ []) (length xs) ≡ Some x
+at_end [] x = refl
+at_end (y ∷ xs) x = at_end xs x
+
+pub content_pushed : (known : Definitions) (path : List ℕ) (place : ℕ) (content : Forest) → slice_get known.contents.items place ≡ Some content → content_last known (path ++ place ∷ []) ≡ content
+content_pushed known path place content there =
+    let last : length (path ++ place ∷ []) - 1 ≡ length path = omega (arith, length-append path (place ∷ [])) in
+    rw (last, at_end path place, there) refl
