@@ -17,7 +17,7 @@ from rst2pseudoxml import check
 
 LISTS = pathlib.Path(check.__file__).parent
 WARNING = "{}:1: (WARNING/2) Inline emphasis start-string without end-string."
-USAGE = "[--level=LEVEL] [--known=NAMES|@FILE].. [--format=FORMAT] [--] FILE|FOLDER.."
+USAGE = "[--level LEVEL] [--known NAMES|@FILE].. [--code] [--format FORMAT] [--jobs N] [--name FILE] [--] FILE|FOLDER|-.."
 PAGES = {
     "good.rst": b"fine\n",
     "a b.rst": b"A *word\n",
@@ -99,7 +99,7 @@ class Pages(unittest.TestCase):
 
     def test_module(self):
         command = [sys.executable, "-m", "rst2pseudoxml.check", "good.rst", "a b.rst"]
-        variables = {**os.environ, "PYTHONPATH": str(LISTS.parent)}
+        variables = {**os.environ, "PYTHONPATH": str(LISTS.parents[1])}
         run = subprocess.run(command, cwd=self.folder, env=variables, stdout=subprocess.PIPE)
         self.assertEqual((run.returncode, run.stdout.decode()), (1, WARNING.format("a b.rst") + "\n"))
 

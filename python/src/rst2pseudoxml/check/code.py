@@ -1,0 +1,97 @@
+"""Faults in code: blocks whose language a parser of the standard library reads."""
+
+from __future__ import annotations
+
+import ast
+import json
+import warnings
+import xml.parsers.expat
+from typing import Any, Callable, Iterator, NamedTuple, Sequence
+
+try:
+    import tomllib
+except ImportError:  # before Python 3.11
+    tomllib = None  # type: ignore[assignment]
+
+
+class Fault(NamedTuple):
+    line: int
+    """Counted from 1."""
+    text: str
+
+
+def in_json(text: str) -> Fault | None:
+    try:
+        json.loads(text)
+    except json.JSONDecodeError as fault:
+        return Fault(fault.lineno, fault.msg)
+    return None
+
+
+def in_python(text: str) -> Fault | None:
+    if text.startswith(">>>"):  # a session, which is no module
+        return None
+    try:
+        with warnings.catch_warnings():
+            warnings.simplefilter("ignore")
+            ast.parse(text)
+    except SyntaxError as fault:
+        return Fault(fault.lineno or 1, fault.msg)
+    except ValueError as fault:
+        return Fault(1, str(fault))
+    return None
+
+
+def in_toml(text: str) -> Fault | None:
+    try:
+        tomllib.loads(text)
+    except tomllib.TOMLDecodeError as fault:
+        words, _, place = str(fault).partition(" (at line ")
+        return Fault(int(place.partition(",")[0]) if place else text.count("\n") + 1, words.partition(" (at end")[0])
+    return None
+
+
+def in_xml(text: str) -> Fault | None:
+    try:
+        xml.parsers.expat.ParserCreate().Parse(text, True)
+    except xml.parsers.expat.ExpatError as fault:
+        return Fault(fault.lineno, xml.parsers.expat.ErrorString(fault.code))
+    return None
+
+
+PARSERS: dict[str, tuple[str, Callable[[str], Fault | None]]] = {
+    "json": ("JSON", in_json),
+    "py": ("Python", in_python),
+    "py3": ("Python", in_python),
+    "python": ("Python", in_python),
+    "python3": ("Python", in_python),
+    "xml": ("XML", in_xml),
+}
+if tomllib:
+    PARSERS["toml"] = ("TOML", in_toml)
+
+
+def faults(tree: list[Any], lines: Sequence[str]) -> Iterator[Fault]:
+    """The faults in the blocks of code of a document, whose lines are given."""
+    tag, line, attributes, *inside = tree
+    if tag == "literal_block" and attributes.get("classes", [])[:1] == ["code"]:
+        name, parser = PARSERS.get((attributes["classes"][1:] or [""])[0], ("", None))
+        text = "".join(inside)
+        try:
+            fault = parser and parser(text)
+        except (RecursionError, MemoryError):  # nested too deep for the parser, which is no fault
+            fault = None
+        if fault:
+            yield Fault(_place(text.split("\n"), lines, line) + fault.line, f"{name} code: {fault.text}")
+        return
+    for node in inside:
+        if isinstance(node, list):
+            yield from faults(node, lines)
+
+
+def _place(block: Sequence[str], lines: Sequence[str], directive: int) -> int:
+    """How many lines come before the block, which is in the lines after its directive's."""
+    for first in range(directive, len(lines) - len(block) + 1):
+        if all(part in line for part, line in zip(block, lines[first:])):
+            return first
+    return directive

@@ -1,0 +1,195 @@
+"""The messages of a page, with those on the text in directives that another tool reads."""
+
+from __future__ import annotations
+
+import re
+from ctypes import create_string_buffer, string_at
+from json import loads
+
+from .. import LIBRARY, Message, _options, _Result, messages
+from .contents import DIRECTIVE, Directive, end_of, indentation
+from .names import Known, fold
+
+ROLE = re.compile(r":(?<![^\s\-/'\"<(\[{:]:)([A-Za-z][A-Za-z0-9_.+:-]*):`(?![`\s])")
+UNKNOWN = 'Unknown directive type "'
+TITLE = "Unexpected section title"
+TOPIC = 'The "topic" directive may not be used within'
+CODE = re.compile(r'Error in "(code|code-block|sourcecode)" directive:\nunknown option: ')
+JOINED = "Line block ends without a blank line."
+ERROR = 3
+
+
+class Reader:
+    """The library's call for messages, with a room that is kept from text to text."""
+
+    def __init__(self, level: int) -> None:
+        self.level = level
+        self.options = _options(report=level, halt="none")
+        self.room = create_string_buffer(1 << 20)
+        self.result = _Result()
+
+    def read(self, page: str, data: bytes) -> list[Message]:
+        """The messages of a text; if it is refused, that is a `Refused`."""
+        result, size = self.result, len(self.room)
+        LIBRARY.rst_messages(data, len(data), self.options, self.room, size, result)
+        if result.end or result.length > size:
+            return messages(data, source=page, report=self.level, halt="none")
+        return [] if result.length == 2 else [Message(page, **found) for found in loads(string_at(self.room, result.length))]
+
+
+class Text:
+    """The lines of a page, in which known directives that hold text are opened: the library reads what is in them.
+
+    A known role is put inside its backquotes, so that there is no message on it. Where a line begins with one that no field does:
+    what comes later in the line is no field marker then.
+    """
+
+    def __init__(self, text: str, known: Known, code: bool = False) -> None:
+        self.known = known
+        self.code = code
+        plain = "\n".join(text.replace("\v", " ").replace("\f", " ").splitlines()).expandtabs(8)
+        self.source = plain.split("\n")
+        plain = ROLE.sub(self._swapped, plain)
+        self.lines = plain.split("\n")
+        self.opened: dict[int, str] = {}
+        """The names of the directives that are open, by the places of their lines."""
+        self.joined: set[int] = set()
+        """The places of lines that follow a term without a blank line."""
+        self.titles: dict[str, str] = {}
+        """The titles in directives, each with the directive's name."""
+        self.kept: list[Message] = []
+        """Messages on titles in directives."""
+        self._sweep(plain)
+
+    def data(self) -> bytes:
+        return "\n".join(self.lines).encode()
+
+    def _swapped(self, role: re.Match[str]) -> str:
+        return f"`:{role[1]}:" if f"role:{role[1].lower()}" in self.known.names else role[0]
+
+    def _sweep(self, plain: str) -> None:
+        """Opens all directives that begin a line after a blank one. What looks like one there and is none isn't read as text anyway."""
+        first = before = end = 0
+        for found in DIRECTIVE.finditer(plain):
+            mark = self.known.marks.get(found[1].lower())
+            if mark is None:
+                continue
+            start = plain.rfind("\n", 0, found.start()) + 1
+            first, before, column = first + plain.count("\n", before, start), start, found.start() - start
+            if first < end or plain[start : found.start()].strip() or (first and self.source[first - 1].strip()):
+                continue
+            whole = mark in ("lines", "terms")
+            last = end_of(self.lines, first, column, whole)
+            end = last if mark == "lines" else end  # what is in it is no directive
+            self._open(first, column, [line[column:] for line in self.lines[first:last]], mark)
+
+    def _open(self, first: int, column: int, block: list[str], mark: str) -> bool:
+        """Opens a directive, whose source is the block; whether it could be."""
+        tip = Directive(block).as_tip(mark)
+        if tip is None or not self._put(first, column, block, tip.lines):
+            return False
+        name = DIRECTIVE.match(block[0])
+        self.opened[first] = name[1] if name else ""
+        self.joined.update(first + at for at in tip.joined)
+        return True
+
+    def _put(self, first: int, column: int, old: list[str], new: list[str]) -> bool:
+        """Puts new lines in the place of old ones in a column; not if they don't have room in a cell."""
+        made = []
+        for line, was, now in zip(self.lines[first : first + len(old)], old, new):
+            was = was.rstrip()
+            after = line[column + len(was) :]
+            if line[column : column + len(was)] != was or (after.strip() and len(now) > len(was)):
+                return False
+            made.append(line[:column].ljust(column if now else 0) + now.ljust(len(was) if after.strip() else 0) + after)
+        self.lines[first : first + len(made)] = made
+        return True
+
+    def open_more(self, found: list[Message]) -> bool:
+        """Opens the directives that the messages are on; whether there was one."""
+        return any([self._open_by(message, found) for message in found])
+
+    def _open_by(self, message: Message, found: list[Message]) -> bool:
+        at, text, mark = message.line - 1, message.text, None
+        if text.startswith(UNKNOWN):
+            mark = self.known.marks.get(text[len(UNKNOWN) : -2].lower())
+        elif self.code and (code := CODE.match(text)) and f"directive:{code[1]}" in self.known.names:
+            mark = "code"
+        elif text.startswith((TITLE, TOPIC)) and self.lines[at].strip():
+            return self._open_title(at, found)
+        if mark is None or message.block is None:
+            return False
+        block = message.block.split("\n")
+        column = self.lines[at].find(block[0])
+        return column >= 0 and self._open(at, column, block, mark)
+
+    def _open_title(self, at: int, found: list[Message]) -> bool:
+        """Makes a paragraph of a title, and an admonition of a topic, in a directive that may hold them; whether it is in one."""
+        name = self.opened.get(self._parent(at), "")
+        if self.known.marks.get(name.lower()) != "sections":
+            return False
+        line, lines = self.lines[at], self.lines
+        if line.lstrip().startswith(".. topic"):
+            lines[at] = line.replace("topic", "admonition", 1)
+            return True
+        overline = at + 2 < len(lines) and lines[at + 2].strip() == line.strip()
+        title = lines[at + 1 if overline else at - 1]
+        self.titles[fold(title.strip())] = name
+        self.kept += [message for message in found if message.line - 1 == at and message.text.startswith("Title ")]
+        lines[at] = ""
+        if overline:
+            lines[at + 2] = ""
+        return True
+
+    def _parent(self, at: int) -> int:
+        """The last line before this one that is less indented."""
+        here = indentation(self.lines[at])
+        return next((up for up in range(at - 1, -1, -1) if self.lines[up].strip() and indentation(self.lines[up]) < here), -1)
+
+    def is_own(self, message: Message) -> bool:
+        """Whether a message is on what was put into the page."""
+        return message.text == JOINED and message.line - 1 in self.joined
+
+    def shown(self, message: Message) -> Message:
+        """A message as it would be on the source."""
+        text, at = message.text, message.line - 1
+        if at in self.opened:
+            text = text.replace('"tip" directive', f'"{self.opened[at]}" directive')
+        return message._replace(text=text, block=message.block and self._source(at, message.block))
+
+    def _source(self, last: int, text: str) -> str:
+        """What the page has in the place of a source text, which begins at this line or a little before it."""
+        block = text.split("\n")
+        for first in range(last, max(last - 3, -1), -1):
+            column = self.lines[first].find(block[0])
+            here = [line[column:] for line in self.lines[first : first + len(block)]]
+            if column >= 0 and all(line.startswith(part) for line, part in zip(here, block)):
+                source = [line[column:].rstrip() for line in self.source[first : first + len(block)]]
+                return "\n".join(line[: len(part)] if now.rstrip() != part else line for line, now, part in zip(source, here, block))
+        return text
+
+
+class Pages:
+    """Reads pages at a level, with names that other tools read."""
+
+    def __init__(self, level: int, known: Known, code: bool = False) -> None:
+        self.level = level
+        self.known = known
+        self.code = code
+        self.reader = Reader(min(level, ERROR) if known.marks and level <= 4 else level)
+
+    def text(self, data: bytes) -> Text | None:
+        """The text of a page, if something in it may be known by name, or is code."""
+        if b"::" not in data and b":`" not in data or not (self.known.names or self.code):
+            return None
+        try:
+            return Text(data.decode(), self.known, self.code)
+        except UnicodeDecodeError:
+            return None
+
+    def messages(self, page: str, data: bytes, text: Text | None) -> list[Message]:
+        """The messages of a page at or above any level that is asked for, and others."""
+        found = self.reader.read(page, text.data() if text else data)
+        while text and text.open_more(found):
+            found = self.reader.read(page, text.data())
+        return found
