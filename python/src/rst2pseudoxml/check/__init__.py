@@ -93,14 +93,14 @@ class Checker:
             names.define(f"target:{title}", f"directive:{directive}")
         wanted = [(message, name) for message in found if (name := names.name_of(message)) not in self.known]
         if text:
-            own = [(message, "") for message in [*text.kept, *(self._faults(page, text) if self.code else ())]]
-            wanted = [(text.shown(message), name) for message, name in wanted if not text.is_own(message)] + own
+            wanted = [(text.shown(message), name) for message, name in wanted if not text.is_own(message)]
+            wanted += [(message, "") for message in self._faults(page, text)] if self.code else []
         return [(message, name) for message, name in wanted if message.level >= self.level]
 
     def _faults(self, page: str, text: Text) -> Iterator[Message]:
         from .code import faults  # its parsers take time to load
 
-        for fault in faults(loads(json(text.data(), halt="none")), text.source):
+        for fault in faults(loads(json(text.data(), halt="none")), text):
             yield Message(page, fault.line, ERROR, "ERROR", fault.text)
 
     def _outcome(self, wanted: list[tuple[Message, str]]) -> Outcome:

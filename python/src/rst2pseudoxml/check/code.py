@@ -6,7 +6,9 @@ import ast
 import json
 import warnings
 import xml.parsers.expat
-from typing import Any, Callable, Iterator, NamedTuple, Sequence
+from typing import Any, Callable, Iterator, NamedTuple
+
+from .pages import Text
 
 try:
     import tomllib
@@ -71,27 +73,18 @@ if tomllib:
     PARSERS["toml"] = ("TOML", in_toml)
 
 
-def faults(tree: list[Any], lines: Sequence[str]) -> Iterator[Fault]:
-    """The faults in the blocks of code of a document, whose lines are given."""
+def faults(tree: list[Any], text: Text) -> Iterator[Fault]:
+    """The faults in the blocks of code of a document, which is made of the text."""
     tag, line, attributes, *inside = tree
-    if tag == "literal_block" and attributes.get("classes", [])[:1] == ["code"]:
-        name, parser = PARSERS.get((attributes["classes"][1:] or [""])[0], ("", None))
-        text = "".join(inside)
+    if tag != "literal_block":
+        for node in inside:
+            yield from faults(node, text) if isinstance(node, list) else ()
+    elif attributes.get("classes", [])[:1] == ["code"]:
+        name, parser = PARSERS.get("".join(attributes["classes"][1:2]).lower(), ("", None))
+        place = text.source_of("".join(inside), range(line, len(text.lines))) if parser else None
         try:
-            fault = parser and parser(text)
+            fault = parser(place[1]) if parser and place else None
         except (RecursionError, MemoryError):  # nested too deep for the parser, which is no fault
             fault = None
-        if fault:
-            yield Fault(_place(text.split("\n"), lines, line) + fault.line, f"{name} code: {fault.text}")
-        return
-    for node in inside:
-        if isinstance(node, list):
-            yield from faults(node, lines)
-
-
-def _place(block: Sequence[str], lines: Sequence[str], directive: int) -> int:
-    """How many lines come before the block, which is in the lines after its directive's."""
-    for first in range(directive, len(lines) - len(block) + 1):
-        if all(part in line for part, line in zip(block, lines[first:])):
-            return first
-    return directive
+        if fault and place:
+            yield Fault(place[0] + fault.line, f"{name} code: {fault.text}")

@@ -67,7 +67,7 @@ class Directive:
             return self._without_argument(_lines if mark == "lines" else _terms)
         if mark in ("text", "title") and (self.first or self.more):
             return None if FIELD.match(self.first) else Tip([*(self._title() if mark == "title" else self._text()), *self.names, *self.content])
-        head = " ".join([".. code::", self.first, *self.more]) if mark == "code" else f"{TIP} {FILLER}"
+        head = TIP if any(line.strip() for line in self.content) else f"{TIP} {FILLER}"
         return Tip([head, *self.names, *[""] * len(self.more), *self.content])
 
     def _text(self) -> list[str]:
@@ -86,8 +86,19 @@ class Directive:
         if self.first or (self.more and self.names) or not any(line.strip() for line in content):
             return None
         tip = made(content)
-        before = [TIP, *self.names]
+        before = [TIP, *(" " * margin(tip.lines) + name.lstrip(" ") for name in self.names)]
         return Tip(before + tip.lines, [at + len(before) for at in tip.joined])
+
+
+def without_option(block: list[str], name: str) -> list[str] | None:
+    """A directive without an option, if it has it after its first line; as many lines."""
+    option = re.compile(rf" *:{re.escape(name)}:(?: |$)", re.IGNORECASE)
+    end = next((at for at, line in enumerate(block) if at and not line.strip()), len(block))
+    first = next((at for at in range(1, end) if option.match(block[at])), None)
+    if first is None:
+        return None
+    last = next((at for at in range(first + 1, end) if indentation(block[at]) <= indentation(block[first])), end)
+    return block[:first] + block[last:end] + [""] * (last - first) + block[end:]
 
 
 def _lines(content: list[str]) -> Tip:
@@ -103,9 +114,14 @@ def _lines(content: list[str]) -> Tip:
 
 
 def _terms(content: list[str]) -> Tip:
-    """Terms with definitions. Where a definition has several terms, those before the last are lines of a line block."""
+    """Terms with definitions. Where a definition has several terms, those before the last are lines of a line block. Comments are left out."""
     left = margin(content)
-    terms = [bool(line.strip()) and indentation(line) == left and not line.startswith(".. ", left) for line in content]
+    comment = False
+    for at, line in enumerate(content):
+        if line.strip():
+            comment = line.startswith(".. ", left) if indentation(line) == left else comment
+        content[at] = "" if comment else line
+    terms = [bool(line.strip()) and indentation(line) == left for line in content]
     before = [at for at in range(len(content) - 1) if terms[at] and terms[at + 1]]
     for at in before:
         content[at] = " " * left + "| " + content[at][left:]

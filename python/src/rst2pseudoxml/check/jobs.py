@@ -107,10 +107,9 @@ class Progress:
         self.seen = False
 
     def at(self, done: int) -> None:
-        if self.shows and time.monotonic() >= self.next:
+        if self.shows and (now := time.monotonic()) >= self.next:
             print(f"\r{done} of {self.pages} pages", end="\x1b[K", file=sys.stderr, flush=True)
-            self.next = time.monotonic() + 0.2
-            self.seen = True
+            self.next, self.seen = now + 0.2, True
 
     def hide(self) -> None:
         if self.seen:

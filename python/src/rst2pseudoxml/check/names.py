@@ -43,8 +43,8 @@ def defined_in(source: str) -> Iterator[str]:
             yield found[0] + fold(found[1][1].replace("\\", ""))
         for phrase in PHRASE.findall(line):
             yield "target:" + fold(phrase.replace("\\", ""))
-    included = INCLUDED.match(source)
-    yield from shipped_definitions().get(included[1], []) if included else []
+        included = INCLUDED.match(line)
+        yield from shipped_definitions().get(included[1], []) if included else []
 
 
 @functools.lru_cache(maxsize=None)

@@ -5,16 +5,18 @@ from __future__ import annotations
 import re
 from ctypes import create_string_buffer, string_at
 from json import loads
+from typing import Iterable
 
 from .. import LIBRARY, Message, _options, _Result, messages
-from .contents import DIRECTIVE, Directive, end_of, indentation
+from .contents import DIRECTIVE, Directive, end_of, indentation, without_option
 from .names import Known, fold
 
 ROLE = re.compile(r":(?<![^\s\-/'\"<(\[{:]:)([A-Za-z][A-Za-z0-9_.+:-]*):`(?![`\s])")
 UNKNOWN = 'Unknown directive type "'
 TITLE = "Unexpected section title"
 TOPIC = 'The "topic" directive may not be used within'
-CODE = re.compile(r'Error in "(code|code-block|sourcecode)" directive:\nunknown option: ')
+OPTION = re.compile(r'Error in "(.*)" directive:\nunknown option: "(.*)"\.')
+CODE = ("code", "code-block", "sourcecode")
 JOINED = "Line block ends without a blank line."
 ERROR = 3
 
@@ -110,18 +112,21 @@ class Text:
         return any([self._open_by(message, found) for message in found])
 
     def _open_by(self, message: Message, found: list[Message]) -> bool:
-        at, text, mark = message.line - 1, message.text, None
+        at, text = message.line - 1, message.text
+        if text.startswith((TITLE, TOPIC)) and self.lines[at].strip():
+            return self._open_title(at, found)
+        block = (message.block or "").split("\n")
+        column = self.lines[at].find(block[0])
+        if column < 0:
+            return False
         if text.startswith(UNKNOWN):
             mark = self.known.marks.get(text[len(UNKNOWN) : -2].lower())
-        elif self.code and (code := CODE.match(text)) and f"directive:{code[1]}" in self.known.names:
-            mark = "code"
-        elif text.startswith((TITLE, TOPIC)) and self.lines[at].strip():
-            return self._open_title(at, found)
-        if mark is None or message.block is None:
+            return mark is not None and self._open(at, column, block, mark)
+        option = OPTION.match(text)
+        if not option or f"directive:{option[1].lower()}" not in self.known.names or (option[1].lower() in CODE and not self.code):
             return False
-        block = message.block.split("\n")
-        column = self.lines[at].find(block[0])
-        return column >= 0 and self._open(at, column, block, mark)
+        less = without_option(block, option[2])
+        return less is not None and self._put(at, column, block, less)
 
     def _open_title(self, at: int, found: list[Message]) -> bool:
         """Makes a paragraph of a title, and an admonition of a topic, in a directive that may hold them; whether it is in one."""
@@ -155,18 +160,19 @@ class Text:
         text, at = message.text, message.line - 1
         if at in self.opened:
             text = text.replace('"tip" directive', f'"{self.opened[at]}" directive')
-        return message._replace(text=text, block=message.block and self._source(at, message.block))
+        source = self.source_of(message.block or "", range(at, max(at - 3, -1), -1))
+        return message._replace(text=text, block=source[1] if message.block and source else message.block)
 
-    def _source(self, last: int, text: str) -> str:
-        """What the page has in the place of a source text, which begins at this line or a little before it."""
+    def source_of(self, text: str, places: Iterable[int]) -> tuple[int, str] | None:
+        """The first of these places that the text begins at, and what the page has there."""
         block = text.split("\n")
-        for first in range(last, max(last - 3, -1), -1):
+        for first in places:
             column = self.lines[first].find(block[0])
             here = [line[column:] for line in self.lines[first : first + len(block)]]
-            if column >= 0 and all(line.startswith(part) for line, part in zip(here, block)):
+            if column >= 0 and len(here) == len(block) and all(line.startswith(part) for line, part in zip(here, block)):
                 source = [line[column:].rstrip() for line in self.source[first : first + len(block)]]
-                return "\n".join(line[: len(part)] if now.rstrip() != part else line for line, now, part in zip(source, here, block))
-        return text
+                return first, "\n".join(line[: len(part)] if now.rstrip() != part else line for line, now, part in zip(source, here, block))
+        return None
 
 
 class Pages:
@@ -192,4 +198,4 @@ class Pages:
         found = self.reader.read(page, text.data() if text else data)
         while text and text.open_more(found):
             found = self.reader.read(page, text.data())
-        return found
+        return found + text.kept if text else found
