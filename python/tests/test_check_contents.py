@@ -53,6 +53,9 @@ class Contents(Checking):
         self.assertGreater(len(MARKED), 80)
         for name, mark in MARKED:
             with self.subTest(name):
+                if mark == "none":
+                    self.assertEqual(self.faults(f".. {name}:: *x\n\n   *y\n"), [])
+                    continue
                 if mark in ("text", "title"):
                     self.finds(f".. {name}:: 1 *fault\n\nend\n")
                 if mark == "terms":
@@ -101,6 +104,10 @@ class Contents(Checking):
         self.finds(".. line-block::\n   :name: x\n\n   a *fault\n     b x_\n")
         self.assertEqual(self.faults(".. parsed-literal::\n\nend\n"), [])
 
+    def test_field_lists(self):
+        self.finds(".. function:: f(a)\n   :noindex:\n\n   :param a: *fault\n   :class: b\n")
+        self.finds(".. todo::\n\n   :class: *fault\n")
+
     def test_terms(self):
         self.finds(".. glossary::\n\n   one\n   two : a\n      text::\n\n         *x\n\n      *fault\n   .. comment *x\n\n   three *fault\n")
 
@@ -143,6 +150,8 @@ class Contents(Checking):
         self.finds(text, "--known=change content")
         self.finds(text.replace("*b", "b *fault"), "--known=directive:change title")
         self.assertEqual(self.faults(text, "--known=directive:change"), [])
+        self.finds(text, "--known=directive:change sections,directive:own:change none,directive:change")
+        self.assertEqual(self.faults(text, "--known=own:change text,change none"), [])
         self.write("own/.rst-known", "change sections\n")
         self.write("own/a.rst", text)
         self.same(1, [EMPHASIS.format("own/a.rst", 4)], "own")

@@ -153,7 +153,7 @@ BLOCKS = (
     ("json", '{"a": [1,\n  2,]}', 2),
     ("json", '{\n  "a":\n\n\n', 2),  # no block ends with blank lines
     ("python", 'def f():\n    """.. only:: html\n\n    .. only:: html"""\n    return 1', None),
-    ("py", "def f():\n    x = (1,\n    return x", 2),
+    ("py", "def f():\n    x = = 1\n    return x", 2),
     ("Python3", "a = 1\n\n\nif a\n    b", 4),
     ("python", ">>> def f(:\n", None),
     ("python", "a = '\\d'", None),
@@ -194,8 +194,8 @@ class Code(Checking):
         self.assertEqual(self.lines(page, "--code"), [5])
 
     def test_nested_too_deep_for_a_parser(self):
-        self.assertEqual(self.lines(".. code:: json\n\n   " + "[" * 9000 + "]" * 900 + "\n", "--code"), [])
-        self.assertIn(self.lines(".. code:: python\n\n   " + "(" * 9000 + "\n", "--code"), ([], [3]))
+        for language, bracket in ("json", "["), ("python", "("):  # some versions of Python find the fault
+            self.assertIn(self.lines(f".. code:: {language}\n\n   {bracket * 9000}\n", "--code"), ([], [3]))
 
     def test_levels(self):
         self.write("page.rst", ".. code:: json\n\n   ]\n")

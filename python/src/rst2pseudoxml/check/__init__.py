@@ -26,8 +26,9 @@ What a known directive holds is read as a part of the page if a mark comes after
     title     its argument is text, and what comes after it
     lines     its lines are text without blocks, as in `parsed-literal`
     terms     its lines are terms and definitions, as in `glossary`
+    none      nothing in it is text, though it is in a list that comes before
 
-Without a mark nothing in it is read. The lists of this package have marks.
+Without a mark nothing in a directive is read. The lists of this package have marks.
 
 These messages are left out: that a known name is unknown, or that a known directive has an unknown option; that a substitution isn't
 valid, or isn't defined, because its definition has a known directive or role; that a name isn't defined which the source of a known

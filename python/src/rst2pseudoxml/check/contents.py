@@ -55,6 +55,7 @@ class Directive:
         head = DIRECTIVE.match(block[0])
         end = next((at for at, line in enumerate(block) if at and not line.strip()), len(block))
         options = next((at for at, line in enumerate(block[:end]) if at and FIELD.match(line)), end)
+        self.size = len(block[0].rstrip())
         self.first = block[0][head.end() :].strip() if head else ""
         self.more = block[1:options]
         self.names = [line for line in block[options:end] if NAME_OPTION.match(line)]
@@ -67,11 +68,13 @@ class Directive:
             return self._without_argument(_lines if mark == "lines" else _terms)
         if mark in ("text", "title") and (self.first or self.more):
             return None if FIELD.match(self.first) else Tip([*(self._title() if mark == "title" else self._text()), *self.names, *self.content])
-        head = TIP if any(line.strip() for line in self.content) else f"{TIP} {FILLER}"
+        content = next((line for line in self.content if line.strip()), ":field:")
+        # Without a text at its front, a field list in the content would be its options.
+        head = f"{TIP} {FILLER}" if self.size > len(TIP) + 1 or FIELD.match(content) else TIP
         return Tip([head, *self.names, *[""] * len(self.more), *self.content])
 
     def _text(self) -> list[str]:
-        return [f"{TIP} {self.first}", *self.more]
+        return [f"{TIP} {self.first}".rstrip(), *self.more]
 
     def _title(self) -> list[str]:
         """The argument as a paragraph: an escaped space says that it is one, whatever it begins with."""

@@ -10,7 +10,7 @@ from typing import Iterator
 from .. import Message
 
 HERE = Path(__file__).parent
-MARKS = ("text", "title", "content", "sections", "lines", "terms")
+MARKS = ("text", "title", "content", "sections", "lines", "terms", "none")
 
 # What a line of a source may define. The first that it matches counts.
 DEFINITIONS = [
@@ -68,13 +68,17 @@ class Known:
     def __init__(self) -> None:
         self.names: set[str] = set()
         self.marks: dict[str, str] = {}
-        """Of a directive, how the text in it is read; it has none if nothing is."""
+        """How the text in a directive is read, if anything is."""
         self.excluded: list[str] = []
         """The patterns of pages that a folder has, and that aren't checked."""
         self.files: set[Path] = set()
 
     def __contains__(self, name: str) -> bool:
         return name in self.names
+
+    def mark(self, directive: str) -> str | None:
+        mark = self.marks.get(directive.lower())
+        return None if mark == "none" else mark
 
     def add(self, given: str, folder: str = "") -> None:
         """Adds what a line of a file in a folder says. A file that isn't there is an OSError, a wrong mark a ValueError."""
@@ -97,9 +101,11 @@ class Known:
         kinds, name = ([kind], name) if kind + colon in ("directive:", "role:") else (["directive", "role"], given)
         if marks and (marks[0] not in MARKS or marks[1:] or kinds == ["role"]):
             raise ValueError(f"no such mark of a name: {' '.join(marks)}")
-        for form in {fold(name), re.sub("^[a-z]+:", "", fold(name))}:
+        given = fold(name)
+        for form in (given, re.sub("^[a-z]+:", "", given)):
             self.names.update(f"{kind}:{form}" for kind in kinds)
-            self.marks.update({form: mark for mark in marks})
+            if marks and (form == given or form not in self.marks):
+                self.marks[form] = marks[0]
 
     def add_file(self, file: str, folder: str = "") -> None:
         path = _found(file, folder)

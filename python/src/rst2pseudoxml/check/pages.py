@@ -73,7 +73,7 @@ class Text:
         """Opens all directives that begin a line after a blank one. What looks like one there and is none isn't read as text anyway."""
         first = before = end = 0
         for found in DIRECTIVE.finditer(plain):
-            mark = self.known.marks.get(found[1].lower())
+            mark = self.known.mark(found[1])
             if mark is None:
                 continue
             start = plain.rfind("\n", 0, found.start()) + 1
@@ -120,7 +120,7 @@ class Text:
         if column < 0:
             return False
         if text.startswith(UNKNOWN):
-            mark = self.known.marks.get(text[len(UNKNOWN) : -2].lower())
+            mark = self.known.mark(text[len(UNKNOWN) : -2])
             return mark is not None and self._open(at, column, block, mark)
         option = OPTION.match(text)
         if not option or f"directive:{option[1].lower()}" not in self.known.names or (option[1].lower() in CODE and not self.code):
@@ -131,7 +131,7 @@ class Text:
     def _open_title(self, at: int, found: list[Message]) -> bool:
         """Makes a paragraph of a title, and an admonition of a topic, in a directive that may hold them; whether it is in one."""
         name = self.opened.get(self._parent(at), "")
-        if self.known.marks.get(name.lower()) != "sections":
+        if self.known.mark(name) != "sections":
             return False
         line, lines = self.lines[at], self.lines
         if line.lstrip().startswith(".. topic"):
