@@ -140,6 +140,8 @@ class Names:
     def __init__(self, known: Known) -> None:
         self.known = known
         self.defined: dict[str, str] = {}
+        self.sources: list[tuple[str, str]] = []
+        """Unknown directives, with their sources, that weren't looked through yet."""
 
     def name_of(self, message: Message) -> str:
         """The name that, if it is known, takes a message away; an empty one if none does. The messages are taken in their order."""
@@ -181,10 +183,13 @@ class Names:
         return name
 
     def _definer(self, what: str, otherwise: str = "") -> str:
+        sources, self.sources = self.sources, []
+        for name, source in sources:
+            for defined in defined_in(source):
+                self.define(defined, name)
         return what if what in self.known else self.defined.get(what, otherwise)
 
     def _define(self, name: str, source: str) -> str:
-        """Notes what the source of an unknown directive defines."""
-        for what in defined_in(source):
-            self.define(what, name)
+        """Notes that the source of an unknown directive may define names."""
+        self.sources.append((name, source))
         return name

@@ -186,7 +186,7 @@ class Pages:
 
     def text(self, data: bytes) -> Text | None:
         """The text of a page, if something in it may be known by name, or is code."""
-        if b"::" not in data and b":`" not in data or not (self.known.names or self.code):
+        if not (self.known.names or self.code) or (b"::" not in data and b":`" not in data):
             return None
         try:
             return Text(data.decode(), self.known, self.code)
