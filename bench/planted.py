@@ -21,7 +21,7 @@ from documents import laid_out
 
 CHECK = pathlib.Path(__file__).resolve().parent.parent / "integrations/check-pages.sh"
 PROJECTS = {  # directives of their own that hold text
-    "cmake-doc": ["command content", "variable content", "envvar content", "genex content", "prop_tgt content", "signature content"],
+    "cmake-doc": ["command content", "variable content", "genex content", "prop_tgt content", "signature content"],
     "python-sqlalchemy-doc": ["change text", "changelog text", "deepalchemy text"],
     "python-celery-doc": ["setting content", "signal content"],
     "sphinx-doc": ["event sections"],
@@ -29,8 +29,8 @@ PROJECTS = {  # directives of their own that hold text
 }
 NAMES = (
     "attribute class classmethod cmdoption compound container data deprecated describe envvar epigraph exception function ifconfig "
-    "list-table member method module only option seealso sidebar staticmethod todo type versionadded versionchanged c:function c:macro c:member "
-    "c:type py:attribute py:class py:function py:method rst:directive rst:role"
+    "list-table member method module only option seealso sidebar staticmethod todo type versionadded versionchanged c:function c:macro "
+    "c:member c:type py:attribute py:class py:function py:method rst:directive rst:role"
 ).split()
 DIRECTIVE = re.compile(rf"( *)\.\. ({'|'.join(NAMES)})::(?: |$)")
 NATIVE = "attention caution danger error hint important note tip warning admonition".split()

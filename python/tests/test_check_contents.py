@@ -109,7 +109,8 @@ class Contents(Checking):
         self.finds(".. todo::\n\n   :class: *fault\n")
 
     def test_terms(self):
-        self.finds(".. glossary::\n\n   one\n   two : a\n      text::\n\n         *x\n\n      *fault\n   .. comment *x\n\n   three *fault\n")
+        page = ".. glossary::\n\n   one\n   two : a\n      text::\n\n         *x\n\n      *fault\n"
+        self.finds(page + "   .. comment *x\n\n   three *fault\n")
 
     def test_arguments(self):
         self.finds(".. sectionauthor:: A. M. *fault\n.. centered:: - *fault\n")
@@ -118,9 +119,11 @@ class Contents(Checking):
         self.finds(".. function:: a *b\n              :c *d\n\n   *fault\n")
 
     def test_titles(self):
-        text = "Top\n===\n\nSub\n---\n\n.. only:: html\n\n   One\n   ===\n\n   a *fault\n\n   ~~~~~\n    Two\n   ~~~~~\n\n   One_ `two`_\n\n   ----\n\n"
+        text = "Top\n===\n\nSub\n---\n\n.. only:: html\n\n   One\n   ===\n\n   a *fault\n\n"
+        text += "   ~~~~~\n    Two\n   ~~~~~\n\n   One_ `two`_\n\n   ----\n\n"
         self.finds(text + "   .. topic:: Three\n\n      *fault\n\nEnd\n---\n\ntwo_\n")
-        self.assertEqual(self.faults(".. only:: a\n\n   Title\n   ====\n"), ["4: (WARNING/2) Title underline too short.", "", "Title", "===="])
+        short = ["4: (WARNING/2) Title underline too short.", "", "Title", "===="]
+        self.assertEqual(self.faults(".. only:: a\n\n   Title\n   ====\n"), short)
         unexpected = [": (SEVERE/4) Unexpected section title.", "", "One", "==="]
         self.assertEqual(self.faults(".. todo::\n\n   One\n   ===\n"), ["4" + unexpected[0], *unexpected[1:]])
         self.assertEqual(self.faults(".. only:: a\n\n   - One\n     ===\n"), ["4" + unexpected[0], *unexpected[1:]])
@@ -129,7 +132,8 @@ class Contents(Checking):
         page = ".. only:: a\n   :name: here\n\n   .. _one: u\n\n   |sub| [1]_ two_ [#]_\n\nhere_ one_ `a`__\n\n"
         more = ".. _two: u\n.. |sub| replace:: a\n.. [1] a\n.. todo::\n\n   .. [#] b\n\n   __ u\n"
         self.assertEqual(self.faults(page + more), [])
-        self.assertEqual(self.faults(".. only:: a\n\n   .. _one: u\n   .. _one: v\n"), ['4: (WARNING/2) Duplicate explicit target name: "one".'])
+        twice = '4: (WARNING/2) Duplicate explicit target name: "one".'
+        self.assertEqual(self.faults(".. only:: a\n\n   .. _one: u\n   .. _one: v\n"), [twice])
 
     def test_what_is_no_text(self):
         for text in (
@@ -157,11 +161,12 @@ class Contents(Checking):
         self.same(1, [EMPHASIS.format("own/a.rst", 4)], "own")
 
     def test_levels(self):
-        self.assertEqual(self.faults(".. only:: a\n\n   *x\n\n   - a\n     ===\n", SPHINX, "--level=severe")[0], "6: (SEVERE/4) Unexpected section title.")
+        page = ".. only:: a\n\n   *x\n\n   - a\n     ===\n"
+        self.assertEqual(self.faults(page, SPHINX, "--level=severe")[0], "6: (SEVERE/4) Unexpected section title.")
+        self.assertEqual(self.faults(page, SPHINX, "--level=none"), [])
         self.assertEqual(self.faults(".. only:: a\n\n   *x\n", SPHINX, "--level=error"), [])
-        self.assertEqual(self.faults(".. only:: a\n\n   *x\n\n   - a\n     ===\n", SPHINX, "--level=none"), [])
-        self.assertEqual(self.faults(".. only:: a\n\n   c. one\n\n   :func:`a`\n", SPHINX, "--level=info"), [
-            '3: (INFO/1) Enumerated list start value not ordinal-1: "c" (ordinal 3)'])
+        start = '3: (INFO/1) Enumerated list start value not ordinal-1: "c" (ordinal 3)'
+        self.assertEqual(self.faults(".. only:: a\n\n   c. one\n\n   :func:`a`\n", SPHINX, "--level=info"), [start])
 
     def test_source_texts(self):
         """A message shows what the page has."""

@@ -181,17 +181,23 @@ class Code(Checking):
                 wanted = None
             for directive in ("code", "code-block", "sourcecode"):
                 with self.subTest(language=language, block=block):
-                    page = f"Text\n\n- .. {directive}:: {language}\n     :class: x\n\n\n" + "".join(f"     {line}\n" for line in block.split("\n"))
+                    lines = "".join(f"     {line}\n" for line in block.split("\n"))
+                    page = f"Text\n\n- .. {directive}:: {language}\n     :class: x\n\n\n{lines}"
                     self.assertEqual(self.lines(page, "--code"), [6 + wanted] if wanted else [])
                     self.assertEqual(self.lines(page), [])
 
     def test_in_directives(self):
-        page = ".. only:: html\n\n   .. code-block:: json\n      :caption: a\n        b\n      :linenos:\n\n      {\n      ,}\n\n.. code:: json\n\n   {]\n"
+        page = ".. only:: html\n\n   .. code-block:: json\n      :caption: a\n        b\n      :linenos:\n\n      {\n      ,}\n\n"
+        page += ".. code:: json\n\n   {]\n"
         self.assertEqual(self.lines(page, "--code", "--known=@sphinx-names.txt"), [9, 13])
 
     def test_in_tables(self):
-        page = "+---------------+---+\n| .. code:: xml | b |\n|               |   |\n|    <a>        |   |\n|    <b></a>    |   |\n+---------------+---+\n"
+        border = "+---------------+---+\n"
+        page = border + "| .. code:: xml | b |\n|               |   |\n|    <a>        |   |\n|    <b></a>    |   |\n" + border
         self.assertEqual(self.lines(page, "--code"), [5])
+
+    def test_nested_deeply(self):
+        self.assertEqual(self.lines("- " * 249 + ".. code:: json\n\n" + " " * 501 + "]\n", "--code"), [3])
 
     def test_nested_too_deep_for_a_parser(self):
         for language, bracket in ("json", "["), ("python", "("):  # some versions of Python find the fault

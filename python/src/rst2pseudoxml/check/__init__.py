@@ -48,10 +48,9 @@ import os
 import signal
 import sys
 from io import TextIOWrapper
-from json import loads
 from typing import Iterator, NoReturn
 
-from .. import LEVELS, Message, Refused, json
+from .. import LEVELS, Message, Refused
 from .files import FILE, content, pages_in
 from .formats import FORMATS
 from .jobs import Outcome, Progress, Stopped, outcomes
@@ -101,7 +100,7 @@ class Checker:
     def _faults(self, page: str, text: Text) -> Iterator[Message]:
         from .code import faults  # its parsers take time to load
 
-        for fault in faults(loads(json(text.data(), halt="none")), text):
+        for fault in faults(text):
             yield Message(page, fault.line, ERROR, "ERROR", fault.text)
 
     def _outcome(self, wanted: list[tuple[Message, str]]) -> Outcome:

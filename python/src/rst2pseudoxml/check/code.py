@@ -3,11 +3,13 @@
 from __future__ import annotations
 
 import ast
-import json
+import sys
 import warnings
 import xml.parsers.expat
+from json import JSONDecodeError, loads
 from typing import Any, Callable, Iterator, NamedTuple
 
+from .. import json as tree_of
 from .pages import Text
 
 try:
@@ -24,8 +26,8 @@ class Fault(NamedTuple):
 
 def in_json(text: str) -> Fault | None:
     try:
-        json.loads(text)
-    except json.JSONDecodeError as fault:
+        loads(text)
+    except JSONDecodeError as fault:
         return Fault(fault.lineno, fault.msg)
     return None
 
@@ -73,18 +75,38 @@ if tomllib:
     PARSERS["toml"] = ("TOML", in_toml)
 
 
-def faults(tree: list[Any], text: Text) -> Iterator[Fault]:
-    """The faults in the blocks of code of a document, which is made of the text."""
-    tag, line, attributes, *inside = tree
-    if tag != "literal_block":
-        for node in inside:
-            yield from faults(node, text) if isinstance(node, list) else ()
-    elif attributes.get("classes", [])[:1] == ["code"]:
-        name, parser = PARSERS.get("".join(attributes["classes"][1:2]).lower(), ("", None))
-        place = text.source_of("".join(inside), range(line, len(text.lines))) if parser else None
-        try:
-            fault = parser(place[1]) if parser and place else None
-        except (RecursionError, MemoryError):  # nested too deep for the parser, which is no fault
-            fault = None
-        if fault and place:
-            yield Fault(place[0] + fault.line, f"{name} code: {fault.text}")
+def faults(text: Text) -> Iterator[Fault]:
+    """The faults in the blocks of code of a text."""
+    waiting: list[Any] = [_document(text)]
+    while waiting:
+        node = waiting.pop()
+        if not isinstance(node, list):
+            continue
+        tag, line, attributes, *inside = node
+        if tag != "literal_block":
+            waiting += reversed(inside)
+        elif attributes.get("classes", [])[:1] == ["code"]:
+            yield from _in_block("".join(inside), "".join(attributes["classes"][1:2]), line, text)
+
+
+def _document(text: Text) -> list[Any]:
+    """The tree of a text. It has at most 1,350 levels."""
+    limit = sys.getrecursionlimit()
+    sys.setrecursionlimit(limit + 5000)
+    try:
+        tree: list[Any] = loads(tree_of(text.data(), halt="none"))
+    finally:
+        sys.setrecursionlimit(limit)
+    return tree
+
+
+def _in_block(block: str, language: str, line: int, text: Text) -> Iterator[Fault]:
+    """The fault in a block of code, whose directive is at this line, if there is one."""
+    name, parser = PARSERS.get(language.lower(), ("", None))
+    place = text.source_of(block, range(line, len(text.lines))) if parser else None
+    try:
+        fault = parser(place[1]) if parser and place else None
+    except (RecursionError, MemoryError):  # nested too deep for the parser, which is no fault
+        fault = None
+    if fault and place:
+        yield Fault(place[0] + fault.line, f"{name} code: {fault.text}")

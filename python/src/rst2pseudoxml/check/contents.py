@@ -67,14 +67,12 @@ class Directive:
         if mark in ("lines", "terms"):
             return self._without_argument(_lines if mark == "lines" else _terms)
         if mark in ("text", "title") and (self.first or self.more):
-            return None if FIELD.match(self.first) else Tip([*(self._title() if mark == "title" else self._text()), *self.names, *self.content])
+            argument = self._title() if mark == "title" else [f"{TIP} {self.first}".rstrip(), *self.more]
+            return None if FIELD.match(self.first) else Tip([*argument, *self.names, *self.content])
         content = next((line for line in self.content if line.strip()), ":field:")
         # Without a text at its front, a field list in the content would be its options.
         head = f"{TIP} {FILLER}" if self.size > len(TIP) + 1 or FIELD.match(content) else TIP
         return Tip([head, *self.names, *[""] * len(self.more), *self.content])
-
-    def _text(self) -> list[str]:
-        return [f"{TIP} {self.first}".rstrip(), *self.more]
 
     def _title(self) -> list[str]:
         """The argument as a paragraph: an escaped space says that it is one, whatever it begins with."""
@@ -117,7 +115,7 @@ def _lines(content: list[str]) -> Tip:
 
 
 def _terms(content: list[str]) -> Tip:
-    """Terms with definitions. Where a definition has several terms, those before the last are lines of a line block. Comments are left out."""
+    """Terms with definitions, without comments. Of the terms of a definition those before the last are lines of a line block."""
     left = margin(content)
     comment = False
     for at, line in enumerate(content):

@@ -8,7 +8,6 @@ import select
 import struct
 import sys
 import time
-import traceback
 from typing import Callable, Iterator, NoReturn, Sequence, Tuple
 
 Outcome = Tuple[str, bool, Tuple[str, ...]]
@@ -92,7 +91,7 @@ def _work(chunks: Sequence[Sequence[str]], check: Check, numbers: int, put: int)
             while frame:
                 frame = frame[os.write(put, frame) :]
     except BaseException:
-        traceback.print_exc()
+        sys.excepthook(*sys.exc_info())
         os._exit(1)
     os._exit(0)
 
