@@ -83,6 +83,15 @@ class Contents(Checking):
         self.finds(".. function:: f(*a)\n.. function:: g(*a)\n\n   *fault\n\n1. .. only:: a\n\n      *fault\n")
         self.finds("term\n   .. versionadded:: 1 *fault\n      b\n")
 
+    def test_no_blank_line_after(self):
+        unindent = "Explicit markup ends without a blank line; unexpected unindent."
+        for directive in (".. contents::\n    :local:\n    :depth: 1\n", ".. contents:: a\n   b\n   :local:\n   :name: b\n", ".. only:: a\n          b\n"):
+            with self.subTest(directive):
+                line = directive.count("\n") + 1
+                self.assertEqual(self.faults(directive + "text\n\nb\n"), [f"{line}: (WARNING/2) {unindent}"])
+                self.assertEqual(self.faults(directive + ".. only:: a\n"), [])
+                self.assertEqual(self.faults(directive + "\ntext\n"), [])
+
     def test_tables(self):
         self.finds(
             "+----------------------+-------------------+\n"

@@ -49,18 +49,22 @@ def end_of(lines: list[str], first: int, column: int, whole: bool) -> int:
 
 
 class Directive:
-    """The source of a directive, in parts. Its first lines are its argument, or content if it takes none, and then its options."""
+    """The source of a directive, in parts. Its first lines are its argument, or content if it takes none, and then its options.
 
-    def __init__(self, block: list[str]) -> None:
+    Where the line after it isn't blank, no line becomes blank at its end: that one is missing there is a fault.
+    """
+
+    def __init__(self, block: list[str], before_blank: bool = True) -> None:
         head = DIRECTIVE.match(block[0])
         end = next((at for at, line in enumerate(block) if at and not line.strip()), len(block))
         options = next((at for at, line in enumerate(block[:end]) if at and FIELD.match(line)), end)
         self.size = len(block[0].rstrip())
         self.first = block[0][head.end() :].strip() if head else ""
         self.more = block[1:options]
-        self.names = [line for line in block[options:end] if NAME_OPTION.match(line)]
-        self.content = [""] * (end - options - len(self.names)) + block[end:]
         self.margin = margin(block[1:])
+        self.names = [line for line in block[options:end] if NAME_OPTION.match(line)]
+        self.left_out = "" if before_blank or end < len(block) else " " * self.margin + FILLER
+        self.content = [self.left_out] * (end - options - len(self.names)) + block[end:]
 
     def as_tip(self, mark: str) -> Tip | None:
         """The directive with what its mark says to be text, or none if that isn't where it is looked for."""
@@ -68,11 +72,15 @@ class Directive:
             return self._without_argument(_lines if mark == "lines" else _terms)
         if mark in ("text", "title") and (self.first or self.more):
             argument = self._title() if mark == "title" else [f"{TIP} {self.first}".rstrip(), *self.more]
-            return None if FIELD.match(self.first) else Tip([*argument, *self.names, *self.content])
-        content = next((line for line in self.content if line.strip()), ":field:")
+            return None if FIELD.match(self.first) else self._tip(argument)
+        content = next((line for line in self.content if line.strip()), ":none:")
         # Without a text at its front, a field list in the content would be its options.
         head = f"{TIP} {FILLER}" if self.size > len(TIP) + 1 or FIELD.match(content) else TIP
-        return Tip([head, *self.names, *[""] * len(self.more), *self.content])
+        return self._tip([head], [self.left_out] * len(self.more))
+
+    def _tip(self, head: list[str], left_out: Sequence[str] = ()) -> Tip:
+        after = [*left_out, *self.content]
+        return Tip([*head, *after, *self.names] if self.left_out else [*head, *self.names, *after])
 
     def _title(self) -> list[str]:
         """The argument as a paragraph: an escaped space says that it is one, whatever it begins with."""
@@ -96,7 +104,7 @@ def without_option(block: list[str], name: str) -> list[str] | None:
     option = re.compile(rf" *:{re.escape(name)}:(?: |$)", re.IGNORECASE)
     end = next((at for at, line in enumerate(block) if at and not line.strip()), len(block))
     first = next((at for at in range(1, end) if option.match(block[at])), None)
-    if first is None:
+    if first is None or end == len(block):
         return None
     last = next((at for at in range(first + 1, end) if indentation(block[at]) <= indentation(block[first])), end)
     return block[:first] + block[last:end] + [""] * (last - first) + block[end:]

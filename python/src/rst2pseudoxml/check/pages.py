@@ -87,7 +87,8 @@ class Text:
 
     def _open(self, first: int, column: int, block: list[str], mark: str) -> bool:
         """Opens a directive, whose source is the block; whether it could be."""
-        tip = Directive(block).as_tip(mark)
+        after = self.lines[first + len(block) : first + len(block) + 1]
+        tip = Directive(block, not "".join(after).strip()).as_tip(mark)
         if tip is None or not self._put(first, column, block, tip.lines):
             return False
         name = DIRECTIVE.match(block[0])
