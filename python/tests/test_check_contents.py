@@ -133,6 +133,9 @@ class Contents(Checking):
         self.finds(text + "   .. topic:: Three\n\n      *fault\n\nEnd\n---\n\ntwo_\n")
         short = ["4: (WARNING/2) Title underline too short.", "", "Title", "===="]
         self.assertEqual(self.faults(".. only:: a\n\n   Title\n   ====\n"), short)
+        self.assertEqual(self.faults(".. only:: a\n\n   One\n   ===\n   Two\n   ===\n\nOne_ two_\n"), [])
+        wrong = "3: (SEVERE/4) Unexpected section title or transition."
+        self.assertEqual(self.faults(".. only:: a\n\n   =====\n   a\n   b\n\n   ----\n\n   c\n"), [wrong, "", "====="])
         unexpected = [": (SEVERE/4) Unexpected section title.", "", "One", "==="]
         self.assertEqual(self.faults(".. todo::\n\n   One\n   ===\n"), ["4" + unexpected[0], *unexpected[1:]])
         self.assertEqual(self.faults(".. only:: a\n\n   - One\n     ===\n"), ["4" + unexpected[0], *unexpected[1:]])

@@ -115,7 +115,7 @@ class Text:
     def _open_by(self, message: Message, found: list[Message]) -> bool:
         at, text = message.line - 1, message.text
         if text.startswith((TITLE, TOPIC)) and self.lines[at].strip():
-            return self._open_title(at, found)
+            return self._open_title(at, found, text != TITLE + ".")
         block = (message.block or "").split("\n")
         column = self.lines[at].find(block[0])
         if column < 0:
@@ -129,7 +129,7 @@ class Text:
         less = without_option(block, option[2])
         return less is not None and self._put(at, column, block, less)
 
-    def _open_title(self, at: int, found: list[Message]) -> bool:
+    def _open_title(self, at: int, found: list[Message], is_overline: bool) -> bool:
         """Makes a paragraph of a title, and an admonition of a topic, in a directive that may hold them; whether it is in one."""
         name = self.opened.get(self._parent(at), "")
         if self.known.mark(name) != "sections":
@@ -138,12 +138,15 @@ class Text:
         if line.lstrip().startswith(".. topic"):
             lines[at] = line.replace("topic", "admonition", 1)
             return True
-        overline = at + 2 < len(lines) and lines[at + 2].strip() == line.strip()
-        title = lines[at + 1 if overline else at - 1]
+        below = [*lines[at + 1 : at + 3], "", ""]
+        has_underline = is_overline and below[1].strip() == line.strip()
+        if is_overline and below[0].strip() and not has_underline:
+            return False
+        title = lines[at + 1 if has_underline else at - 1]
         self.titles[fold(title.strip())] = name
         self.kept += [message for message in found if message.line - 1 == at and message.text.startswith("Title ")]
         lines[at] = ""
-        if overline:
+        if has_underline:
             lines[at + 2] = ""
         return True
 
