@@ -109,51 +109,63 @@ class Text:
         return True
 
     def open_more(self, found: list[Message]) -> bool:
-        """Opens the directives that the messages are on; whether there was one."""
-        return any([self._open_by(message, found) for message in found])
+        """Opens the directives that the messages are on, and takes the titles in them; whether there was one."""
+        opened = [self._open_by(message) for message in found]
+        return self._take_titles(found) or any(opened)
 
-    def _open_by(self, message: Message, found: list[Message]) -> bool:
-        at, text = message.line - 1, message.text
-        if text.startswith((TITLE, TOPIC)) and self.lines[at].strip():
-            return self._open_title(at, found, text != TITLE + ".")
-        block = (message.block or "").split("\n")
+    def _open_by(self, message: Message) -> bool:
+        at, text, block = message.line - 1, message.text, (message.block or "").split("\n")
         column = self.lines[at].find(block[0])
-        if column < 0:
-            return False
-        if text.startswith(UNKNOWN):
+        if text.startswith(UNKNOWN) and column >= 0:
             mark = self.known.mark(text[len(UNKNOWN) : -2])
             return mark is not None and self._open(at, column, block, mark)
         option = OPTION.match(text)
-        if not option or f"directive:{option[1].lower()}" not in self.known.names or (option[1].lower() in CODE and not self.code):
+        if not option or column < 0 or f"directive:{option[1].lower()}" not in self.known.names:
             return False
-        less = without_option(block, option[2])
+        less = without_option(block, option[2]) if self.code or option[1].lower() not in CODE else None
         return less is not None and self._put(at, column, block, less)
 
-    def _open_title(self, at: int, found: list[Message], is_overline: bool) -> bool:
-        """Makes a paragraph of a title, and an admonition of a topic, in a directive that may hold them; whether it is in one."""
-        name = self.opened.get(self._parent(at), "")
-        if self.known.mark(name) != "sections":
+    def _take_titles(self, found: list[Message]) -> bool:
+        """Makes paragraphs of titles, and admonitions of topics, in directives that may hold them; whether there was one."""
+        titles = [message for message in found if message.text.startswith((TITLE, TOPIC))]
+        about = {message.line: message for message in found if message.text.startswith("Title ")}
+        parents = self._parents() if titles else []
+        taken = [self._take_title(message, self.opened.get(parents[message.line - 1], "")) for message in titles]
+        self.kept += [about[message.line] for message, was in zip(titles, taken) if was and message.line in about]
+        return any(taken)
+
+    def _take_title(self, message: Message, name: str) -> bool:
+        """Takes a title or a topic in a directive of this name; whether it may hold it."""
+        at, lines = message.line - 1, self.lines
+        line = lines[at].strip()
+        if not line or self.known.mark(name) != "sections":
             return False
-        line, lines = self.lines[at], self.lines
-        if line.lstrip().startswith(".. topic"):
-            lines[at] = line.replace("topic", "admonition", 1)
+        if line.startswith(".. topic"):
+            lines[at] = lines[at].replace("topic", "admonition", 1)
             return True
-        below = [*lines[at + 1 : at + 3], "", ""]
-        has_underline = is_overline and below[1].strip() == line.strip()
-        if is_overline and below[0].strip() and not has_underline:
+        below = [part.strip() for part in [*lines[at + 1 : at + 3], "", ""]]
+        is_overline = message.text != TITLE + "." and below[0] != ""
+        if is_overline and below[1] != line:
             return False
-        title = lines[at + 1 if has_underline else at - 1]
-        self.titles[fold(title.strip())] = name
-        self.kept += [message for message in found if message.line - 1 == at and message.text.startswith("Title ")]
+        self.titles[fold(below[0] if is_overline else lines[at - 1].strip())] = name
         lines[at] = ""
-        if has_underline:
+        if is_overline:
             lines[at + 2] = ""
         return True
 
-    def _parent(self, at: int) -> int:
-        """The last line before this one that is less indented."""
-        here = indentation(self.lines[at])
-        return next((up for up in range(at - 1, -1, -1) if self.lines[up].strip() and indentation(self.lines[up]) < here), -1)
+    def _parents(self) -> list[int]:
+        """Of each line the last one before it that is less indented, or -1."""
+        parents = [-1] * len(self.lines)
+        above: list[tuple[int, int]] = []
+        for at, line in enumerate(self.lines):
+            if not line.strip():
+                continue
+            here = indentation(line)
+            while above and above[-1][0] >= here:
+                above.pop()
+            parents[at] = above[-1][1] if above else -1
+            above.append((here, at))
+        return parents
 
     def is_own(self, message: Message) -> bool:
         """Whether a message is on what was put into the page."""
