@@ -12,11 +12,11 @@ checked because the arguments are bad.
 --known names what another tool reads, such as Sphinx: NAMES with commas between them, or a FILE with one name in each line and
 comments in lines that begin with `#`. It may be given several times. A bare NAME is a directive and a role, directive:NAME and role:NAME
 are only one of them; a NAME with a domain, such as py:func, counts without the domain too. substitution:NAME and target:NAME are
-defined elsewhere, and so is what the lines of a file define that definitions:FILE names. exclude:PATTERN leaves pages of a FOLDER out,
-by their names or paths. A line @FILE reads another file. A FILE is looked for in the folder of the file that names it, in the current
-folder, and among those of this package: @sphinx-names.txt has the names of Sphinx, and reads @docutils-names.txt, which has those of
-Docutils that this package leaves out. The file .rst-known in the current folder, and in each FOLDER, is read if it is there. All names
-count for all pages.
+defined elsewhere; definitions:FILE names a file whose lines define more of them. exclude:PATTERN leaves pages of a FOLDER out, by their
+names or paths. A line @FILE reads another file. A FILE is looked for in the folder of the file that names it, in the current folder, and
+among those of this package: @sphinx-names.txt has the names of Sphinx, and reads @docutils-names.txt, which has those of Docutils that
+this package leaves out. The file .rst-known in the current folder, and in each FOLDER, is read if it is there. All names count for all
+pages.
 
 What a known directive holds is read as a part of the page if a mark comes after its name, as in `directive:seealso text`:
 

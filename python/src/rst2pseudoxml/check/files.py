@@ -3,7 +3,6 @@
 from __future__ import annotations
 
 import os
-import sys
 from fnmatch import fnmatchcase
 from typing import Iterable, Iterator
 
@@ -44,8 +43,8 @@ def _names(folder: str, entry: os.DirEntry[str]) -> Iterator[str]:
 def content(page: str) -> bytes:
     """The bytes of a page, `-` being standard input, or as many as show that it is too long."""
     try:
-        place = sys.stdin.fileno() if page == "-" else os.open(page, os.O_RDONLY)
-    except (OSError, ValueError):
+        place = 0 if page == "-" else os.open(page, os.O_RDONLY)
+    except (OSError, ValueError):  # the second for a name with a NUL
         raise Refused("cannot open", None, f"rst2pseudoxml: cannot open {page}") from None
     try:
         return _all(place)
