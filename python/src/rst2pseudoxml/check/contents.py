@@ -58,12 +58,11 @@ class Directive:
         head = DIRECTIVE.match(block[0])
         end = next((at for at, line in enumerate(block) if at and not line.strip()), len(block))
         options = next((at for at, line in enumerate(block[:end]) if at and FIELD.match(line)), end)
-        self.size = len(block[0].rstrip())
         self.first = block[0][head.end() :].strip() if head else ""
         self.more = block[1:options]
-        self.margin = margin(block[1:])
+        self.block = block
         self.names = [line for line in block[options:end] if NAME_OPTION.match(line)]
-        self.left_out = "" if before_blank or end < len(block) else " " * self.margin + FILLER
+        self.left_out = "" if before_blank or end < len(block) else " " * margin(block[1:]) + FILLER
         self.content = [self.left_out] * (end - options - len(self.names)) + block[end:]
 
     def as_tip(self, mark: str) -> Tip | None:
@@ -75,7 +74,7 @@ class Directive:
             return None if FIELD.match(self.first) else self._tip(argument)
         content = next((line for line in self.content if line.strip()), ":none:")
         # Without a text at its front, a field list in the content would be its options.
-        head = f"{TIP} {FILLER}" if self.size > len(TIP) + 1 or FIELD.match(content) else TIP
+        head = f"{TIP} {FILLER}" if len(self.block[0].rstrip()) > len(TIP) + 1 or FIELD.match(content) else TIP
         return self._tip([head], [self.left_out] * len(self.more))
 
     def _tip(self, head: list[str], left_out: Sequence[str] = ()) -> Tip:
@@ -85,9 +84,10 @@ class Directive:
     def _title(self) -> list[str]:
         """The argument as a paragraph: an escaped space says that it is one, whatever it begins with."""
         words = [self.first, *(line.strip() for line in self.more)]
+        left = " " * margin(self.block[1:])
         words[-1] = re.sub("::$", ":.", words[-1])
         words[not self.first] = "\\ " + words[not self.first]
-        return [f"{TIP} {words[0]}", *(" " * self.margin + word for word in words[1:])]
+        return [f"{TIP} {words[0]}", *(left + word for word in words[1:])]
 
     def _without_argument(self, made: Callable[[list[str]], Tip]) -> Tip | None:
         """The directive with its content as lines of text, or as terms with definitions."""

@@ -83,13 +83,18 @@ class Text:
             whole = mark in ("lines", "terms")
             last = end_of(self.lines, first, column, whole)
             end = last if mark == "lines" else end  # what is in it is no directive
-            self._open(first, column, [line[column:] for line in self.lines[first:last]], mark)
+            self._open(first, column, [line[column:] for line in self.lines[first:last]], mark, has_line_ends=True)
 
-    def _open(self, first: int, column: int, block: list[str], mark: str) -> bool:
+    def _open(self, first: int, column: int, block: list[str], mark: str, has_line_ends: bool = False) -> bool:
         """Opens a directive, whose source is the block; whether it could be."""
         after = self.lines[first + len(block) : first + len(block) + 1]
         tip = Directive(block, not "".join(after).strip()).as_tip(mark)
-        if tip is None or not self._put(first, column, block, tip.lines):
+        if tip is None:
+            return False
+        if has_line_ends:
+            here = slice(first, first + len(block))
+            self.lines[here] = [line[:column] + now for line, now in zip(self.lines[here], tip.lines)]
+        elif not self._put(first, column, block, tip.lines):
             return False
         name = DIRECTIVE.match(block[0])
         self.opened[first] = name[1] if name else ""
