@@ -181,8 +181,8 @@ class Text:
         text, at = message.text, message.line - 1
         if at in self.opened:
             text = text.replace('"tip" directive', f'"{self.opened[at]}" directive')
-        source = self.source_of(message.block or "", range(at, max(at - 3, -1), -1))
-        return message._replace(text=text, block=source[1] if message.block and source else message.block)
+        source = self.source_of(message.block, range(at, max(at - 3, -1), -1)) if message.block else None
+        return message._replace(text=text, block=source[1] if source else message.block)
 
     def source_of(self, text: str, places: Iterable[int]) -> tuple[int, str] | None:
         """The first of these places that the text begins at, and what the page has there."""
