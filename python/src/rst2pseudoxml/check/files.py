@@ -3,8 +3,9 @@
 from __future__ import annotations
 
 import os
-from fnmatch import fnmatchcase
-from typing import Iterable, Iterator
+import re
+from fnmatch import translate
+from typing import Sequence
 
 from .. import LONGEST, Refused
 
@@ -12,9 +13,9 @@ FILE = ".rst-known"
 NO_PAGES = ("requirements*.txt", "CMakeLists.txt")
 
 
-def pages_in(folder: str, excluded: Iterable[str] = ()) -> list[str]:
+def pages_in(folder: str, excluded: Sequence[str] = ()) -> list[str]:
     """The pages in a folder and those in it, by the bytes of their names. A folder that can't be read is among them."""
-    patterns = [*NO_PAGES, *excluded]
+    is_none = re.compile("|".join(map(translate, [*NO_PAGES, *excluded]))).match
     found: list[str] = []
     waiting = [folder]
     while waiting:
@@ -25,19 +26,18 @@ def pages_in(folder: str, excluded: Iterable[str] = ()) -> list[str]:
             found.append(path)
             continue
         for entry in entries:
-            page = entry.is_file(follow_symlinks=False) and entry.name.endswith((".rst", ".txt"))
-            if entry.name.startswith(".") or not (page or entry.is_dir(follow_symlinks=False)):
+            name = entry.name
+            page = name.endswith((".rst", ".txt")) and entry.is_file(follow_symlinks=False)
+            if name.startswith(".") or not (page or entry.is_dir(follow_symlinks=False)):
                 continue
-            if not any(fnmatchcase(name, pattern) for pattern in patterns for name in _names(folder, entry)):
+            if not is_none(name) and not (excluded and any(map(is_none, _paths(folder, entry.path)))):
                 (found if page else waiting).append(entry.path)
     return sorted(found, key=os.fsencode)
 
 
-def _names(folder: str, entry: os.DirEntry[str]) -> Iterator[str]:
-    """What a pattern may match: the name, the path in the folder, and the path as it is shown."""
-    yield entry.name
-    yield entry.path[len(folder) :].lstrip("/")
-    yield entry.path[2:] if entry.path.startswith("./") else entry.path
+def _paths(folder: str, path: str) -> tuple[str, str]:
+    """A path in the folder, and as it is shown."""
+    return path[len(folder) :].lstrip("/"), path[2:] if path.startswith("./") else path
 
 
 def content(page: str) -> bytes:
