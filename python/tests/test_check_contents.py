@@ -110,6 +110,7 @@ class Contents(Checking):
         for indented in (text, text.replace("\n  ", "\n     "), text.replace("\n  ", "\n ")):
             self.finds(indented.format("*fault ", "").replace("*c", "c").replace("d*", "d"))
             self.assertEqual(self.faults(indented.format("", "*x")), [EMPHASIS.format("", line)[1:] for line in (3, 11)])
+        self.finds("- a\n\n  .. parsed-literal::\n\n    a *fault\n\n    b\n\n    - c\n\n  d\n")
         self.finds(".. line-block::\n   :name: x\n\n   a *fault\n     b x_\n")
         self.assertEqual(self.faults(".. parsed-literal::\n\nend\n"), [])
 

@@ -93,7 +93,7 @@ class Text:
             return False
         if has_line_ends:
             here = slice(first, first + len(block))
-            self.lines[here] = [line[:column] + now for line, now in zip(self.lines[here], tip.lines)]
+            self.lines[here] = [line[:column].ljust(column) + now for line, now in zip(self.lines[here], tip.lines)]
         elif not self._put(first, column, block, tip.lines):
             return False
         name = DIRECTIVE.match(block[0])
