@@ -1,5 +1,5 @@
 #!/usr/bin/env python3
-"""Counts how many real pages pass check-pages.sh at level error, without known names and with the lists that are shipped.
+"""Counts how many real pages pass check-pages.sh at level warning, without known names and with the lists that are shipped.
 
     bench/known.py [FOLDER]
 
@@ -18,17 +18,17 @@ import tempfile
 from documents import PACKAGES, fetch, laid_out
 
 CHECK = pathlib.Path(__file__).resolve().parent.parent / "integrations/check-pages.sh"
-PASSES = ": passes with --known="
+PASS = " with --known="
 
 
 def checked(work: pathlib.Path, *known: str) -> tuple[dict, set]:
     """How many pages of each package fail, and the names that the script proposes."""
-    command = [CHECK, "--level=error", "--format=json", *(f"--known={names}" for names in known), "."]
+    command = [CHECK, "--level=warning", "--format=json", *(f"--known={names}" for names in known), "."]
     done = subprocess.run(command, cwd=work, stdout=subprocess.PIPE, stderr=subprocess.PIPE, check=False)
     if done.returncode > 1:
         sys.exit(done.stderr.decode("utf-8", "replace"))
     pages = {json.loads(line)["file"] for line in done.stdout.decode("utf-8", "replace").splitlines()}
-    proposed = (line.partition(PASSES)[2] for line in done.stderr.decode("utf-8", "replace").splitlines())
+    proposed = (line.partition(PASS)[2] for line in done.stderr.decode("utf-8", "replace").splitlines())
     return collections.Counter(page.split("/")[1] for page in pages), {name for names in proposed for name in names.split(",") if name}
 
 
@@ -37,7 +37,9 @@ def main() -> int:
         folder, work = pathlib.Path(sys.argv[1] if sys.argv[1:] else f"{made}/packages"), pathlib.Path(made, "documents")
         folder.mkdir(parents=True, exist_ok=True)
         work.mkdir()
-        pages = {name: len(laid_out(name, folder, work)) for name in PACKAGES if (folder / name).is_dir() or fetch(name, folder)}
+        names = [name for name in PACKAGES if (folder / name).is_dir() or fetch(name, folder)]
+        names += sorted(path.name for path in folder.iterdir() if path.is_dir() and path.name not in PACKAGES)
+        pages = {name: len(laid_out(name, folder, work)) for name in names}
         runs = [checked(work, *known) for known in ((), ("@docutils-names.txt",), ("@sphinx-names.txt",))]
         own = runs[-1][1]
         runs.append(checked(work, "@sphinx-names.txt", ",".join(own)))

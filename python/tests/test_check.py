@@ -1,23 +1,22 @@
 #!/usr/bin/env python3
 """Tests rst-check; pytest runs them, and so does python3 by itself."""
 
-import io
 import json
 import os
 import pathlib
 import re
 import subprocess
 import sys
-import tempfile
 import unittest
-from unittest import mock
 
 import rst2pseudoxml
+from checking import Checking
 from rst2pseudoxml import check
+from rst2pseudoxml.check.names import MARKS
 
 LISTS = pathlib.Path(check.__file__).parent
 WARNING = "{}:1: (WARNING/2) Inline emphasis start-string without end-string."
-USAGE = "[--level=LEVEL] [--known=NAMES|@FILE].. [--format=FORMAT] [--] FILE|FOLDER.."
+USAGE = "[--level LEVEL] [--known NAMES|@FILE].. [--code] [--format FORMAT] [--jobs N] [--name FILE] [--] FILE|FOLDER|-.."
 PAGES = {
     "good.rst": b"fine\n",
     "a b.rst": b"A *word\n",
@@ -73,33 +72,17 @@ far_ |Day| |ni| |b|
 }
 
 
-class Pages(unittest.TestCase):
+class Pages(Checking):
+    pages = PAGES
+
     @classmethod
     def setUpClass(cls):
-        kept = tempfile.TemporaryDirectory()
-        cls.addClassCleanup(kept.cleanup)
-        cls.folder = pathlib.Path(kept.name)
-        for name, data in PAGES.items():
-            (cls.folder / name).parent.mkdir(parents=True, exist_ok=True)
-            (cls.folder / name).write_bytes(data)
-        cls.addClassCleanup(os.chdir, os.getcwd())
+        super().setUpClass()
         os.symlink("/proc/self/mem", cls.folder / "memory.rst")  # a file that can be opened, and not read
-
-    def same(self, status, lines, *arguments, folder=""):
-        """What a call prints on both streams."""
-        os.chdir(self.folder / folder)
-        stream = io.TextIOWrapper(io.BytesIO(), "utf-8")
-        with mock.patch.multiple(sys, argv=["rst-check", *arguments], stdout=stream, stderr=stream):
-            try:
-                got = check.main()
-            except SystemExit as refused:
-                got = refused.code
-        stream.flush()
-        self.assertEqual((got, stream.buffer.getvalue().decode().splitlines()), (status, lines))
 
     def test_module(self):
         command = [sys.executable, "-m", "rst2pseudoxml.check", "good.rst", "a b.rst"]
-        variables = {**os.environ, "PYTHONPATH": str(LISTS.parent)}
+        variables = {**os.environ, "PYTHONPATH": str(LISTS.parents[1])}
         run = subprocess.run(command, cwd=self.folder, env=variables, stdout=subprocess.PIPE)
         self.assertEqual((run.returncode, run.stdout.decode()), (1, WARNING.format("a b.rst") + "\n"))
 
@@ -111,6 +94,7 @@ class Pages(unittest.TestCase):
     def test_levels(self):
         self.same(1, ['info.rst:1: (INFO/1) Enumerated list start value not ordinal-1: "c" (ordinal 3)'], "--level=info", "info.rst")
         self.same(0, [], "--level=error", "--", "a b.rst")
+        self.same(0, [], "--level", "error", "--format", "json", "--known", "x", "--jobs", "1", "a b.rst")
 
     def test_refused_pages(self):
         lines = [
@@ -127,8 +111,15 @@ class Pages(unittest.TestCase):
             (f"no file was named (usage: rst-check {USAGE})", "--"),
             ("no such format: xml", "--format=xml", "good.rst"),
             ("no such option: -x.rst", "-x.rst"),
-            ("no such option: --level", "--level", "good.rst"),
+            ("no such option: --code=yes", "--code=yes", "good.rst"),
             ("no such level: loud", "--level=loud", "good.rst"),
+            ("no such level: good.rst", "--level", "good.rst"),
+            ("nothing comes after --level", "--level"),
+            ("no such number of jobs: 0", "--jobs=0", "good.rst"),
+            ("no such mark of a name: loud", "--known=spam loud", "good.rst"),
+            ("no such mark of a name: text", "--known=role:spam text", "good.rst"),
+            ("no such mark of a name: text title", "--known=directive:spam text title", "good.rst"),
+            ("cannot read none.inc", "--known=definitions:none.inc", "good.rst"),
             ("there is no *.rst or *.txt in tree/empty", "tree/empty"),
             ("a name has a line feed: a", "a\nb"),
             ("cannot read none.txt", "--known=@none.txt", "good.rst"),
@@ -168,14 +159,16 @@ class Pages(unittest.TestCase):
         self.same(0, [], "--known=@sphinx-names.txt", "sphinx.rst")
 
     def test_lists(self):
+        self.assertEqual(len(list(LISTS.glob("*-names.txt"))), 2)
         for path in sorted(LISTS.glob("*-names.txt")):
             names = [line for line in path.read_text().splitlines() if line and not line.startswith("#")]
             self.assertEqual(len(names), len(set(names)))
             for name in names:
-                self.assertRegex(name, r"\A(@docutils-names\.txt|(directive|role|substitution):[a-z][a-z0-9:-]*)\Z")
+                form = rf"(@docutils-names\.txt|directive:[a-z][a-z0-9:-]*( ({'|'.join(MARKS)}))?|(role|substitution):[a-z][a-z0-9:-]*)"
+                self.assertRegex(name, rf"\A{form}\Z")
 
     def test_directives_of_docutils_are_unknown(self):
-        for name in re.findall("^directive:(.*)", (LISTS / "docutils-names.txt").read_text(), re.MULTILINE):
+        for name in re.findall("^directive:([^ \n]*)", (LISTS / "docutils-names.txt").read_text(), re.MULTILINE):
             (message,) = rst2pseudoxml.messages(f".. {name}:: a")
             self.assertEqual(message.text, f'Unknown directive type "{name}".')
 

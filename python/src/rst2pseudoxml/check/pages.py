@@ -1,0 +1,222 @@
+"""The messages of a page, with those on the text in directives that another tool reads."""
+
+from __future__ import annotations
+
+import re
+from ctypes import create_string_buffer, string_at
+from json import loads
+from typing import Iterable
+
+from .. import LIBRARY, Message, _options, _Result, messages
+from .contents import DIRECTIVE, Directive, end_of, indentation, without_option
+from .names import Known, fold
+
+ROLE = re.compile(r":(?<![^\s\-/'\"<(\[{:]:)([A-Za-z][A-Za-z0-9_.+:-]*):`(?![`\s])")
+UNKNOWN = 'Unknown directive type "'
+TITLE = "Unexpected section title"
+TOPIC = 'The "topic" directive may not be used within'
+OPTION = re.compile(r'Error in "(.*)" directive:\nunknown option: "(.*)"\.')
+CODE = ("code", "code-block", "sourcecode")
+JOINED = "Line block ends without a blank line."
+ERROR = 3
+
+
+class Reader:
+    """The library's call for messages, with a room that is kept from text to text."""
+
+    def __init__(self, level: int) -> None:
+        self.level = level
+        self.options = _options(report=level, halt="none")
+        self.room = create_string_buffer(1 << 20)
+        self.result = _Result()
+
+    def read(self, page: str, data: bytes) -> list[Message]:
+        """The messages of a text; if it is refused, that is a `Refused`."""
+        result, size = self.result, len(self.room)
+        LIBRARY.rst_messages(data, len(data), self.options, self.room, size, result)
+        if result.end or result.length > size:
+            return messages(data, source=page, report=self.level, halt="none")
+        return [] if result.length == 2 else [Message(page, **found) for found in loads(string_at(self.room, result.length))]
+
+
+class Text:
+    """The lines of a page, in which known directives that hold text are opened: the library reads what is in them.
+
+    A known role is put inside its backquotes, so that there is no message on it. Where a line begins with one that no field does:
+    what comes later in the line is no field marker then.
+    """
+
+    def __init__(self, text: str, known: Known, code: bool = False) -> None:
+        self.known = known
+        self.code = code
+        plain = "\n".join(text.replace("\v", " ").replace("\f", " ").splitlines()).expandtabs(8)
+        self.source = plain.split("\n")
+        plain = ROLE.sub(self._swapped, plain)
+        self.lines = plain.split("\n")
+        self.opened: dict[int, str] = {}
+        """The names of the directives that are open, by the places of their lines."""
+        self.joined: set[int] = set()
+        """The places of lines that follow a term without a blank line."""
+        self.titles: dict[str, str] = {}
+        """The titles in directives, each with the directive's name."""
+        self.kept: list[Message] = []
+        """Messages on titles in directives."""
+        self._sweep(plain)
+
+    def data(self) -> bytes:
+        return "\n".join(self.lines).encode()
+
+    def _swapped(self, role: re.Match[str]) -> str:
+        return f"`:{role[1]}:" if f"role:{role[1].lower()}" in self.known.names else role[0]
+
+    def _sweep(self, plain: str) -> None:
+        """Opens all directives that begin a line after a blank one. What looks like one there and is none isn't read as text anyway."""
+        first = before = end = 0
+        for found in DIRECTIVE.finditer(plain):
+            mark = self.known.mark(found[1])
+            if mark is None:
+                continue
+            start = plain.rfind("\n", 0, found.start()) + 1
+            first, before, column = first + plain.count("\n", before, start), start, found.start() - start
+            if first < end or plain[start : found.start()].strip() or (first and self.source[first - 1].strip()):
+                continue
+            whole = mark in ("lines", "terms")
+            last = end_of(self.lines, first, column, whole)
+            end = last if mark == "lines" else end  # what is in it is no directive
+            self._open(first, column, [line[column:] for line in self.lines[first:last]], mark, has_line_ends=True)
+
+    def _open(self, first: int, column: int, block: list[str], mark: str, has_line_ends: bool = False) -> bool:
+        """Opens a directive, whose source is the block; whether it could be."""
+        after = self.lines[first + len(block) : first + len(block) + 1]
+        tip = Directive(block, not "".join(after).strip()).as_tip(mark)
+        if tip is None:
+            return False
+        if has_line_ends:
+            here = slice(first, first + len(block))
+            self.lines[here] = [line[:column].ljust(column) + now for line, now in zip(self.lines[here], tip.lines)]
+        elif not self._put(first, column, block, tip.lines):
+            return False
+        name = DIRECTIVE.match(block[0])
+        self.opened[first] = name[1] if name else ""
+        self.joined.update(first + at for at in tip.joined)
+        return True
+
+    def _put(self, first: int, column: int, old: list[str], new: list[str]) -> bool:
+        """Puts new lines in the place of old ones in a column; not if they don't have room in a cell."""
+        made = []
+        for line, was, now in zip(self.lines[first : first + len(old)], old, new):
+            was = was.rstrip()
+            after = line[column + len(was) :]
+            if line[column : column + len(was)] != was or (after.strip() and len(now) > len(was)):
+                return False
+            made.append(line[:column].ljust(column if now else 0) + now.ljust(len(was) if after.strip() else 0) + after)
+        self.lines[first : first + len(made)] = made
+        return True
+
+    def open_more(self, found: list[Message]) -> bool:
+        """Opens the directives that the messages are on, and takes the titles in them; whether there was one."""
+        opened = [self._open_by(message) for message in found]
+        return self._take_titles(found) or any(opened)
+
+    def _open_by(self, message: Message) -> bool:
+        at, text, block = message.line - 1, message.text, (message.block or "").split("\n")
+        column = self.lines[at].find(block[0])
+        if text.startswith(UNKNOWN) and column >= 0:
+            mark = self.known.mark(text[len(UNKNOWN) : -2])
+            return mark is not None and self._open(at, column, block, mark)
+        option = OPTION.match(text)
+        if not option or column < 0 or f"directive:{option[1].lower()}" not in self.known.names:
+            return False
+        less = without_option(block, option[2]) if self.code or option[1].lower() not in CODE else None
+        return less is not None and self._put(at, column, block, less)
+
+    def _take_titles(self, found: list[Message]) -> bool:
+        """Makes paragraphs of titles, and admonitions of topics, in directives that may hold them; whether there was one."""
+        titles = [message for message in found if message.text.startswith((TITLE, TOPIC))]
+        about = {message.line: message for message in found if message.text.startswith("Title ")}
+        parents = self._parents() if titles else []
+        taken = [self._take_title(message, self.opened.get(parents[message.line - 1], "")) for message in titles]
+        self.kept += [about[message.line] for message, was in zip(titles, taken) if was and message.line in about]
+        return any(taken)
+
+    def _take_title(self, message: Message, name: str) -> bool:
+        """Takes a title or a topic in a directive of this name; whether it may hold it."""
+        at, lines = message.line - 1, self.lines
+        line = lines[at].strip()
+        if not line or self.known.mark(name) != "sections":
+            return False
+        if line.startswith(".. topic"):
+            lines[at] = lines[at].replace("topic", "admonition", 1)
+            return True
+        below = [part.strip() for part in [*lines[at + 1 : at + 3], "", ""]]
+        is_overline = message.text != TITLE + "." and below[0] != ""
+        if is_overline and below[1] != line:
+            return False
+        self.titles[fold(below[0] if is_overline else lines[at - 1].strip())] = name
+        lines[at] = ""
+        if is_overline:
+            lines[at + 2] = ""
+        return True
+
+    def _parents(self) -> list[int]:
+        """Of each line the last one before it that is less indented, or -1."""
+        parents = [-1] * len(self.lines)
+        above: list[tuple[int, int]] = []
+        for at, line in enumerate(self.lines):
+            if not line.strip():
+                continue
+            here = indentation(line)
+            while above and above[-1][0] >= here:
+                above.pop()
+            parents[at] = above[-1][1] if above else -1
+            above.append((here, at))
+        return parents
+
+    def is_own(self, message: Message) -> bool:
+        """Whether a message is on what was put into the page."""
+        return message.text == JOINED and message.line - 1 in self.joined
+
+    def shown(self, message: Message) -> Message:
+        """A message as it would be on the source."""
+        text, at = message.text, message.line - 1
+        if at in self.opened:
+            text = text.replace('"tip" directive', f'"{self.opened[at]}" directive')
+        source = self.source_of(message.block, range(at, max(at - 3, -1), -1)) if message.block else None
+        return message._replace(text=text, block=source[1] if source else message.block)
+
+    def source_of(self, text: str, places: Iterable[int]) -> tuple[int, str] | None:
+        """The first of these places that the text begins at, and what the page has there."""
+        block = text.split("\n")
+        for first in places:
+            column = self.lines[first].find(block[0])
+            here = [line[column:] for line in self.lines[first : first + len(block)]]
+            if column >= 0 and len(here) == len(block) and all(line.startswith(part) for line, part in zip(here, block)):
+                source = [line[column:].rstrip() for line in self.source[first : first + len(block)]]
+                return first, "\n".join(line[: len(part)] if now.rstrip() != part else line for line, now, part in zip(source, here, block))
+        return None
+
+
+class Pages:
+    """Reads pages at a level, with names that other tools read."""
+
+    def __init__(self, level: int, known: Known, code: bool = False) -> None:
+        self.level = level
+        self.known = known
+        self.code = code
+        self.reader = Reader(min(level, ERROR) if known.marks and level <= 4 else level)
+
+    def text(self, data: bytes) -> Text | None:
+        """The text of a page, if something in it may be known by name, or is code."""
+        if not (self.known.names or self.code) or (b"::" not in data and b":`" not in data):
+            return None
+        try:
+            return Text(data.decode(), self.known, self.code)
+        except UnicodeDecodeError:
+            return None
+
+    def messages(self, page: str, data: bytes, text: Text | None) -> list[Message]:
+        """The messages of a page at or above any level that is asked for, and others."""
+        found = self.reader.read(page, text.data() if text else data)
+        while text and text.open_more(found):
+            found = self.reader.read(page, text.data())
+        return found + text.kept if text else found
