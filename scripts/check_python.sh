@@ -6,10 +6,13 @@ set -u
 top=$(cd -- "$(dirname -- "$0")/.." && pwd)
 folder=$(mktemp -d) && trap 'rm -rf -- "$folder"' EXIT && cd -- "$folder" || exit 1
 export PYTHONDONTWRITEBYTECODE=1 PIP_DISABLE_PIP_VERSION_CHECK=1 PIP_ROOT_USER_ACTION=ignore
-for python in python3 /usr/bin/python3 ''; do
-  "$python" -c 'import docutils, pip, sys; sys.exit(sys.version_info < (3, 9))' 2>/dev/null && break
-done
-if [ -z "$python" ]; then
+find_python() { # MODULES
+  for python in python3 /usr/bin/python3; do
+    "$python" -c "import sys, $1; sys.exit(sys.version_info < (3, 9))" 2>/dev/null && return
+  done
+  return 1
+}
+if ! find_python 'pip, docutils, sphinx' && ! find_python 'pip, docutils'; then
   echo "skipped: no python3 here is Python 3.9 or later with pip and Docutils"
   exit 77
 fi

@@ -267,9 +267,20 @@ class Documents(unittest.TestCase):
     def test_settings_of_transforms(self):
         self.assertEqual(doctree("A\n=\n\nb", settings_of({"no_doc_title": True}))[0].tagname, "section")
         self.assertIn("“a”", published('"a"', "pseudoxml", Parser(), smart_quotes=True))
-        settings = settings_of({})
-        settings.strip_comments = settings.smart_quotes = True
-        self.assertEqual(doctree('.. a\n\n"b"', settings).astext(), "“b”")
+        text = 'A\n=\n\nB\n=\n\nC\n-\n\n.. c\n\n"d"\n'
+        plain = doctree(text).pformat()
+        for setting, value in (
+            ("datestamp", "%C"),
+            ("expose_internals", ["tagname"]),
+            ("generator", True),
+            ("sectsubtitle_xform", True),
+            ("smart_quotes", True),
+            ("source_url", "http://x.org"),
+            ("strip_comments", True),
+        ):
+            theirs = docutils.core.publish_doctree(text, "<stdin>", settings_overrides={**SETTINGS, setting: value})
+            self.assertEqual(doctree(text, theirs.settings.copy(), "<stdin>").pformat(), theirs.pformat())
+            self.assertNotEqual(theirs.pformat(), plain, setting)
         self.assertNotIn("comment", published(".. a\n\nb", "pseudoxml", Parser(), strip_comments=True))
         self.assertIn('title="T"', published("a", "pseudoxml", Parser(), title="T"))
         text = "A\n=\n\nB\n=\n\nC\n-\n\nd"

@@ -22,7 +22,7 @@ from typing import Any
 from docutils import frontend, nodes, readers, utils
 from docutils.parsers import rst
 from docutils.readers import standalone
-from docutils.transforms import Transform, frontmatter, references
+from docutils.transforms import Transform, frontmatter, references, universal
 
 from . import HALTED, LIBRARY, Text, answer, collector_paused, messages
 from ._nodes import fill
@@ -62,7 +62,7 @@ def doctree(text: Text, settings: Any = None, source: str = "<stdin>") -> nodes.
     """
     document: Any = utils.new_document(source, settings or copy(_defaults()))
     Parser().parse(text, document)
-    document.transformer.add_transforms(_AFTER)
+    document.transformer.add_transforms([transform for transform in _AFTER if _is_needed(transform, document.settings)])
     document.transformer.apply_transforms()
     document.current_source = document.current_line = None
     made: nodes.document = document
@@ -70,6 +70,17 @@ def doctree(text: Text, settings: Any = None, source: str = "<stdin>") -> nodes.
 
 
 _AFTER = [transform for transform in standalone.Reader().get_transforms() + Parser().get_transforms() if transform not in _DONE]
+_NEEDS: dict[Any, tuple[str, ...]] = {  # transforms that do nothing if none of these settings is set
+    frontmatter.SectionSubTitle: ("sectsubtitle_xform",),
+    universal.Decorations: ("generator", "datestamp", "source_link", "source_url"),
+    universal.ExposeInternals: ("expose_internals",),
+    universal.SmartQuotes: ("smart_quotes",),
+    universal.StripComments: ("strip_comments",),
+}
+
+
+def _is_needed(transform: Any, settings: Any) -> bool:
+    return transform not in _NEEDS or any(getattr(settings, name, None) for name in _NEEDS[transform])
 
 
 @functools.lru_cache(maxsize=1)
