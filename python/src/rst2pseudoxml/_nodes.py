@@ -37,8 +37,8 @@ _OTHERS: list[tuple[Any, tuple[str, ...]]] = [
 def fill(document: Any, made: list[Any]) -> tuple[list[Any], list[Any]]:
     """Puts nodes into a document, and enters them into its tables.
 
-    The messages of the parser and those of transforms, in the order in which Docutils reports them. Those of transforms that aren't placed
-    in the document have no parent.
+    Gives the messages of the parser, in the order of the document, and those of transforms, in the order in which Docutils reports them. Those
+    that transforms don't place in the document have no parent.
     """
     _, _, attributes, *whole = made
     document.attributes.update(attributes)
