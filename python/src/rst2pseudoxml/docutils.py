@@ -51,7 +51,8 @@ class Parser(rst.Parser):
         self.finish_parse()
         transformer = document.transformer
         transformer.add_transforms = functools.partial(_add_others, transformer.add_transforms)
-        transformer.add_transform(_Finished, messages=of_transforms)
+        if of_transforms:
+            transformer.add_transform(_Finished, messages=of_transforms)
 
 
 def doctree(text: Text, settings: Any = None, source: str = "<stdin>") -> nodes.document:
