@@ -3,8 +3,8 @@
 ;;; Commentary:
 
 ;; Two Flycheck checkers for `rst-mode', which are used in place of the checker `rst'.  `rst-check' runs the command of this name from
-;; the variable `exec-path', in the folder that has the file `.rst-known' if the page is in or below one.  Where there is no such
-;; command, `rst2pseudoxml' runs the program.
+;; the variable `exec-path', in the folder that has the file `.rst-known' if the page is in or below one.  Where that command is
+;; missing, `rst2pseudoxml' runs the program.
 
 ;;; Code:
 
