@@ -32,7 +32,7 @@ for other in archived from_sources; do # pip writes down in dist-info where it h
   diff -r -x direct_url.json -x RECORD installed "$other" || failed=1
 done
 editable=$(cd copy/python && "$python" -c 'import backend; print(backend.build_editable("../.."))') && install editable "$editable" &&
-  [ "$(PYTHONPATH='' "$python" -c 'import site; site.addsitedir("editable"); print(__import__("rst2pseudoxml").pseudoxml("a"))' | tail -n 1)" = '        a' ] || failed=1
+  [ "$(PYTHONPATH='' "$python" -c 'import site; site.addsitedir("editable"); print(__import__("rst2pseudoxml").pseudoxml("a"), end="")' | tail -n 1)" = '        a' ] || failed=1
 export PYTHONPATH=$folder/installed
 [ "$(echo 'A *word' >a.rst && installed/bin/rst-check a.rst)" = 'a.rst:1: (WARNING/2) Inline emphasis start-string without end-string.' ] || failed=1
 if command -v objdump >/dev/null; then # what the name of the wheel says
