@@ -1,6 +1,6 @@
 # Installs the program of these sources (scripts/program.sh) with its manual page, the pages that the manual page cites, the
-# integrations, and completions for three shells; and the library for C, if dist/ has one of these sources. It doesn't build the program:
-# scripts/build.sh does, if the kit is there.
+# integrations, completions for three shells, and the commands of the Python package, which need Python 3.9 or later when they run; and the
+# library for C, if dist/ has one of these sources. It doesn't build the program: scripts/build.sh does, if the kit is there.
 PREFIX = /usr/local
 DESTDIR =
 PROGRAM = rst2pseudoxml
@@ -17,12 +17,13 @@ include = $(DESTDIR)$(PREFIX)/include
 scripts = check-pages.sh check-trees.sh
 files = flycheck-rst2pseudoxml.el vscode-tasks.json
 pages = docs/PROFILE.md docs/DOCUTILS.md docs/INTEGRATIONS.md
+commands = check lsp view
 
 # What is installed runs the program that is installed with it.
 named = sed \
 	-e 's|^\( *program=\)rst2pseudoxml$$|\1"$(PREFIX)/bin/$(PROGRAM)"|' \
 	-e 's|:command ("rst2pseudoxml"|:command ("$(PREFIX)/bin/$(PROGRAM)"|' \
-	-e 's|"check-pages.sh"|"$(own)/check-pages.sh"|' \
+	-e 's|"rst-check"|"$(PREFIX)/bin/rst-check"|' \
 	-e 's|"$$here/../python/src"|"$$here/python"|' \
 	-e 's|^\(.compdef\) rst2pseudoxml$$|\1 $(PROGRAM)|' \
 	-e 's|^\(complete -c\) rst2pseudoxml|\1 $(PROGRAM)|' \
@@ -32,6 +33,7 @@ help:
 	@echo 'make install      installs $(PROGRAM) below $(DESTDIR)$(PREFIX)'
 	@echo 'make install-library    installs the library for C alone, with its header'
 	@echo 'make uninstall    removes what was installed there'
+	@echo 'make wheel        renews the wheel of the Python package in dist/'
 	@echo 'make dist         makes a tarball of the last commit, whose name has the version'
 	@echo 'make check        proves and tests everything, which takes the kit and an hour or more'
 	@echo 'PREFIX is /usr/local if not given; DESTDIR, if given, is put before it. PROGRAM names the program'
@@ -54,6 +56,10 @@ install:
 		mkdir -p "$(DESTDIR)$(own)/python/$$(dirname "$$file")" && cp "python/src/$$file" "$(DESTDIR)$(own)/python/$$file" || exit; \
 	done
 	cp dist/librst2pseudoxml.so "$(DESTDIR)$(own)/python/rst2pseudoxml"
+	cd "$(DESTDIR)$(PREFIX)/bin" && for name in $(commands); do \
+		printf '%s\n' '#!/usr/bin/env python3' 'import sys' 'sys.path[0] = "$(own)/python"' "from rst2pseudoxml.$$name import main" 'sys.exit(main())' >"rst-$$name" && \
+		chmod 755 "rst-$$name" || exit; \
+	done
 	find "$(DESTDIR)$(own)/python" -type f -exec chmod 644 {} +
 	cp $(pages) "$(share)/doc/rst2pseudoxml"
 	cp docs/profile/*.md "$(share)/doc/rst2pseudoxml/profile"
@@ -78,9 +84,13 @@ install-library:
 
 uninstall:
 	rm -f "$(DESTDIR)$(PREFIX)/bin/$(PROGRAM)" "$(share)/man/man1/$(MANPAGE)" "$(bash)" "$(zsh)" "$(fish)"
+	for name in $(commands); do rm -f "$(DESTDIR)$(PREFIX)/bin/rst-$$name"; done
 	rm -rf "$(DESTDIR)$(own)" "$(share)/doc/rst2pseudoxml"
 	cd "$(library)" 2>/dev/null && rm -f librst2pseudoxml.a librst2pseudoxml.so librst2pseudoxml.so.1 pkgconfig/rst2pseudoxml.pc || true
 	rm -f "$(include)/rst2pseudoxml.h"
+
+wheel:
+	scripts/wheel.sh
 
 dist:
 	name=rst2pseudoxml-$$(sed -n 's/^\.TH .* "rst2pseudoxml \([0-9.]*\)".*/\1/p' docs/rst2pseudoxml.1) && \
@@ -90,4 +100,4 @@ dist:
 check:
 	./check
 
-.PHONY: help install install-library uninstall dist check
+.PHONY: help install install-library uninstall wheel dist check

@@ -4,7 +4,9 @@
     bench/library.py [ROUNDS]
 
 The pages are prose (bench/prose.py). All calls take turns, in ROUNDS rounds (10 if not given); the least time of each is printed, in a table in
-Markdown. A start of the program is counted with the time of its process. Fails if a document of Docutils differs from the program's tree.
+Markdown. A start of the program is counted with the time of its process. What earlier calls have left is collected before a measurement, so
+the time that Python takes to free documents hardly shows: the last rows are the means of 60 calls in a row. Fails if a document of
+Docutils differs from the program's tree.
 """
 
 import gc
@@ -69,6 +71,15 @@ def microseconds(call):
     return 1e6 * (spent() - began) / count
 
 
+def in_a_row(call):
+    """The CPU time of a call among 60, which also free what those before have left."""
+    gc.collect()
+    began = spent()
+    for _ in range(60):
+        call()
+    return 1e6 * (spent() - began) / 60
+
+
 def main():
     rounds = int(sys.argv[1]) if sys.argv[1:] else 10
     least = {}
@@ -79,6 +90,8 @@ def main():
         for _ in range(rounds):
             for name, call in calls(text).items():
                 least.setdefault(name, {})[size] = min(microseconds(call), least.get(name, {}).get(size, float("inf")))
+        for name in DOCUMENT, PUBLISHED:
+            least.setdefault(f"{name}, 60 in a row", {})[size] = in_a_row(calls(text)[name])
     print("| microseconds a call |", " | ".join(f"{size / 1000:g} KB" for size in SIZES), "|")
     print("|---" * (1 + len(SIZES)) + "|")
     for name, times in least.items():

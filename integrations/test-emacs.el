@@ -2,8 +2,8 @@
 
 ;; emacs -q --batch -l test-emacs.el
 ;;
-;; The program has to be on the PATH.  Each outcome is printed, and a wrong one is an error.  Without Flycheck the checker is
-;; skipped, with one line.
+;; The program has to be on the PATH.  Each outcome is printed, and a wrong one is an error.  Without Flycheck the checkers are
+;; skipped, with one line.  If `rst-check' is on the PATH, it is the checker that is tested.
 
 (require 'rst)
 
@@ -34,6 +34,9 @@
     (insert text)
     (rst-mode)
     (flycheck-mode)
+    (test-same "Flycheck, its checker"
+               (if (executable-find "rst-check") 'rst-check 'rst2pseudoxml)
+               (flycheck-get-checker-for-buffer))
     (flycheck-buffer)
     (while (flycheck-running-p)
       (accept-process-output nil 0.1))
@@ -56,8 +59,22 @@
              (test-errors (concat "text\n\n" (apply #'concat (make-list 251 "- ")) "a\n")))
   (test-same "Flycheck, a refusal without a line"
              '((1 error "not UTF-8 at byte 1"))
-             (let ((process-coding-system-alist '(("" . latin-1))))
-               (test-errors "h\u00e9\n"))))
+             (let ((process-coding-system-alist '(("" . latin-1)))
+                   (coding-system-for-write 'latin-1))
+               (test-errors "h\u00e9\n")))
+  (when (executable-find "rst-check")
+    (test-known)))
+
+(defun test-known ()
+  "The checker by `rst-check', on a page below the folder that has a list of known names."
+  (let* ((folder (make-temp-file "known" t))
+         (default-directory (file-name-as-directory (expand-file-name "pages" folder))))
+    (make-directory default-directory)
+    (write-region "role:ref\n" nil (expand-file-name ".rst-known" folder))
+    (test-same "Flycheck, known names"
+               '((3 error "Unknown interpreted text role \"doc\"."))
+               (test-errors ":ref:`a`\n\n:doc:`b`\n"))
+    (delete-directory folder t)))
 
 (test-rst-mode)
 (if (require 'flycheck nil t)

@@ -1,5 +1,6 @@
 #!/usr/bin/env bash
-# Fails if dist/ claims these sources and isn't byte for byte what they build here, or if a checksum is wrong.
+# Fails if dist/ claims these sources and isn't byte for byte what they build here, if a checksum is wrong, or if the wheel isn't of the
+# sources of the Python package and of the library in dist/.
 # The static program is compared if this system has the C library that it was linked with. Needs the kit, and the program built
 # (scripts/build.sh). The status is 77 if there is nothing to compare.
 set -euo pipefail
@@ -22,6 +23,7 @@ library() {
 }
 
 (cd dist && sha256sum --quiet --check rst2pseudoxml.sha256)
+scripts/wheel.sh --check || [ $? = 77 ]
 if ! grep -qx "sources $(scripts/digest.sh)" dist/BUILT; then
   echo "skipped: dist/ is of older sources; scripts/dist.sh renews it"
   exit 77

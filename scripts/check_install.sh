@@ -27,7 +27,7 @@ files() {
 }
 
 names() { # PROGRAM: what is installed by other names than in the checkout
-  printf './opt/rst/%s\n' "bin/$1" "share/bash-completion/completions/$1" "share/fish/vendor_completions.d/$1.fish" "share/man/man1/$1.1" "share/zsh/site-functions/_$1"
+  printf './opt/rst/%s\n' "bin/$1" bin/rst-check bin/rst-lsp bin/rst-view "share/bash-completion/completions/$1" "share/fish/vendor_completions.d/$1.fish" "share/man/man1/$1.1" "share/zsh/site-functions/_$1"
 }
 pages=$(cd "$top/docs" && printf './opt/rst/share/doc/rst2pseudoxml/%s\n' DOCUTILS.md INTEGRATIONS.md PROFILE.md profile/*)
 library=''
@@ -45,7 +45,7 @@ same 'make install' '' "$(of_make install)"
 same 'what is installed' "$(all rst2pseudoxml)" "$(files)"
 same 'the program' "$hello" "$(printf 'Hello' | "$installed/bin/rst2pseudoxml" 2>&1)"
 same 'who may read' '' "$(find "$target" -type f ! -perm -a+r)"
-same 'what runs' "bin/rst2pseudoxml ${library:+lib/librst2pseudoxml.so.1 }share/rst2pseudoxml/check-pages.sh share/rst2pseudoxml/check-trees.sh" \
+same 'what runs' "bin/rst-check bin/rst-lsp bin/rst-view bin/rst2pseudoxml ${library:+lib/librst2pseudoxml.so.1 }share/rst2pseudoxml/check-pages.sh share/rst2pseudoxml/check-trees.sh" \
   "$(cd "$installed" && find . -type f -perm -a+x | LC_ALL=C sort | sed 's|./||' | paste -sd ' ')"
 if [ -n "$library" ] && command -v cc >/dev/null && command -v pkg-config >/dev/null; then
   same 'make install-library' '' "$(make -s -C "$top" install-library DESTDIR= PREFIX="$folder/c" 2>&1)"
@@ -95,7 +95,7 @@ else
 fi
 if command -v fish >/dev/null; then
   same 'fish' "$(tr ' ' '\n' <<<"$documented" | grep -- -- | sort)" \
-    "$(HOME=$folder fish -c "source $(printf %q "$installed")/share/fish/vendor_completions.d/rst2pseudoxml.fish; complete -C 'rst2pseudoxml --'" 2>&1 | sed 's/[=[:space:]].*//' | sort)"
+    "$(HOME=$folder fish -c "set fish_complete_path $(printf %q "$installed")/share/fish/vendor_completions.d; complete -C 'rst2pseudoxml --'" 2>&1 | sed 's/[=[:space:]].*//' | sort)"
 else
   echo "skipped: the completion of fish, as there is none"
 fi
@@ -113,6 +113,11 @@ same 'what is installed, another name' "$(all rst-tree | sed 's|man1/rst-tree|ma
 same 'the program, another name' "$hello" "$(printf 'Hello' | "$installed/bin/rst-tree" 2>&1)"
 printf 'A *word\n' >page.rst
 warning='page.rst:1: (WARNING/2) Inline emphasis start-string without end-string.'
+same 'rst-check' "$warning"$'\nstatus 1' "$("$installed/bin/rst-check" page.rst 2>&1; echo "status $?")"
+same 'rst-view' 'Inline emphasis start-string without end-string.' \
+  "$("$installed/bin/rst-view" -o view.html page.rst 2>&1; grep -o 'Inline emphasis start-string without end-string\.' view.html | sort -u)"
+same 'the command of Flycheck and of VS Code' "\"$installed/bin/rst-check\" \"$installed/bin/rst-check\"" \
+  "$(cd "$installed/share/rst2pseudoxml" && grep -ho '"[^"]*rst-check"' flycheck-rst2pseudoxml.el vscode-tasks.json | paste -sd ' ')"
 same 'check-pages.sh' "$warning"$'\nstatus 1' "$("$installed/share/rst2pseudoxml/check-pages.sh" page.rst 2>&1; echo "status $?")"
 same 'check-trees.sh' $'written: ./page.tree\nstatus 0' "$("$installed/share/rst2pseudoxml/check-trees.sh" --update . 2>&1; echo "status $?")"
 printf ':ref:`a`\n' >page.rst

@@ -148,8 +148,11 @@ check_emacs() {
     return
   fi
   mkdir home tools && ln -s "$top/rst2pseudoxml" tools
-  succeeds 'Emacs' env HOME="$folder/home" PATH="$folder/tools:$PATH" timeout 60 emacs -q --batch -l "$here/test-emacs.el"
+  local tested=(env HOME="$folder/home" PATH="$folder/tools:$PATH" timeout 60 emacs -q --batch -l "$here/test-emacs.el")
+  succeeds 'Emacs' "${tested[@]}"
   grep '^skipped: ' out
+  ln -s "$here/check-pages.sh" tools/rst-check
+  succeeds 'Emacs with rst-check' "${tested[@]}"
 }
 
 warning='1: (WARNING/2) Inline emphasis start-string without end-string.'

@@ -8,8 +8,8 @@ if [ -z "$page" ] || [ "$page" != "$newest" ]; then
   echo "the manual page has version '$page', the changelog '$newest'" >&2
   exit 1
 fi
-if ! grep -qx "version = \"${page%% *}\"" python/pyproject.toml; then
-  echo "the manual page has version '$page', python/pyproject.toml another" >&2
+if ! grep -qx "Version: ${page%% *}" python/METADATA; then
+  echo "the manual page has version '$page', python/METADATA another" >&2
   exit 1
 fi
 echo "version $page"

@@ -1,6 +1,6 @@
 #!/usr/bin/env bash
-# Renews the shipped programs and the library in dist/ from these sources, after `rt ci`. Without a static C library the static one is left
-# out.
+# Renews the shipped programs, the library and the wheel in dist/ from these sources, after `rt ci`. Without a static C library the static
+# program is left out.
 # The dynamic one keeps its symbols (46 KB): the kit links it with them and has no `strip`, and the version of another `strip` would decide
 # the bytes that check_dist.sh compares.
 set -euo pipefail
@@ -13,6 +13,7 @@ rm -f dist/rst2pseudoxml-static
 library=$(scripts/static.sh dist/rst2pseudoxml-static) || [ $? = 77 ]
 scripts/library.sh dist
 (cd dist && sha256sum rst2pseudoxml* librst2pseudoxml* | grep -v sha256 >rst2pseudoxml.sha256)
+scripts/wheel.sh
 {
   echo "sources $(scripts/digest.sh)"
   echo "library $(scripts/digest.sh library)"

@@ -108,13 +108,45 @@ class Values(unittest.TestCase):
         for level in ("error", 3, "3"):
             self.assertEqual(messages("*a", report=level), [])
 
+    def test_kinds_of_bytes(self):
+        for given in (bytearray(b"Hello"), memoryview(b"Hello"), memoryview(b"H-e-l-l-o")[::2]):
+            self.assertEqual(pseudoxml(given), HELLO)
+            self.assertEqual(messages(given), [])
+        self.assertEqual(tree(bytearray(b"Hello")), tree("Hello"))
+
     def test_wrong_settings(self):
         wrong = [("report", "loud"), ("halt", 0), ("halt", 6), ("tab_width", 0), ("tab_width", 256 + 8), ("line_length_limit", 2**24 + 1)]
         for name, value in wrong:
             with self.subTest(name), self.assertRaises(ValueError):
                 pseudoxml("a", **{name: value})
-        with self.assertRaises(TypeError):
-            pseudoxml("a", loud=True)
+
+    def test_other_names_and_types(self):
+        levels = '"info", "warning", "error", "severe", "none" or 1 to 5'
+        for settings, said in (
+            ({"report": ["info"]}, f"report has to be {levels}, not of the type list"),
+            ({"halt": 2.0}, f"halt has to be {levels}, not of the type float"),
+            ({"exit_status": True}, f"exit_status has to be {levels}, not of the type bool"),
+            ({"no_doc_title": 1}, "no_doc_title has to be True or False, not of the type int"),
+            ({"no_doc_info": "no"}, "no_doc_info has to be True or False, not of the type str"),
+            ({"tab_width": "4"}, "tab_width has to be an int, 1 to 99, not of the type str"),
+            ({"line_length_limit": None}, "line_length_limit has to be an int, 1 to 16,777,216, not of the type NoneType"),
+            (
+                {"loud": True},
+                "there is no setting 'loud'; the settings are report, halt, exit_status, no_doc_title, no_doc_info, tab_width, line_length_limit",
+            ),
+        ):
+            for call in (pseudoxml, tree, rst2pseudoxml.json, messages):
+                with self.subTest(said), self.assertRaises(TypeError) as wrong:
+                    call("a", **settings)
+                self.assertEqual(str(wrong.exception), said)
+        for call in (pseudoxml, tree, rst2pseudoxml.json, messages):
+            with self.assertRaises(TypeError) as wrong:
+                call(1)
+            self.assertEqual(str(wrong.exception), "the text has to be a str, bytes, a bytearray or a memoryview, not of the type int")
+        for call in (pseudoxml, messages):
+            with self.assertRaises(TypeError) as wrong:
+                call("a", source=b"x")
+            self.assertEqual(str(wrong.exception), "source has to be a str, not of the type bytes")
 
     def test_refusals(self):
         for text, kind, place, line in (
@@ -174,6 +206,28 @@ class Calls(unittest.TestCase):
         for thread in threads:
             thread.join()
         self.assertEqual((len(found), all(found.values())), (3200, True))
+
+    def test_collector(self):
+        """It runs a few times for a large tree, where without a pause it runs hundreds of times; after a call it is as it was."""
+        runs = []
+
+        def count(phase, _):
+            runs.append(phase)
+
+        text = "- a\n" * 50_000
+        gc.callbacks.append(count)
+        self.addCleanup(gc.callbacks.remove, count)
+        self.assertTrue(gc.isenabled())
+        made = tree(text)
+        self.assertLess(len(runs), 20)
+        self.assertEqual((gc.isenabled(), len(made.children[0].children)), (True, 50_000))
+        with self.assertRaises(Refused):
+            tree(b"\xff")
+        self.assertTrue(gc.isenabled())
+        gc.disable()
+        self.addCleanup(gc.enable)
+        tree("a")
+        self.assertFalse(gc.isenabled())
 
     def test_memory(self):
         """In a process of its own, whose memory no other test has used."""

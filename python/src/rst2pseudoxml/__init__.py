@@ -1,27 +1,34 @@
 """The document tree of reStructuredText: as pseudo-XML, as JSON or as nodes, and the system messages.
 
 The text is read in this process, by a library that holds no state: any number of threads may call it at once. A `text` is a str, or
-bytes that have to be UTF-8. `settings` are the long options of the program `rst2pseudoxml`, with `_` in place of `-` (`Settings`).
+bytes, a bytearray or a memoryview that has to be UTF-8. `settings` are the long options of the program `rst2pseudoxml`, with `_` in place
+of `-` (`Settings`).
 """
 
 from __future__ import annotations
 
+import contextlib
 import functools
+import gc
 from ctypes import CDLL, POINTER, Structure, byref, c_char, c_char_p, c_size_t, c_uint8, c_uint32, c_uint64, c_void_p, sizeof
 from json import loads
 from pathlib import Path
-from typing import TYPE_CHECKING, Any, Mapping, NamedTuple, TypedDict, Union
+from typing import TYPE_CHECKING, Any, Iterator, Mapping, NamedTuple, TypedDict, Union
 
 if TYPE_CHECKING:
     from typing_extensions import Unpack
 
-__all__ = ["Message", "Node", "Refused", "Settings", "json", "messages", "pseudoxml", "tree"]
+__all__ = ["Message", "Node", "Refused", "Settings", "Text", "json", "messages", "pseudoxml", "tree"]
 
 Level = Union[int, str]
+Text = Union[str, bytes, bytearray, memoryview]
 
 
 class Settings(TypedDict, total=False):
-    """What a call may set. A level is "info", "warning", "error", "severe" or "none", or 1 to 5; a wrong value is a ValueError."""
+    """What a call may set. A level is "info", "warning", "error", "severe" or "none", or 1 to 5.
+
+    A wrong value is a ValueError. Another name or type is a TypeError that says what is allowed.
+    """
 
     report: Level
     """The lowest level of the messages that are shown, in the tree as well; "warning" if not given."""
@@ -53,7 +60,7 @@ class Refused(Exception):
         self.place = place
 
     def __str__(self) -> str:
-        return self.args[2]
+        return str(self.args[2])
 
 
 class Message(NamedTuple):
@@ -128,6 +135,27 @@ _REFUSED = {
     6: ("no memory", "out of memory"),
 }
 HALTED = 1  # the program's exit status
+_LEVEL: tuple[tuple[type, ...], str] = ((int, str), '"info", "warning", "error", "severe", "none" or 1 to 5')
+_FLAG: tuple[tuple[type, ...], str] = ((bool,), "True or False")
+_ALLOWED = {
+    "report": _LEVEL,
+    "halt": _LEVEL,
+    "exit_status": _LEVEL,
+    "no_doc_title": _FLAG,
+    "no_doc_info": _FLAG,
+    "tab_width": ((int,), "an int, 1 to 99"),
+    "line_length_limit": ((int,), "an int, 1 to 16,777,216"),
+}
+
+
+def _check(settings: Mapping[str, object]) -> None:
+    """Refuses settings that aren't there, and values of other types."""
+    for name, value in settings.items():
+        if name not in _ALLOWED:
+            raise TypeError(f"there is no setting {name!r}; the settings are {', '.join(_ALLOWED)}")
+        types, allowed = _ALLOWED[name]
+        if not isinstance(value, types) or (isinstance(value, bool) and bool not in types):
+            raise TypeError(f"{name} has to be {allowed}, not of the type {type(value).__name__}")
 
 
 @functools.lru_cache(maxsize=64)
@@ -150,9 +178,24 @@ def _options(
     return _Options(sizeof(_Options), *levels, tab_width, line_length_limit, no_doc_title, no_doc_info)
 
 
-def answer(entry: Any, text: str | bytes, settings: Settings, before: tuple = (), after: tuple = ()) -> tuple[str, int]:
+def _bytes(text: Text) -> bytes:
+    if isinstance(text, str):
+        return text.encode()
+    if isinstance(text, (bytes, bytearray, memoryview)):
+        return bytes(text)
+    raise TypeError(f"the text has to be a str, bytes, a bytearray or a memoryview, not of the type {type(text).__name__}")
+
+
+def _name(source: str) -> str:
+    if not isinstance(source, str):
+        raise TypeError(f"source has to be a str, not of the type {type(source).__name__}")
+    return source
+
+
+def answer(entry: Any, text: Text, settings: Settings, before: tuple[Any, ...] = (), after: tuple[Any, ...] = ()) -> tuple[str, int]:
     """What an entry of the library makes of a text, and the program's exit status."""
-    data = text.encode() if isinstance(text, str) else text
+    data = _bytes(text)
+    _check(settings)
     options = _options(**settings)
     result = _Result()
     size = 4 * len(data) + 4096  # enough for nearly all
@@ -167,7 +210,7 @@ def answer(entry: Any, text: str | bytes, settings: Settings, before: tuple = ()
         size = result.length
 
 
-def _finished(entry: Any, text: str | bytes, settings: Settings, before: tuple = (), after: tuple = ()) -> str:
+def _finished(entry: Any, text: Text, settings: Settings, before: tuple[Any, ...] = (), after: tuple[Any, ...] = ()) -> str:
     """What an entry makes of a text; that a message halts the run is an exception."""
     made, status = answer(entry, text, settings, before, after)
     if status == HALTED:
@@ -176,27 +219,42 @@ def _finished(entry: Any, text: str | bytes, settings: Settings, before: tuple =
     return made
 
 
-def pseudoxml(text: str | bytes, *, source: str = "<stdin>", **settings: Unpack[Settings]) -> str:
+def pseudoxml(text: Text, *, source: str = "<stdin>", **settings: Unpack[Settings]) -> str:
     """The tree as the program prints it: each element and each line of a text is a line, indented by four spaces a level."""
-    name = source.encode()
+    name = _name(source).encode()
     return _finished(LIBRARY.rst_print, text, settings, (name, len(name)), (None, 0))
 
 
-def json(text: str | bytes, **settings: Unpack[Settings]) -> str:
+def json(text: Text, **settings: Unpack[Settings]) -> str:
     """The tree as JSON: a text is a string, an element is [tag, line, {attributes}, children..]."""
     return _finished(LIBRARY.rst_json, text, settings)
 
 
-def tree(text: str | bytes, **settings: Unpack[Settings]) -> Node:
+def tree(text: Text, **settings: Unpack[Settings]) -> Node:
     """The document with all that is in it. Very deep trees need a higher `sys.setrecursionlimit`, else they are a RecursionError."""
-    return _node(loads(json(text, **settings)))
+    made = json(text, **settings)
+    with collector_paused():
+        return _node(loads(made))
 
 
-def _node(found: list) -> Node:
+@contextlib.contextmanager
+def collector_paused() -> Iterator[None]:
+    """Pauses the garbage collector. While nodes are made it would look at them again and again, and find none to free."""
+    enabled = gc.isenabled()
+    gc.disable()
+    try:
+        yield
+    finally:
+        if enabled:
+            gc.enable()
+
+
+def _node(found: list[Any]) -> Node:
     tag, line, attributes, *children = found
     return Node(tag, attributes, tuple(child if isinstance(child, str) else _node(child) for child in children), line)
 
 
-def messages(text: str | bytes, *, source: str = "<stdin>", **settings: Unpack[Settings]) -> list[Message]:
+def messages(text: Text, *, source: str = "<stdin>", **settings: Unpack[Settings]) -> list[Message]:
     """The messages at or above the level `report`, in the order in which the program writes them. One that halts is the last."""
+    _name(source)
     return [Message(source, **found) for found in loads(answer(LIBRARY.rst_messages, text, settings)[0])]

@@ -1,8 +1,9 @@
 """Documents of Docutils that this library has read: `doctree`, and `Parser` for the functions of `docutils.core`.
 
-Docutils has to be installed (tried with 0.19). A document is as after Docutils' own reader: substitutions are replaced, references
-resolved, the title and the bibliographic fields are in their places, and messages below the report level are left out. So the
-transforms of Docutils' standalone reader that do this aren't run again; all others are.
+Docutils has to be installed (tried with 0.19). The library reads a text and does the transforms of Docutils' standalone reader: it replaces
+substitutions, resolves references, and puts the title and the bibliographic fields in their places. These transforms aren't run again;
+all others are. A document has all messages, INFO too: a writer leaves out those below the report level. Messages that transforms don't place
+are in `transform_messages`, and a writer makes their section.
 
 These settings count: `report_level`, `halt_level`, `doctitle_xform`, `docinfo_xform`, `tab_width`, `line_length_limit`,
 `trim_footnote_reference_space`, and what other transforms and writers read. Others of the reStructuredText parser (such as
@@ -21,69 +22,78 @@ from typing import Any
 from docutils import frontend, nodes, readers, utils
 from docutils.parsers import rst
 from docutils.readers import standalone
-from docutils.transforms import Transformer, frontmatter
+from docutils.transforms import Transform, frontmatter, references, universal
 
-from . import HALTED, LIBRARY, answer, messages
+from . import HALTED, LIBRARY, Text, answer, collector_paused, messages
+from ._nodes import fill
 
 _DONE = set(standalone.Reader().get_transforms()) - set(readers.Reader().get_transforms()) - {frontmatter.SectionSubTitle}
-_CLASSES = vars(nodes)
-_new_element, _new_text, _Text = object.__new__, str.__new__, nodes.Text  # the constructors of nodes would take four times as long
-_NOTED = frozenset({"ids", "names", "dupnames", "refid", "level"})  # what an element is noted for
-_LISTS = {
-    ("footnote", None): "footnotes",
-    ("footnote", 1): "autofootnotes",
-    ("footnote", "*"): "symbol_footnotes",
-    ("footnote_reference", 1): "autofootnote_refs",
-    ("footnote_reference", "*"): "symbol_footnote_refs",
-    ("citation", None): "citations",
-}
-_LABELS = {("footnote_reference", None): "footnote_refs", ("citation_reference", None): "citation_refs"}
-
-
-class _Transforms(Transformer):
-    """The transforms of a document, without those that the library has done."""
-
-    def add_transforms(self, transform_list: list) -> None:
-        super().add_transforms([transform for transform in transform_list if transform not in _DONE])
+_UNDEFINED = 'Undefined substitution referenced: "'
 
 
 class Parser(rst.Parser):
     """A parser for Docutils, as in `publish_string(text, parser=Parser(), writer_name="html5")`.
 
-    Messages are reported in the order of the document: they are written to the warning stream, and one at or above the halt level is a
-    `docutils.utils.SystemMessage`. A text that the library refuses is a `rst2pseudoxml.Refused`.
+    Messages are reported in the order of the document, those of transforms when transforms are applied: they are written to the warning
+    stream. One at or above the halt level is a `docutils.utils.SystemMessage`. A text that the library refuses is a
+    `rst2pseudoxml.Refused`.
     """
 
-    def parse(self, inputstring: str, document: nodes.document) -> None:
+    def parse(self, inputstring: Text, document: Any) -> None:
         """Puts what is read of a text into a document that is empty."""
-        self.setup_parse(inputstring, document)
-        _fill(document, loads(_read(inputstring, document)))
-        document.transformer = _Transforms(document)
+        text: Any = inputstring  # Docutils asks for a str, and only keeps it
+        self.setup_parse(text, document)
+        made = _read(text, document)
+        with collector_paused():
+            of_parser, of_transforms = fill(document, loads(made))
+        for message in of_parser:
+            _report(message, document.reporter)
         self.finish_parse()
+        transformer = document.transformer
+        transformer.add_transforms = functools.partial(_add_others, transformer.add_transforms)
+        if of_transforms:
+            transformer.add_transform(_Finished, messages=of_transforms)
 
 
-def doctree(text: str | bytes, settings: frontend.Values | None = None, source: str = "<stdin>") -> nodes.document:
+def doctree(text: Text, settings: Any = None, source: str = "<stdin>") -> nodes.document:
     """The document of a text, as `docutils.core.publish_doctree` gives it.
 
     `settings` are those of Docutils, by default its defaults (no configuration file is read). `source` is the name of the text in messages.
     Exceptions are those of `Parser`.
     """
-    document = utils.new_document(source, settings or copy(_defaults()))
+    document: Any = utils.new_document(source, settings or copy(_defaults()))
     Parser().parse(text, document)
+    document.transformer.add_transforms([transform for transform in _AFTER if _is_needed(transform, document.settings)])
+    document.transformer.apply_transforms()
     document.current_source = document.current_line = None
-    return document
+    made: nodes.document = document
+    return made
+
+
+_AFTER = [transform for transform in standalone.Reader().get_transforms() + Parser().get_transforms() if transform not in _DONE]
+_NEEDS: dict[Any, tuple[str, ...]] = {  # transforms that do nothing if none of these settings is set
+    frontmatter.SectionSubTitle: ("sectsubtitle_xform",),
+    universal.Decorations: ("generator", "datestamp", "source_link", "source_url"),
+    universal.ExposeInternals: ("expose_internals",),
+    universal.SmartQuotes: ("smart_quotes",),
+    universal.StripComments: ("strip_comments",),
+}
+
+
+def _is_needed(transform: Any, settings: Any) -> bool:
+    return transform not in _NEEDS or any(getattr(settings, name, None) for name in _NEEDS[transform])
 
 
 @functools.lru_cache(maxsize=1)
-def _defaults() -> frontend.Values:
-    return frontend.get_default_settings(Parser, standalone.Reader)
+def _defaults() -> Any:
+    return getattr(frontend, "get_default_settings")(Parser, standalone.Reader)  # unknown to types-docutils of 2022
 
 
-def _read(text: str | bytes, document: nodes.document) -> str:
-    """The finished document as JSON. If a message halts the run, all up to it are reported, which is an exception."""
+def _read(text: Text, document: Any) -> str:
+    """The finished document as JSON, with all messages. If one of them halts the run, all up to it are reported, which is an exception."""
     given, reporter = document.settings, document.reporter
     settings: Any = {
-        "report": max(reporter.report_level, 1),
+        "report": "info",
         "halt": max(reporter.halt_level, 1),
         "exit_status": "info",  # so that the status tells the highest level
         "no_doc_title": not getattr(given, "doctitle_xform", True),
@@ -100,96 +110,47 @@ def _read(text: str | bytes, document: nodes.document) -> str:
     return made
 
 
-def _fill(document: nodes.document, made: list) -> None:
-    """Puts nodes into a document, and enters them into its tables."""
-    _, _, attributes, *whole = made
-    document.attributes.update(attributes)
-    source = document["source"]
-    noted: list[nodes.Element] = [document]
-
-    def fill(parent: nodes.Element, children: list) -> None:  # in place: the lists become those of the nodes
-        for place, found in enumerate(children):
-            if found.__class__ is str:
-                node: Any = _new_text(_Text, found)
-            else:
-                tag, line, given = found[:3]
-                del found[:3]
-                node = _new_element(_CLASSES[tag])
-                node.rawsource = ""
-                node.children = found
-                node.attributes = {"ids": [], "classes": [], "names": [], "dupnames": [], "backrefs": []}
-                node.tagname = tag
-                node.source = source
-                node.line = line or None
-                if given:
-                    node.attributes.update(given)
-                    if not _NOTED.isdisjoint(given):
-                        noted.append(node)
-                fill(node, found)
-            node.parent = parent
-            children[place] = node
-
-    fill(document, whole)
-    document.children += whole
-    for element in noted:
-        _note(element, document)
-    if getattr(document.settings, "title", None) is not None:
-        document["title"] = document.settings.title
-    if utils.get_trim_footnote_ref_space(document.settings):
-        _trim(document)
-
-
-def _trim(document: nodes.document) -> None:
-    """Takes the spaces before references to footnotes away, as Docutils' parser does for some writers."""
-    for reference in list(document.findall(nodes.footnote_reference)):
-        parent, place = reference.parent, reference.parent.index(reference)
-        if place and isinstance(parent[place - 1], nodes.Text):
-            trimmed = parent[place - 1].rstrip()
-            parent[place - 1 : place] = [nodes.Text(trimmed)] if trimmed else []
-
-
-def _note(element: nodes.Element, document: nodes.document) -> None:
-    """Enters an element into the tables of its document."""
-    attributes = element.attributes
-    ids, names, dupnames = attributes["ids"], attributes["names"], attributes["dupnames"]
-    for one in ids:
-        document.ids[one] = element
-    if isinstance(element, nodes.system_message):
-        element["source"] = document["source"]
-        _report(element, document.reporter)
-    if isinstance(element, nodes.substitution_definition):
-        for name in names:
-            document.substitution_defs[name] = element
-            document.substitution_names[nodes.fully_normalize_name(name)] = name
-        return
-    title = _title(element) if names or dupnames else None
-    for place, name in enumerate(names):
-        own = ids[place] if len(ids) == len(names) else nodes.make_id(name)
-        document.nameids[name] = own if own in ids else ids[0]
-        document.nametypes[name] = name != title or name in dupnames
-    for name in dupnames:
-        document.nameids.setdefault(name, None)
-        document.nametypes.setdefault(name, name != title)
-    if "refid" in attributes:
-        document.refids.setdefault(attributes["refid"], []).append(element)
-    kind = (element.tagname, attributes.get("auto"))
-    if kind in _LISTS:
-        getattr(document, _LISTS[kind]).append(element)
-    elif kind in _LABELS:
-        getattr(document, _LABELS[kind]).setdefault(nodes.fully_normalize_name(element.astext()), []).append(element)
-
-
-def _report(message: nodes.system_message, reporter: utils.Reporter) -> None:
+def _report(message: Any, reporter: Any) -> None:
     """Does what a reporter does with a message that it makes."""
-    if reporter.stream:
+    if reporter.stream and message["level"] >= reporter.report_level:
         reporter.stream.write(message.astext() + "\n")
     reporter.notify_observers(message)
 
 
-def _title(element: nodes.Element) -> str | None:
-    """The name that an element has by its title, if it is one that has a title."""
-    if isinstance(element, (nodes.document, nodes.section)):
-        element = element[0]
-    elif not isinstance(element, nodes.subtitle):
-        return None
-    return nodes.fully_normalize_name(element.astext())
+def _add_others(add: Any, transforms: list[Any]) -> None:
+    """Adds transforms, without those that the library has done."""
+    add([transform for transform in transforms if transform not in _DONE])
+
+
+class _Finished(Transform):
+    """Runs before all other transforms: reports the messages of those that the library has done.
+
+    Sphinx has a transform that replaces some substitutions before Docutils' does. So if one comes before that, references to undefined
+    substitutions are given back, and Docutils' transform is run.
+    """
+
+    default_priority = 0
+
+    def apply(self, messages: list[Any]) -> None:
+        document: Any = self.document
+        substituted = references.Substitutions.default_priority
+        if any(int(priority.partition("-")[0]) < substituted for priority, *_ in document.transformer.transforms):
+            document.transformer.add_transform(references.Substitutions)
+            messages = [message for message in messages if not _given_back(message, document)]
+        for message in messages:
+            _report(message, document.reporter)
+
+
+def _given_back(message: Any, document: Any) -> bool:
+    """Whether a message is on an undefined substitution; the references that it is on are made anew."""
+    text = message.astext().partition(") ")[2]
+    if not text.startswith(_UNDEFINED):
+        return False
+    name = text[len(_UNDEFINED) : -2]
+    for one in message["backrefs"]:
+        problematic = document.ids.pop(one)
+        reference = nodes.substitution_reference(problematic.astext(), name, refname=name)
+        problematic.parent.replace(problematic, reference)
+    for one in message["ids"]:
+        del document.ids[one]
+    return True

@@ -7,13 +7,13 @@ import itertools
 import os
 from typing import TYPE_CHECKING, Iterator
 
-from . import Settings, pseudoxml
+from . import Settings, Text, pseudoxml
 
 if TYPE_CHECKING:
     from typing_extensions import Unpack
 
 
-def assert_tree(text: str | bytes, expected: str, **settings: Unpack[Settings]) -> None:
+def assert_tree(text: Text, expected: str, **settings: Unpack[Settings]) -> None:
     """Fails with the differences unless the tree of a text is `expected`. No message halts the run, if `halt` isn't given.
 
     `expected` may be indented: what its first line is indented by is taken off each line. A line feed before the first line,
@@ -24,7 +24,8 @@ def assert_tree(text: str | bytes, expected: str, **settings: Unpack[Settings]) 
     margin = len(wanted[0]) - len(wanted[0].lstrip(" "))
     wanted = [line.removeprefix(" " * margin) for line in wanted]
     wanted[-1] = wanted[-1].rstrip(" ")
-    got = pseudoxml(text, **{"halt": "none", **settings}).split("\n")
+    settings.setdefault("halt", "none")
+    got = pseudoxml(text, **settings).split("\n")
     if got != wanted:
         raise AssertionError("the tree differs\n" + "\n".join(differences(wanted, got)))
 

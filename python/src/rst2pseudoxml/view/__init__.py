@@ -22,16 +22,17 @@ import threading
 import urllib.parse
 import webbrowser
 from http.server import BaseHTTPRequestHandler, ThreadingHTTPServer
+from importlib import import_module
 from pathlib import Path
 from typing import Any, NoReturn
 
 import rst2pseudoxml
 
-try:
-    from watchdog.events import FileSystemEventHandler
-    from watchdog.observers import Observer
-except ImportError:
-    Observer = None
+FileSystemEventHandler: Any = None
+Observer: Any = None
+with contextlib.suppress(ImportError):  # by names, since a type checker may not find them either
+    FileSystemEventHandler = import_module("watchdog.events").FileSystemEventHandler
+    Observer = import_module("watchdog.observers").Observer
 
 
 def part(*names: str) -> str:
@@ -108,7 +109,8 @@ class Watched:
 
     def __init__(self, name: str, settings: dict[str, Any]) -> None:
         self.name, self.settings = name, settings
-        self.version, self.state, self.time = 0, "", None
+        self.version, self.state = 0, ""
+        self.time: tuple[int, int, int] | None = None
         self.changed = threading.Condition()
         self.look(always=True)
 
