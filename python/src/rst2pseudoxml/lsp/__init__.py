@@ -13,7 +13,8 @@ from pathlib import Path
 from typing import Any, BinaryIO, Callable, Iterator
 from urllib.parse import unquote, urlsplit
 
-from ..check import FILE, Known
+from ..check.files import FILE
+from ..check.names import Known
 from .page import Page
 
 CAPABILITIES: dict[str, Any] = {

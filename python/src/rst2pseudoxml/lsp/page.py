@@ -6,7 +6,7 @@ import re
 from typing import Any, Iterator
 
 from .. import Node, Refused, messages, tree
-from ..check import Known, Names
+from ..check.names import Known, Names
 
 LINE_END = re.compile("\r\n|[\n\r\x1c-\x1e\x85\u2028\u2029]")  # those of the library; an editor counts the first three
 REFERENCE = re.compile(
