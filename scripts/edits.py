@@ -1,12 +1,13 @@
 #!/usr/bin/env python3
 """Tries edits, many at once: the prover must refuse each.
 
-    scripts/edits.py [--most N] [--jobs N] [--wrong-bodies] CRATE..
+    scripts/edits.py [--most N] [--jobs N] [--anew] [--wrong-bodies] CRATE..
 
 It takes the edits of these crates in must-fail/, wrong-bodies/ and more-edits/, or with --wrong-bodies only those there; with no crate it takes
 all crates. It makes as many as N (25 if not given) in a copy of the crate, no two in functions of one name, and checks the functions that they are
 in and those that these call. That takes some ten seconds an edit. It needs the libraries that `rt ci` built in this checkout
-(crates/*/out/rlib). With --jobs it tries those of N crates side by side.
+(crates/*/out/rlib). With --jobs it tries those of N crates side by side. An edit that was refused stays so as long as the crate, the libraries
+below it and the kit are the same: that is kept below ~/.cache, and with --anew it is tried again.
 
 A function counts as refused if something of its own isn't proved; that a function it calls isn't proved doesn't count. An edit outside of a
 function, one of several functions, one that can't be made beside the others, and one that isn't refused beside them are tried alone, and if
@@ -17,6 +18,8 @@ The exit status is 0 if all were refused, 1 if one wasn't or doesn't compile, 2 
 
 import argparse
 import concurrent.futures
+import hashlib
+import os
 import pathlib
 import re
 import shutil
@@ -28,6 +31,7 @@ from edits_apply import KINDS, pairs
 
 TOP = pathlib.Path(__file__).resolve().parent.parent
 KIT = pathlib.Path(shutil.which("rattle") or "/").resolve().parent.parent
+REFUSALS = pathlib.Path(os.environ.get("XDG_CACHE_HOME") or pathlib.Path.home() / ".cache") / "rst2pseudoxml/edits"
 FUNCTION = re.compile(r"\s*(?:pub(?:\(\w+\))? )?(?:const )?(?:unsafe )?fn (\w+)")
 IMPLEMENTATION = re.compile(r"impl\b(?:<.*?>)? (?:(\w+)(?:<.*>)? for )?(\w+)")
 VERDICT = re.compile(r"^fn \w+::(\S+): (.*)$", re.MULTILINE)
@@ -58,6 +62,18 @@ def command(crates, crate, kept):
     return [*words, *logic, "--links", f"{crate}=", "--jobs", "1", "--incremental", str(kept)]
 
 
+def stamp(crates, crate):
+    """A sum of all that a refusal of an edit of the crate stands on but the edit: its files, the libraries below it and the kit."""
+    folder = TOP / "crates" / crate
+    files = [file for part in ("src", "specs", "proofs") for file in sorted((folder / part).rglob("*")) if file.is_file()]
+    files += [KIT / "KIT-ID", *(rlib(crates, name) / "format" for name in ["std", *crates[crate][1]])]
+    summed = hashlib.sha256()
+    for file in files:
+        name = file.relative_to(folder) if folder in file.parents else file.parent.name
+        summed.update(repr((str(name), file.read_bytes())).encode())
+    return summed.digest()
+
+
 def function_at(path, text, place):
     """The function that a place of a file is in, by its path below the crate, if it is in one."""
     module = [part for part in path.with_suffix("").parts[1:] if part not in ("lib", "main", "mod")]
@@ -82,8 +98,9 @@ def function_at(path, text, place):
 class Edit:
     """An edit: its changes, the functions that they are in, and the name of the function if it is one; none for an edit that is tried alone."""
 
-    def __init__(self, path, crate):
+    def __init__(self, path, crate, stamp):
         self.name = path.stem
+        self.kept = REFUSALS / hashlib.sha256(stamp + path.read_bytes()).hexdigest()
         self.changes = [(file.relative_to(crate), old, new) for file, old, new in pairs(path)]
         places = self.places(crate)
         self.paths = sorted(places - {None})
@@ -156,6 +173,9 @@ class Trial:
 
     def report(self, edit, verdict):
         self.wrong += verdict != "refused"
+        if verdict == "refused":
+            REFUSALS.mkdir(parents=True, exist_ok=True)
+            edit.kept.touch()
         print(f"{self.crate.name}/{edit.name}: {verdict}", flush=True)
 
     def run(self, group, whole=False):
@@ -180,15 +200,16 @@ class Trial:
                 self.run([edit]) if len(group) > 1 else self.report(edit, "CAN'T BE MADE")
 
 
-def tried(crates, crate, kinds, most):
-    """How many edits of a crate were tried, and how many of them weren't refused."""
-    folder = TOP / "crates" / crate
-    edits = [Edit(path, folder) for kind in kinds for path in sorted(folder.glob(f"{kind}/*.edit"))]
+def tried(crates, crate, kinds, words):
+    """How many edits a crate has, how many of them were refused earlier, and how many weren't refused now."""
+    folder, sum_of_all = TOP / "crates" / crate, stamp(crates, crate)
+    edits = [Edit(path, folder, sum_of_all) for kind in kinds for path in sorted(folder.glob(f"{kind}/*.edit"))]
+    left = [edit for edit in edits if words.anew or not edit.kept.exists()]
     with tempfile.TemporaryDirectory() as copy:
         trial = Trial(crates, crate, pathlib.Path(copy))
-        for group in rounds(edits, most):
+        for group in rounds(left, words.most):
             trial.run(group)
-    return len(edits), trial.wrong
+    return len(edits), len(edits) - len(left), trial.wrong
 
 
 def at_least_one(word):
@@ -201,6 +222,7 @@ def arguments(crates):
     parser = argparse.ArgumentParser(description=__doc__, formatter_class=argparse.RawDescriptionHelpFormatter)
     parser.add_argument("--most", type=at_least_one, default=25, help=argparse.SUPPRESS)
     parser.add_argument("--jobs", type=at_least_one, default=1, help=argparse.SUPPRESS)
+    parser.add_argument("--anew", action="store_true", help=argparse.SUPPRESS)
     parser.add_argument("--wrong-bodies", action="store_true", help=argparse.SUPPRESS)
     parser.add_argument("crate", nargs="*", help=argparse.SUPPRESS)
     words = parser.parse_args()
@@ -223,9 +245,9 @@ def main():
         print(f"skipped: the library {missing[0]} isn't built here; run rt ci first")
         return 77
     with concurrent.futures.ThreadPoolExecutor(words.jobs) as side_by_side:
-        counts = list(side_by_side.map(lambda crate: tried(crates, crate, kinds, words.most), chosen))
-    total, wrong = (sum(count[place] for count in counts) for place in (0, 1))
-    print(f"{total} edits, {total - wrong} refused, {wrong} not")
+        counts = list(side_by_side.map(lambda crate: tried(crates, crate, kinds, words), chosen))
+    total, earlier, wrong = (sum(count[place] for count in counts) for place in range(3))
+    print(f"{total} edits, {total - wrong} refused ({earlier} of them by an earlier run here), {wrong} not")
     return int(wrong > 0 or not total)
 
 
