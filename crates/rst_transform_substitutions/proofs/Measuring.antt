@@ -1,6 +1,7 @@
 -- The sizes of definitions, measured one after the other.
-use Rattle.std.proofs.Common.{◌≡◌, ℕ, zero, suc, ◌+◌, ◌-◌, ◌^◌, ◌<◌, ◌≤◌, ◌==◌, min, List, [], ◌∷◌, drop, get_or, Bool, true, false, eqb-true, length, replicate, refl, sym, subst, ◌∙◌, ap, arith, inl, inr}
+use Rattle.std.proofs.Common.{◌≡◌, ℕ, zero, suc, ◌+◌, ◌-◌, ◌^◌, ◌<◌, ◌≤◌, ◌==◌, ◌&&◌, min, List, [], ◌∷◌, drop, get_or, Bool, true, false, eqb-true, length, replicate, refl, sym, subst, ◌∙◌, ap, arith, inl, inr}
 use Rattle.std.specs.Prelude.{if◌then◌else◌, option_and_then, slice_get, slice_set, Option, Some, None}
+use Rattle.std.proofs.Math.Bool.{and-true, and_assoc}
 use Rattle.std.proofs.lemmas.Bool.{cases_lt}
 use Rattle.std.proofs.lemmas.List.{drop_more}
 use Rattle.rst_tree.specs.declared.attrs.Attr.{Attr}
@@ -17,15 +18,15 @@ use Rattle.rst_transform_substitutions.specs.Expansion.{name_said, size_of}
 use Rattle.rst_transform_substitutions.specs.Sizes.{added, both, deeper, flat, measured, size_at, size_found, AreMeasured}
 use Rattle.rst_transform_substitutions.proofs.Sizing.{both_parts}
 
--- a size of two numbers
-abbrev pub sized_so : ℕ → ℕ → Size
-sized_so visited nested = record { visited = visited; nested = nested }
+-- a size by its parts
+abbrev pub sized_so : ℕ → ℕ → Bool → Size
+sized_so visited nested is_empty = record { visited = visited; nested = nested; is_empty = is_empty }
 
-same_size : (v w m n : ℕ) → v ≡ w → m ≡ n → sized_so v m ≡ sized_so w n
-same_size v w m n visited nested = rw (visited, nested) refl
+same_size : (v w m n : ℕ) (d e : Bool) → v ≡ w → m ≡ n → d ≡ e → sized_so v m d ≡ sized_so w n e
+same_size v w m n d e visited nested empty = rw (visited, nested, empty) refl
 
 added_more : (a b s : Size) → added a (added b s) ≡ added (added a b) s
-added_more a b s = same_size _ _ _ _ (omega arith) (omega arith)
+added_more a b s = same_size _ _ _ _ _ _ (omega arith) (omega arith) (sym (and_assoc a.is_empty b.is_empty s.is_empty))
 
 -- the size so far, and then one more
 both_more : (a b : Size) (m : Option Size) → both (Some a) (both (Some b) m) ≡ both (Some (added a b)) m
@@ -33,33 +34,33 @@ both_more a b None = refl
 both_more a b (Some s) = ap Some (added_more a b s)
 
 -- a node alone
-pub own_more : (a own : Size) (k : ℕ) (m : Option Size) → own.visited ≡ min k (2 ^ 64 - 1) → own.nested ≡ 0 → both (Some a) (both (Some (flat k)) m) ≡ both (Some (added a own)) m
-own_more a own k m visited nested =
-    let e : added a (flat k) ≡ added a own = same_size _ _ _ _ (omega (arith, visited)) (omega (arith, nested)) in
-    both_more a (flat k) m ∙ ap (λ s. both (Some s) m) e
+pub own_more : (a own : Size) (k : ℕ) (e : Bool) (m : Option Size) → own.visited ≡ min k (2 ^ 64 - 1) → own.nested ≡ 0 → own.is_empty ≡ e → both (Some a) (both (Some (flat k e)) m) ≡ both (Some (added a own)) m
+own_more a own k e m visited nested empty =
+    let same : added a (flat k e) ≡ added a own = same_size _ _ _ _ _ _ (omega (arith, visited)) (omega (arith, nested)) (ap (λ e. a.is_empty && e) (sym empty)) in
+    both_more a (flat k e) m ∙ ap (λ s. both (Some s) m) same
 
 -- nothing before the nodes
-added_none : (own s : Size) → added (flat 0) (added own s) ≡ added own s
-added_none own s = same_size _ _ _ _ (omega arith) (omega arith)
+added_none : (own s : Size) → added (flat 0 true) (added own s) ≡ added own s
+added_none own s = same_size _ _ _ _ _ _ (omega arith) (omega arith) refl
 
-both_none : (own : Size) (m : Option Size) → both (Some (flat 0)) (both (Some own) m) ≡ both (Some own) m
+both_none : (own : Size) (m : Option Size) → both (Some (flat 0 true)) (both (Some own) m) ≡ both (Some own) m
 both_none own None = refl
 both_none own (Some s) = ap Some (added_none own s)
 
-pub measured_all : (size : List ℕ → Option Size) (c : Forest) → both (Some (flat 0)) (measured size c) ≡ measured size c
+pub measured_all : (size : List ℕ → Option Size) (c : Forest) → both (Some (flat 0 true)) (measured size c) ≡ measured size c
 measured_all size bare = refl
-measured_all size (words t r) = both_none (flat (size_of (Text t))) (measured size r)
-measured_all size (element t a c l r) = both_none (flat 1) (both (if is_reference t then size (name_said a) else measured size c) (measured size r))
+measured_all size (words t r) = both_none (flat (size_of (Text t)) false) (measured size r)
+measured_all size (element t a c l r) = both_none (flat 1 (is_reference t)) (both (if is_reference t then size (name_said a) else measured size c) (measured size r))
 
 -- the nodes from one on, by that one and the others
-module _ (size : List ℕ → Option Size) (all own : Size) (node : Node) (t : Tag) (a : List Attr) (c : Forest) (l : ℕ) (ns : List Node) (i : ℕ) (is : node ≡ Element t a c l) (at : node ≡ get_or ns i node) (within : i < length ns) (visited : own.visited ≡ min 1 (2 ^ 64 - 1)) (nested : own.nested ≡ 0) where
+module _ (size : List ℕ → Option Size) (all own : Size) (node : Node) (t : Tag) (a : List Attr) (c : Forest) (l : ℕ) (ns : List Node) (i : ℕ) (is : node ≡ Element t a c l) (at : node ≡ get_or ns i node) (within : i < length ns) (visited : own.visited ≡ min 1 (2 ^ 64 - 1)) (nested : own.nested ≡ 0) (empty : own.is_empty ≡ is_reference t) where
   abbrev here : Option Size
   here = if is_reference t then size (name_said a) else measured size c
 
   from_element : both (Some all) (measured size (forest_of (drop i ns))) ≡ both (Some (added all own)) (both here (measured size (forest_of (drop (i + 1) ns))))
   from_element =
       let whole : forest_of (drop i ns) ≡ element t a c l (forest_of (drop (i + 1) ns)) = ap forest_of (drop_more ns i node within) ∙ ap (λ n. join_node n (forest_of (drop (i + 1) ns))) (sym at ∙ is) in
-      ap (λ f. both (Some all) (measured size f)) whole ∙ own_more all own 1 (both here (measured size (forest_of (drop (i + 1) ns)))) visited nested
+      ap (λ f. both (Some all) (measured size f)) whole ∙ own_more all own 1 (is_reference t) (both here (measured size (forest_of (drop (i + 1) ns)))) visited nested empty
 
   -- an element of a known size
   pub element_measured : (inner : Size) (whole : Option Size) → here ≡ Some inner → both (Some all) (measured size (forest_of (drop i ns))) ≡ whole → both (Some (added (added all own) inner)) (measured size (forest_of (drop (i + 1) ns))) ≡ whole
@@ -67,13 +68,13 @@ module _ (size : List ℕ → Option Size) (all own : Size) (node : Node) (t : T
       sym (both_more (added all own) inner (measured size (forest_of (drop (i + 1) ns)))) ∙ ap (λ m. both (Some (added all own)) (both m (measured size (forest_of (drop (i + 1) ns))))) (sym known) ∙ sym from_element ∙ so_far
 
   -- one whose size isn't known
-  pub element_unknown : (nodes : Forest) → here ≡ None → both (Some all) (measured size (forest_of (drop i ns))) ≡ both (Some (flat 0)) (measured size nodes) → None ≡ measured size nodes
+  pub element_unknown : (nodes : Forest) → here ≡ None → both (Some all) (measured size (forest_of (drop i ns))) ≡ both (Some (flat 0 true)) (measured size nodes) → None ≡ measured size nodes
   element_unknown nodes unknown so_far =
       ap (λ m. both (Some (added all own)) (both m (measured size (forest_of (drop (i + 1) ns))))) (sym unknown) ∙ sym from_element ∙ so_far ∙ measured_all size nodes
 
 -- nothing after them
-pub added_last : (a : Size) → a.visited < 2 ^ 64 → both (Some a) (Some (flat 0)) ≡ Some a
-added_last a fits = ap Some (same_size _ _ _ _ (omega (arith, fits)) (omega arith))
+pub added_last : (a : Size) → a.visited < 2 ^ 64 → both (Some a) (Some (flat 0 true)) ≡ Some a
+added_last a fits = ap Some (same_size _ _ _ _ _ _ (omega (arith, fits)) (omega arith) (and-true a.is_empty))
 
 -- what is known of some definitions stays so where more sizes are known
 more_here : (one two : List ℕ → Option Size) → ((name : List ℕ) (s : Size) → one name ≡ Some s → two name ≡ Some s) → (is : Bool) (a : List Attr) (c : Forest) (s : Size) → ((s : Size) → measured one c ≡ Some s → measured two c ≡ Some s)
@@ -84,10 +85,10 @@ more_here one two more false a c s inner is = inner s is
 more_measured : (one two : List ℕ → Option Size) → ((name : List ℕ) (s : Size) → one name ≡ Some s → two name ≡ Some s) → (c : Forest) (s : Size) → measured one c ≡ Some s → measured two c ≡ Some s
 more_measured one two more bare s is = is
 more_measured one two more (words t r) s is =
-    both_parts (Some (flat (size_of (Text t)))) (measured one r) s is (measured two (words t r) ≡ Some s)
+    both_parts (Some (flat (size_of (Text t)) false)) (measured one r) s is (measured two (words t r) ≡ Some s)
     (λ own rest is_own is_rest sum. rw (more_measured one two more r rest is_rest) (ap Some (grind (arith, is_own, sum))))
 more_measured one two more (element t a c l r) s is =
-    both_parts (Some (flat 1)) (both (if is_reference t then one (name_said a) else measured one c) (measured one r)) s is (measured two (element t a c l r) ≡ Some s)
+    both_parts (Some (flat 1 (is_reference t))) (both (if is_reference t then one (name_said a) else measured one c) (measured one r)) s is (measured two (element t a c l r) ≡ Some s)
     (λ own after is_own is_after sum.
     both_parts (if is_reference t then one (name_said a) else measured one c) (measured one r) after is_after (measured two (element t a c l r) ≡ Some s)
     (λ here rest is_here is_rest inner_sum.

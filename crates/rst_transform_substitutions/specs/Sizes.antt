@@ -1,24 +1,23 @@
 -- How much definitions come to when they are expanded. No rule of markup: it is what lets an expansion be counted without being gone through.
-use Rattle.std.specs.Prelude.{◌≡◌, ℕ, ◌+◌, ◌-◌, ◌^◌, ◌==◌, min, max, nat_le, Bool, true, false, List, length, if◌then◌else◌, option_and_then, option_map, slice_get, unwrap_or, Option, Some, None, Result, Ok, Err}
+use Rattle.std.specs.Prelude.{◌≡◌, ℕ, ◌+◌, ◌-◌, ◌^◌, ◌==◌, ◌&&◌, min, max, nat_le, Bool, true, false, List, [], length, if◌then◌else◌, option_and_then, option_map, slice_get, unwrap_or, Option, Some, None, Result, Ok, Err}
 use Rattle.std.specs.Option.{option_flatten, option_map_or}
 use Rattle.rst_tree.specs.declared.node.Node.TheVariants.{Element, Text}
 use Rattle.rst_tree.specs.Forest.{Forest, bare, element, words}
 use Rattle.rst_tree_index.specs.Kinds.{is_reference}
 use Rattle.rst_transform_substitutions.specs.declared.definitions.Definitions.{Definitions}
-use Rattle.rst_transform_substitutions.specs.declared.expansion.ExpansionFault.{ExpansionFault}
 use Rattle.rst_transform_substitutions.specs.declared.expansion.Halted.{Halted}
 use Rattle.rst_transform_substitutions.specs.declared.expansion.Halted.TheVariants.{By, NoMemory}
 use Rattle.rst_transform_substitutions.specs.declared.sizes.Size.{Size}
 use Rattle.rst_transform_substitutions.specs.Definitions.{known_found}
-use Rattle.rst_transform_substitutions.specs.Expansion.{name_said, size_of}
+use Rattle.rst_transform_substitutions.specs.Expansion.{left_of, name_said, size_of, Expansion}
 
--- the size of nodes where so much is visited, and no definition is gone into
-abbrev pub flat : ℕ → Size
-flat visited = record { visited = visited; nested = 0 }
+-- the size of nodes where so much is visited and no definition is gone into, by whether no node is left
+abbrev pub flat : ℕ → Bool → Size
+flat visited is_empty = record { visited = visited; nested = 0; is_empty = is_empty }
 
 -- the size of nodes of two sizes
 abbrev pub added : Size → Size → Size
-added a b = record { visited = min (a.visited + b.visited) (2 ^ 64 - 1); nested = max a.nested b.nested }
+added a b = record { visited = min (a.visited + b.visited) (2 ^ 64 - 1); nested = max a.nested b.nested; is_empty = a.is_empty && b.is_empty }
 
 -- the same of two that may be unknown
 abbrev pub both : Option Size → Option Size → Option Size
@@ -26,15 +25,15 @@ both a b = option_and_then (λ one. option_map (added one) b) a
 
 -- the size of a reference to a definition of this size, if it can be told
 abbrev pub deeper : Size → Option Size
-deeper size = if size.nested == 2 ^ 64 - 1 then None else Some (record { visited = size.visited; nested = size.nested + 1 })
+deeper size = if size.nested == 2 ^ 64 - 1 then None else Some (record size { nested = size.nested + 1 })
 
 -- given the size of a reference to a name
 module _ (size : List ℕ → Option Size) where
   -- the size of nodes, if that of each reference among them and in them is known
   abbrev pub measured : Forest → Option Size
-  measured bare = Some (flat 0)
-  measured (words t r) = both (Some (flat (size_of (Text t)))) (measured r)
-  measured (element t a c l r) = both (Some (flat (size_of (Element t a c l)))) (both (if is_reference t then size (name_said a) else measured c) (measured r))
+  measured bare = Some (flat 0 true)
+  measured (words t r) = both (Some (flat (size_of (Text t)) false)) (measured r)
+  measured (element t a c l r) = both (Some (flat (size_of (Element t a c l)) (is_reference t))) (both (if is_reference t then size (name_said a) else measured c) (measured r))
 
 -- the size of the definition at a place, if it is known
 abbrev pub size_at : List (Option Size) → ℕ → Option Size
@@ -59,9 +58,9 @@ is_above sizes nested place = option_map_or (λ size. nat_le nested size.nested)
 abbrev pub content_last : Definitions → List ℕ → Forest
 content_last known path = unwrap_or (option_and_then (slice_get known.contents.items) (slice_get path (length path - 1))) bare
 
--- the call counts at once what is visited for some nodes, if nothing is copied, or leaves it uncounted
-abbrev pub Passes : Bool → Result ℕ ExpansionFault → ℕ → ℕ → Result Bool Halted → Type 0
-Passes copies wanted old new (Ok true) = (copies ≡ false) × (wanted ≡ Ok new)
+-- the call counts at once what is visited for some nodes, if nothing is copied or no node is left, or leaves it uncounted
+abbrev pub Passes : Bool → Expansion → ℕ → ℕ → Result Bool Halted → Type 0
+Passes copies wanted old new (Ok true) = (left_of wanted ≡ Ok new) × (copies ≡ true → wanted ≡ Ok ([], new))
 Passes copies wanted old new (Ok false) = new ≡ old
 Passes copies wanted old new (Err (By fault)) = wanted ≡ Err fault
 Passes copies wanted old new (Err NoMemory) = Unit {0}

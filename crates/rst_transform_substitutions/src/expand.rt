@@ -9,7 +9,7 @@ ghost use Rattle.rst_transform_substitutions.specs.Expanded.{expanded_in, is_ref
 ghost use Rattle.rst_transform_substitutions.specs.Outcomes.{Remembers};
 
 use crate::definitions::Definitions;
-use crate::expansion::is_reference;
+use crate::expansion::{is_reference, is_reference_node};
 use crate::numbering::numbered;
 use crate::outcomes::{Outcome, Outcomes, reference_outcome};
 use crate::sizes::sizes_of;
@@ -98,10 +98,7 @@ fn expand_in(
 fn has_reference(nodes: &[Node]) -> bool
     ensures { result ≡ list_any is_reference_node nodes.now }
 {
-    nodes.iter().any(|node| match node {
-        Node::Element { tag, .. } => is_reference(*tag),
-        Node::Text(_) => false,
-    })
+    nodes.iter().any(|node| is_reference_node(node))
 }
 
 /// Puts the nodes in each reference into its place, in a list made anew.

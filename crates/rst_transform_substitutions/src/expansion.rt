@@ -5,6 +5,7 @@ ghost use Rattle.rst_tree_index.specs.Kinds.{is_reference};
 ghost use Rattle.rst_transform_substitutions.specs.declared.expansion.ExpansionFault.TheVariants.{Undefined};
 ghost use Rattle.rst_transform_substitutions.specs.declared.expansion.Halted.TheVariants.{By as HaltedBy, NoMemory as HaltedByMemory};
 ghost use Rattle.rst_transform_substitutions.specs.Definitions.{found_by};
+ghost use Rattle.rst_transform_substitutions.specs.Expanded.{is_reference_node};
 ghost use Rattle.rst_transform_substitutions.specs.Expansion.{behind, copied, expanded, fault_text, given, left_of, most_visited, nodes_for, size_of, ComesTo, Enters};
 ghost use Rattle.rst_transform_substitutions.specs.Sizes.{content_last, AreSized, Passes};
 
@@ -111,24 +112,24 @@ impl Progress {
         true
     }
 
-    /// Counts at once what is visited in the definition that was gone into last, if nothing is copied, its size is known and it can't
-    /// lead to one on the path; whether it does.
+    /// Counts at once what is visited in the definition that was gone into last, if nothing is copied or no node is left of it, its size
+    /// is known and it can't lead to one on the path; whether it does.
     fn passes(&mut self, definitions: &Definitions, copies: bool) -> Result<bool, Halted>
         requires sized { AreSized definitions.now }
         requires left { self.old.left ≤ most_visited }
-        ensures passes { Passes copies (left_of (expanded (given (found_by definitions.now) self.old.path.items) (content_last definitions.now self.old.path.items) self.old.left)) self.old.left self.new.left result }
+        ensures passes { Passes copies (expanded (given (found_by definitions.now) self.old.path.items) (content_last definitions.now self.old.path.items) self.old.left) self.old.left self.new.left result }
         ensures path { self.new.path ≡ self.old.path }
         ensures left { self.new.left ≤ self.old.left }
     {
-        if copies {
-            return Ok(false);
-        }
         let Some(last) = self.path.last() else {
             return Ok(false);
         };
         let Some(size) = size_at(&definitions.sizes, *last) else {
             return Ok(false);
         };
+        if copies && !size.is_empty {
+            return Ok(false);
+        }
         if !are_above(&definitions.sizes, size.nested, &self.path) {
             return Ok(false);
         }
@@ -148,6 +149,16 @@ pub fn characters_in(node: &Node) -> usize
     match node {
         Node::Text(text) => text.as_str().chars().count(),
         Node::Element { .. } => 0,
+    }
+}
+
+/// Whether a node is a reference.
+pub fn is_reference_node(node: &Node) -> bool
+    ensures { result ≡ is_reference_node node.now }
+{
+    match node {
+        Node::Element { tag, .. } => is_reference(*tag),
+        Node::Text(_) => false,
     }
 }
 

@@ -5,7 +5,7 @@ ghost use Rattle.rst_tree.specs.Faults.{Gives};
 ghost use Rattle.rst_transform_substitutions.specs.Sizes.{added, deeper, is_above, measured, size_at, size_found, AreMeasured};
 
 use crate::definitions::Definitions;
-use crate::expansion::{characters_in, is_reference};
+use crate::expansion::{characters_in, is_reference, is_reference_node};
 use rst_transform_work::{put_at, said};
 use rst_tree::{Children, Key, Node, Result};
 use std::alloc::Global;
@@ -17,6 +17,8 @@ pub struct Size {
     pub visited: usize,
     /// How many definitions are gone into, each found in the one before.
     pub nested: usize,
+    /// Whether no node is left.
+    pub is_empty: bool,
 }
 
 impl Size {
@@ -27,6 +29,7 @@ impl Size {
         Size {
             visited: self.visited.saturating_add(other.visited),
             nested: self.nested.max(other.nested),
+            is_empty: self.is_empty && other.is_empty,
         }
     }
 
@@ -38,8 +41,8 @@ impl Size {
             return None;
         }
         Some(Size {
-            visited: self.visited,
             nested: self.nested + 1,
+            ..self
         })
     }
 }
@@ -100,11 +103,13 @@ fn measured(
     let mut all = Size {
         visited: 0,
         nested: 0,
+        is_empty: true,
     };
     for node in nodes.as_slice() {
         let own = Size {
             visited: characters_in(node).saturating_add(1),
             nested: 0,
+            is_empty: is_reference_node(node),
         };
         all = all.and(own);
         let Node::Element {
