@@ -46,7 +46,7 @@ class Definitions:
 
     def __init__(self, folder):
         self.clauses, self.parts, self.found = {}, set(), {}
-        for path in sorted(folder.glob("*.antt")):
+        for path in sorted(folder.rglob("*.antt")):
             code = re.sub(r"^ *--.*\n", "", path.read_text(encoding="utf-8"), flags=re.M)
             for _, name, parameters, body in CLAUSE.findall(code):
                 self.clauses.setdefault(name, []).append((parameters.split(), parsed(iter(TOKEN.findall(body))), 'codes "' in body))
