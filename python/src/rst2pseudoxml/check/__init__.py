@@ -61,7 +61,7 @@ USAGE = "rst-check [--level LEVEL] [--known NAMES|@FILE].. [--code] [--format FO
 
 
 class Checker:
-    """Checks pages, by the options."""
+    """Checks pages, with what the options say."""
 
     def __init__(self, known: Known, options: dict[str, str]) -> None:
         self.known = known
@@ -115,7 +115,7 @@ def _refuse(line: str) -> NoReturn:
 
 
 def _pages(given: list[str], known: Known) -> Iterator[str]:
-    """The pages that are named, and those in folders. The names that a folder has are added to the known ones."""
+    """The pages that are named, and those in folders. The names that a folder says are added to the known ones."""
     for page in given:
         if "\n" in page:
             _refuse(f"a name has a line feed: {page}")
@@ -132,7 +132,7 @@ def _pages(given: list[str], known: Known) -> Iterator[str]:
 
 
 def _options(arguments: list[str]) -> dict[str, str]:
-    """The options, which are taken from the beginning of the arguments."""
+    """The options, which are taken from the front of the arguments."""
     given = {"--level": "warning", "--format": "gcc", "--known": f"@{FILE}" if os.path.isfile(FILE) else ""}
     given.update({"--jobs": str(len(os.sched_getaffinity(0))), "--name": "<stdin>", "--code": ""})
     while arguments and arguments[0].startswith("-") and arguments[0] != "-":
