@@ -1,8 +1,8 @@
 #!/usr/bin/env python3
 """Writes the lists of docs/profile/messages.md, below the mark in it: all system messages. Their texts are those that the definitions in
-crates/*/specs put together, each from `codes ".."` and what is joined to it. A text has the level that it has in the worked examples
-(crates/*/src/rows.rt and src/rows/), and the pages of the profile that show it. One without an example, or on no page, is a fault.
-With --check nothing is written: the lists are compared."""
+crates/*/specs put together, each from `codes ".."` and what is joined to it. The level of a text is the one that it has in examples: the worked
+ones (crates/*/src/rows.rt and src/rows/) and those of the profile's pages. With it are the pages that show it. A text without an example, or
+on no page, is a fault. With --check nothing is written: the lists are compared."""
 
 import itertools
 import re
@@ -42,7 +42,7 @@ def parsed(tokens):
 
 
 class Definitions:
-    """The definitions of a crate: of each name its clauses, each with its parameters and the chains of its right side."""
+    """The definitions of a crate: of each name its clauses, each with its parameters, the chains of its right side, and whether a text is in it."""
 
     def __init__(self, folder):
         self.clauses, self.parts, self.found = {}, set(), {}
