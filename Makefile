@@ -16,7 +16,7 @@ library = $(DESTDIR)$(PREFIX)/lib
 include = $(DESTDIR)$(PREFIX)/include
 scripts = check-pages.sh check-trees.sh
 files = flycheck-rst2pseudoxml.el vscode-tasks.json
-pages = docs/PROFILE.md docs/DOCUTILS.md docs/INTEGRATIONS.md
+pages = docs/PROFILE.md docs/DOCUTILS.md docs/INTEGRATIONS.md docs/LIBRARY.md
 commands = check lsp view
 
 # What is installed runs the program that is installed with it.

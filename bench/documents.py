@@ -33,7 +33,7 @@ class Document:
 
 
 def called(words: list[str], folder: pathlib.Path) -> str:
-    """What a command prints; where it fails, that is a RuntimeError with its last words."""
+    """What a command prints; where it fails, that is a RuntimeError with the last line that it printed."""
     try:
         run = subprocess.run(words, cwd=folder, stdout=subprocess.PIPE, stderr=subprocess.PIPE, text=True)
     except OSError as fault:

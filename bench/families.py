@@ -200,7 +200,7 @@ def doubled(name, references):
 
 
 def use_next(n, uses, first="", last="\\"):
-    """Definitions in about n / 500 chains of 99, each of which uses the next one so many times after a text; and what the last one stands for."""
+    """Definitions in about n / 500 chains of 99, each of which uses the next one `uses` times after a text; `last` is the content of the last."""
     chain = "".join(f".. |b{{k}}-{j}| replace:: {first}" + "\\ ".join([f"|b{{k}}-{j + 1}|"] * uses) + "\n" for j in range(98))
     return numbered(max(1, n // 500), chain + f".. |b{{k}}-98| replace:: {last}\n")
 

@@ -3,7 +3,7 @@
 
     bench/known.py [FOLDER]
 
-The pages are those of bench/real.py, which says what FOLDER is for. It prints a table in Markdown: pages of each package, and how many
+The pages are those of bench/real.py, whose help describes FOLDER. It prints a table in Markdown: pages of each package, and how many
 of them pass without --known, with @docutils-names.txt, with @sphinx-names.txt, and with the names that the last run proposed as well.
 All packages take a CPU minute.
 """

@@ -36,7 +36,7 @@ DIRECTIVE = re.compile(rf"( *)\.\. ({'|'.join(NAMES)})::(?: |$)")
 NATIVE = "attention caution danger error hint important note tip warning admonition".split()
 OWN = [name.split()[0] for names in PROJECTS.values() for name in names]
 OUTER = re.compile(rf" *\.\. ({'|'.join([*NAMES, *NATIVE, *OWN])})::(?: |$)")
-FAULTS = {  # a paragraph, the line in it that is reported, and what is said of it
+FAULTS = {  # a paragraph, the line in it that is reported, and the message
     "An *emphasis that doesn't end.": (0, "Inline emphasis start-string without end-string."),
     "A ``literal that doesn't end.": (0, "Inline literal start-string without end-string."),
     "A reference to planted_.": (0, 'Unknown target name: "planted".'),
@@ -52,7 +52,7 @@ def indentation(line: str) -> int:
 
 
 def is_read(lines: list[str], at: int) -> bool:
-    """Whether a line is text, as far as the lines say that are less indented than it."""
+    """Whether a line is text, as far as the less indented lines before it show."""
     here = indentation(lines[at])
     for up in range(at - 1, -1, -1):
         line = lines[up]
@@ -78,7 +78,7 @@ def places(lines: list[str]) -> list[int]:
 
 
 def planted(pages: list[pathlib.Path], count: int, folder: pathlib.Path, chance: random.Random) -> dict[str, tuple[int, str]]:
-    """Writes pages with a fault each; the line and the text of what has to be said of each."""
+    """Writes pages with a fault each; the line and the text of the message that each has to have."""
     wanted: dict[str, tuple[int, str]] = {}
     choices = [(page, place) for page in pages for place in places(page.read_text("utf-8", "replace").expandtabs().split("\n"))]
     for number, (page, place) in enumerate(chance.sample(choices, min(count, len(choices)))):

@@ -85,7 +85,7 @@ def run(words, path, limit):
             preexec_fn=lambda: resource.setrlimit(resource.RLIMIT_CPU, (limit, limit + 5)),
         )
     began, memory, ended = time.monotonic(), 0.0, 0
-    # What the system says of a process that has ended counts the memory of this one, so it is sampled while it runs.
+    # What the system reports of a process that has ended counts the memory of this one, so it is sampled while it runs.
     while not ended:
         memory = max(memory, peak(process.pid))
         time.sleep(min(0.01, (time.monotonic() - began) / 50))

@@ -1,4 +1,4 @@
-# Completes the words of rst2pseudoxml in bash: its options, their levels, and the file that it reads.
+# Completes the arguments of rst2pseudoxml in bash: its options, their levels, and the file that it reads.
 
 _rst2pseudoxml() {
   local word=${COMP_WORDS[COMP_CWORD]} option='' before=''

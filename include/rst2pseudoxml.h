@@ -70,7 +70,7 @@ void rst_print(const uint8_t *text, size_t text_length, const uint8_t *source, s
                uint8_t *tree, size_t tree_room, uint8_t *messages, size_t messages_room, rst_result *result);
 
 /* The finished document as JSON: a text is a string, an element is [tag, line, {attributes}, children..]. It is whole also if a message
-   halts the run. docs/JSON.md describes it. */
+   halts the run. docs/LIBRARY.md describes it. */
 void rst_json(const uint8_t *text, size_t text_length, const rst_options *options, uint8_t *json, size_t json_room, rst_result *result);
 
 /* The kinds in records: of nodes, a text or an element; of what attributes say, a text, a number or texts. */
@@ -98,7 +98,7 @@ enum rst_kind {
          the rest  the text; the number; or the texts, each behind its length in 8 bytes
        the rest    the records of its nodes, one behind another
 
-   So a walk forwards meets the nodes in the order of the text. docs/RECORDS.md has an example. The room may be freed or used anew at any
+   So a walk forwards meets the nodes in the order of the text. docs/LIBRARY.md has an example. The room may be freed or used anew at any
    time: the records point to nothing else. */
 void rst_records(const uint8_t *text, size_t text_length, const rst_options *options, uint8_t *records, size_t records_room, rst_result *result);
 

@@ -29,7 +29,7 @@ files() {
 names() { # PROGRAM: what is installed by other names than in the checkout
   printf './opt/rst/%s\n' "bin/$1" bin/rst-check bin/rst-lsp bin/rst-view "share/bash-completion/completions/$1" "share/fish/vendor_completions.d/$1.fish" "share/man/man1/$1.1" "share/zsh/site-functions/_$1"
 }
-pages=$(cd "$top/docs" && printf './opt/rst/share/doc/rst2pseudoxml/%s\n' DOCUTILS.md INTEGRATIONS.md PROFILE.md profile/*)
+pages=$(cd "$top/docs" && printf './opt/rst/share/doc/rst2pseudoxml/%s\n' DOCUTILS.md INTEGRATIONS.md LIBRARY.md PROFILE.md profile/*)
 library=''
 if grep -qxs "library $("$top/scripts/digest.sh" library)" "$top/dist/BUILT"; then
   library=$(printf './opt/rst/%s\n' include/rst2pseudoxml.h lib/librst2pseudoxml.a lib/librst2pseudoxml.so.1 lib/pkgconfig/rst2pseudoxml.pc)
@@ -50,7 +50,7 @@ same 'what runs' "bin/rst-check bin/rst-lsp bin/rst-view bin/rst2pseudoxml ${lib
 if [ -n "$library" ] && command -v cc >/dev/null && command -v pkg-config >/dev/null; then
   same 'make install-library' '' "$(make -s -C "$top" install-library DESTDIR= PREFIX="$folder/c" 2>&1)"
   printf '#include <rst2pseudoxml.h>\nint main(void) { return rst_abi_version() != RST_ABI_VERSION; }\n' >version.c
-  # shellcheck disable=SC2046 # words of the compiler
+  # shellcheck disable=SC2046 # arguments of the compiler
   same 'a program with the library' 'status 0' \
     "$(cc version.c $(PKG_CONFIG_PATH=$folder/c/lib/pkgconfig pkg-config --cflags --libs rst2pseudoxml) 2>&1; LD_LIBRARY_PATH=$folder/c/lib ./a.out; echo "status $?")"
 fi
@@ -59,7 +59,7 @@ if command -v man >/dev/null; then
     "$(MANWIDTH=100 man -l "$installed/share/man/man1/rst2pseudoxml.1" 2>&1 | sed -n 's/^ *\(rst2pseudoxml - .*\)/\1/p')"
 fi
 
-# The completions of a line's words, of which the last is completed, one after the other.
+# The completions of a line's arguments, of which the last is completed, one after the other.
 # shellcheck source=/dev/null
 . "$installed/share/bash-completion/completions/rst2pseudoxml"
 mkdir documents documents/part

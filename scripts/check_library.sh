@@ -23,7 +23,7 @@ compile -o "$work/static" -DCOUNTED "$folder/librst2pseudoxml.a" -Wl,--wrap=mall
 sed -n '/^```c$/,/^```$/p' README.md | sed '1d;$d' >"$work/hello.c"
 "$compiler" -Iinclude "$work/hello.c" "$folder/librst2pseudoxml.a" -o "$work/hello"
 sed -n '/^`cc -Iinclude hello.c/,/^`make install`/p' README.md | sed -n '/^```$/,/^```$/p' | sed '1d;$d' | diff - <("$work/hello")
-"$work/static" allocations <docs/JSON.md
+"$work/static" allocations <docs/profile/explicit.md
 "$work/shared" threads
 python3 scripts/library.py "$work/shared" "$work/static"
 if command -v valgrind >/dev/null; then

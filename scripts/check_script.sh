@@ -1,6 +1,6 @@
 #!/usr/bin/env bash
 # Tests ./rst2pseudoxml: that arguments, standard input and the exit status pass through it, from any folder, that the
-# program works over real streams, and (on a copy of the checkout) which program it runs, and what it says where sources were changed.
+# program works over real streams, and (on a copy of the checkout) which program it runs, and what it prints where sources were changed.
 # shellcheck disable=SC2016 # a change of the copy is given as text
 set -u
 top=$(cd -- "$(dirname -- "$0")/.." && pwd)
@@ -201,7 +201,7 @@ if [ ${#other_user[@]} = 0 ] || "${other_user[@]}" test -x "$copy/rst2pseudoxml"
 fi
 chmod -R u+w "$copy"
 
-# What scripts/program.sh, which knows the digests, says of dist/.
+# What scripts/program.sh, which knows the digests, prints about dist/.
 same 'the shipped program' "$copy/dist/rst2pseudoxml"$'\nstatus 0' "$(of_sources)"
 mv "$crate" "$crate.old"
 same 'a crate renamed' $'rst2pseudoxml: crates.txt names rst_text, and there is no folder crates/rst_text/src\nstatus 1' "$(of_sources)"

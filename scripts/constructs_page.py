@@ -14,7 +14,7 @@ A line begins the construct of the first row whose condition holds, a text where
 of the lines that the construct has, and of what these mean, each below the sentence that it makes exact. The program is proved to follow them.
 `scripts/constructs_page.py` writes this page from `crates/*/specs`, where all that these definitions use is defined too.
 
-`X` is a block that begins with the construct, `t` the text of its first line, `B` the block that the construct stands in, `c` how the blocks inside
+`X` is a block that begins with the construct, `t` the text of its first line, `B` the block that the construct is in, `c` how the blocks inside
 are read.
 """
 LAYERS = ["rst_markup_lines", "rst_markup_blocks", "rst_block_state"]

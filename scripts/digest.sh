@@ -1,5 +1,5 @@
 #!/bin/sh
-# Prints the digest of the sources that a build of the program depends on, or of the library with the word `library`: those of its crate
+# Prints the digest of the sources that a build of the program depends on, or of the library with the argument `library`: those of its crate
 # and of the crates that it uses by crates.txt, with their lines there. Other crates (those of tests) don't count, nor do comments in
 # crates.txt and the modules that main.rt, or lib.rt, compiles under test alone.
 set -eu

@@ -63,7 +63,7 @@ def command(crates, crate, kept):
 
 
 def stamp(crates, crate):
-    """A sum of all that a refusal of an edit of the crate stands on but the edit: its files, the libraries below it and the kit."""
+    """A sum of all that a refusal of an edit of the crate depends on but the edit: its files, the libraries below it and the kit."""
     folder = TOP / "crates" / crate
     files = [file for part in ("src", "specs", "proofs") for file in sorted((folder / part).rglob("*")) if file.is_file()]
     files += [KIT / "KIT-ID", *(rlib(crates, name) / "format" for name in ["std", *crates[crate][1]])]

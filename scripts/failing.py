@@ -31,7 +31,7 @@ OPTIONS = "-r info --halt=5 --exit-status=error --no-doc-title --no-doc-info --t
 
 
 def compiler():
-    """The words of a command that compiles C to a library, if there is a compiler."""
+    """A command that compiles C to a library, if there is a compiler."""
     if shutil.which("cc"):
         return ["cc", "-shared", "-fPIC"]
     if shutil.which("rt"):

@@ -40,7 +40,7 @@ SMALL_STACK = ["sh", "-c", 'ulimit -s 2048 && exec "$@"', "sh"]
 
 
 def options(words):
-    """The options that words of the program give, as library.c takes them."""
+    """The options that arguments of the program give, as library.c takes them."""
     chosen = dict(zip(PLACES, ["2", "4", "5", "8", "10000", "0", "0"]))
     words = iter(words)
     for word in words:
@@ -129,13 +129,13 @@ class Comparison:
 
 
 def tables(count):
-    """Tables of one cell, so many inside one another."""
+    """Tables of one cell, this many inside one another."""
     borders = ["|" * level + "+" + "-" * (1 + 2 * (count - level)) + "+" + "|" * level for level in range(count)]
     return "\n".join([*borders, "|" * count + "abc" + "|" * count, *reversed(borders)]).encode()
 
 
 def trials():
-    """Each name, words and text."""
+    """Each name, arguments and text."""
     for table in TABLES:
         for name, words, given, (_, err, status) in Source(table).rows():
             if status != 2 and not err.startswith("rst2pseudoxml: cannot open"):

@@ -18,7 +18,7 @@ other tree of a document is the one before the transforms: titles are sections, 
 texts is given, the tree has all attributes, also those that only the transforms read, and each element's line. An example of a single definition is
 its clause.
 
-The last sections aren't of the standard: those of [the command line](profile/options.md), of [JSON](JSON.md), of [records](RECORDS.md) and of the
+The last sections aren't of the standard: those of [the command line](profile/options.md), of [JSON](LIBRARY.md#json), of [records](LIBRARY.md#records) and of the
 [header](../include/rst2pseudoxml.h) of the library for C.
 """
 # the documents, each with its sections in their order: those of the standard first

@@ -4,7 +4,7 @@
     scripts/timed.py COMMAND..
 
 Each line of the command that begins with `rt:` gets the seconds before it; those that begin with `statements` aren't shown. Then a table
-says for each crate when its last process ended and how many seconds of processor time its processes took (proofs, builds, edits and tests),
+shows for each crate when its last process ended and how many seconds of processor time its processes took (proofs, builds, edits and tests),
 the largest first. These are read from /proc every two seconds, so they are a little too small. The exit status is the command's.
 """
 

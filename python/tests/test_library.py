@@ -163,7 +163,7 @@ class Values(unittest.TestCase):
 
 
 class Records(unittest.TestCase):
-    """The walk that docs/RECORDS.md shows."""
+    """The walk that docs/LIBRARY.md shows."""
 
     def records(self, data):
         entry = rst2pseudoxml.LIBRARY.rst_records
@@ -176,7 +176,8 @@ class Records(unittest.TestCase):
 
     def test_walk(self):
         walk, shown_trees = {}, 0
-        exec(re.search("```python\n(.*?)```", (cases.TOP / "docs/RECORDS.md").read_text(encoding="utf-8"), re.DOTALL)[1], walk)
+        page = (cases.TOP / "docs/LIBRARY.md").read_text(encoding="utf-8")
+        exec(re.search("### A walk in Python\n.*?```python\n(.*?)```", page, re.DOTALL)[1], walk)
         for name, _, data in cases.mutated(200):
             try:
                 found = rst2pseudoxml.json(data, halt="none")

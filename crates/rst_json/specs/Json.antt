@@ -1,4 +1,4 @@
--- Trees and messages as JSON (RFC 8259): docs/JSON.md shows examples.
+-- Trees and messages as JSON (RFC 8259): docs/LIBRARY.md shows examples.
 use Rattle.std.specs.Prelude.{◌≡◌, ℕ, ◌+◌, ◌/◌, ◌%◌, Bool, ◌||◌, ◌==◌, nat_lt, if◌then◌else◌, List, [], ◌∷◌, ◌++◌, map, Option, None, Some, Result, Ok, Err, codes}
 use Rattle.std.specs.Fmt.{decimal}
 use Rattle.std.specs.List.{flat_map}

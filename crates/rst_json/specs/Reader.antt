@@ -1,5 +1,5 @@
 -- A reader of the JSON of a tree. It is no part of the program: a law says that it gives the tree back. It reads the text alone, as any JSON
--- (RFC 8259), but for what docs/JSON.md doesn't have: signs, fractions and exponents of numbers, `true`, `false`, `null`, and `\u` of characters that aren't ASCII.
+-- (RFC 8259), but for what docs/LIBRARY.md doesn't have: signs, fractions and exponents of numbers, `true`, `false`, `null`, and `\u` of characters that aren't ASCII.
 use Rattle.std.specs.Prelude.{◌≡◌, ℕ, zero, suc, ◌+◌, ◌*◌, ◌^◌, ◌<◌, Bool, ◌||◌, ◌==◌, not, if◌then◌else◌, List, [], ◌∷◌, ◌++◌, filter, find, bytes_eq, All, Option, None, Some, option_map, codes}
 use Rattle.std.specs.Char.{digit_value, is_digit}
 use Rattle.rst_json.specs.Json.{json_node}

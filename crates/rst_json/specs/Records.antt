@@ -1,4 +1,4 @@
--- Trees as records in preorder: docs/RECORDS.md shows them.
+-- Trees as records in preorder: docs/LIBRARY.md shows them.
 use Rattle.std.specs.Prelude.{ℕ, if◌then◌else◌, List, [], ◌∷◌, ◌++◌, length}
 use Rattle.std.specs.Int.{to_le_bytes}
 use Rattle.std.specs.List.{flat_map}

@@ -27,7 +27,7 @@ Text = Union[str, bytes, bytearray, memoryview]
 class Settings(TypedDict, total=False):
     """What a call may set. A level is "info", "warning", "error", "severe" or "none", or 1 to 5.
 
-    A wrong value is a ValueError. Another name or type is a TypeError that says what is allowed.
+    A wrong value is a ValueError. Another name or type is a TypeError that lists what is allowed.
     """
 
     report: Level

@@ -5,7 +5,7 @@
 
 The messages at or above LEVEL (info, warning, error, severe or none, or 1 to 5; warning by default) are shown, and a page
 that has one fails. Of a FOLDER all files *.rst and *.txt are checked, also those in folders in it, but no hidden ones, none that is named
-requirements*.txt or CMakeLists.txt, and none that .rst-known excludes. `-` is standard input, and --name says which file it is. N pages
+requirements*.txt or CMakeLists.txt, and none that .rst-known excludes. `-` is standard input, and --name is the name of its file. N pages
 are read at once, by default as many as there are processors. The status is 0 if all pages passed, 1 if one failed, 2 if nothing was
 checked because the arguments are bad.
 
@@ -33,8 +33,8 @@ Without a mark nothing in a directive is read. The lists of this package have ma
 These messages are left out: that a known name is unknown, or that a known directive has an unknown option; that a substitution isn't
 valid, or isn't defined, because its definition has a known directive or role; that a name isn't defined which the source of a known
 directive defines (as a target, citation, footnote, substitution or role, or by its option `name`), or a file of Docutils that it
-includes, such as <isonum.txt>. Messages on other names are shown, since nothing here says what defines them. If all messages of
-some pages are on unknown names, a last line on standard error says with which option these pages pass.
+includes, such as <isonum.txt>. Messages on other names are shown, since nothing here shows what defines them. If all messages of
+some pages are on unknown names, a last line on standard error names the option with which these pages pass.
 
 With --code the blocks of code are read whose language is JSON, Python, TOML (by Python 3.11 or later) or XML. A fault is an ERROR.
 
