@@ -3,6 +3,7 @@
 import base64
 import hashlib
 import http.client
+import io
 import json
 import os
 import re
@@ -11,9 +12,10 @@ import sys
 import unittest
 import urllib.parse
 from pathlib import Path
+from unittest import mock
 
 from browser import SAMPLE, TOO_DEEP, Folder, run
-from rst2pseudoxml import view
+from rst2pseudoxml import check, view
 
 
 class Command(Folder):
@@ -107,10 +109,11 @@ A :doc:`page`, a :term:`word`, a :their:`role`.
 
     def checked(self, *arguments):
         """The messages that rst-check prints."""
-        command = [sys.executable, "-m", "rst2pseudoxml.check", "--format=json", *arguments, "page.rst"]
-        environment = {**os.environ, "PYTHONPATH": os.pathsep.join(sys.path)}
-        made = subprocess.run(command, stdout=subprocess.PIPE, stderr=subprocess.DEVNULL, text=True, env=environment)
-        found = map(json.loads, made.stdout.splitlines())
+        out = io.TextIOWrapper(io.BytesIO(), "utf-8")
+        with mock.patch.multiple(sys, argv=["rst-check", "--format=json", *arguments, "page.rst"], stdout=out, stderr=io.StringIO()):
+            check.main()
+        out.flush()
+        found = map(json.loads, out.buffer.getvalue().decode().splitlines())
         return [(message["line"], message["level"], message["type"], message["text"]) for message in found]
 
     def test_as_rst_check(self):
