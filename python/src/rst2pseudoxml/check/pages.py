@@ -25,7 +25,7 @@ class Reader:
     """The library's call for messages, with a room that is kept from text to text."""
 
     def __init__(self, level: int, settings: dict[str, Any]) -> None:
-        self.settings = {**settings, "report": level, "halt": "none"}
+        self.settings: dict[str, Any] = {**settings, "report": level, "halt": "none"}
         self.options = _options(**self.settings)
         self.room = create_string_buffer(1 << 20)
         self.result = _Result()
