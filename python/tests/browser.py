@@ -77,12 +77,12 @@ class Folder(unittest.TestCase):
         path.write_bytes(text.encode() if isinstance(text, str) else text)
         return path
 
-    def watched(self, path, *, without_watchdog=False):
+    def watched(self, path, *arguments, without_watchdog=False):
         """The address at which a process serves a file; the process ends with the test."""
         missing = "sys.modules['watchdog.events'] = sys.modules['watchdog.observers'] = None; " if without_watchdog else ""
         code = f"import sys; {missing}from rst2pseudoxml.view import main; sys.exit(main())"
         environment = {**os.environ, "BROWSER": "true", "PYTHONPATH": os.pathsep.join(sys.path)}
-        process = subprocess.Popen([sys.executable, "-c", code, "--watch", path], stdout=subprocess.PIPE, text=True, env=environment)
+        process = subprocess.Popen([sys.executable, "-c", code, "--watch", *arguments, path], stdout=subprocess.PIPE, text=True, env=environment)
         self.addCleanup(process.stdout.close)
         self.addCleanup(process.wait)
         self.addCleanup(process.terminate)
@@ -148,7 +148,7 @@ class Browser(Folder):
     def item(self, name, text=""):
         """The first element of the page's tree with this name and text."""
         for row in self.driver.find_elements(By.CSS_SELECTOR, "#tree .row"):
-            if row.text.replace("\n", " ").lstrip("0123456789▾▸ ").startswith(name) and text in row.text:
+            if row.text.replace("\n", " ").lstrip("0123456789–▾▸ ").startswith(name) and text in row.text:
                 return row
         return self.fail(f"there is no {name} {text}")
 

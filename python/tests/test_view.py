@@ -3,6 +3,8 @@
 import base64
 import hashlib
 import http.client
+import io
+import json
 import os
 import re
 import subprocess
@@ -10,9 +12,10 @@ import sys
 import unittest
 import urllib.parse
 from pathlib import Path
+from unittest import mock
 
 from browser import SAMPLE, TOO_DEEP, Folder, run
-from rst2pseudoxml import view
+from rst2pseudoxml import check, view
 
 
 class Command(Folder):
@@ -49,7 +52,8 @@ class Command(Folder):
         self.assertEqual(run(self.write(SAMPLE), "-o", out), (1, "", f"rst-view: cannot write {out}: No such file or directory\n"))
 
     def test_bad_arguments_are_one_line(self):
-        for bad in "", "a b", "--nope a", "-r loud a", "--tab-width=0 a", "--tab-width=x a", "--watch -", "--watch a -o b", "--wat a":
+        more = "--known=@none a", "--known=a,@none a", "a --known"
+        for bad in *more, "", "a b", "--nope a", "-r loud a", "--tab-width=0 a", "--tab-width=x a", "--watch -", "--watch a -o b", "--wat a":
             status, out, err = run(*bad.split())
             self.assertEqual((status, out, err[:10], err.count("\n")), (2, "", "rst-view: ", 1), bad)
 
@@ -65,6 +69,82 @@ class Command(Folder):
             self.assertIn(f"{tag}-src &#x27;sha256-{digest}&#x27;;", policy)
         self.assertIn("default-src &#x27;none&#x27;;", policy)
         self.assertNotIn("connect-src", policy)
+
+
+class Known(Folder):
+    """With known names the messages are those that rst-check prints."""
+
+    PAGE = """\
+.. ours:: An *error
+
+.. seealso::
+
+   Another *one.
+   More
+\twords.
+
+.. other::
+
+A :doc:`page`, a :term:`word`, a :their:`role`.
+
+- .. |x| ours:: a
+
+  |x| and |y|
+"""
+
+    def setUp(self):
+        super().setUp()
+        self.addCleanup(os.chdir, os.getcwd())
+        os.chdir(self.folder)
+        self.write(self.PAGE)
+
+    def shown(self, *arguments):
+        """What the page holds."""
+        status, out, err = run("page.rst", "-o", "-", *arguments)
+        self.assertEqual((status, err), (0, ""))
+        return json.loads(re.findall('id="data">(.*?)</script>', out, re.DOTALL)[0])
+
+    def messages(self, *arguments):
+        return [(message["line"], message["level"], message["type"], message["text"]) for message in self.shown(*arguments)["messages"]]
+
+    def checked(self, *arguments):
+        """The messages that rst-check prints."""
+        out = io.TextIOWrapper(io.BytesIO(), "utf-8")
+        with mock.patch.multiple(sys, argv=["rst-check", "--format=json", *arguments, "page.rst"], stdout=out, stderr=io.StringIO()):
+            check.main()
+        out.flush()
+        found = map(json.loads, out.buffer.getvalue().decode().splitlines())
+        return [(message["line"], message["level"], message["type"], message["text"]) for message in found]
+
+    def test_as_rst_check(self):
+        counts = set()
+        for names in (), ("--known=ours",), ("--known", "@sphinx-names.txt"), ("--known=ours,role:their", "--known=@sphinx-names.txt"):
+            for level in "info", "warning", "error", "none":
+                wanted = self.checked(f"--level={level}", *names)
+                self.assertEqual(self.messages(f"--report={level}", *names), wanted, (names, level))
+                counts.add(len(wanted))
+        self.assertGreater(len(counts), 5)
+
+    def test_the_file_in_the_current_folder(self):
+        before = self.messages()
+        self.write("directive:ours text\nrole:their\n@sphinx-names.txt\n", ".rst-known")
+        self.assertEqual(self.messages("--known=other"), self.checked("--known=other"))
+        wanted = [(1, 2, "WARNING"), (5, 2, "WARNING"), (7, 3, "ERROR"), (15, 3, "ERROR")]
+        self.assertEqual([message[:3] for message in self.messages("--known=other")], wanted)
+        self.assertNotEqual(before, self.messages())
+        self.write("directive:ours nonsense\n", ".rst-known")
+        self.assertEqual(run("page.rst", "-o", "-"), (2, "", "rst-view: no such mark of a name: nonsense\n"))
+
+    def test_the_tree_stays(self):
+        self.assertEqual(self.shown("--known=@sphinx-names.txt")["tree"], self.shown()["tree"])
+
+    def test_text_is_read_as_the_settings_say(self):
+        self.write("directive:ours text\n@sphinx-names.txt\n", ".rst-known")
+        errors = [(7, "ERROR", "Unexpected indentation.")]
+        for width, wanted in ("8", errors), ("3", []):
+            found = [(line, type, text) for line, _, type, text in self.messages(f"--tab-width={width}") if line == 7]
+            self.assertEqual(found, wanted)
+        self.assertEqual([text for *_, text in self.messages("--line-length-limit=20")], ["Line 11 exceeds the line-length-limit."])
 
 
 class Served(Folder):

@@ -41,13 +41,13 @@ class Pages(Browser):
     def test_lines_of_elements(self):
         self.open(SAMPLE)
         wanted = {  # by name and text: surely, perhaps, what is said
-            ("paragraph", ""): ([4], [5], "paragraph: from line 4; its end isn't known, at most line 5"),
+            ("paragraph", ""): ([4, 5], [], "paragraph: lines 4 to 5"),
             ("emphasis", ""): ([], [4, 5], "emphasis: somewhere in lines 4 to 5"),
             ("bullet_list", ""): ([7, 8, 9, 10], [], "bullet_list: lines 7 to 10"),
             ("list_item", ""): ([7], [], "list_item: line 7"),
             ("paragraph", "more"): ([10], [], "paragraph: line 10"),
             ("problematic", ""): ([15], [], "problematic: line 15"),
-            ("image", ""): ([17], [18], "image: from line 17; its end isn't known, at most line 18"),
+            ("image", ""): ([17, 18], [], "image: lines 17 to 18"),
             ("document", ""): ([], [], "document: lines 1 to 20"),
         }
         for (name, text), (sure, maybe, said) in wanted.items():
@@ -56,10 +56,14 @@ class Pages(Browser):
             self.item(name, text).click()
             self.assertEqual((self.marked("sure"), self.marked("maybe")), (sure, maybe), name)
             self.assertEqual(self.js("return document.getElementById('where').textContent"), said)
-        self.open("a\nb\n\n.. role:: x\n\n::\n\n  c\n\n  d\n\n.. role:: y\n")
-        for name, sure, maybe in ("paragraph", [1], [2]), ("literal_block", [8], [9, 10, 11, 12]):
+        self.open("a\\\nb\n\n.. role:: x\n\n::\n\n  c\n\n  d\n\n.. role:: y\n")
+        for name, sure, maybe, said in [
+            ("paragraph", [1], [2], "paragraph: from line 1; its end isn't known, at most line 2"),
+            ("literal_block", [8, 9, 10], [11, 12], "literal_block: from line 8; its end isn't known, at most line 12"),
+        ]:
             self.item(name).click()
             self.assertEqual((self.marked("sure"), self.marked("maybe")), (sure, maybe), name)
+            self.assertEqual(self.js("return document.getElementById('where').textContent"), said)
 
     def test_lines_to_elements_and_back(self):
         self.open(SAMPLE)
@@ -67,7 +71,7 @@ class Pages(Browser):
             self.line(line).click()
             self.assertEqual((self.selected(), self.focused()[0]), (name, "source"), line)
         self.press(Keys.ENTER)
-        self.assertEqual(self.focused(), ["tree", 'image, alt="pict" uri="a.png", line 17'])
+        self.assertEqual(self.focused(), ["tree", 'image, alt="pict" uri="a.png", lines 17 to 18'])
         self.press(Keys.ARROW_UP, Keys.ENTER)
         self.assertEqual(self.focused()[0], "source")
         ActionChains(self.driver).move_to_element(self.line(18)).perform()
@@ -114,28 +118,6 @@ class Pages(Browser):
         self.assertEqual(self.pseudoxml()[:2], ["<document>", '    <section ids="one" names="one">'])
         self.assertEqual(self.js("return [...document.querySelectorAll('#tree .row')].filter(r => r.ariaLevel == 5).length"), 2)
 
-    def test_search(self):
-        self.open(SAMPLE)
-        self.item("document").click()
-        self.press("/")
-        self.search("paragraph", Keys.ENTER)
-        self.assertEqual((self.selected(), self.marked("sure"), self.focused()[0]), ("paragraph", [4], "wanted"))
-        self.press(Keys.ENTER, Keys.ENTER)
-        self.assertEqual(self.marked("sure"), [8])
-        ActionChains(self.driver).key_down(Keys.SHIFT).send_keys(Keys.ENTER).key_up(Keys.SHIFT).perform()
-        self.assertEqual(self.marked("sure"), [7])
-        self.search("mphas", Keys.ENTER, Keys.ESCAPE)
-        self.assertEqual((self.selected(), self.focused()[0]), ("emphasis", "tree"))
-        self.press("/")
-        self.search("nothing", Keys.ENTER)
-        self.assertEqual(self.js("return document.getElementById('said').textContent"), "There is no element nothing.")
-
-    def search(self, name, *keys):
-        """Presses keys in the field for names. The name isn't typed: runs have hung while the list of names was open."""
-        self.assertEqual(self.focused()[0], "wanted")
-        self.js("document.activeElement.value = arguments[0]", name)
-        self.press(*keys)
-
     def test_long_texts(self):
         self.open("word " * 300 + "end\n\n- a\n\n" + "x" * 5000 + "\n")
         self.item("paragraph", "word").click()
@@ -178,7 +160,8 @@ class Reading(Browser):
                 found.setdefault(node["role"]["value"], []).append((node.get("name", {}).get("value"), properties))
         self.assertEqual([name for name, _ in found["tree"] + found["listbox"]], ["Document tree", "Source"])
         items = dict(found["treeitem"])
-        self.assertEqual((items["bullet_list, bullet=\"-\", line 7"]["expanded"], items["bullet_list, bullet=\"-\", line 7"]["level"]), (True, 2))
+        bullets = items['bullet_list, bullet="-", lines 7 to 10']
+        self.assertEqual((bullets["expanded"], bullets["level"]), (True, 2))
         self.assertNotIn("expanded", items["paragraph, one, line 7"])
         self.assertEqual(items["paragraph, one, line 7"]["level"], 4)
         self.assertIn("line 15: An *error. WARNING: Inline emphasis start-string without end-string.", dict(found["option"]))
@@ -194,10 +177,10 @@ class Reading(Browser):
             self.assertEqual(len(self.driver.find_elements(By.CSS_SELECTOR, f"#{pane}[tabindex='0'], #{pane} [tabindex='0']")), 1)
         stops = []
         self.js("document.activeElement.blur()")
-        for _ in range(8):
+        for _ in range(10):
             self.press(Keys.TAB)
             stops.append(self.focused()[0])
-        self.assertEqual(stops[:7], ["previous", "following", "wanted", "shut", "open", "source", "tree"])
+        self.assertEqual(stops, ["ERROR", "WARNING", "previous", "following", "wanted", "shut", "open", "copy", "source", "tree"])
 
     def test_the_focus_stays_where_rows_are_made_anew(self):
         self.open("\n\n".join(f"paragraph {n}" for n in range(2000)))

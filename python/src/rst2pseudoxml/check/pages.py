@@ -5,11 +5,11 @@ from __future__ import annotations
 import re
 from ctypes import create_string_buffer, string_at
 from json import loads
-from typing import Iterable
+from typing import Any, Iterable, Iterator
 
 from .. import LIBRARY, Message, _options, _Result, messages
 from .contents import DIRECTIVE, Directive, end_of, indentation, without_option
-from .names import Known, fold
+from .names import Known, Names, fold
 
 ROLE = re.compile(r":(?<![^\s\-/'\"<(\[{:]:)([A-Za-z][A-Za-z0-9_.+:-]*):`(?![`\s])")
 UNKNOWN = 'Unknown directive type "'
@@ -24,9 +24,9 @@ ERROR = 3
 class Reader:
     """The library's call for messages, with a room that is kept from text to text."""
 
-    def __init__(self, level: int) -> None:
-        self.level = level
-        self.options = _options(report=level, halt="none")
+    def __init__(self, level: int, settings: dict[str, Any]) -> None:
+        self.settings: dict[str, Any] = {**settings, "report": level, "halt": "none"}
+        self.options = _options(**self.settings)
         self.room = create_string_buffer(1 << 20)
         self.result = _Result()
 
@@ -35,7 +35,7 @@ class Reader:
         result, size = self.result, len(self.room)
         LIBRARY.rst_messages(data, len(data), self.options, self.room, size, result)
         if result.end or result.length > size:
-            return messages(data, source=page, report=self.level, halt="none")
+            return messages(data, source=page, **self.settings)
         return [] if result.length == 2 else [Message(page, **found) for found in loads(string_at(self.room, result.length))]
 
 
@@ -46,10 +46,10 @@ class Text:
     what comes later in the line is no field marker then.
     """
 
-    def __init__(self, text: str, known: Known, code: bool = False) -> None:
+    def __init__(self, text: str, known: Known, code: bool = False, tab_width: int = 8) -> None:
         self.known = known
         self.code = code
-        plain = "\n".join(text.replace("\v", " ").replace("\f", " ").splitlines()).expandtabs(8)
+        plain = "\n".join(text.replace("\v", " ").replace("\f", " ").splitlines()).expandtabs(tab_width)
         self.source = plain.split("\n")
         plain = ROLE.sub(self._swapped, plain)
         self.lines = plain.split("\n")
@@ -197,26 +197,48 @@ class Text:
 
 
 class Pages:
-    """Reads pages at a level, with names that other tools read."""
+    """Reads pages at a level, with names that other tools read. The settings are those of a call that say how a text is read."""
 
-    def __init__(self, level: int, known: Known, code: bool = False) -> None:
+    def __init__(self, level: int, known: Known, code: bool = False, **settings: Any) -> None:
         self.level = level
         self.known = known
         self.code = code
-        self.reader = Reader(min(level, ERROR) if known.marks and level <= 4 else level)
+        self.tab_width: int = settings.get("tab_width", 8)
+        self.reader = Reader(min(level, ERROR) if known.marks and level <= 4 else level, settings)
 
-    def text(self, data: bytes) -> Text | None:
+    def wanted(self, page: str, data: bytes) -> list[tuple[Message, str]]:
+        """The messages of a page that aren't on known names, each with the name that would take it away."""
+        text = self._text(data)
+        found = self._messages(page, data, text)
+        if not found and not self.code:
+            return []
+        names = Names(self.known)
+        for title, directive in (text.titles if text else {}).items():
+            names.define(f"target:{title}", f"directive:{directive}")
+        wanted = [(message, name) for message in found if (name := names.name_of(message)) not in self.known]
+        if text:
+            wanted = [(text.shown(message), name) for message, name in wanted if not text.is_own(message)]
+            wanted += [(message, "") for message in self._faults(page, text)] if self.code else []
+        return [(message, name) for message, name in wanted if message.level >= self.level]
+
+    def _text(self, data: bytes) -> Text | None:
         """The text of a page, if something in it may be known by name, or is code."""
         if not (self.known.names or self.code) or (b"::" not in data and b":`" not in data):
             return None
         try:
-            return Text(data.decode(), self.known, self.code)
+            return Text(data.decode(), self.known, self.code, self.tab_width)
         except UnicodeDecodeError:
             return None
 
-    def messages(self, page: str, data: bytes, text: Text | None) -> list[Message]:
+    def _messages(self, page: str, data: bytes, text: Text | None) -> list[Message]:
         """The messages of a page at or above any level that is asked for, and others."""
         found = self.reader.read(page, text.data() if text else data)
         while text and text.open_more(found):
             found = self.reader.read(page, text.data())
         return found + text.kept if text else found
+
+    def _faults(self, page: str, text: Text) -> Iterator[Message]:
+        from .code import faults  # its parsers take time to load
+
+        for fault in faults(text):
+            yield Message(page, fault.line, ERROR, "ERROR", fault.text)

@@ -28,6 +28,10 @@ from typing import Any, NoReturn
 
 import rst2pseudoxml
 
+from ..check import known_names
+from ..check.names import Known
+from ..check.pages import Pages
+
 FileSystemEventHandler: Any = None
 Observer: Any = None
 with contextlib.suppress(ImportError):  # by names, since a type checker may not find them either
@@ -40,7 +44,8 @@ def part(*names: str) -> str:
     return "".join(Path(__file__).with_name(name).read_text("utf-8") for name in names)
 
 
-TEMPLATE = part("page.html").replace("%STYLE%", part("page.css")).replace("%SCRIPT%", part("document.js", "list.js", "page.js"))
+SCRIPTS = ("document.js", "lines.js", "search.js", "list.js", "page.js")
+TEMPLATE = part("page.html").replace("%STYLE%", part("page.css")).replace("%SCRIPT%", part(*SCRIPTS))
 LINE_END = re.compile("\r\n|[\n\r\x1c-\x1e\x85\u2028\u2029]")
 LOOKED_AT = 0.5  # seconds from one look at the file's time to the next
 ANSWERED = 20  # seconds after which the page is told that nothing has changed
@@ -64,10 +69,11 @@ def printable(name: str) -> str:
     return "".join(c if c.isprintable() else "\ufffd" for c in name)
 
 
-def state(name: str, data: bytes, settings: dict[str, Any], version: int = 0) -> str:
-    """What a page shows, as JSON. It raises `rst2pseudoxml.Refused`."""
+def state(name: str, data: bytes, settings: dict[str, Any], known: Known, version: int = 0) -> str:
+    """What a page shows, as JSON: the whole tree, and the messages that aren't on known names. It raises `rst2pseudoxml.Refused`."""
     tree = rst2pseudoxml.json(data, halt="none", **settings)
-    messages = [message._asdict() for message in rst2pseudoxml.messages(data, halt="none", **settings)]
+    pages = Pages(rst2pseudoxml.LEVELS[settings.get("report", "warning")], known, **settings)
+    messages = [message._asdict() for message, _ in pages.wanted("", data)]
     return shown(name, data, settings, version, messages=messages)[:-1] + f', "tree": {tree}}}'
 
 
@@ -83,8 +89,8 @@ def refused(name: str, data: bytes, settings: dict[str, Any], version: int, erro
 
 def shown(name: str, data: bytes, settings: dict[str, Any], version: int, **more: Any) -> str:
     """The part that both have."""
-    known = {"name": printable(name), "version": version, "tab_width": settings.get("tab_width", 8), "messages": []}
-    return json.dumps({**known, "source": data.decode("utf-8-sig", "replace"), **more}, ensure_ascii=False)
+    always = {"name": printable(name), "version": version, "tab_width": settings.get("tab_width", 8), "messages": []}
+    return json.dumps({**always, "source": data.decode("utf-8-sig", "replace"), **more}, ensure_ascii=False)
 
 
 def policy(*further: str) -> str:
@@ -107,8 +113,8 @@ def page(name: str, data: str, *further: str) -> str:
 class Watched:
     """A file, and the state that a page shows of it. Each state has a version, from 1."""
 
-    def __init__(self, name: str, settings: dict[str, Any]) -> None:
-        self.name, self.settings = name, settings
+    def __init__(self, name: str, settings: dict[str, Any], known: Known) -> None:
+        self.name, self.settings, self.known = name, settings, known
         self.version, self.state = 0, ""
         self.time: tuple[int, int, int] | None = None
         self.changed = threading.Condition()
@@ -126,7 +132,7 @@ class Watched:
         data, version = b"", self.version + 1
         try:
             data = read(self.name)
-            made = state(self.name, data, self.settings, version)
+            made = state(self.name, data, self.settings, self.known, version)
         except (CannotRead, rst2pseudoxml.Refused) as error:
             made = refused(self.name, data, self.settings, version, error)
         with self.changed:
@@ -218,12 +224,14 @@ class Parser(argparse.ArgumentParser):
         self.exit(2, f"rst-view: {message}\n")
 
 
-def arguments(given: list[str] | None) -> tuple[argparse.Namespace, dict[str, Any]]:
-    """The arguments, and those of them that are settings of a call."""
+def arguments(given: list[str] | None) -> tuple[argparse.Namespace, dict[str, Any], Known]:
+    """The arguments, those of them that are settings of a call, and the known names."""
     parser = Parser(prog="rst-view", description="Shows reStructuredText beside its document tree, in a browser.", allow_abbrev=False)
     parser.add_argument("file", metavar="FILE", help="the text; - is standard input, whose page goes to standard output")
     parser.add_argument("-o", "--output", metavar="FILE", help="write the page to this file, and don't open it; - is standard output")
     parser.add_argument("-w", "--watch", action="store_true", help="serve the page on this machine alone, and show the file whenever it is saved")
+    names = "leave out messages on these names, as rst-check does (rst-check --help); .rst-known in the current folder is read too"
+    parser.add_argument("--known", metavar="NAMES|@FILE", action="append", default=[], help=names)
     reading = parser.add_argument_group("as for rst2pseudoxml", argument_default=argparse.SUPPRESS)
     reading.add_argument("-r", "--report", metavar="LEVEL", help="the lowest level of the messages that are shown")
     reading.add_argument("--tab-width", metavar="N", type=int, help="columns from one tab stop to the next")
@@ -238,15 +246,15 @@ def arguments(given: list[str] | None) -> tuple[argparse.Namespace, dict[str, An
         parser.error("--watch needs a file")
     try:
         rst2pseudoxml.json("", **settings)
-    except ValueError as error:
+        return found, settings, known_names(found.known)
+    except (OSError, ValueError) as error:
         parser.error(str(error).removeprefix("rst2pseudoxml: "))
-    return found, settings
 
 
-def serve(name: str, settings: dict[str, Any]) -> int:
+def serve(name: str, settings: dict[str, Any], known: Known) -> int:
     """Serves the page of a file until the run is interrupted."""
     read(name)  # a file that isn't there is a fault, unless it goes later
-    watched = Watched(name, settings)
+    watched = Watched(name, settings, known)
     server = Server(watched)
     threading.Thread(target=server.serve_forever, daemon=True).start()
     print(server.url, flush=True)
@@ -275,13 +283,13 @@ def write(text: str, output: str | None, name: str) -> None:
 
 def main(given: list[str] | None = None) -> int:
     """The command. The status is 0, 1 if the text can't be shown, or 2 if the arguments are wrong."""
-    found, settings = arguments(given)
+    found, settings, known = arguments(given)
     try:
         if found.watch:
-            return serve(found.file, settings)
+            return serve(found.file, settings, known)
         data = read(found.file)
         output = found.output or ("-" if found.file == "-" else None)
-        write(page(found.file, state(found.file, data, settings)), output, found.file)
+        write(page(found.file, state(found.file, data, settings, known)), output, found.file)
     except (CannotRead, rst2pseudoxml.Refused) as error:
         print(error, file=sys.stderr)
         return 1

@@ -4,18 +4,14 @@ const LINE_END = /\r\n|[\n\r\x1c-\x1e\x85\u2028\u2029]/; // as the program reads
 const MOST_PIXELS = 1e7; // browsers don't make an element much taller
 const MOST_PRINTED = 20000; // rows
 const SHORT = 300, SHORT_LINE = 2000; // characters of a text, and of a line, that isn't shown whole
+const LEVELS = ["INFO", "WARNING", "ERROR", "SEVERE"];
 const LOST = "rst-view doesn't answer; this page shows what it last read.";
-// The elements that hold text: what is inside them has no line of its own.
-const TEXTUAL = new Set(("address attribution author caption classifier comment contact copyright date doctest_block field_name label line " +
-  "literal_block option_argument option_string organization paragraph revision rubric status subtitle substitution_definition term title " +
-  "version").split(" "));
-const BROKEN = new Set(["comment", "literal_block", "substitution_definition"]); // those of them that may hold blank lines
-const [BLOCK, INLINE, MESSAGE] = [0, 1, 2];
 let doc; // what is shown
 let last; // the tree that was shown last, and where the reader was in it
 let marked = null; // the lines that are marked
 let near = -1; // the element of the line that is pointed at
-let current = -1; // the message that was gone to
+let current = null; // the message that was gone to
+const hidden = new Set(); // the levels whose messages aren't shown
 let printing = false, lost = false;
 
 /** A text in which control characters, and those that turn the direction of writing, can be seen. */
@@ -35,26 +31,28 @@ function make(tag, className, text = "", attributes = {}) {
 const more = text => make("button", "more", text, {tabindex: -1});
 
 /** The document tree as lists over its nodes in the order of the text. A text alone in its element has no node of its own. */
-function flatten(root) {
-  const t = {raw: [], kind: [], depth: [], parent: [], place: [], next: [], line: [], first: [], last: []};
-  const visit = (node, parent, depth, place, kind) => {
+function flatten(root, source) {
+  const t = {raw: [], kind: [], depth: [], parent: [], place: [], next: [], cell: [], line: [], first: [], last: [], end: []};
+  const visit = (node, parent, depth, place, kind, cell) => {
     const i = t.raw.push(node) - 1, isText = typeof node === "string";
     if (isText && kind === BLOCK) kind = INLINE;
     if (node[0] === "system_message" && !isText) kind = MESSAGE;
     const line = isText || kind === INLINE ? 0 : node[1], own = kind === BLOCK ? line : 0;
-    t.kind.push(kind); t.depth.push(depth); t.parent.push(parent); t.place.push(place); t.next.push(i + 1);
-    t.line.push(line); t.first.push(own || Infinity); t.last.push(own);
+    t.kind.push(kind); t.depth.push(depth); t.parent.push(parent); t.place.push(place); t.next.push(i + 1); t.cell.push(cell);
+    t.line.push(line); t.first.push(own || Infinity); t.end.push(own && ownEnd(t, i, source));
+    t.last.push(own && Math.max(t.end[i], reached(t, i, source)));
     if (isText || alone(node) !== null) return i;
     const inside = kind === BLOCK && TEXTUAL.has(node[0]) ? INLINE : kind;
     for (let k = 3; k < node.length; k++) {
-      const child = visit(node[k], i, depth + 1, k - 2, inside);
+      const child = visit(node[k], i, depth + 1, k - 2, inside, node[0] === "entry" ? i : cell);
       t.first[i] = Math.min(t.first[i], t.first[child]);
       t.last[i] = Math.max(t.last[i], t.last[child]);
     }
     t.next[i] = t.raw.length;
     return i;
   };
-  if (root) visit(root, -1, 0, 1, BLOCK);
+  t.isSubstituted = Boolean(root) && bringsLineEnds(root);
+  if (root) visit(root, -1, 0, 1, BLOCK, -1);
   return t;
 }
 /** The text of an element that holds nothing else; null where there is none. */
@@ -75,9 +73,8 @@ function attributesOf(node) {
 
 /** What is shown: the lines of the source, the tree, the messages and where they are. */
 function read(data) {
-  const lines = data.source.split(LINE_END);
-  if (lines.length > 1 && lines.at(-1) === "") lines.pop();
-  const t = flatten(data.tree), count = t.raw.length, nodes = new Map(), names = new Set();
+  const source = new Source(data.source, data.tab_width), {lines} = source, t = flatten(data.tree, source), count = t.raw.length;
+  const nodes = new Map(), names = new Set();
   const owner = new Int32Array(lines.length + 1).fill(-1), starts = []; // the innermost element that begins last, of each line
   const shut = new Uint8Array(count), keyOf = (line, level, text) => `${line} ${level} ${text}`;
   t.raw.forEach((node, i) => {
@@ -102,24 +99,22 @@ function read(data) {
     notes.set(message.at, [...notes.get(message.at) ?? [], message]);
   }
   messages.sort((a, b) => a.at - b.at);
-  return {...t, data, lines, names, owner, starts, messages, notes, shut, whole: new Uint8Array(count), wholeLines: new Set()};
+  const messageAt = new Map(messages.map(message => [message.node, message]));
+  return {...t, data, source, lines, names, owner, starts, messages, messageAt, notes, shut, whole: new Uint8Array(count), wholeLines: new Set()};
 }
-const messageOf = node => doc.messages.findIndex(m => m.node === node);
+const messageOf = node => doc.messageAt.get(node) ?? null;
+const isShown = message => message !== null && !hidden.has(message.type);
+/** The path of a node, as in XPath: each step has its number among those with its name. */
+function pathOf(id) {
+  const name = i => typeof doc.raw[i] === "string" ? "text()" : doc.raw[i][0], steps = [];
+  for (let i = id; i > 0; i = doc.parent[i]) {
+    let number = 0;
+    for (let k = doc.parent[i] + 1; k <= i; k = doc.next[k]) number += name(k) === name(i);
+    steps.unshift(`${name(i)}[${number}]`);
+  }
+  return [name(0), ...steps].join("/");
+}
 
-/** The lines of a node: from `from` to `sure` they are surely its lines; up to `most` they may be. Null where nothing is known. */
-function linesOf(i) {
-  const within = doc.kind[i] === INLINE;
-  while (doc.kind[i] === INLINE) i = doc.parent[i];
-  if (i === 0) return {from: 1, sure: doc.lines.length, most: doc.lines.length};
-  const from = doc.kind[i] === MESSAGE ? doc.line[i] : doc.first[i];
-  if (!from || from > doc.lines.length) return null;
-  if (doc.kind[i] === MESSAGE) return {from, sure: from, most: from};
-  const sure = doc.last[i], after = doc.starts[firstOver(doc.starts, sure)] ?? doc.lines.length + 1;
-  const isBlank = line => !doc.lines[line - 1].trim(), isUnbroken = TEXTUAL.has(doc.raw[i][0]) && !BROKEN.has(doc.raw[i][0]);
-  let most = sure;
-  for (let line = sure + 1; line < after && !(isUnbroken && isBlank(line)); line++) if (!isBlank(line)) most = line;
-  return {from, sure: within && most > from ? from - 1 : sure, most};
-}
 /** Where the first number above `limit` is in a list that rises. */
 function firstOver(list, limit, high = list.length) {
   let low = 0;
@@ -129,14 +124,3 @@ function firstOver(list, limit, high = list.length) {
   }
   return low;
 }
-/** What the page says of a node's lines. */
-function told(i) {
-  const name = typeof doc.raw[i] === "string" ? "text" : doc.raw[i][0], at = linesOf(i);
-  const upTo = (a, b) => a === b ? `line ${a}` : `lines ${a} to ${b}`;
-  if (!at) return `${name}: its line isn't known`;
-  if (i && !doc.line[i] && doc.kind[i] === BLOCK) return `${name}: its line isn't known; it holds ${upTo(at.from, at.sure)}`;
-  if (at.sure < at.from) return `${name}: somewhere in ${upTo(at.from, at.most)}`;
-  if (at.sure === at.most) return `${name}: ${upTo(at.from, at.most)}`;
-  return `${name}: from line ${at.from}; its end isn't known, at most line ${at.most}`;
-}
-

@@ -25,7 +25,10 @@ class List {
     this.width = this.pane.clientWidth;
   }
   resized() {
-    if (this.pane.clientWidth === this.width) return this.draw();
+    if (this.pane.clientWidth === this.width) this.draw(); else this.renew();
+  }
+  /** Makes all rows anew, whatever their heights were. */
+  renew() {
     const spot = this.spot();
     this.forget(this.high.length);
     this.fill(this.ids, spot);
@@ -144,7 +147,7 @@ class List {
   listen(own, go) {
     this.pane.addEventListener("keydown", event => {
       if (event.ctrlKey || event.altKey || event.metaKey || !this.ids.length) return;
-      const to = this.moved(event.key), act = own[event.key] ?? keys[event.key];
+      const to = this.moved(event.key), act = own[event.key];
       if (to !== undefined) go(to, false); else if (act) act(this.active); else return;
       event.preventDefault();
     });

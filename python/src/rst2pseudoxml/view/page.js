@@ -1,7 +1,8 @@
 const source = new List($("source"), {
   level: () => 0,
   make(id) {
-    const line = id + 1, text = doc.lines[id], short = doc.wholeLines.has(id) ? text : text.slice(0, SHORT_LINE), notes = doc.notes.get(line) ?? [];
+    const line = id + 1, text = doc.lines[id], short = doc.wholeLines.has(id) ? text : text.slice(0, SHORT_LINE);
+    const notes = (doc.notes.get(line) ?? []).filter(isShown);
     const said = [`line ${line}: ${short || "empty"}`, ...notes.map(note => `${note.type}: ${note.text}`)].join(". ");
     const row = make("div", "row", "", {role: "option", "aria-posinset": line, "aria-setsize": doc.lines.length, "aria-label": visible(said)});
     row.append(make("span", "number", line), make("span", "code", short));
@@ -19,7 +20,7 @@ const source = new List($("source"), {
     element.classList.toggle("sure", sure);
     element.classList.toggle("maybe", !sure && isIn(marked?.from, marked?.most));
     element.setAttribute("aria-selected", sure);
-    for (const note of element.querySelectorAll(".note")) note.classList.toggle("current", doc.messages[current] === note.note);
+    for (const note of element.querySelectorAll(".note")) note.classList.toggle("current", current === note.note);
   },
 });
 
@@ -27,7 +28,7 @@ const tree = new List($("tree"), {
   level: id => doc.depth[id],
   make(id) {
     const node = doc.raw[id], tag = typeof node === "string" ? null : node[0], isNote = tag === "system_message";
-    const whole = doc.whole[id], line = doc.line[id] || "", said = [], parts = [];
+    const whole = doc.whole[id], [numbers, place] = numbersOf(id), said = [], parts = [], isQuiet = isNote && !isShown(messageOf(id));
     const add = (className, text) => {
       if (!text) return;
       const short = whole || text.length <= SHORT ? text : `${text.slice(0, SHORT)}…`;
@@ -40,12 +41,12 @@ const tree = new List($("tree"), {
     if (text !== null) add(`text${tag === "problematic" ? " problem" : ""}`, text);
     else if (doc.shut[id]) add("preview", textIn(isNote ? node[3] ?? "" : node, 2 * SHORT));
     if (isNote) add("attributes", attributes);
-    const row = make("div", `row${whole ? " whole" : ""}${isNote ? ` said ${node[2].type}` : ""}`, "", {
+    const row = make("div", `row${whole ? " whole" : ""}${isNote ? ` said ${node[2].type}` : ""}${isQuiet ? " quiet" : ""}`, "", {
       role: "treeitem", "aria-level": doc.depth[id] + 1, "aria-posinset": doc.place[id],
-      "aria-setsize": id ? doc.raw[doc.parent[id]].length - 3 : 1, "aria-label": visible(said.join(", ") + (line && `, line ${line}`)),
+      "aria-setsize": id ? doc.raw[doc.parent[id]].length - 3 : 1, "aria-label": visible([...said, place].filter(Boolean).join(", ")),
     });
     if (isParent(id)) row.setAttribute("aria-expanded", !doc.shut[id]);
-    row.append(make("span", "number", line), make("span", "twist", !isParent(id) ? "" : doc.shut[id] ? "▸" : "▾"));
+    row.append(make("span", "number", numbers), make("span", "twist", !isParent(id) ? "" : doc.shut[id] ? "▸" : "▾"));
     row.append(...parts.flatMap(part => [" ", part])); // rows of more than one line break there
     if (whole) row.append(" ", more("less"));
     return row;
@@ -100,33 +101,54 @@ function goToNode(id, withFocus) {
   $("where").textContent = told(id);
 }
 /** A line becomes the active one, and its element too. */
-function goToLine(line, unfolds) {
+function goToLine(line, unfolds, withFocus = true) {
   if (tree.ids.length) goToNode(unfolds ? doc.owner[line] : seen(doc.owner[line]));
-  source.choose(line - 1, true);
+  source.choose(line - 1, withFocus);
 }
 function goToMessage(step) {
-  const list = doc.messages, line = source.active + 1, inSource = $("source").contains(document.activeElement);
+  const list = doc.messages.filter(isShown), line = source.active + 1, focused = document.activeElement;
   if (!list.length) return;
-  let at = current + step;
-  if (current < 0) at = step > 0 ? list.findIndex(m => m.at >= line) : list.findLastIndex(m => m.at <= line);
-  if (current < 0 && at < 0 && step > 0) at = 0;
+  let at = list.indexOf(current);
+  if (at >= 0) at += step;
+  else at = step > 0 ? Math.max(0, list.findIndex(m => m.at >= line)) : list.findLastIndex(m => m.at <= line);
   at = (at + list.length) % list.length;
   const message = list[at];
-  if (message.node >= 0) goToNode(message.node, $("tree").contains(document.activeElement));
-  current = at;
-  source.choose(message.at - 1, inSource);
+  if (message.node >= 0) goToNode(message.node, $("tree").contains(focused));
+  current = message;
+  source.choose(message.at - 1, focused === document.body || $("source").contains(focused));
   say(`${message.type}, line ${message.line}: ${message.text} (${at + 1} of ${list.length})`);
 }
-/** Goes to the next element, or the one before, whose name is the wanted one, or holds it if there is none of this name. */
-function find(step) {
-  const wanted = $("wanted").value.trim().toLowerCase(), exact = doc.names.has(wanted), all = [];
-  doc.raw.forEach((node, i) => { if (typeof node !== "string" && (exact ? node[0] === wanted : node[0].includes(wanted))) all.push(i); });
-  if (!wanted || !all.length) return say(wanted && `There is no element ${wanted}.`);
-  const over = firstOver(all, tree.active), at = step > 0 ? over : over - 1 - (all[over - 1] === tree.active), k = (at + all.length) % all.length;
-  goToNode(all[k]);
-  say(`${told(all[k])} (${k + 1} of ${all.length})`);
-}
 function say(text) { $("said").textContent = $("where").textContent = visible(text); }
+/** Writes how many messages of each level there are on its button, which is pressed while they are shown. */
+function tally() {
+  for (const type of LEVELS) {
+    const count = doc.messages.filter(m => m.type === type).length;
+    $(type).textContent = `${count} ${type}`;
+    $(type).hidden = !count;
+    $(type).setAttribute("aria-pressed", !hidden.has(type));
+  }
+  $("none").hidden = doc.messages.length;
+  $("previous").disabled = $("following").disabled = !doc.messages.some(isShown);
+}
+/** Hides the messages of a level, or shows them again. */
+function toggle(type) {
+  if ($(type).hidden) return;
+  hidden.delete(type) || hidden.add(type);
+  tally();
+  for (const list of [source, tree]) list.renew();
+  say(`${$(type).textContent}: ${hidden.has(type) ? "hidden" : "shown"}`);
+}
+/** Copies the path of the active node. */
+async function copyPath() {
+  if (!doc.raw.length) return;
+  const path = pathOf(tree.active);
+  try {
+    await navigator.clipboard.writeText(path);
+    say(`copied: ${path}`);
+  } catch {
+    say(`not copied, since the browser refused it: ${path}`);
+  }
+}
 
 /** Shows a text that was read, at first or anew: then the reader stays where he was, and what was collapsed stays so. */
 function show(data) {
@@ -136,12 +158,9 @@ function show(data) {
   document.title = `${visible(data.name)} · rst-view`;
   $("name").textContent = visible(data.name);
   $("source").style.tabSize = data.tab_width;
-  document.documentElement.style.setProperty("--digits", Math.max(3, String(doc.lines.length).length));
-  const counts = ["SEVERE", "ERROR", "WARNING", "INFO"].map(type => [type, doc.messages.filter(m => m.type === type).length]).filter(([, n]) => n);
-  $("counts").replaceChildren(...counts.flatMap(([type, n]) => [make("span", `level ${type}`, `${n} ${type}`), " "]));
-  if (!doc.messages.length) $("counts").textContent = "no messages";
-  $("previous").disabled = $("following").disabled = !doc.messages.length;
-  $("names").replaceChildren(...[...doc.names].sort().map(value => make("option", "", "", {value})));
+  document.documentElement.style.setProperty("--digits", Math.max(2, String(doc.lines.length).length));
+  tally();
+  $("names").replaceChildren(...[...doc.names].sort().map(value => make("option", "", "", {value: `<${value}>`})));
   tell();
   marked = null;
   source.forget(doc.lines.length);
@@ -212,7 +231,14 @@ async function watch(have) {
   }
 }
 
-const keys = {n: () => goToMessage(1), p: () => goToMessage(-1), "/": () => $("wanted").select()};
+const keys = {
+  n() { goToMessage(1); },
+  p() { goToMessage(-1); },
+  c: copyPath,
+  "/"() { $("wanted").focus(); $("wanted").select(); },
+  "?"() { $("help").open = !$("help").open; },
+};
+LEVELS.forEach((type, k) => { keys[k + 1] = () => toggle(type); });
 const ofTree = {
   ArrowRight(id) { if (doc.shut[id] && isParent(id)) setShut(id, 0); else if (isParent(id)) goToNode(id + 1, true); },
   ArrowLeft(id) { if (isParent(id) && !doc.shut[id]) setShut(id, 1); else if (id) goToNode(doc.parent[id], true); },
@@ -235,6 +261,14 @@ $("source").addEventListener("pointerover", event => comeNear(tree.ids.length ? 
 $("source").addEventListener("pointerleave", () => comeNear(-1));
 $("previous").addEventListener("click", () => goToMessage(-1));
 $("following").addEventListener("click", () => goToMessage(1));
+$("copy").addEventListener("click", copyPath);
+for (const type of LEVELS) $(type).addEventListener("click", () => toggle(type));
+addEventListener("keydown", event => {
+  const act = keys[event.key];
+  if (!act || event.ctrlKey || event.altKey || event.metaKey || event.target === $("wanted")) return;
+  event.preventDefault();
+  act();
+});
 $("search").addEventListener("submit", event => { event.preventDefault(); find(1); });
 $("wanted").addEventListener("keydown", event => {
   if (event.key === "Enter" && event.shiftKey) { event.preventDefault(); find(-1); }
