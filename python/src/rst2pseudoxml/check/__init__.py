@@ -50,12 +50,14 @@ import sys
 from io import TextIOWrapper
 from typing import Iterator, NoReturn
 
-from .. import LEVELS, Message, Refused
+from .. import LEVELS, Refused
 from .files import FILE, content, pages_in
 from .formats import FORMATS
 from .jobs import Outcome, Progress, Stopped, outcomes
-from .names import Known, Names
-from .pages import ERROR, Pages, Text
+from .names import Known
+from .pages import Page, Pages
+
+__all__ = ["Known", "Page", "Pages", "main"]
 
 USAGE = "rst-check [--level LEVEL] [--known NAMES|@FILE].. [--code] [--format FORMAT] [--jobs N] [--name FILE] [--] FILE|FOLDER|-.."
 
@@ -64,49 +66,24 @@ class Checker:
     """Checks pages, with what the options say."""
 
     def __init__(self, known: Known, options: dict[str, str]) -> None:
-        self.known = known
-        self.level = LEVELS[options["--level"]]
         self.show = FORMATS[options["--format"]]
         self.name = options["--name"]
-        self.code = bool(options["--code"])
-        self.pages = Pages(self.level, known, self.code)
+        self.pages = Pages(known, options["--level"], bool(options["--code"]))
 
     def check(self, page: str) -> Outcome:
         """What is to be printed for a page, whether it failed, and the names with which it would pass."""
         name = self.name if page == "-" else page
         try:
-            data = content(page)
-            text = self.pages.text(data)
-            found = self.pages.messages(name, data, text)
-            if not found and not self.code:
-                return "", False, ()
-            return self._outcome(self._wanted(name, found, text))
+            found = self.pages.read(content(page), name).found
         except Refused as refused:
             line = refused.place if refused.kind == "too deep" else None
             words = str(refused).removeprefix("rst2pseudoxml: ").removeprefix(f"line {line}: ")
             return self.show(name, line, None, "REFUSED", words) + "\n", True, ()
-
-    def _wanted(self, page: str, found: list[Message], text: Text | None) -> list[tuple[Message, str]]:
-        """The messages that aren't on known names, each with its name."""
-        names = Names(self.known)
-        for title, directive in (text.titles if text else {}).items():
-            names.define(f"target:{title}", f"directive:{directive}")
-        wanted = [(message, name) for message in found if (name := names.name_of(message)) not in self.known]
-        if text:
-            wanted = [(text.shown(message), name) for message, name in wanted if not text.is_own(message)]
-            wanted += [(message, "") for message in self._faults(page, text)] if self.code else []
-        return [(message, name) for message, name in wanted if message.level >= self.level]
-
-    def _faults(self, page: str, text: Text) -> Iterator[Message]:
-        from .code import faults  # its parsers take time to load
-
-        for fault in faults(text):
-            yield Message(page, fault.line, ERROR, "ERROR", fault.text)
-
-    def _outcome(self, wanted: list[tuple[Message, str]]) -> Outcome:
-        names = tuple(dict.fromkeys(name for _, name in wanted))
-        shown = "".join(self.show(*message) + "\n" for message, _ in wanted)
-        return shown, bool(wanted), () if "" in names else names
+        if not found:
+            return "", False, ()
+        names = tuple(dict.fromkeys(name for _, name in found))
+        shown = "".join(self.show(*message) + "\n" for message, _ in found)
+        return shown, True, () if "" in names else names
 
 
 def _refuse(line: str) -> NoReturn:
@@ -190,9 +167,8 @@ def main() -> int:
     options = _options(arguments)
     if not arguments:
         _refuse(f"no file was named (usage: {USAGE})")
-    known = Known()
     try:
-        known.add_all(options["--known"])
+        known = Known(options["--known"])
         pages = list(_pages(arguments, known))
     except (OSError, ValueError) as fault:
         _refuse(str(fault))

@@ -5,11 +5,12 @@ from __future__ import annotations
 import re
 from ctypes import create_string_buffer, string_at
 from json import loads
-from typing import Iterable
+from typing import Iterable, Iterator, NamedTuple
 
-from .. import LIBRARY, Message, _options, _Result, messages
+from .. import LEVELS, LIBRARY, Level, Message, _bytes, _options, _Result, messages
+from .. import Text as AnyText
 from .contents import DIRECTIVE, Directive, end_of, indentation, without_option
-from .names import Known, fold
+from .names import Known, Names, fold
 
 ROLE = re.compile(r":(?<![^\s\-/'\"<(\[{:]:)([A-Za-z][A-Za-z0-9_.+:-]*):`(?![`\s])")
 UNKNOWN = 'Unknown directive type "'
@@ -57,8 +58,8 @@ class Text:
         """The names of the directives that are open, by the places of their lines."""
         self.joined: set[int] = set()
         """The places of lines that follow a term without a blank line."""
-        self.titles: dict[str, str] = {}
-        """The titles in directives, each with the directive's name."""
+        self.titles: dict[str, tuple[int, str]] = {}
+        """The titles in directives, each with its line and the directive's name."""
         self.kept: list[Message] = []
         """Messages on titles in directives."""
         self._sweep(plain)
@@ -152,7 +153,7 @@ class Text:
         is_overline = message.text != TITLE + "." and below[0] != ""
         if is_overline and below[1] != line:
             return False
-        self.titles[fold(below[0] if is_overline else lines[at - 1].strip())] = name
+        self.titles[fold(below[0] if is_overline else lines[at - 1].strip())] = at + 2 if is_overline else at, name
         lines[at] = ""
         if is_overline:
             lines[at + 2] = ""
@@ -196,17 +197,41 @@ class Text:
         return None
 
 
+class Page(NamedTuple):
+    """A page that was read."""
+
+    found: list[tuple[Message, str]]
+    """The messages, each with the name that, if it is known, takes it away; an empty one if none does."""
+    text: Text | None
+    """What the library has read, if something in the page may be known by name, or is code."""
+
+    @property
+    def messages(self) -> list[Message]:
+        return [message for message, _ in self.found]
+
+
 class Pages:
-    """Reads pages at a level, with names that other tools read."""
+    """Reads pages, one at a time: gives their messages at or above a level, without those on known names, and with `code` faults in code."""
 
-    def __init__(self, level: int, known: Known, code: bool = False) -> None:
-        self.level = level
-        self.known = known
+    def __init__(self, known: Known | None = None, level: Level = "warning", code: bool = False) -> None:
+        if level not in LEVELS:
+            raise ValueError("rst2pseudoxml: bad level")
+        self.known = known or Known()
+        self.level = LEVELS[level]
         self.code = code
-        self.reader = Reader(min(level, ERROR) if known.marks and level <= 4 else level)
+        self.reader = Reader(min(self.level, ERROR) if self.known.marks and self.level <= 4 else self.level)
 
-    def text(self, data: bytes) -> Text | None:
-        """The text of a page, if something in it may be known by name, or is code."""
+    def read(self, page: AnyText, source: str = "<stdin>") -> Page:
+        """Reads a page, which its messages call by the name `source`. If it is refused, that is a `Refused`."""
+        data = _bytes(page)
+        text = self._text(data)
+        found = self.reader.read(source, text.data() if text else data)
+        while text and text.open_more(found):
+            found = self.reader.read(source, text.data())
+        found = found + text.kept if text else found
+        return Page(self._wanted(source, found, text) if found or self.code else [], text)
+
+    def _text(self, data: bytes) -> Text | None:
         if not (self.known.names or self.code) or (b"::" not in data and b":`" not in data):
             return None
         try:
@@ -214,9 +239,20 @@ class Pages:
         except UnicodeDecodeError:
             return None
 
-    def messages(self, page: str, data: bytes, text: Text | None) -> list[Message]:
-        """The messages of a page at or above any level that is asked for, and others."""
-        found = self.reader.read(page, text.data() if text else data)
-        while text and text.open_more(found):
-            found = self.reader.read(page, text.data())
-        return found + text.kept if text else found
+    def _wanted(self, source: str, found: list[Message], text: Text | None) -> list[tuple[Message, str]]:
+        """The messages that aren't on known names, each with its name, and the faults in code."""
+        names = Names(self.known)
+        for title, (_, directive) in (text.titles if text else {}).items():
+            names.define(f"target:{title}", f"directive:{directive}")
+        wanted = [(message, name) for message in found if (name := names.name_of(message)) not in self.known]
+        if text:
+            wanted = [(text.shown(message), name) for message, name in wanted if not text.is_own(message)]
+            wanted += [(message, "") for message in _faults(source, text)] if self.code else []
+        return [(message, name) for message, name in wanted if message.level >= self.level]
+
+
+def _faults(source: str, text: Text) -> Iterator[Message]:
+    from .code import faults  # its parsers take time to load
+
+    for fault in faults(text):
+        yield Message(source, fault.line, ERROR, "ERROR", fault.text)
