@@ -70,9 +70,12 @@ class Checker:
         self.name = options["--name"]
         self.pages = Pages(known, options["--level"], bool(options["--code"]))
 
+    def name_of(self, page: str) -> str:
+        return self.name if page == "-" else page
+
     def check(self, page: str) -> Outcome:
         """What is to be printed for a page, whether it failed, and the names with which it would pass."""
-        name = self.name if page == "-" else page
+        name = self.name_of(page)
         try:
             found = self.pages.read(content(page), name).found
         except Refused as refused:
@@ -145,7 +148,7 @@ def _checked(pages: list[str], checker: Checker, jobs: int) -> bool:
             progress.hide()
             print(shown, end="", flush=True)
         if unknown:
-            failed.append(pages[done - 1])
+            failed.append(checker.name_of(pages[done - 1]))
             names.update(dict.fromkeys(unknown))
         passed = passed and not wrong
         progress.at(done)
