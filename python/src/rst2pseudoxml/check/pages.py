@@ -89,7 +89,8 @@ class Text:
     def _open(self, first: int, column: int, block: list[str], mark: str, has_line_ends: bool = False) -> bool:
         """Opens a directive, whose source is the block; whether it could be."""
         after = self.lines[first + len(block) : first + len(block) + 1]
-        tip = Directive(block, not "".join(after).strip()).as_tip(mark)
+        directive = Directive(block, not "".join(after).strip())
+        tip = directive.as_tip(mark)
         if tip is None:
             return False
         if has_line_ends:
@@ -97,8 +98,7 @@ class Text:
             self.lines[here] = [line[:column].ljust(column) + now for line, now in zip(self.lines[here], tip.lines)]
         elif not self._put(first, column, block, tip.lines):
             return False
-        name = DIRECTIVE.match(block[0])
-        self.opened[first] = name[1] if name else ""
+        self.opened[first] = directive.name
         self.joined.update(first + at for at in tip.joined)
         return True
 
@@ -226,7 +226,7 @@ class Pages:
         data = _bytes(page)
         text = self._text(data)
         found = self.reader.read(source, text.data() if text else data)
-        while text and text.open_more(found):
+        while text and found and text.open_more(found):
             found = self.reader.read(source, text.data())
         found = found + text.kept if text else found
         return Page(self._wanted(source, found, text) if found or self.code else [], text)
