@@ -85,9 +85,9 @@ class Server:
     def page(self, given: Any) -> Page:
         return self.pages[given["textDocument"]["uri"]]
 
-    def show(self, uri: str, text: str, pages: Pages | None = None) -> None:
+    def show(self, uri: str, text: str, reader: Pages | None = None) -> None:
         """Keeps a text and shows its messages; the known names are read anew, if no reader of pages is given."""
-        page = self.pages[uri] = Page(text, pages or Pages(self.known(uri), self.level, self.code))
+        page = self.pages[uri] = Page(text, reader or Pages(self.known(uri), self.level, self.code))
         self.send(method="textDocument/publishDiagnostics", params={"uri": uri, "diagnostics": page.diagnostics()})
 
     def known(self, uri: str) -> Known:
@@ -104,7 +104,7 @@ class Server:
         return known
 
     def change(self, given: Any) -> None:
-        self.show(given["textDocument"]["uri"], given["contentChanges"][-1]["text"], self.page(given).pages)
+        self.show(given["textDocument"]["uri"], given["contentChanges"][-1]["text"], self.page(given).reader)
 
     def close(self, given: Any) -> None:
         self.pages.pop(given["textDocument"]["uri"], None)

@@ -40,8 +40,8 @@ def strings(node: Node, name: str) -> list[str]:
 
 
 class Page:
-    def __init__(self, text: str, pages: Pages) -> None:
-        self.text, self.pages = text, pages
+    def __init__(self, text: str, reader: Pages) -> None:
+        self.text, self.reader = text, reader
         self.data = text.encode("utf-8", "replace")
         """What the tree is of: the text, in which known directives that hold text are opened."""
         self.directives: dict[int, str] = {}
@@ -58,7 +58,7 @@ class Page:
     def _messages(self) -> list[tuple[int, int, str]]:
         """The messages that rst-check has, as lines, severities and texts; or the refusal of the text."""
         try:
-            read = self.pages.read(self.data)
+            read = self.reader.read(self.data)
         except Refused as refused:
             return [((refused.kind == "too deep" and refused.place) or 1, 1, str(refused).removeprefix("rst2pseudoxml: "))]
         if read.text:
