@@ -127,6 +127,25 @@ class Pages(Checking):
             with self.subTest(line):
                 self.same(2, [f"rst-check: {line}", *arguments[-1].split("\n")[1:]], *arguments)
 
+    def test_in_python(self):
+        text = ".. only:: html\n\n   c. :issue:`1` *word\n\n.. code:: json\n\n   ]\n"
+        known = check.Known("@sphinx-names.txt", "role:issue")
+        for arguments, lines in (
+            ({}, [1]),
+            ({"known": known}, [3]),
+            ({"known": known, "level": "info"}, [3, 3]),
+            ({"known": known, "level": 3, "code": True}, [7]),
+        ):
+            for given in text, text.encode():
+                found = check.Pages(**arguments).read(given, "a.rst").messages
+                self.assertEqual([(one.file, one.line) for one in found], [("a.rst", line) for line in lines])
+        with self.assertRaises(ValueError):
+            check.Pages(level="loud")
+        with self.assertRaises(OSError):
+            check.Known("@none.txt")
+        with self.assertRaises(rst2pseudoxml.Refused):
+            check.Pages().read(b"\xff")
+
     def test_help(self):
         self.same(0, check.__doc__.strip().split("\n"), "--help")
         self.assertIn(f"rst-check {USAGE}", check.__doc__)

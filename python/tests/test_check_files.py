@@ -88,11 +88,12 @@ class Files(Checking):
         for arguments, data, wanted in (
             (["-"], b"A *word\n", EMPHASIS.format("<stdin>", 1)),
             (["--name", "a.rst", "-"], b"A *word\n", EMPHASIS.format("a.rst", 1)),
+            (["--name", "a.rst", "-"], b":a:`x`\n", 'a.rst:1: (ERROR/3) Unknown interpreted text role "a".\na.rst: passes with --known=role:a'),
             (["--name=a.rst", "--", "-"], b"\xff", "a.rst: rst2pseudoxml: not UTF-8 at byte 0"),
             (["-"], b"fine\n" * 100_000, ""),
         ):
             command = [sys.executable, "-m", "rst2pseudoxml.check", *arguments]
-            run = subprocess.run(command, input=data, cwd=self.folder, env=variables, stdout=subprocess.PIPE, check=False)
+            run = subprocess.run(command, input=data, cwd=self.folder, env=variables, stdout=subprocess.PIPE, stderr=subprocess.STDOUT)
             self.assertEqual((run.returncode, run.stdout.decode()), (1, wanted + "\n") if wanted else (0, ""))
 
     def test_the_largest_text(self):

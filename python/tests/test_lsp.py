@@ -51,15 +51,72 @@ Part four
 End.
 
 """
+KNOWN = "@sphinx-names.txt\ndirective:change content\ndefinitions:links.inc\n"
+LINKS = ".. _one: u\n.. |two| replace:: a\n"
+NESTED = """\
+Top
+===
+
+.. include:: <isonum.txt>
+
+.. only:: html
+
+   c. one_ |two| |copy| |alpha|
+
+   .. versionadded:: 2.0 *b
+      c
+
+   .. change:: *no
+      :tags: d
+
+      .. seealso::
+
+         .. note::
+
+            *e :func:`f` :own:`g` |two| three_
+
+            .. _inside:
+
+            h
+
+   Part three
+   =====
+
+`Part three`_ four_ inside_
+
+.. todo::
+
+   Five
+   ====
+
+.. code-block:: json
+   :linenos:
+
+   {"a": 1,
+    b}
+"""
+UNFINISHED = "Inline emphasis start-string without end-string."
+MESSAGES = [  # lines, severities and texts
+    (8, 3, 'Enumerated list start value not ordinal-1: "c" (ordinal 3)'),
+    (8, 1, 'Undefined substitution referenced: "alpha".'),
+    (10, 2, UNFINISHED),
+    (20, 2, UNFINISHED),
+    (20, 1, 'Unknown interpreted text role "own".'),
+    (20, 1, 'Unknown target name: "three".'),
+    (27, 2, "Title underline too short."),
+    (29, 1, 'Unknown target name: "four".'),
+    (34, 1, "Unexpected section title."),
+    (40, 1, "JSON code: Expecting property name enclosed in double quotes"),
+]
+VARIABLES = {"PYTHONPATH": str(pathlib.Path(rst2pseudoxml.__file__).parents[1])}
 
 
 class Editor:
     """Starts rst-lsp, and speaks with it."""
 
-    def __init__(self, test):
-        command = [sys.executable, "-c", "import sys; from rst2pseudoxml.lsp import main; sys.exit(main())", "--stdio"]
-        folder = str(pathlib.Path(rst2pseudoxml.__file__).parents[1])
-        self.process = subprocess.Popen(command, stdin=subprocess.PIPE, stdout=subprocess.PIPE, stderr=subprocess.PIPE, env={"PYTHONPATH": folder})
+    def __init__(self, test, *arguments):
+        command = [sys.executable, "-c", "import sys; from rst2pseudoxml.lsp import main; sys.exit(main())", "--stdio", *arguments]
+        self.process = subprocess.Popen(command, stdin=subprocess.PIPE, stdout=subprocess.PIPE, stderr=subprocess.PIPE, env=VARIABLES)
         test.addCleanup(self.end)
         self.count = 0
 
@@ -108,10 +165,10 @@ class Story(unittest.TestCase):
         (self.folder / "some pages").mkdir()
         self.uri = (self.folder / "some pages" / "page.rst").as_uri()
         self.document = {"uri": self.uri}
-        self.editor = Editor(self)
 
-    def open(self, text):
+    def open(self, text, *arguments):
         """The diagnostics of a text that is opened."""
+        self.editor = Editor(self, *arguments)
         self.assertIn("capabilities", self.editor.result("initialize", processId=None, rootUri=None, capabilities={}))
         self.editor.notify("initialized")
         self.editor.notify("textDocument/didOpen", textDocument={"uri": self.uri, "languageId": "restructuredtext", "version": 1, "text": text})
@@ -121,9 +178,9 @@ class Story(unittest.TestCase):
         self.editor.notify("textDocument/didChange", textDocument={"uri": self.uri, "version": 2}, contentChanges=[{"text": text}])
         return self.editor.diagnostics()
 
-    def definition(self, text, more=0):
-        """The line, from 1, that the reference at the first place of a text in TEXT leads to."""
-        before = TEXT[: TEXT.index(text) + more]
+    def definition(self, text, more=0, page=TEXT):
+        """The line, from 1, that the reference at the first place of a text in a page leads to."""
+        before = page[: page.index(text) + more]
         character = len(before.rpartition("\n")[2].encode("utf-16-le")) // 2
         position = {"line": before.count("\n"), "character": character}
         found = self.editor.result("textDocument/definition", textDocument=self.document, position=position)
@@ -152,8 +209,42 @@ class Story(unittest.TestCase):
         self.assertEqual(self.editor.process.wait(10), 0)
 
     def test_end_without_shutdown(self):
-        self.editor.process.stdin.close()
-        self.assertEqual(self.editor.process.wait(10), 1)
+        editor = Editor(self)
+        editor.process.stdin.close()
+        self.assertEqual(editor.process.wait(10), 1)
+
+    def open_nested(self, *arguments):
+        (self.folder / "some pages" / ".rst-known").write_text(KNOWN)
+        (self.folder / "some pages" / "links.inc").write_text(LINKS)
+        return self.open(NESTED, *arguments)
+
+    def test_messages_of_rst_check(self):
+        severities = {"INFO": 3, "WARNING": 2, "ERROR": 1, "SEVERE": 1}
+        command = [sys.executable, "-m", "rst2pseudoxml.check", "--format=json", "--level=info"]
+        for arguments in ["--code"], ["--level=info"], ["--level=warning", "--code"], ["--level=error"]:
+            with self.subTest(arguments):
+                shown = self.open_nested(*arguments)
+                (self.folder / "some pages" / "page.rst").write_text(NESTED)
+                run = subprocess.run([*command, *arguments, "page.rst"], cwd=self.folder / "some pages", env=VARIABLES, stdout=subprocess.PIPE)
+                checked = [json.loads(line) for line in run.stdout.splitlines()]
+                self.assertEqual(shown, [(one["line"], severities[one["type"]], one["text"]) for one in checked])
+                if arguments == ["--code"]:
+                    self.assertEqual(sorted(shown), sorted(MESSAGES))
+
+    def test_wrong_arguments(self):
+        editor = Editor(self, "--level=loud")
+        self.assertEqual(editor.process.wait(10), 2)
+
+    def test_text_in_directives(self):
+        self.open_nested()
+        for text, line in ("`Part three`_", 26), ("inside_", 22), ("four_", None), ("one_", None):
+            with self.subTest(text):
+                self.assertEqual(self.definition(text, 1, NESTED), line)
+        inner = "only > change > seealso"
+        for line, path in (6, "only"), (10, "only > versionadded"), (16, inner), (20, f"{inner} > note > paragraph"):
+            with self.subTest(line):
+                found = self.editor.result("textDocument/hover", textDocument=self.document, position={"line": line - 1, "character": 0})
+                self.assertEqual(found["contents"]["value"].partition("\n")[0], f"document > {path}")
 
     def test_known_names(self):
         (self.folder / ".rst-known").write_text("role:ref\n")

@@ -5,7 +5,7 @@
 
 The messages at or above LEVEL (info, warning, error, severe or none, or 1 to 5; warning by default) are shown, and a page
 that has one fails. Of a FOLDER all files *.rst and *.txt are checked, also those in folders in it, but no hidden ones, none that is named
-requirements*.txt or CMakeLists.txt, and none that .rst-known excludes. `-` is standard input, and --name is the name of its file. N pages
+requirements*.txt or CMakeLists.txt, and none that .rst-known excludes. `-` is standard input, and --name says which file it is. N pages
 are read at once, by default as many as there are processors. The status is 0 if all pages passed, 1 if one failed, 2 if nothing was
 checked because the arguments are bad.
 
@@ -33,8 +33,8 @@ Without a mark nothing in a directive is read. The lists of this package have ma
 These messages are left out: that a known name is unknown, or that a known directive has an unknown option; that a substitution isn't
 valid, or isn't defined, because its definition has a known directive or role; that a name isn't defined which the source of a known
 directive defines (as a target, citation, footnote, substitution or role, or by its option `name`), or a file of Docutils that it
-includes, such as <isonum.txt>. Messages on other names are shown, since nothing here shows what defines them. If all messages of
-some pages are on unknown names, a last line on standard error names the option with which these pages pass.
+includes, such as <isonum.txt>. Messages on other names are shown, since nothing here says what defines them. If all messages of
+some pages are on unknown names, a last line on standard error says with which option these pages pass.
 
 With --code the blocks of code are read whose language is JSON, Python, TOML (by Python 3.11 or later) or XML. A fault is an ERROR.
 
@@ -50,12 +50,14 @@ import sys
 from io import TextIOWrapper
 from typing import Iterable, Iterator, NoReturn
 
-from .. import LEVELS, Message, Refused
+from .. import LEVELS, Refused
 from .files import FILE, content, pages_in
 from .formats import FORMATS
 from .jobs import Outcome, Progress, Stopped, outcomes
 from .names import Known
-from .pages import Pages
+from .pages import Page, Pages
+
+__all__ = ["Known", "Page", "Pages", "known_names", "main"]
 
 USAGE = "rst-check [--level LEVEL] [--known NAMES|@FILE].. [--code] [--format FORMAT] [--jobs N] [--name FILE] [--] FILE|FOLDER|-.."
 
@@ -66,29 +68,30 @@ class Checker:
     def __init__(self, known: Known, options: dict[str, str]) -> None:
         self.show = FORMATS[options["--format"]]
         self.name = options["--name"]
-        self.pages = Pages(LEVELS[options["--level"]], known, bool(options["--code"]))
+        self.pages = Pages(known, options["--level"], bool(options["--code"]))
+
+    def name_of(self, page: str) -> str:
+        return self.name if page == "-" else page
 
     def check(self, page: str) -> Outcome:
         """What is to be printed for a page, whether it failed, and the names with which it would pass."""
-        name = self.name if page == "-" else page
+        name = self.name_of(page)
         try:
-            return self._outcome(self.pages.wanted(name, content(page)))
+            found = self.pages.read(content(page), name).found
         except Refused as refused:
             line = refused.place if refused.kind == "too deep" else None
             words = str(refused).removeprefix("rst2pseudoxml: ").removeprefix(f"line {line}: ")
             return self.show(name, line, None, "REFUSED", words) + "\n", True, ()
-
-    def _outcome(self, wanted: list[tuple[Message, str]]) -> Outcome:
-        names = tuple(dict.fromkeys(name for _, name in wanted))
-        shown = "".join(self.show(*message) + "\n" for message, _ in wanted)
-        return shown, bool(wanted), () if "" in names else names
+        if not found:
+            return "", False, ()
+        names = tuple(dict.fromkeys(name for _, name in found))
+        shown = "".join(self.show(*message) + "\n" for message, _ in found)
+        return shown, True, () if "" in names else names
 
 
 def known_names(options: Iterable[str]) -> Known:
     """The names in .rst-known of the current folder, if it is there, and then those of the options --known."""
-    known = Known()
-    known.add_all("\n".join([f"@{FILE}" if os.path.isfile(FILE) else "", *options]))
-    return known
+    return Known(f"@{FILE}" if os.path.isfile(FILE) else "", *options)
 
 
 def _refuse(line: str) -> NoReturn:
@@ -150,7 +153,7 @@ def _checked(pages: list[str], checker: Checker, jobs: int) -> bool:
             progress.hide()
             print(shown, end="", flush=True)
         if unknown:
-            failed.append(pages[done - 1])
+            failed.append(checker.name_of(pages[done - 1]))
             names.update(dict.fromkeys(unknown))
         passed = passed and not wrong
         progress.at(done)

@@ -58,6 +58,7 @@ class Directive:
         head = DIRECTIVE.match(block[0])
         end = next((at for at, line in enumerate(block) if at and not line.strip()), len(block))
         options = next((at for at, line in enumerate(block[:end]) if at and FIELD.match(line)), end)
+        self.name = head[1] if head else ""
         self.first = block[0][head.end() :].strip() if head else ""
         self.more = block[1:options]
         self.block = block

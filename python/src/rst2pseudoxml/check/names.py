@@ -63,15 +63,20 @@ def shipped_definitions() -> dict[str, list[str]]:
 
 
 class Known:
-    """The names that other tools read. Each begins with `directive:`, `role:`, `substitution:` or `target:`."""
+    """The names that other tools read. Each begins with `directive:`, `role:`, `substitution:` or `target:`.
 
-    def __init__(self) -> None:
+    What is given is what options `--known` have. A file that isn't there is an OSError, a wrong mark a ValueError.
+    """
+
+    def __init__(self, *given: str) -> None:
         self.names: set[str] = set()
         self.marks: dict[str, str] = {}
         """How the text in a directive is read, if anything is."""
         self.excluded: list[str] = []
         """The patterns of pages that a folder has, and that aren't checked."""
         self.files: set[Path] = set()
+        for one in given:
+            self.add_all(one)
 
     def __contains__(self, name: str) -> bool:
         return name in self.names

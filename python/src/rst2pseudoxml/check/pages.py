@@ -5,9 +5,10 @@ from __future__ import annotations
 import re
 from ctypes import create_string_buffer, string_at
 from json import loads
-from typing import Any, Iterable, Iterator
+from typing import Any, Iterable, Iterator, NamedTuple
 
-from .. import LIBRARY, Message, _options, _Result, messages
+from .. import LEVELS, LIBRARY, Level, Message, _bytes, _options, _Result, messages
+from .. import Text as AnyText
 from .contents import DIRECTIVE, Directive, end_of, indentation, without_option
 from .names import Known, Names, fold
 
@@ -57,8 +58,8 @@ class Text:
         """The names of the directives that are open, by the places of their lines."""
         self.joined: set[int] = set()
         """The places of lines that follow a term without a blank line."""
-        self.titles: dict[str, str] = {}
-        """The titles in directives, each with the directive's name."""
+        self.titles: dict[str, tuple[int, str]] = {}
+        """The titles in directives, each with its line and the directive's name."""
         self.kept: list[Message] = []
         """Messages on titles in directives."""
         self._sweep(plain)
@@ -88,7 +89,8 @@ class Text:
     def _open(self, first: int, column: int, block: list[str], mark: str, has_line_ends: bool = False) -> bool:
         """Opens a directive, whose source is the block; whether it could be."""
         after = self.lines[first + len(block) : first + len(block) + 1]
-        tip = Directive(block, not "".join(after).strip()).as_tip(mark)
+        directive = Directive(block, not "".join(after).strip())
+        tip = directive.as_tip(mark)
         if tip is None:
             return False
         if has_line_ends:
@@ -96,8 +98,7 @@ class Text:
             self.lines[here] = [line[:column].ljust(column) + now for line, now in zip(self.lines[here], tip.lines)]
         elif not self._put(first, column, block, tip.lines):
             return False
-        name = DIRECTIVE.match(block[0])
-        self.opened[first] = name[1] if name else ""
+        self.opened[first] = directive.name
         self.joined.update(first + at for at in tip.joined)
         return True
 
@@ -152,7 +153,7 @@ class Text:
         is_overline = message.text != TITLE + "." and below[0] != ""
         if is_overline and below[1] != line:
             return False
-        self.titles[fold(below[0] if is_overline else lines[at - 1].strip())] = name
+        self.titles[fold(below[0] if is_overline else lines[at - 1].strip())] = at + 2 if is_overline else at, name
         lines[at] = ""
         if is_overline:
             lines[at + 2] = ""
@@ -196,33 +197,45 @@ class Text:
         return None
 
 
-class Pages:
-    """Reads pages at a level, with names that other tools read. The settings are those of a call that say how a text is read."""
+class Page(NamedTuple):
+    """A page that was read."""
 
-    def __init__(self, level: int, known: Known, code: bool = False, **settings: Any) -> None:
-        self.level = level
-        self.known = known
+    found: list[tuple[Message, str]]
+    """The messages, each with the name that, if it is known, takes it away; an empty one if none does."""
+    text: Text | None
+    """What the library has read, if something in the page may be known by name, or is code."""
+
+    @property
+    def messages(self) -> list[Message]:
+        return [message for message, _ in self.found]
+
+
+class Pages:
+    """Reads pages, one at a time: gives their messages at or above a level, without those on known names, and with `code` faults in code.
+
+    The settings are those of a call that say how a text is read.
+    """
+
+    def __init__(self, known: Known | None = None, level: Level = "warning", code: bool = False, **settings: Any) -> None:
+        if level not in LEVELS:
+            raise ValueError("rst2pseudoxml: bad level")
+        self.known = known or Known()
+        self.level = LEVELS[level]
         self.code = code
         self.tab_width: int = settings.get("tab_width", 8)
-        self.reader = Reader(min(level, ERROR) if known.marks and level <= 4 else level, settings)
+        self.reader = Reader(min(self.level, ERROR) if self.known.marks and self.level <= 4 else self.level, settings)
 
-    def wanted(self, page: str, data: bytes) -> list[tuple[Message, str]]:
-        """The messages of a page that aren't on known names, each with the name that would take it away."""
+    def read(self, page: AnyText, source: str = "<stdin>") -> Page:
+        """Reads a page, which its messages call by the name `source`. If it is refused, that is a `Refused`."""
+        data = _bytes(page)
         text = self._text(data)
-        found = self._messages(page, data, text)
-        if not found and not self.code:
-            return []
-        names = Names(self.known)
-        for title, directive in (text.titles if text else {}).items():
-            names.define(f"target:{title}", f"directive:{directive}")
-        wanted = [(message, name) for message in found if (name := names.name_of(message)) not in self.known]
-        if text:
-            wanted = [(text.shown(message), name) for message, name in wanted if not text.is_own(message)]
-            wanted += [(message, "") for message in self._faults(page, text)] if self.code else []
-        return [(message, name) for message, name in wanted if message.level >= self.level]
+        found = self.reader.read(source, text.data() if text else data)
+        while text and found and text.open_more(found):
+            found = self.reader.read(source, text.data())
+        found = found + text.kept if text else found
+        return Page(self._wanted(source, found, text) if found or self.code else [], text)
 
     def _text(self, data: bytes) -> Text | None:
-        """The text of a page, if something in it may be known by name, or is code."""
         if not (self.known.names or self.code) or (b"::" not in data and b":`" not in data):
             return None
         try:
@@ -230,15 +243,20 @@ class Pages:
         except UnicodeDecodeError:
             return None
 
-    def _messages(self, page: str, data: bytes, text: Text | None) -> list[Message]:
-        """The messages of a page at or above any level that is asked for, and others."""
-        found = self.reader.read(page, text.data() if text else data)
-        while text and text.open_more(found):
-            found = self.reader.read(page, text.data())
-        return found + text.kept if text else found
+    def _wanted(self, source: str, found: list[Message], text: Text | None) -> list[tuple[Message, str]]:
+        """The messages that aren't on known names, each with its name, and the faults in code."""
+        names = Names(self.known)
+        for title, (_, directive) in (text.titles if text else {}).items():
+            names.define(f"target:{title}", f"directive:{directive}")
+        wanted = [(message, name) for message in found if (name := names.name_of(message)) not in self.known]
+        if text:
+            wanted = [(text.shown(message), name) for message, name in wanted if not text.is_own(message)]
+            wanted += [(message, "") for message in _faults(source, text)] if self.code else []
+        return [(message, name) for message, name in wanted if message.level >= self.level]
 
-    def _faults(self, page: str, text: Text) -> Iterator[Message]:
-        from .code import faults  # its parsers take time to load
 
-        for fault in faults(text):
-            yield Message(page, fault.line, ERROR, "ERROR", fault.text)
+def _faults(source: str, text: Text) -> Iterator[Message]:
+    from .code import faults  # its parsers take time to load
+
+    for fault in faults(text):
+        yield Message(source, fault.line, ERROR, "ERROR", fault.text)

@@ -1,20 +1,22 @@
-"""rst-lsp: a language server for reStructuredText, over standard input and output.
+"""A language server for reStructuredText, over standard input and output.
 
-It shows the system messages of each open page at each change, without those on names that the nearest file .rst-known has, in the page's
-folder or above it. It has the outline of sections, the parts that can be folded, the way from a reference to what it refers to, and the
-path of an element in the tree.
+It shows the messages that rst-check has of each open page, at each change. The names that other tools read are in the nearest file
+.rst-known, in the page's folder or above it. It has the outline of sections, the parts that can be folded, the way from a reference to what
+it refers to, and the path of an element in the tree.
 """
 
 from __future__ import annotations
 
+import argparse
 import json
 import sys
 from pathlib import Path
 from typing import Any, BinaryIO, Callable, Iterator
 from urllib.parse import unquote, urlsplit
 
+from .. import LEVELS
+from ..check import Known, Pages
 from ..check.files import FILE
-from ..check.names import Known
 from .page import Page
 
 CAPABILITIES: dict[str, Any] = {
@@ -25,10 +27,10 @@ INVALID_REQUEST, NO_METHOD, INTERNAL = -32600, -32601, -32603  # codes of the pr
 
 
 class Server:
-    """Answers an editor."""
+    """Answers an editor. The level and the code are those of rst-check."""
 
-    def __init__(self, given: BinaryIO, out: BinaryIO) -> None:
-        self.given, self.out = given, out
+    def __init__(self, given: BinaryIO, out: BinaryIO, level: str = "info", code: bool = False) -> None:
+        self.given, self.out, self.level, self.code = given, out, level, code
         self.pages: dict[str, Page] = {}
         self.shut = False
         self.methods: dict[str, Callable[[Any], Any]] = {
@@ -83,16 +85,17 @@ class Server:
     def page(self, given: Any) -> Page:
         return self.pages[given["textDocument"]["uri"]]
 
-    def show(self, uri: str, text: str, known: Known | None = None) -> None:
-        """Keeps a text and shows its messages; reads the known names, if none are given."""
-        page = self.pages[uri] = Page(text, known or self.known(uri))
+    def show(self, uri: str, text: str, reader: Pages | None = None) -> None:
+        """Keeps a text and shows its messages; the known names are read anew, if no reader of pages is given."""
+        page = self.pages[uri] = Page(text, reader or Pages(self.known(uri), self.level, self.code))
         self.send(method="textDocument/publishDiagnostics", params={"uri": uri, "diagnostics": page.diagnostics()})
 
     def known(self, uri: str) -> Known:
         """The names in the nearest file .rst-known."""
-        known, address = Known(), urlsplit(uri)
+        address = urlsplit(uri)
         folders = Path(unquote(address.path)).parents if address.scheme == "file" else ()
         file = next((str(folder / FILE) for folder in folders if (folder / FILE).is_file()), None)
+        known = Known()
         try:
             if file:
                 known.add_file(file)
@@ -101,7 +104,7 @@ class Server:
         return known
 
     def change(self, given: Any) -> None:
-        self.show(given["textDocument"]["uri"], given["contentChanges"][-1]["text"], self.page(given).known)
+        self.show(given["textDocument"]["uri"], given["contentChanges"][-1]["text"], self.page(given).reader)
 
     def close(self, given: Any) -> None:
         self.pages.pop(given["textDocument"]["uri"], None)
@@ -120,8 +123,10 @@ class Server:
 
 def main() -> int:
     """The command rst-lsp; the status."""
-    if "--help" in sys.argv:  # other arguments, such as `--stdio`, change nothing
-        print((__doc__ or "").strip())
-        return 0
+    parser = argparse.ArgumentParser("rst-lsp", description=__doc__, formatter_class=argparse.RawTextHelpFormatter, allow_abbrev=False)
+    levels = [level for level in LEVELS if isinstance(level, str)]
+    parser.add_argument("--level", choices=levels, metavar="LEVEL", default="info", help="show messages at or above LEVEL; info by default")
+    parser.add_argument("--code", action="store_true", help="read blocks of code, as rst-check does")
+    given, _ = parser.parse_known_args()  # others, such as `--stdio`, change nothing
     sys.setrecursionlimit(10_000)  # for trees that are 500 deep
-    return Server(sys.stdin.buffer, sys.stdout.buffer).serve()
+    return Server(sys.stdin.buffer, sys.stdout.buffer, given.level, given.code).serve()

@@ -5,8 +5,8 @@ from __future__ import annotations
 import re
 from typing import Any, Iterator
 
-from .. import Node, Refused, messages, tree
-from ..check.names import Known, Names
+from .. import Node, Refused, tree
+from ..check import Pages
 
 LINE_END = re.compile("\r\n|[\n\r\x1c-\x1e\x85\u2028\u2029]")  # those of the library; an editor counts the first three
 REFERENCE = re.compile(
@@ -40,14 +40,32 @@ def strings(node: Node, name: str) -> list[str]:
 
 
 class Page:
-    def __init__(self, text: str, known: Known) -> None:
-        self.text, self.known = text, known
+    def __init__(self, text: str, reader: Pages) -> None:
+        self.text, self.reader = text, reader
         self.data = text.encode("utf-8", "replace")
+        """What the tree is of: the text, in which known directives that hold text are opened."""
+        self.directives: dict[int, str] = {}
+        """The names of those directives, by their lines."""
+        self.titles: dict[str, int] = {}
+        """The lines of the titles in them."""
         self.lines = LINE_END.split(text)
         self.numbers = [0]
         """The editor's number of each line."""
         for found in LINE_END.finditer(text):
             self.numbers.append(self.numbers[-1] + (found[0] in ("\n", "\r", "\r\n")))
+        self.messages = self._messages()
+
+    def _messages(self) -> list[tuple[int, int, str]]:
+        """The messages that rst-check has, as lines, severities and texts; or the refusal of the text."""
+        try:
+            read = self.reader.read(self.data)
+        except Refused as refused:
+            return [((refused.kind == "too deep" and refused.place) or 1, 1, str(refused).removeprefix("rst2pseudoxml: "))]
+        if read.text:
+            self.data = read.text.data()
+            self.directives = {place + 1: name for place, name in read.text.opened.items()}
+            self.titles = {name: line for name, (line, _) in read.text.titles.items()}
+        return [(message.line, SEVERITY[message.level], message.text) for message in read.messages]
 
     def tree(self, no_doc_title: bool = False) -> Node:
         """The document; one without elements if the text is refused."""
@@ -70,15 +88,7 @@ class Page:
         return line, len(before.decode("utf-16-le", "replace"))
 
     def diagnostics(self) -> list[dict[str, Any]]:
-        """The messages that aren't on known names, or the refusal of the text."""
-        names = Names(self.known)
-        try:
-            found = [(message, names.name_of(message)) for message in messages(self.data, report="info", halt="none")]
-        except Refused as refused:
-            shown = [((refused.kind == "too deep" and refused.place) or 1, 1, str(refused).removeprefix("rst2pseudoxml: "))]
-        else:
-            shown = [(message.line, SEVERITY[message.level], message.text) for message, name in found if name not in self.known]
-        return [{"range": self.range(line), "severity": at, "source": "rst2pseudoxml", "message": text} for line, at, text in shown]
+        return [{"range": self.range(line), "severity": at, "source": "rst2pseudoxml", "message": text} for line, at, text in self.messages]
 
     def symbols(self) -> list[dict[str, Any]]:
         """The sections, for an outline."""
@@ -124,13 +134,14 @@ class Page:
         """The names of the elements that the text at a line is in, and the last of them with its attributes."""
         node, names = self.tree(), []
         while True:
-            names.append(node.tag)
+            directive = self.directives.get(node.line) if node.tag == "tip" else None
+            names.append(directive or node.tag)
             inside = [child for child in node.children if isinstance(child, Node) and 0 < begin(child) <= line]
-            if not inside or any(isinstance(child, str) for child in node.children):
+            if not inside or any(isinstance(child, str) for child in node.children) or (directive and node.line == line):
                 break
             node = inside[-1]
         shown = [f'{name}="{" ".join(value) if isinstance(value, list) else value}"' for name, value in sorted(node.attributes.items())]
-        return " > ".join(names) + f"\n<{' '.join([node.tag, *shown])}>"
+        return " > ".join(names) + f"\n<{' '.join([names[-1], *shown])}>"
 
     def definition(self, line: int, place: int) -> int | None:
         """The line of what the reference at a place refers to."""
@@ -149,7 +160,8 @@ class Page:
         if mark in ("#", "*"):
             count = sum(one.start() < here.start() and (one["label"] or "").startswith(mark) for one in found)
             return numbered(nodes, count, mark, range(first, last + 1))
-        return named(nodes, folded(next(filter(None, here.groups()))), here["substitution"] is not None)
+        name, is_substitution = folded(next(filter(None, here.groups()))), here["substitution"] is not None
+        return named(nodes, name, is_substitution) or (None if is_substitution else self.titles.get(name))
 
 
 def begin(node: Node) -> int:

@@ -28,9 +28,7 @@ from typing import Any, NoReturn
 
 import rst2pseudoxml
 
-from ..check import known_names
-from ..check.names import Known
-from ..check.pages import Pages
+from ..check import Known, Pages, known_names
 
 FileSystemEventHandler: Any = None
 Observer: Any = None
@@ -72,8 +70,8 @@ def printable(name: str) -> str:
 def state(name: str, data: bytes, settings: dict[str, Any], known: Known, version: int = 0) -> str:
     """What a page shows, as JSON: the whole tree, and the messages that aren't on known names. It raises `rst2pseudoxml.Refused`."""
     tree = rst2pseudoxml.json(data, halt="none", **settings)
-    pages = Pages(rst2pseudoxml.LEVELS[settings.get("report", "warning")], known, **settings)
-    messages = [message._asdict() for message, _ in pages.wanted("", data)]
+    pages = Pages(known, settings.get("report", "warning"), **settings)
+    messages = [message._asdict() for message in pages.read(data, "").messages]
     return shown(name, data, settings, version, messages=messages)[:-1] + f', "tree": {tree}}}'
 
 
