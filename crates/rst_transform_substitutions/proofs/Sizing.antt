@@ -284,11 +284,12 @@ last_comes known path place size left sized last there above small =
     let takes_so : left_of (expanded references content left) ≡ takes size (most_nested - length path) left =
     nodes_take references (size_found known known.sizes.items) (most_nested - length path) size.nested
     (λ name s left. given_takes known known.sizes.items sized (most_nested - length path) size.nested path above name s left) content size left is (omega arith) small in
-    rw content_is
-    (takes_so,
-    λ n empty done.
-    empty_is (expanded references content left) n
-    (nodes_empty references (size_found known known.sizes.items) (λ name s left. given_empty known known.sizes.items sized (most_nested - length path) path name s left) content size left is empty) done))
+    rw content_is (
+      takes_so,
+      λ n empty done.
+          empty_is (expanded references content left) n
+          (nodes_empty references (size_found known known.sizes.items) (λ name s left. given_empty known known.sizes.items sized (most_nested - length path) path name s left) content size left is empty) done,
+    ))
 
 -- the definition that was gone into last
 at_end : (xs : List ℕ) (x : ℕ) → slice_get (xs ++ x ∷ []) (length xs) ≡ Some x
