@@ -1,6 +1,6 @@
 #!/usr/bin/env bash
 # Tests make install: installs into a folder of its own, runs what is there, looks at the manual page, tries the completions, and
-# uninstalls, with the usual names and with others; and make dist. Prints a line for each shell that is missing.
+# uninstalls, with the usual names and with others; and make dist. Prints a line for each shell that is missing, and for Python.
 # shellcheck disable=SC2016 # backticks of reStructuredText
 set -u
 unset MAKEFLAGS MAKELEVEL
@@ -113,18 +113,21 @@ same 'what is installed, another name' "$(all rst-tree | sed 's|man1/rst-tree|ma
 same 'the program, another name' "$hello" "$(printf 'Hello' | "$installed/bin/rst-tree" 2>&1)"
 printf 'A *word\n' >page.rst
 warning='page.rst:1: (WARNING/2) Inline emphasis start-string without end-string.'
-same 'rst-check' "$warning"$'\nstatus 1' "$("$installed/bin/rst-check" page.rst 2>&1; echo "status $?")"
-same 'rst-view' 'Inline emphasis start-string without end-string.' \
-  "$("$installed/bin/rst-view" -o view.html page.rst 2>&1; grep -o 'Inline emphasis start-string without end-string\.' view.html | sort -u)"
+printf ':ref:`a`\n' >known.rst
+if command -v python3 >/dev/null; then
+  same 'rst-check' "$warning"$'\nstatus 1' "$("$installed/bin/rst-check" page.rst 2>&1; echo "status $?")"
+  same 'rst-view' 'Inline emphasis start-string without end-string.' \
+    "$("$installed/bin/rst-view" -o view.html page.rst 2>&1; grep -o 'Inline emphasis start-string without end-string\.' view.html | sort -u)"
+  same 'check-pages.sh' "$warning"$'\nstatus 1' "$("$installed/share/rst2pseudoxml/check-pages.sh" page.rst 2>&1; echo "status $?")"
+  same 'the names of Sphinx' '' "$("$installed/share/rst2pseudoxml/check-pages.sh" --known=@sphinx-names.txt known.rst 2>&1)"
+  same 'the Python package' "$hello" "$(PYTHONPATH=$installed/share/rst2pseudoxml/python python3 -c 'import rst2pseudoxml; print(rst2pseudoxml.pseudoxml("Hello"), end="")' 2>&1)"
+else
+  echo "skipped: rst-check, rst-view, check-pages.sh and the Python package, without python3"
+fi
+rm known.rst
+same 'check-trees.sh' $'written: ./page.tree\nstatus 0' "$("$installed/share/rst2pseudoxml/check-trees.sh" --update . 2>&1; echo "status $?")"
 same 'the command of Flycheck and of VS Code' "\"$installed/bin/rst-check\" \"$installed/bin/rst-check\"" \
   "$(cd "$installed/share/rst2pseudoxml" && grep -ho '"[^"]*rst-check"' flycheck-rst2pseudoxml.el vscode-tasks.json | paste -sd ' ')"
-same 'check-pages.sh' "$warning"$'\nstatus 1' "$("$installed/share/rst2pseudoxml/check-pages.sh" page.rst 2>&1; echo "status $?")"
-same 'check-trees.sh' $'written: ./page.tree\nstatus 0' "$("$installed/share/rst2pseudoxml/check-trees.sh" --update . 2>&1; echo "status $?")"
-printf ':ref:`a`\n' >page.rst
-same 'the names of Sphinx' '' "$("$installed/share/rst2pseudoxml/check-pages.sh" --known=@sphinx-names.txt page.rst 2>&1)"
-if command -v python3 >/dev/null; then
-  same 'the Python package' "$hello" "$(PYTHONPATH=$installed/share/rst2pseudoxml/python python3 -c 'import rst2pseudoxml; print(rst2pseudoxml.pseudoxml("Hello"), end="")' 2>&1)"
-fi
 same 'the name in completions' '1 1 10' "$(cd "$installed/share" && grep -ch -- ' rst-tree\( \|$\)' bash-completion/completions/rst-tree zsh/site-functions/_rst-tree fish/vendor_completions.d/rst-tree.fish | paste -sd ' ')"
 same 'the name in the page' '0' "$(grep -c '^\.[BI].* rst2pseudoxml' "$installed/share/man/man1/tree.1")"
 if [ "$("$top/scripts/program.sh")" != "$("$top/scripts/program.sh" --static)" ]; then
