@@ -5,7 +5,7 @@
 ghost use Rattle.std.specs.Prelude.{◌≡◌, ◌++◌, true, false, Some, None, codes, filter, map, [], ◌∷◌};
 ghost use Rattle.rst_text.specs.Characters.{columns, is_alphanumeric, is_letter, is_white};
 ghost use Rattle.rst_text.specs.Lines.{expanded, lines_of, first_longer};
-ghost use Rattle.rst_text.specs.Escapes.{unescaped};
+ghost use Rattle.rst_text.specs.Escapes.{is_escaped, unescaped};
 ghost use Rattle.rst_text.specs.Names.{id_of, name_of};
 ghost use Rattle.rst_text.specs.SimpleNames.{is_simple_name};
 ghost use Rattle.rst_text.specs.Text.{without_mark};
@@ -48,6 +48,7 @@ pub fn names()
 /// Simple names (Markup Specification, 'Reference Names').
 pub fn simple_names()
     ensures joined { is_simple_name (codes "a-1_b") ≡ true }
+    ensures each_joint { is_simple_name (codes "a-b_c.d:e+f") ≡ true }
     ensures two_joints { is_simple_name (codes "a..b") ≡ false }
     ensures joint_in_front { is_simple_name (codes "-a") ≡ false }
     ensures joint_at_the_end { is_simple_name (codes "a-") ≡ false }
@@ -60,6 +61,10 @@ pub fn escapes()
     ensures character { unescaped (codes "\\*a\\b") ≡ codes "*ab" }
     ensures backslash { unescaped (codes "\\\\ \\\\\\*") ≡ codes "\\ \\*" }
     ensures last { unescaped (codes "a\\") ≡ codes "a" }
+    ensures after_one { is_escaped (codes "\\*") 0 1 ≡ true }
+    ensures after_two { is_escaped (codes "\\\\*") 0 2 ≡ false }
+    ensures after_three { is_escaped (codes "\\\\\\*") 0 3 ≡ true }
+    ensures counted_from { is_escaped (codes "\\\\*") 1 2 ≡ true }
 {}
 
 /// Ids that names give (Directives, 'Identifier Normalization').

@@ -9,4 +9,8 @@ returns c = record {
   character = refl;
   backslash = refl;
   last = refl;
+  after_one = refl;
+  after_two = refl;
+  after_three = refl;
+  counted_from = refl;
 }

@@ -6,6 +6,7 @@ pub returns : goal.returns
 unfolding rst_text
 returns c = record {
   joined = refl;
+  each_joint = refl;
   two_joints = refl;
   joint_in_front = refl;
   joint_at_the_end = refl;
