@@ -1,14 +1,14 @@
-//! Runs over long lines and long substitutions: what stands at a limit, and one more.
+//! Runs over long lines and long substitutions: what is at a limit, and one more.
 use super::rows::{joined, shown};
 use itoa::Buffer;
 use std::alloc::Global;
 use std::process::Abort;
 use std::test::Fail;
 
-/// What is printed in front of the first node.
+/// What is printed before the first node.
 const ROOT: &str = "<document source=\"<stdin>\">\n";
 
-/// Runs over texts, each so often, and compares what is shown with such texts.
+/// Runs over some texts, each repeated by its number, and compares the output with other texts, repeated likewise.
 fn compare(
     rt: &impl Abort,
     alloc: Global,
@@ -111,7 +111,7 @@ fn expands_to_9999_characters(rt: HostRuntime) -> Result<(), Fail> {
     )
 }
 
-/// A reference to a substitution, which holds one to the next, and so on; the last, of this number, holds a text.
+/// A reference to a substitution, which contains one to the next, and so on; the last, of this number, contains a text.
 fn chain(alloc: Global, last: usize) -> Result<String, Fail> {
     let mut buffer = Buffer::new();
     let mut all = String::from_str(alloc, "|a1|\n\n")?;

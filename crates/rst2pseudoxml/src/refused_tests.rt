@@ -12,7 +12,7 @@ use std::process::Abort;
 /// What a writer may hold before it grows.
 const ROOM: usize = 40_000;
 
-/// How a run ends, and what its writers hold then.
+/// How a run ends, and what its writers have then.
 #[derive(Drop)]
 struct Answer {
     end: End,

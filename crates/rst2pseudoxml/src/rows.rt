@@ -1,4 +1,4 @@
-//! Tables of inputs with what the program shows of each.
+//! Tables of inputs with what the program prints for each.
 use rst_text::Counted;
 use rst2pseudoxml_options::options;
 use rst2pseudoxml_run::{Stop, report, run};
@@ -6,9 +6,9 @@ use std::alloc::Global;
 use std::process::Abort;
 use std::test::Fail;
 
-/// Argument words, parted by a space, an input, and what the program shows of it.
+/// Argument words, separated by spaces, an input, and what the program prints for it.
 pub(super) struct Row {
-    /// What the row shows.
+    /// What the row demonstrates.
     pub(super) name: &'static str,
     pub(super) words: &'static str,
     pub(super) input: &'static str,
@@ -25,7 +25,7 @@ pub(super) struct Output {
     pub(super) status: u8,
 }
 
-/// The words that stand in a text, parted by spaces.
+/// The words in a text, separated by spaces.
 fn words_of(alloc: Global, text: &str) -> Result<Vec<String>, Fail> {
     let mut words = Vec::new(alloc);
     for word in text.split_whitespace() {
@@ -34,7 +34,7 @@ fn words_of(alloc: Global, text: &str) -> Result<Vec<String>, Fail> {
     Ok(words)
 }
 
-/// Texts joined, each so often.
+/// Texts joined, each repeated by its number.
 pub(super) fn joined(alloc: Global, texts: &[(&str, usize)]) -> Result<String, Fail> {
     let mut all = String::new(alloc);
     for (text, times) in texts {
@@ -65,7 +65,7 @@ pub(super) fn shown(alloc: Global, words: &str, input: &[u8]) -> Result<Output, 
     Ok(Output { out, err, status })
 }
 
-/// Compares what is shown of each row's input with what the row says.
+/// Compares what is printed for each row's input with what the row expects.
 pub(super) fn compare(alloc: Global, rows: &[Row], rt: &impl Abort) -> Result<(), Fail> {
     for row in rows {
         let Output { out, err, status } = shown(alloc, row.words, row.input.as_bytes())?;

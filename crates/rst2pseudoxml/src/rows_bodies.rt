@@ -1,7 +1,7 @@
-//! Lists, quotes, literal blocks, comments and the forms of lines: what the program shows. The expected texts were worked out by an independent program.
+//! Lists, quotes, literal blocks, comments and the forms of lines: what the program prints. The expected texts come from an independent program.
 use super::rows::Row;
 
-/// What is read and what is shown.
+/// What is read and what is printed.
 pub(super) const ROWS: &[Row] = &[
     Row {
         name: "no input",

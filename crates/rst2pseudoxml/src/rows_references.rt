@@ -1,7 +1,7 @@
-//! Targets, references, footnotes and substitutions: what the program shows. The expected texts were worked out by an independent program.
+//! Targets, references, footnotes and substitutions: what the program prints. The expected texts come from an independent program.
 use super::rows::Row;
 
-/// What is read and what is shown.
+/// What is read and what is printed.
 pub(super) const ROWS: &[Row] = &[
     Row {
         name: "an automatic number passes over a label",

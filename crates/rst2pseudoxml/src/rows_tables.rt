@@ -1,7 +1,7 @@
-//! Tables: what the program shows. The expected texts were worked out by an independent program.
+//! Tables: what the program prints. The expected texts come from an independent program.
 use super::rows::Row;
 
-/// What is read and what is shown.
+/// What is read and what is printed.
 pub(super) const ROWS: &[Row] = &[
     Row {
         name: "a grid table with a row span",

@@ -1,7 +1,7 @@
-//! Titles, sections and transitions: what the program shows. The expected texts were worked out by an independent program.
+//! Titles, sections and transitions: what the program prints. The expected texts come from an independent program.
 use super::rows::Row;
 
-/// What is read and what is shown.
+/// What is read and what is printed.
 pub(super) const ROWS: &[Row] = &[
     Row {
         name: "a title and a paragraph",

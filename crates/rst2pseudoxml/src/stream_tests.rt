@@ -87,7 +87,7 @@ impl Read for Bytes {
     }
 }
 
-/// How a run over such a reader ends, and what its writers to standard output and standard error hold then.
+/// How a run over such a reader ends, and what its writers to standard output and standard error have then.
 fn run_between<R: ReadCall>(
     alloc: Global,
     input: &mut Counted<R>,
@@ -112,7 +112,7 @@ fn wide(alloc: Global) -> Narrow {
     Narrow::new(alloc, 40_000, 1000, true)
 }
 
-/// How a run over a text ends, and what its writer to standard output holds then.
+/// How a run over a text ends, and what its writer to standard output has then.
 fn run_into(alloc: Global, text: &[u8], out: Narrow) -> (End, Narrow) {
     let (end, out, _) = run_between(alloc, &mut Counted::of(text), out, wide(alloc));
     (end, out)
@@ -205,7 +205,7 @@ fn keeps_what_a_narrow_error_writer_took(rt: HostRuntime) -> std::result::Result
     Ok(())
 }
 
-/// How a run ends over so many bytes that are no UTF-8, so that nothing is made of them, and how often the reader was called.
+/// How a run ends over `left` bytes that are no UTF-8, so that nothing is made of them, and how often the reader was called.
 fn read_over(alloc: Global, left: usize, single: usize, fails: bool) -> (End, u64) {
     run_over(
         alloc,
@@ -285,8 +285,8 @@ impl Read for Front {
     }
 }
 
-/// How a run over the document with every construct ends where its writers to standard output and standard error have so much room, and what
-/// these hold then.
+/// How a run over the document with every construct ends where its writers to standard output and standard error have this much room, and what
+/// these have then.
 fn run_whole(alloc: Global, out_room: usize, err_room: usize) -> (End, Narrow, Narrow) {
     let mut input = Counted::of(DOCUMENT.as_bytes());
     let out = Narrow::new(alloc, out_room, 1000, true);

@@ -1,4 +1,4 @@
--- What each way out of `options` says of the words.
+-- What each way out of `options` implies for the words.
 use Rattle.std.proofs.Common.{◌≡◌, ◌≢◌, ◌⊎◌, inl, inr, Bool, true, false, List, [], ◌∷◌, Option, Result, Ok, Err, IsErrAnd, refl, ap, ◌∙◌, subst, sym, ◌||◌, codes}
 use Rattle.std.specs.declared.string.String.{String}
 use Rattle.clap.specs.Words.{IsAmong, Kinds, Text, first_of}

@@ -1,4 +1,4 @@
--- The command line: its options, and what `clap` states of argument words for them (Docutils Front-End Tools,
+-- The command line: its options, and what `clap` reports on argument words for them (Docutils Front-End Tools,
 -- 'rst2pseudoxml'). Words, names and values are the bytes of their UTF-8.
 use Rattle.std.specs.Prelude.{◌≡◌, ℕ, Bool, true, false, is_some, List, [], ◌∷◌, Some, Result, Ok, Err, codes}
 use Rattle.std.specs.Str.{bytes_eq}
@@ -25,7 +25,7 @@ flag name = record (new_rule name) { long = Some name; action = Some SetTrue }
 abbrev pub with_short : ℕ → Rule → Rule
 with_short c rule = record rule { short = Some c }
 
--- a command whose words hold no program name, without `--help` and `--version`
+-- a command whose words contain no program name, without `--help` and `--version`
 abbrev pub bare : App
 bare = on_top (λ s. record s { no_binary_name = true; disable_help_flag = true; disable_version_flag = true }) (new_app (codes "rst2pseudoxml"))
 

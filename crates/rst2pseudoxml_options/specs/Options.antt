@@ -12,7 +12,7 @@ use Rattle.rst2pseudoxml_options.specs.declared.fault.OptionFault.TheVariants.{U
 use Rattle.rst2pseudoxml_options.specs.Command.{faults_at, rows_at, is_given, is_on}
 use Rattle.rst2pseudoxml_options.specs.Values.{threshold_or, tab_or, limit_or}
 
--- what settings say: from which levels on messages are shown, halt and set the exit status, whether a lone title and a leading
+-- what settings consist of: from which levels on messages are printed, halt and set the exit status, whether a lone title and a leading
 -- field list are transformed, the tab width, and the most characters of a line
 pub record Choice : Type 0 where
   pub report : Threshold
@@ -23,7 +23,7 @@ pub record Choice : Type 0 where
   pub tab : ℕ
   pub limit : ℕ
 
--- what these settings say
+-- the values of these settings
 abbrev pub said_by : Settings → Choice
 said_by settings = record {
   report = settings.report;
@@ -35,7 +35,7 @@ said_by settings = record {
   limit = settings.limit;
 }
 
--- what holds where no option says otherwise
+-- the settings where no option changes them
 abbrev pub usual : Choice
 usual = record { report = Warning; halt = Severe; exit = Never; title = true; info = true; tab = 8; limit = 10000 }
 
@@ -90,7 +90,7 @@ choice_of rows = first_fault
       limit = limit;
     })
 
--- The settings say what the values choose, or the fault is their first.
+-- The settings are those that the values choose, or the fault is their first.
 abbrev pub Settles : List Row → Result Settings OptionFault → Type 0
 Settles rows (Ok settings) = choice_of rows ≡ Ok (said_by settings)
 Settles rows (Err fault) = choice_of rows ≡ Err fault

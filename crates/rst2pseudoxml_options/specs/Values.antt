@@ -26,7 +26,7 @@ abbrev pub begins_from_one : Text → Bool
 begins_from_one [] = false
 begins_from_one (d ∷ ds) = nat_le 49 d && nat_le d 57
 
--- a decimal number with no zero in front
+-- a decimal number with no leading zero
 abbrev pub is_numeral : Text → Bool
 is_numeral text = begins_from_one text && all_ascii_digits text
 

@@ -1,4 +1,4 @@
-//! The command line as `clap` is told of it.
+//! The command line as it is described to `clap`.
 ghost use Rattle.std.specs.Prelude.{◌≡◌, false, IfOk};
 ghost use Rattle.clap.specs.Words.{app_of, rule_of};
 ghost use Rattle.rst2pseudoxml_options.specs.Command.{program, flag, value_option};
@@ -8,7 +8,7 @@ use std::alloc::{AllocError, Global};
 
 /// The program's command: its options, and SOURCE.
 ///
-/// Words hold no program name, and `--help` and `--version` are no options.
+/// The words contain no program name, and `--help` and `--version` are no options.
 pub fn program<'a>(alloc: Global) -> Result<Command<'a>, AllocError>
     ensures { IfOk result (λ command. app_of command ≡ program) }
 {

@@ -20,7 +20,7 @@ pub fn threshold_or(given: Option<&str>, otherwise: Threshold) -> Option<Thresho
     }
 }
 
-/// The number from 1 to `most` that a word spells in decimal, with no zero in front.
+/// The number from 1 to `most` that a word spells in decimal, with no leading zero.
 fn number_to(text: &str, most: u32) -> Option<u32>
     ensures value { result ≡ number_to most text.now }
     ensures from { IfSome result (λ number. 1 ≤ number) }

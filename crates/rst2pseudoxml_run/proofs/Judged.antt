@@ -1,4 +1,4 @@
--- Each input has a result: what is shown of it, or why it is refused.
+-- Each input has a result: what is printed for it, or why it is refused.
 use Rattle.std.proofs.Common.{◌≡◌, ℕ, Bool, true, false, List, length, refl}
 use Rattle.std.specs.Prelude.{if◌then◌else◌, nat_lt, Option, Some, None, Result, Ok, Err}
 use Rattle.rst_settings.specs.Profile.{Profile}

@@ -13,7 +13,7 @@ use Rattle.rst2pseudoxml_run.specs.Headline.{Ends}
 use Rattle.rst2pseudoxml_run.specs.Shown.{result_of, Parts}
 use Rattle.rst2pseudoxml_run.proofs.ShownLemmas.{long_result, too_long}
 
--- what was handed out of known bytes is a front of them
+-- what was handed out of known bytes is a prefix of them
 handed : (before after : Option (List ℕ)) (text bytes : List ℕ) → before ≡ Some text → Consumes before after bytes → (rest : List ℕ) × (text ≡ bytes ++ rest) × (IsAtEnd after → rest ≡ [])
 handed None after text bytes e h = absurd (cc)
 handed (Some xs) None text bytes e h = absurd h

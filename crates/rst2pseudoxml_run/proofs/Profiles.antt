@@ -32,7 +32,7 @@ module _ (settings : Settings) where
   document_follows B r free is =
       documents_follow IsWithoutCode calls_agree opened_keep cells_keep first_profile (profile_of settings) (omega arith) refl refl B 0 r free is
 
-  -- so is what is said of a line that is too long
+  -- so is the message on a line that is too long
   read_follows : (long : Option ℕ) (B : Block) (r : Node × ℕ) → IsWithoutCode B → read_by long first_profile B ≡ Ok r → read_by long (profile_of settings) B ≡ Ok r
   read_follows None B r free is = document_follows B r free is
   read_follows (Some line) B r free is = is

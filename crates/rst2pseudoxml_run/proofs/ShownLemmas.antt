@@ -1,4 +1,4 @@
--- Lemmas on what is shown of a finished document.
+-- Lemmas on what is printed of a finished document.
 use Rattle.std.proofs.Common.{◌≡◌, ◌∙◌, ℕ, ◌<◌, ◌≤◌, List, length, Ok, Err, Result, Option, Some, None, ⊎_elim, sym, ap, subst, Vec}
 use Rattle.std.proofs.lemmas.Bool.{cases_lt, cond-true, cond-false, le-ltb, lt-ltb}
 use Rattle.rst_settings.specs.Profile.{Profile}

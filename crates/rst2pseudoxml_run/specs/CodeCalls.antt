@@ -24,11 +24,11 @@ is_called (w ∷ ws) (c ∷ cs) = (to_ascii_lowercase c == w) && is_called ws cs
 unfoldable pub begins_code : List ℕ → Bool
 begins_code t = is_called (codes "code") t || is_called (codes "code-block") t
 
--- a text holds a call of program code: the text, or what is left of it after some characters, begins with one
+-- a text contains a call of program code: the text, or what is left of it after some characters, begins with one
 abbrev pub holds_code : List ℕ → Bool
 holds_code [] = false
 holds_code (c ∷ cs) = begins_code (c ∷ cs) || holds_code cs
 
--- no line of a block holds one
+-- no line of a block contains one
 abbrev pub IsWithoutCode : Block → Type 0
 IsWithoutCode B = AllByRecursion (λ (l : Line). holds_code l.text ≡ false) B

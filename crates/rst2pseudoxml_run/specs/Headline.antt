@@ -33,7 +33,7 @@ Ends result input out err TooLong = (result ≡ Err TooLong) × Untouched out ×
 Ends result input out err Read = (input.failed ≡ true) × Untouched out × Untouched err
 Ends result input out err NoMemory = Untouched out × Untouched err
 
--- For every input, what a run shows and how it ends is the result of the bytes that the reads handed out, each once.
+-- For every input, what a run prints and how it ends is the result of the bytes that the reads handed out, each once.
 abbrev pub Headline : (List ℕ → Result Parts End) → Stream → Stream → Stream → End → Type 0
 Headline result_of input out err end = (bytes : List ℕ) × HandsOut input bytes × Ends (result_of bytes) input out err end
 
@@ -49,7 +49,7 @@ abbrev pub Takes : {A : Type 0} → Stream → List ℕ → Result (Vec ℕ A) E
 Takes input bytes (Ok read) = IsReadOut input × (read.items ≡ bytes) × (length bytes ≤ 16777216)
 Takes input bytes (Err end) = IsUnread input bytes end
 
--- Reads, from a state of the reader to a later one, before which so many bytes have come. Each is made only while no more than 16,777,216
+-- Reads, from a state of the reader to a later one, before which some number of bytes has come. Each is made only while no more than 16,777,216
 -- bytes have come. One that fails, or gives 0 bytes, is the last.
 pub data ReadsOn {R : Type 0} (Gives : R → Option ℕ → List ℕ → R → Type 0) : ℕ → R → R → Type 0 where
   enough : {came : ℕ} {r : R} → ReadsOn Gives came r r
@@ -57,7 +57,7 @@ pub data ReadsOn {R : Type 0} (Gives : R → Option ℕ → List ℕ → R → T
   last : {came : ℕ} {buf : List ℕ} {r r' : R} → came ≤ 16777216 → Gives r None buf r' ⊎ Gives r (Some 0) buf r' → ReadsOn Gives came r r'
 
 -- No call is made of a writer to which nothing is to be written: of neither where the run was refused or memory ran out, and not of standard
--- output where a message halts the run, as its status 1 says, or a write to standard error failed.
+-- output where a message halts the run, with status 1, or a write to standard error failed.
 abbrev pub IsQuiet : End → Type 0 → Type 0 → Type 0
 IsQuiet (Done status) out err = status ≡ 1 → out
 IsQuiet (WriteErr done) out err = out

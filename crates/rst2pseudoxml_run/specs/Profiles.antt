@@ -1,5 +1,5 @@
 -- The profile that the program ran under at first, and the documents that are the same under the present one. No rule of markup: it is
--- what the law that says so speaks of.
+-- what the law on that is about.
 use Rattle.std.specs.Prelude.{◌≡◌, ◌⊎◌, ℕ, false, List, Option, None, Some, Ok, Err}
 use Rattle.rst_settings.specs.Profile.{Profile, profile_of}
 use Rattle.rst_settings.specs.declared.Settings.{Settings}
@@ -32,7 +32,7 @@ abbrev pub CallsNoCode : Settings → Option (List ℕ) → Type 0
 CallsNoCode settings None = Unit {0}
 CallsNoCode settings (Some text) = IsWithoutCode (lines_of settings.tab text)
 
--- what a parsed document, in which so many numbers were given to messages, has become after the transform of its title
+-- what a parsed document, whose messages were given `messages` numbers, has become after the transform of its title
 abbrev pub titled_of : ℕ → Settings → Node → Document
 titled_of messages settings document =
     let registered = registration messages document in (titled_first settings (document_in registered.root) (known_at_first messages registered)).0

@@ -33,7 +33,7 @@ long_message line = note_node (record { level = Error; line = line; text = long_
 abbrev pub long_document : ℕ → Node
 long_document line = Element Document [] (forest_of (long_message line ∷ [])) 0
 
--- What is read of the lines of a text where this one of them is too long, if one is: a document that says so and nothing else, or the
+-- What is read of the lines of a text where this one of them is too long, if one is: a document with a message on that and nothing else, or the
 -- document of the lines; with it how many numbers the messages on its texts have. Or the number of the line at which blocks are nested
 -- too deeply.
 abbrev pub read_by : Option ℕ → Profile → Block → Result (Node × ℕ) ℕ

@@ -1,4 +1,4 @@
--- What the program shows of a finished document: standard output, standard error and the exit status.
+-- What the program prints of a finished document: standard output, standard error and the exit status.
 use Rattle.std.specs.Prelude.{◌≡◌, ℕ, ◌+◌, Bool, true, false, ◌||◌, nat_lt, List, [], ◌∷◌, ◌++◌, length, filter, if◌then◌else◌, Option, None, Some, Result, Ok, Err, Vec, codes}
 use Rattle.std.specs.Fmt.{decimal}
 use Rattle.std.specs.List.{flat_map}
@@ -68,13 +68,13 @@ abbrev pub ended_by : Settings → List Note → Option Level → ℕ
 ended_by settings notes None = status_by settings (highest_level notes)
 ended_by settings notes (Some level) = 1
 
--- what is shown of a document and its messages, or of its messages alone where one halts the run
+-- what is printed of a document and its messages, or of its messages alone where one halts the run
 abbrev pub parts_of : Settings → List ℕ → Node → List Note → Parts
 parts_of settings source document notes =
     let halts = halting settings notes in
     record { out = shown_by source document halts; err = error_text settings source notes; status = ended_by settings notes halts }
 
--- what is shown of what is read of a text: of what is left of a document and of its messages; or the line at which blocks are nested too deeply
+-- what is printed of what is read of a text: of what is left of a document and of its messages; or the line at which blocks are nested too deeply
 abbrev pub result_of_read : Profile → Settings → List ℕ → Result (Node × ℕ) ℕ → Result Parts End
 result_of_read profile settings source (Ok read) = let left = leaves read.1 profile settings read.0 in Ok (parts_of settings source left.0 left.1)
 result_of_read profile settings source (Err line) = Err (TooDeep line)
@@ -84,7 +84,7 @@ abbrev pub result_of_text : Profile → Settings → List ℕ → List ℕ → O
 result_of_text profile settings source bytes None = Err (NotUtf8 (utf8_valid_len bytes))
 result_of_text profile settings source bytes (Some text) = result_of_read profile settings source (read_of profile (lines_of settings.tab text))
 
--- The result of some bytes: what is shown of them, or the refusal of what is too long, no UTF-8 or nested too deeply.
+-- The result of some bytes: what is printed for them, or the refusal of what is too long, no UTF-8 or nested too deeply.
 abbrev pub result_of : Profile → Settings → List ℕ → List ℕ → Result Parts End
 result_of profile settings source bytes =
     if nat_lt 16777216 (length bytes) then Err TooLong else result_of_text profile settings source bytes (text_of bytes)
@@ -100,7 +100,7 @@ abbrev pub is_judged : Result Parts End → Bool
 is_judged (Ok parts) = true
 is_judged (Err end) = is_refusal end
 
--- each input has a result, which is shown or is one of these refusals
+-- each input has a result, which is printed or is one of these refusals
 abbrev pub IsJudged : Type 0
 IsJudged = (profile : Profile) (settings : Settings) (source bytes : List ℕ) → is_judged (result_of profile settings source bytes) ≡ true
 

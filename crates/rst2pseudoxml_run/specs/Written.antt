@@ -1,4 +1,4 @@
--- Texts that are written out, and what the program shows of them, for worked examples. No rule of markup.
+-- Texts that are written out, and what the program prints for them, for worked examples. No rule of markup.
 use Prim.Native.String.{String}
 use Rattle.std.proofs.Common.{arith}
 use Rattle.std.specs.Prelude.{◌≡◌, ℕ, List, [], Ok, codes, encode_utf8_all}

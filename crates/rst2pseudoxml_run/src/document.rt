@@ -26,7 +26,7 @@ pub fn document_of(alloc: Global, settings: &Settings, bytes: Vec<u8>) -> Result
     }
 }
 
-/// What is read of the bytes: if a line of their text is too long, the document says nothing else.
+/// What is read of the bytes: if a line of their text is too long, the document has only a message on that.
 fn parsed_of(alloc: Global, settings: &Settings, bytes: Vec<u8>) -> Result<Parsed, End>
     requires few { length bytes.items ≤ 16777216 }
     ensures { spec.Parses (profile_of settings.now) settings.now bytes.items result }
@@ -55,7 +55,7 @@ fn parsed_of(alloc: Global, settings: &Settings, bytes: Vec<u8>) -> Result<Parse
     }
 }
 
-/// What is said of a line that is too long.
+/// The message text on a line that is too long.
 fn long_text(alloc: Global, line: usize) -> Result<String, AllocError>
     ensures { IfOk result (λ text. string_bytes text ≡ spec.long_text line) }
 {
@@ -66,7 +66,7 @@ fn long_text(alloc: Global, line: usize) -> Result<String, AllocError>
     Ok(text)
 }
 
-/// The document of lines of which the one with this number is too long: the message that says so (Configuration,
+/// The document of lines of which the one with this number is too long: the message on that (Configuration,
 /// `line_length_limit`).
 fn long_line(alloc: Global, line: usize) -> Result<Parsed, TreeFault>
     ensures tree { Gives (λ parsed. parsed.tree ≡ spec.long_document line) result }

@@ -14,7 +14,7 @@ pub enum End {
     Read,
     /// The input has more than 16,777,216 bytes.
     TooLong,
-    /// The input is no UTF-8; `at` bytes are its longest front that is.
+    /// The input is no UTF-8; `at` bytes are its longest prefix that is.
     NotUtf8 { at: usize },
     /// A block that isn't blank is nested too deeply; its first line that isn't blank has this number.
     TooDeep { line: usize },

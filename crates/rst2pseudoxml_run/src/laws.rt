@@ -3,12 +3,12 @@ ghost use Rattle.rst2pseudoxml_run.specs.OneEnd.{HasOneEnd};
 ghost use Rattle.rst2pseudoxml_run.specs.Profiles.{IsFirstProfile, ProfilesAgree};
 ghost use Rattle.rst2pseudoxml_run.specs.Shown.{IsJudged};
 
-/// Each input has a result: what is shown of it, or its refusal as too long, no UTF-8 or nested too deeply.
+/// Each input has a result: what is printed for it, or its refusal as too long, no UTF-8 or nested too deeply.
 pub fn judged()
     ensures { IsJudged }
 {}
 
-/// Runs whose readers hold the same bytes have one end, want of memory and failed reads and writes aside: they end alike, and their
+/// Runs whose readers have the same bytes have one end, lack of memory and failed reads and writes aside: they end alike, and their
 /// writers gain the same.
 pub fn one_end()
     ensures { HasOneEnd }

@@ -58,7 +58,7 @@ pub fn report<E: WriteCall>(stop: &Stop, err: &mut Counted<E>) -> u8
     }
 }
 
-/// What is said of argument words.
+/// The error text on argument words.
 fn option_message(fault: OptionFault) -> &'static str
     ensures { result.now ≡ option_message fault }
 {

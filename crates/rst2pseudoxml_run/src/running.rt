@@ -17,10 +17,10 @@ use rst_tree::{PrintFault, print_with_source};
 use std::alloc::Global;
 use std::mem;
 
-/// Reads the input to its end and writes what the program shows for it: all of standard error, then standard output.
+/// Reads the input to its end and writes what the program prints for it: all of standard error, then standard output.
 ///
-/// Where the input is refused nothing is written. After a failed write the writer holds the front of its part that it
-/// had taken, each byte once, and standard output holds nothing if standard error failed. No read is made once more than
+/// Where the input is refused nothing is written. After a failed write the writer has the prefix of its part that it
+/// had taken, each byte once, and standard output has nothing if standard error failed. No read is made once more than
 /// 16,777,216 bytes have come. No write is of an empty text, and none follows one that failed.
 pub fn run<R: ReadCall, O: WriteCall, E: WriteCall>(
     alloc: Global,
@@ -59,7 +59,7 @@ pub fn run<R: ReadCall, O: WriteCall, E: WriteCall>(
     }
 }
 
-/// Writes what the program shows of a finished document: all of standard error, then standard output.
+/// Writes what the program prints of a finished document: all of standard error, then standard output.
 ///
 /// The messages are gathered before the first write, so where memory runs out nothing was written. The document needs no
 /// memory: it is printed as it is written.

@@ -125,7 +125,7 @@ entries_keep depth cells left rest cell B made n m e f g low high l b inv k =
 
 -- ---- tables
 
--- the rows of a table at the next line of a block that stands in one block less than its cells
+-- the rows of a table at the next line of a block that is inside one block fewer than its cells
 pub table_reads : (old moved mid new : OpenBlock) (B : Block) (depth : ℕ) (found : TableResult) (cols : List ℕ) (head end : ℕ) (rows : List (List Cell)) (made : List Node) (node : Node) (n m : ℕ)
     → found ≡ Table cols head rows end → depth ≡ suc old.depth → each (row_of (within_at (depth - 1))) rows n ≡ Ok (made, m) → node ≡ table_node cols head made (first_number (drop old.at B))
     → IsMoved old moved → moved.at ≡ end → HasMore moved mid (node ∷ []) → HasMore mid new (ending_notes (alone_ending grid) (drop mid.at B))

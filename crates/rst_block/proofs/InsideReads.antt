@@ -44,7 +44,7 @@ use Rattle.rst_block_state.specs.Within.{Within, hanging, indented_part}
 use Rattle.rst_block.specs.InsideLaws.{InsideIsRead}
 use Rattle.rst_block_state.proofs.NumberedLemmas.{same_after}
 
--- What is read twice is the same. Or, if refusals don't count, what was read is read again, and of what was refused nothing is said.
+-- What is read twice is the same. Or, if refusals don't count, what was read is read again, and what was refused may give anything.
 abbrev pub Alike : {A : Type 0} → Bool → Result (A × ℕ) ℕ → Result (A × ℕ) ℕ → Type 0
 Alike true r s = r ≡ s
 Alike false (Ok x) s = s ≡ Ok x

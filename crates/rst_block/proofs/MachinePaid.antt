@@ -34,7 +34,7 @@ use Rattle.rst_block_state.proofs.WaitingLooks.{cell_text, rows_cells, table_rea
 
 -- ---- some lines, one after another
 
--- Of the lines to be read, so many are left: the looks so far are one to 128 for each of the others.
+-- Of the lines to be read, this many are left: the looks so far are one to 128 for each of the others.
 abbrev pub AreLeft : (all left before now : ℕ) → Type 0
 AreLeft all left before now = Takes (128 * all) all before (128 * left) left now
 
@@ -76,7 +76,7 @@ next_cell depth left rest cell C low l e =
 one_row : (depth : ℕ) (cells : List Cell) → totals depth (cell_blocks (Table [] 0 (cells ∷ []) 0)) ≡ totals depth (cell_lines cells)
 one_row depth cells = ap (λ (cs : List Cell). totals depth (cell_lines cs)) (append-nil cells)
 
--- behind the last cell no line is left
+-- after the last cell no line is left
 no_cell : (depth : ℕ) (left : List Cell) → left ≡ [] → totals depth (cell_lines left) ≡ 0
 unfolding sum_of
 no_cell depth left l = ap (λ (cs : List Cell). totals depth (cell_lines cs)) l
@@ -91,7 +91,7 @@ pub next_row : {Z : Type 0} (depth : ℕ) (left rest : List (Vec Cell Z)) (row :
     → totals depth (row_lines left) ≡ totals depth (cell_blocks (Table [] 0 (row.items ∷ []) 0)) + totals depth (row_lines rest)
 next_row {Z} depth left rest row l = ap (λ (some : List (Vec Cell Z)). totals depth (row_lines some)) l ∙ rows_cells depth 0 0 0 [] row.items (cells_of rest)
 
--- behind the last row no line is left
+-- after the last row no line is left
 no_row : {Z : Type 0} (depth : ℕ) (left : List (Vec Cell Z)) → left ≡ [] → totals depth (row_lines left) ≡ 0
 unfolding sum_of
 no_row {Z} depth left l = ap (λ (some : List (Vec Cell Z)). totals depth (row_lines some)) l
@@ -126,7 +126,7 @@ none_open : (r : Run) → open_of r ≡ no_run → r ≡ NoRun
 none_open NoRun h = refl
 none_open _ h = cc
 
--- So many looks were left, and those so far leave what the lines may take of them that are left: in the blocks that wait, and in the one
+-- This many looks were left, and those so far leave what the lines may take of them that are left: in the blocks that wait, and in the one
 -- that is read, by what comes next in it.
 abbrev pub IsPaidFor : (most least : ℕ) (S : Block) (fs : List Frame) (l : OpenBlock) (B : Block) (s : Step) (before now : ℕ) → Type 0
 IsPaidFor most least S fs l B s before now = Takes most least before (most_in S fs + most_left l B s) (least_in S fs + least_left l B s) now

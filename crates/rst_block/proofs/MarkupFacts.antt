@@ -1,4 +1,4 @@
--- The blocks that explicit markup opens stand in its lines, one after another, and begin with a line that isn't blank.
+-- The blocks that explicit markup opens are in its lines, one after another, and begin with a line that isn't blank.
 use Rattle.std.proofs.Common.{◌≡◌, ℕ, ◌+◌, ◌-◌, ◌<◌, ◌≤◌, Bool, true, false, cond, List, length, drop, Option, None, Some, arith, refl, ap, ◌∙◌}
 use Rattle.std.specs.Prelude.{IfSome, unwrap_or, option_map}
 use Rattle.std.specs.Option.{option_and_then}
@@ -39,7 +39,7 @@ use Rattle.rst_block_state.proofs.PartFacts.{hanging_fronted, hanging_from, hang
 
 -- ---- marks of forms
 
--- the marker of a label or of a directive says whether anything stands after it
+-- the marker of a label or of a directive shows whether anything comes after it
 abbrev FormTells : List ℕ → ExplicitForm → Type 0
 FormTells t (Label l) = Tells t l.marker
 FormTells t (Directive d) = Tells t d.marker

@@ -1,4 +1,4 @@
--- The blocks that a construct opens stand in its lines, one after another, and begin with a line that isn't blank.
+-- The blocks that a construct opens are in its lines, one after another, and begin with a line that isn't blank.
 use Rattle.std.proofs.Common.{◌≡◌, ⊎_elim, ℕ, zero, suc, ◌+◌, ◌-◌, ◌<◌, ◌≤◌, Bool, true, false, not, ◌&&◌, ◌||◌, cond, List, [], ◌∷◌, ◌++◌, length, take, drop, length-drop, Option, None, Some, arith, refl, sym, ap, ◌∙◌, subst, leb, ltb, inl, inr, ◌⊎◌}
 use Rattle.std.specs.Prelude.{IfSome, is_some}
 use Rattle.std.specs.Option.{option_map_or}

@@ -14,7 +14,7 @@ at_most [] = omega arith
 at_most (None ∷ ps) = omega (arith, at_most ps)
 at_most (Some b ∷ ps) = omega (arith, at_most ps)
 
--- a block is put behind the others
+-- a block is put after the others
 pub put : (ps all : List (Option (Box Frame Global))) (b : Box Frame Global) → all ≡ ps ++ Some b ∷ [] → length (frames_at ps) ≡ length ps
     → (frames_at all ≡ frames_at ps ++ box_value b ∷ []) × (length (frames_at all) ≡ length all)
 put ps all b e h =

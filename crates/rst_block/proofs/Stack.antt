@@ -19,7 +19,7 @@ below h k = omega (arith, h, k)
 pub still : {a b c : ℕ} → a < b → b ≤ c → a ≤ c
 still h k = omega (arith, h, k)
 
--- a step behind others
+-- a step after others
 pub next_of_step : (B : Block) (at on to : ℕ) (s : Step) → at ≤ on → on < length B → IsStep B on to s → IsNext B at to s
 next_of_step B at on to Next i j h = (omega (arith, i, j), omega (arith, i, h))
 next_of_step B at on to (Open w first second) i j h = (omega (arith, i, j), omega (arith, i, h.0), h.1, h.2, h.3)
@@ -118,16 +118,16 @@ taken S base items xs f e h a =
     let p = popped S (drop base xs) f (rw d at a) in
     (b, d, ap (take base) e ∙ take-append-le base xs (f ∷ []) b, p.0, p.1)
 
--- one more is put behind them
+-- one more is put after them
 pub placed : (S : Block) (base : ℕ) (xs : List Frame) (f : Frame) → base ≤ length xs → AreFrames S (drop base xs) → IsFrame S f
     → (base ≤ length (xs ++ f ∷ [])) × (drop base (xs ++ f ∷ []) ≡ drop base xs ++ f ∷ []) × (take base (xs ++ f ∷ []) ≡ take base xs) × AreFrames S (drop base (xs ++ f ∷ []))
 placed S base xs f h a i =
     let d : drop base (xs ++ f ∷ []) ≡ drop base xs ++ f ∷ [] = drop-append-le base xs (f ∷ []) h in
     (omega (arith, length-append xs (f ∷ []), h), d, take-append-le base xs (f ∷ []) h, rw d (pushed S (drop base xs) f a i))
 
--- ---- how deep they stand
+-- ---- how deep they are
 
--- one more block that waits stands in one block more than the last
+-- one more block that waits is inside one block more than the last
 pub nested_push : (d : ℕ) (fs : List Frame) (f : Frame) → AreNested d fs → f.level.depth ≡ d + length fs → AreNested d (fs ++ f ∷ [])
 nested_push d [] f h e = (omega (arith, e), tt)
 nested_push d (g ∷ fs) f h e = (h.0, nested_push (suc d) fs f h.1 (omega (arith, e)))

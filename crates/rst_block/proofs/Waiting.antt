@@ -47,7 +47,7 @@ waiting_for l B X w second earlier = do
   ns ← (within_at l.depth).inner X
   after l B w second earlier ns
 
--- the second part is read behind the first one
+-- the second part is read after the first one
 pub second_reads : (S : Block) (f : Frame) (old level : OpenBlock) (p : Part) (X : Block) (nodes : List Node) (n : ℕ) → 0 < old.depth → f.second ≡ Some p → level ≡ f.level
     → X ≡ lines_in (placement_block S f.placement) p → nodes ≡ f.nodes ++ old.nodes
     → waiting_for level (placement_block S f.placement) X f.waits None nodes n

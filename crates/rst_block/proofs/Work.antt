@@ -1,4 +1,4 @@
--- The work that is left while blocks wait for one another: fewer blocks, or less in them, is less, whatever stands inside them.
+-- The work that is left while blocks wait for one another: fewer blocks, or less in them, is less, whatever is inside them.
 use Rattle.std.proofs.Common.{◌≡◌, ℕ, zero, suc, ◌+◌, ◌*◌, ◌<◌, ◌≤◌, ◌++◌, List, [], ◌∷◌, length, arith, refl, ap, ◌∙◌}
 use Rattle.std.proofs.Math.Nat.{mul-add, mul_comm, mul-lt-mul_of_pos_left}
 use Rattle.std.proofs.lemmas.Nat.{mul-add-lt}

@@ -33,7 +33,7 @@ pub record Continues (B : Block) (old : OpenBlock) (before : Pass) (given : Numb
 abbrev pub ContinuesFrom : Block → OpenBlock → Step → Pass → OpenBlock → Pass → Result Step BlockFault → Type 0
 ContinuesFrom B old s before new after result = Continues B old before (comes old B s) (most_left old B s) (least_left old B s) new after result
 
--- A text is being read that stands in so many blocks: behind so many first blocks those of the text wait, and this comes next in the one that is read.
+-- A text inside this many blocks is being read. The first blocks that wait, this many, are around it; this comes next in the one that is read.
 pub record IsReading (outer first : ℕ) (S : Block) (fs : List Frame) (l : OpenBlock) (view : View) (step : Step) : Type 0 where
   pub base : first ≤ length fs
   pub under : first ≤ outer
@@ -73,7 +73,7 @@ parts_left (Some p) = 4
 abbrev pub left : Block → Frame → ℕ
 left S f = 5 * (length (placement_block S f.placement) - f.level.at) + parts_left f.second
 
--- all that is left where a text has n lines, there is room for so many blocks, and these wait
+-- all that is left where a text has n lines, there is room for this many blocks, and these wait
 abbrev pub all_left : ℕ → ℕ → Block → List Frame → ℕ → ℕ → Step → ℕ
 all_left n room S fs lines at now = work (5 * n + 6) room (map (left S) fs) (cost lines at now)
 

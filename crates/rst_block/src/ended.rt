@@ -12,7 +12,7 @@ use rst_text::View;
 use std::mem;
 
 /// What follows the end of a block inside the one that waits, where `level` is what was read of it, and `whole` shows all lines
-/// of the text. A part that comes next stands in as many blocks as `depth` says. The level becomes that of what follows.
+/// of the text. A part that comes next is inside `depth` blocks. The level becomes that of what follows.
 pub(crate) fn closed<'a>(
     whole: &View<'a>,
     frame: Frame,

@@ -47,7 +47,7 @@ impl Frames {
         self.places.len()
     }
 
-    /// Puts one behind them. There must be room.
+    /// Adds one after them. There must be room.
     pub(crate) fn push(&mut self, alloc: Global, frame: Frame) -> Result<()>
         requires { length self.old < 250 }
         ensures { Gives (λ _. self.new ≡ self.old ++ frame ∷ []) result }
@@ -56,7 +56,7 @@ impl Frames {
         Ok(())
     }
 
-    /// Takes the last, but for the first ones, as many as `base` says.
+    /// Takes the last, but none of the first `base` ones.
     pub(crate) fn pop(&mut self, base: usize) -> Option<Frame>
         requires { base ≤ length self.old }
         ensures none { IfNone result ((self.new ≡ self.old) × (length self.old ≡ base)) }

@@ -74,7 +74,7 @@ pub(crate) fn changes_are_read()
     ensures title { meaning.TitleIsLast }
 {}
 
-/// The blocks that are opened in a block whose lines don't end in white stand in its lines, one after another, and each begins with
+/// The blocks that are opened in a block whose lines don't end in white are in its lines, one after another, and each begins with
 /// a line that isn't blank. So the block's budget allows 128 looks for each line of it and of all blocks and cells inside. Its floor
 /// asks for no more looks than there are lines of these.
 pub fn budget_bounds_totals()
@@ -93,7 +93,7 @@ pub fn few_reaches_share_a_line()
 {}
 
 /// How many looks a reading may still take, and has to take at least, by the state of the machine: at a block's begin as many as
-/// its total says, and at its end none. A blank line, a construct and a block inside take no more of them than they leave.
+/// its total, and at its end none. A blank line, a construct and a block inside take no more of them than they leave.
 pub fn looks_are_paid()
     ensures begun { ledger.BlocksBegin }
     ensures ended { ledger.BlocksEnd }

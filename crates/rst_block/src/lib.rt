@@ -1,5 +1,5 @@
 //! Blocks: the lines of a document, or of a part of it, as nodes and sections (Markup Specification, 'Syntax Details'). Here is the
-//! machine that goes from construct to construct; these, and the state that it keeps, stand in the crates below.
+//! machine that goes from construct to construct; these, and the state that it keeps, are in the crates below.
 #![tactic(auto, using(rst_block_state::proofs::Views::few_lines))]
 
 mod ended;

@@ -35,7 +35,7 @@ use rst_tree_index::MarkedNodes;
 use std::alloc::Global;
 
 /// Reads the lines of a text: of a document, or of a table's cell. The level, of which nothing was read, becomes what was read of
-/// them. The blocks that wait, those of the text behind those round it, stand in `frames`.
+/// them. The blocks that wait are in `frames`: those around the text, then those of the text.
 #[cycle(machine)]
 pub(crate) fn read(
     lines: &Lines,
@@ -91,8 +91,8 @@ fn read_blocks(
     }
 }
 
-/// Reads on up to the cells of a table, or to the end of a text that stands in as many blocks as `depth` says, behind the first
-/// blocks that wait, as many as `base` says.
+/// Reads on up to the cells of a table, or to the end of a text that is inside `depth` blocks. The first `base` blocks
+/// that wait are around the text.
 // What it keeps is off the stack while the cells of a table are read.
 #[inline(never)]
 fn read_on<'a>(
@@ -158,7 +158,7 @@ fn read_on<'a>(
     }
 }
 
-/// What comes in a block behind the constructs that are read at once: one that waits for a block inside, or the block's end.
+/// What comes in a block after the constructs that are read at once: one that waits for a block inside, or the block's end.
 #[tactic(auto, using(rst_block_state::proofs::Views::few_lines, crate::proofs::Stack::next_of_step))]
 fn next(view: &View<'_>, level: &mut OpenBlock, pass: &mut Pass) -> Result<Step>
     ensures next { IfOk result (λ s. spec.IsNext (block_of view.now) level.old.at level.new.at s) }
@@ -213,7 +213,7 @@ fn flat(
     resume(view, level, waits, MarkedNodes::none(pass.alloc), pass)
 }
 
-/// Puts a table behind the last node, whose cells stand in as many blocks as `depth` says, and goes on.
+/// Puts a table, whose cells are inside `depth` blocks, after the last node, and goes on.
 #[cycle(machine)]
 fn cells(
     view: &View<'_>,
@@ -255,7 +255,7 @@ fn cells(
     Ok(())
 }
 
-/// Puts a table of these rows behind the last node.
+/// Puts a table of these rows after the last node.
 // What it keeps is off the stack while cells are read, as with the next two.
 #[inline(never)]
 fn put_table(
@@ -271,7 +271,7 @@ fn put_table(
     level.push_marked(table_of(alloc, line, widths, head, rows)?)
 }
 
-/// The rows of a table, whose cells stand in as many blocks as `depth` says.
+/// The rows of a table, whose cells are inside `depth` blocks.
 #[cycle(machine)]
 fn rows_of(rows: Rows, depth: usize, frames: &mut Frames, pass: &mut Pass) -> Result<MarkedNodes>
     requires depth { depth ≤ 251 }
@@ -290,7 +290,7 @@ fn rows_of(rows: Rows, depth: usize, frames: &mut Frames, pass: &mut Pass) -> Re
     Ok(made)
 }
 
-/// Puts a row of these entries behind the others.
+/// Puts a row of these entries after the others.
 #[inline(never)]
 fn put_row(alloc: Global, rows: &mut MarkedNodes, entries: MarkedNodes) -> Result<()>
     ensures { Gives (λ _. rows.new ≡ rows.old ++ element_of Row [] entries 0 ∷ []) result }
@@ -299,7 +299,7 @@ fn put_row(alloc: Global, rows: &mut MarkedNodes, entries: MarkedNodes) -> Resul
     Ok(())
 }
 
-/// The entries of a row, whose cells stand in as many blocks as `depth` says. The lines of a cell are kept once, and only until they
+/// The entries of a row, whose cells are inside `depth` blocks. The lines of a cell are kept once, and only until they
 /// are read, so a line inside several tables is kept once for each of them.
 #[cycle(machine)]
 fn entries_of(
@@ -331,7 +331,7 @@ fn entries_of(
     Ok(entries)
 }
 
-/// Puts the entry of a cell with these nodes behind the others.
+/// Puts the entry of a cell with these nodes after the others.
 #[inline(never)]
 fn put_entry(
     alloc: Global,

@@ -15,7 +15,7 @@ use std::alloc::Global;
 
 /// Reads a document (Markup Specification, 'Syntax Details').
 ///
-/// It is refused with [`BlockFault::TooDeep`] where a block that isn't blank stands in more than 250 blocks: at the first such
+/// It is refused with [`BlockFault::TooDeep`] where a block that isn't blank is inside more than 250 blocks: at the first such
 /// block; and with [`BlockFault::NoMemory`].
 pub fn parse(alloc: Global, lines: &Lines) -> Result<Parsed>
     ensures tree { (settings : Settings) → spec.Parses (spec.document (profile_of settings) lines.now 0) result }

@@ -74,7 +74,7 @@ pub(crate) fn resume(
     Ok(Step::Next)
 }
 
-/// An item of a list: its heads, and its body, in which messages stand before the nodes of its block.
+/// An item of a list: its heads, and its body, in which messages come before the nodes of its block.
 fn listed_item(
     alloc: Global,
     line: usize,
@@ -94,7 +94,7 @@ fn listed_item(
     parts.into_element(item, Attrs::new(alloc), line)
 }
 
-/// Puts a block quote behind the last node, with its attribution and the messages of that.
+/// Puts a block quote after the last node, with its attribution and the messages of that.
 fn put_quote(
     alloc: Global,
     level: &mut OpenBlock,
@@ -117,7 +117,7 @@ fn put_quote(
     }
 }
 
-/// Goes on behind a block quote that ended: with the rest of its lines, which are another, or behind them all.
+/// Goes on after a block quote that ended: with the rest of its lines, which are another, or after them all.
 fn after_quote(
     view: &View<'_>,
     level: &mut OpenBlock,

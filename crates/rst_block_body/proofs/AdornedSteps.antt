@@ -1,4 +1,4 @@
--- A line of one punctuation character at the next line of a block: its form says the construct.
+-- A line of one punctuation character at the next line of a block: its form decides the construct.
 use Rattle.std.proofs.Common.{◌≡◌, ℕ, Bool, true, false, cond, List, Result, codes, drop, Option, Some, unwrap_or, refl, sym, ◌∙◌, ap}
 use Rattle.std.proofs.lemmas.Bool.{eqb-true}
 use Rattle.std.specs.Prelude.{◌==◌, ◌&&◌, nat_le}
@@ -48,7 +48,7 @@ adorned_next l B {mark} h e =
       size = next.size ∙ size_by l B mark h ∙ ap (λ g. adorned_size g (drop l.at B)) (sym e);
     }
 
--- titles stand in the document alone
+-- titles are recognized in the document alone
 pub titled_at_top : (l : OpenBlock) (B : Block) (mark : Adornment) {short : Bool} → AdornedTitle short ≡ form_at l B mark → l.depth ≡ 0
 unfolding adorned_form adorned_below
 titled_at_top l B mark {short} e = by (l.depth == 0) refl e

@@ -1,4 +1,4 @@
--- The first attribution of a quote is found behind the blank lines that follow a text.
+-- The first attribution of a quote is found after the blank lines that follow a text.
 use Rattle.std.proofs.Common.{◌≡◌, ⊎_elim, ℕ, zero, suc, ◌+◌, ◌-◌, ◌<◌, ◌≤◌, Bool, true, false, cond, List, [], ◌∷◌, Option, None, Some, length, drop, option_and_then, option_map, refl, sym, ap, ◌∙◌, arith}
 use Rattle.std.proofs.Math.Bool.{not}
 use Rattle.std.specs.Option.{is_some, option_map_or}
@@ -180,7 +180,7 @@ with_end : (k marker indent w : ℕ) (o : Option ℕ) (a : Attribution) → ((m 
 with_end k marker indent w None a h e = cc
 with_end k marker indent w (Some m) a h e = ap (λ o. option_map_or (λ (x : Attribution). x.end) o 0) e ∙ ap (λ n. k + 1 + n) (h m refl)
 
--- behind the lines below its first, up to a blank one
+-- after the lines below its first, up to a blank one
 pub attribution_end : (k : ℕ) (X : Block) (a : Attribution) → Some a ≡ attribution_at k X → a.end ≡ k + 1 + lines_while Filled (drop 1 X)
 unfolding attribution_at attribution_behind
 attribution_end k X a e = by (attribution_of (front_text X)) e

@@ -89,7 +89,7 @@ full_line B m s indent line last t below bare h i n b e =
     (n ∙ sym (ap (number_or (first_number (drop s.start B))) lines))
     (e ∙ ap (text_over (drop m.cut (front_text (drop s.start B)))) b ∙ sym (ap joined lines))
 
--- a line whose bar stands alone
+-- a line whose bar is alone
 pub bare_line : (B : Block) (m : Marker) (s : Span) (line text_line last : ℕ) (t : List ℕ) (below : Block) → m.bare ≡ true → line ≡ first_number (drop s.start B)
     → below ≡ below_bar B s → text_line ≡ number_or line below → t ≡ joined below
     → (let l : IndentedLine = record { indent = last; line = line; text_line = text_line; text = t } in l) ≡ indented_line (indentation_of last m) B m s

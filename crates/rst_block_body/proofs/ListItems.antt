@@ -83,7 +83,7 @@ definition_to i B part e =
     let same : extent 1 (drop 1 (drop i B)) ≡ extent 1 (drop (i + 1) B) = ap (extent 1) below in
     omega (arith, to, same)
 
--- an item of a bullet list has as many lines as its marker says
+-- an item of a bullet list has as many lines as its marker determines
 bullet_sized : (X : Block) (mark : ℕ) (marker : Marker) → IsBegun X (begun.Bullet mark marker) → bullet_size X ≡ item_size marker X
 unfolding bullet_size
 bullet_sized X mark marker h = ap (λ o. option_map_or (λ m. item_size m X) o 1) h.mark.1
@@ -93,7 +93,7 @@ listed_is : (o : Option Enumerator) (next : List ℕ) (e : Enumerator) → if_li
 listed_is None next e h = h
 listed_is (Some f) next e h = (chosen (is_loose next || begins_next f next) (Some f) e h).1
 
--- an item of an enumerated list has as many lines as its marker says
+-- an item of an enumerated list has as many lines as its marker determines
 enumerator_sized : (X : Block) (e : Enumerator) → IsBegun X (begun.Enumerator e) → enumerator_size X ≡ item_size e.marker X
 unfolding enumerator_size item_enumerator
 enumerator_sized X e h = ap (λ o. option_map_or (λ (f : Enumerator). item_size f.marker X) o 1) (listed_is (enumerator_of (front_text X)) (next_text X) e h.mark)
@@ -106,7 +106,7 @@ pub record IsNextItem (l : OpenBlock) (B : Block) (mark : ItemMark) (stop : ℕ)
   pub next : IsNextConstruct l B (item_of_list mark) lines
   pub end : stop ≡ l.at + lines
 
--- that is behind its first line
+-- the place is after its first line
 pub item_behind : {l : OpenBlock} {B : Block} {mark : ItemMark} {stop : ℕ} → IsNextItem l B mark stop → l.at < length B → l.at < stop
 item_behind h inside = omega (arith, h.end, next_some h.next inside)
 
@@ -145,7 +145,7 @@ next_definition l B infos {part} h f e = record { lines = hanging_size (drop l.a
 
 -- ---- which items join
 
--- the kind of the open list, if one is open, says whether an item joins
+-- the kind of the open list, if one is open, decides whether an item joins
 joining_by_kind : (run : Run) (mark : ItemMark) (s : Span)
     → joining_with (open_of run) (found_as (item_of_list mark) s) ≡ option_and_then (λ (kind : ListKind). list_joining_after (joining_in kind) mark) (list_kind_in run)
 joining_by_kind NoRun mark s = refl

@@ -35,7 +35,7 @@ use Rattle.rst_block_state.proofs.WaitingLooks.{alone}
 
 -- ---- the lines of an item are found
 
--- The lines from line i on were found in which an item stands, with so many looks before and after: one at least for each of them but one, and two at
+-- The lines of an item, from line i on, were found, with this many looks before and after: one at least for each of them but one, and two at
 -- most for each line of the reach, less two.
 pub record IsFound (B : Block) (i : ℕ) (part : Part) (before after : ℕ) : Type 0 where
   pub size : ℕ

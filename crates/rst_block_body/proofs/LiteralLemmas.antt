@@ -25,7 +25,7 @@ use Rattle.rst_block_state.proofs.RestLemmas.{lines_after, span_to}
 
 -- ---- how many lines a literal block has
 
--- so many lines with the blank ones before them, unless there is nothing but blank ones
+-- this many lines with the blank ones before them, unless there is nothing but blank ones
 abbrev pub with_blanks : ℕ → ℕ → ℕ
 with_blanks blanks zero = 0
 with_blanks blanks (suc n) = blanks + suc n
@@ -70,7 +70,7 @@ extent_none (l ∷ ls) h k = by l.text refl h k
     by [] e h k = absurd (let no : true ≡ false = k in cc)
     by (c ∷ cs) e h k = rw e (rw h refl)
 
--- behind the blank lines a line that is blank is none
+-- where the line after the blank ones is blank, there is none
 stopped : (Y : Block) → is_blank (front_text (drop (lines_while Blank Y) Y)) ≡ true → drop (lines_while Blank Y) Y ≡ []
 unfolding lines_while
 stopped [] h = refl
@@ -81,7 +81,7 @@ stopped (l ∷ ls) h = by (is_blank l.text) refl (stopped ls) h
     by true e more h = rw e (more (rw e at h))
     by false e more h = absurd (let no : is_blank l.text ≡ true = rw e at h in let both : true ≡ false = sym no ∙ e in cc)
 
--- what a paragraph announces, by the line behind the blank ones
+-- what a paragraph announces, by the line after the blank ones
 abbrev pub behind_blanks : Block → Block
 behind_blanks Y = drop (lines_while Blank Y) Y
 
@@ -242,7 +242,7 @@ indented_whole B i j line bytes e l s =
 later_at : (xs ys : List ℕ) (i : ℕ) → get_or (xs ++ ys) (length xs + i) 0 ≡ get_or ys i 0
 later_at xs ys i = get_or-append-add xs ys i 0
 
--- what stands before a line feed escapes nothing behind it
+-- what comes before a line feed escapes nothing after it
 escaped_behind : (xs ys : List ℕ) (i : ℕ) → is_escaped (xs ++ 10 ∷ ys) 0 (length xs + suc i) ≡ is_escaped ys 0 i
 unfolding is_escaped
 escaped_behind xs ys zero =
@@ -292,20 +292,20 @@ colons_behind xs ys = by (length ys) refl
           le-leb 2 (suc (suc n)) (omega arith),
         ) refl
 
--- the last of some lines tells whether their text ends in two colons
+-- the last of some lines decides whether their text ends in two colons
 pub colons_last : (n : ℕ) (X : Block) → n < length X → ends_in_colons (joined (take (suc n) X)) ≡ ends_in_colons (front_text (drop n X))
 colons_last n [] h = absurd (omega arith)
 colons_last zero (l ∷ ls) h = refl
 colons_last (suc n) (l ∷ []) h = absurd (omega arith)
 colons_last (suc n) (l ∷ m ∷ ms) h = colons_behind l.text (joined (take (suc n) (m ∷ ms))) ∙ colons_last n (m ∷ ms) (omega arith)
 
--- ---- a literal block behind blank lines
+-- ---- a literal block after blank lines
 
--- the place behind a literal block, by the place behind the blank lines before it
+-- the place after a literal block, by the place after the blank lines before it
 place_behind : (B : Block) (i j n size : ℕ) → j ≡ i + lines_while Blank (drop i B) → size ≡ lines_while Blank (drop i B) + n → j + n ≡ i + size
 place_behind B i j n size e f = omega (arith, e, f)
 
--- the lines behind the blank ones
+-- the lines after the blank ones
 lines_behind : (B : Block) (i j : ℕ) → j ≡ i + lines_while Blank (drop i B) → behind_blanks (drop i B) ≡ drop j B
 lines_behind B i j e = lines_after B i (lines_while Blank (drop i B)) j e
 

@@ -140,7 +140,7 @@ pub one_line : (X : Block) (n : ℕ) → 1 ≤ length X → n ≡ 1 → front_te
 one_line [] n h e = absurd (omega arith)
 one_line (l ∷ ls) n h e = rw e refl
 
--- a paragraph comes after the messages that say why its line is a text
+-- a paragraph comes after the messages that explain why its line is a text
 pub after_infos : (infos : List Node) (X : Block) (n next : ℕ) (more : List Node) → paragraph_nodes [] X n ≡ Ok (more, next) → paragraph_nodes infos X n ≡ Ok (infos ++ more, next)
 after_infos infos X n next more r =
     let t : List ℕ = joined (take (paragraph_len X) X) in

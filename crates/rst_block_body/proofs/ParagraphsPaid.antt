@@ -27,14 +27,14 @@ spaced_some : (Z : Block) → begins_with 32 (front_text Z) ≡ true → 1 ≤ l
 spaced_some [] h = absurd (let no : false ≡ true = h in cc)
 spaced_some (l ∷ ls) h = omega arith
 
--- the reach of a literal block, by that of its n lines behind the blank ones
+-- the reach of a literal block, by that of its n lines after the blank ones
 reach_blanks : (B : Block) (i j n size : ℕ) → j ≡ i + lines_while Blank (drop i B) → j + n ≡ i + size → reach size (drop i B) ≡ lines_while Blank (drop i B) + reach n (drop j B)
 reach_blanks B i j n size e f =
     let blanks : ℕ = lines_while Blank (drop i B) in
     let s : size ≡ lines_while Blank (drop i B) + n = omega (arith, e, f) in
     ap (λ k. reach k (drop i B)) s ∙ reach_behind blanks n (drop i B) ∙ ap (λ X. blanks + reach n X) (lines_after B i blanks j e)
 
--- an indented literal block, after the looks at the blank lines and at the line behind them
+-- an indented literal block, after the looks at the blank lines and at the line after them
 pub indented_looked : (B : Block) (i j before start text after : ℕ) → j ≡ i + lines_while Blank (drop i B) → begins_with 32 (front_text (drop j B)) ≡ true
     → Looked (lines_while Blank (drop i B)) (lines_while Blank (drop i B) + 1) before start → Looked 0 1 start text
     → Looked (extent 1 (drop j B)) (1 + 2 * reach (extent 1 (drop j B)) (drop j B)) text after → Looked (literal_size (drop i B)) (8 * reach (literal_size (drop i B)) (drop i B)) before after
@@ -54,7 +54,7 @@ quoted_looked B i j c before start text after e space front quote blanks one loo
     let whole = reach_blanks B i j n (literal_size (drop i B)) e size in
     (omega (arith, e, size, blanks.0, one.0, looked.0), omega (arith, whole, begins_while (drop j B) c front, blanks.1, one.1, looked.1))
 
--- no literal block: its reach ends with the line behind the blank ones
+-- no literal block: its reach ends with the line after the blank ones
 pub none_most : (B : Block) (i j size before start text : ℕ) → j ≡ i + lines_while Blank (drop i B) → i ≡ i + size
     → start ≤ before + reach (lines_while Blank (drop i B)) (drop i B) → text ≤ start + through_text (drop j B) → text ≤ before + 8 * reach size (drop i B)
 none_most B i j size before start text e none few one =

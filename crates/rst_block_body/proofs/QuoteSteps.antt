@@ -69,7 +69,7 @@ plain_quote old new B p line n none some enough m at h =
 
 -- ---- a quote with an attribution
 
--- what is left of a part behind its first lines keeps their indentation cut
+-- what is left of a part after its first lines keeps their indentation cut
 left_of : Part → ℕ → Part
 left_of p next = record { from = p.from + next; to = p.to; first_cut = p.rest_cut; rest_cut = p.rest_cut }
 

@@ -72,7 +72,7 @@ left_looks p next line made = elim (cases_lt (p.from + next) p.to) [
 ]
 
 -- A part with an attribution is the quote of the lines before that, and the quotes of what is left. L are its lines: five looks at most are taken at
--- each of them through the attribution's end, one more at each line of the attribution, and one at each blank line behind it and at the line after these.
+-- each of them through the attribution's end, one more at each of its own lines, and one at each blank line after it and at the line after these.
 pub attributed_paid : (old new : OpenBlock) (B : Block) (p : Part) (k next line before found read after : ℕ) (a : Attribution) (box : Box Texted Global) (left : Option Part) (L : Block)
     → left ≡ rest_of p next → L ≡ lines_in B p → Some (k, a) ≡ first_attribution L → next ≡ a.end + lines_while Blank (drop a.end L) → length L ≡ p.to - p.from → p.from < p.to → p.to ≤ length B → 0 < k
     → IsMoved old new → new.at ≡ p.from + next → Looked a.end (5 * a.end) before found → read ≤ found + (a.end - k) → capped (found + (a.end - k)) ≤ read

@@ -135,7 +135,7 @@ pub malformed_reads : {old mid moved new : OpenBlock} {B : Block} {end : ℕ} {f
     → reads new B m ≡ reads old B n
 malformed_reads {B = B} {m = m} h e g at more = at_number m (more_is_read B (moved_more g at more)) ∙ table_comes h e
 
--- a table whose cells come next ends behind its first line
+-- a table whose cells come next ends after its first line
 pub table_steps : (l : OpenBlock) (B : Block) (t : TableResult) (to : ℕ) → IsNextTable l B t → ((end : ℕ) (fault : TableFault) → t ≡ Malformed end fault → ⊥) → to ≡ l.at → l.at < length B
     → IsStep B l.at to (Cells t)
 table_steps l B (Table cols head rows end) to h f e i = let stop : end ≡ l.at + h.lines = h.end in (e, i, omega (arith, stop, next_some h.next i))

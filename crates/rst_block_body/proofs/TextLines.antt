@@ -39,7 +39,7 @@ form_here B i {t} {u} e f h is = sym (h ∙ ap (λ x. text_form x u) e ∙ ap (t
 plain_given : (read : Numbered (List Node)) (m next : ℕ) (ns : List Node) → read m ≡ Ok (ns, next) → plainly read m ≡ Ok (map plain ns, next)
 plain_given read m next ns e = ap (then_read (λ (nodes : List Node). just (map plain nodes))) e
 
--- a paragraph after the end of the open run and the messages that say why its line is a text
+-- a paragraph after the end of the open run and the messages that explain why its line is a text
 pub paragraph_goes : {old mid pre new : OpenBlock} {B : Block} {notes : List Node} {n m next : ℕ} → IsNextConstruct old B (paragraph notes) (paragraph_size (drop old.at B)) → HasEnded old mid B n m
     → HasMore mid pre notes → ReadsNodes (paragraph_nodes [] (drop pre.at B) m) pre new (pre.at + paragraph_size (drop pre.at B)) next → reads new B next ≡ reads old B n
 paragraph_goes {old} {mid} {pre} {new} {B} {notes} {n} {m} {next} h e some g =
@@ -62,7 +62,7 @@ short_more {old} {mid} {pre} {put} {B} e h k =
 abbrev pub underlined_at : ℕ → ℕ → Bool → Block → Numbered (List Item)
 underlined_at depth i short B = underline_item (depth == 0) short (source_of B (record { start = i; stop = i + 2 })) (drop i B)
 
--- a title after the end of the open run and the messages that say why its line is a text
+-- a title after the end of the open run and the messages that explain why its line is a text
 pub underlined_goes : {old mid pre new : OpenBlock} {B : Block} {infos : List Node} {short : Bool} {n m next : ℕ} → IsNextConstruct old B (underlined_title infos short) 2 → HasEnded old mid B n m
     → HasMore mid pre infos → ReadsItems (underlined_at pre.depth pre.at short B m) pre new (pre.at + 2) next → reads new B next ≡ reads old B n
 underlined_goes {old} {mid} {pre} {new} {B} {infos} {short} {n} {m} {next} h e some g =

@@ -16,8 +16,8 @@ pub record BeginsAt (B : Block) (l : OpenBlock) (mark : Begun) : Type 0 where
   pub inside : l.at < length B
   pub begun : IsBegun (drop l.at B) mark
 
--- The step leads to a later line, the block gives what it gave before the call, and the construct is paid for with so many looks for each line of its
--- reach.
+-- The step leads to a later line, the block gives what it gave before the call, and the construct is paid for with this many looks for each
+-- line of its reach.
 pub record IsRead (each : ℕ) (B : Block) (old : OpenBlock) (before : Pass) (new : OpenBlock) (after : Pass) (result : Result Step BlockFault) : Type 0 where
   pub step : IfOk result (λ s. IsStep B old.at new.at s)
   pub read : Keeps result (λ s. comes new B s after.numbers) (reads old B before.numbers)

@@ -23,7 +23,7 @@ text_over first below = join_with_byte 10 (first ∷ map (λ (l : Line). l.text)
 
 -- ---- paragraphs
 
--- a paragraph that shows a text, from line i of a block up to line j, and the ERROR at an indented line that follows directly
+-- a paragraph of a text, from line i of a block up to line j, and the ERROR at an indented line that follows directly
 abbrev pub shown_paragraph : List ℕ → ℕ → ℕ → Block → Numbered (List Node)
 shown_paragraph t i j B = do
   nodes ← text_paragraph (first_number (drop i B)) t

@@ -49,7 +49,7 @@ const SHORT_OVERLINE: &str =
 const SHORT_ADORNMENT: &str =
     "Unexpected possible title overline or transition.\nTreating it as ordinary text because it's so short.";
 
-/// What is said of lines that are neither a title nor a transition: how grave it is, the text, and how many lines they are.
+/// The message on lines that are neither a title nor a transition: its level, its text, and the number of the lines.
 #[derive(Clone, Copy)]
 struct WrongForm {
     gravity: Level,
@@ -57,7 +57,7 @@ struct WrongForm {
     lines: usize,
 }
 
-/// What is said of a form that is wrong.
+/// The message on a form that is wrong.
 fn wrong_form(form: Adorned) -> WrongForm
     requires { IsWrong form }
     ensures message { IsMessageOn form result.gravity result.text.now }
@@ -99,7 +99,7 @@ fn transition(view: &View<'_>, level: &mut OpenBlock, pass: &mut Pass) -> Result
     Ok(Step::Next)
 }
 
-/// A short line that is taken as text, behind a message that says so.
+/// A short line that is taken as text, after a message on that.
 fn short(view: &View<'_>, level: &mut OpenBlock, text: &str, pass: &mut Pass) -> Result<Step>
     requires inside { level.old.at < length (block_of view.now) }
     requires text { IsText level.old (block_of view.now) (said Info (first_number (drop level.old.at (block_of view.now))) text.now ∷ []) }

@@ -14,7 +14,7 @@ use rst_block_state::{ListKind, OpenBlock, Pass, Result, Run, Step, Waits, inden
 use rst_text::View;
 use rst_tree::{Node, Tag};
 
-/// An item of a definition list. The messages that say why its term is a text stand before the whole list.
+/// An item of a definition list. The messages that explain why its term is a text come before the whole list.
 pub(crate) fn definition(
     view: &View<'_>,
     level: &mut OpenBlock,

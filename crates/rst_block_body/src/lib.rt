@@ -1,4 +1,4 @@
-//! The constructs of a body, a file for each: what reads the next one of a block. Explicit markup stands in a crate of its own.
+//! The constructs of a body, a file for each: what reads the next one of a block. Explicit markup has a crate of its own.
 #![tactic(auto, using(rst_block_state::proofs::Views::few_lines))]
 
 pub mod adornment;

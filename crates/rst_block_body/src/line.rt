@@ -20,7 +20,7 @@ use rst_markup_lines::Marker;
 use rst_text::{View, skip};
 use std::alloc::AllocError;
 
-/// A line of a line block. It joins the lines before it where no blank one stands between.
+/// A line of a line block. It joins the lines before it where no blank one is between.
 pub fn bar_line(
     view: &View<'_>,
     level: &mut OpenBlock,
@@ -46,7 +46,7 @@ pub fn bar_line(
     Ok(Step::Next)
 }
 
-/// Puts a line behind the last of the open line block, and goes on where the line ends.
+/// Puts a line after the last of the open line block, and goes on where the line ends.
 fn add_line(level: &mut OpenBlock, text: BarText, end: usize) -> Result<()>
     requires { level.old.at < 2 ^ 64 - 1 }
     ensures later { IfOk result (λ _. level.old.at < level.new.at) }
@@ -61,7 +61,7 @@ fn add_line(level: &mut OpenBlock, text: BarText, end: usize) -> Result<()>
     Ok(())
 }
 
-/// The text behind a bar and in the indented lines below it. A bar that stands alone has no indentation of its own, and
+/// The text after a bar and in the indented lines below it. A bar that is alone has no indentation of its own, and
 /// its text begins in the next line.
 fn bar_text(
     view: &View<'_>,

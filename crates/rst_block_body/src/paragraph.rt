@@ -87,7 +87,7 @@ fn text_between<'a>(
     Ok(CowStr::Owned(source(alloc, view, from, to, looks)?))
 }
 
-/// Puts a paragraph that ends at `end` behind the last node, unless it is empty, and the message on an indented line behind it.
+/// Puts a paragraph that ends at `end` after the last node, unless it is empty, and the message on an indented line after it.
 #[inline(always)]
 fn put_paragraph(
     view: &View<'_>,
@@ -111,7 +111,7 @@ fn put_paragraph(
     put_indentation_error(view, level, end, pass)
 }
 
-/// Puts the message on an indented line at place `end` behind the last node, if one is there.
+/// Puts the message on an indented line at place `end` after the last node, if one is there.
 fn put_indentation_error(
     view: &View<'_>,
     level: &mut OpenBlock,

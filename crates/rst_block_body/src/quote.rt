@@ -87,7 +87,7 @@ pub fn quote_part(
     }
 }
 
-/// What is left of a quote behind its first `next` lines, if there is something.
+/// What is left of a quote after its first `next` lines, if there is something.
 fn rest_of(quote: Part, next: usize) -> Option<Part>
     requires { quote.from + next ≤ quote.to }
     ensures { result ≡ spec.rest_of quote next }
@@ -102,7 +102,7 @@ fn rest_of(quote: Part, next: usize) -> Option<Part>
     None
 }
 
-/// The first attribution in a quote, with its place: behind a blank line. It makes one to five looks for each line through its
+/// The first attribution in a quote, with its place: after a blank line. It makes one to five looks for each line through its
 /// end, or for each line of the quote where there is none.
 fn first_attribution(lines: &View<'_>, looks: &mut Looks) -> Option<(usize, Attribution)>
     ensures first { result ≡ quotes.first_attribution (block_of lines.now) }

@@ -63,7 +63,7 @@ pub fn table(
     }
 }
 
-/// Puts the message on a table that isn't followed by a blank line behind it.
+/// Puts, after a table, the message that no blank line follows it.
 pub fn after_table(view: &View<'_>, level: &mut OpenBlock, pass: &mut Pass) -> Result<()>
     ensures at { level.new.at ≡ level.old.at }
     ensures more { let notes = warned (codes "Blank line required after table.") (drop level.old.at (block_of view.now)) in
@@ -92,7 +92,7 @@ pub fn table_of(
     MarkedNodes::alone(alloc, group)?.into_element(Tag::Table, Attrs::new(alloc), line)
 }
 
-/// The head of a table of so many rows, if it has some.
+/// The head of a table with these rows, where their number isn't 0.
 fn head_nodes(alloc: Global, head: usize, rows: MarkedNodes) -> Result<MarkedNodes, TreeFault>
     ensures { Gives (λ nodes. nodes ≡ (if nat_lt 0 head then element_of Thead [] rows 0 ∷ [] else [])) result }
 {

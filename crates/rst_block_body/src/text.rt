@@ -21,7 +21,7 @@ use rst_text::View;
 use rst_tree::{Level, Node};
 use std::alloc::Global;
 
-/// A line of text, behind messages that say why it is one.
+/// A line of text, after messages that explain why it is one.
 pub fn text_line(
     view: &View<'_>,
     level: &mut OpenBlock,
@@ -59,7 +59,7 @@ pub fn text_line(
     }
 }
 
-/// Puts the message on a possible underline behind the last node, where titles may stand.
+/// Puts the message on a possible underline after the last node, where titles are allowed.
 fn put_short_underline(alloc: Global, view: &View<'_>, level: &mut OpenBlock) -> Result<()>
     requires inside { level.old.at < length (block_of view.now) }
     ensures more { let notes = constructs.short_underline (level.old.depth == 0) (drop level.old.at (block_of view.now)) in
@@ -80,7 +80,7 @@ fn put_short_underline(alloc: Global, view: &View<'_>, level: &mut OpenBlock) ->
     level.push(info)
 }
 
-/// A title over its underline, or the messages on one where none may stand.
+/// A title over its underline, or the messages on one where none is allowed.
 fn underlined(view: &View<'_>, level: &mut OpenBlock, short: bool, pass: &mut Pass) -> Result<()>
     requires inside { level.old.at + 1 < length (block_of view.now) }
     ensures read { let B = block_of view.now in

@@ -1,4 +1,4 @@
--- The content of a directive as blocks: the lines before its options and those after them stand in its block, and begin with a line that isn't blank.
+-- The content of a directive as blocks: the lines before its options and those after them are in its block, and begin with a line that isn't blank.
 use Rattle.std.proofs.Common.{◌≡◌, ℕ, ◌+◌, ◌-◌, ◌≤◌, ◌==◌, Bool, true, false, not, ◌&&◌, cond, List, [], ◌∷◌, length, take, drop, length-drop, length-take, Option, None, Some, option_map, Result, Ok, Err, arith, sym, ap, ◌∙◌, subst}
 use Rattle.std.proofs.lemmas.List.{drop-drop, length-map}
 use Rattle.std.proofs.lemmas.List.Sums.{prefix_len-le-length}

@@ -48,7 +48,7 @@ unblocked : (read : Result Read Wrong) (r : Read) → of_block read ≡ Ok r →
 unblocked (Ok x) r h = let e : x ≡ r = cc in ap (λ (y : Read). Ok y) e
 unblocked (Err wrong) r h = cc
 
--- a name that may stand there is the one that was called
+-- a name that is allowed there is the one that was called
 abbrev told : Result Name DirectiveFault → Result Name Fault
 told name = result_map_both (λ (x : Name). x) fault_in name
 

@@ -1,4 +1,4 @@
--- Explicit markup is paid for: what its parts open, and that they stand in its lines.
+-- Explicit markup is paid for: what its parts open, and that they are in its lines.
 use Rattle.std.proofs.Common.{◌≡◌, ℕ, ◌+◌, ◌-◌, ◌*◌, ◌≤◌, ◌<◌, Bool, true, false, cond, [], ◌∷◌, length, drop, Option, None, Some, Result, IfOk, arith, refl, sym, ap, ◌∙◌, subst}
 use Rattle.std.specs.Prelude.{◌==◌, IfSome}
 use Rattle.std.proofs.lemmas.Result.{IfOk-weaker}
@@ -70,7 +70,7 @@ opens_part B element body looks h at = record {
   least = omega arith;
 }
 
--- ---- where the parts of explicit markup stand
+-- ---- where the parts of explicit markup are
 
 -- the extents of explicit markup in line i begin in that line or later, and a directive that a definition holds ends with it
 abbrev pub BeginsIn : ℕ → Markup → Type 0

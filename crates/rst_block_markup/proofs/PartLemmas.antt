@@ -50,7 +50,7 @@ opens_none few B before after h some enough = record {
   least = some;
 }
 
--- a node is put behind the last, after some looks
+-- a node is put after the last, after some looks
 pub put_reads : {more : ℕ} {B : Block} {old new : OpenBlock} {before after : Pass} {nodes : Numbered (List Node)} {inner : List Block} {end : ℕ} {result : Result Step BlockFault} (node : Node)
     → Gives (λ s. (s ≡ Next) × HasMoreAt old new (node ∷ []) end) result → old.at < end → just (node ∷ []) ≡ nodes → [] ≡ inner → after.numbers ≡ before.numbers → capped before.looks ≤ after.looks
     → after.looks ≤ before.looks + more → IsPartRead more B old before nodes inner end new after result

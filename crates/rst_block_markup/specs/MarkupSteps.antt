@@ -1,4 +1,4 @@
--- Explicit markup, step by step: what a block gives where it stands at its next line, and directives as they are kept. No rule of markup.
+-- Explicit markup, step by step: what a block gives where its next line begins some, and directives as they are kept. No rule of markup.
 use Rattle.std.specs.Prelude.{ℕ, ◌<◌, length, drop, Bool, true, false, List, Option, Some, Result, IfOk, if◌then◌else◌}
 use Rattle.rst_text.specs.Block.{Block, first_number}
 use Rattle.rst_tree.specs.declared.node.Node.{Node}
@@ -49,7 +49,7 @@ reads_with l B read at = do
   reads_from l B ns at
 
 -- Part of a construct was read: the step leads to a later line, the block gives these nodes next and goes on at this line, and these blocks are opened
--- in so many looks.
+-- in at most this many looks.
 pub record IsPartRead (few : ℕ) (B : Block) (old : OpenBlock) (before : Pass) (nodes : Numbered (List Node)) (inner : List Block) (end : ℕ) (new : OpenBlock) (after : Pass) (result : Result Step BlockFault) : Type 0 where
   pub step : IfOk result (λ s. IsStep B old.at new.at s)
   pub read : Keeps result (λ s. comes new B s after.numbers) (reads_with old B nodes end before.numbers)
@@ -73,7 +73,7 @@ abbrev pub is_figure : Name → Bool
 is_figure Figure = true
 is_figure _ = false
 
--- where a directive stands: in the document itself where titles are recognized, else in a body
+-- where a directive is: in the document itself where titles are recognized, else in a body
 abbrev pub place_in : Bool → Place
 place_in titles = if titles then Top else Body
 
@@ -81,13 +81,13 @@ place_in titles = if titles then Top else Body
 abbrev pub read_of : Found → Read
 read_of f = record { name = f.name; argument = given_in f.argument; options = choices_in f.options.items; content = f.content }
 
--- a right directive at a line of a block: its content stands in the block, and it ends behind the line
+-- a right directive at a line of a block: its content is in the block, and it ends after the line
 pub record IsRight (B : Block) (at : ℕ) (found : Found) : Type 0 where
   pub content : IsContentIn B found.content
   pub inside : at < length B
   pub later : at < found.end
 
--- a right directive with an argument was read, which stands at the next line of a block
+-- a right directive with an argument was read, which is at the next line of a block
 abbrev pub IsDirectiveRead : ℕ → Block → OpenBlock → Pass → Found → Given → OpenBlock → Pass → Result Step BlockFault → Type 0
 IsDirectiveRead few B old before f given new after result =
     let lines = source_of B (record { start = old.at; stop = f.end }) in

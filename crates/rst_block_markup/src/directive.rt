@@ -46,7 +46,7 @@ use rst_text::{Looks, View};
 use rst_tree::{Level, Node, Tag};
 use std::alloc::Global;
 
-/// What a directive is, where `place` is where it stands.
+/// What a directive is, where `place` is its place.
 pub(crate) fn directive_at(
     view: &View<'_>,
     at: usize,
@@ -134,7 +134,7 @@ pub(crate) fn directive_block(
     }
 }
 
-/// Where a directive stands in a block, by whether titles may stand there.
+/// Where a directive of a block is, by whether titles are allowed there.
 fn place_in(titles: bool) -> Place
     ensures { result ≡ place_in titles }
 {
@@ -151,7 +151,7 @@ struct Found {
     end: usize,
 }
 
-/// The message on a wrong directive, with its lines. `name` is the name that the message tells.
+/// The message on a wrong directive, with its lines. `name` is the name in the message.
 pub(crate) fn wrong_directive(
     alloc: Global,
     view: &View<'_>,

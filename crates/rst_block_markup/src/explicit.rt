@@ -210,7 +210,7 @@ fn label_text(
     excerpt(alloc, view.line(at, looks), place)
 }
 
-/// Puts a node behind the last, in a block that goes on at place `end`.
+/// Puts a node after the last, in a block that goes on at place `end`.
 pub(crate) fn put(level: &mut OpenBlock, node: Node, end: usize) -> Result<Step>
     requires later { level.old.at < end }
     ensures { blocks.Gives (λ s. (s ≡ Next) × blocks.HasMoreAt level.old level.new (node ∷ []) end) result }
@@ -220,7 +220,7 @@ pub(crate) fn put(level: &mut OpenBlock, node: Node, end: usize) -> Result<Step>
     Ok(Step::Next)
 }
 
-/// Puts the message on a comment that isn't meant as one behind the last node.
+/// Puts, after the last node, the message on a comment that isn't meant as one.
 fn put_cause(alloc: Global, level: &mut OpenBlock, cause: CommentCause, line: usize) -> Result<()>
     ensures more { blocks.Gives (λ _. blocks.HasMore level.old level.new (markup.cause_notes cause line)) result }
 {

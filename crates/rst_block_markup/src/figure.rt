@@ -26,8 +26,8 @@ enum Front {
     Wrong,
 }
 
-/// A figure with the nodes of its content as caption and legend, and the messages of the caption behind it. Its lines are those
-/// from place `start` up to place `end`. They are looked at only if they are shown.
+/// A figure with the nodes of its content as caption and legend, and the messages of the caption after it. Its lines are those
+/// from place `start` up to place `end`. They are looked at only if a message quotes them.
 pub fn finished_figure(
     alloc: Global,
     view: &View<'_>,
@@ -48,7 +48,7 @@ pub fn finished_figure(
         return MarkedNodes::alone(alloc, Marked::of(alloc, figure)?);
     };
     match front_of(first.into_root()) {
-        // The caption is marked as a new node. Its text was marked in its paragraph, but no caption stands in another: so nothing
+        // The caption is marked as a new node. Its text was marked in its paragraph, but no caption is in another: so nothing
         // is marked more than twice.
         Front::Caption(caption, count) => {
             let caption = MarkedNodes::alone(alloc, Marked::of(alloc, caption)?)?;
@@ -67,8 +67,8 @@ pub fn finished_figure(
     }
 }
 
-/// A figure with its caption, if it has one, and the nodes behind that: the first ones, as many as `count`, are the messages of
-/// the caption and stand behind the figure, the others are its legend.
+/// A figure with its caption, if it has one, and the nodes after the caption: the first `count` ones are the messages of
+/// the caption and come after the figure, the others are its legend.
 fn captioned(
     alloc: Global,
     figure: Node,

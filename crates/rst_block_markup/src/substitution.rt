@@ -35,7 +35,7 @@ use rst_tree::{Children, Level, Node, Tag, TreeFault};
 use rst_tree_index::MarkedNodes;
 use std::alloc::{AllocError, Global};
 
-/// A substitution definition that ends at `end`. `written` is its name as it stands between the bars, `held` the directive
+/// A substitution definition that ends at `end`. `written` is its name as written between the bars, `held` the directive
 /// that it holds.
 pub(crate) fn substitution_definition(
     view: &View<'_>,
@@ -107,7 +107,7 @@ fn holding(
     match directive_at(view, at, invocation, Place::Substitution, pass)? {
         Directive::Wrong { fault, .. } => {
             let written = excerpt(pass.alloc, view.line(at, &mut pass.looks), invocation.name)?;
-            // Where the definition may not hold the directive, its own name is told.
+            // Where the definition may not contain the directive, the message has the definition's name.
             let told = match fault {
                 DirectiveFault::NotInSubstitution => name.as_str(),
                 _ => written.as_str(),
@@ -181,8 +181,8 @@ fn replacement(
     })
 }
 
-/// A substitution definition with its replacement text, or the message on one that may not stand there. The definition is marked
-/// as a new node. Its text was marked in its paragraph, but no replacement text stands in another: so nothing is marked more than
+/// A substitution definition with its replacement text, or the message on one that isn't allowed there. The definition is marked
+/// as a new node. Its text was marked in its paragraph, but no replacement text is in another: so nothing is marked more than
 /// twice.
 pub fn finished_replacement(
     alloc: Global,

@@ -22,7 +22,7 @@ pub further_head : (notes line : ℕ) (done heads nodes : List Node) → (length
 further_head notes line [] heads nodes some same = absurd (cc)
 further_head notes line (d ∷ ds) heads nodes some same = same
 
--- what stands behind a head that was made of nodes
+-- what comes after a head that was made of nodes
 behind_closed : (notes line : ℕ) (done closed nodes : List Node) (groups : List (List Node)) → closed ≡ heads_behind notes line done (nodes ∷ []) → heads_behind notes line closed groups ≡ heads_behind notes line done (nodes ∷ groups)
 behind_closed notes line [] closed nodes groups same = ap (λ ds. heads_behind notes line ds groups) same
 behind_closed notes line (d ∷ ds) closed nodes groups same =
@@ -30,7 +30,7 @@ behind_closed notes line (d ∷ ds) closed nodes groups same =
 
 -- ---- groups
 
--- nodes behind others belong to the same group
+-- nodes after others belong to the same group
 in_front_both : (xs ys : List Node) (groups : List (List Node)) → in_front (xs ++ ys) groups ≡ in_front xs (in_front ys groups)
 in_front_both xs ys [] = refl
 in_front_both xs ys (g ∷ gs) = ap (λ zs. zs ∷ gs) (append_assoc xs ys g)
@@ -52,7 +52,7 @@ groups_some (parts ∷ texts) (Element t a c l ∷ nodes) = sym (in_front_both [
 
 -- ---- the parts of a text
 
--- what follows where a part was put behind the nodes: each further part begins a group
+-- what follows where a part was put after the nodes: each further part begins a group
 abbrev following : List (List Node) → List (List Node) → List (List Node)
 following [] rest = rest
 following (g ∷ gs) rest = [] ∷ joined (g ∷ gs) rest
@@ -72,7 +72,7 @@ left_none true [] rest none = refl
 left_none false [] rest none = refl
 left_none b (p ∷ ps) rest none = absurd (cc)
 
--- the heads are ready for a part: those before it, or, behind another part, those with one more
+-- the heads are ready for a part: those before it, or, after another part, those with one more
 abbrev pub IsReady : ℕ → ℕ → Bool → Unfinished → Unfinished → Type 0
 IsReady notes line true old ready = ready ≡ old
 IsReady notes line false old ready = (ready.done.items ≡ heads_behind notes line old.done.items (old.nodes.items ∷ [])) × (ready.nodes.items ≡ [])
@@ -94,7 +94,7 @@ ready_joined notes line false old ready p ps rest h =
     ∙ behind_closed notes line old.done.items ready.done.items old.nodes.items groups h.0
     ∙ ap (λ ns. heads_behind notes line old.done.items (ns ∷ groups)) (sym (append-nil old.nodes.items))
 
--- one more part is put behind the nodes
+-- one more part is put after the nodes
 put_part : (notes line : ℕ) (is_first : Bool) (old ready made : Unfinished) (p : List ℕ) (ps qs : List (List ℕ)) (rest : List (List Node)) → qs ≡ p ∷ ps → IsReady notes line is_first old ready → made.done.items ≡ ready.done.items → made.nodes.items ≡ ready.nodes.items ++ text_nodes p → heads_with notes line made (left false ps rest) ≡ heads_with notes line old (left is_first qs rest)
 put_part notes line is_first old ready made p ps qs rest next h done nodes =
     ap (λ ds. heads_behind notes line ds (in_front made.nodes.items (left false ps rest))) done

@@ -25,7 +25,7 @@ least_of (m ∷ ms) l h =
     let least : min m.indent m.indent ≡ m.indent = omega arith in
     rw same (ap (λ n. least_with n ms) least)
 
--- the line at a place, and those behind it
+-- the line at a place, and those after it
 pub line_at : (lines : List IndentedLine) (place : ℕ) (l : IndentedLine) → place < length lines → l ≡ get_or lines place l → drop place lines ≡ l ∷ drop (place + 1) lines
 line_at lines place l within is = rw (add-one, drop-cons lines place l within) (ap (λ m. m ∷ drop (suc place) lines) (sym is))
 
@@ -41,7 +41,7 @@ len_more least l ls h = ap (λ b. if b then 1 + deeper_len least ls else 0) h �
 len_none : (least : ℕ) (l : IndentedLine) (ls : List IndentedLine) → nat_lt least l.indent ≡ false → deeper_len least (l ∷ ls) ≡ 0
 len_none least l ls h = ap (λ b. if b then 1 + deeper_len least ls else 0) h
 
--- a deeper line and those behind it, up to the first that isn't, are one part
+-- a deeper line and those after it, up to the first that isn't, are one part
 abbrev IsRun : ℕ → IndentedLine → List IndentedLine → Type 0
 IsRun least l ls = nat_lt least l.indent ≡ true → parts_of least (l ∷ ls) ≡ deeper_lines (l ∷ take (deeper_len least ls) ls) ∷ parts_of least (drop (deeper_len least ls) ls)
 
@@ -71,7 +71,7 @@ next_level least lines l ls next none = ap (parts_of least) next ∙ by (nat_lt 
     by true h = absurd (let some : deeper_len least lines ≡ suc (deeper_len least ls) = ap (deeper_len least) next ∙ len_more least l ls h in omega arith)
     by false h = first_is least l ls false h
 
--- so many of these lines are deeper: they are one part
+-- this many of these lines are deeper: they are one part
 pub next_deeper : (least : ℕ) (lines : List IndentedLine) (n : ℕ) → n ≡ deeper_len least lines → 0 < n → parts_of least lines ≡ deeper_lines (take n lines) ∷ parts_of least (drop n lines)
 next_deeper least [] n same some = absurd (omega arith)
 next_deeper least (l ∷ ls) n same some = by (nat_lt least l.indent) refl
@@ -95,7 +95,7 @@ abbrev pub block_after : ℕ → ℕ → ℕ → List Node → List Node → Lis
 block_after levels least line nodes notes left now =
     then_read (λ made. just (block_with line nodes notes made)) (each (part_node (line_block levels)) (parts_of least left) now)
 
--- what was made last stands before what is made of the others
+-- what was made last comes before what is made of the others
 put_first : (line : ℕ) (nodes notes : List Node) (m : Node × List Node) (made : List (Node × List Node))
     → block_with line (nodes ++ m.0 ∷ []) (notes ++ m.1) made ≡ block_with line nodes notes (m ∷ made)
 put_first line nodes notes m made =

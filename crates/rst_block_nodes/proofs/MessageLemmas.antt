@@ -5,7 +5,7 @@ use Rattle.rst_tree.specs.Sends.{counted_on}
 use Rattle.rst_tree.specs.declared.note.Note.{Note}
 use Rattle.rst_block_nodes.specs.Texts.{messages_from}
 
--- the number behind those of some messages
+-- the number after those of some messages
 abbrev pub number_behind : ℕ → List Note → ℕ
 number_behind first [] = first
 number_behind first (note ∷ notes) = number_behind (counted_on first 1) notes

@@ -98,7 +98,7 @@ unfolding level_of
 level_positive s [] = omega arith
 level_positive s (t ∷ ts) = cond_both (same_style t s) 1 (suc (level_of s ts)) (λ n. 1 ≤ n) (λ _. omega arith) (λ _. omega arith)
 
--- ---- all of a document stands in it
+-- ---- all of a document is in it
 
 AreDeep : List Member → Type 0
 AreDeep [] = Unit {0}

@@ -8,7 +8,7 @@ use Rattle.rst_block_nodes.proofs.HeadLemmas.{lists_of}
 use Rattle.rst_block_nodes.specs.declared.terms.Letter.{Letter}
 use Rattle.rst_block_nodes.specs.Terms.{is_bare, ends_behind, ends_in_space, letters_from, parts_of, parts_by, texts_of}
 
--- how many letters stand before the spaces at the end, where of the first i these are `len`, and behind them n
+-- how many letters come before the spaces at the end, where of the first i these are `len`, and of those after them n
 abbrev pub dark_behind : ℕ → ℕ → ℕ → ℕ
 dark_behind len i zero = len
 dark_behind len i (suc n) = i + suc n

@@ -38,7 +38,7 @@ text_nodes (b ∷ bs) = Words (b ∷ bs) ∷ []
 abbrev pub plain_node : Tag → ℕ → List ℕ → Node
 plain_node tag line text = element_of tag [] (text_nodes text) line
 
--- the attribute that says that white characters stay
+-- the attribute by which white characters are kept
 abbrev pub preserving : List Attr
 preserving = attr XmlSpace (Said (codes "preserve")) ∷ []
 
@@ -48,7 +48,7 @@ preserved_node tag line text = element_of tag preserving (text_nodes text) line
 
 -- ---- lists
 
--- a bullet list, which says its bullet, and has no item yet
+-- a bullet list, which has its bullet as an attribute, and no item yet
 abbrev pub bullet_list_node : ℕ → ℕ → Node
 bullet_list_node mark line = Element BulletList (attr Bullet (Said (encode_utf8_all (mark ∷ []))) ∷ []) bare line
 
@@ -60,26 +60,26 @@ sequence_name UpperAlpha = codes "upperalpha"
 sequence_name LowerRoman = codes "lowerroman"
 sequence_name UpperRoman = codes "upperroman"
 
--- what stands before an ordinal
+-- what comes before an ordinal
 abbrev pub prefix : Format → List ℕ
 prefix Parentheses = codes "("
 prefix Parenthesis = []
 prefix Period = []
 
--- what stands behind an ordinal
+-- what comes after an ordinal
 abbrev pub suffix : Format → List ℕ
 suffix Parentheses = codes ")"
 suffix Parenthesis = codes ")"
 suffix Period = codes "."
 
--- the first ordinal is said if it isn't 1
+-- the first ordinal is an attribute if it isn't 1
 abbrev pub enumerated_attrs : Reading → Format → List Attr
 enumerated_attrs reading format =
     if reading.ordinal == 1
     then attr Enumtype (Said (sequence_name reading.sequence)) ∷ attr Prefix (Said (prefix format)) ∷ attr Suffix (Said (suffix format)) ∷ []
     else attr Enumtype (Said (sequence_name reading.sequence)) ∷ attr Prefix (Said (prefix format)) ∷ attr Start (Number reading.ordinal) ∷ attr Suffix (Said (suffix format)) ∷ []
 
--- an enumerated list, which says how its items are numbered, and has no item yet
+-- an enumerated list, which has its way of numbering as attributes, and no item yet
 abbrev pub enumerated_list_node : Enumerator → ℕ → Node
 enumerated_list_node enumerator line =
     Element EnumeratedList (enumerated_attrs (first_reading enumerator.written.ordinals) enumerator.format) bare line
@@ -91,13 +91,13 @@ start_text written ordinal =
 
 -- ---- options
 
--- what stands between an option and its argument
+-- what comes between an option and its argument
 abbrev pub delimiter_text : Delimiter → List ℕ
 delimiter_text Nothing = []
 delimiter_text Space = codes " "
 delimiter_text Equals = codes "="
 
--- an option's argument, which says what stands before it
+-- an option's argument, which has what comes before it as an attribute
 abbrev pub option_argument_node : Delimiter → List ℕ → ℕ → Node
 option_argument_node delimiter text line =
     element_of OptionArgument (attr DelimiterKey (Said (delimiter_text delimiter)) ∷ []) (text_nodes text) line
@@ -149,7 +149,7 @@ citation_node label line = labelled_node Citation (attr OwnName (Said (name_in l
 
 -- ---- substitutions
 
--- a substitution definition by its name, which holds nothing yet
+-- a substitution definition by its name, still without content
 abbrev pub substitution_definition_node : List ℕ → ℕ → Node
 substitution_definition_node name line = Element SubstitutionDefinition (attr OwnName (Said name) ∷ []) bare line
 
@@ -159,18 +159,18 @@ substitution_definition_node name line = Element SubstitutionDefinition (attr Ow
 abbrev pub colspec_node : ℕ → ℕ → Node
 colspec_node line width = Element Colspec (attr Colwidth (Number width) ∷ []) bare line
 
--- a group of columns of these widths, which says how many they are
+-- a group of columns of these widths, with their number as an attribute
 abbrev pub tgroup_node : List ℕ → ℕ → Node
 tgroup_node widths line = element_of Tgroup (attr Cols (Number (length widths)) ∷ []) (map (colspec_node line) widths) line
 
--- a span of more columns, which isn't said where there are none
+-- a span of more columns, which is no attribute where there are none
 abbrev pub morecols_attrs : ℕ → List Attr
 morecols_attrs n = if n == 0 then [] else attr Morecols (Number n) ∷ []
 
--- a span of more rows, which isn't said where there are none
+-- a span of more rows, which is no attribute where there are none
 abbrev pub morerows_attrs : ℕ → List Attr
 morerows_attrs n = if n == 0 then [] else attr Morerows (Number n) ∷ []
 
--- an entry, which says how many rows and columns it spans more, and holds nothing yet
+-- an entry, with the numbers of further rows and columns that it spans as attributes, still empty
 abbrev pub entry_node : ℕ → ℕ → ℕ → Node
 entry_node morerows morecols line = Element Entry (morecols_attrs morecols ++ morerows_attrs morerows) bare line

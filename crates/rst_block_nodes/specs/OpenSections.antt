@@ -6,7 +6,7 @@ use Rattle.rst_block_nodes.specs.declared.sectioning.OpenSection.{OpenSection}
 use Rattle.rst_block_nodes.specs.declared.sectioning.Sections.{Sections}
 use Rattle.rst_block_nodes.specs.Sections.{Item, Member, inside, behind, filled, members, judged}
 
--- an element, and what stands in it so far
+-- an element, and what is in it so far
 pub record Open : Type 0 where
   pub element : Node
   pub nodes : List Node
@@ -14,7 +14,7 @@ pub record Open : Type 0 where
 abbrev pub open_of : OpenSection → Open
 open_of o = record { element = o.element; nodes = o.nodes }
 
--- the section of a level, where a section that stands in it was closed and these members follow
+-- the section of a level, where a section inside it was closed and these members follow
 abbrev pub put_inside : ℕ → Open → Node × List Member → Node × List Member
 put_inside level o closed = (filled o.element (o.nodes ++ closed.0 ∷ inside level closed.1), behind level closed.1)
 
@@ -32,6 +32,6 @@ closed_with s ms = close 0 (map open_of s.outer.items) (open_of s.current) ms
 abbrev pub goes_on : Sections → List Item → Node
 goes_on s items = (closed_with s (members (judged s.styles.items (length s.outer.items) items))).0
 
--- these members stand in no section of a level or a deeper one
+-- these members are in no section of a level or a deeper one
 abbrev pub StopsAt : ℕ → List Member → Type 0
 StopsAt level ms = (deeper : ℕ) → level ≤ deeper → (inside deeper ms ≡ []) × (behind deeper ms ≡ ms)

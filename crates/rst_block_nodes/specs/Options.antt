@@ -1,4 +1,4 @@
--- What the options of directives say of elements (Directives, 'Common Options', 'Image', 'Figure', 'Code').
+-- What the options of directives do to elements (Directives, 'Common Options', 'Image', 'Figure', 'Code').
 use Rattle.std.specs.Prelude.{ℕ, Bool, true, false, List, [], ◌∷◌, ◌++◌, map, codes, Option, Some, None, encode_utf8_all}
 use Rattle.rst_text.specs.Names.{name_of, normalized_white}
 use Rattle.rst_tree.specs.Attributes.{attr, value_of, with_attr, without_key}
@@ -89,7 +89,7 @@ with_choices holder (ch ∷ more) attrs = with_choices holder more (with_value_a
 
 -- ---- figures, admonitions and topics
 
--- a figure, which holds nothing yet
+-- a figure, still without content
 abbrev pub figure_element : List Choice → ℕ → Node
 figure_element choices line = Element FigureTag (with_choices Figure choices []) bare line
 
@@ -111,7 +111,7 @@ tag_of FigureName = FigureTag
 tag_of Replace = Paragraph
 tag_of Code = LiteralBlock
 
--- the element of a directive with a body, which holds nothing yet
+-- the element of a directive with a body, still without content
 abbrev pub directive_element : Directive → List Choice → ℕ → Node
 directive_element name choices line = Element (tag_of name) (with_choices Body choices []) bare line
 
@@ -152,7 +152,7 @@ abbrev pub image_node : List ℕ → List Choice → ℕ → Bool → Option (Li
 image_node uri choices line in_figure alt =
     Element ImageTag (with_choices (image_holder in_figure) choices (with_alt alt (attr Uri (Said uri) ∷ []))) bare line
 
--- the attributes of a reference to a name, or to a URI, which also says its source
+-- the attributes of a reference to a name, or to a URI, which also has its source
 abbrev pub link_attrs : Destination → List ℕ → List Attr
 link_attrs (named name) source =
     attr Name (Said (encode_utf8_all (normalized_white name))) ∷ attr Rawsource (Said source) ∷ attr Refname (Said (encode_utf8_all (name_of name))) ∷ []

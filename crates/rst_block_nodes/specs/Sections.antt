@@ -11,7 +11,7 @@ use Rattle.rst_block_nodes.specs.Texts.{message_node, section_node}
 use Rattle.rst_block_nodes.specs.declared.heading.Heading.{Heading}
 use Rattle.rst_block_nodes.specs.declared.heading.Style.{Style}
 
--- ---- what stands in a document
+-- ---- what is in a document
 
 -- a title: its style, its element, the messages on its text, the WARNING on its adornment, the number of the line of its text, and its lines
 pub record Title : Type 0 where
@@ -38,7 +38,7 @@ unfoldable pub level_of : Style → List Style → ℕ
 level_of s [] = 1
 level_of s (t ∷ ts) = if same_style t s then 1 else suc (level_of s ts)
 
--- the styles in use with this one, behind them if it is new
+-- the styles in use with this one, which comes last if it is new
 abbrev pub with_style : Style → List Style → List Style
 with_style s styles = if nat_lt (length styles) (level_of s styles) then styles ++ s ∷ [] else styles
 
@@ -52,7 +52,7 @@ pub data Entry : Type 0 where
   under : ℕ → Title → Entry
 
 -- The titles with their levels, in a section of this level, 0 for the document, where these styles are in use. A title is accepted if its level
--- is at most one more than the section's; else the message stands in its place, its style doesn't come in use, and the section goes on.
+-- is at most one more than the section's; else the message takes its place, its style doesn't come in use, and the section goes on.
 unfoldable pub judged : List Style → ℕ → List Item → List Entry
 judged styles current [] = []
 judged styles current (plain n ∷ items) = alone n ∷ judged styles current items
@@ -71,17 +71,17 @@ abbrev pub node_of : Member → Node
 node_of (loose n) = n
 node_of (section_at level n) = n
 
--- a section of this level or a higher one, which stands in none of this level
+-- a section of this level or a higher one, which is inside none of this level
 abbrev pub is_outside : ℕ → Member → Bool
 is_outside level (loose n) = false
 is_outside level (section_at own n) = nat_le own level
 
--- what stands in a section of a level: all up to the next section of its level or a higher one
+-- what is in a section of a level: all up to the next section of its level or a higher one
 unfoldable pub inside : ℕ → List Member → List Node
 inside level [] = []
 inside level (m ∷ ms) = if is_outside level m then [] else node_of m ∷ inside level ms
 
--- what stands behind it
+-- what comes after it
 unfoldable pub behind : ℕ → List Member → List Member
 behind level [] = []
 behind level (m ∷ ms) = if is_outside level m then m ∷ ms else behind level ms

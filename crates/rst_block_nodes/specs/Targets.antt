@@ -1,4 +1,4 @@
--- Targets (Markup Specification, 'Hyperlink Targets'), and what may stand in a replacement text (Directives, 'Replacement
+-- Targets (Markup Specification, 'Hyperlink Targets'), and what a replacement text may contain (Directives, 'Replacement
 -- Text').
 use Rattle.std.specs.Prelude.{ℕ, Bool, true, false, ◌&&◌, not, List, [], ◌∷◌, Option, Some, None, encode_utf8_all}
 use Rattle.std.specs.List.{list_all, list_any}
@@ -37,7 +37,7 @@ target_node name text line = Element Target (leading_attrs (name_attrs name) (ta
 
 -- ---- replacement texts
 
--- elements of this kind may stand there, whatever they hold
+-- elements of this kind are allowed there, whatever they contain
 abbrev pub is_plain_role : Tag → Bool
 is_plain_role Emphasis = true
 is_plain_role Strong = true
@@ -58,20 +58,20 @@ abbrev pub is_substitution : Node → Bool
 is_substitution (Element t a c l) = is_substitution_tag t
 is_substitution (Words t) = false
 
--- A reference may stand there that isn't anonymous and doesn't stand round a substitution reference.
+-- A reference is allowed there if it isn't anonymous and doesn't contain a substitution reference.
 abbrev pub may_refer : List Attr → Forest → Bool
 may_refer a c = not (is_some (value_of Anonymous a)) && not (list_any is_substitution (nodes_of c))
 
--- an element may stand there: a reference by its attributes and nodes, any other by its kind
+-- an element is allowed there: a reference by its attributes and nodes, any other by its kind
 abbrev pub may_stand_as : Tag → List Attr → Forest → Bool
 may_stand_as Reference a c = may_refer a c
 may_stand_as t a c = is_plain_role t
 
--- a node may stand there; a text always may
+-- a node is allowed there; a text always is
 abbrev pub may_stand : Node → Bool
 may_stand (Element t a c l) = may_stand_as t a c
 may_stand (Words t) = true
 
--- all nodes may stand there
+-- all nodes are allowed there
 abbrev pub may_replace : List Node → Bool
 may_replace nodes = list_all may_stand nodes

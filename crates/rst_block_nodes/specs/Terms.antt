@@ -31,12 +31,12 @@ letters_from escaped (c ∷ cs) =
 abbrev pub is_bare : Letter → ℕ → Bool
 is_bare l c = l.character == c && not l.escaped
 
--- how many letters of one, and of those behind it, stand before the spaces at the end, where so many of the latter do
+-- how many of a letter and those after it come before the spaces at the end, given the number of those after it that do
 abbrev pub dark_onto : Letter → ℕ → ℕ
 dark_onto l zero = if is_bare l 32 then 0 else 1
 dark_onto l (suc n) = suc (suc n)
 
--- how many letters stand before the spaces at the end
+-- how many letters come before the spaces at the end
 abbrev pub dark_len : List Letter → ℕ
 dark_len [] = 0
 dark_len (l ∷ ls) = dark_onto l (dark_len ls)
@@ -60,7 +60,7 @@ begins_with_space (l ∷ ls) = is_bare l 32
 abbrev pub is_delimiter : List Letter → Letter → List Letter → Bool
 is_delimiter before l behind = is_bare l 58 && (ends_in_space before && begins_with_space behind)
 
--- The letters cut at delimiters, with the spaces round them. `part` stands in front; the spaces at the front are skipped.
+-- The letters cut at delimiters, with the spaces round them. `part` comes first; the spaces at the front are skipped.
 abbrev pub cut : Bool → List Letter → List Letter → List (List Letter)
 cut skipping part [] = part ∷ []
 cut skipping part (l ∷ ls) =
@@ -87,12 +87,12 @@ texts_of t pieces = flat_map (λ p. parts_by p.kind (letters_from false (source 
 
 -- ---- their nodes
 
--- nodes in front of groups: they belong to the first
+-- nodes before groups: they belong to the first
 abbrev pub in_front : List Node → List (List Node) → List (List Node)
 in_front nodes [] = nodes ∷ []
 in_front nodes (group ∷ groups) = (nodes ++ group) ∷ groups
 
--- groups in front of others: the last of the former and the first of the latter are one
+-- groups before others: the last of the former and the first of the latter are one
 abbrev pub joined : List (List Node) → List (List Node) → List (List Node)
 joined [] groups = groups
 joined (first ∷ []) groups = in_front first groups
@@ -112,7 +112,7 @@ groups_of (parts ∷ texts) (Element t a c l ∷ nodes) = in_front (Element t a 
 abbrev pub classifier_node : ℕ → List Node → Node
 classifier_node line nodes = element_of Classifier [] nodes line
 
--- The first group is that of the term, which says how many messages there are; the others are those of classifiers.
+-- The first group is that of the term, which has the number of messages; the others are those of classifiers.
 abbrev pub heads_of : ℕ → ℕ → List (List Node) → List Node
 heads_of notes line [] = []
 heads_of notes line (group ∷ groups) = element_of Term (counting notes) group line ∷ map (classifier_node line) groups
@@ -128,6 +128,6 @@ heads_behind notes line (head ∷ heads) groups = head ∷ heads ++ map (classif
 abbrev pub heads_with : ℕ → ℕ → Unfinished → List (List Node) → List Node
 heads_with notes line heads groups = heads_behind notes line heads.done.items (in_front heads.nodes.items groups)
 
--- whatever follows, these become what the former become by the parts in front of it
+-- whatever follows, these heads become what the former become with the parts before what follows
 abbrev pub IsPut : ℕ → ℕ → Unfinished → List (List ℕ) → Unfinished → Type 0
 IsPut notes line heads parts made = (rest : List (List Node)) → heads_with notes line made rest ≡ heads_with notes line heads (joined (map text_nodes parts) rest)

@@ -23,11 +23,11 @@ abbrev pub messages_from : ℕ → List Note → List Node
 messages_from first [] = []
 messages_from first (note ∷ notes) = numbered_node first note ∷ messages_from (counted_on first 1) notes
 
--- the attribute that says how many messages of its text an element has, if it has some
+-- the attribute with the number of messages that an element's text has, if it has some
 abbrev pub counting : ℕ → List Attr
 counting notes = if notes == 0 then [] else attr TextMessages (Number notes) ∷ []
 
--- a section, named by its title, which it holds; it says how many messages the title has
+-- a section, named by its title, which it contains; it has the number of the title's messages as an attribute
 abbrev pub section_node : Node → ℕ → ℕ → Node
 section_node title notes line =
     element_of Section (attr OwnName (Said (name_in (text_in title))) ∷ counting notes) (title ∷ []) line

@@ -1,4 +1,4 @@
--- All that nodes say, for worked examples: each attribute, also one that serves the transforms alone, and the number of each element's line. No
+-- All that nodes contain, for worked examples: each attribute, also one that serves the transforms alone, and the number of each element's line. No
 -- rule of markup.
 use Prim.Native.String.{String}
 use Rattle.std.specs.Prelude.{◌≡◌, ℕ, ◌+◌, List, [], ◌∷◌, ◌++◌, map, codes, encode_utf8_all, Result, Ok, Err}
@@ -27,11 +27,11 @@ whole_at n bare = []
 whole_at n (element t a c l more) = (n, tag_and_line t a l) ∷ (whole_at (n + 1) c ++ whole_at n more)
 whole_at n (words t more) = map (λ l. (n, l)) (text_lines t) ++ whole_at n more
 
--- all that nodes say
+-- all that nodes contain
 abbrev pub whole : List Node → List ℕ
 whole nodes = printed (whole_at 0 (forest_of nodes))
 
--- nodes say what stands in these lines
+-- these lines are all that the nodes contain
 abbrev pub Says : List Node → List String → Type 0
 Says nodes tree = whole nodes ≡ encode_utf8_all (written tree)
 

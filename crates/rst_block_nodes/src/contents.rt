@@ -1,4 +1,4 @@
-//! More nodes behind others, in lists and in elements.
+//! More nodes after others, in lists and in elements.
 ghost use Rattle.std.specs.Prelude.{◌≡◌, ◌++◌};
 ghost use Rattle.rst_tree.specs.Faults.{Gives};
 ghost use Rattle.rst_block_nodes.specs.Sections.{filled};
@@ -7,7 +7,7 @@ use rst_tree::{Children, Node, Result};
 use rst_tree_index::{Marked, MarkedNodes};
 use std::alloc::Global;
 
-/// Puts more nodes behind the last.
+/// Puts more nodes after the last.
 ///
 /// The only refusal is [`TreeFault::NoMemory`].
 pub fn append(nodes: &mut Vec<Node>, mut more: Vec<Node>) -> Result<()>

@@ -22,7 +22,7 @@ impl Style {
     }
 }
 
-/// A title where it stands in the document.
+/// A title at its place in the document.
 #[derive(Drop)]
 pub struct Heading {
     /// The nodes that come before it, since the last title.

@@ -12,8 +12,8 @@ use rst_markup_directives::{OptionValue, Setting, Target};
 use rst_tree::{Attrs, Key, Node, Result, Tag, Text, Value};
 use std::alloc::Global;
 
-/// An image, in a reference where its options say that it leads to a target (Docutils, Directives, 'Image'). The image of
-/// a figure has no alignment. `alt` is the text that stands for the image where no option says another.
+/// An image, in a reference where its options give it a target (Docutils, Directives, 'Image'). The image of
+/// a figure has no alignment. `alt` is the alternate text where no option gives another.
 ///
 /// The only refusal is [`TreeFault::NoMemory`].
 pub fn image(

@@ -11,7 +11,7 @@ use rst_tree::{Attrs, Key, Node, Result, Tag, Value};
 use std::alloc::Global;
 
 /// A footnote with its label, without its content (Document Tree, 'footnote'). The label is digits, which it shows and is
-/// named by; `#`, maybe with a name behind it, which numbers it; or `*`, which gives it a symbol.
+/// named by; `#`, maybe with a name after it, which numbers it; or `*`, which gives it a symbol.
 ///
 /// The only refusal is [`TreeFault::NoMemory`].
 pub fn footnote(alloc: Global, label: &str, line: usize) -> Result<Node>

@@ -12,7 +12,7 @@ use std::alloc::{AllocError, AllocFailed, Global};
 use std::marker::Model;
 use thiserror::Error;
 
-/// A line of a line block: how deep it is indented behind its bar (none where nothing stands behind the bar), the number of
+/// A line of a line block: how deep it is indented after its bar (none where nothing follows the bar), the number of
 /// the line with the bar, the number of the line that its text begins in, and the text.
 #[derive(Debug, Drop)]
 pub struct BarText {
@@ -107,7 +107,7 @@ impl IndentedText {
 
 /// The line block of some lines, of a level of nesting (Markup Specification, 'Line Blocks'), and the messages of their
 /// texts. Lines that are deeper than the least indentation form line blocks of the next level, as many neighbours as there
-/// are in each. A line with nothing behind its bar is as deep as the one before it, the first not at all.
+/// are in each. A line with nothing after its bar is as deep as the one before it, the first not at all.
 ///
 /// Refusals: [`LineBlockFault::TooDeep`] where a line block's level is above `deepest`, and
 /// [`LineBlockFault::NoMemory`].
@@ -171,7 +171,7 @@ fn deeper_len(lines: &[IndentedText], least: usize) -> usize
 
 /// The line block of some lines, inside which `levels` more may nest.
 ///
-/// Each line is looked at once for each line block that it stands in, and each message is moved once for each.
+/// Each line is looked at once for each line block that it is in, and each message is moved once for each.
 fn block_of(
     alloc: Global,
     lines: &[IndentedText],

@@ -25,7 +25,7 @@ pub fn bullet_list(alloc: Global, mark: char, line: usize) -> Result<Node>
 }
 
 /// An enumerated list whose first item begins with an enumerator, without its items (Document Tree, 'enumerated_list').
-/// It says its first ordinal if that isn't 1.
+/// It has its first ordinal as an attribute if that isn't 1.
 ///
 /// The only refusal is [`TreeFault::NoMemory`].
 pub fn enumerated_list(alloc: Global, enumerator: Enumerator, line: usize) -> Result<Node>
@@ -54,7 +54,7 @@ pub fn enumerated_list(alloc: Global, enumerator: Enumerator, line: usize) -> Re
     Ok(element_of(Tag::EnumeratedList, attrs, Vec::new(alloc), line))
 }
 
-/// The message that the first ordinal of a list isn't 1. `written` is the ordinal as it stands in the source.
+/// The message that the first ordinal of a list isn't 1. `written` is the ordinal as it is in the source.
 ///
 /// The only refusal is [`TreeFault::NoMemory`].
 pub fn start_message(alloc: Global, written: &str, ordinal: u64, line: usize) -> Result<Node>
@@ -69,7 +69,7 @@ pub fn start_message(alloc: Global, written: &str, ordinal: u64, line: usize) ->
     message(alloc, Level::Info, line, text.as_str(), None)
 }
 
-/// An option of an option list, with its argument, if it has one: what stands before it, and its text (Document Tree,
+/// An option of an option list, with its argument, if it has one: what comes before it, and its text (Document Tree,
 /// 'option').
 ///
 /// The only refusal is [`TreeFault::NoMemory`].

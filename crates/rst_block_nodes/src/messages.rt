@@ -6,7 +6,7 @@ ghost use Rattle.rst_block_nodes.specs.Texts.{message_node};
 use rst_tree::{Level, Node, Note, Result, Text};
 use std::alloc::Global;
 
-/// A message on the line of a number, with the source text that it shows, if it shows some (Document Tree,
+/// A message on the line of a number, with the source text that it quotes, if it quotes some (Document Tree,
 /// 'system_message').
 ///
 /// The only refusal is [`TreeFault::NoMemory`].

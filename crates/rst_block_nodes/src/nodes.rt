@@ -7,7 +7,7 @@ use super::values::said;
 use rst_tree::{Attrs, Children, Key, Node, Result, Tag};
 use std::alloc::Global;
 
-/// An element with these attributes, these nodes in it, and the number of its line, or 0 where it tells none.
+/// An element with these attributes, these nodes in it, and the number of its line, or 0 where it has none.
 pub fn element_of(tag: Tag, attrs: Attrs, nodes: Vec<Node>, line: usize) -> Node
     ensures { result ≡ element_of tag attrs nodes.items line }
 {
@@ -30,7 +30,7 @@ pub(crate) fn text_nodes(alloc: Global, text: &str) -> Result<Vec<Node>>
     Ok(nodes)
 }
 
-/// An element whose only node is a text as it stands; an empty text is no node.
+/// An element whose only node is a text, unchanged; an empty text is no node.
 ///
 /// The only refusal is [`TreeFault::NoMemory`].
 pub fn plain(alloc: Global, tag: Tag, line: usize, text: &str) -> Result<Node>
@@ -40,7 +40,7 @@ pub fn plain(alloc: Global, tag: Tag, line: usize, text: &str) -> Result<Node>
     Ok(element_of(tag, Attrs::new(alloc), nodes, line))
 }
 
-/// The attribute that says that an element's white characters stay.
+/// The attribute by which an element's white characters are kept.
 pub(crate) fn preserving(alloc: Global) -> Result<Attrs>
     ensures { Gives (λ attrs. attrs ≡ preserving) result }
 {
@@ -48,7 +48,7 @@ pub(crate) fn preserving(alloc: Global) -> Result<Attrs>
 }
 
 /// A literal block, a doctest block or a comment (Document Tree, 'literal_block'): the same as [`plain`], with the
-/// attribute that says that its white characters stay.
+/// attribute by which its white characters are kept.
 ///
 /// The only refusal is [`TreeFault::NoMemory`].
 pub fn preserved(alloc: Global, tag: Tag, line: usize, text: &str) -> Result<Node>

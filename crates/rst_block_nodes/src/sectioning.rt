@@ -16,7 +16,7 @@ use rst_tree_index::{Marked, MarkedNodes};
 use std::alloc::Global;
 use std::mem;
 
-/// A section that is open, with what stands in it so far; the outermost is the document.
+/// A section that is open, with what is in it so far; the outermost is the document.
 #[derive(Drop)]
 struct OpenSection {
     element: Node,
@@ -122,7 +122,7 @@ fn level_of(style: Style, styles: &[Style]) -> usize
     styles.len() + 1
 }
 
-/// A section that begins with its title, and is named by the title's text; so many messages are to stand between the title
+/// A section that begins with its title, and is named by the title's text; this many messages are to come between the title
 /// and the section's content (Document Tree, 'section').
 fn section(alloc: Global, title: Node, notes: usize, line: usize) -> Result<Node>
     ensures { Gives (λ node. node ≡ section_node title notes line) result }

@@ -23,7 +23,7 @@ pub(crate) enum Holder {
     Body,
 }
 
-/// Lets attributes say what the options of an element's directive say.
+/// Sets the attributes that the options of an element's directive ask for.
 pub(crate) fn set_options(
     alloc: Global,
     attrs: &mut Attrs,
@@ -53,7 +53,7 @@ pub(crate) fn set_options(
     Ok(())
 }
 
-/// What the value of an option says as the value of an attribute: of a target, the text that it is written with.
+/// The value of an option as the value of an attribute: of a target, the text that it is written with.
 #[tactic(auto, using(rst_text::proofs::TextLemmas::bytes_encoded, crate::proofs::TextLemmas::listed_bytes))]
 fn value_of(alloc: Global, value: &OptionValue) -> Result<Value>
     ensures { Gives (λ said. said ≡ value_meant (meaning_of value.now)) result }

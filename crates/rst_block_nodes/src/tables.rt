@@ -7,7 +7,7 @@ use super::nodes::element_of;
 use rst_tree::{Attrs, Key, Node, Result, Tag, Value};
 use std::alloc::Global;
 
-/// The group of all rows of a table whose columns have these widths, with what it says of the columns, without its rows
+/// The group of all rows of a table whose columns have these widths, with an element for each column, without its rows
 /// (Document Tree, 'tgroup').
 ///
 /// The only refusal is [`TreeFault::NoMemory`].
@@ -23,7 +23,7 @@ pub fn tgroup(alloc: Global, widths: &[usize], line: usize) -> Result<Node>
     Ok(element_of(Tag::Tgroup, attrs, nodes, line))
 }
 
-/// An entry of a table that takes so many rows and columns beside its first, without its content (Document Tree, 'entry').
+/// An entry of a table that spans this many more rows and columns than one, without its content (Document Tree, 'entry').
 ///
 /// The only refusal is [`TreeFault::NoMemory`].
 pub fn entry(alloc: Global, morerows: usize, morecols: usize, line: usize) -> Result<Node>

@@ -15,7 +15,7 @@ use std::alloc::Global;
 
 /// A target that is a block: its name as it is written, still with escapes, if it has one, and its text, whose lines are
 /// joined by line feeds and may have their indentation (Markup Specification, 'Hyperlink Targets'). It leads to a name or
-/// to a URI, or stands for its own place where nothing is left of its text. One without a name is anonymous.
+/// to a URI, or marks its own place where nothing is left of its text. One without a name is anonymous.
 ///
 /// The only refusal is [`TreeFault::NoMemory`].
 pub fn target(alloc: Global, name: Option<&str>, text: &str, line: usize) -> Result<Node>
@@ -30,7 +30,7 @@ pub fn target(alloc: Global, name: Option<&str>, text: &str, line: usize) -> Res
     Ok(element_of(Tag::Target, attrs, Vec::new(alloc), line))
 }
 
-/// The attribute that says a target's name, or that it has none.
+/// The attribute with a target's name, or the one of a target without a name.
 fn name_attr(alloc: Global, name: Option<&str>) -> Result<Entry>
     ensures { Gives (λ attr. attr ∷ [] ≡ name_attrs (option_map (λ written. written.now) name.entry)) result }
 {
@@ -41,7 +41,7 @@ fn name_attr(alloc: Global, name: Option<&str>) -> Result<Entry>
     Ok(Entry::new(Key::OwnName, name_said(alloc, name.as_str())?))
 }
 
-/// Lets a target's attributes say what it leads to.
+/// Adds to a target's attributes what it leads to.
 #[tactic(auto, using(rst_text::proofs::TextLemmas::bytes_encoded))]
 fn add_lead(alloc: Global, attrs: &mut Attrs, destination: Option<Target>) -> Result<()>
     ensures { Gives (λ _. attrs.new ≡ leading_attrs attrs.old (option_map destination_of destination)) result }
@@ -75,8 +75,8 @@ pub fn substitution_definition(alloc: Global, name: &str, line: usize) -> Result
     Ok(element_of(Tag::SubstitutionDefinition, attrs, Vec::new(alloc), line))
 }
 
-/// Whether these nodes of a text may stand in the place of a substitution reference (Docutils, Directives, 'Replacement
-/// Text'): text, plain roles, substitution references, and references that are neither anonymous nor stand round a
+/// Whether these nodes of a text may replace a substitution reference (Docutils, Directives, 'Replacement
+/// Text'): text, plain roles, substitution references, and references that aren't anonymous and don't contain a
 /// substitution reference.
 pub fn may_replace(nodes: &[Node]) -> bool
     ensures { result ≡ may_replace nodes.now }
@@ -84,7 +84,7 @@ pub fn may_replace(nodes: &[Node]) -> bool
     nodes.iter().all(|node| may_stand(node))
 }
 
-/// Whether a node may stand in a replacement text.
+/// Whether a node is allowed in a replacement text.
 #[tactic(auto, using(rst_tree::proofs::Changes::nodes_are))]
 fn may_stand(node: &Node) -> bool
     ensures { result ≡ may_stand node.now }

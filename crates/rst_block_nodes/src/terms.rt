@@ -22,9 +22,9 @@ pub struct Heads {
     pub notes: Vec<Node>,
 }
 
-/// The term that a text is, with the classifiers behind it, each behind a colon with spaces on both sides (Markup
-/// Specification, 'Definition Lists'). The colon and the spaces stand in text without markup, and none of them is
-/// escaped; they are looked for when escapes are gone. The term says how many messages there are.
+/// The term that a text is, with the classifiers that follow it, each after a colon with spaces on both sides (Markup
+/// Specification, 'Definition Lists'). The colon and the spaces are in text without markup, and none of them is
+/// escaped; they are looked for when escapes are gone. The term has the number of messages as an attribute.
 ///
 /// The only refusal is [`TreeFault::NoMemory`].
 #[tactic(auto, using(crate::proofs::MessageLemmas::messages_from_length))]
@@ -73,7 +73,7 @@ fn plain_parts(alloc: Global, text: &[char], pieces: &[Piece]) -> Result<Vec<Vec
     Ok(parts)
 }
 
-/// The characters that are left when escapes are gone: a backslash vanishes, and white behind one.
+/// The characters that are left when escapes are gone: a backslash vanishes, and white after one.
 fn letters_of(alloc: Global, text: &[char]) -> Result<Vec<Letter>, AllocError>
     ensures { IfOk result (λ letters. letters.items ≡ letters_from false text.now) }
 {
@@ -97,7 +97,7 @@ fn letters_of(alloc: Global, text: &[char]) -> Result<Vec<Letter>, AllocError>
     Ok(letters)
 }
 
-/// The texts before, between and behind the colons with spaces on both sides, without these spaces.
+/// The texts before, between and after the colons with spaces on both sides, without these spaces.
 fn parts_of(alloc: Global, letters: &[Letter]) -> Result<Vec<Text>>
     ensures { Gives (λ parts. parts.items ≡ parts_of letters.now) result }
 {
@@ -128,7 +128,7 @@ fn is_bare(letter: Letter, c: char) -> bool
     letter.character == c && !letter.escaped
 }
 
-/// Whether a letter behind some and before others is a colon with a space on both sides.
+/// Whether a letter after some and before others is a colon with a space on both sides.
 #[tactic(auto, using(crate::proofs::TermLemmas::ends_in_space_append))]
 fn is_delimiter(before: &[Letter], letter: Letter, behind: &[Letter]) -> bool
     ensures { result ≡ is_delimiter before.now letter behind.now }
@@ -140,7 +140,7 @@ fn is_delimiter(before: &[Letter], letter: Letter, behind: &[Letter]) -> bool
             && behind.first().is_some_and(|first| is_bare(*first, ' ')))
 }
 
-/// How many letters stand before the spaces at the end.
+/// How many letters come before the spaces at the end.
 fn dark_len(letters: &[Letter]) -> usize
     ensures value { result ≡ dark_len letters.now }
     ensures within { result ≤ length letters.now }
@@ -200,7 +200,7 @@ fn heads_of(
     Ok(heads.done)
 }
 
-/// The parts of a text put behind the nodes: each but the first begins a classifier.
+/// The parts of a text put after the nodes: each but the first begins a classifier.
 fn with_parts(
     alloc: Global,
     heads: Unfinished,

@@ -20,8 +20,8 @@ pub struct Texted {
 }
 
 /// An element of line `line` with the nodes of a text whose first line is `text_line`, and the text's messages (Markup
-/// Specification, 'Inline Markup'). The element says how many messages there are, if there are some. A message and its problematic have one
-/// number, by which the document's messages are counted.
+/// Specification, 'Inline Markup'). The element has the number of messages as an attribute, if there are some. A message and its problematic have
+/// one number, by which the document's messages are counted.
 ///
 /// The only refusal is [`TreeFault::NoMemory`].
 #[tactic(auto, using(crate::proofs::MessageLemmas::messages_from_length))]
@@ -71,7 +71,7 @@ pub(crate) fn messages_of(alloc: Global, notes: Vec<Note>, first: u64) -> Result
     Ok(messages)
 }
 
-/// The attribute that says how many messages of its text an element has, if it has some.
+/// The attribute with the number of messages that an element's text has, if it has some.
 pub(crate) fn counting(alloc: Global, notes: usize) -> Result<Attrs>
     ensures { Gives (λ attrs. attrs ≡ counting notes) result }
 {

@@ -11,7 +11,7 @@ use rst_tree::{Result, Text, Texts, TreeFault, Value};
 use std::alloc::Global;
 use std::borrow::CowStr;
 
-/// A value that says a text.
+/// A value that is a text.
 pub(crate) fn said(alloc: Global, text: &str) -> Result<Value>
     ensures { Gives (λ value. value ≡ Said text.now) result }
 {
@@ -19,7 +19,7 @@ pub(crate) fn said(alloc: Global, text: &str) -> Result<Value>
     Ok(Value::Text(text))
 }
 
-/// A value that says the name that a text gives.
+/// A value that is the name that a text gives.
 #[tactic(auto, using(rst_text::proofs::TextLemmas::bytes_of_chars))]
 pub(crate) fn name_said(alloc: Global, text: &str) -> Result<Value>
     ensures { Gives (λ value. value ≡ Said (name_in text.now)) result }

@@ -1,4 +1,4 @@
--- What a paragraph shows that announces a literal block.
+-- What a paragraph that announces a literal block contains.
 use Rattle.std.proofs.Common.{◌≡◌, ℕ, suc, ◌-◌, ◌<◌, ◌≤◌, ◌==◌, ◌⊎◌, inl, inr, Bool, true, false, ◌&&◌, ◌||◌, List, [], ◌∷◌, ◌++◌, append_assoc, length, length-append, get_or, take, drop, Option, None, Some, refl, sym, ap, ◌∙◌, arith, ltb, lt-ltb, le-ltb, leb-true, drop-cons, take-append-drop, Bor}
 use Rattle.std.specs.Prelude.{MatchOption, unwrap_or, if◌then◌else◌}
 use Rattle.std.specs.Char.{is_whitespace}

@@ -54,7 +54,7 @@ front_block B p k b h = record {
       ∙ is_indented-take p.rest_cut (p.from + k - (p.from + 1)) (take (p.to - (p.from + 1)) (drop (p.from + 1) B)) b.indented;
 }
 
--- the lines of a block behind its first ones
+-- the lines of a block after its first ones
 pub rest_block : (B : Block) (p : Part) (k : ℕ) → IsBlock B p → p.from + k < p.to
     → let q : Part = record { from = p.from + k; to = p.to; first_cut = p.rest_cut; rest_cut = p.rest_cut } in IsBlock B q
 rest_block B p k b h =

@@ -1,4 +1,4 @@
--- A mark says whether anything stands after it.
+-- A mark shows whether anything comes after it.
 use Rattle.std.proofs.Common.{◌≡◌, ℕ, zero, suc, ◌+◌, ◌-◌, Bool, true, false, not, ◌&&◌, ◌||◌, cond, List, [], ◌∷◌, map, drop, take, Option, None, Some, option_map, arith, refl, sym, ap, ◌∙◌}
 use Rattle.std.specs.Prelude.{IfSome, ◌==◌}
 use Rattle.std.specs.List.{last_or}
@@ -21,7 +21,7 @@ use Rattle.rst_markup_lines.specs.declared.explicit_marks.LabelKind.{LabelKind}
 use Rattle.rst_markup_lines.specs.declared.field.FieldMark.{FieldMark}
 use Rattle.rst_markup_lines.specs.declared.marker.Marker.{Marker}
 
--- a marker at the front of a text is bare where nothing stands after it
+-- a marker at the front of a text is bare where nothing comes after it
 abbrev pub Tells : List ℕ → Marker → Type 0
 Tells t m = m.bare ≡ is_blank (drop m.cut t)
 
@@ -103,7 +103,7 @@ pub chosen : {A : Type 0} (P : A → Type 0) (b : Bool) (x y : A) → P x → P 
 chosen P true x y h k = h
 chosen P false x y h k = k
 
--- the marker of options whose last one stands before the end of a text, wherever this text stands, says whether anything stands after it
+-- the marker of options whose last one is before the end of a text, wherever this text is, shows whether anything comes after it
 last_tells : (u : List ℕ) (o : Option Marker) → IfSome o (Tells u) → (f : ℕ) (t : List ℕ) → drop f t ≡ u → IfSome (marker_by f (last_if o)) (Tells t)
 last_tells u None h f t e = tt
 last_tells u (Some m) h f t e =

@@ -92,7 +92,7 @@ next_some {l} {B} h inside = omega (arith, h.size, (end_inside (l.depth == 0) B 
 pub next_within : {l : OpenBlock} {B : Block} {what : Construct} {lines : ℕ} → IsNextConstruct l B what lines → l.at < length B → l.at + lines ≤ length B
 next_within {l} {B} h inside = omega (arith, h.size, (end_inside (l.depth == 0) B l.at inside).1)
 
--- the place behind its lines
+-- the place after its lines
 pub end_behind : (old mid end lines length : ℕ) → mid ≡ old → end ≡ min (mid + lines) 18446744073709551615 → old + lines ≤ length → length < 2 ^ 64 → end ≡ old + lines
 end_behind old mid end lines length e h within few = omega (arith, e, h, within, few)
 
@@ -181,7 +181,7 @@ next_alone {old} {mid} {B} {what} {lines} {n} {m} h a e =
 pub next_refused : {l : OpenBlock} {B : Block} {what : Construct} {lines line : ℕ} (n : ℕ) → IsNextConstruct l B what lines → IsAlone what → run_of l B n ≡ Err line → reads l B n ≡ Err line
 next_refused {l} {B} {what} {lines} {line} n h a refused = run_then_alone n h a ∙ close_refused l B n line (after_run l.depth B (next_found l what lines)) refused
 
--- once the construct gave its items, and the WARNING where no blank line follows it, the block goes on behind it
+-- once the construct gave its items, and the WARNING where no blank line follows it, the block goes on after it
 pub next_items : {old mid : OpenBlock} {B : Block} {what : Construct} {lines n m k : ℕ} (new : OpenBlock) (items : List Item) → IsNextConstruct old B what lines → IsAlone what → HasEnded old mid B n m
     → piece_of (within_at old.depth) B (next_found old what lines) m ≡ Ok (items, k)
     → done_of new ≡ done_of mid ++ (items ++ map plain (ending_notes (alone_ending what) (drop (old.at + lines) B)))
@@ -242,7 +242,7 @@ blank_reads {old} {new} B n m later e =
     at_number n (reads_is new B (done_moved m) m.depth refl (ap open_of m.run))
     ∙ ap (λ (r : Numbered (List Item)). before (done_of old) r n) (sym (rest_blanks (within_at old.depth) B old.at new.at (open_of old.run) later blank))
 
--- behind the last line only what the open run gives is to come
+-- after the last line only what the open run gives is to come
 over_is : (l : OpenBlock) (B : Block) (n : ℕ) → length B ≤ l.at → reads l B n ≡ before (done_of l) (run_of l B) n
 over_is l B n h = ap (λ (r : Numbered (List Item)). before (done_of l) r n) (rest_over (within_at l.depth) B l.at (open_of l.run) h)
 

@@ -93,7 +93,7 @@ opens_after h start enough = record {
   least = omega (arith, start, h.least);
 }
 
--- a call that opens these blocks after some looks opens them in so many looks more
+-- a call that opens these blocks after some looks opens them in as many looks as both take
 pub opened_after : (few more : ℕ) (old new : OpenBlock) (B : Block) (Cs Ds : List Block) (end before mid after : ℕ) (result : Result Step BlockFault) → capped before ≤ mid → mid + few ≤ before + more → Cs ≡ Ds
     → IfOk result (λ s. Opens few old new B Cs end s mid after) → IfOk result (λ s. Opens more old new B Ds end s before after)
 opened_after few more old new B Cs Ds end before mid after (Err fault) low high same h = tt

@@ -76,7 +76,7 @@ white_front (l ∷ ls) h = not-true (ends_white l.text) (and_parts (not (ends_wh
 pub take_le : (n : ℕ) (B : Block) → (length (take n B) ≤ n) × (length (take n B) ≤ length B)
 take_le n B = (omega (arith, length-take n B), omega (arith, length-take n B))
 
--- a part has no more lines than its places say, and than there are from its begin on
+-- a part has no more lines than there are between its places, and than there are from its begin on
 pub part_le : (B : Block) (p : Part) → (length (lines_in B p) ≤ p.to - p.from) × (length (lines_in B p) ≤ length B - p.from)
 part_le B p =
     let X : Block = drop p.from B in
@@ -128,7 +128,7 @@ indented_fronted B Y i h e some =
     let t : is_trimmed Y ≡ true = ap is_trimmed (sym e) ∙ trimmed_drop i B h in
     ap (λ (X : Block). is_blank (drop (least_of Y) (front_text X))) e ∙ without_least 0 Y t (omega (arith, less)) some)
 
--- behind the blank lines comes one that isn't
+-- after the blank lines comes one that isn't
 pub past_blanks : (Y : Block) → lines_while Blank Y < length Y → is_blank (front_text (drop (lines_while Blank Y) Y)) ≡ false
 unfolding lines_while
 past_blanks [] h = absurd (omega (arith, h))
@@ -159,7 +159,7 @@ take_fronted k Q h = record { trimmed = trimmed_take k Q h.trimmed; front = by k
 below : (i : ℕ) (B : Block) → drop 1 (drop i B) ≡ drop (i + 1) B
 below i B = drop-drop 1 i B
 
--- a hanging block whose marker says whether anything stands after it
+-- a hanging block whose marker shows whether anything comes after it
 pub hanging_fronted : (B : Block) (i cut : ℕ) (bare : Bool) → is_trimmed B ≡ true → bare ≡ is_blank (drop cut (front_text (drop i B))) → IsFronted (lines_in B (hanging_part i cut bare (drop i B)))
 unfolding hanging_part
 hanging_fronted B i n false h tells = part_fronted B (hanging_part i n false (drop i B)) h (λ less there. sym tells)

@@ -54,7 +54,7 @@ inside_from : (Q : Block) (o : Option ℕ) (k : ℕ) (a : Attribution) → IsFir
 inside_from Q None k a first e = absurd (none_is e)
 inside_from Q (Some i) k a first e = inside_in Q (attribution_in Q i) i k a (omega (arith, first.0, first.1)) refl e
 
--- the first attribution of a quote ends behind its first line, and within the quote
+-- the first attribution of a quote ends after its first line, and within the quote
 pub attribution_within : (Q : Block) (k : ℕ) (a : Attribution) → first_attribution Q ≡ Some (k, a) → (k < a.end) × (a.end ≤ length Q)
 attribution_within Q k a e =
     inside_from Q (first_from (λ i. is_some (attribution_in Q i)) 1 (length Q - 1)) k a (first_from-IsFirst (λ i. is_some (attribution_in Q i)) 1 (length Q - 1)) e

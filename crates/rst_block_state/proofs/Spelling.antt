@@ -79,7 +79,7 @@ spelled_more i B z h =
     ∙ ap (λ x. encodes (joined (take i B)) ++ (x ++ more)) (encode_ascii 10 (omega arith))
     ∙ sym (append_assoc (encodes (joined (take i B))) (10 ∷ []) more)
 
--- The texts of the first lines with one more, whose text is put behind a line feed unless it is the first.
+-- The texts of the first lines with one more, whose text is put after a line feed unless it is the first.
 pub spelled_step : (i : ℕ) (B : Block) (front between after line : List ℕ) → i < length B → front ≡ spelled (take i B) → line ≡ encode_utf8_all (front_text (drop i B))
     → (((0 < i) × (between ≡ front ++ 10 ∷ [])) ⊎ ((i ≡ 0) × (between ≡ front))) → after ≡ between ++ line → after ≡ spelled (take (i + 1) B)
 spelled_step i B front between after line h f l (inl b) a =

@@ -49,7 +49,7 @@ behind_drop p zero X = omega arith
 behind_drop p (suc n) [] = omega arith
 behind_drop p (suc n) (l ∷ ls) = omega (arith, behind_drop p n ls, one_less p l ls, through_le p ls)
 
--- where the first line fails the test, all lines behind it are behind
+-- where the first line fails the test, all lines after it come after the first that fails
 behind_step : (p : List ℕ → Bool) (n : ℕ) (X : Block) → 1 ≤ n → n ≤ length X → through p X ≤ 1 → behind p (drop n X) + through p (drop n X) ≤ behind p X
 behind_step p n X some fits one = omega (arith, through_le p (drop n X), length-drop n X)
 
@@ -68,7 +68,7 @@ text_is (l ∷ ls) = by (is_blank l.text) (text_is ls)
     by true h = ap suc h
     by false h = refl
 
--- n lines that pass, and the one behind them, if there is one
+-- n lines that pass, and the one after them, if there is one
 passing : (p : List ℕ → Bool) (n : ℕ) (Y : Block) → ((k : ℕ) → k < n → p (front_text (drop k Y)) ≡ true) → min (suc n) (length Y) ≤ through p Y
 unfolding through
 passing p n [] h = omega arith

@@ -11,7 +11,7 @@ run_by piece ended run = do
   items ← flat_each piece (members run)
   ended run items
 
--- what is still to come of some things after an open run that `joining` says what joins, and whose members gave these items
+-- what is still to come of some things after an open run whose members gave these items, where `joining` decides what joins it
 abbrev pub walk_from : {A G I : Type 0} → (A → G) → (G → A → Option G) → (A → Numbered (List I)) → (Run A → List I → Numbered (List I))
     → G → Run A → List I → List A → Numbered (List I)
 walk_from begins joins piece ended joining run items [] = ended run items

@@ -6,7 +6,7 @@ use Rattle.rst_markup_blocks.specs.declared.begun.Begun.{Begun}
 use Rattle.rst_markup_blocks.specs.declared.begun.Begun.TheVariants.{Blank, Quote, Bullet, Enumerator, Field, OptionItem, Doctest, Line, Grid, Simple, Explicit, Anonymous, Adornment, Text}
 use Rattle.rst_block_state.specs.Constructs.{Construct, nothing, block_quote, bullet_item, enumerated_item, field_item, option_item, item_of_list, doctest_block, bar_line, grid, simple, explicit_markup, adorned, plain_text, construct_at}
 
--- the construct with a mark; of a text and of a line of one punctuation character the lines of X say which one it is
+-- the construct with a mark; of a text and of a line of one punctuation character the lines of X decide which one it is
 abbrev pub construct_with : Begun → Bool → Block → Construct
 construct_with Blank titles X = nothing
 construct_with Quote titles X = block_quote

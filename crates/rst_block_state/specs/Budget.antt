@@ -31,7 +31,7 @@ unfoldable pub deepest_of : (Block → ℕ) → List Block → ℕ
 deepest_of g [] = 0
 deepest_of g (C ∷ Cs) = max (if is_bare C then 0 else suc (g C)) (deepest_of g Cs)
 
--- The largest number of levels by which a block that is opened inside, cells not entered, is deeper. So many levels may still be opened.
+-- The largest number of levels by which a block that is opened inside, cells not entered, is deeper. This many levels may still be opened.
 unfoldable pub depth : Bool → (levels : ℕ) → Bool → Block → ℕ
 depth code zero titles B = 0
 depth code (suc levels) titles B = deepest_of (depth code levels false) (inside (unread code titles) B)
@@ -61,7 +61,7 @@ total code (suc levels) titles B =
     length B + (sum_of (total code levels false) (inside (unread code titles) B)
     + sum_of (total code levels false) (cells (unread code titles) B))
 
--- the budget of a document: as many levels may be opened below it as the profile says, and one more for blocks that are too deep and must be blank
+-- the budget of a document: as many levels may be opened below it as the profile has, and one more for blocks that are too deep and must be blank
 abbrev pub document_budget : Profile → Block → ℕ
 document_budget profile B = budget profile.code (suc profile.nesting) true B
 

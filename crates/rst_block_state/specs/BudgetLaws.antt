@@ -21,7 +21,7 @@ pub record AreWithin (n : ℕ) (Cs : List Block) : Type 0 where
   pub few : sum_of length Cs ≤ n
   pub fronted : AllByRecursion IsFronted Cs
 
--- the blocks that are opened in a block stand in its lines, one after another
+-- the blocks that are opened in a block are in its lines, one after another
 abbrev pub BlocksAreInside : Type 0
 BlocksAreInside = (c : Within) (B : Block) → is_trimmed B ≡ true → AreWithin (length B) (inside c B)
 

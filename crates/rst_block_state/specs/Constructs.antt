@@ -28,7 +28,7 @@ use Rattle.rst_markup_blocks.specs.declared.kind.Kind.TheVariants.{Blank, Quote,
 use Rattle.rst_block_state.specs.Texts.{said}
 
 -- An item of a list, by its mark: a bullet's character with its marker, an enumerator, a field's name with its marker, or the marker of options. An
--- item of a definition list has no mark but its term, the text of its line, and the messages that say why the line is a text.
+-- item of a definition list has no mark but its term, the text of its line, and the messages that explain why the line is a text.
 pub data ItemMark : Type 0 where
   bullet_item : ℕ → Marker → ItemMark
   enumerated_item : Enumerator → ItemMark
@@ -36,8 +36,8 @@ pub data ItemMark : Type 0 where
   field_item : FieldMark → ItemMark
   option_item : Marker → ItemMark
 
--- A construct. A title with its underline and a paragraph have the messages that say why their first line is a text. Titles say whether they are
--- wider than their adornment. Misplaced lines, which are neither a title nor a transition, have the level and the text of their message.
+-- A construct. A title with its underline and a paragraph have the messages that explain why their first line is a text. Titles record whether
+-- they are wider than their adornment. Misplaced lines, which are neither a title nor a transition, have the level and the text of their message.
 pub data Construct : Type 0 where
   nothing : Construct
   block_quote : Construct
@@ -63,14 +63,14 @@ short_underline titles X =
     (codes "Possible title underline, too short for the title.\nTreating it as ordinary text because it's so short.") ∷ []
     else []
 
--- the construct of a text of a form, after messages that say why its line is a text
+-- the construct of a text of a form, after messages that explain why its line is a text
 abbrev pub text_by : TextForm → Bool → List Node → Block → Construct
 text_by Paragraph titles infos X = paragraph infos
 text_by ShortUnderline titles infos X = paragraph (infos ++ short_underline titles X)
 text_by Definition titles infos X = item_of_list (definition_item infos)
 text_by (Title short) titles infos X = underlined_title infos short
 
--- the construct of the text in the first line, after messages that say why the line is a text
+-- the construct of the text in the first line, after messages that explain why the line is a text
 abbrev pub text_after : Bool → List Node → Block → Construct
 text_after titles infos X = text_by (text_form (front_text X) (next_text X)) titles infos X
 
@@ -103,7 +103,7 @@ adorned_by (MissingUnderline blank) titles mark X = misplaced_lines Severe (code
 adorned_by Mismatch titles mark X = misplaced_lines Severe (codes "Title overline & underline mismatch.")
 adorned_by Unexpected titles mark X = misplaced_lines Severe (codes "Unexpected section title or transition.")
 
--- the same, where the two lines after it say its form
+-- the same, where the two lines after it decide its form
 abbrev pub adorned : Bool → Block → Adornment → Construct
 adorned titles X mark = adorned_by (adorned_form titles mark (next_text X) (third_text X)) titles mark X
 

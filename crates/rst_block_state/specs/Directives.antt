@@ -34,7 +34,7 @@ use Rattle.rst_block_state.specs.Texts.{excerpt, joined, lines_in, shown, source
 use Rattle.rst_block_state.specs.Within.{Within}
 
 -- The nodes of a content, which may be two blocks of one level: the lines before the options, and those after them. The content of a figure or of a
--- replacement text is a block as well, whatever becomes of its nodes.
+-- replacement text is a block as well, whatever is made of its nodes.
 abbrev pub content_nodes : Within → Block → Content → Numbered (List Node)
 content_nodes c B content = do
   some ← c.inner (lines_in B content.first)

@@ -20,7 +20,7 @@ pub data Beginning : Type 0 where
   no_caption : Beginning
   neither : Beginning
 
--- how many messages an element says that there are on its text
+-- the number of messages on its text that an element has as an attribute
 abbrev pub message_count : List Attr → ℕ
 message_count a = unwrap_or (said_number (value_of TextMessages a)) 0
 

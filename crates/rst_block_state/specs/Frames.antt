@@ -26,7 +26,7 @@ abbrev pub AreFrames : Block → List Frame → Type 0
 AreFrames S [] = Unit {0}
 AreFrames S (f ∷ fs) = IsFrame S f × AreFrames S fs
 
--- the first of some blocks that wait stands in so many others, and each other one in one more than the one before it
+-- the first of some blocks that wait is inside this many others, and each other one in one more than the one before it
 abbrev pub AreNested : ℕ → List Frame → Type 0
 AreNested depth [] = Unit {0}
 AreNested depth (f ∷ fs) = (f.level.depth ≡ depth) × AreNested (suc depth) fs
@@ -38,7 +38,7 @@ IsNow B at (Open w first second) = IsBlock B first × IsBlockIf B second × IsWa
 IsNow B at (Cells table) = (at < length B) × IsTable at table
 IsNow B at Done = Unit {0}
 
--- there is a part that is read behind another
+-- there is a part that is read after another
 abbrev pub HasSecond : Option Part → Type 0
 HasSecond (Some p) = Unit {0}
 HasSecond None = ⊥
@@ -52,7 +52,7 @@ IsEnded S f to (Waiting g part) =
 IsEnded S f to (GoesOn view s) =
     (source_of view ≡ S) × (block_of view ≡ placement_block S f.placement) × IsResumed (block_of view) f.level.at to s
 
--- what follows keeps the block that waited: the next part is read from its begin and stands in so many blocks, or the block goes on
+-- what follows keeps the block that waited: the next part is read from its begin and is inside this many blocks, or the block goes on
 abbrev pub KeepsFrame : Frame → ℕ → OpenBlock → Ended → Type 0
 KeepsFrame f depth l (Waiting g part) = (g.level ≡ f.level) × IsNew l × (l.depth ≡ depth)
 KeepsFrame f depth l (GoesOn view s) = l.depth ≡ f.level.depth

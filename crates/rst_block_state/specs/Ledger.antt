@@ -28,15 +28,15 @@ use Rattle.rst_block_state.specs.declared.step.Step.TheVariants.{Next, Open, Cel
 
 -- ---- blocks
 
--- how the constructs of a block are found that stands in this many others
+-- how the constructs of a block are found that is inside this many others
 abbrev pub unread_at : ℕ → Within
 unread_at depth = unread true (depth == 0)
 
--- the number of lines of a text that stands in this many blocks, and of all blocks and cells inside
+-- the number of lines of a text that is inside this many blocks, and of all blocks and cells inside
 abbrev pub total_at : ℕ → Block → ℕ
 total_at depth B = total true (suc deepest - depth) (depth == 0) B
 
--- the same of some blocks that are opened in one that stands in this many others
+-- the same of some blocks that are opened in one that is inside this many others
 abbrev pub totals : ℕ → List Block → ℕ
 totals depth Cs = sum_of (total true (deepest - depth) false) Cs
 
@@ -75,7 +75,7 @@ run_looks NoRun = 0
 run_looks run = 1
 
 -- The looks that are taken in a block that waits before it goes on: 16 at each line of quotes that are found, and one at the line after them; and one
--- at each line of a figure, if they are shown.
+-- at each line of a figure, if a message quotes them.
 abbrev pub waiting_looks : Waits → ℕ
 waiting_looks (Quote line attribution None end) = 1
 waiting_looks (Quote line attribution (Some p) end) = 1 + 16 * (p.to - p.from)
@@ -165,8 +165,8 @@ abbrev pub GoesOn : Step → Type 0
 GoesOn Done = ⊥
 GoesOn s = Unit {0}
 
--- A construct was read, with so many looks before and after, those apart by which its kind was found: what comes next is what the construct opens, and
--- then the block goes on after the construct. It took no more looks than this many for each line of its reach, and at least one for each of its lines
+-- A construct was read, with this many looks before and after, without those that found its kind: what comes next is what the construct opens,
+-- and then the block goes on after it. It took no more looks than this many for each line of its reach, and at least one for each of its lines
 -- but one, which was looked at before.
 pub record IsPaid (each : ℕ) (old new : OpenBlock) (B : Block) (s : Step) (before after : ℕ) : Type 0 where
   pub goes : GoesOn s
@@ -177,8 +177,8 @@ pub record IsPaid (each : ℕ) (old new : OpenBlock) (B : Block) (s : Step) (bef
   pub most : after + end_looks new s ≤ before + run_looks old.run + each * reach_at (old.depth == 0) (drop old.at B)
   pub least : capped (before + (construct_size (old.depth == 0) (drop old.at B) - 1)) ≤ after
 
--- Part of a construct was read, with so many looks before and after: these blocks come next, and then the block goes on at a place, with a run that is
--- open as before. It took no more looks than this many.
+-- Part of a construct was read, with this many looks before and after: these blocks come next, and then the block goes on at a place, with a run
+-- that is open as before. It took no more looks than this many.
 pub record Opens (few : ℕ) (old new : OpenBlock) (B : Block) (inner : List Block) (end : ℕ) (s : Step) (before after : ℕ) : Type 0 where
   pub goes : GoesOn s
   pub depth : new.depth ≡ old.depth

@@ -125,7 +125,7 @@ LastBlockIsPaid = (l : OpenBlock) (B : Block) (w : Waits) (first : Part) (second
 
 -- ---- cells
 
--- a cell is a text that stands in one block more than its table
+-- a cell is a text that is inside one block more than its table
 abbrev pub CellIsText : Type 0
 CellIsText = (depth : ℕ) (C : Block) → total_at (suc depth) C ≡ total true (deepest - depth) false C
 

@@ -77,7 +77,7 @@ item_by c B i (option_item m) X = option c B i m X
 
 -- ---- lists
 
--- the messages that say why the line of a term is a text; no other item of a list has some
+-- the messages that explain why the line of a term is a text; no other item of a list has some
 abbrev pub infos_of : Construct → List Node
 infos_of (item_of_list (definition_item infos)) = infos
 infos_of _ = []
@@ -114,7 +114,7 @@ abbrev pub list_notes : ItemMark → Block → List Node
 list_notes (enumerated_item e) X = start_note e (first_reading e.written.ordinals) X
 list_notes _ X = []
 
--- A list of items, by the mark of the first; X begins with its first line. The messages that say why the lines of terms are texts come before the
+-- A list of items, by the mark of the first; X begins with its first line. The messages on why the lines of terms are texts come before the
 -- list, the message on its first ordinal comes after it.
 abbrev pub list_by : ItemMark → Block → List Node → List Node → List Node
 list_by mark X infos items = infos ++ filled (empty_list mark X) items ∷ list_notes mark X

@@ -65,7 +65,7 @@ abbrev pub without_colons : List ℕ → List ℕ
 without_colons before = let bare = drop_trailing_whitespace before in
     if nat_lt (length bare) (length before) || is_blank bare then bare else before ++ 58 ∷ []
 
--- what a paragraph shows of its text: one that ends in two colons announces a literal block
+-- what a paragraph contains of its text: one that ends in two colons announces a literal block
 abbrev pub announced : List ℕ → List ℕ
 announced t = if ends_in_colons t then without_colons (take (length t - 2) t) else t
 
@@ -83,7 +83,7 @@ after_paragraph n t X =
     unless_blank Error (codes "Unexpected indentation.") (drop n X)
     ++ (if ends_in_colons t then literal_nodes (first_number (drop (n - 1) X)) (drop n X) else [])
 
--- the paragraph with which X begins, after the messages that say why its line is a text: its text runs to the next blank or indented line
+-- the paragraph with which X begins, after the messages that explain why its line is a text: its text runs to the next blank or indented line
 abbrev pub paragraph_nodes : List Node → Block → Numbered (List Node)
 paragraph_nodes infos X = do
   nodes ← text_paragraph (first_number X) (announced (joined (take (paragraph_len X) X)))

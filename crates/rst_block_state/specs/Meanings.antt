@@ -73,11 +73,11 @@ list_kind_in run = None
 
 -- ---- the block that is read
 
--- in how many blocks the innermost block stands
+-- how many blocks the innermost block is inside
 abbrev pub deepest : ℕ
 deepest = 250
 
--- how the constructs of a block are read that stands in this many others; titles are recognized in the document alone
+-- how the constructs of a block are read that is inside this many others; titles are recognized in the document alone
 abbrev pub within_at : ℕ → Within
 within_at depth = record { titles = depth == 0; code = true; levels = suc deepest - depth; inner = inner_nodes true (deepest - depth) }
 
@@ -95,18 +95,18 @@ reads_from l B more at = before (done_of l ++ map plain more) (rest (within_at l
 
 -- ---- texts
 
--- what a text gives with this many levels left, whose lines stand in this many blocks; with none left it must be blank
+-- what a text gives with this many levels left, whose lines are inside this many blocks; with none left it must be blank
 abbrev pub text_with : ℕ → ℕ → Block → Numbered (List Item)
 text_with zero depth B = plainly (below_last_level B)
 text_with (suc levels) depth B = block_items (within_at depth) B
 
--- what a text gives whose lines stand in this many blocks: a document's in none, a cell's in its table and in the blocks around that
+-- what a text gives whose lines are inside this many blocks: a document's in none, a cell's in its table and in the blocks around that
 abbrev pub text_items : ℕ → Block → Numbered (List Item)
 text_items depth B = text_with (suc deepest - depth) depth B
 
 -- ---- blocks that wait
 
--- what a block gives once one more item is in its open list; where no list is open, the item stands by itself
+-- what a block gives once one more item is in its open list; where no list is open, the item is by itself
 abbrev pub with_item : OpenBlock → Block → Node → OpenRun → Numbered (List Item)
 with_item l B item (open_list s) = before (done_of l) (rest (within_at l.depth) B l.at (with_items (item ∷ []) (open_list s)))
 with_item l B item o = before (done_of l ++ plain item ∷ []) (rest (within_at l.depth) B l.at o)

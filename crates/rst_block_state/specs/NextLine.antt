@@ -16,13 +16,13 @@ use Rattle.rst_markup_tables.specs.declared.results.TableResult.{TableResult}
 use Rattle.rst_block_state.specs.Constructs.{Construct, construct_at, text_after, misplaced_lines, adorned_by}
 use Rattle.rst_block_state.specs.declared.open_block.OpenBlock.{OpenBlock}
 
--- a construct of so many lines
+-- a construct of this many lines
 pub record IsNextConstruct (l : OpenBlock) (B : Block) (what : Construct) (lines : ℕ) : Type 0 where
   pub filled : IsTextAt B l.at
   pub construct : construct_at (l.depth == 0) (drop l.at B) ≡ what
   pub size : construct_size (l.depth == 0) (drop l.at B) ≡ lines
 
--- a text, after these messages that say why it is one
+-- a text, after these messages that explain why it is one
 abbrev pub IsText : OpenBlock → Block → List Node → Type 0
 IsText l B infos = IsNextConstruct l B (text_after (l.depth == 0) infos (drop l.at B)) (text_size (drop l.at B))
 

@@ -58,7 +58,7 @@ piece_by (paragraph infos) c B s X = plainly (paragraph_nodes infos X)
 abbrev pub piece_of : Within → Block → Found → Numbered (List Item)
 piece_of c B f = piece_by f.what c B f.span (drop f.span.start B)
 
--- the messages that say why the lines of a run's terms are texts
+-- the messages that explain why the lines of a run's terms are texts
 abbrev pub infos_among : Run Found → List Node
 infos_among run = flat_map (λ (f : Found). infos_of f.what) (members run)
 
@@ -107,7 +107,7 @@ inner_nodes code (suc levels) B = do
   just (nodes_among items)
 
 -- The nodes and titles of a document's lines, in which alone titles are recognized. The document is the block of level 0: as many levels are left for
--- the blocks inside as the profile says, and one more for line blocks, since the outermost one is at the document's own level.
+-- the blocks inside as the profile allows, and one more for line blocks, since the outermost one is at the document's own level.
 abbrev pub document_items : Profile → Block → Numbered (List Item)
 document_items profile B =
     block_items (record { titles = true; code = profile.code; levels = suc profile.nesting; inner = inner_nodes profile.code profile.nesting }) B

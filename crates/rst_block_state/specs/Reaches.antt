@@ -12,19 +12,19 @@ unfoldable pub through : (List ℕ → Bool) → Block → ℕ
 through p [] = 0
 through p (l ∷ ls) = if p l.text then suc (through p ls) else 1
 
--- how many lines there are behind that one
+-- how many lines there are after that one
 abbrev pub behind : (List ℕ → Bool) → Block → ℕ
 behind p X = length X - through p X
 
--- a line that a scan for a grid table may go over behind the table
+-- a line that a scan for a grid table may go over after the table
 abbrev pub is_behind_grid : List ℕ → Bool
 is_behind_grid t = is_drawn t && not (is_grid_border t)
 
--- a line that a scan for a simple table may go over behind the table
+-- a line that a scan for a simple table may go over after the table
 abbrev pub is_behind_simple : List ℕ → Bool
 is_behind_simple t = not (is_lower_border t)
 
--- How many lines the reaches of the constructs that X begins with may have, counted together: a line counts once for the construct that it stands in,
+-- How many lines the reaches of the constructs that X begins with may have, counted together: a line counts once for the construct that it is in,
 -- once for the one before that, once for a scan for a grid table and once for one for a simple table.
 abbrev pub unpaid : Block → ℕ
 unpaid X = length X + (behind is_blank X + (behind is_behind_grid X + behind is_behind_simple X))
@@ -42,6 +42,6 @@ ReachesArePaid = (titles : Bool) (X : Block) → is_blank (front_text X) ≡ fal
 abbrev pub AtMostFour : Type 0
 AtMostFour = (X : Block) → unpaid X ≤ 4 * length X
 
--- a line that stands in no construct is unpaid as long as the block goes on before it
+-- a line that is in no construct is unpaid as long as the block goes on before it
 abbrev pub LinesArePaid : Type 0
 LinesArePaid = (X : Block) → 1 ≤ length X → unpaid (drop 1 X) + 1 ≤ unpaid X

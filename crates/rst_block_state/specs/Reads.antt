@@ -28,12 +28,12 @@ Reads text tree = print_if (read_in 9 text) ≡ Ok (encode_utf8_all (written tre
 abbrev pub IsTooDeep : ℕ → List String → ℕ → Type 0
 IsTooDeep levels text line = read_in levels text ≡ Err line
 
--- all that a document says that was read, and how many messages on texts were counted
+-- all that a document contains that was read, and how many messages on texts were counted
 abbrev pub whole_if : Result (Node × ℕ) ℕ → Result (List ℕ × ℕ) ℕ
 whole_if (Ok (root, count)) = Ok (whole (root ∷ []), count)
 whole_if (Err line) = Err line
 
--- These lines mean a document that says all that stands in this tree, and so many messages on texts are counted. A message is counted also where the
+-- These lines mean a document whose whole content is this tree, and this many messages on texts are counted. A message is counted also where the
 -- text is dropped.
 abbrev pub Means : List String → ℕ → List String → Type 0
 Means text count tree = whole_if (read_in 9 text) ≡ Ok (encode_utf8_all (written tree), count)

@@ -25,7 +25,7 @@ abbrev pub last_of : {A : Type 0} → A → List A → A
 last_of x [] = x
 last_of x (y ∷ ys) = last_of y ys
 
--- The runs of which the first has `run` so far, and `joining` says what joins it. One that joins the run changes what joins it next; any other
+-- The runs of which the first has `run` so far, and `joining` decides what joins it. One that joins the run changes what joins it next; any other
 -- begins the next run.
 abbrev pub runs_from : {A G : Type 0} → (A → G) → (G → A → Option G) → G → Run A → List A → List (Run A)
 runs_from begins joins joining run [] = run ∷ []
@@ -33,7 +33,7 @@ runs_from begins joins joining run (x ∷ xs) =
     option_map_or (λ next. runs_from begins joins next (joined_by run x) xs) (joins joining x)
     (run ∷ runs_from begins joins (begins x) (alone x) xs)
 
--- The runs of some things: `begins x` says what joins a run that begins with x, and `joins joining x` whether x joins a run, and what joins it
+-- The runs of some things: `begins x` decides what joins a run that begins with x, and `joins joining x` whether x joins a run, and what joins it
 -- next.
 abbrev pub runs : {A G : Type 0} → (A → G) → (G → A → Option G) → List A → List (Run A)
 runs begins joins [] = []

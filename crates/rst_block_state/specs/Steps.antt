@@ -1,4 +1,4 @@
--- What a step leads to: the block goes on behind its line, and what is read inside is a part of it.
+-- What a step leads to: the block goes on after its line, and what is read inside is a part of it.
 use Rattle.std.specs.Prelude.{◌≡◌, ℕ, ◌+◌, ◌<◌, ◌≤◌, nat_lt, if◌then◌else◌, length, Option, None, Some}
 use Rattle.rst_text.specs.Block.{Block}
 use Rattle.rst_markup_blocks.specs.Parts.{IsBlock}
@@ -24,7 +24,7 @@ abbrev pub IsWaiting : Block → ℕ → Waits → Type 0
 IsWaiting B at (Quote line attribution rest end) = IsRest B at rest
 IsWaiting B at w = Unit {0}
 
--- a table that ends behind a place, and not lines that are none
+-- a table that ends after a place, and not lines that are none
 abbrev pub IsTable : ℕ → TableResult → Type 0
 IsTable at (Table widths n rows end) = at < end
 IsTable at (Malformed end fault) = ⊥
@@ -36,7 +36,7 @@ IsStep B at to (Open w first second) = (at < to) × IsBlock B first × IsBlockIf
 IsStep B at to (Cells table) = (to ≡ at) × (at < length B) × IsTable at table
 IsStep B at to Done = Unit {0}
 
--- what comes next in a block that goes on at a place: a step, behind some that only go on, or the block's end
+-- what comes next in a block that goes on at a place: a step, after some that only go on, or the block's end
 abbrev pub IsNext : Block → ℕ → ℕ → Step → Type 0
 IsNext B at to Next = (at < length B) × (at < to)
 IsNext B at to (Open w first second) = (at < length B) × (at < to) × IsBlock B first × IsBlockIf B second × IsWaiting B to w
@@ -49,7 +49,7 @@ IsResumed B at to Next = to ≡ at
 IsResumed B at to (Open w first second) = (at < length B) × (at < to) × IsBlock B first × IsBlockIf B second × IsWaiting B to w
 IsResumed B at to s = ⊥
 
--- what is left of a quote behind its first lines
+-- what is left of a quote after its first lines
 abbrev pub rest_of : Part → ℕ → Option Part
 rest_of quote next =
     if nat_lt (quote.from + next) quote.to then Some (record quote { from = quote.from + next; first_cut = quote.rest_cut })

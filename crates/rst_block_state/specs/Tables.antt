@@ -15,7 +15,7 @@ use Rattle.rst_block_state.specs.Numbered.{Numbered, ◌>>=◌, just, each}
 use Rattle.rst_block_state.specs.Texts.{shown, source_of}
 use Rattle.rst_block_state.specs.Within.{Within}
 
--- the entry of a cell, whose lines are a block inside; it says how many more rows and columns it spans
+-- the entry of a cell, whose lines are a block inside; it has the numbers of further rows and columns that it spans
 abbrev pub entry_of : Within → Cell → Numbered Node
 entry_of c cell = do
   nodes ← c.inner cell.lines

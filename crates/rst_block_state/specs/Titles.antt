@@ -46,7 +46,7 @@ underline_item false short lines X =
     just (map plain (option_to_list (underline_warning short lines X)
     ++ shown Severe (first_number (drop 1 X)) (codes "Unexpected section title.") lines ∷ []))
 
--- the same, after messages that say why the line of its text is a text
+-- the same, after messages that explain why the line of its text is a text
 abbrev pub underlined_nodes : Bool → List Node → Bool → List ℕ → Block → Numbered (List Item)
 underlined_nodes titles infos short lines X = do
   items ← underline_item titles short lines X

@@ -17,11 +17,11 @@ use std::mem;
 /// A block that waits for one inside it.
 #[derive(Drop)]
 pub struct Frame {
-    /// Where its lines stand in their text.
+    /// Where its lines are in their text.
     pub placement: Placement,
     pub level: OpenBlock,
     pub waits: Waits,
-    /// The part of its lines that is read behind the one that is being read.
+    /// The part of its lines that is read after the one that is being read.
     pub second: Option<Part>,
     /// The nodes of the part that was read before.
     pub nodes: MarkedNodes,
@@ -36,8 +36,8 @@ pub enum Ended<'a> {
     GoesOn(View<'a>, Step),
 }
 
-/// The block that is being read as one that waits for its parts, of which `second` is read behind another. In its place a level
-/// begins that stands in as many blocks as `depth` says.
+/// The block that is being read as one that waits for its parts, of which `second` is read after another. In its place a level
+/// begins that is inside `depth` blocks.
 pub fn opened(
     alloc: Global,
     view: &View<'_>,

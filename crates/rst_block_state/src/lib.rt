@@ -1,5 +1,5 @@
 //! The state of reading blocks and what it means: a block of which some lines are read, the blocks that wait for it, what a step
-//! leads to, and the definition of a block that they are measured by. What reads the constructs stands in the crates above.
+//! leads to, and the definition of a block that they are measured by. What reads the constructs is in the crates above.
 #![tactic(auto, using(crate::proofs::Views::few_lines))]
 
 mod fault;

@@ -16,7 +16,7 @@ use std::mem;
 /// What was read of a block so far.
 #[derive(Drop)]
 pub struct OpenBlock {
-    /// How many blocks it stands in; 0 for the document.
+    /// How many blocks it is inside; 0 for the document.
     pub depth: usize,
     /// The place of the next line.
     pub at: usize,
@@ -54,14 +54,14 @@ impl OpenBlock {
         }
     }
 
-    /// Whether titles may stand in it.
+    /// Whether titles are allowed in it.
     pub fn titles(&self) -> bool
         ensures { result ≡ self.now.depth == 0 }
     {
         self.depth == 0
     }
 
-    /// Goes to a later line: behind the next one at least.
+    /// Goes to a later line: past the next one at least.
     pub fn go_to(&mut self, end: usize)
         requires { self.old.at < 2 ^ 64 - 1 }
         ensures later { self.old.at < self.new.at }
@@ -72,7 +72,7 @@ impl OpenBlock {
         self.at = end.max(self.at + 1);
     }
 
-    /// Puts a node that was just made behind the last. It is marked by a pass over it, the only one.
+    /// Adds a new node after the last. It is marked by a pass over it, the only one.
     pub fn push(&mut self, node: Node) -> Result<()>
         ensures at { self.new.at ≡ self.old.at }
         ensures more { spec.Gives (λ _. spec.HasMore self.old self.new (node ∷ [])) result }
@@ -80,7 +80,7 @@ impl OpenBlock {
         Ok(self.nodes.push_new(node)?)
     }
 
-    /// Puts a node behind the last.
+    /// Puts a node after the last.
     pub fn push_marked(&mut self, node: Marked) -> Result<()>
         ensures at { self.new.at ≡ self.old.at }
         ensures more { spec.Gives (λ _. spec.HasMore self.old self.new (node ∷ [])) result }
@@ -88,7 +88,7 @@ impl OpenBlock {
         Ok(self.nodes.push(node)?)
     }
 
-    /// Puts more nodes that were just made behind the last.
+    /// Adds more new nodes after the last.
     pub fn append(&mut self, more: Vec<Node>) -> Result<()>
         ensures at { self.new.at ≡ self.old.at }
         ensures more { spec.Gives (λ _. spec.HasMore self.old self.new more.items) result }
@@ -96,7 +96,7 @@ impl OpenBlock {
         Ok(self.nodes.append_new(more)?)
     }
 
-    /// Puts more nodes behind the last.
+    /// Puts more nodes after the last.
     pub fn append_marked(&mut self, more: MarkedNodes) -> Result<()>
         ensures at { self.new.at ≡ self.old.at }
         ensures more { spec.Gives (λ _. spec.HasMore self.old self.new more) result }
@@ -104,7 +104,7 @@ impl OpenBlock {
         Ok(self.nodes.append(more)?)
     }
 
-    /// Puts a title behind the last node.
+    /// Puts a title after the last node.
     pub fn push_heading(&mut self, alloc: Global, mut heading: Heading) -> Result<()>
         requires { self.old.depth ≡ 0 }
         ensures at { self.new.at ≡ self.old.at }
@@ -176,7 +176,7 @@ impl OpenBlock {
         }
     }
 
-    /// Puts a warning behind the last node where the line at place `end`, after a construct, isn't blank.
+    /// Puts a warning after the last node where the line at place `end`, after a construct, isn't blank.
     pub fn warn(&mut self, view: &View<'_>, end: usize, text: &str, pass: &mut Pass) -> Result<()>
         ensures at { self.new.at ≡ self.old.at }
         ensures more { spec.Gives (λ _. spec.HasMore self.old self.new (warned text.now (drop end (block_of view.now)))) result }

@@ -28,7 +28,7 @@ pub fn indented(view: &View<'_>, from: usize, looks: &mut Looks) -> Part
     }
 }
 
-/// What stands behind a marker, and the indented block below.
+/// What follows a marker, and the indented block below.
 pub fn hanging(view: &View<'_>, at: usize, marker: Marker, looks: &mut Looks) -> Part
     requires inside { at < length (block_of view.now) }
     ensures block { IsBlock (block_of view.now) result }

@@ -20,7 +20,7 @@ use rst_tree::{Node, TreeFault};
 use rst_tree_index::MarkedNodes;
 use std::alloc::Global;
 
-/// How many blocks a block may stand in.
+/// How many blocks a block may be inside.
 pub const DEEPEST: usize = 250;
 
 /// What an item must be to join an enumerated list.
@@ -48,12 +48,12 @@ pub struct OpenList {
     pub kind: ListKind,
     /// The place after the last item.
     pub end: usize,
-    /// Messages that stand before the list.
+    /// Messages that come before the list.
     pub before: Vec<Node>,
     /// The list without its items.
     pub list: Node,
     pub items: MarkedNodes,
-    /// Messages that stand after the list.
+    /// Messages that come after the list.
     pub behind: Vec<Node>,
 }
 
@@ -61,14 +61,14 @@ pub struct OpenList {
 #[derive(Drop)]
 pub enum Run {
     None,
-    /// Behind a pointer, since a block that has one moves often.
+    /// In a box, since a block that has one moves often.
     List(Box<OpenList>),
     Lines { lines: Vec<BarText>, end: usize },
     Explicit { end: usize },
 }
 
 impl ListKind {
-    /// What is said where no blank line follows the list.
+    /// The text of the warning where no blank line follows the list.
     fn ending(self) -> &'static str
         ensures { joined_ending (joining_in self) ≡ Some result.now }
     {
@@ -150,7 +150,7 @@ impl Sequel {
 }
 
 impl Run {
-    /// The place after the run, and what is said where no blank line follows it.
+    /// The place after the run, and the text of the warning where no blank line follows it.
     pub fn ending(&self) -> Option<(usize, &'static str)>
         ensures none { IfNone result (joined_ending (joining_of_run (open_of self.now)) ≡ None) }
         ensures end { IfSome result (λ ending. ending.0 ≡ end_of_run (open_of self.now)) }
@@ -177,7 +177,7 @@ impl Run {
         }
     }
 
-    /// Puts the nodes of the run behind others, in a block of this depth.
+    /// Puts the nodes of the run after others, in a block of this depth.
     pub fn put(self, nodes: &mut MarkedNodes, depth: usize, pass: &mut Pass) -> Result<()>
         ensures nodes { Adds (run_nodes (suc deepest - depth) (open_of self) pass.old.numbers)
             nodes.old nodes.new pass.new.numbers result }
@@ -191,7 +191,7 @@ impl Run {
     }
 }
 
-/// Puts a list between its messages behind other nodes.
+/// Puts a list between its messages after other nodes.
 fn put_list(alloc: Global, nodes: &mut MarkedNodes, open: OpenList) -> Result<(), TreeFault>
     ensures { Gives (λ _. nodes.new
         ≡ nodes.old ++ open.before.items ++ filled open.list open.items ∷ open.behind.items) result }
@@ -208,7 +208,7 @@ fn put_list(alloc: Global, nodes: &mut MarkedNodes, open: OpenList) -> Result<()
     nodes.append_new(behind)
 }
 
-/// Puts a line block and the messages of its texts behind other nodes.
+/// Puts a line block and the messages of its texts after other nodes.
 fn put_lines(
     nodes: &mut MarkedNodes,
     lines: Vec<BarText>,

@@ -175,7 +175,7 @@ pub fn parted(
     Ok((first, second))
 }
 
-/// Puts a node behind the last. A first one gets room for itself alone: most blocks inside others have one node.
+/// Puts a node after the last. A first one gets room for itself alone: most blocks inside others have one node.
 pub fn push<N: Drop>(nodes: &mut Vec<N>, node: N) -> Result<(), AllocError>
     ensures { IfOk result (λ _. nodes.new.items ≡ nodes.old.items ++ node ∷ []) }
 {

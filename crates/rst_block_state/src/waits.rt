@@ -4,14 +4,14 @@ use rst_block_nodes::Texted;
 use rst_markup_blocks::Part;
 use rst_tree::{Node, Tag};
 
-/// What a block waits for: the nodes of a block inside, and what becomes of them.
+/// What a block waits for: the nodes of a block inside, and what is made of them.
 #[derive(Drop)]
 pub enum Waits {
     /// They are an item of the open list.
     ListItem {
         line: usize,
     },
-    /// They stand behind the messages in the body of an item of the open list, which has heads before its body.
+    /// They come after the messages in the body of an item of the open list, which has heads before its body.
     ListedBody {
         line: usize,
         item: Tag,
@@ -26,7 +26,7 @@ pub enum Waits {
         rest: Option<Part>,
         end: usize,
     },
-    /// They stand in an element, behind what stands there already.
+    /// They go into an element, after what is there already.
     Element(Node),
     /// They are the caption and the legend of a figure, which has its image. Its lines are those from place `start` up to
     /// place `end`.

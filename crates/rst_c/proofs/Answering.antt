@@ -44,7 +44,7 @@ module _ (makes : Node × List Note → Parts) (settings : Settings) (bytes : Li
   nothing_made (WriteErr done) is = inl (sym (ap (made_by makes) is))
   nothing_made (WriteOut done) is = inl (sym (ap (made_by makes) is))
 
--- the program shows what is left of a text
+-- the program prints what is left of a text
 module _ (settings : Settings) (source bytes : List ℕ) where
   abbrev pub shows : Node × List Note → Parts
   shows left = parts_of settings source left.0 left.1

@@ -66,7 +66,7 @@ abbrev pub made_by : (Node × List Note → Parts) → Left → Wanted
 made_by makes (Ok left) = Ok (makes left)
 made_by makes (Err end) = Err (Text end)
 
--- what a form shows of a text
+-- what a form gives for a text
 abbrev pub form_wanted : Form → Option Settings → List ℕ → Wanted
 form_wanted form None text = Err Options
 form_wanted form (Some settings) text = made_by (parts_as form settings) (left_of settings text)
@@ -75,12 +75,12 @@ abbrev pub shown_of : Result Parts End → Wanted
 shown_of (Ok parts) = Ok parts
 shown_of (Err end) = Err (Text end)
 
--- what the program shows of a text
+-- what the program prints for a text
 abbrev pub print_wanted : Option Settings → List ℕ → List ℕ → Wanted
 print_wanted None source text = Err Options
 print_wanted (Some settings) source text = if is_utf8 source then shown_of (result_of (profile_of settings) settings source text) else Err Source
 
--- ---- what the caller is told
+-- ---- what is reported to the caller
 
 -- nothing was made
 abbrev pub failed : ℕ → ℕ → RstResult
@@ -99,7 +99,7 @@ abbrev pub answer_of : Wanted → RstResult
 answer_of (Ok parts) = record { end = 0; status = parts.status; at = 0; length = length parts.out; messages = length parts.err }
 answer_of (Err refusal) = failed_by refusal
 
--- a room after a text was to be put at its front: it is as it was where the text doesn't fit
+-- a room after a text was to be put at its start: it is as it was where the text doesn't fit
 abbrev pub filled : List ℕ → List ℕ → List ℕ
 filled text room = if nat_le (length text) (length room) then text ++ drop (length text) room else room
 

@@ -1,4 +1,4 @@
-//! What a call tells its caller.
+//! What a call reports to its caller.
 ghost use Rattle.std.specs.Prelude.{◌≡◌, length};
 ghost use Rattle.rst_c.specs.Answers.{answer_of, failed, failed_by, filled, made_of, messages_after, tree_after};
 ghost use Rattle.rst_c.specs.declared.answer.Refusal.TheVariants.{Text};
@@ -15,7 +15,7 @@ pub struct RstResult {
     pub end: u32,
     /// The exit status of the program; 0 where no text was made.
     pub status: u32,
-    /// For a text that isn't UTF-8 how many bytes its longest front has that is; for one that is nested too deeply the number of the line; else 0.
+    /// For a text that isn't UTF-8 how many bytes its longest prefix has that is; for one that is nested too deeply the number of the line; else 0.
     pub at: u64,
     /// How many bytes the tree, the JSON or the records have; 0 where none were made.
     pub length: u64,
@@ -68,7 +68,7 @@ pub fn tell(made: &Result<Made, Refusal>, tree: &mut [u8], messages: &mut [u8]) 
     }
 }
 
-/// Puts a text at the front of a room, if it fits, and tells its length.
+/// Puts a text at the start of a room, if it fits, and returns its length.
 fn fill(room: &mut [u8], text: &[u8]) -> u64
     ensures room { room.new ≡ filled text.now room.old }
     ensures length { result ≡ length text.now }

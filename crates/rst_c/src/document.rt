@@ -14,7 +14,7 @@ use rst_tree::{Note, TreeFault};
 use rst2pseudoxml_run::{End, document_of, halting, is_reported, show, status_of};
 use std::alloc::Global;
 
-/// What the program shows of a text.
+/// What the program prints for a text.
 pub fn printed(
     alloc: Global,
     text: &[u8],
@@ -60,7 +60,7 @@ pub enum Form {
     MessagesJson,
 }
 
-/// What a form shows of a text.
+/// What a form gives for a text.
 pub fn formed(
     alloc: Global,
     text: &[u8],

@@ -1,4 +1,4 @@
-//! The library for C: what the program shows of a text, its tree and its messages, in the caller's memory.
+//! The library for C: what the program prints for a text, its tree and its messages, in the caller's memory.
 #![tactic(auto)]
 
 ghost use Rattle.std.specs.Prelude.{◌≡◌};
@@ -23,7 +23,7 @@ pub extern "C" fn rst_abi_version() -> u32
     1
 }
 
-/// What the program shows of a text: standard output in one room, standard error in the other, each if it fits.
+/// What the program prints for a text: standard output in one room, standard error in the other, each if it fits.
 #[unsafe(no_mangle)]
 pub extern "C" fn rst_print(
     alloc: Global,

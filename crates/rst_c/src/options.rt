@@ -11,11 +11,11 @@ use rst_settings::{Settings, Threshold};
 pub struct RstOptions {
     /// How many bytes this struct has.
     pub size: u32,
-    /// From which level on messages are shown.
+    /// From which level on messages are printed.
     pub report: u8,
     /// From which level on a message halts the run.
     pub halt: u8,
-    /// From which level on the exit status tells the highest level.
+    /// From which level on the exit status is the highest level.
     pub exit_status: u8,
     /// The tab width, from 1 to 99 columns.
     pub tab_width: u8,
@@ -72,7 +72,7 @@ fn is_within(low: u32, number: u32, high: u32) -> bool
     low <= number && number <= high
 }
 
-/// The threshold that a number from 1 to 5 stands for.
+/// The threshold that a number from 1 to 5 means.
 fn threshold_of(number: u8) -> Threshold
     requires low { 1 ≤ number }
     requires high { number ≤ 5 }

@@ -57,7 +57,7 @@ pub fn ends()
     ensures never_in_place_of { map needs_memory (Err Options ∷ Err Source ∷ Err (Text TooLong) ∷ []) ≡ false ∷ false ∷ false ∷ [] }
 {}
 
-/// The rooms after a call: a text is put at the front of its room if it fits (Header, 'rst_print').
+/// The rooms after a call: a text is put at the start of its room if it fits (Header, 'rst_print').
 pub fn rooms()
     ensures larger { filled (codes "abc") (1 ∷ 2 ∷ 3 ∷ 4 ∷ 5 ∷ []) ≡ codes "abc" ++ (4 ∷ 5 ∷ []) }
     ensures exact { filled (codes "abc") (1 ∷ 2 ∷ 3 ∷ []) ≡ codes "abc" }
@@ -125,7 +125,7 @@ pub fn prints()
         ≡ made "" "x:1: (WARNING/2) Inline emphasis start-string without end-string.\nExiting due to level-2 (WARNING) system message.\n" 1 }
 {}
 
-/// What each form shows of a text (Header, 'rst_json').
+/// What each form gives for a text (Header, 'rst_json').
 pub fn texts()
     ensures json { form_wanted DocumentJson (Some usual) (codes "a\n") ≡ made "[\"document\",0,{},[\"paragraph\",1,{},\"a\"]]" "" 0 }
     ensures messages { form_wanted MessagesJson (Some usual) (codes "*a")

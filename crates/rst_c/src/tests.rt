@@ -60,7 +60,7 @@ fn before() -> RstResult {
     }
 }
 
-/// The front of a room.
+/// The start of a room.
 fn front(room: &[u8], length: u64) -> Result<&str, Fail> {
     Ok(str::from_utf8(&room[..(length as usize).min(room.len())])?)
 }

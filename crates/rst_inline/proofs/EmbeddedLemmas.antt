@@ -99,7 +99,7 @@ enclosed-part t p place within h =
     let to : p.content_from + (length (content t p) - 1) ≡ p.content_to - 1 = omega (arith, long) in
     sym (part-part t p.content_from p.content_to (place + 1) (length (content t p) - 1) (omega (arith, long)) ∙ ap₂ (part t) from to)
 
--- what stands before them
+-- what precedes them
 pub before-part : (t : Text) (p : Piece) (end : ℕ) → IsWithin t p → end ≤ length (content t p) → part t p.content_from (p.content_from + end) ≡ part (content t p) 0 end
 before-part t p end within h =
     let ends : p.content_to ≤ length t = omega (arith, within.behind, within.within) in

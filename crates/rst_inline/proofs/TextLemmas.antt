@@ -43,7 +43,7 @@ chars_of_star = refl
 pub spelled_again : (bs : List ℕ) → IsUtf8 bs → bs ≡ spelled (chars bs)
 spelled_again bs utf8 = sym (encodes-chars bs utf8)
 
--- ---- what stands in an element that holds a text
+-- ---- what is in an element that holds a text
 
 some-words : (cs : Text) (bs : List ℕ) → bs ≡ spelled cs → (length bs == 0) ≡ false → words bs bare ≡ text_children cs
 some-words [] bs e h = let none = ap (λ (x : List ℕ). length x == 0) e in absurd (cc)

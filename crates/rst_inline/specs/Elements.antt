@@ -18,11 +18,11 @@ use Rattle.rst_inline_scan.specs.declared.piece.Suffix.{Suffix}
 use Rattle.rst_inline_scan.specs.declared.piece.Suffix.TheVariants.{Anonymous as Nameless}
 use Rattle.rst_inline.specs.Parts.{spelled}
 
--- an attribute that says a text
+-- an attribute whose value is a text
 abbrev pub said : Text → Value
 said cs = Said (spelled cs)
 
--- what stands in an element that holds a text: the text, and nothing where it is empty
+-- what is in an element that holds a text: the text, and nothing where it is empty
 abbrev pub text_children : Text → Forest
 text_children [] = bare
 text_children (c ∷ cs) = words (spelled (c ∷ cs)) bare
@@ -64,7 +64,7 @@ uri_target_node shown uri line = Element Target (attr Inline (Number 1) ∷ attr
 
 -- ---- substitutions
 
--- a substitution reference, which refers to a definition by the name that is shown
+-- a substitution reference, which refers to a definition by the name that is displayed
 abbrev pub substitution_node : Text → Text → ℕ → Node
 substitution_node source shown line =
     text_element SubstitutionReference (attr Rawsource (said source) ∷ attr Refname (said (normalized_white shown)) ∷ []) shown line
@@ -75,7 +75,7 @@ abbrev pub outer_attrs : Suffix → Text → Text → List Attr
 outer_attrs Nameless source shown = attr Anonymous (Number 1) ∷ attr Rawsource (said source) ∷ []
 outer_attrs _ source shown = attr Rawsource (said source) ∷ attr Refname (said (name_of shown)) ∷ []
 
--- a substitution that is a reference, too: the reference stands round it
+-- a substitution that is a reference, too: the reference encloses it
 abbrev pub outer_node : Suffix → Text → Text → Node → ℕ → Node
 outer_node suffix source shown inner line = Element Reference (outer_attrs suffix source shown) (forest_of (inner ∷ [])) line
 
@@ -89,11 +89,11 @@ is_digit c = nat_le 48 c && nat_le c 57
 abbrev pub label_tag : Text → Tag
 label_tag label = if list_all is_digit label then FootnoteReference else CitationReference
 
--- a reference whose label says itself what it refers to: to a manually numbered footnote, or to a citation
+-- a reference whose label itself names what it refers to: to a manually numbered footnote, or to a citation
 abbrev pub manual_reference_node : Text → Text → ℕ → Node
 manual_reference_node source label line = text_element (label_tag label) (attr Rawsource (said source) ∷ attr Refname (said (name_of label)) ∷ []) label line
 
--- a reference to an autonumbered footnote: `#` alone, or with the name that is behind it
+-- a reference to an autonumbered footnote: `#` alone, or with the name that is after it
 abbrev pub autonumbered_reference_node : Text → Text → ℕ → Node
 autonumbered_reference_node source [] line = Element FootnoteReference (attr Auto (Number 1) ∷ attr Rawsource (said source) ∷ []) bare line
 autonumbered_reference_node source (c ∷ cs) line = Element FootnoteReference (attr Auto (Number 1) ∷ attr Rawsource (said source) ∷ attr Refname (said (name_of (c ∷ cs))) ∷ []) bare line

@@ -5,7 +5,7 @@ use Rattle.rst_text.specs.Places.{last_from}
 use Rattle.rst_text.specs.Escapes.{is_escaped, unescaped}
 use Rattle.rst_inline.specs.Parts.{part}
 
--- an unescaped `<` stands at the place
+-- an unescaped `<` is at the place
 unfoldable pub opens_angle : Text → ℕ → Bool
 opens_angle t k = has t k 60 && not (is_escaped t 0 k)
 
@@ -17,27 +17,27 @@ ends_with t c = has t (length t - 1) c && not (is_escaped t 0 (length t - 1))
 unfoldable pub last_angle : Text → Option ℕ
 last_angle t = last_from (opens_angle t) 0 (length t)
 
--- What stands between the angle brackets is not empty and has no white at its edges, and what stands before `<` is white, or
+-- What is between the angle brackets is not empty and has no white at its edges, and what precedes `<` is white, or
 -- nothing.
 unfoldable pub fits_angle : Text → ℕ → Bool
 fits_angle t k = nat_lt (k + 2) (length t) && (is_dark t (k + 1) && (is_dark t (length t - 2) && (k == 0 || is_white (slice_index t (k - 1)))))
 
--- the place of the `<`, if what stands before and behind it fits
+-- the place of the `<`, if what precedes and follows it fits
 abbrev pub angle_if : Text → Option ℕ → Option ℕ
 angle_if t (Some k) = if fits_angle t k then Some k else None
 angle_if t None = None
 
--- where the `<` of an embedded URI or alias stands at the end of a phrase, if it has one
+-- where the `<` of an embedded URI or alias is at the end of a phrase, if it has one
 unfoldable pub embedded_at : Text → Option ℕ
 embedded_at t = if ends_with t 62 then angle_if t (last_angle t) else None
 
 -- ---- its parts
 
--- the place behind the last character before k that is not white, 0 where there is none
+-- the place after the last character before k that is not white, 0 where there is none
 unfoldable pub dark_end : Text → ℕ → ℕ
 dark_end t k = unwrap_or (last_from (λ e. not (is_white (slice_index t (e - 1)))) 1 k) 0
 
--- what stands between the angle brackets
+-- what is between the angle brackets
 abbrev pub enclosed : Text → ℕ → Text
 enclosed t k = part t (k + 1) (length t - 1)
 
@@ -49,7 +49,7 @@ is_alias u = nat_lt 1 (length u) && ends_with u 95
 abbrev pub meant : Text → Text
 meant u = if is_alias u then unescaped (part u 0 (length u - 1)) else without_white (unescaped u)
 
--- what is shown of the phrase: without white before the `<` and without escapes, or, where nothing stands before it, what it
+-- what is displayed of the phrase: without white before the `<` and without escapes, or, where nothing comes before it, what it
 -- refers to
 abbrev pub shown_by : Text → ℕ → Text
 shown_by t k = if k == 0 then meant (enclosed t k) else unescaped (part t 0 (dark_end t k))

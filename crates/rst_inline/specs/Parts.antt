@@ -19,7 +19,7 @@ content t p = part t p.content_from p.content_to
 abbrev pub spelled : Text → List ℕ
 spelled cs = encode_utf8_all cs
 
--- the byte at which each character begins, counted from a byte on, and behind them the end; no rule of markup: a text is cut by its bytes
+-- the byte at which each character begins, counted from a byte on, and after them the end; no rule of markup: a text is cut by its bytes
 abbrev pub starts_of : ℕ → Text → List ℕ
 starts_of at [] = at ∷ []
 starts_of at (c ∷ cs) = at ∷ starts_of (at + length (encode_utf8 c)) cs

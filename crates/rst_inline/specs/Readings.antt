@@ -27,7 +27,7 @@ use Rattle.rst_inline.specs.Elements.{text_element, reference_node, uri_node, em
 
 -- ---- messages
 
--- what is said of a start-string without an end
+-- the message on a start-string without an end
 abbrev pub unended_phrase : Markup → Phrase
 unended_phrase Strong = UnendedStrong
 unended_phrase Emphasis = UnendedEmphasis
@@ -40,11 +40,11 @@ unended_phrase Interpreted = UnendedInterpreted
 abbrev pub unknown_role : List ℕ → Meaning
 unknown_role name = Wrong Error (codes "Unknown interpreted text role \"" ++ name ++ codes "\".")
 
--- roles in front and behind, which give a warning
+-- roles before and after, which give a warning
 abbrev pub two_roles : Meaning
 two_roles = Wrong Warning (codes "Multiple roles in interpreted text (both prefix and suffix present; only one allowed).")
 
--- a role in front and underscores behind, which give a warning
+-- a role before and underscores after, which give a warning
 abbrev pub mismatch : Meaning
 mismatch = Wrong Warning (codes "Mismatch: both interpreted text role and reference suffix.")
 
@@ -60,7 +60,7 @@ abbrev pub plain_reading : Text → Meaning
 plain_reading [] = Nothing
 plain_reading (c ∷ cs) = One (Words (spelled (c ∷ cs)))
 
--- a substitution reference, alone or, where underscores stand behind it, with a reference round it
+-- a substitution reference, alone or, where underscores follow it, with a reference around it
 abbrev pub substitution_reading : Suffix → Text → Text → Text → ℕ → Meaning
 substitution_reading Bare inner outer shown line = One (substitution_node inner shown line)
 substitution_reading suffix inner outer shown line = One (outer_node suffix outer shown (substitution_node inner shown line) line)
@@ -89,19 +89,19 @@ role_reading_by None name shown line = unknown_role name
 abbrev pub role_reading : Text → Text → ℕ → Meaning
 role_reading role shown line = role_reading_by (role_tag (spelled role)) (spelled role) shown line
 
--- A role stands in front of interpreted text: the content begins further behind the piece's place than one backquote.
+-- A role comes before interpreted text: the content begins further from the piece's place than one backquote.
 abbrev pub has_prefix_role : Piece → Bool
 has_prefix_role p = nat_lt (p.from + 1) p.content_from
 
--- the role in front of the backquote
+-- the role before the backquote
 abbrev pub prefix_role : Text → Piece → Text
 prefix_role t p = part t (p.from + 1) (p.content_from - 2)
 
--- the role behind the backquote
+-- the role after the backquote
 abbrev pub suffix_role : Text → Piece → Text
 suffix_role t p = part t (p.content_to + 2) (p.to - 1)
 
--- Interpreted text has one role, in front or behind, or that of a title reference, and then is no reference.
+-- Interpreted text has one role, before or after, or that of a title reference, and then is no reference.
 abbrev pub interpreted_reading : Bool → Suffix → Text → Piece → ℕ → Meaning
 interpreted_reading true Bare t p line = role_reading (prefix_role t p) (unescaped (content t p)) line
 interpreted_reading true Role t p line = two_roles

@@ -31,7 +31,7 @@ nodes_by (One node) number source line = node ∷ []
 nodes_by (Two both) number source line = nodes_of both
 nodes_by (Wrong level text) number source line = problematic_node number source line ∷ []
 
--- the number of the next message behind a piece, where it was this before it
+-- the number of the next message after a piece, where it was this before it
 abbrev pub number_behind : Meaning → ℕ → ℕ
 number_behind (Wrong level text) number = counted_on number 1
 number_behind _ number = number

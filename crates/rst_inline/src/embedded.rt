@@ -41,7 +41,7 @@ fn last_angle(text: &[char]) -> Option<usize>
     found
 }
 
-/// Where the `<` of an embedded URI or alias stands at the end of a phrase, if it has one.
+/// Where the `<` of an embedded URI or alias is at the end of a phrase, if it has one.
 #[tactic(auto, unfolding(crate::specs::Embedded::embedded_at, crate::specs::Embedded::fits_angle))]
 pub(crate) fn embedded_at(phrase: &[char]) -> Option<usize>
     ensures exact { result ≡ embedded_at phrase.now }
@@ -51,7 +51,7 @@ pub(crate) fn embedded_at(phrase: &[char]) -> Option<usize>
         return None;
     }
     let place = last_angle(phrase)?;
-    // What the angle brackets hold, and what stands before them, has to fit.
+    // What the angle brackets hold, and what precedes them, has to fit.
     if place + 2 < phrase.len()
         && is_dark(phrase, place + 1)
         && is_dark(phrase, phrase.len() - 2)
@@ -78,7 +78,7 @@ pub(crate) fn has_white(text: &[char]) -> bool
     text.iter().any(|c| is_white(*c))
 }
 
-/// The place behind the last character before `place` that isn't white.
+/// The place after the last character before `place` that isn't white.
 pub(crate) fn dark_end(text: &[char], place: usize) -> usize
     requires { place ≤ length text.now }
     ensures exact { result ≡ dark_end text.now place }

@@ -24,7 +24,7 @@ use rst_tree::{Attrs, Children, Entry, Key, Level, Node, Phrase, Result, Tag, Te
 use std::alloc::{AllocError, Global};
 use std::borrow::CowStr;
 
-/// What a piece means: no node, one or two, or that it is wrong, with the message that says so.
+/// What a piece means: no node, one or two, or that it is wrong, with the message for that.
 #[derive(Drop)]
 pub(crate) enum Meaning {
     Nothing,
@@ -131,7 +131,7 @@ impl Written<'_> {
         Ok(CowStr::Owned(spell(self.alloc, &dark)?))
     }
 
-    /// What is shown of a phrase whose angle brackets begin at a place.
+    /// What is displayed of a phrase whose angle brackets begin at a place.
     fn shown_by(
         &self,
         piece: Piece,
@@ -227,7 +227,7 @@ impl Written<'_> {
         requires { IsWithin self.now.characters.items piece }
         ensures { Gives (λ reading. reading ≡ interpreted_reading (has_prefix_role piece) suffix self.now.characters.items piece self.now.line) result }
     {
-        // A role stands in front.
+        // A role comes first.
         if piece.from + 1 < piece.content_from {
             let wrong = match suffix {
                 Suffix::Bare => {

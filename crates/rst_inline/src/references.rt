@@ -1,4 +1,4 @@
-//! References, and the substitutions that they stand round.
+//! References, and the substitutions that they enclose.
 ghost use Rattle.std.specs.Prelude.{◌≡◌, ◌∷◌, [], chars};
 ghost use Rattle.rst_inline.specs.Elements.{reference_node, embedded_node, outer_node};
 ghost use Rattle.rst_tree.specs.Attributes.{attr};
@@ -12,7 +12,7 @@ use rst_text::both_borrowed;
 use rst_tree::{Attrs, Children, Entry, Key, Node, Result, Tag, TreeFault, Value};
 use std::alloc::Global;
 
-/// The attributes of a reference by a name, with room for the one that tells where it leads, once that is found.
+/// The attributes of a reference by a name, with room for the one for its destination, once that is found.
 // A call would move its three values.
 #[inline(always)]
 pub(crate) fn named_attrs(
@@ -81,7 +81,7 @@ pub(crate) fn embedded_reference(
     element(alloc, Tag::Reference, attrs, shown, line)
 }
 
-/// The reference that stands round a substitution.
+/// The reference that encloses a substitution.
 #[tactic(auto, using(crate::proofs::Orders::outer_in_order))]
 pub(crate) fn outer_reference(
     alloc: Global,

@@ -11,7 +11,7 @@ use rst_text::{characters_of, name_borrowed, normalized_borrowed, unescaped};
 use rst_tree::{Result, Text, TreeFault, Value};
 use std::alloc::{AllocError, Global};
 
-/// The text without its escapes: a backslash vanishes, and white behind one; any other character behind one stays
+/// The text without its escapes: a backslash vanishes, and white after one; any other character after one stays
 /// (Markup Specification, 'Escaping Mechanism').
 ///
 /// The only refusal is [`TreeFault::NoMemory`].
@@ -36,7 +36,7 @@ pub(crate) fn spell(alloc: Global, characters: &[char]) -> Result<String, AllocE
     Ok(out)
 }
 
-/// A value that says a text.
+/// A value that is a text.
 #[tactic(auto, using(crate::proofs::TextLemmas::spelled_again))]
 pub(crate) fn said(alloc: Global, text: &str) -> Result<Value>
     ensures { Gives (λ value. value ≡ said (chars text.now)) result }
@@ -45,7 +45,7 @@ pub(crate) fn said(alloc: Global, text: &str) -> Result<Value>
     Ok(Value::Text(text))
 }
 
-/// A value that says the name that a text gives.
+/// A value that is the name that a text gives.
 pub(crate) fn name_said(alloc: Global, text: &str) -> Result<Value>
     ensures { Gives (λ value. value ≡ said (names.name_of (chars text.now))) result }
 {
@@ -53,7 +53,7 @@ pub(crate) fn name_said(alloc: Global, text: &str) -> Result<Value>
     said(alloc, name.as_str())
 }
 
-/// A value that says a text with each run of white characters as one space, and none at the ends.
+/// A value that is a text with each run of white characters as one space, and none at the ends.
 pub(crate) fn normalized_said(alloc: Global, text: &str) -> Result<Value>
     ensures { Gives (λ value. value ≡ said (names.normalized_white (chars text.now))) result }
 {

@@ -30,7 +30,7 @@ pub(crate) struct Written<'a> {
     ghost plain: { escapes ≡ false → has_backslash characters.items ≡ false },
 }
 
-/// The characters of a text, and the byte at which each of them begins, with the length of the text behind them; none where each
+/// The characters of a text, and the byte at which each of them begins, with the length of the text after them; none where each
 /// character is a byte.
 fn with_starts(alloc: Global, text: &str) -> Result<(Vec<char>, Vec<usize>), AllocError>
     ensures characters { IfOk result (λ made. made.0.items ≡ chars text.now) }

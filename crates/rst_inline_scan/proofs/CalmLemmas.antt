@@ -29,7 +29,7 @@ pub record IsCalm (t : Text) (from to : ℕ) : Type 0 where
 
 -- ---- a calm place
 
--- an underscore stands there, with a letter or a digit behind it
+-- an underscore is there, with a letter or a digit after it
 abbrev IsInner : Text → ℕ → Type 0
 IsInner t i = ((get_or t i 0 == 95) ≡ true) × (is_ascii_alphanumeric (get_or t (i + 1) 0) ≡ true)
 
@@ -57,7 +57,7 @@ calm-target t i h = ⊎_elim
 letter-within : (t : Text) (k : ℕ) → is_ascii_alphanumeric (get_or t k 0) ≡ true → k < length t
 letter-within t k letter = ⊎_elim (λ inside. inside) (λ past. absurd (true≢false (sym letter ∙ ap is_ascii_alphanumeric (get_or_past t k 0 past)))) (cases_lt k (length t))
 
--- behind an underscore no name ends where a letter or a digit stands
+-- after an underscore no name ends where a letter or a digit is
 letter-unended : (t : Text) (k : ℕ) → is_ascii_alphanumeric (get_or t (k + 1) 0) ≡ true → ends_name t k ≡ false
 unfolding ends_name name_tail
 letter-unended t k letter =
@@ -193,7 +193,7 @@ calm-same t bytes from to of run = record {
 HasNoStart-step : (t : Text) (from place start : ℕ) → HasNoStart t from from place → IsStep t place start → HasNoStart t from from start
 HasNoStart-step t from place start none over i low less = ⊎_elim (none i low) (λ past. over.none from i past less) (cases_lt i place)
 
--- what stands before a step's end escapes nothing
+-- what precedes a step's end escapes nothing
 escaped-step : (t : Text) (from place start : ℕ) (escaped : Bool) → from ≤ place → IsStep t place start → escaped ≡ is_escaped t from place → (escaped && start == place) ≡ is_escaped t from start
 escaped-step t from place start escaped order over known = ⊎_elim
     (λ same. let e : start ≡ place = eqb-true start place same in rw same (and-true escaped ∙ known ∙ ap (is_escaped t from) (sym e)))

@@ -54,7 +54,7 @@ bare-string t (c ∷ cs) q some other h = has-bare t q c other (and_parts (has t
 pub start-bare : (markup : Markup) (t : Text) (q : ℕ) → has_start markup t q ≡ true → IsBare t q
 start-bare markup t q h = bare-string t (start_string markup) q (start-some markup) (strings markup).2 (start-stands markup t q h)
 
--- it ends only where the character stands of which its end-string consists
+-- it ends only at the character of which its end-string consists
 no-string : (t s : Text) (i : ℕ) → 0 < length s → get_or t i 0 ≢ get_or s 0 0 → has_string t i s ≡ false
 no-string t [] i some h = absurd (omega arith)
 no-string t (c ∷ cs) i some h = grind (arith, nat_tests)

@@ -7,7 +7,7 @@ use Rattle.rst_inline_scan.specs.declared.piece.Markup.TheVariants.{Strong, Emph
 use Rattle.rst_inline_scan.specs.declared.missing.Missing.{Missing}
 use Rattle.rst_inline_scan.proofs.MarkedLemmas.{start-fits, start-some}
 
--- no start-string stands past the end
+-- there is no start-string past the end
 pub none-past : (markup : Markup) (t : Text) → IsUnended markup t (length t)
 none-past markup t i q order past mark = absurd (let l = start-fits markup t q mark in let some = start-some markup in omega arith)
 

@@ -84,7 +84,7 @@ told-end t from items told end = subst (IsPieces t 0) (append-nil items) (told [
 
 -- ---- at most one list
 
--- a start stands within the text, as nothing stands past its end: a piece there would reach further
+-- a start is within the text, as there is nothing past its end: a piece there would reach further
 inside_at : (t : Text) (from i : ℕ) (p : Piece) → i ≤ length t → piece_at t from i ≡ Some p → i < length t
 inside_at t from i p within h =
     let fits = piece_at-fits t from i p within h in
@@ -97,7 +97,7 @@ no-start t from i p h none = none_is (sym none ∙ h)
 IsPlain-same : (t : Text) (from : ℕ) (p q : Piece) → IsPlain t from p → IsPlain t from q → p.to ≡ q.to → p ≡ q
 IsPlain-same t from p q a b to = a.is_plain ∙ ap (plain_from from) to ∙ sym b.is_plain
 
--- what stands behind a plain piece: the end, or a start
+-- what follows a plain piece: the end, or a start
 abbrev Stops : Text → ℕ → ℕ → Type 0
 Stops t from at = (at ≡ length t) ⊎ ((q : Piece) × (piece_at t from at ≡ Some q))
 

@@ -27,7 +27,7 @@ IsQuiet t = quiet t ≡ true
 quiet-at : (t : Text) (i : ℕ) → IsQuiet t → i < length t → is_quiet (get_or t i 0) ≡ true
 quiet-at t i h less = ⊎_elim (λ here. here) (λ loud. absurd (true≢false (sym h ∙ list_all_at is_quiet t i 0 less loud))) (cases_bool (is_quiet (get_or t i 0)))
 
--- a character that isn't quiet stands nowhere
+-- a character that isn't quiet occurs nowhere
 absent : (t : Text) (c : ℕ) → IsQuiet t → is_quiet c ≡ false → (i : ℕ) → has t i c ≡ false
 absent t c h loud i = false_from_ne_true (has t i c) (λ here.
     let parts = and_parts (nat_lt i (length t)) (get_or t i 0 == c) here in

@@ -1,4 +1,4 @@
--- The pieces that are found one behind the other are those of the text.
+-- The pieces that are found one after the other are those of the text.
 use Rattle.std.proofs.Common.{◌≡◌, inl, inr, ℕ, zero, suc, ◌+◌, ◌<◌, ◌≤◌, true, false, ◌∷◌, ◌++◌, Option, Some, None, length, refl, sym, subst, arith, lt-ltb, le-ltb, true≢false}
 use Rattle.std.specs.Prelude.{is_some}
 use Rattle.std.proofs.lemmas.Bool.{cases_lt}
@@ -18,7 +18,7 @@ no_piece : (o : Option Piece) → is_some o ≡ false → o ≡ None
 no_piece (Some q) h = absurd (true≢false h)
 no_piece None h = refl
 
--- all pieces behind a place later than this one are found so
+-- all pieces after a place later than this one are found so
 abbrev FindsBehind : Text → ℕ → ℕ → Type 0
 FindsBehind t n from = (k : ℕ) → from < k → k ≤ length t → IsPieces t k (pieces_from t n k)
 

@@ -72,7 +72,7 @@ pub record Begins (t : Text) (i behind : ℕ) : Type 0 where
   pub within : i ≤ length t → behind ≤ length t
   pub chars : (k : ℕ) → i ≤ k → k < behind → is_uri_char (get_or t k 0) ≡ true
 
--- the place behind the first of the words that stands at the place
+-- the place after the first of the words that is at the place
 abbrev scheme_of : Text → ℕ → List Text → Option ℕ
 scheme_of t i words = option_map (λ scheme. i + length scheme) (find (has_any_case t i) words)
 
@@ -95,7 +95,7 @@ pub scheme_end-begins : (t : Text) (i behind : ℕ) → scheme_end t i ≡ Some 
 unfolding scheme_end
 scheme_end-begins t i behind h = first-begins t i schemes behind schemes-uri h
 
--- ---- the run behind it
+-- ---- the run after it
 
 abbrev pub StopTest : Text → ℕ → Bool
 StopTest t k = not (is_uri_char (get_or t k 0))
@@ -168,7 +168,7 @@ pub uri_end-stuck : (t : Text) (i m e : ℕ) → scheme_end t i ≡ Some m → u
 unfolding uri_end
 uri_end-stuck t i m e h k stuck = ap (λ r. option_and_then (if_free t) (option_and_then (uri_behind t) r)) h ∙ ap (option_and_then (if_free t)) k ∙ ap (λ b. cond b (Some e) None) stuck
 
--- where what stands behind a URI doesn't fit, none begins in it
+-- where what follows a URI doesn't fit, none begins in it
 inside : (t : Text) (start m e i : ℕ) (r : Option ℕ) → start ≤ length t → scheme_end t start ≡ Some m → uri_close t m (uri_stop t m) ≡ Some e → is_free_behind t e ≡ false → start ≤ i → i < e → scheme_end t i ≡ r → uri_end t i ≡ None
 inside t start m e i None within h k stuck above below r = uri_end-none t i r
 inside t start m e i (Some n) within h k stuck above below r =
@@ -250,13 +250,13 @@ chars-bytes bytes good h = sym (encodes-uri (chars bytes) h) ∙ encodes-chars b
 free-at-end : (t : Text) → is_free_behind t (length t) ≡ true
 free-at-end t = grind (arith, nat_tests)
 
--- the bytes are a URI with its scheme's end at the place: more stands behind that, each is a character of a URI, and the last
+-- the bytes are a URI with its scheme's end at the place: more follows that, each is a character of a URI, and the last
 -- may end one
 abbrev is_ascii_uri_from : List ℕ → Option ℕ → Bool
 is_ascii_uri_from bytes (Some i) = nat_lt i (length bytes) && (list_all is_uri_char bytes && not (is_uri_trail (get_or bytes (length bytes - 1) 0)))
 is_ascii_uri_from bytes None = false
 
--- the bytes of a text say at once whether it is one URI, as each character of a URI is one byte
+-- the bytes of a text show at once whether it is one URI, as each character of a URI is one byte
 abbrev pub is_ascii_uri : List ℕ → Bool
 is_ascii_uri bytes = is_ascii_uri_from bytes (scheme_end bytes 0)
 

@@ -46,12 +46,12 @@ unless-so : (a b : Bool) → unless a b ≡ true → a ≡ true → b ≡ true
 unless-so true b h k = h
 unless-so false b h k = absurd (cc)
 
--- none stands before a start
+-- none comes before a start
 pub letter-before : (c : ℕ) → IsLetter c → may_precede c ≡ false
 unfolding may_precede is_white
 letter-before c h = not-true _ (unless-so _ _ (below (λ c. unless (is_ascii_alphanumeric c) (not (may_precede c))) refl c (letter-low c h)) h)
 
--- nor behind an end
+-- nor after an end
 pub letter-behind : (c : ℕ) → IsLetter c → may_follow c ≡ false
 unfolding may_follow is_white
 letter-behind c h = not-true _ (unless-so _ _ (below (λ c. unless (is_ascii_alphanumeric c) (not (may_follow c))) refl c (letter-low c h)) h)
@@ -68,7 +68,7 @@ other-at t i to k c word above less e =
 
 -- ---- references
 
--- what stands behind a word that nothing goes on with
+-- what follows a word that nothing goes on with
 record Ends (t : Text) (i : ℕ) : Type 0 where
   pub underscore : has t i 95 ≡ false
   pub colon : has t i 58 ≡ false
@@ -119,7 +119,7 @@ no-reference t i e bar =
 
 -- ---- URIs
 
--- letters and digits, and a colon behind them
+-- letters and digits, and a colon after them
 abbrev named : List ℕ → Bool
 named [] = false
 named (c ∷ cs) = c == 58 || (is_ascii_alphanumeric c && named cs)
@@ -178,7 +178,7 @@ pub unmarked : (t : Text) (i : ℕ) → has t i 42 ≡ false → has t i 96 ≡ 
 unfolding markup_of
 unmarked t i star grave target bar colon = rw (star, grave, target, bar, colon) refl
 
--- where a start-string stands, only its markup begins
+-- where a start-string is, only its markup begins
 starts-by : (markup : Markup) (t : Text) (i : ℕ) → has_start markup t i ≡ true → markup_of t i ≡ Some markup
 unfolding markup_of
 starts-by Strong t i h = grind (arith, nat_tests)
@@ -265,7 +265,7 @@ unescaped-word t from i to order some run =
     let e : to - 1 + 1 ≡ to = omega arith in
     sym (ap (is_escaped t from) (sym e) ∙ is_escaped-bare t from (to - 1) (omega arith) (letter-bare t (to - 1) (run.letters (to - 1) (omega arith) (omega arith))))
 
--- whether what stands behind a word is escaped
+-- whether what follows a word is escaped
 pub unescaped-behind : (t : Text) (from i to : ℕ) (escaped : Bool) → from ≤ i → IsWord t i to → escaped ≡ is_escaped t from i → (escaped && i == to) ≡ is_escaped t from to
 unescaped-behind t from i to escaped order run known = ⊎_elim
     (λ same. let e : i ≡ to = eqb-true i to same in rw same (and-true escaped ∙ known ∙ ap (is_escaped t from) e))

@@ -19,7 +19,7 @@ byte_of c = if nat_lt c 128 then c else 128
 abbrev pub is_calm : ℕ → Bool
 is_calm c = not (is_among (42 ∷ 58 ∷ 91 ∷ 92 ∷ 95 ∷ 96 ∷ 124 ∷ []) c)
 
--- the place holds such a character, or an underscore with an ASCII letter or digit behind it, which ends no name
+-- the place holds such a character, or an underscore with an ASCII letter or digit after it, which ends no name
 abbrev pub is_calm_at : Text → ℕ → Bool
 is_calm_at t i = is_calm (slice_index t i) || (slice_index t i == 95 && is_ascii_alphanumeric (slice_index t (i + 1)))
 
@@ -31,8 +31,8 @@ AreCalm t from to = (k : ℕ) → from ≤ k → k < to → is_calm_at t k ≡ t
 abbrev pub is_of_name : ℕ → Bool
 is_of_name c = not (nat_lt c 128) || (is_ascii_alphanumeric c || is_joint c)
 
--- From one place up to another, which may be the same, no start stands, wherever plain text before them begins. No backslash
--- stands before the other.
+-- From one place up to another, which may be the same, there is no start, wherever plain text before them begins. No backslash
+-- comes before the other.
 pub record IsStep (t : Text) (from to : ℕ) : Type 0 where
   pub above : from ≤ to
   pub within : to ≤ length t

@@ -40,20 +40,20 @@ start_len markup = length (start_string markup)
 abbrev pub end_len : Markup → ℕ
 end_len markup = length (end_string markup)
 
--- a string of one character that stands at the place has the same character behind it
+-- a string of one character at the place has the same character after it
 abbrev pub is_doubled : Text → ℕ → Text → Bool
 is_doubled t i (c ∷ []) = has t (i + 1) c
 is_doubled t i _ = false
 
--- the start-string stands at the place, and one of a single character is not doubled
+-- the start-string is at the place, and one of a single character is not doubled
 abbrev pub has_start : Markup → Text → ℕ → Bool
 has_start markup t i = has_string t i (start_string markup) && not (is_doubled t i (start_string markup))
 
--- the end-string stands at the place
+-- the end-string is at the place
 abbrev pub has_end : Markup → Text → ℕ → Bool
 has_end markup t i = has_string t i (end_string markup)
 
--- the only markup that may begin at the place: its start-string stands there, or a role does
+-- the only markup that may begin at the place: its start-string is there, or a role
 unfoldable pub markup_of : Text → ℕ → Option Markup
 markup_of t i =
     if has t i 42 then Some (if has t (i + 1) 42 then Strong else Emphasis)
@@ -70,28 +70,28 @@ has_escapes _ = true
 
 -- ---- the start
 
--- where the start-string of markup that begins at the place stands: behind a role, where interpreted text has one in front
+-- where the start-string of markup that begins at the place is: after a role, where interpreted text has one before it
 unfoldable pub start_of : Markup → Text → ℕ → ℕ
 start_of Interpreted t i = unwrap_or (role_end t i) i
 start_of _ t i = i
 
--- Markup begins at i with its start-string at q: what stands behind the start-string is not white, and does not make a
--- matching pair with what stands before i.
+-- Markup begins at i with its start-string at q: what follows the start-string is not white, and does not make a
+-- matching pair with what precedes i.
 unfoldable pub starts : Markup → Text → ℕ → ℕ → Bool
 starts markup t i q = has_start markup t q && (is_dark t (q + start_len markup)
     && (i == 0 || not (is_pair (slice_index t (i - 1)) (slice_index t (q + start_len markup)))))
 
 -- ---- the end
 
--- What stands behind the end-string at k, the first that fits: behind a substitution `__`, `_` or nothing, behind
--- interpreted text `__`, `_`, a role or nothing, behind other markup nothing.
+-- What follows the end-string at k, the first that fits: after a substitution `__`, `_` or nothing, after
+-- interpreted text `__`, `_`, a role or nothing, after other markup nothing.
 unfoldable pub tail_of : Markup → Text → ℕ → Option Tail
 tail_of Substitution t k = option_or (name_tail t (k + 1)) (bare_tail t (k + 1))
 tail_of Interpreted t k = option_or (name_tail t (k + 1)) (option_or (role_tail t (role_end t (k + 1))) (bare_tail t (k + 1)))
 tail_of markup t k = bare_tail t (k + end_len markup)
 
--- Markup that begins at i may end at k: its end-string stands there, unescaped unless it is a literal's, what stands before it
--- is not white, and what stands behind it fits.
+-- Markup that begins at i may end at k: its end-string is there, unescaped unless it is a literal's, what precedes it
+-- is not white, and what follows it fits.
 unfoldable pub ends : Markup → Text → ℕ → ℕ → Bool
 ends markup t i k = has_end markup t k && (is_dark t (k - 1) && (not (has_escapes markup && is_escaped t i k) && is_some (tail_of markup t k)))
 
@@ -101,15 +101,15 @@ markup_end markup t i q = first_from (ends markup t i) (q + start_len markup + 1
 
 -- ---- the piece
 
--- a start without an end: the start-string alone, with the role in front of it
+-- a start without an end: the start-string alone, with the role before it
 abbrev pub unended_piece : Markup → ℕ → ℕ → Piece
 unended_piece markup i q = record { kind = Unended markup; from = i; content_from = q + start_len markup; content_to = q + start_len markup; to = q + start_len markup }
 
--- markup with its end-string at k and this behind it
+-- markup with its end-string at k and this after it
 abbrev pub ended_piece : Markup → ℕ → ℕ → ℕ → Tail → Piece
 ended_piece markup i q k tail = record { kind = Marked markup tail.suffix; from = i; content_from = q + start_len markup; content_to = k; to = tail.to }
 
--- the same with what stands behind the end-string at k
+-- the same with what follows the end-string at k
 abbrev pub ended : Markup → Text → ℕ → ℕ → ℕ → Option Piece
 ended markup t i q k = option_map (ended_piece markup i q k) (tail_of markup t k)
 

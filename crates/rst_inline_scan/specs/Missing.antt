@@ -1,4 +1,4 @@
--- What searches before a place have shown to be absent behind it. No rule of markup: it keeps the scanner's time linear.
+-- What searches before a place have found to be absent after it. No rule of markup: it keeps the scanner's time linear.
 use Rattle.std.specs.Prelude.{◌≡◌, ℕ, ◌<◌, ◌≤◌, true, None}
 use Rattle.rst_text.specs.Characters.{Text}
 use Rattle.rst_inline_scan.specs.Marked.{has_start, markup_end}

@@ -18,16 +18,16 @@ markup_at t i =
     option_or (marked Strong t i) (option_or (marked Emphasis t i) (option_or (marked Literal t i) (option_or (marked Target t i)
     (option_or (marked Substitution t i) (option_or (marked Interpreted t i) (option_or (label t i) (option_or (reference t i) (uri t i))))))))
 
--- A start may stand at i: it is not escaped, and what stands before it fits. Plain text before i begins at `from`: no backslash
+-- A start may occur at i: it is not escaped, and what precedes it fits. Plain text before i begins at `from`: no backslash
 -- before that counts.
 unfoldable pub is_free : Text → ℕ → ℕ → Bool
 is_free t from i = not (is_escaped t from i) && (i == 0 || may_precede (slice_index t (i - 1)))
 
--- the piece that begins at i, if a start may stand there and markup begins
+-- the piece that begins at i, if a start may occur there and markup begins
 unfoldable pub piece_at : Text → ℕ → ℕ → Option Piece
 piece_at t from i = if is_free t from i then markup_at t i else None
 
--- no start stands at the places from `low` below `high`
+-- there is no start at the places from `low` below `high`
 abbrev pub HasNoStart : Text → ℕ → ℕ → ℕ → Type 0
 HasNoStart t from low high = (i : ℕ) → low ≤ i → i < high → piece_at t from i ≡ None
 
@@ -42,7 +42,7 @@ pub record IsPlain (t : Text) (from : ℕ) (p : Piece) : Type 0 where
   pub within : p.to ≤ length t
   pub none : HasNoStart t from from p.to
 
--- The pieces of the text from `from` on. A plain piece runs to the least start behind it, or to the end where there is none;
+-- The pieces of the text from `from` on. A plain piece runs to the least start after it, or to the end where there is none;
 -- any other begins at a start.
 pub data IsPieces (t : Text) : ℕ → List Piece → Type 0 where
   nothing : {from : ℕ} → from ≡ length t → IsPieces t from []

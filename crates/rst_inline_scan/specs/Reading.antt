@@ -23,7 +23,7 @@ abbrev pub pieces_by : Text → ℕ → Option ℕ → (ℕ → List Piece) → 
 pieces_by t from None others = plain_if from (length t)
 pieces_by t from (Some i) others = plain_if from i ++ piece_then (piece_at t from i) others
 
--- the pieces from a place on, with no more starts than so many
+-- the pieces from a place on, with at most this many starts
 abbrev pub pieces_from : Text → ℕ → ℕ → List Piece
 pieces_from t zero from = []
 pieces_from t (suc n) from = pieces_by t from (next_start t from) (λ next. pieces_from t n next)

@@ -7,20 +7,20 @@ use Rattle.rst_text.specs.Places.{first_from, last_from}
 use Rattle.rst_inline_scan.specs.declared.piece.Kind.TheVariants.{Uri}
 use Rattle.rst_inline_scan.specs.declared.piece.Piece.{Piece}
 
--- the character, which is in lower case, stands at the place in any case
+-- the character, which is in lower case, is at the place in any case
 abbrev pub has_letter : Text → ℕ → ℕ → Bool
 has_letter t i c = nat_lt i (length t) && to_ascii_lowercase (slice_index t i) == c
 
--- the string, which is in lower case, stands at the place without regard to the case of letters of ASCII
+-- the string, which is in lower case, is at the place without regard to the case of letters of ASCII
 abbrev pub has_any_case : Text → ℕ → Text → Bool
 has_any_case t i [] = true
 has_any_case t i (c ∷ cs) = has_letter t i c && has_any_case t (i + 1) cs
 
--- the schemes, with what stands between them and what they name
+-- the schemes, with what is between them and what they name
 abbrev pub schemes : List Text
 schemes = codes "file://" ∷ codes "ftp://" ∷ codes "http://" ∷ codes "https://" ∷ codes "irc://" ∷ codes "mailto:" ∷ codes "news:" ∷ []
 
--- the place behind the scheme that begins at the place
+-- the place after the scheme that begins at the place
 unfoldable pub scheme_end : Text → ℕ → Option ℕ
 scheme_end t i = option_map (λ scheme. i + length scheme) (find (has_any_case t i) schemes)
 
@@ -37,19 +37,19 @@ is_uri_trail c = is_among (46 ∷ 44 ∷ 58 ∷ 59 ∷ 33 ∷ 63 ∷ 39 ∷ 41 �
 unfoldable pub uri_stop : Text → ℕ → ℕ
 uri_stop t i = unwrap_or (first_from (λ k. not (is_uri_char (slice_index t k))) i (length t - i)) (length t)
 
--- the greatest end up to `stop` with no punctuation before it, that leaves something behind the scheme
+-- the greatest end up to `stop` with no punctuation before it, that leaves something after the scheme
 unfoldable pub uri_close : Text → ℕ → ℕ → Option ℕ
 uri_close t i stop = last_from (λ e. not (is_uri_trail (slice_index t (e - 1)))) (i + 1) (stop - i)
 
--- the end of a URI by the place behind its scheme, if it has one
+-- the end of a URI by the place after its scheme, if it has one
 abbrev pub uri_behind : Text → ℕ → Option ℕ
 uri_behind t i = uri_close t i (uri_stop t i)
 
--- the end, if what stands behind it fits
+-- the end, if what follows it fits
 abbrev pub if_free : Text → ℕ → Option ℕ
 if_free t e = if is_free_behind t e then Some e else None
 
--- the end of the URI that begins at the place, where what stands behind it fits
+-- the end of the URI that begins at the place, where what follows it fits
 unfoldable pub uri_end : Text → ℕ → Option ℕ
 uri_end t i = option_and_then (if_free t) (option_and_then (uri_behind t) (scheme_end t i))
 

@@ -64,8 +64,8 @@ fn name_start(bytes: &[u8], from: usize, to: usize) -> usize
     start
 }
 
-/// The place behind the bytes from the place on that are calm, or underscores before a letter or a digit, but not inside a name; and
-/// whether the character there is escaped, where `escaped` says whether the one at `place` is. Up to `searched` earlier steps have
+/// The place after the bytes from the place on that are calm, or underscores before a letter or a digit, but not inside a name; and
+/// whether the character there is escaped, where `escaped` gives whether the one at `place` is. Up to `searched` earlier steps have
 /// looked, so there nothing is looked for again.
 pub(crate) fn step(bytes: &[u8], place: usize, escaped: bool, searched: &mut usize) -> (usize, bool)
     requires { place < length bytes.now }

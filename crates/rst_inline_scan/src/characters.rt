@@ -1,11 +1,11 @@
-//! The characters that decide where inline markup may stand.
+//! The characters that decide where inline markup may occur.
 ghost use Rattle.std.specs.Prelude.{◌≡◌};
 ghost use Rattle.rst_inline_scan.specs.Characters.{may_precede, is_free_behind};
 
 use rst_text::is_white;
 use unicode::properties::GeneralCategory;
 
-/// Whether the character may stand before a start.
+/// Whether the character may occur before a start.
 #[tactic(auto, unfolding(crate::specs::Characters::may_precede))]
 pub(crate) fn may_precede(c: char) -> bool
     ensures { result ≡ may_precede c }
@@ -25,7 +25,7 @@ pub(crate) fn may_precede(c: char) -> bool
     }
 }
 
-/// Whether an end may stand before the place: at the text's end, or before a character that may stand behind an end.
+/// Whether an end may occur before the place: at the text's end, or before a character that may follow an end.
 #[tactic(auto, unfolding(crate::specs::Characters::may_follow))]
 pub(crate) fn is_free_behind(text: &[char], place: usize) -> bool
     ensures { result ≡ is_free_behind text.now place }

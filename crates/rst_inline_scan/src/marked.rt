@@ -33,7 +33,7 @@ impl Markup {
         }
     }
 
-    /// Whether the start-string stands at the place.
+    /// Whether the start-string is at the place.
     fn has_start(self, text: &[char], place: usize) -> bool
         requires { place ≤ length text.now }
         ensures { result ≡ has_start self text.now place }
@@ -59,7 +59,7 @@ impl Markup {
         }
     }
 
-    /// Where the start-string of markup that begins at the place stands.
+    /// Where the start-string of markup that begins at the place is.
     #[tactic(auto, unfolding(crate::specs::Marked::start_of))]
     fn start(self, text: &[char], place: usize) -> usize
         requires { place < length text.now }
@@ -76,7 +76,7 @@ impl Markup {
         }
     }
 
-    /// Whether the markup begins at `place` with its start-string at `start`, where what stands before allows it.
+    /// Whether the markup begins at `place` with its start-string at `start`, where what precedes allows it.
     #[tactic(auto, unfolding(crate::specs::Marked::starts, crate::specs::Characters::is_pair))]
     fn starts(self, text: &[char], place: usize, start: usize) -> bool
         requires order { place ≤ start }
@@ -93,7 +93,7 @@ impl Markup {
                 ))
     }
 
-    /// What stands behind the end-string at the place, the first that fits.
+    /// What follows the end-string at the place, the first that fits.
     #[tactic(auto, unfolding(crate::specs::Marked::tail_of))]
     fn tail(self, text: &[char], place: usize) -> Option<Tail>
         requires { place < length text.now }
@@ -125,7 +125,7 @@ impl Markup {
         }
     }
 
-    /// What stands behind the end-string at the place, which is escaped or not, if it may end the markup.
+    /// What follows the end-string at the place, which is escaped or not, if it may end the markup.
     #[tactic(auto, unfolding(crate::specs::Marked::ends))]
     fn ending(self, text: &[char], place: usize, escaped: bool) -> Option<Tail>
         requires above { 0 < place }
@@ -143,7 +143,7 @@ impl Markup {
         self.tail(text, place)
     }
 
-    /// The least end of the markup that begins at `place` with its start-string at `start`, and what stands behind that.
+    /// The least end of the markup that begins at `place` with its start-string at `start`, and what follows that.
     pub(crate) fn end(self, text: &[char], place: usize, start: usize) -> Option<(usize, Tail)>
         requires mark { has_start self text.now start ≡ true }
         requires order { place ≤ start }
@@ -186,7 +186,7 @@ impl Markup {
                 content_to: end,
                 to: tail.to,
             },
-            // The start-string alone, with the role in front of it.
+            // The start-string alone, with the role before it.
             None => Piece {
                 kind: Kind::Unended(self),
                 from: place,

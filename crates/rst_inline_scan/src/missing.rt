@@ -1,4 +1,4 @@
-//! What searches before a place have shown to be absent behind it, so that no text is searched twice in vain.
+//! What searches before a place have found to be absent after it, so that no text is searched twice in vain.
 ghost use Rattle.std.specs.Prelude.{◌≡◌, ◌<◌, ◌≤◌, true, Some, length, option_map, IfSome};
 ghost use Rattle.rst_inline_scan.specs.Marked.{has_start, markup_end, tail_of};
 ghost use Rattle.rst_inline_scan.specs.Names.{name_end};
@@ -9,7 +9,7 @@ use super::names::name_end;
 use super::piece::{Markup, Tail};
 use super::uri::uri_end;
 
-/// What is absent behind a place.
+/// What is absent after a place.
 #[derive(Clone, Copy)]
 pub(crate) struct Missing {
     // From these places on no start-string of that markup has an end.
@@ -68,7 +68,7 @@ impl Missing {
         }
     }
 
-    /// The least end of the markup that begins at `place` with its start-string at `start`, and what stands behind that.
+    /// The least end of the markup that begins at `place` with its start-string at `start`, and what follows that.
     pub(crate) fn end(
         &mut self,
         markup: Markup,

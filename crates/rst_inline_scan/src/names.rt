@@ -9,7 +9,7 @@ use super::piece::{Kind, Piece};
 use super::tails::name_tail;
 use rst_text::{has, is_alnum_at, is_name_at, name_stop};
 
-/// The place behind a role that begins at the place.
+/// The place after a role that begins at the place.
 #[tactic(auto, unfolding(crate::specs::Names::role_end))]
 pub(crate) fn role_end(text: &[char], place: usize) -> Option<usize>
     requires { place ≤ length text.now }

@@ -14,7 +14,7 @@ pub enum Markup {
     Interpreted,
 }
 
-/// What stands behind the end-string, or behind the name of a reference.
+/// What follows the end-string, or the name of a reference.
 #[derive(Clone, Copy, Debug, PartialEq, Eq)]
 pub enum Suffix {
     /// Nothing.
@@ -27,7 +27,7 @@ pub enum Suffix {
     Anonymous,
 }
 
-/// What stands behind an end-string or a name, and the place behind that.
+/// What follows an end-string or a name, and the place after that.
 #[derive(Clone, Copy)]
 pub(crate) struct Tail {
     pub(crate) suffix: Suffix,
@@ -42,7 +42,7 @@ pub enum Kind {
     /// Markup with its end-string. Only a substitution has the suffixes `Named` and `Anonymous`, and only interpreted text
     /// these and `Role`.
     Marked(Markup, Suffix),
-    /// A start-string without an end-string, with the role in front of it.
+    /// A start-string without an end-string, with the role before it.
     Unended(Markup),
     /// A reference to a footnote or a citation.
     Label,
@@ -59,10 +59,10 @@ pub struct Piece {
     pub kind: Kind,
     /// Where it begins.
     pub from: usize,
-    /// Where what its markup encloses begins: behind the start-string or the bracket.
+    /// Where what its markup encloses begins: after the start-string or the bracket.
     pub content_from: usize,
     /// Where what its markup encloses ends: at the end-string, the suffix or the bracket.
     pub content_to: usize,
-    /// The place behind it.
+    /// The place after it.
     pub to: usize,
 }

@@ -10,7 +10,7 @@ ghost use Rattle.rst_inline_scan.specs.declared.piece.Kind.TheVariants.{Plain, M
 ghost use Rattle.rst_inline_scan.specs.declared.piece.Markup.TheVariants.{Strong, Emphasis, Literal, Target, Substitution, Interpreted};
 ghost use Rattle.rst_inline_scan.specs.declared.piece.Suffix.TheVariants.{Bare, Role, Named, Anonymous};
 
-/// The characters that may stand before a start and after an end (Markup Specification, 'Inline markup recognition rules').
+/// The characters that may occur before a start and after an end (Markup Specification, 'Inline markup recognition rules').
 pub fn characters()
     ensures before { filter may_precede (codes "!\"#$%&'()*+,-./:;<=>?@[\\]^_`{|}~ aZ09") ≡ codes "\"'(-/:<[{ " }
     ensures after { filter may_follow (codes "!\"#$%&'()*+,-./:;<=>?@[\\]^_`{|}~ aZ09") ≡ codes "!\"'),-./:;>?\\]} " }
@@ -18,7 +18,7 @@ pub fn characters()
     ensures after_past_ascii { filter may_follow (codes "«»“”‘’「」¡–€‿ä") ≡ codes "«»“”‘’」¡–" }
 {}
 
-/// Where a start may stand (Markup Specification, 'Inline markup recognition rules').
+/// Where a start may occur (Markup Specification, 'Inline markup recognition rules').
 pub fn starts()
     ensures inside_a_word { Cuts "a*b*" ((Plain, "a*b*") ∷ []) }
     ensures after_punctuation_past_ascii { Cuts "。*c*" ((Plain, "。") ∷ (Marked Emphasis Bare, "*c*") ∷ []) }
@@ -35,7 +35,7 @@ pub fn starts()
     ensures after_a_start { Cuts "**a_" ((Unended Strong, "**") ∷ (Plain, "a_") ∷ []) }
 {}
 
-/// Where an end may stand (Markup Specification, 'Inline markup recognition rules').
+/// Where an end may occur (Markup Specification, 'Inline markup recognition rules').
 pub fn ends()
     ensures inside_a_word { Cuts "*a*b*" ((Marked Emphasis Bare, "*a*b*") ∷ []) }
     ensures after_white { Cuts "*a * b*" ((Marked Emphasis Bare, "*a * b*") ∷ []) }
@@ -63,7 +63,7 @@ pub fn strings()
     ensures target_is_no_reference { Cuts "_`a`_" ((Unended Target, "_`") ∷ (Plain, "a`_") ∷ []) }
 {}
 
-/// What stands behind a substitution and behind interpreted text (Markup Specification, 'Hyperlink References').
+/// What may follow a substitution and interpreted text (Markup Specification, 'Hyperlink References').
 pub fn tails()
     ensures substitutions { Cuts "|a| |a|_ |a|__"
         ((Marked Substitution Bare, "|a|") ∷ (Plain, " ") ∷ (Marked Substitution Named, "|a|_") ∷ (Plain, " ")
@@ -80,7 +80,7 @@ pub fn tails()
     ensures role_between { Cuts "`a`:sub:`b`" ((Marked Interpreted Bare, "`a`") ∷ (Plain, ":sub:") ∷ (Marked Interpreted Bare, "`b`") ∷ []) }
 {}
 
-/// Roles in front of interpreted text (Markup Specification, 'Interpreted Text').
+/// Roles before interpreted text (Markup Specification, 'Interpreted Text').
 pub fn roles()
     ensures one { Cuts "a :sub:`b`" ((Plain, "a ") ∷ (Marked Interpreted Bare, ":sub:`b`") ∷ []) }
     ensures two { Cuts ":sub:`a`:sup:" ((Marked Interpreted Role, ":sub:`a`:sup:") ∷ []) }

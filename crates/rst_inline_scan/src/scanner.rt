@@ -57,7 +57,7 @@ fn markup_at(text: &[char], place: usize, missing: &mut Missing) -> Option<Piece
     uri(text, place, missing)
 }
 
-/// The piece that begins at the place, which is escaped or not, if a start stands there. The word that begins there ends at
+/// The piece that begins at the place, which is escaped or not, if a start is there. The word that begins there ends at
 /// `end`.
 #[tactic(auto, unfolding(crate::specs::Pieces::piece_at, crate::specs::Pieces::is_free))]
 fn piece_at(
@@ -85,7 +85,7 @@ fn piece_at(
 
 /// The pieces of the text, in order. Exactly one list is that of a text ([`super::one_list_of_pieces`]).
 ///
-/// What a search that failed has shown is remembered, so that the time grows no faster than the text.
+/// What a failed search has found to be absent is remembered, so that the time grows no faster than the text.
 pub fn pieces_of(alloc: Global, text: &[char]) -> Result<Vec<Piece>, AllocError>
     ensures { IfOk result (λ pieces. IsPieces text.now 0 pieces.items) }
 {
@@ -132,7 +132,7 @@ fn pieces_by(alloc: Global, text: &[char], bytes: &[u8]) -> Result<Vec<Piece>, A
                 escaped = false;
             }
             None => {
-                // Nothing begins within a word or directly behind it.
+                // Nothing begins within a word or directly after it.
                 if end == text.len() {
                     place = end;
                     escaped = false;

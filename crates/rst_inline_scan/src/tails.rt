@@ -1,4 +1,4 @@
-//! What may stand behind the end-string or the name of inline markup.
+//! What may follow the end-string or the name of inline markup.
 ghost use Rattle.std.specs.Prelude.{◌≡◌, ◌≤◌, length};
 ghost use Rattle.rst_inline_scan.specs.Tails.{name_tail};
 
@@ -6,7 +6,7 @@ use super::characters::is_free_behind;
 use super::piece::{Suffix, Tail};
 use rst_text::has;
 
-/// The underscores behind a name, two where both fit.
+/// The underscores after a name, two where both fit.
 #[tactic(auto, unfolding(crate::specs::Tails::name_tail))]
 pub(crate) fn name_tail(text: &[char], place: usize) -> Option<Tail>
     requires { place ≤ length text.now }

@@ -9,7 +9,7 @@ use super::characters::is_free_behind;
 use super::missing::Missing;
 use super::piece::{Kind, Piece};
 
-/// Whether the character, which is in lower case, stands at the place in any case.
+/// Whether the character, which is in lower case, is at the place in any case.
 fn has_letter(text: &[char], place: usize, c: u8) -> bool
     ensures { result ≡ has_letter text.now place c }
 {
@@ -19,7 +19,7 @@ fn has_letter(text: &[char], place: usize, c: u8) -> bool
     }
 }
 
-/// Whether the word, which is in lower case, stands at the place in any case.
+/// Whether the word, which is in lower case, is at the place in any case.
 fn begins_at(text: &[char], place: usize, word: &[u8]) -> bool
     requires { place ≤ length text.now }
     ensures { result ≡ has_any_case text.now place word.now }
@@ -34,7 +34,7 @@ fn begins_at(text: &[char], place: usize, word: &[u8]) -> bool
     true
 }
 
-/// The place behind the scheme that begins at the place.
+/// The place after the scheme that begins at the place.
 #[tactic(auto, unfolding(crate::specs::Uri::scheme_end))]
 fn scheme_end(text: &[char], place: usize) -> Option<usize>
     requires { place ≤ length text.now }
@@ -191,7 +191,7 @@ fn are_uri_chars(bytes: &[u8]) -> bool
     bytes.iter().all(|byte| is_uri_char(char::from(*byte)))
 }
 
-/// The place behind the scheme that the bytes begin with.
+/// The place after the scheme that the bytes begin with.
 #[tactic(auto, unfolding(crate::specs::Uri::scheme_end))]
 fn ascii_scheme_end(bytes: &[u8]) -> Option<usize>
     ensures { result ≡ scheme_end bytes.now 0 }

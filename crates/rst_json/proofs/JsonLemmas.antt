@@ -19,7 +19,7 @@ use Rattle.rst_tree.specs.Nodes.{forest_of}
 use Rattle.rst_tree.specs.PrintedAttributes.{all_with_printed_attrs, printed_attrs, with_printed_attrs}
 use Rattle.rst_tree.specs.TagNames.{tag_name}
 
--- a byte that stands for itself
+-- a byte that represents itself
 plain_byte : (b : ℕ) (l q s : Bool) → (l || q || s) ≡ false
     → (if q then 92 ∷ 34 ∷ [] else (if s then 92 ∷ 92 ∷ [] else (if l then control b else b ∷ []))) ≡ b ∷ []
 plain_byte b true q s h = cc

@@ -85,7 +85,7 @@ each_of : {X : Type 0} (P : X → Type 0) (xs : List X) → All P xs → Each P 
 each_of P [] all = tt
 each_of P (x ∷ xs) all = (all 0 x (omega arith), each_of P xs (λ k d fits. all (suc k) d (omega arith)))
 
--- items in front, each behind a comma
+-- items before the rest, each after a comma
 abbrev chained : {X : Type 0} → (X → Items → Items) → List X → Items → Items
 chained item [] end = end
 chained item (x ∷ xs) end = comma (item x (chained item xs end))

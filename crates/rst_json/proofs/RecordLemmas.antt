@@ -12,7 +12,7 @@ use Rattle.rst_tree.specs.Nodes.{forest_of}
 use Rattle.rst_tree.specs.PrintedAttributes.{all_with_printed_attrs, printed_attrs, with_printed_attrs}
 use Rattle.rst_tree.specs.TagNames.{tag_name}
 
--- bytes that were put behind eight others, which then tell how many they are
+-- bytes that were put after eight others, which then give how many they are
 pub sealed : (old body out new : List ℕ) (start : ℕ) → start ≡ length old → out ≡ (old ++ word 0) ++ body
     → new ≡ take start out ++ sized (drop (start + 8) out) → new ≡ old ++ sized body
 sealed old body out new start begins is tells =

@@ -1,4 +1,4 @@
--- Trees and messages as JSON (RFC 8259): docs/LIBRARY.md shows examples.
+-- Trees and messages as JSON (RFC 8259): docs/LIBRARY.md has examples.
 use Rattle.std.specs.Prelude.{◌≡◌, ℕ, ◌+◌, ◌/◌, ◌%◌, Bool, ◌||◌, ◌==◌, nat_lt, if◌then◌else◌, List, [], ◌∷◌, ◌++◌, map, Option, None, Some, Result, Ok, Err, codes}
 use Rattle.std.specs.Fmt.{decimal}
 use Rattle.std.specs.List.{flat_map}
@@ -15,7 +15,7 @@ use Rattle.rst_tree.specs.LevelNames.{level_name, level_number}
 use Rattle.rst_tree.specs.Print.{is_left_out}
 use Rattle.rst_tree.specs.TagNames.{tag_name}
 
--- a byte of a string that doesn't stand for itself: the quote, the backslash, a control character
+-- a byte of a string that doesn't represent itself: the quote, the backslash, a control character
 abbrev pub is_escaped : ℕ → Bool
 is_escaped b = nat_lt b 32 || b == 34 || b == 92
 
@@ -34,7 +34,7 @@ escaped_byte b = if b == 34 then 92 ∷ 34 ∷ [] else (if b == 92 then 92 ∷ 9
 abbrev pub json_string : List ℕ → List ℕ
 json_string text = 34 ∷ (flat_map escaped_byte text ++ 34 ∷ [])
 
--- an item behind a comma
+-- an item after a comma
 abbrev pub behind_comma : List ℕ → List ℕ
 behind_comma item = 44 ∷ item
 
@@ -52,22 +52,22 @@ json_object members = 123 ∷ (parted members ++ 125 ∷ [])
 abbrev pub json_member : List ℕ → List ℕ → List ℕ
 json_member name value = json_string name ++ 58 ∷ value
 
--- what an attribute says
+-- an attribute's value
 abbrev pub json_value : Value → List ℕ
 json_value (Text text) = json_string text
 json_value (Number number) = decimal number
 json_value (Listed texts) = json_array (map json_string texts)
 
--- an attribute, unless it isn't shown
+-- an attribute, unless it isn't printed
 abbrev pub json_attr : Attr → List (List ℕ)
 json_attr a = if is_left_out a then [] else json_member (key_name a.key) (json_value a.value) ∷ []
 
--- an element with the JSON of its nodes, each behind a comma
+-- an element with the JSON of its nodes, each after a comma
 abbrev pub json_element : Tag → List Attr → ℕ → List ℕ → List ℕ
 json_element tag attrs line nodes =
     codes "[" ++ json_string (tag_name tag) ++ codes "," ++ decimal line ++ codes "," ++ json_object (flat_map json_attr attrs) ++ nodes ++ codes "]"
 
--- nodes, each behind a comma
+-- nodes, each after a comma
 abbrev pub json_nodes : Forest → List ℕ
 json_nodes bare = []
 json_nodes (element tag attrs inside line rest) = behind_comma (json_element tag attrs line (json_nodes inside)) ++ json_nodes rest
@@ -78,7 +78,7 @@ abbrev pub json_node : Node → List ℕ
 json_node (Element tag attrs inside line) = json_element tag attrs line (json_nodes inside)
 json_node (Words text) = json_string text
 
--- the source text that a message shows, if it shows one
+-- the source text of a message, if it has one
 abbrev pub json_block : Option (List ℕ) → List (List ℕ)
 json_block None = []
 json_block (Some text) = json_member (codes "block") (json_string text) ∷ []
@@ -90,7 +90,7 @@ json_note note =
     json_member (codes "line") (decimal note.line) ∷ json_member (codes "level") (decimal (level_number note.level))
     ∷ json_member (codes "type") (json_string (level_name note.level)) ∷ json_member (codes "text") (json_string note.text) ∷ json_block note.block)
 
--- the text was put behind what there was, or memory ran out
+-- the text was put after what there was, or memory ran out
 abbrev pub Adds : {A E : Type 0} → List ℕ → List ℕ → List ℕ → Result A E → Type 0
 Adds old new text (Ok done) = new ≡ old ++ text
 Adds old new text (Err fault) = Unit {0}

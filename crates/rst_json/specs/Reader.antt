@@ -1,4 +1,4 @@
--- A reader of the JSON of a tree. It is no part of the program: a law says that it gives the tree back. It reads the text alone, as any JSON
+-- A reader of the JSON of a tree. It is no part of the program: by a law it gives the tree back. It reads the text alone, as any JSON
 -- (RFC 8259), but for what docs/LIBRARY.md doesn't have: signs, fractions and exponents of numbers, `true`, `false`, `null`, and `\u` of characters that aren't ASCII.
 use Rattle.std.specs.Prelude.{◌≡◌, ℕ, zero, suc, ◌+◌, ◌*◌, ◌^◌, ◌<◌, Bool, ◌||◌, ◌==◌, not, if◌then◌else◌, List, [], ◌∷◌, ◌++◌, filter, find, bytes_eq, All, Option, None, Some, option_map, codes}
 use Rattle.std.specs.Char.{digit_value, is_digit}
@@ -21,7 +21,7 @@ use Rattle.rst_tree.specs.TagNames.{tag_name}
 
 -- ---- from bytes to items
 
--- what stands in an array or an object, from a place on; it is broken where something else stands there, or no end
+-- the content of an array or an object, from a place on; it is broken where something else is there, or no end
 pub data Items : Type 0 where
   array_end : Items
   object_end : Items
@@ -33,20 +33,20 @@ pub data Items : Type 0 where
   array : Items → Items → Items
   object : Items → Items → Items
 
--- what stands in brackets, with a comma in front of the first item too
+-- what is in brackets, with a comma before the first item too
 abbrev pub led : Items → Items
 led array_end = array_end
 led object_end = object_end
 led items = comma items
 
--- Lists of items: what stands in the innermost brackets from a place on, in those around them from their ends on, and so forth.
+-- Lists of items: what is in the innermost brackets from a place on, in those around them from their ends on, and so forth.
 
--- an item in front
+-- an item before the rest
 abbrev pub in_front : (Items → Items) → List Items → List Items
 in_front item [] = item broken ∷ []
 in_front item (inner ∷ outer) = item inner ∷ outer
 
--- an opening bracket in front
+-- an opening bracket before the rest
 abbrev pub opened : (Items → Items → Items) → List Items → List Items
 opened item [] = broken ∷ []
 opened item (inner ∷ outer) = in_front (item (led inner)) outer
@@ -54,7 +54,7 @@ opened item (inner ∷ outer) = in_front (item (led inner)) outer
 abbrev pub is_space : ℕ → Bool
 is_space b = b == 32 || b == 9 || b == 10 || b == 13
 
--- a byte in front that is in no string and no number
+-- a byte before the rest that is in no string and no number
 abbrev pub marked : ℕ → List Items → List Items
 marked b items =
     if b == 44 then in_front comma items else (if b == 58 then in_front colon items else (
@@ -62,8 +62,8 @@ marked b items =
     if b == 123 then opened object items else (if b == 125 then object_end ∷ items else (
     if is_space b then items else broken ∷ []))))))
 
--- Where a place is: between strings and numbers; behind digits of a number; in a string, behind some bytes of it, or there behind a backslash;
--- or there behind `\u` and digits, with their number and how many follow the next digit.
+-- Where a place is: between strings and numbers; after digits of a number; in a string, after some bytes of it, or there after a backslash;
+-- or there after `\u` and digits, with their number and how many follow the next digit.
 pub data Place : Type 0 where
   between : Place
   digits : ℕ → Place
@@ -71,11 +71,11 @@ pub data Place : Type 0 where
   escape : List ℕ → Place
   code : List ℕ → ℕ → ℕ → Place
 
--- what a byte behind a backslash stands for: `b`, `f`, `n`, `r`, `t`, or else itself
+-- what a byte after a backslash represents: `b`, `f`, `n`, `r`, `t`, or else itself
 abbrev pub escaped : ℕ → ℕ
 escaped b = if b == 98 then 8 else (if b == 102 then 12 else (if b == 110 then 10 else (if b == 114 then 13 else (if b == 116 then 9 else b))))
 
--- what stands from a place of a text on
+-- the items from a place of a text on
 abbrev pub items_of : Place → List ℕ → List Items
 items_of between [] = []
 items_of place [] = broken ∷ []
@@ -154,11 +154,11 @@ abbrev pub node_read : List Items → Option Node
 node_read (items ∷ []) = lone (nodes_read (led items))
 node_read other = None
 
--- the tree that a text shows: it is read as the one item of an array
+-- the tree of a text: it is read as the one item of an array
 abbrev pub reads : List ℕ → Option Node
 reads text = node_read (items_of between (text ++ codes "]"))
 
--- ---- what the JSON shows of a tree: all but the attributes that are left out
+-- ---- what the JSON has of a tree: all but the attributes that are left out
 
 abbrev pub shown_attrs : List Attr → List Attr
 shown_attrs = filter (λ a. not (is_left_out a))
@@ -188,7 +188,7 @@ AreWithin (words text more) = AreWithin more
 abbrev pub ReadsBack : Type 0
 ReadsBack = (node : Node) → AreWithin (join_node node bare) → reads (json_node node) ≡ Some (shown node)
 
--- trees with the same JSON show the same
+-- trees with the same JSON differ only in attributes that aren't printed
 abbrev pub ShowsOneTree : Type 0
 ShowsOneTree =
     (node other : Node) → AreWithin (join_node node bare) → AreWithin (join_node other bare) → json_node node ≡ json_node other → shown node ≡ shown other

@@ -1,4 +1,4 @@
--- Trees as records in preorder: docs/LIBRARY.md shows them.
+-- Trees as records in preorder: docs/LIBRARY.md describes them.
 use Rattle.std.specs.Prelude.{ℕ, if◌then◌else◌, List, [], ◌∷◌, ◌++◌, length}
 use Rattle.std.specs.Int.{to_le_bytes}
 use Rattle.std.specs.List.{flat_map}
@@ -18,17 +18,17 @@ use Rattle.rst_tree.specs.TagNames.{tag_name}
 abbrev pub word : ℕ → List ℕ
 word = to_le_bytes w64
 
--- bytes behind their number
+-- bytes after their number
 abbrev pub sized : List ℕ → List ℕ
 sized bytes = word (length bytes) ++ bytes
 
--- what an attribute says, behind its kind
+-- an attribute's value, after its kind
 abbrev pub value_record : Value → List ℕ
 value_record (Text text) = 0 ∷ text
 value_record (Number n) = 1 ∷ word n
 value_record (Listed texts) = 2 ∷ flat_map sized texts
 
--- an attribute, unless it isn't shown
+-- an attribute, unless it isn't printed
 abbrev pub attr_record : Attr → List ℕ
 attr_record a = if is_left_out a then [] else sized (sized (key_name a.key) ++ value_record a.value)
 
@@ -39,7 +39,7 @@ text_record text = sized (0 ∷ text)
 abbrev pub element_record : Tag → List Attr → ℕ → List ℕ → List ℕ
 element_record tag attrs line nodes = sized (1 ∷ (word line ++ sized (tag_name tag) ++ sized (flat_map attr_record attrs) ++ nodes))
 
--- nodes, one behind another
+-- nodes, one after another
 abbrev pub node_records : Forest → List ℕ
 node_records bare = []
 node_records (element tag attrs inside line more) = element_record tag attrs line (node_records inside) ++ node_records more

@@ -70,7 +70,7 @@ pub fn message_attrs(alloc: Global, attrs: &Attrs, line: usize) -> Result<Attrs>
     Ok(printed)
 }
 
-/// Puts an object of the attributes, without those that aren't shown.
+/// Puts an object of the attributes, without those that aren't printed.
 fn put_attrs(attrs: &[Entry], out: &mut Vec<u8>) -> Result<()>
     ensures { Adds out.old.items out.new.items (json_object (flat_map json_attr attrs.now)) result }
 {
@@ -81,7 +81,7 @@ fn put_attrs(attrs: &[Entry], out: &mut Vec<u8>) -> Result<()>
     enclose(start, b'{', b'}', out)
 }
 
-/// Puts an attribute behind a comma, unless it isn't shown.
+/// Puts an attribute after a comma, unless it isn't printed.
 fn put_attr(attr: &Entry, out: &mut Vec<u8>) -> Result<()>
     ensures { Adds out.old.items out.new.items (flat_map behind_comma (json_attr attr.now)) result }
 {
@@ -98,7 +98,7 @@ fn put_attr(attr: &Entry, out: &mut Vec<u8>) -> Result<()>
     }
 }
 
-/// The name of an attribute, which stands between a space and two bytes more where it is printed.
+/// The name of an attribute, which is between a space and two bytes more where it is printed.
 pub fn name_of(key: Key) -> &'static [u8]
     ensures { result.now ≡ key_name key }
 {

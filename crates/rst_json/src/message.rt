@@ -5,8 +5,8 @@ ghost use Rattle.rst_json.specs.Json.{Adds, behind_comma, json_note};
 use crate::string::{put_number, put_string};
 use rst_tree::{Note, Result};
 
-/// Puts a message behind a comma: `{"line": 3, "level": 2, "type": "WARNING", "text": "..", "block": ".."}`, without the spaces, and without `block`
-/// where it shows no source text.
+/// Puts a message after a comma: `{"line": 3, "level": 2, "type": "WARNING", "text": "..", "block": ".."}`, without the spaces, and without `block`
+/// where it has no source text.
 pub fn put_note(note: &Note, out: &mut Vec<u8>) -> Result<()>
     ensures { Adds out.old.items out.new.items (behind_comma (json_note note.now)) result }
 {

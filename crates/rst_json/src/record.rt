@@ -10,7 +10,7 @@ use crate::element::{message_attrs, name_of};
 use rst_tree::{Attrs, Entry, Node, Result, Said, Tag};
 use std::alloc::Global;
 
-/// Puts a node behind its length: a text; or an element with its line, its tag, the attributes that it is printed with, and its nodes.
+/// Puts a node after its length: a text; or an element with its line, its tag, the attributes that it is printed with, and its nodes.
 pub fn put_record(alloc: Global, node: &Node, out: &mut Vec<u8>) -> Result<()>
     ensures { Adds out.old.items out.new.items (node_record (with_printed_attrs None node.now)) result }
 {
@@ -58,7 +58,7 @@ fn put_printed_attrs(
     }
 }
 
-/// Puts the attributes behind their length, without those that aren't shown.
+/// Puts the attributes after their length, without those that aren't printed.
 fn put_attrs(attrs: &[Entry], out: &mut Vec<u8>) -> Result<()>
     ensures { Adds out.old.items out.new.items (sized (flat_map attr_record attrs.now)) result }
 {
@@ -71,7 +71,7 @@ fn put_attrs(attrs: &[Entry], out: &mut Vec<u8>) -> Result<()>
     Ok(())
 }
 
-/// Puts an attribute behind its length, unless it isn't shown.
+/// Puts an attribute after its length, unless it isn't printed.
 fn put_attr(attr: &Entry, out: &mut Vec<u8>) -> Result<()>
     ensures { Adds out.old.items out.new.items (attr_record attr.now) result }
 {
@@ -86,7 +86,7 @@ fn put_attr(attr: &Entry, out: &mut Vec<u8>) -> Result<()>
     Ok(())
 }
 
-/// Puts what an attribute says behind its kind.
+/// Puts an attribute's value after its kind.
 fn put_said(meant: Said, out: &mut Vec<u8>) -> Result<()>
     ensures { Adds out.old.items out.new.items (value_record (said meant.entry)) result }
 {
@@ -110,7 +110,7 @@ fn put_said(meant: Said, out: &mut Vec<u8>) -> Result<()>
     }
 }
 
-/// Puts some bytes behind their number.
+/// Puts some bytes after their number.
 fn put_sized(bytes: &[u8], out: &mut Vec<u8>) -> Result<()>
     ensures { Adds out.old.items out.new.items (sized bytes.now) result }
 {
@@ -127,7 +127,7 @@ fn put_word(number: u64, out: &mut Vec<u8>) -> Result<()>
     Ok(())
 }
 
-/// Tells in the eight bytes at a place how many bytes are behind them.
+/// Writes into the eight bytes at a place how many bytes follow them.
 fn seal(start: usize, out: &mut Vec<u8>)
     requires { start + 8 ≤ length out.old.items }
     ensures { out.new.items ≡ take start out.old.items ++ sized (drop (start + 8) out.old.items) }

@@ -40,7 +40,7 @@ quoted_is b o Y e = rw e refl
 pub looked_indented : (Y : Block) → 0 < extent 1 Y → looked 1 Y ≡ reach (literal_size Y) Y
 looked_indented Y h = looked_is 1 Y ∙ ap (λ n. reach n Y) (sym (literal_indented Y h))
 
--- where there is none, for which blank lines and the line behind them were looked at
+-- where there is none, for which blank lines and the line after them were looked at
 pub looked_none : (Y : Block) → extent 1 Y ≡ 0 → looked 1 Y ≡ through_text Y
 looked_none Y h = looked_is 1 Y ∙ ap (λ n. reach n Y) h ∙ (let z : 0 + through_text Y ≡ through_text Y = omega arith in z)
 

@@ -1,4 +1,4 @@
--- Explicit markup: its parts stand in its block, and it ends where its size says.
+-- Explicit markup: its parts are in its block, and its size gives its end.
 use Rattle.std.proofs.Common.{[], ◌∷◌, ◌≡◌, ℕ, ◌+◌, ◌-◌, ◌^◌, ◌<◌, ◌≤◌, Bool, true, false, cond, List, min, length, take, drop, length-drop, Option, None, Some, arith, refl, ap, ◌∙◌}
 use Rattle.std.specs.Prelude.{if◌then◌else◌, option_map}
 use Rattle.std.specs.Option.{option_and_then}
@@ -39,7 +39,7 @@ use Rattle.rst_markup_blocks.proofs.PartLemmas.{hanging_is}
 use Rattle.rst_markup_lines.proofs.MarkBounds.{TargetWithin, dots_within, label_within, target_within, substitution_within, directive_within}
 use Rattle.std.proofs.lemmas.Bool.{cond_both}
 
--- ---- the marks of a form stand within the text
+-- ---- the marks of a form are within the text
 abbrev pub FormWithin : List ℕ → ExplicitForm → Type 0
 FormWithin t (Label l) = (1 + l.len ≤ length t) × (l.marker.cut ≤ length t)
 FormWithin t (TargetForm mark) = TargetWithin t mark
@@ -166,7 +166,7 @@ behind_in B i m h s =
     let t : List ℕ = drop m.cut (front_text (drop i B)) in
     cond_both m.bare _ _ (IsExplicitIn B i) (λ _. alone_in B i m h) (λ _. form_in B i m (explicit_form t) h s (form_within t))
 
--- the parts of explicit markup stand in its block
+-- the parts of explicit markup are in its block
 pub explicit_in : (B : Block) (i : ℕ) → i < length B → IsExplicitIn B i (explicit_of i (drop i B))
 unfolding explicit_of anonymous_of
 explicit_in B i h = by (dots (front_text (drop i B))) refl
@@ -219,7 +219,7 @@ behind_end i m X = by m.bare (is_blank (next_text X))
     by true false = hanging_to i m.cut true X
     by false b = form_end i m (explicit_form (drop m.cut (front_text X))) X
 
--- explicit markup ends where its size says
+-- the size of explicit markup gives its end
 pub explicit_ends : (i : ℕ) (X : Block) → explicit_end i (explicit_of i X) ≡ i + explicit_size X
 unfolding explicit_of explicit_size anonymous_of
 explicit_ends i X = by (dots (front_text X))
@@ -256,7 +256,7 @@ pub indented_some : (X : Block) → 1 ≤ indented_size X
 unfolding indented_size run_size
 indented_some X = omega arith
 
--- ---- what is read behind the dots
+-- ---- what is read after the dots
 pub substitution_some : (i n : ℕ) (name : Characters) (d : DirectiveMark) (call : Invocation) (X : Block) → directive_of false (drop n (front_text X)) ≡ Some d → call ≡ call_of i n d X
     → Substitution name (Some call) call.block.to ≡ substitution_with i name n X
 unfolding held_of

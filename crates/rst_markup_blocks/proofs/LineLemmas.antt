@@ -38,7 +38,7 @@ pub while_end : (i : ℕ) (test : LineTest) (B : Block) → length B ≤ i → l
 unfolding lines_while
 while_end i test B over = rw (drop_all i B over) refl
 
--- what is behind the lines up to i
+-- what is after the lines up to i
 pub behind_while : (from i : ℕ) (test : LineTest) (B : Block) → i ≡ from + lines_while test (drop from B)
     → through_text (drop (lines_while test (drop from B)) (drop from B)) ≡ through_text (drop i B)
 behind_while from i test B e = ap through_text (drop-drop (lines_while test (drop from B)) from B ∙ ap (λ k. drop k B) (sym e))
@@ -51,7 +51,7 @@ looked_below least (l ∷ ls) h = omega (arith, looked_is least ls)
 pub drop_far : (i n : ℕ) (B : Block) → drop (i + n) B ≡ drop n (drop i B)
 drop_far i n B = ap (λ k. drop k B) (let e : i + n ≡ i + n = refl in e) ∙ sym (drop-drop n i B)
 
--- blank lines and the line behind them
+-- blank lines and the line after them
 pub blanks_through : (Y : Block) → lines_while Blank Y + through_text (drop (lines_while Blank Y) Y) ≡ through_text Y
 unfolding lines_while through_text
 blanks_through [] = refl

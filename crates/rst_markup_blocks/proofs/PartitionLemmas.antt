@@ -15,7 +15,7 @@ size_within : (titles : Bool) (X : Block) → 1 ≤ length X → (1 ≤ construc
 unfolding construct_size
 size_within titles X some = row_within (kind_at X) titles X some (row_of_kind X)
 
--- what begins at a line that isn't blank ends behind it, within the block
+-- what begins at a line that isn't blank ends after it, within the block
 pub end_inside : (titles : Bool) (B : Block) (i : ℕ) → i < length B → (i < construct_end titles B i) × (construct_end titles B i ≤ length B)
 end_inside titles B i h =
     let e : length (drop i B) ≡ length B - i = length-drop i B in
@@ -43,7 +43,7 @@ blank_skipped titles i (l ∷ ls) h = rw h refl
 abbrev pub span_to : ℕ → ℕ → Span
 span_to i j = record { start = i; stop = j }
 
--- a construct, and the spans behind it
+-- a construct, and the spans after it
 begun : (titles : Bool) (i : ℕ) (X : Block) → is_blank (front_text X) ≡ false
     → spans_from titles i 0 X ≡ span_to i (i + construct_size titles X) ∷ spans_from titles (i + construct_size titles X) 0 (drop (construct_size titles X) X)
 unfolding spans_from

@@ -7,7 +7,7 @@ use Rattle.rst_text.specs.Reach.{reach, through_text}
 use Rattle.rst_markup_blocks.specs.TableRows.{grid_size, grid_scan, head_border, simple_size, simple_scan, is_grid_row, is_simple_row, grid_reach, simple_reach}
 use Rattle.rst_markup_blocks.proofs.TableLaws.{grid_within, border_below_within, simple_within}
 
--- the lines through the first that isn't blank stand within the block
+-- the lines through the first that isn't blank are within the block
 through_text_le : (Y : Block) → through_text Y ≤ length Y
 unfolding through_text
 through_text_le [] = omega arith

@@ -53,13 +53,13 @@ same_after X Y h = sym (after_taken X) ∙ ap (λ B. front_text (drop 2 B)) h �
 
 -- ---- the ends
 
--- the lines of an extent stand within the block
+-- the lines of an extent are within the block
 pub extent_le : (least : ℕ) (X : Block) → extent least X ≤ length X
 unfolding extent
 extent_le least [] = omega arith
 extent_le least (l ∷ ls) = grind (arith, extent_le least ls)
 
--- lines that pass a test stand within the block
+-- lines that pass a test are within the block
 pub while_le : (test : LineTest) (X : Block) → lines_while test X ≤ length X
 unfolding lines_while
 while_le test [] = omega arith

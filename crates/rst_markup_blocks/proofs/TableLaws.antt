@@ -27,7 +27,7 @@ unfolding lines_while
 while_some test [] some h = absurd (omega arith)
 while_some test (l ∷ ls) some h = rw h (omega arith)
 
--- the bottom border stands from the third line on, among the lines that may belong to the table
+-- the bottom border is at the third line or later, among the lines that may belong to the table
 pub grid_bottom_within : (X : Block) → IfSome (grid_bottom X) (λ k. (2 ≤ k) × (k < lines_while Drawn X))
 grid_bottom_within X = found (grid_bottom X) (last_from-IsLast (is_border_at X) 2 (lines_while Drawn X - 2))
   where
@@ -49,7 +49,7 @@ grid_within titles X some h =
 
 -- ---- simple tables
 
--- a border below a line stands below it, within the block
+-- a border below a line is below it, within the block
 pub border_below_within : (X : Block) (k : ℕ) → IfSome (border_below X k) (λ j. (k < j) × (j < length X))
 border_below_within X k = found (border_below X k) (first_from-IsFirst (is_lower_border_at X) (k + 1) (length X - (k + 1)))
   where

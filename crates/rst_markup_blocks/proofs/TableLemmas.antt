@@ -40,7 +40,7 @@ drawn_reach X =
 
 -- ---- simple tables
 
--- the first border below line k, where none stands before line j
+-- the first border below line k, where there is none before line j
 pub border_below-there : (X : Block) (k j : ℕ) → k < j → j < length X → NoneFrom (is_lower_border_at X) (k + 1) j → is_lower_border_at X j ≡ true → Some j ≡ border_below X k
 border_below-there X k j above inside none here = first_from-is (is_lower_border_at X) (k + 1) (length X) (Some j) (omega arith, inside, here, none)
 

@@ -1,5 +1,5 @@
 -- Attributions of block quotes (Markup Specification, 'Block Quotes'), on a block whose first line an attribution begins
--- in; that line stands at place k.
+-- in; that line is at place k.
 use Rattle.std.specs.Prelude.{ℕ, ◌+◌, ◌==◌, drop, take, if◌then◌else◌, Option, None, Some}
 use Rattle.std.specs.List.{list_all}
 use Rattle.rst_text.specs.Block.{Block, front_text, indentation}

@@ -29,11 +29,11 @@ if_listed (Some e) next = if is_loose next || begins_next e next then Some e els
 unfoldable pub item_enumerator : List ℕ → List ℕ → Option Enumerator
 item_enumerator t next = if_listed (enumerator_of t) next
 
--- an option marker, if its description stands behind it or, indented, in the next line or in the one after a blank one
+-- an option marker, if its description follows it or, indented, in the next line or in the one after a blank one
 abbrev pub if_described : Option Marker → List ℕ → List ℕ → Option Marker
 if_described None next after = None
 if_described (Some m) next after = if not m.bare || (begins_with 32 next || (is_blank next && begins_with 32 after)) then Some m else None
 
--- an option marker with text behind it, or an indented line next, or next but a blank one
+-- an option marker with text after it, or an indented line next, or next but a blank one
 unfoldable pub item_option : List ℕ → List ℕ → List ℕ → Option Marker
 item_option t next after = if_described (option_marker t) next after

@@ -8,7 +8,7 @@ use Rattle.rst_markup_blocks.specs.TableRows.{grid_reach, grid_size, simple_reac
 use Rattle.rst_markup_blocks.specs.declared.kind.Kind.{Kind}
 use Rattle.rst_markup_blocks.specs.declared.kind.Kind.TheVariants.{Blank, Quote, Bullet, Enumerator, Field, OptionItem, Doctest, Line, Grid, Simple, Explicit, Anonymous, Adornment, Text}
 
--- how many lines the construct of a kind's row has; of a line of one punctuation character that depends on whether titles may stand
+-- how many lines the construct of a kind's row has; of a line of one punctuation character that depends on whether titles are allowed
 -- in the block
 abbrev pub row_size : Kind → Bool → Block → ℕ
 row_size Blank titles X = blank_size X

@@ -1,4 +1,4 @@
--- Explicit markup with its extents, on a block whose first line it begins in; that line stands at place i (Markup
+-- Explicit markup with its extents, on a block whose first line it begins in; that line is at place i (Markup
 -- Specification, 'Explicit Markup Blocks').
 use Rattle.std.specs.Prelude.{ℕ, ◌+◌, ◌<◌, ◌^◌, Bool, true, false, drop, if◌then◌else◌, Option, None, Some}
 use Rattle.rst_text.specs.Block.{Block, front_text, is_blank}
@@ -33,16 +33,16 @@ is_explicit_kind _ = false
 
 -- ---- what it is
 
--- the text of a target behind n characters: the line and the indented lines below it, with their indentation
+-- the text of a target after n characters: the line and the indented lines below it, with their indentation
 abbrev pub target_part : ℕ → ℕ → Block → Part
 target_part i n X = record { from = i; to = i + indented_size X; first_cut = n; rest_cut = 0 }
 
--- behind n characters, the ends of the mark's name and of the mark are below 2 ^ 64. No rule of markup: places are machine words
+-- after n characters, the ends of the mark's name and of the mark are below 2 ^ 64. No rule of markup: places are machine words
 abbrev pub IsTargetShort : ℕ → TargetMark → Type 0
 IsTargetShort n (Named from len marker) = (n + from + len < 2 ^ 64) × (n + marker.cut < 2 ^ 64)
 IsTargetShort n (AnonymousMark marker) = n + marker.cut < 2 ^ 64
 
--- a directive with this mark behind n characters
+-- a directive with this mark after n characters
 abbrev pub call_of : ℕ → ℕ → DirectiveMark → Block → Invocation
 call_of i n d X = record { name = place_of n d.len; block = hanging_part i (n + d.marker.cut) d.marker.bare X }
 
@@ -51,7 +51,7 @@ abbrev pub call_by : Option DirectiveMark → ℕ → ℕ → Block → Option I
 call_by None i n X = None
 call_by (Some d) i n X = Some (call_of i n d X)
 
--- the directive behind n characters, if there is one, with no space before its colons
+-- the directive after n characters, if there is one, with no space before its colons
 unfoldable pub held_of : ℕ → ℕ → Block → Option Invocation
 held_of i n X = call_by (directive_of false (drop n (front_text X))) i n X
 
@@ -60,16 +60,16 @@ abbrev pub label_with : LabelKind → Characters → Part → Explicit
 label_with FootnoteLabel label body = Footnote label body
 label_with CitationLabel label body = Citation label body
 
--- a target with this mark behind n characters, by its name or anonymous
+-- a target with this mark after n characters, by its name or anonymous
 abbrev pub target_with : ℕ → ℕ → TargetMark → Block → Explicit
 target_with i n (Named from len marker) X = Target (place_of (n + from) len) (target_part i (n + marker.cut) X)
 target_with i n (AnonymousMark marker) X = Anonymous (target_part i (n + marker.cut) X)
 
--- n characters stand before what the definition holds
+-- n characters come before what the definition holds
 abbrev pub substitution_with : ℕ → Characters → ℕ → Block → Explicit
 substitution_with i name n X = Substitution name (held_of i n X) (i + hanging_size X)
 
--- markup of a form, behind its dots
+-- markup of a form, after its dots
 abbrev pub explicit_by : ExplicitForm → ℕ → Marker → Block → Explicit
 explicit_by (Label l) i m X = label_with l.kind (place_of (m.cut + 1) l.len) (hanging_part i (m.cut + l.marker.cut) l.marker.bare X)
 explicit_by (TargetForm mark) i m X = target_with i m.cut mark X
@@ -81,11 +81,11 @@ explicit_by (CommentForm cause) i m X = Comment (hanging_part i m.cut false X) c
 abbrev pub dots_alone : ℕ → Marker → Block → Explicit
 dots_alone i m X = if is_blank (next_text X) then EmptyComment else Comment (hanging_part i m.cut true X) Plain
 
--- what dots begin: a comment where nothing is behind them, else what the text behind them is
+-- what dots begin: a comment where nothing is after them, else what the text after them is
 unfoldable pub behind_dots : ℕ → Marker → Block → Explicit
 behind_dots i m X = if m.bare then dots_alone i m X else explicit_by (explicit_form (drop m.cut (front_text X))) i m X
 
--- how many characters a mark has with the spaces behind it, 0 where there is none
+-- how many characters a mark has with the spaces after it, 0 where there is none
 abbrev pub cut_of : Option Marker → ℕ
 cut_of None = 0
 cut_of (Some m) = m.cut
@@ -94,7 +94,7 @@ cut_of (Some m) = m.cut
 unfoldable pub anonymous_of : ℕ → Block → Explicit
 anonymous_of i X = Anonymous (target_part i (cut_of (underscores (front_text X))) X)
 
--- explicit markup behind dots, or an anonymous target where there are no dots, one of which begins the line
+-- explicit markup after dots, or an anonymous target where there are no dots, one of which begins the line
 abbrev pub explicit_with : Option Marker → ℕ → Block → Explicit
 explicit_with None i X = anonymous_of i X
 explicit_with (Some m) i X = behind_dots i m X
@@ -120,14 +120,14 @@ explicit_end i EmptyComment = i + 1
 unfoldable pub explicit_size : Block → ℕ
 explicit_size X = explicit_end 0 (explicit_of 0 X)
 
--- ---- where its parts stand
+-- ---- where its parts are
 
 -- the directive that a substitution definition holds, if there is one, is called in line i
 abbrev pub IsHeld : Block → ℕ → Option Invocation → Type 0
 IsHeld B i None = Unit {0}
 IsHeld B i (Some call) = IsCall B i call
 
--- the extents of explicit markup that begins in line i are parts of the block, and its labels and names stand in the line
+-- the extents of explicit markup that begins in line i are parts of the block, and its labels and names are in the line
 abbrev pub IsExplicitIn : Block → ℕ → Explicit → Type 0
 IsExplicitIn B i (Footnote label body) = IsPlace (front_text (drop i B)) label × IsBlock B body
 IsExplicitIn B i (Citation label body) = IsPlace (front_text (drop i B)) label × IsBlock B body

@@ -25,12 +25,12 @@ cause_by _ = Plain
 unfoldable pub comment_cause : List ℕ → CommentCause
 comment_cause t = if begins_with 95 t then MalformedTarget else cause_by (substitution_of t)
 
--- a substitution definition has a name, and a mark behind it
+-- a substitution definition has a name, and a mark after it
 abbrev pub substitution_form : SubstitutionMark → Option ExplicitForm
 substitution_form (Named len marker) = Some (Substitution len marker)
 substitution_form _ = None
 
--- the rows of explicit markup in order, each with the form of the text behind the marker, if that fits: a footnote or a citation, a
+-- the rows of explicit markup in order, each with the form of the text after the marker, if that fits: a footnote or a citation, a
 -- target, a substitution definition, a directive
 abbrev pub explicit_rows : List ℕ → List (Option ExplicitForm)
 explicit_rows t =
@@ -45,7 +45,7 @@ abbrev pub first_form : List (Option ExplicitForm) → ExplicitForm → Explicit
 first_form [] other = other
 first_form (row ∷ rows) other = unwrap_or row (first_form rows other)
 
--- the first form that fits the text behind the marker, or else a comment
+-- the first form that fits the text after the marker, or else a comment
 unfoldable pub explicit_form : List ℕ → ExplicitForm
 explicit_form t = first_form (explicit_rows t) (Comment (comment_cause t))
 
@@ -53,8 +53,8 @@ explicit_form t = first_form (explicit_rows t) (Comment (comment_cause t))
 abbrev pub least_of : Block → ℕ
 least_of ls = least_indent (take (extent 1 ls) ls)
 
--- The block of markup whose first line, at place i, X begins with: what stands behind its mark, and the indented block
--- below. Where nothing stands behind the mark, it is that block alone, from its first line that isn't blank on.
+-- The block of markup whose first line, at place i, X begins with: what follows its mark, and the indented block
+-- below. Where nothing follows the mark, it is that block alone, from its first line that isn't blank on.
 unfoldable pub hanging_part : ℕ → ℕ → Bool → Block → Part
 hanging_part i cut bare X =
     if bare then record { from = i + 1 + min (lines_while Blank (drop 1 X)) (extent 1 (drop 1 X)); to = i + hanging_size X; first_cut = least_of (drop 1 X); rest_cut = least_of (drop 1 X) }

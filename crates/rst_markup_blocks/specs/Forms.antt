@@ -37,12 +37,12 @@ is_same_adornment a b = a.character == b.character && a.len == b.len
 abbrev pub chars_if_any : Option (Bor (List ℕ)) → Option (List ℕ)
 chars_if_any line = option_map (λ t. chars t.now) line
 
--- an overline over a title, with this line behind the title
+-- an overline over a title, with this line after the title
 abbrev pub over_title : Adornment → List ℕ → List ℕ → Option Adornment → Adorned
 over_title mark next after None = MissingUnderline (is_blank after)
 over_title mark next after (Some under) = if is_same_adornment mark under then AdornedTitle (nat_lt mark.len (columns next)) else Mismatch
 
--- an overline over a title, which is incomplete where no line is behind the title
+-- an overline over a title, which is incomplete where no line is after the title
 abbrev pub overlined_by : Adornment → List ℕ → Option (List ℕ) → Adorned
 overlined_by mark next None = Incomplete
 overlined_by mark next (Some after) = over_title mark next after (adornment_of after)

@@ -1,4 +1,4 @@
--- The constructs of a block, one behind another (Markup Specification, 'Body Elements'): each line that isn't blank stands in just one.
+-- The constructs of a block, one after another (Markup Specification, 'Body Elements'): each line that isn't blank is in just one.
 use Rattle.std.specs.Prelude.{◌≡◌, ℕ, zero, suc, ◌+◌, ◌-◌, ◌<◌, ◌≤◌, Bool, true, false, List, [], ◌∷◌, length, drop, if◌then◌else◌}
 use Rattle.rst_text.specs.Block.{Block, front_text, is_blank}
 use Rattle.rst_markup_blocks.specs.Ends.{row_size}
@@ -30,7 +30,7 @@ abbrev pub AreBlank : Block → ℕ → ℕ → Type 0
 AreBlank B i j = (k : ℕ) → i ≤ k → k < j → IsBlankAt B k
 
 -- the constructs of a block from line i on: each begins at a line that isn't blank, with blank lines alone before it, and ends where
--- its construct does; behind the last all lines are blank
+-- its construct does; after the last all lines are blank
 abbrev pub PartitionFrom : Bool → Block → ℕ → List Span → Type 0
 PartitionFrom titles B i [] = AreBlank B i (length B)
 PartitionFrom titles B i (s ∷ ss) =

@@ -23,7 +23,7 @@ is_quote_row X = begins_with 32 (front_text X)
 abbrev pub is_bullet_row : Block → Bool
 is_bullet_row X = is_some (bullet (front_text X))
 
--- an enumerator begins an item of an enumerated list, if the next line may stand below one
+-- an enumerator begins an item of an enumerated list, if the next line may come below one
 abbrev pub is_enumerator_row : Block → Bool
 is_enumerator_row X = is_some (item_enumerator (front_text X) (next_text X))
 
@@ -43,7 +43,7 @@ is_doctest_row X = is_some (doctest (front_text X))
 abbrev pub is_bar_row : Block → Bool
 is_bar_row X = is_some (line_bar (front_text X))
 
--- dots, with spaces or the end behind them, begin explicit markup
+-- dots, with spaces or the end after them, begin explicit markup
 abbrev pub is_explicit_row : Block → Bool
 is_explicit_row X = is_some (dots (front_text X))
 

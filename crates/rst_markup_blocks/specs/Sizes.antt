@@ -24,7 +24,7 @@ use Rattle.rst_markup_blocks.specs.Forms.{text_form, adorned_form}
 unfoldable pub hanging_size : Block → ℕ
 hanging_size X = suc (extent 1 (drop 1 X))
 
--- how far an item's further lines are indented at least: by as much as its text, or at all where nothing stands behind
+-- how far an item's further lines are indented at least: by as much as its text, or at all where nothing follows
 -- the marker
 unfoldable pub least_below : Marker → ℕ
 least_below m = if m.bare then 1 else m.cut
@@ -57,7 +57,7 @@ doctest_size X = lines_while Filled X
 unfoldable pub paragraph_len : Block → ℕ
 paragraph_len X = run_size Plain X
 
--- blank lines and, behind them, the lines that begin with this character, if it is punctuation
+-- blank lines and, after them, the lines that begin with this character, if it is punctuation
 abbrev pub quoted_by : Option ℕ → ℕ → Block → ℕ
 quoted_by None blanks Y = 0
 quoted_by (Some c) blanks Y = if is_punctuation c then blanks + lines_while (Begins c) (drop blanks Y) else 0

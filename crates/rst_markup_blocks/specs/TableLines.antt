@@ -1,4 +1,4 @@
--- The lines that tables are told by (Markup Specification, 'Grid Tables', 'Simple Tables').
+-- The lines that tables are recognized by (Markup Specification, 'Grid Tables', 'Simple Tables').
 use Rattle.std.specs.Prelude.{ℕ, Bool, ◌&&◌, ◌||◌, List, drop}
 use Rattle.rst_text.specs.Block.{is_blank}
 use Rattle.rst_markup_lines.specs.Front.{begins_with}
@@ -9,7 +9,7 @@ use Rattle.rst_markup_lines.specs.declared.class.Class.TheVariants.{Either}
 unfoldable pub is_drawn : List ℕ → Bool
 is_drawn t = begins_with 43 t || begins_with 124 t
 
--- how many `=` and spaces stand at the front; for a border of a simple table these are all its characters
+-- how many `=` and spaces are at the front; for a border of a simple table these are all its characters
 unfoldable pub border_len : List ℕ → ℕ
 border_len t = run (Either 61 32) t
 

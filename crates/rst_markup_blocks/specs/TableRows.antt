@@ -1,4 +1,4 @@
--- The rows of tables, of which the characters of their lines alone tell the end (Markup Specification, 'Grid Tables',
+-- The rows of tables, of which the characters of their lines alone determine the end (Markup Specification, 'Grid Tables',
 -- 'Simple Tables'). The lines of a block count from 0, so that the top border is line 0.
 use Rattle.std.specs.Prelude.{ℕ, suc, ◌+◌, ◌-◌, min, max, Bool, not, ◌&&◌, ◌==◌, length, if◌then◌else◌, Option, Some, None, unwrap_or}
 use Rattle.std.specs.Option.{option_or, option_and_then}

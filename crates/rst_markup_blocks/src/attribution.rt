@@ -10,10 +10,10 @@ use super::lines::below_text;
 use rst_markup_lines::{attribution_of, is_blank};
 use rst_text::{Looks, View, indentation};
 
-/// An attribution: where its text stands, in a block quote's block.
+/// An attribution: where its text is, in a block quote's block.
 #[derive(Clone, Copy, Debug, PartialEq, Eq)]
 pub struct Attribution {
-    /// How many characters stand before the text in the first line.
+    /// How many characters come before the text in the first line.
     pub marker: usize,
     /// The place after the last line.
     pub end: usize,
@@ -41,9 +41,9 @@ fn level_end(view: &View<'_>, from: usize, indent: usize, looks: &mut Looks) -> 
     Some(len)
 }
 
-/// The attribution that begins in the line at place `k` of a block quote's block, if one does: a dash with text behind
+/// The attribution that begins in the line at place `k` of a block quote's block, if one does: a dash with text after
 /// it, and all lines below it up to a blank one, which share one indentation (Markup Specification, 'Block Quotes').
-/// Whether text and a blank line stand before it isn't looked at. It makes at most three looks more than there are lines
+/// Whether text and a blank line come before it isn't looked at. It makes at most three looks more than there are lines
 /// below it up to a blank one.
 #[tactic(auto, unfolding(crate::specs::Attributions::attribution_at))]
 pub fn attribution_at(view: &View<'_>, k: usize, looks: &mut Looks) -> Option<Attribution>

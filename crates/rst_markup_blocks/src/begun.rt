@@ -1,4 +1,4 @@
-//! What begins at a line, with what its mark says.
+//! What begins at a line, with the data of its mark.
 ghost use Rattle.std.specs.Prelude.{◌≡◌, ℕ, List, ◌<◌, false, length, drop, chars};
 ghost use Rattle.rst_markup_blocks.specs.Prelude.{Block, front_text, is_blank, Looked, block_of};
 ghost use Rattle.rst_markup_blocks.specs.Conditions.{next_text, after_text};

@@ -4,7 +4,7 @@ ghost use Rattle.rst_markup_blocks.specs.Prelude.{Block, Looked, block_of};
 
 use rst_text::{Looks, View};
 
-/// A row of the table of constructs. `titles` says whether titles may stand in the block.
+/// A row of the table of constructs. `titles` is true if titles are allowed in the block.
 pub trait Construct {
     /// Whether the row's condition holds on the first lines of a block.
     ghost holds: { Self → Block → Bool };

@@ -53,7 +53,7 @@ pub fn indented_end(view: &View<'_>, i: usize, looks: &mut Looks) -> usize
     run_below_end(view, i, LineTest::Indented, looks)
 }
 
-/// The place after the literal block that begins at place `from` or behind blank lines there: an indented block, or
+/// The place after the literal block that begins at place `from` or after blank lines there: an indented block, or
 /// lines that begin with the punctuation character that the first of them begins with. It is `from` where there is none.
 fn literal_end(view: &View<'_>, from: usize, looks: &mut Looks) -> usize
     requires inside { from ≤ length (block_of view.now) }

@@ -13,7 +13,7 @@ use rst_markup_lines::{
 };
 use rst_text::{Looks, View};
 
-/// What explicit markup is by the text behind its marker.
+/// What explicit markup is by the text after its marker.
 #[derive(Clone, Copy, Debug, PartialEq, Eq)]
 pub enum ExplicitForm {
     Label(LabelMark),
@@ -23,7 +23,7 @@ pub enum ExplicitForm {
     Comment(CommentCause),
 }
 
-/// The form of explicit markup with this text behind its marker.
+/// The form of explicit markup with this text after its marker.
 #[tactic(auto, unfolding(crate::specs::ExplicitMarkup::explicit_form, crate::specs::ExplicitMarkup::comment_cause))]
 pub fn explicit_form(text: &str) -> ExplicitForm
     ensures { result ≡ spec.explicit_form (chars text.now) }
@@ -52,7 +52,7 @@ pub fn explicit_form(text: &str) -> ExplicitForm
 }
 
 /// The hanging block of the line at place `i`: the line without `cut` characters, and the indented block below it.
-/// Where `bare` says that nothing is left of the line, the block begins below it, at the first line that isn't blank.
+/// Where `bare` is true, as nothing is left of the line, the block begins below it, at the first line that isn't blank.
 pub fn hanging_part(view: &View<'_>, i: usize, cut: usize, bare: bool, looks: &mut Looks) -> Part
     requires inside { i < length (block_of view.now) }
     ensures part { result ≡ spec.hanging_part i cut bare (drop i (block_of view.now)) }

@@ -19,7 +19,7 @@ use rst_markup_lines::{
 };
 use rst_text::{Looks, View, skip};
 
-/// The `len` characters behind `from` others.
+/// The `len` characters after `from` others.
 fn place_of(from: usize, len: usize) -> Characters
     requires { from + len < 2 ^ 64 }
     ensures { result ≡ places.place_of from len }
@@ -30,7 +30,7 @@ fn place_of(from: usize, len: usize) -> Characters
     }
 }
 
-/// The text of a target, behind `n` characters of the line at place `i`.
+/// The text of a target, after `n` characters of the line at place `i`.
 fn target_part(view: &View<'_>, i: usize, n: usize, looks: &mut Looks) -> Part
     requires inside { i < length (block_of view.now) }
     ensures part { result ≡ spec.target_part i n (drop i (block_of view.now)) }
@@ -44,7 +44,7 @@ fn target_part(view: &View<'_>, i: usize, n: usize, looks: &mut Looks) -> Part
     }
 }
 
-/// The directive with this mark, behind `n` characters of the line at place `i`.
+/// The directive with this mark, after `n` characters of the line at place `i`.
 fn call_of(
     view: &View<'_>,
     i: usize,
@@ -65,7 +65,7 @@ fn call_of(
     }
 }
 
-/// The footnote or citation with this label, behind `n` characters of the line at place `i`.
+/// The footnote or citation with this label, after `n` characters of the line at place `i`.
 fn label_with(view: &View<'_>, i: usize, n: usize, mark: LabelMark, looks: &mut Looks) -> Explicit
     requires inside { i < length (block_of view.now) }
     requires label { n + 1 + mark.len < 2 ^ 64 }
@@ -82,7 +82,7 @@ fn label_with(view: &View<'_>, i: usize, n: usize, mark: LabelMark, looks: &mut 
     }
 }
 
-/// The target with this mark, behind `n` characters of the line at place `i`.
+/// The target with this mark, after `n` characters of the line at place `i`.
 fn target_with(view: &View<'_>, i: usize, n: usize, mark: TargetMark, looks: &mut Looks) -> Explicit
     requires inside { i < length (block_of view.now) }
     requires mark { spec.IsTargetShort n mark }
@@ -100,7 +100,7 @@ fn target_with(view: &View<'_>, i: usize, n: usize, mark: TargetMark, looks: &mu
     }
 }
 
-/// The substitution definition with this name; `n` characters of the line at place `i` stand before what it holds.
+/// The substitution definition with this name; `n` characters of the line at place `i` are before what it holds.
 #[tactic(auto, unfolding(crate::specs::Explicit::held_of))]
 fn substitution_with(
     view: &View<'_>,
@@ -133,7 +133,7 @@ fn substitution_with(
     }
 }
 
-/// The explicit markup of a form in the line at place `i`, behind dots that make this marker.
+/// The explicit markup of a form in the line at place `i`, after dots that make this marker.
 fn explicit_by(
     view: &View<'_>,
     i: usize,
@@ -164,7 +164,7 @@ fn explicit_by(
     }
 }
 
-/// The explicit markup in the line at place `i`, behind dots that make this marker.
+/// The explicit markup in the line at place `i`, after dots that make this marker.
 #[tactic(auto, unfolding(crate::specs::Explicit::behind_dots))]
 pub(crate) fn behind_dots(
     view: &View<'_>,
@@ -193,7 +193,7 @@ pub(crate) fn behind_dots(
 }
 
 /// The explicit markup that begins in the line at place `i`: what it is, with its extents (Markup Specification,
-/// 'Explicit Markup Blocks'). Each extent is a part of the view, and each label or name stands in the line. It makes at
+/// 'Explicit Markup Blocks'). Each extent is a part of the view, and each label or name is in the line. It makes at
 /// most two looks for each line of the markup's reach.
 pub fn explicit(view: &View<'_>, i: usize, looks: &mut Looks) -> Explicit
     requires inside { i < length (block_of view.now) }

@@ -23,9 +23,9 @@ pub enum TextForm {
 pub enum Adorned {
     /// A text.
     Text,
-    /// A text, since the line is too short for an overline, where titles may stand.
+    /// A text, since the line is too short for an overline, where titles are allowed.
     ShortOverline,
-    /// A text, since the line is too short for an overline or a transition, where none may stand.
+    /// A text, since the line is too short for an overline or a transition, where no title is allowed.
     ShortAdornment,
     /// A transition.
     Transition,
@@ -39,7 +39,7 @@ pub enum Adorned {
     MissingUnderline { blank: bool },
     /// An overline and a title with another underline.
     Mismatch,
-    /// A title or transition where none may stand.
+    /// A title or transition where neither is allowed.
     Unexpected,
 }
 
@@ -90,7 +90,7 @@ fn overlined(mark: Adornment, next: &str, after: Option<&str>) -> Adorned
     }
 }
 
-/// The form of a line of one punctuation character over a line that isn't blank, where titles may stand.
+/// The form of a line of one punctuation character over a line that isn't blank, where titles are allowed.
 #[tactic(auto, unfolding(crate::specs::Forms::adorned_over))]
 pub(crate) fn adorned_over(mark: Adornment, next: &str, after: Option<&str>) -> Adorned
     ensures { result ≡ spec.adorned_over mark (chars next.now) (spec.chars_if_any after.entry) }

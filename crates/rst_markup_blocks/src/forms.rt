@@ -5,7 +5,7 @@ ghost use Rattle.rst_markup_blocks.specs.Explicit as spec;
 use super::part::Part;
 use rst_markup_lines::Characters;
 
-/// A directive as it is called: its name, which stands in the first line of the markup, and the lines of its block,
+/// A directive as it is called: its name, which is in the first line of the markup, and the lines of its block,
 /// of which the first may be the rest of that line.
 #[derive(Clone, Copy, Debug, PartialEq, Eq)]
 pub struct Invocation {
@@ -28,17 +28,17 @@ pub enum CommentCause {
 /// the extents end where the markup ends.
 #[derive(Clone, Copy, Debug, PartialEq, Eq)]
 pub enum Explicit {
-    /// The label stands between the brackets: digits, `#`, `#name` or `*`.
+    /// The label is between the brackets: digits, `#`, `#name` or `*`.
     Footnote {
         label: Characters,
         body: Part,
     },
-    /// The label stands between the brackets.
+    /// The label is between the brackets.
     Citation {
         label: Characters,
         body: Part,
     },
-    /// The name stands without backquotes. The lines of the text still have their indentation.
+    /// The name is given without backquotes. The lines of the text still have their indentation.
     Target {
         name: Characters,
         text: Part,
@@ -47,7 +47,7 @@ pub enum Explicit {
     Anonymous {
         text: Part,
     },
-    /// The name stands between the bars. What the definition holds is a directive, if it is right; `end_` is the
+    /// The name is between the bars. What the definition holds is a directive, if it is right; `end_` is the
     /// place after the markup.
     Substitution {
         name: Characters,

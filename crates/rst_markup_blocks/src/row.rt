@@ -20,7 +20,7 @@ pub(crate) fn item_enumerator(text: &str, next: &str) -> Option<Enumerator>
     }
 }
 
-/// The marker that begins an option list's item: a description stands behind it or is indented in the next line, which
+/// The marker that begins an option list's item: a description follows it or is indented in the next line, which
 /// may follow a blank one.
 #[tactic(auto, unfolding(crate::specs::Conditions::item_option))]
 pub(crate) fn item_option(text: &str, next: &str, after: &str) -> Option<Marker>

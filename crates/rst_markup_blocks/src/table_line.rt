@@ -1,4 +1,4 @@
-//! Lines that tables are told by.
+//! Lines that tables are recognized by.
 ghost use Rattle.std.specs.Prelude.{◌≡◌, chars};
 ghost use Rattle.rst_markup_blocks.specs.TableLines as spec;
 
@@ -13,7 +13,7 @@ pub fn is_drawn(text: &str) -> bool
     begins_with('+', text) || begins_with('|', text)
 }
 
-/// How long a border of a simple table is: how many `=` and spaces stand at its front.
+/// How long a border of a simple table is: how many `=` and spaces are at its front.
 #[tactic(auto, unfolding(crate::specs::TableLines::border_len))]
 pub(crate) fn border_len(text: &str) -> usize
     ensures { result ≡ spec.border_len (chars text.now) }

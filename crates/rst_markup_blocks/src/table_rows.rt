@@ -58,7 +58,7 @@ pub fn is_as_long(view: &View<'_>, i: usize, k: usize, looks: &mut Looks) -> boo
     border_len(border) == border_len(top)
 }
 
-/// Where the borders of a simple table stand that tell its end, counted from its top border.
+/// Where the borders of a simple table are that determine its end, counted from its top border.
 #[derive(Clone, Copy, Debug, PartialEq, Eq)]
 pub struct SimpleBorders {
     /// The border that closes the head, if one does.

@@ -14,12 +14,12 @@ use Rattle.rst_markup_directives.specs.Options.{FieldText, field_in, onto_groups
 abbrev pub deep_len : List Text → ℕ
 deep_len ts = prefix_len (begins_with 32) ts
 
--- fields, and those that come behind them if these are right
+-- fields, and those that come after them if these are right
 abbrev pub behind_fields : List FieldText → Option (List FieldText) → Option (List FieldText)
 behind_fields done (Some more) = Some (done ++ more)
 behind_fields done None = None
 
--- the first group of lines: the indented lines behind the first belong to it
+-- the first group of lines: the indented lines after the first belong to it
 first_group : (t : Text) (ts : List Text) → groups (t ∷ ts) ≡ (t, take (deep_len ts) ts) ∷ groups (drop (deep_len ts) ts)
 first_group t [] = refl
 first_group t (u ∷ us) = ap (onto_groups t) (first_group u us) ∙ by (deep_len us) (begins_with 32 u) (first_group u us)
@@ -63,7 +63,7 @@ length_texts run = length-map run (λ line. chars line.now)
 abbrev pub line_at : List (Bor (List ℕ)) → ℕ → Text
 line_at run i = chars (slice_index_or run i (record { ref_ptr = (0, 0); now = [] })).now
 
--- the line at a place, and those behind it
+-- the line at a place, and those after it
 pub texts-at : (run : List (Bor (List ℕ))) (i : ℕ) → i < length run → drop i (texts_of run) ≡ line_at run i ∷ drop (i + 1) (texts_of run)
 texts-at [] i h = absurd (omega arith)
 texts-at (x ∷ xs) zero h = refl
@@ -81,7 +81,7 @@ texts_front run n = sym (take-map (λ line. chars line.now) n run)
 pub texts_behind : (run : List (Bor (List ℕ))) (n : ℕ) → texts_of (take (length run - n) (drop n run)) ≡ drop n (texts_of run)
 texts_behind run n = ap texts_of (take_rest run n) ∙ texts-drop run n
 
--- the indented lines behind a place
+-- the indented lines after a place
 pub below-texts : (run : List (Bor (List ℕ))) (a n : ℕ) → n ≡ deep_len (texts_of (take (length run - a) (drop a run)))
     → texts_of (take n (take (length run - a) (drop a run))) ≡ take (deep_len (drop a (texts_of run))) (drop a (texts_of run))
 below-texts run a n e = texts_front (take (length run - a) (drop a run)) n ∙ ap₂ take (e ∙ ap deep_len (texts_behind run a)) (texts_behind run a)

@@ -48,7 +48,7 @@ argument_by TakesTitle ts part = title_of ts part
 argument_by TakesUri ts part = uri_of ts
 argument_by TakesLanguage ts part = language_of ts
 
--- the argument that lines are, which stand at a part of a view
+-- the argument that the lines of a part of a view are
 abbrev pub argument_of : Name → List Text → Part → Result Given Wrong
 argument_of name ts part = argument_by (takes name) ts part
 

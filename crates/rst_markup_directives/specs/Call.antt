@@ -18,7 +18,7 @@ use Rattle.rst_markup_blocks.specs.declared.part.Part.{Part}
 abbrev pub name_text : Block → ℕ → Invocation → Text
 name_text B at call = slice_range (front_text (drop at B)) call.name.from call.name.to
 
--- the directive that is called; `code` says whether the one for program code is among them
+-- the directive that is called; `code` is true if the one for program code is among them
 abbrev pub called_at : Bool → Block → ℕ → Invocation → Option Name
 called_at code B at call = directive_named (name_text B at call) code
 
@@ -30,7 +30,7 @@ first_cut block from = if from == 0 then block.first_cut else block.rest_cut
 abbrev pub part_of : Part → ℕ → ℕ → Part
 part_of block from to = record { from = block.from + from; to = block.from + to; first_cut = first_cut block from; rest_cut = block.rest_cut }
 
--- the two parts of a directive's content: before its options, and behind them
+-- the two parts of a directive's content: before its options, and after them
 abbrev pub content_of : Part → Layout → ℕ → Content
 content_of block layout all = record { first = part_of block 0 layout.first; second = part_of block layout.second all }
 

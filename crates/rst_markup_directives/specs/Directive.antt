@@ -1,5 +1,5 @@
 -- What a directive is: its name, argument, options and content, or what is wrong with it (Markup Specification,
--- 'Directives'; the sections of Directives stand in Name, Judgement and Value).
+-- 'Directives'; the sections of Directives are in Name, Judgement and Value).
 use Rattle.std.specs.Prelude.{ℕ, ◌-◌, Bool, true, false, ◌&&◌, nat_lt, List, [], take, drop, length, option_map, Option, Result, Ok, Err, ok_or, if◌then◌else◌}
 use Rattle.std.specs.Result.{result_map_both}
 use Rattle.rst_text.specs.Block.{Block, cut}
@@ -54,7 +54,7 @@ with_argument name content options given = and_then (λ argument. Ok (record { n
 abbrev pub read_parts : Name → Content → Result Given Wrong → Result (List Choice) Wrong → Result Read Wrong
 read_parts name content given choices = and_then (λ options. with_argument name content options given) choices
 
--- a directive by the run of lines that its block of `all` lines begins with, and by where the parts of the block stand
+-- a directive by the run of lines that its block of `all` lines begins with, and by where the parts of the block are
 unfoldable pub read_by : Name → Part → ℕ → List Text → Layout → Result Read Wrong
 read_by name block all run layout =
     read_parts name (content_of block layout all) (argument_of name (take layout.argument run) (part_of block 0 layout.argument)) (options_of name (drop layout.options run))
@@ -65,21 +65,21 @@ read_block name late block H = read_by name block (length H) (run_in name late H
 
 -- ---- the directive
 
--- what a directive is; a wrong one has the lines that it stands in
+-- what a directive is; a wrong one has the lines that it is in
 pub data Outcome : Type 0 where
   found : Read → Outcome
   wrong : Fault → Part → Outcome
 
--- what is said of a directive that stands in these lines
+-- the outcome for a directive in these lines
 abbrev pub outcome_at : Part → Result Read Fault → Outcome
 outcome_at source (Ok read) = found read
 outcome_at source (Err fault) = wrong fault source
 
--- the lines that a directive stands in
+-- the lines that a directive is in
 abbrev pub lines_at : ℕ → Part → Part
 lines_at at block = record { from = at; to = block.to; first_cut = 0; rest_cut = 0 }
 
--- a block begins behind the line after the directive's
+-- a block begins after the line after the directive's
 abbrev pub is_late : ℕ → Part → Bool
 is_late at block = nat_lt at block.from && nat_lt 1 (block.from - at)
 
@@ -95,16 +95,16 @@ read_at B at block name = of_block (read_block name (is_late at block) block (cu
 abbrev pub judged : Place → Bool → Read → Result Read Fault
 judged place paragraph read = unless (option_map fault_in (content_fault read.name (is_empty read.content) place paragraph)) (Ok read)
 
--- a name, if it is that of a directive that may stand there, or the fault of the name
+-- a name, if it is that of a directive that is allowed there, or the fault of the name
 abbrev pub named : Option Name → Place → Result Name Fault
 named name place = result_map_both (λ name. name) fault_in (permitted name place)
 
--- What the directive of a name is that is called in the line at a place of a block, with this block of its own; `paragraph` tells whether
+-- What the directive of a name is that is called in the line at a place of a block, with this block of its own; `paragraph` is true if
 -- that is a single paragraph. The faults are looked for in this order: of its name, of its options, of its argument, of its content.
 unfoldable pub directive_of : Option Name → Block → ℕ → Part → Place → Bool → Outcome
 directive_of name B at block place paragraph = outcome_at (lines_at at block) (and_then (judged place paragraph) (and_then (read_at B at block) (named name place)))
 
--- what the directive is that is called there; `code` tells whether those for program code are directives
+-- what the directive is that is called there; `code` is true if those for program code are directives
 abbrev pub directive_at : Bool → Block → ℕ → Invocation → Place → Bool → Outcome
 directive_at code B at call place paragraph = directive_of (called_at code B at call) B at call.block place paragraph
 

@@ -6,11 +6,11 @@ use Rattle.rst_text.specs.Characters.{has}
 use Rattle.rst_text.specs.Escapes.{is_escaped}
 use Rattle.rst_markup_directives.specs.Characters.{Text}
 
--- a character behind the text is escaped: an odd number of backslashes ends it
+-- a character after the text is escaped: an odd number of backslashes ends it
 abbrev pub ends_escaping : Text → Bool
 ends_escaping t = is_escaped t 0 (length t)
 
--- a backquote stands at the place and isn't escaped
+-- a backquote is at the place and isn't escaped
 abbrev pub is_bare_backquote : Text → ℕ → Bool
 is_bare_backquote t i = has t i 96 && not (is_escaped t 0 i)
 

@@ -1,4 +1,4 @@
--- Where directives may stand, and with which content (Directives, 'Specific Admonitions', 'Generic Admonition',
+-- Where directives are allowed, and with which content (Directives, 'Specific Admonitions', 'Generic Admonition',
 -- 'Topic', 'Image', 'Figure', 'Code', 'Replacement Text'; Markup Specification, 'Substitution Definitions').
 use Rattle.std.specs.Prelude.{Bool, true, false, not, ◌&&◌, Option, Some, None, Result, Ok, Err, if◌then◌else◌}
 use Rattle.rst_markup_directives.specs.Name.{holds}
@@ -38,13 +38,13 @@ abbrev pub permitted_by : Option Name → Bool → Result Name DirectiveFault
 permitted_by (Some name) substitution = if substitution && not (is_substitutable name) then Err NotInSubstitution else Ok name
 permitted_by None substitution = if substitution then Err NotInSubstitution else Err Unknown
 
--- the directive of a name, if there is one and it may stand there; or the fault
+-- the directive of a name, if there is one and it is allowed there; or the fault
 unfoldable pub permitted : Option Name → Place → Result Name DirectiveFault
 permitted name place = permitted_by name (is_substitution place)
 
 -- The fault of a content by what the directive holds: a figure's is judged once its elements are read; where none is
--- permitted it has to be empty, else not; a topic stands at the level of sections alone; a replacement text is a single
--- paragraph and stands in a substitution definition alone.
+-- permitted it has to be empty, else not; a topic is allowed at the level of sections alone; a replacement text is a single
+-- paragraph and is allowed in a substitution definition alone.
 abbrev pub fault_by : Holds → Name → Bool → Place → Bool → Option DirectiveFault
 fault_by Figure name empty place paragraph = None
 fault_by Nothing name empty place paragraph = if empty then None else Some (Inside ContentNotPermitted)

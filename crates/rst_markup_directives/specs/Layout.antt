@@ -1,4 +1,4 @@
--- Where the parts of a directive's block stand (Markup Specification, 'Directives'). A part is told by the places of the lines
+-- Where the parts of a directive's block are (Markup Specification, 'Directives'). A part is given by the places of the lines
 -- that it begins and ends at.
 use Rattle.std.specs.Prelude.{ℕ, Bool, not, ◌==◌, List, length, if◌then◌else◌}
 use Rattle.std.specs.List.{prefix_len}
@@ -19,7 +19,7 @@ use Rattle.rst_markup_directives.specs.declared.name.Holds.TheVariants.{Paragrap
 unfoldable pub begins_field : Text → Bool
 begins_field t = is_some (field_of t)
 
--- how many lines stand before the first that begins a field: the place where the options begin
+-- how many lines come before the first that begins a field: the place where the options begin
 abbrev pub before_field : List Text → ℕ
 before_field ts = prefix_len (λ t. not (begins_field t)) ts
 
@@ -45,12 +45,12 @@ layout_by Paragraph takes run all rest = content_alone run all
 layout_by _ Nothing run all rest = parts_without_argument run all rest
 layout_by _ _ run all rest = parts_with_argument run rest
 
--- the parts of a block of `all` lines that begins with this run; `rest` is the place of the first line behind the run that
+-- the parts of a block of `all` lines that begins with this run; `rest` is the place of the first line after the run that
 -- isn't blank
 unfoldable pub layout_at : Name → List Text → ℕ → ℕ → Layout
 layout_at name run all rest = layout_by (holds name) (takes name) run all rest
 
 -- The parts of a block that begins with this run of lines, which hold the argument and the options: the argument up to the
--- first option, the options up to the end of the run, and the content behind the blank lines after it.
+-- first option, the options up to the end of the run, and the content after the blank lines after it.
 abbrev pub layout_of : Name → List Text → Block → Layout
 layout_of name run H = layout_at name run (length H) (behind_blank H (length run))

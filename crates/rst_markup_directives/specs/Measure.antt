@@ -8,7 +8,7 @@ use Rattle.rst_markup_directives.specs.Characters.{Text, digits, unindented, is_
 use Rattle.rst_markup_directives.specs.declared.measure.Alignment.{Alignment}
 use Rattle.rst_markup_directives.specs.declared.measure.Alignment.TheVariants.{Top, Middle, Bottom, Left, Center, Right}
 
--- how many digits stand behind a point at the place, 0 where none stands there
+-- how many digits follow a point at the place, 0 where there is none
 abbrev pub digits_behind : Text → ℕ → ℕ
 digits_behind t i = if has t i 46 then digits (drop (i + 1) t) else 0
 
@@ -20,7 +20,7 @@ number_len t = if digits t == 0 || digits_behind t (digits t) == 0 then digits t
 abbrev pub length_units : List Text
 length_units = codes "em" ∷ codes "ex" ∷ codes "px" ∷ codes "in" ∷ codes "cm" ∷ codes "mm" ∷ codes "pt" ∷ codes "pc" ∷ []
 
--- the units of measures: those of lengths, and a percent sign where that may stand
+-- the units of measures: those of lengths, and a percent sign where that is allowed
 abbrev pub units : Bool → List Text
 units percent = length_units ++ (if percent then codes "%" ∷ [] else [])
 
@@ -28,7 +28,7 @@ units percent = length_units ++ (if percent then codes "%" ∷ [] else [])
 unfoldable pub is_unit : Text → Bool → Bool
 is_unit t percent = list_any (is_exactly t) (units percent)
 
--- the unit of a measure: what stands behind the number and the spaces after it
+-- the unit of a measure: what follows the number and the spaces after it
 abbrev pub unit_in : Text → Text
 unit_in t = unindented (drop (number_len t) t)
 
@@ -58,7 +58,7 @@ horizontal_alignments = (codes "left", Left) ∷ (codes "center", Center) ∷ (c
 abbrev pub vertical_alignments : List (Text × Alignment)
 vertical_alignments = (codes "top", Top) ∷ (codes "middle", Middle) ∷ (codes "bottom", Bottom) ∷ []
 
--- the alignments by their words, the vertical ones only where they may stand
+-- the alignments by their words, the vertical ones only where they are allowed
 abbrev pub alignments : Bool → List (Text × Alignment)
 alignments vertical = horizontal_alignments ++ (if vertical then vertical_alignments else [])
 

@@ -13,7 +13,7 @@ wrong_text many_arguments = codes "at most 1 argument permitted."
 wrong_text content_not_permitted = codes "no content permitted."
 wrong_text not_one_paragraph = codes "may contain a single paragraph only."
 
--- a line that names the directive, and one that says what is wrong in it
+-- a line that names the directive, and one for what is wrong in it
 abbrev pub error_in : List ℕ → Wrong → List ℕ
 error_in name wrong = codes "Error in \"" ++ name ++ codes "\" directive:\n" ++ wrong_text wrong
 

@@ -40,7 +40,7 @@ admonition_of t = lookup (is_word t) admonitions
 unfoldable pub is_code : Text → Bool
 is_code t = list_any (is_word t) code_names
 
--- the directive that a text names; `code` says whether the one for program code is among them
+-- the directive that a text names; `code` is true if the one for program code is among them
 unfoldable pub directive_named : Text → Bool → Option Name
 directive_named t code = lookup (is_word t) (directives code)
 

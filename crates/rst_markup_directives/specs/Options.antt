@@ -28,7 +28,7 @@ least_indentation ts = unwrap_or (reduce min (map indentation ts)) 0
 abbrev pub FieldText : Type 0
 FieldText = Text × Text
 
--- the field that a line begins, with the indented lines below it: the name between its colons, and the text behind its mark
+-- the field that a line begins, with the indented lines below it: the name between its colons, and the text after its mark
 -- with these lines, their least indentation taken off
 unfoldable pub field_in : Text → List Text → Option FieldText
 field_in t below = option_map (λ mark. (slice_range t mark.name.from mark.name.to, joined (drop mark.marker.cut t ∷ map (drop (least_indentation below)) below))) (field_of t)

@@ -24,7 +24,7 @@ target_text t = joined (map unindented (slice_split (λ c. c == 10) t))
 unfoldable pub is_simple_reference : Text → Bool
 is_simple_reference t = nat_lt 0 (length t) && (has t (length t - 1) 95 && is_simple_name (take (length t - 1) t))
 
--- it isn't empty, white stands at neither end, and each backquote in it is escaped
+-- it isn't empty, there is no white at either end, and each backquote in it is escaped
 unfoldable pub is_phrase : Text → Bool
 is_phrase t = is_dark t 0 && (is_dark t (length t - 1) && not (has_bare_backquote t))
 

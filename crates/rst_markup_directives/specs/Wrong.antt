@@ -7,7 +7,7 @@ use Rattle.rst_markup_directives.specs.declared.fault.Detail.TheVariants.{Invali
 use Rattle.rst_markup_directives.specs.declared.fault.DirectiveFault.{DirectiveFault}
 use Rattle.rst_markup_directives.specs.declared.fault.DirectiveFault.TheVariants.{NotInSubstitution, Unknown, Inside, NoContent, TopicNotHere, ReplaceNotHere}
 
--- what is wrong inside a directive; an option's name stands as it is written
+-- what is wrong inside a directive; an option's name is given as it is written
 pub data Wrong : Type 0 where
   option_block : Wrong
   unknown : Text → Wrong

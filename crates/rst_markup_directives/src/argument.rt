@@ -27,7 +27,7 @@ pub enum Argument {
     Language(String),
 }
 
-/// The argument that some lines of a directive are, or what is wrong with it. `part` is where the lines stand.
+/// The argument that some lines of a directive are, or what is wrong with it. `part` is where the lines are.
 pub(crate) fn argument_of(
     alloc: Global,
     name: Name,

@@ -40,7 +40,7 @@ pub fn called(
 }
 
 /// What the directive of a name is that is called at line `at` of a view with this block, or what is wrong with it. `paragraph`
-/// tells whether the block is a single paragraph, which counts for `replace` alone. It makes at most one look more than the
+/// is true if the block is a single paragraph, which counts for `replace` alone. It makes at most one look more than the
 /// block has lines.
 ///
 /// The only refusal is [`MarkupFault::NoMemory`].
@@ -68,7 +68,7 @@ pub fn directive(
     };
     match permitted(name, place) {
         Ok(name) => {
-            // The block begins behind the line after the directive's.
+            // The block begins after the line after the directive's.
             let late = 1 < block.from.saturating_sub(at);
             let reading = read(alloc, name, late, view, block, looks)?;
             Ok(judged(reading, place, paragraph, source))
@@ -111,7 +111,7 @@ fn read(
     read_run(alloc, name, block, &run, rest)
 }
 
-/// Reads a block by its first run of lines; `rest` is the place of the first line behind it that isn't blank.
+/// Reads a block by its first run of lines; `rest` is the place of the first line after it that isn't blank.
 #[tactic(auto, using(crate::proofs::FieldLemmas::texts_front, crate::proofs::FieldLemmas::texts_behind), unfolding(crate::specs::Directive::read_by))]
 fn read_run(
     alloc: Global,

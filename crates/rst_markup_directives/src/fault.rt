@@ -55,14 +55,14 @@ pub enum DirectiveFault {
     ReplaceNotHere,
 }
 
-/// What is wrong inside a directive. An option's name stands as it is written.
+/// What is wrong inside a directive. An option's name is given as it is written.
 #[derive(Debug, Drop)]
 pub enum Detail {
     /// A line among the options neither begins a field nor is indented below one.
     InvalidOptionBlock,
     /// The directive has no option of this name.
     UnknownOption(String),
-    /// The option stands there a second time.
+    /// The option is there a second time.
     DuplicateOption(String),
     /// The option can't have this value.
     InvalidValue(String),

@@ -5,7 +5,7 @@ use super::name::Name;
 use super::options::Setting;
 use rst_markup_blocks::Part;
 
-/// Where a directive stands.
+/// Where a directive is.
 #[derive(Clone, Copy, Debug, PartialEq, Eq)]
 pub enum Place {
     /// At the level of sections.
@@ -26,14 +26,14 @@ pub struct Content {
 /// What a directive is.
 #[derive(Debug, Drop)]
 pub enum Directive {
-    /// A right one: its options stand in the order of the source.
+    /// A right one: its options are in the order of the source.
     Found {
         name: Name,
         argument: Argument,
         options: Vec<Setting>,
         content: Content,
     },
-    /// A wrong one, and the lines that it stands in.
+    /// A wrong one, and the lines that it is in.
     Wrong {
         fault: DirectiveFault,
         source: Part,

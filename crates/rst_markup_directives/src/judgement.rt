@@ -1,4 +1,4 @@
-//! Where directives may stand, and with which content.
+//! Where directives are allowed, and with which content.
 ghost use Rattle.std.specs.Prelude.{◌≡◌};
 ghost use Rattle.rst_markup_directives.specs.Judgement as spec;
 
@@ -6,7 +6,7 @@ use super::fault::{Detail, DirectiveFault};
 use super::found::Place;
 use super::name::{Holds, Name};
 
-/// The directive of a name, if there is one, where it may stand at a place; or the fault.
+/// The directive of a name, if there is one and it is allowed at a place; or the fault.
 #[tactic(auto, unfolding(crate::specs::Judgement::permitted))]
 pub(crate) fn permitted(name: Option<Name>, place: Place) -> Result<Name, DirectiveFault>
     ensures { result ≡ spec.permitted name place }

@@ -1,4 +1,4 @@
-//! Where the parts of a directive's block stand.
+//! Where the parts of a directive's block are.
 ghost use Rattle.std.specs.Prelude.{◌≡◌, ◌≤◌, length};
 ghost use Rattle.rst_markup_directives.specs.Lines.{texts_of};
 ghost use Rattle.rst_markup_directives.specs.Layout as spec;
@@ -17,7 +17,7 @@ pub(crate) struct Layout {
     pub second: usize,
 }
 
-/// How many of some lines stand before the first that begins a field.
+/// How many of some lines come before the first that begins a field.
 #[tactic(auto, unfolding(crate::specs::Layout::begins_field))]
 fn before_field(run: &[&str]) -> usize
     ensures value { result ≡ spec.before_field (texts_of run.now) }
@@ -32,7 +32,7 @@ fn before_field(run: &[&str]) -> usize
 }
 
 /// The parts of a block of `all` lines that begins with this run, up to a blank line; `rest` is the place of the first line
-/// behind the run that isn't blank.
+/// after the run that isn't blank.
 #[tactic(auto, unfolding(crate::specs::Layout::layout_at))]
 pub(crate) fn layout_of(name: Name, run: &[&str], all: usize, rest: usize) -> Layout
     ensures value { result ≡ spec.layout_at name (texts_of run.now) all rest }

@@ -34,7 +34,7 @@ pub(crate) fn run_of<'a>(
     Ok(run)
 }
 
-/// A text with one line more, behind a line feed if it isn't the first; an empty line is left out.
+/// A text with one line more, after a line feed if it isn't the first; an empty line is left out.
 pub(crate) fn add_line(text: &mut Vec<char>, line: &[char]) -> Result<(), AllocError>
     ensures { IfOk result (λ _. text.new.items ≡ spec.with_line text.old.items line.now) }
 {

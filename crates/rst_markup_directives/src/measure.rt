@@ -7,7 +7,7 @@ use rst_markup_lines::number_of;
 use rst_text::has;
 use std::alloc::{AllocError, Global};
 
-/// Where an image or a figure stands.
+/// Where an image or a figure is.
 #[derive(Clone, Copy, Debug, PartialEq, Eq)]
 pub enum Alignment {
     Top,
@@ -33,7 +33,7 @@ fn number_len(text: &[char]) -> usize
     if part == 0 { whole } else { whole + 1 + part }
 }
 
-/// Whether a text is the unit of a length, or a percent sign where that may stand.
+/// Whether a text is the unit of a length, or a percent sign where that is allowed.
 #[tactic(auto, unfolding(crate::specs::Measure::is_unit))]
 fn is_unit(text: &[char], percent: bool) -> bool
     ensures { result ≡ spec.is_unit text.now percent }

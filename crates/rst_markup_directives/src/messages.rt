@@ -8,7 +8,7 @@ use super::fault::{Detail, DirectiveFault, MarkupFault};
 use std::alloc::{AllocError, Global};
 
 /// The text of the message on a fault of a directive. `name` is the directive's name as it is written, or, of a
-/// directive that may not stand in a substitution definition, the name of that definition.
+/// directive that isn't allowed in a substitution definition, the name of that definition.
 ///
 /// The only refusal is [`MarkupFault::NoMemory`].
 pub fn message(alloc: Global, fault: &DirectiveFault, name: &str) -> Result<String, MarkupFault>

@@ -232,7 +232,7 @@ pub fn wrong_blocks()
         ≡ Err option_block }
 {}
 
-/// Where a directive may stand, and with which content (Markup Specification, 'Directives').
+/// Where a directive is allowed, and with which content (Markup Specification, 'Directives').
 pub fn places()
     ensures unknown_name { permitted None Body ≡ Err Unknown }
     ensures unknown_in_a_definition { permitted None Substitution ≡ Err NotInSubstitution }

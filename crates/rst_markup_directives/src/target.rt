@@ -48,7 +48,7 @@ pub fn target_value(alloc: Global, text: &str) -> Result<Option<Target>, MarkupF
     destination_in(alloc, &joined)
 }
 
-/// What a text means as the text of a target. A phrase in backquotes isn't empty, white stands at neither end, and each
+/// What a text means as the text of a target. A phrase in backquotes isn't empty, there is no white at either end, and each
 /// backquote in it is escaped.
 #[tactic(auto, unfolding(crate::specs::Target::destination_in, crate::specs::Target::is_simple_reference, crate::specs::Target::is_phrase_reference, crate::specs::Target::is_phrase, crate::specs::Target::phrase_in))]
 fn destination_in(alloc: Global, text: &[char]) -> Result<Option<Target>, MarkupFault>
@@ -81,7 +81,7 @@ fn destination_in(alloc: Global, text: &[char]) -> Result<Option<Target>, Markup
     Ok(Some(Target::Uri(uri)))
 }
 
-/// Whether a character behind a text is escaped.
+/// Whether a character after a text is escaped.
 fn ends_escaping(text: &[char]) -> bool
     ensures { result ≡ escapes.ends_escaping text.now }
 {

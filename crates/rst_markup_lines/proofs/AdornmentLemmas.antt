@@ -18,7 +18,7 @@ run_first c cs = let same : (c == c) ≡ true = eq-eqb c c refl in run_cons (Onl
 abbrev adorned : ℕ → ℕ → Option Adornment
 adorned c n = Some (record { character = c; len = n })
 
--- the same, told by the run of the first character
+-- the same, determined by the run of the first character
 abbrev pub run_adornment : Option ℕ → List ℕ → Option Adornment
 run_adornment None t = None
 run_adornment (Some c) t = cond (is_punctuation c) (cond (is_blank (drop (run (Only c) t) t)) (adorned c (run (Only c) t)) None) None

@@ -1,4 +1,4 @@
--- Borders are told by the runs of their characters.
+-- Borders are recognized by the runs of their characters.
 use Rattle.std.proofs.Common.{◌≡◌, ⊎_elim, ℕ, suc, ◌-◌, Bool, true, false, ◌&&◌, ◌||◌, ◌==◌, cond, List, [], ◌∷◌, length, drop, refl, sym, ap, ◌∙◌, arith}
 use Rattle.std.specs.Prelude.{nat_lt, nat_le}
 use Rattle.std.specs.List.{list_all, list_any}
@@ -14,7 +14,7 @@ use Rattle.rst_markup_lines.proofs.Runs.{run_cons, whole_run, run_whole}
 
 -- ---- grid tables
 
--- a border of a grid table, told by the run of its characters
+-- a border of a grid table, recognized by the run of its characters
 abbrev pub grid_by_run : List ℕ → Bool
 grid_by_run t =
     let n = run (Either 45 43) t in
@@ -34,13 +34,13 @@ grid_run t = ⊎_elim
 
 -- ---- simple tables
 
--- a border of a simple table, told by the run of its characters and by that of `=`
+-- a border of a simple table, recognized by the run of its characters and by that of `=`
 abbrev pub simple_by_run : List ℕ → Bool
 simple_by_run t =
     let n = run (Either 61 32) t in let m = run (Only 61) t in
     nat_lt 0 m && (nat_lt m n && (is_blank (drop n t) && begins_with 61 (drop (n - 1) t)))
 
--- where `=` stands first, its run isn't empty
+-- where `=` comes first, its run isn't empty
 first_run : (t : List ℕ) → nat_lt 0 (run (Only 61) t) ≡ begins_with 61 t
 unfolding run is_in
 first_run [] = refl

@@ -19,7 +19,7 @@ use Rattle.rst_markup_lines.proofs.SimpleNames.{at-front, inside}
 
 -- ---- a step
 
--- the character reached, by what stands before it
+-- the character reached, by what precedes it
 pub closes-here : (closing : Closing) (t cs : List ℕ) (c n : ℕ) (escaped dark : Bool) → drop n t ≡ cs → first cs ≡ Some c → escaped ≡ is_escaped t 0 n → dark ≡ is_behind_dark t n
     → closes closing t n ≡ (not escaped && is_closing closing dark c (drop 1 cs))
 unfolding closes
@@ -27,7 +27,7 @@ closes-here closing t cs c n escaped dark e f g h =
     let behind : drop (n + 1) t ≡ drop 1 cs = sym (drop-drop 1 n t) ∙ ap (drop 1) e in
     rw (at-front t cs c n e f, behind, ← g, ← h) refl
 
--- what stands before the character behind it
+-- what precedes the character after it
 pub escaped-next : (t cs : List ℕ) (c n : ℕ) (escaped : Bool) → drop n t ≡ cs → first cs ≡ Some c → escaped ≡ is_escaped t 0 n → escapes c escaped ≡ is_escaped t 0 (n + 1)
 escaped-next t cs c n escaped e f g = ap (escapes c) g ∙ ap (λ d. escapes d (is_escaped t 0 n)) (sym (at-front t cs c n e f)) ∙ sym (is_escaped-more t 0 n (omega arith))
 
@@ -58,7 +58,7 @@ found closing t n e = go (closed closing t) (first_from-IsFirst (closes closing 
 pub closed_within : (closing : Closing) (t : List ℕ) (n : ℕ) → closed closing t ≡ Some n → n < length t
 closed_within closing t n e = (found closing t n e).0
 
--- a quote has a colon behind it
+-- a quote has a colon after it
 pub quoted_within : (t : List ℕ) (n : ℕ) → closed QuotedColon t ≡ Some n → n + 1 < length t
 unfolding closes is_closing
 quoted_within t n e =
@@ -80,7 +80,7 @@ ends-pair t c d m escaped e g =
     turned : (a b x : Bool) → (a && (b && not x)) ≡ (not x && (a && b))
     turned a b x = grind (arith, nat_tests)
 
--- the place at which a rest of a text stands
+-- the place at which a rest of a text is
 abbrev pub place_of_rest : List ℕ → List ℕ → ℕ
 place_of_rest t cs = length t - length cs
 

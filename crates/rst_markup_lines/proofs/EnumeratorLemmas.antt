@@ -16,7 +16,7 @@ use Rattle.rst_markup_lines.specs.declared.enumerator.Written.{Written}
 use Rattle.rst_markup_lines.proofs.Runs.{run_cons}
 use Rattle.rst_markup_lines.proofs.NumeralLetters.{other_letter}
 
--- an ordinal, if there is one, has so many characters
+-- an ordinal, if there is one, has a certain number of characters
 abbrev has_len : ℕ → Option Written → Type 0
 has_len n None = Unit {0}
 has_len n (Some w) = w.len ≡ n
@@ -47,7 +47,7 @@ written_letters : (t : List ℕ) → begins_with 35 t ≡ false → run Digit t 
 unfolding written_at arabic_at
 written_letters t h d = rw (h, d) refl
 
--- no ordinal but one of letters can stand there
+-- no ordinal but one of letters can be there
 letters_left : (t : List ℕ) → begins_with 40 t ≡ false → begins_with 35 t ≡ false → run Digit t ≡ 0 → option_and_then (before_one t) (letters_at t) ≡ None → enumerator_of t ≡ None
 unfolding enumerator_of
 letters_left t p h d e = rw (p, written_letters t h d) e
@@ -74,7 +74,7 @@ letter_not c d h k = ne_eqb c d (λ same. true≢false (sym h ∙ ap is_ascii_al
 neither : (a b : Bool) → not (a || b) ≡ true → (a ≡ false) × (b ≡ false)
 neither a b h = or_parts a b (not-true (a || b) h)
 
--- a letter alone, with no end of an enumerator behind it
+-- a letter alone, with no end of an enumerator after it
 lone_none : (c : ℕ) (cs : List ℕ) → is_ascii_alphabetic c ≡ true → run Letter cs ≡ 0 → begins_with 41 cs ≡ false → begins_with 46 cs ≡ false
     → option_and_then (before_one (c ∷ cs)) (letters_at (c ∷ cs)) ≡ None
 lone_none c cs h e p q =

@@ -1,4 +1,4 @@
--- A label before a closing bracket is told by how many characters of each kind it begins with.
+-- A label before a closing bracket is determined by how many characters of each kind it begins with.
 use Rattle.std.proofs.Common.{◌≡◌, ⊎_elim, ℕ, zero, suc, ◌+◌, ◌-◌, ◌<◌, ◌≤◌, Bool, true, false, not, ◌&&◌, ◌||◌, ◌==◌, cond, ltb, get_or, unwrap_or, true≢false, List, [], ◌∷◌, length, take, drop, Option, Some, None, if◌then◌else◌, refl, sym, ap, ◌∙◌, arith}
 use Rattle.std.specs.List.{list_all}
 use Rattle.std.proofs.Math.Dec.{eqb-suc-suc}
@@ -21,7 +21,7 @@ use Rattle.rst_markup_lines.specs.declared.explicit_marks.LabelKind.{LabelKind}
 use Rattle.rst_markup_lines.specs.declared.explicit_marks.LabelKind.TheVariants.{Footnote, Citation}
 use Rattle.rst_markup_lines.proofs.SimpleNames.{at-front, inside}
 
--- a closing bracket stands behind n characters
+-- a closing bracket follows n characters
 abbrev Closed : ℕ → List ℕ → Type 0
 Closed n t = begins_with 93 (drop n t) ≡ true
 
@@ -131,7 +131,7 @@ digits_take (suc n) (c ∷ cs) h = by (is_in Digit c) (digits_take n cs h) ∙ s
     by true h = h ∙ sym (eqb-suc-suc (run Digit cs) n)
     by false h = sym (ne_eqb 0 (suc n) (λ e. absurd (omega (arith, e))))
 
--- nothing or a simple name behind a sign
+-- nothing or a simple name after a sign
 after_sign : (n : ℕ) (t : List ℕ) → Closed n t → (is_blank (take n t) || is_simple_name (take n t)) ≡ (simple_name t == n)
 unfolding simple_name
 after_sign zero t h = rw (no_alnum 0 t h) refl

@@ -1,4 +1,4 @@
--- Marks of explicit markup stand within their lines.
+-- Marks of explicit markup are within their lines.
 use Rattle.std.proofs.Common.{◌≡◌, inl, inr, ℕ, ◌+◌, ◌≤◌, ◌==◌, Bool, true, false, not, cond, ◌&&◌, ◌||◌, List, length, take, drop, length-drop, Option, None, Some, arith, refl, ap}
 use Rattle.std.proofs.lemmas.Bool.{and_parts, cases_Bool, not-false, or_parts}
 use Rattle.std.specs.Option.{option_and_then}
@@ -28,7 +28,7 @@ pub some_of : {A C : Type 0} (o : Option A) (f : A → Option C) (y : C) → opt
 some_of None f y h = cc
 some_of (Some x) f y h = (x, refl, h)
 
--- what stands behind a test that fails
+-- what follows a test that fails
 unless : {X : Type 0} (b : Bool) (r : Option X) (x : X) → cond b None r ≡ Some x → (b ≡ false) × (r ≡ Some x)
 unless true r x h = cc
 unless false r x h = (refl, h)

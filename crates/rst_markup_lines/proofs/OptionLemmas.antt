@@ -1,4 +1,4 @@
--- Option markers stand within their lines.
+-- Option markers are within their lines.
 use Rattle.std.proofs.Common.{◌≡◌, ℕ, ◌+◌, ◌<◌, ◌≤◌, ◌==◌, Bool, true, false, not, cond, ◌&&◌, ◌||◌, List, [], ◌∷◌, length, drop, length-drop, Option, None, Some, IfSome, arith, refl, sym, ap, ◌∙◌, ⊎_elim, subst}
 use Rattle.std.proofs.lemmas.Bool.{cases_lt, cond_both, not-false, or_parts, true≢false}
 use Rattle.std.proofs.lemmas.List.{drop_all}
@@ -35,14 +35,14 @@ argument_le t = cond_both (begins_letter t) (run OptionClass t) (cond (begins_wi
     (λ e. run_le OptionClass t)
     (λ e. cond_both (begins_with 60 t) (bracketed_len (run Bracketed (drop 1 t)) t) 0 (λ m. m ≤ length t) (λ f. bracketed_le (run Bracketed (drop 1 t)) t) (λ f. omega arith))
 
--- an argument that is there stands within n characters
+-- an argument that is there is within n characters
 abbrev Fits : ℕ → Option Argument → Type 0
 Fits n a = argument_width a ≤ n
 
 behind_fits : (d : Delimiter) (n m : ℕ) → m ≤ n → width_with d m ≤ n → Fits n (with_delimiter d m)
 behind_fits d n m h w = cond_both (m == 0) None (Some (record { delimiter = d; len = m })) (Fits n) (λ e. omega arith) (λ e. w)
 
--- behind a delimiter of one character
+-- after a delimiter of one character
 delimited : (c : ℕ) (d : Delimiter) (t : List ℕ) → width_with d (argument_len (drop 1 t)) ≤ argument_len (drop 1 t) + 1 → begins_with c t ≡ true → Fits (length t) (with_delimiter d (argument_len (drop 1 t)))
 delimited c d t w e =
     let h : argument_len (drop 1 t) + 1 ≤ length t = omega (arith, argument_le (drop 1 t), length-drop 1 t, there c 0 t e) in
@@ -60,7 +60,7 @@ long_fits t =
     cond_both (begins_with 32 t) (with_delimiter Space (argument_len (drop 1 t))) (cond (begins_with 61 t) equals None) (Fits (length t))
     (λ e. delimited 32 Space t (omega arith) e) (λ e. cond_both (begins_with 61 t) equals None (Fits (length t)) (λ f. delimited 61 Equals t (omega arith) f) (λ f. omega arith))
 
--- an option that is there stands within its text
+-- an option that is there is within its text
 abbrev pub Within : ℕ → Option OptionMark → Type 0
 Within n o = IfSome o (λ m. (1 ≤ m.string) × (m.string + argument_width m.argument ≤ n))
 
@@ -116,7 +116,7 @@ no_next true o m h = cc
 no_next false None m h = cc
 no_next false (Some x) m h = cc
 
--- a comma and a space stand within the text, and something before them
+-- a comma and a space are within the text, and something before them
 next_by : (a b d : Bool) (n m k : ℕ) (t : List ℕ) (o : Option Marker) → begins_with 44 (drop n t) ≡ a → begins_with 32 (drop 1 (drop n t)) ≡ b → 1 ≤ n
     → cond (a && b) (Next (n + 2)) (cond d Wrong (last_if o)) ≡ Next m → (1 ≤ m) × (m ≤ length t)
 next_by true true d n m k t o e f s h =
@@ -137,7 +137,7 @@ next_within n t h = by (option_at t) refl h
     by None e h = cc
     by (Some o) e h = tail_next (o.string + argument_width o.argument) n t (omega (arith, (width_within t o e).0)) h
 
--- a marker's cut stands within the text
+-- a marker's cut is within the text
 abbrev cut_of : Option Marker → ℕ
 cut_of None = 0
 cut_of (Some m) = m.cut

@@ -9,7 +9,7 @@ use Rattle.rst_markup_lines.specs.declared.option.OptionTail.{OptionTail}
 use Rattle.rst_markup_lines.specs.declared.option.OptionTail.TheVariants.{Last, Next, Wrong}
 use Rattle.rst_markup_lines.proofs.OptionLemmas.{width_within}
 
--- an option behind `from` characters
+-- an option after `from` characters
 abbrev pub placed : ℕ → OptionMark → OptionTail → PlacedOption
 placed from mark tail = record { from = from; mark = mark; tail = tail }
 
@@ -64,13 +64,13 @@ at_next (suc n) (c ∷ cs) o h e s =
     let one : options_from 0 (c ∷ cs) ≡ placed 0 o (Next (suc n)) ∷ map (moved 1) (options_from n cs) = rw (h, e, sub-one) refl in
     one ∙ ap (λ os. placed 0 o (Next (suc n)) ∷ os) (ap (λ os. map (moved 1) os) (options_passed n cs) ∙ one_moved n (options_from 0 (drop n cs)))
 
--- ---- those that stand behind `before` characters
+-- ---- those after `before` characters
 pub placed_next : (before n : ℕ) (t : List ℕ) (o : OptionMark) → option_at t ≡ Some o → option_tail t ≡ Next n → 1 ≤ n
     → map (moved before) (options_from 0 t) ≡ placed (before + 0) o (Next n) ∷ map (moved (before + n)) (options_from 0 (drop n t))
 placed_next before n t o h e s =
     ap (λ os. map (moved before) os) (at_next n t o h e s) ∙ ap (λ os. placed (before + 0) o (Next n) ∷ os) (moved_twice before n (options_from 0 (drop n t)))
 
--- where something stands behind, there is an option
+-- where something follows, there is an option
 optioned : (t : List ℕ) (tail : OptionTail) → option_tail t ≡ tail → (tail ≡ Wrong → ⊥) → (o : OptionMark) × (option_at t ≡ Some o)
 unfolding option_tail
 optioned t tail e right = by (option_at t) refl e
@@ -108,7 +108,7 @@ marker_next before n t total e s h =
     ∙ ap marker_of_options (sym (placed_next before n t o.0 o.1 e s)) ∙ h
 
 -- ---- within the line
--- an option stands within n characters, with its argument
+-- an option is within n characters, with its argument
 abbrev pub Fits : ℕ → PlacedOption → Type 0
 Fits n o = o.from + (o.mark.string + argument_width o.mark.argument) ≤ n
 

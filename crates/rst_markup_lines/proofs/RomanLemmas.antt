@@ -33,7 +33,7 @@ same_bytes a b h = (bytes_decides a b).0 h
 
 -- ---- what is read is written
 
--- the letters of the digit that is found, and those behind it
+-- the letters of the digit that is found, and those after it
 found : (ds : List (List ℕ)) (d : ℕ) (t : List ℕ) → (letters_of ds (digit_to ds d t).0 ++ (digit_to ds d t).1 ≡ t) × ((digit_to ds d t).0 ≤ d)
 unfolding digit_to
 found ds zero t = (refl, omega arith)
@@ -45,7 +45,7 @@ found ds (suc d) t =
       | inr e ↦ rw e (rest.0, omega (arith, rest.1))
     ]
 
--- a digit whose letters stand first, or else one of those before it
+-- a digit whose letters come first, or else one of those before it
 pub digit_step : (ds : List (List ℕ)) (d : ℕ) (t l : List ℕ) (b : Bool) → 0 < d → l ≡ get_or ds (d - 1) [] → bytes_eq (take (length l) t) l ≡ b
     → digit_to ds d t ≡ cond b (d, drop (length l) t) (digit_to ds (d - 1) t)
 unfolding digit_to
@@ -163,7 +163,7 @@ letters_in s n u e = (
   omega (arith, e, run_le Letter (chars s), length-chars s u),
 )
 
--- what is read of the letters of a text, by the digits that are found and what is behind each
+-- what is read of the letters of a text, by the digits that are found and what is after each
 pub read_by : (case : Case) (s bytes a b c d : List ℕ) (n m h x i : ℕ) → IsUtf8 s → n ≡ run Letter (chars s) → bytes ≡ s → (m, a) ≡ digit_at (digits case Thousands) (take n bytes)
     → (h, b) ≡ digit_at (digits case Hundreds) a → (x, c) ≡ digit_at (digits case Tens) b → (i, d) ≡ digit_at (digits case Ones) c → (e : Bool) → (length d == 0) ≡ e
     → cond e (Some (m * 1000 + h * 100 + x * 10 + i)) None ≡ roman case (take n (chars s))

@@ -9,11 +9,11 @@ use Rattle.rst_text.specs.SimpleNames.{is_joint, is_name_at, name_stop, simple_n
 use Rattle.rst_text.proofs.SimpleNameLemmas.{name_stop-is}
 use Rattle.rst_markup_lines.specs.Front.{first}
 
--- a letter or a number, or a joint with one of these behind it
+-- a letter or a number, or a joint with one of these after it
 abbrev pub goes_on : ℕ → List ℕ → Bool
 goes_on c cs = is_alphanumeric c || (is_joint c && is_alnum_at cs 0)
 
--- the first character of what stands behind n characters
+-- the first character of what follows n characters
 pub at-front : (t cs : List ℕ) (c n : ℕ) → drop n t ≡ cs → first cs ≡ Some c → get_or t n 0 ≡ c
 at-front t [] c n e h = cc
 at-front [] (d ∷ ds) c zero e h = cc
@@ -21,7 +21,7 @@ at-front [] (d ∷ ds) c (suc n) e h = cc
 at-front (x ∷ xs) (d ∷ ds) c zero e h = cc
 at-front (x ∷ xs) (d ∷ ds) c (suc n) e h = at-front xs (d ∷ ds) c n e h
 
--- where a character stands behind n characters, these are fewer than all
+-- where a character follows n characters, these are fewer than all
 pub inside : (t cs : List ℕ) (c n : ℕ) → drop n t ≡ cs → first cs ≡ Some c → n < length t
 inside t [] c n e h = cc
 inside t (d ∷ ds) c n e h = let behind : length t - n ≡ suc (length ds) = sym (length-drop n t) ∙ ap length e in omega arith
@@ -29,7 +29,7 @@ inside t (d ∷ ds) c n e h = let behind : length t - n ≡ suc (length ds) = sy
 alnum-here : (t cs : List ℕ) (c n : ℕ) → drop n t ≡ cs → first cs ≡ Some c → is_alnum_at t n ≡ is_alphanumeric c
 alnum-here t cs c n e h = rw (lt-ltb n (length t) (inside t cs c n e h), at-front t cs c n e h) refl
 
--- what stands behind n characters begins with a letter or a number where one stands at the place
+-- what follows n characters begins with a letter or a number where one is at the place
 alnum-drop : (t cs : List ℕ) (n : ℕ) → drop n t ≡ cs → is_alnum_at cs 0 ≡ is_alnum_at t n
 alnum-drop t [] n e = let behind : length t - n ≡ 0 = sym (length-drop n t) ∙ ap length e in rw (le-ltb n (length t) (omega arith)) refl
 alnum-drop t (d ∷ ds) n e = alnum-here (d ∷ ds) (d ∷ ds) d 0 refl refl ∙ sym (alnum-here t (d ∷ ds) d n e refl)
@@ -37,7 +37,7 @@ alnum-drop t (d ∷ ds) n e = alnum-here (d ∷ ds) (d ∷ ds) d 0 refl refl ∙
 alnum-behind : (t cs : List ℕ) (n : ℕ) → drop n t ≡ cs → is_alnum_at (drop 1 cs) 0 ≡ is_alnum_at t (n + 1)
 alnum-behind t cs n e = alnum-drop t (drop 1 cs) (n + 1) (sym (drop-drop 1 n t) ∙ ap (drop 1) e)
 
--- a place of a simple name that holds no letter or number has one behind it
+-- a place of a simple name that holds no letter or number has one after it
 joint_behind : (t : List ℕ) (m : ℕ) → is_name_at t m ≡ true → is_alnum_at t m ≡ false → is_alnum_at t (m + 1) ≡ true
 unfolding is_name_at
 joint_behind t m h none =

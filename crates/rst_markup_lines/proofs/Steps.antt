@@ -4,7 +4,7 @@ use Rattle.std.proofs.Math.Nat.{pow-suc}
 use Rattle.rst_markup_lines.specs.Front.{first}
 use Rattle.rst_markup_lines.specs.Decimal.{digit, decimal}
 
--- digits read behind a value
+-- digits read after a value
 unfoldable pub decimal_from : ℕ → ℕ → List ℕ → ℕ
 decimal_from value zero t = value
 decimal_from value (suc n) [] = value
@@ -13,7 +13,7 @@ decimal_from value (suc n) (c ∷ cs) = decimal_from (value * 10 + digit c) n cs
 one_on : (v d p q s : ℕ) → q ≡ p * 10 → (v * 10 + d) * p + s ≡ v * q + (d * p + s)
 one_on v d p q s e = rw e (omega arith)
 
--- they spell what they do by themselves, and the value stands before them
+-- they spell what they do by themselves, and the value precedes them
 behind_value : (v n : ℕ) (t : List ℕ) → decimal_from v n t ≡ v * 10 ^ length (take n t) + decimal (take n t)
 unfolding decimal_from decimal
 behind_value v zero t = omega arith

@@ -25,6 +25,6 @@ some_there : (cs : List ℕ) → begins_with 32 cs ≡ true → 1 ≤ length cs
 some_there [] h = cc
 some_there (c ∷ cs) h = omega arith
 
--- spaces behind n characters stand within the text
+-- spaces after n characters are within the text
 pub indent_within : (n : ℕ) (cs : List ℕ) → begins_with 32 (drop n cs) ≡ true → n + indentation (drop n cs) ≤ length cs
 indent_within n cs h = omega (arith, indentation_le (drop n cs), some_there (drop n cs) h, length-drop n cs)

@@ -13,13 +13,13 @@ two_or_three n = if n == 2 || n == 3 then n else 0
 unfoldable pub dash_len : List ℕ → ℕ
 dash_len t = if begins_with 0x2014 t then 1 else two_or_three (run (Only 45) t)
 
--- how many characters a dash of n characters has with the spaces behind it, if text follows these
+-- how many characters a dash of n characters has with the spaces after it, if text follows these
 abbrev pub behind_dash : ℕ → List ℕ → Option ℕ
 behind_dash n t =
     if n == 0 then None
     else if is_blank (unindented (drop n t)) then None
     else Some (n + indentation (drop n t))
 
--- a dash, maybe spaces, and then text: how many characters stand before that
+-- a dash, maybe spaces, and then text: how many characters come before that
 unfoldable pub attribution_of : List ℕ → Option ℕ
 attribution_of t = behind_dash (dash_len t) t

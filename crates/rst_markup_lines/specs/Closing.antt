@@ -8,15 +8,15 @@ use Rattle.rst_markup_lines.specs.Front.{begins_with, is_loose}
 use Rattle.rst_markup_lines.specs.declared.closing.Closing.{Closing}
 use Rattle.rst_markup_lines.specs.declared.closing.Closing.TheVariants.{Colon, QuotedColon, Bar, SpacedBar}
 
--- A character closes, behind one that isn't white or behind no such one, and before this text: a colon with a space or the
--- end behind it, a backquote before such a colon, a bar behind a character that isn't white, or such a bar before a space.
+-- A character closes, after one that isn't white or after no such one, and before this text: a colon with a space or the
+-- end after it, a backquote before such a colon, a bar after a character that isn't white, or such a bar before a space.
 unfoldable pub is_closing : Closing → Bool → ℕ → List ℕ → Bool
 is_closing Colon dark c cs = c == 58 && is_loose cs
 is_closing QuotedColon dark c cs = c == 96 && (begins_with 58 cs && is_loose (drop 1 cs))
 is_closing Bar dark c cs = c == 124 && dark
 is_closing SpacedBar dark c cs = c == 124 && (dark && begins_with 32 cs)
 
--- a character that isn't white stands before the place
+-- a character that isn't white comes before the place
 abbrev pub is_behind_dark : List ℕ → ℕ → Bool
 is_behind_dark t i = nat_lt 0 i && is_dark t (i - 1)
 
@@ -24,7 +24,7 @@ is_behind_dark t i = nat_lt 0 i && is_dark t (i - 1)
 unfoldable pub closes : Closing → List ℕ → ℕ → Bool
 closes closing t i = not (is_escaped t 0 i) && is_closing closing (is_behind_dark t i) (slice_index t i) (drop (i + 1) t)
 
--- how many characters stand before the first that closes: its place, from 0
+-- how many characters come before the first that closes: its place, from 0
 abbrev pub closed : Closing → List ℕ → Option ℕ
 closed closing t = first_from (closes closing t) 0 (length t)
 

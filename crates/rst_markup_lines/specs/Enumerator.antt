@@ -57,7 +57,7 @@ letters_at t = option_and_then (λ c. letters_by c (run Letter t) t) (first t)
 unfoldable pub written_at : List ℕ → Option Written
 written_at t = if begins_with 35 t then Some (record { ordinals = Auto; len = 1 }) else option_or (arabic_at t) (letters_at t)
 
--- A letter with this character behind it, if there is one, is no ordinal and begins none: not both are letters of numerals, or
+-- A letter with this character after it, if there is one, is no ordinal and begins none: not both are letters of numerals, or
 -- the other is neither a letter nor what ends an enumerator.
 abbrev pub is_no_ordinal : ℕ → Option ℕ → Bool
 is_no_ordinal letter None = true
@@ -67,8 +67,8 @@ is_no_ordinal letter (Some c) = if is_ascii_alphabetic c then not (is_numeral_le
 abbrev pub is_no_front : ℕ → Option ℕ → Bool
 is_no_front c behind = if is_ascii_alphabetic c then is_no_ordinal c behind else not (is_ascii_digit c || (c == 35 || c == 40))
 
--- an enumerator of this format with an ordinal that stands behind `from` characters and before one more, if spaces or the
--- end are behind it
+-- an enumerator of this format with an ordinal that follows `from` characters and before one more, if spaces or the
+-- end are after it
 abbrev pub framed : Format → ℕ → Written → List ℕ → Option Enumerator
 framed format from w t = option_map (λ m. record { format = format; written = w; marker = m }) (marker_of (from + w.len + 1) t)
 
@@ -100,7 +100,7 @@ is_same_case Lower Lower = true
 is_same_case Upper Upper = true
 is_same_case _ _ = false
 
--- both stand between parentheses, or both before one, or both before a period
+-- both are between parentheses, or both before one, or both before a period
 abbrev pub is_same_format : Format → Format → Bool
 is_same_format Parentheses Parentheses = true
 is_same_format Parenthesis Parenthesis = true
@@ -114,7 +114,7 @@ is_next (Arabic a) (Arabic b) = is_one_more (Some a) (Some b)
 is_next (Letters c a r) (Letters d b s) = is_same_case c d && (is_one_more a b || is_one_more r s)
 is_next _ _ = false
 
--- an enumerator with text behind it goes on with the list of another: it has the same format and the next ordinal
+-- an enumerator with text after it goes on with the list of another: it has the same format and the next ordinal
 abbrev pub is_next_of : Enumerator → Option Enumerator → Bool
 is_next_of e None = false
 is_next_of e (Some f) = not f.marker.bare && (is_same_format e.format f.format && is_next e.written.ordinals f.written.ordinals)

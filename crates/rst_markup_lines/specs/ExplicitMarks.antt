@@ -22,11 +22,11 @@ use Rattle.rst_markup_lines.specs.declared.explicit_marks.SubstitutionMark.{Subs
 use Rattle.rst_markup_lines.specs.declared.explicit_marks.SubstitutionMark.TheVariants.{Named as NamedSubstitution, Unclosed, Tight}
 use Rattle.rst_markup_lines.specs.declared.explicit_marks.DirectiveMark.{DirectiveMark}
 
--- the mark of explicit markup: `..` with spaces or the end behind it
+-- the mark of explicit markup: `..` with spaces or the end after it
 unfoldable pub dots : List ℕ → Option Marker
 dots t = if begins_with 46 t && begins_with 46 (drop 1 t) then marker_of 2 t else None
 
--- the mark of an anonymous target: `__` with spaces or the end behind it
+-- the mark of an anonymous target: `__` with spaces or the end after it
 unfoldable pub underscores : List ℕ → Option Marker
 underscores t = if begins_with 95 t && begins_with 95 (drop 1 t) then marker_of 2 t else None
 
@@ -40,7 +40,7 @@ label_kind label =
     else if is_simple_name label then Some Citation
     else None
 
--- a label of this kind, of n characters between brackets, if spaces or the end are behind them
+-- a label of this kind, of n characters between brackets, if spaces or the end are after them
 abbrev pub labelled : ℕ → List ℕ → LabelKind → Option LabelMark
 labelled n t k = option_and_then (λ m. Some (record { kind = k; len = n; marker = m })) (marker_of (n + 2) t)
 
@@ -48,7 +48,7 @@ labelled n t k = option_and_then (λ m. Some (record { kind = k; len = n; marker
 abbrev pub label_by : ℕ → List ℕ → Option LabelMark
 label_by n t = if begins_with 93 (drop n (drop 1 t)) then option_and_then (labelled n t) (label_kind (take n (drop 1 t))) else None
 
--- the label of a footnote or a citation: what stands between `[` and the first `]`
+-- the label of a footnote or a citation: what is between `[` and the first `]`
 unfoldable pub label_of : List ℕ → Option LabelMark
 label_of t = if begins_with 91 t then label_by (run Unbracketed (drop 1 t)) t else None
 
@@ -56,7 +56,7 @@ label_of t = if begins_with 91 t then label_by (run Unbracketed (drop 1 t)) t el
 abbrev pub begins_white : List ℕ → Bool
 begins_white t = begins_by is_white t
 
--- n characters behind `from` others are the name of a target whose mark has `len` characters, if it isn't empty and doesn't
+-- n characters after `from` others are the name of a target whose mark has `len` characters, if it isn't empty and doesn't
 -- begin wrongly
 abbrev pub named_if : Bool → ℕ → ℕ → ℕ → List ℕ → Option TargetMark
 named_if wrong from n len t = if n == 0 || wrong then None else option_and_then (λ m. Some (Named from n m)) (marker_of len t)
@@ -69,7 +69,7 @@ quoted_target t = option_and_then (λ n. named_if (begins_white (drop 2 t) || be
 unfoldable pub plain_target : List ℕ → Option TargetMark
 plain_target t = option_and_then (λ n. named_if (begins_white (drop 1 t)) 1 n (n + 2) t) (closed Colon (drop 1 t))
 
--- an anonymous target: a colon behind its two underscores, and spaces or the end behind that
+-- an anonymous target: a colon after its two underscores, and spaces or the end after that
 unfoldable pub anonymous_target : List ℕ → Option TargetMark
 anonymous_target t = if begins_with 58 (drop 2 t) then option_and_then (λ m. Some (Anonymous m)) (marker_of 3 t) else None
 
@@ -81,38 +81,38 @@ target_of t =
     else plain_target t)
     else None
 
--- a substitution definition without a name: its closing bar is missing, or no space is behind it
+-- a substitution definition without a name: its closing bar is missing, or no space is after it
 abbrev pub closing_bar : Option ℕ → SubstitutionMark
 closing_bar None = Unclosed
 closing_bar (Some n) = Tight
 
 -- a substitution definition with the n characters between its bars as its name, or one without a name where no closing
--- bar has a space behind it
+-- bar has a space after it
 abbrev pub spaced_bar : List ℕ → Option ℕ → Option SubstitutionMark
 spaced_bar t None = Some (closing_bar (closed Bar (drop 1 t)))
 spaced_bar t (Some n) = option_and_then (λ m. Some (NamedSubstitution n m)) (marker_of (n + 2) t)
 
 -- a name between bars: the closing one is the first unescaped with a character before it that isn't white, and a space
--- behind
+-- after it
 unfoldable pub substitution_of : List ℕ → Option SubstitutionMark
 substitution_of t =
     if begins_with 124 t then (if is_blank (drop 1 t) || begins_white (drop 1 t) then None else spaced_bar t (closed SpacedBar (drop 1 t)))
     else None
 
--- two colons behind n characters, of which the first `len` are a directive's name
+-- two colons after n characters, of which the first `len` are a directive's name
 unfoldable pub colons : ℕ → ℕ → List ℕ → Option DirectiveMark
 colons len n t =
     if not (begins_with 58 (drop n t)) || not (begins_with 58 (drop (n + 1) t)) then None
     else option_and_then (λ m. Some (record { len = len; marker = m })) (marker_of (n + 2) t)
 
--- a simple name of n characters and two colons, between which one space may stand if `spaced` says so
+-- a simple name of n characters and two colons, between which one space may be there if `spaced` is true
 abbrev pub directive_by : Bool → ℕ → List ℕ → Option DirectiveMark
 directive_by spaced n t =
     if n == 0 then None
     else if spaced && begins_with 32 (drop n t) then colons n (n + 1) t
     else colons n n t
 
--- The mark of a directive: a simple name and `::` with spaces or the end behind it. A space may stand between the two if
--- `spaced` says so, as it does but in substitution definitions.
+-- The mark of a directive: a simple name and `::` with spaces or the end after it. A space may be between the two if
+-- `spaced` is true, as it is except in substitution definitions.
 unfoldable pub directive_of : Bool → List ℕ → Option DirectiveMark
 directive_of spaced t = directive_by spaced (simple_name t) t

@@ -1,4 +1,4 @@
--- The front of a text. No rule of markup: by it the marks that begin body elements are told.
+-- The front of a text. No rule of markup: by it the marks that begin body elements are recognized.
 use Rattle.std.specs.Prelude.{ℕ, Bool, true, false, ◌==◌, List, [], ◌∷◌, drop, Option, None, Some}
 use Rattle.rst_text.specs.Block.{indentation}
 -- a text begins with a character

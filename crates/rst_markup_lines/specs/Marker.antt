@@ -4,7 +4,7 @@ use Rattle.rst_text.specs.Block.{indentation, is_blank}
 use Rattle.rst_markup_lines.specs.Front.{begins_with, first, unindented}
 use Rattle.rst_markup_lines.specs.declared.marker.Marker.{Marker}
 
--- the first n characters of a text with the spaces behind them, if spaces or the end are behind them
+-- the first n characters of a text with the spaces after them, if spaces or the end are after them
 unfoldable pub marker_of : ℕ → List ℕ → Option Marker
 marker_of n t =
     if is_blank (drop n t) then Some (record { cut = n; bare = true })
@@ -20,14 +20,14 @@ abbrev pub bullet_by : Option ℕ → List ℕ → Option Marker
 bullet_by (Some c) t = if is_bullet c then marker_of 1 t else None
 bullet_by None t = None
 
--- the mark of an item of a bullet list: a bullet with spaces or the end behind it
+-- the mark of an item of a bullet list: a bullet with spaces or the end after it
 unfoldable pub bullet : List ℕ → Option Marker
 bullet t = bullet_by (first t) t
 
--- the mark of a doctest block: `>>>` with spaces or the end behind it
+-- the mark of a doctest block: `>>>` with spaces or the end after it
 unfoldable pub doctest : List ℕ → Option Marker
 doctest t = if begins_with 62 t && (begins_with 62 (drop 1 t) && begins_with 62 (drop 2 t)) then marker_of 3 t else None
 
--- the mark of a line of a line block: `|` with spaces or the end behind it
+-- the mark of a line of a line block: `|` with spaces or the end after it
 unfoldable pub line_bar : List ℕ → Option Marker
 line_bar t = if begins_with 124 t then marker_of 1 t else None

@@ -36,11 +36,11 @@ argument_len t =
     else if begins_with 60 t then bracketed_len (run Bracketed (drop 1 t)) t
     else 0
 
--- an argument of n characters behind this delimiter, if there are some
+-- an argument of n characters after this delimiter, if there are some
 abbrev pub with_delimiter : Delimiter → ℕ → Option Argument
 with_delimiter d n = if n == 0 then None else Some (record { delimiter = d; len = n })
 
--- the argument at the front of a text that this delimiter stands before
+-- the argument at the front of a text that this delimiter precedes
 unfoldable pub argument_behind : Delimiter → List ℕ → Option Argument
 argument_behind d t = with_delimiter d (argument_len t)
 
@@ -59,13 +59,13 @@ long_argument t =
 abbrev pub option_of : ℕ → Option Argument → Option OptionMark
 option_of n a = Some (record { string = n; argument = a })
 
--- behind n characters an ASCII alphanumeric followed by alphanumerics, `_`, `-`
+-- after n characters an ASCII alphanumeric followed by alphanumerics, `_`, `-`
 unfoldable pub long_option : ℕ → List ℕ → Option OptionMark
 long_option n t =
     if begins_ascii_alphanumeric (drop n t) then (let m = n + 1 + run OptionClass (drop 1 (drop n t)) in option_of m (long_argument (drop m t)))
     else None
 
--- behind its first character, which marks it, a digit or a letter of ASCII, and maybe an argument
+-- after its first character, which marks it, a digit or a letter of ASCII, and maybe an argument
 unfoldable pub short_option : List ℕ → Option OptionMark
 short_option t = if begins_ascii_alphanumeric (drop 1 t) then option_of 2 (short_argument (drop 2 t)) else None
 
@@ -82,17 +82,17 @@ abbrev pub width_with : Delimiter → ℕ → ℕ
 width_with Nothing n = n
 width_with _ n = n + 1
 
--- how many characters an argument has with what stands before it
+-- how many characters an argument has with what precedes it
 abbrev pub argument_width : Option Argument → ℕ
 argument_width None = 0
 argument_width (Some a) = width_with a.delimiter a.len
 
--- an option with spaces or the end behind it is the last, and one with neither is wrong
+-- an option with spaces or the end after it is the last, and one with neither is wrong
 abbrev pub last_if : Option Marker → OptionTail
 last_if None = Wrong
 last_if (Some m) = Last m
 
--- What stands behind the first n characters, which are an option: a comma and a space lead to the next, two or more spaces or
+-- What follows the first n characters, which are an option: a comma and a space lead to the next, two or more spaces or
 -- the end make it the last, and all else is wrong.
 unfoldable pub tail_at : ℕ → List ℕ → OptionTail
 tail_at n t =
@@ -100,16 +100,16 @@ tail_at n t =
     else if begins_with 32 (drop n t) && not (begins_with 32 (drop 1 (drop n t))) then Wrong
     else last_if (marker_of n t)
 
--- what stands behind an option at the front of a text; where there is none, the text is wrong
+-- what follows an option at the front of a text; where there is none, the text is wrong
 abbrev pub tail_behind : Option OptionMark → List ℕ → OptionTail
 tail_behind None t = Wrong
 tail_behind (Some o) t = tail_at (o.string + argument_width o.argument) t
 
--- what stands behind the option at the front of a text
+-- what follows the option at the front of a text
 unfoldable pub option_tail : List ℕ → OptionTail
 option_tail t = tail_behind (option_at t) t
 
--- an option of a text: how many characters stand before it, the option, and what stands behind it
+-- an option of a text: how many characters come before it, the option, and what follows it
 pub record PlacedOption : Type 0 where
   pub from : ℕ
   pub mark : OptionMark
@@ -119,29 +119,29 @@ pub record PlacedOption : Type 0 where
 abbrev pub moved : ℕ → PlacedOption → PlacedOption
 moved n o = record { from = n + o.from; mark = o.mark; tail = o.tail }
 
--- the option at the front of a text, if there is one, and those behind it, if its tail leads to a next
+-- the option at the front of a text, if there is one, and those after it, if its tail leads to a next
 abbrev pub with_next : Option OptionMark → OptionTail → (ℕ → List PlacedOption) → List PlacedOption
 with_next None tail next = []
 with_next (Some o) (Next n) next = record { from = 0; mark = o; tail = Next n } ∷ next n
 with_next (Some o) tail next = record { from = 0; mark = o; tail = tail } ∷ []
 
--- The options of a text from its place k on: the one that stands there, and those that the tail of each leads to. They are
+-- The options of a text from its place k on: the one there, and those that the tail of each leads to. They are
 -- the options of the text without its first character from the place before, a character further on.
 unfoldable pub options_from : ℕ → List ℕ → List PlacedOption
 options_from k [] = []
 options_from (suc k) (c ∷ cs) = map (moved 1) (options_from k cs)
 options_from zero (c ∷ cs) = with_next (option_at (c ∷ cs)) (option_tail (c ∷ cs)) (λ n. map (moved 1) (options_from (n - 1) cs))
 
--- a marker behind further characters
+-- a marker after further characters
 abbrev pub shifted : ℕ → Marker → Marker
 shifted before m = record { cut = before + m.cut; bare = m.bare }
 
--- the marker that ends with an option behind this many characters, if nothing more or two or more spaces stand behind it
+-- the marker that ends with an option after this many characters, if nothing more or two or more spaces follow it
 abbrev pub marker_by : ℕ → OptionTail → Option Marker
 marker_by before (Last m) = Some (shifted before m)
 marker_by before tail = None
 
--- the marker of options joined by `, `: their last makes it, with two or more spaces or the end behind it
+-- the marker of options joined by `, `: their last makes it, with two or more spaces or the end after it
 abbrev pub marker_of_options : List PlacedOption → Option Marker
 marker_of_options os = option_and_then (λ o. marker_by o.from o.tail) (last_or None os)
 

@@ -44,13 +44,13 @@ is_lower_numeral c = (c == 99 || (c == 100 || c == 105)) || ((c == 108 || c == 1
 abbrev pub is_upper_numeral : ℕ → Bool
 is_upper_numeral c = (c == 67 || (c == 68 || c == 73)) || ((c == 76 || c == 77) || (c == 86 || c == 88))
 
--- a letter that stands in Roman numerals of some case
+-- a letter that occurs in Roman numerals of some case
 abbrev pub is_numeral_letter : ℕ → Bool
 is_numeral_letter c = is_lower_numeral c || is_upper_numeral c
 
 -- ---- a digit at the front of letters
 
--- the greatest digit up to one whose letters stand first, and what is behind them
+-- the greatest digit up to one whose letters come first, and what is after them
 unfoldable pub digit_to : List (List ℕ) → ℕ → List ℕ → ℕ × List ℕ
 digit_to digits zero t = (0, t)
 digit_to digits (suc d) t =

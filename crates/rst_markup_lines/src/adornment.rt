@@ -6,7 +6,7 @@ use super::class::{Class, run};
 use super::text::{front, is_blank};
 use rst_text::skip;
 
-/// A line of one punctuation character: the character and how often it stands there.
+/// A line of one punctuation character: the character and how often it occurs there.
 #[derive(Clone, Copy, Debug, PartialEq, Eq)]
 pub struct Adornment {
     pub character: char,

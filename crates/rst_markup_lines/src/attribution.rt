@@ -6,7 +6,7 @@ use super::class::{Class, run};
 use super::text::{begins_with, is_blank};
 use rst_text::{indentation, skip};
 
-/// How many characters stand before the text of an attribution, if a line is one: a dash, which is `--`, `---` or U+2014, maybe
+/// How many characters come before the text of an attribution, if a line is one: a dash, which is `--`, `---` or U+2014, maybe
 /// spaces, and a text.
 #[tactic(auto, unfolding(crate::specs::Attribution::attribution_of, crate::specs::Attribution::dash_len))]
 pub fn attribution_of(text: &str) -> Option<usize>

@@ -18,9 +18,9 @@ pub enum Class {
     Letter,
     /// Letters and numbers by general category, `_` and `-`.
     Option,
-    /// What stands in an argument in angle brackets: anything but these.
+    /// What may be in an argument in angle brackets: anything but these.
     Bracketed,
-    /// What stands in a label: anything but a closing bracket.
+    /// What may be in a label: anything but a closing bracket.
     Unbracketed,
 }
 

@@ -10,17 +10,17 @@ use rst_text::{escapes, is_white, skip};
 /// What closes.
 #[derive(Clone, Copy, Debug, PartialEq, Eq)]
 pub(crate) enum Closing {
-    /// A colon with a space or the end behind it.
+    /// A colon with a space or the end after it.
     Colon,
-    /// A backquote with such a colon behind it.
+    /// A backquote with such a colon after it.
     QuotedColon,
     /// A bar with a character before it that isn't white.
     Bar,
-    /// Such a bar with a space behind it.
+    /// Such a bar with a space after it.
     SpacedBar,
 }
 
-/// Whether a character closes, by whether it is escaped, and whether one that isn't white stands before it.
+/// Whether a character closes, by whether it is escaped, and whether one that isn't white comes before it.
 #[tactic(auto, unfolding(crate::specs::Closing::is_closing))]
 fn closes(closing: Closing, escaped: bool, dark: bool, c: char, behind: &str) -> bool
     ensures { result ≡ (not escaped && spec.is_closing closing dark c (chars behind.now)) }
@@ -38,7 +38,7 @@ fn closes(closing: Closing, escaped: bool, dark: bool, c: char, behind: &str) ->
     }
 }
 
-/// How many characters stand before the first one that closes and isn't escaped.
+/// How many characters come before the first one that closes and isn't escaped.
 pub(crate) fn closed(closing: Closing, text: &str) -> Option<usize>
     ensures value { result ≡ spec.closed closing (chars text.now) }
     ensures within { IfSome result (λ n. n < length text.now) }
@@ -81,7 +81,7 @@ pub fn ends_in_colons(text: &str) -> bool
     false
 }
 
-/// Whether a character and what is behind it are two colons.
+/// Whether a character and what is after it are two colons.
 fn is_colon_pair(escaped: bool, c: char, behind: &str) -> bool
     ensures { result ≡ (not escaped && (c == 58 && (fronts.begins_with 58 (chars behind.now) && block.is_blank (drop 1 (chars behind.now))))) }
 {

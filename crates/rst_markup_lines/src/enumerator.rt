@@ -9,7 +9,7 @@ use super::roman::{is_numeral_letter, roman};
 use super::text::{after_first, begins_with, front};
 use rst_text::skip;
 
-/// What stands round an enumerator's ordinal.
+/// What encloses an enumerator's ordinal.
 #[derive(Clone, Copy, Debug, PartialEq, Eq)]
 pub enum Format {
     /// `(x)`
@@ -116,7 +116,7 @@ fn letters(text: &str) -> Option<Written>
     })
 }
 
-/// Whether a character can't begin an enumerator, by the one behind it.
+/// Whether a character can't begin an enumerator, by the one after it.
 fn is_no_front(c: char, behind: Option<char>) -> bool
     ensures { result ≡ spec.is_no_front c behind }
 {
@@ -140,7 +140,7 @@ fn is_no_front(c: char, behind: Option<char>) -> bool
 pub fn enumerator_of(text: &str) -> Option<Enumerator>
     ensures { result ≡ spec.enumerator_of (chars text.now) }
 {
-    // Most lines begin with a word, which its first two letters tell.
+    // Most lines begin with a word, as its first two letters show.
     match front(text) {
         Some(c) if !is_no_front(c, front(after_first(text))) => read_enumerator(text),
         _ => None,
@@ -203,7 +203,7 @@ pub fn is_same_format(a: Format, b: Format) -> bool
     )
 }
 
-/// Whether a line begins with a next enumerator of this one, under any reading, with a space and a text behind it.
+/// Whether a line begins with a next enumerator of this one, under any reading, with a space and a text after it.
 #[tactic(auto, unfolding(crate::specs::Enumerator::begins_next))]
 pub fn begins_next(enumerator: Enumerator, text: &str) -> bool
     ensures { result ≡ spec.begins_next enumerator (chars text.now) }
@@ -255,7 +255,7 @@ pub struct Reading {
 }
 
 /// The reading that a list's first ordinal has: `#` is the Arabic 1, `i` and `I` are Roman, another single letter
-/// stands in the alphabet.
+/// is a letter of the alphabet.
 pub fn first_reading(ordinals: Ordinals) -> Reading
     ensures { result ≡ spec.first_reading ordinals }
 {

@@ -1,4 +1,4 @@
-//! Marks of explicit markup: `..` and `__`, and what stands behind `..`.
+//! Marks of explicit markup: `..` and `__`, and what follows `..`.
 ghost use Rattle.std.specs.Prelude.{◌≡◌, ◌<◌, ◌≤◌, ◌-◌, ◌&&◌, ◌||◌, true, drop, take, length, chars};
 ghost use Rattle.rst_text.specs.Characters as characters;
 ghost use Rattle.rst_text.specs.Characters.{is_alnum_at};
@@ -46,8 +46,8 @@ fn begins_alphanumeric(text: &str) -> bool
     }
 }
 
-/// Whether a character behind those of a simple name goes on with it: a letter or a number does, and a joint with one
-/// of these behind it.
+/// Whether a character after those of a simple name goes on with it: a letter or a number does, and a joint with one
+/// of these after it.
 fn goes_on(c: char, behind: &str) -> bool
     ensures { result ≡ (characters.is_alphanumeric c || (names.is_joint c && is_alnum_at (chars behind.now) 0)) }
 {
@@ -90,7 +90,7 @@ pub struct LabelMark {
     pub marker: Marker,
 }
 
-/// What the first `len` characters of a text label, which `]` stands behind: digits, `#`, `#` and a simple name, and `*` a
+/// What the first `len` characters of a text label, which `]` follows: digits, `#`, `#` and a simple name, and `*` a
 /// footnote, another simple name a citation, all else nothing.
 #[tactic(auto, using(crate::proofs::LabelLemmas::kind_before))]
 fn label_kind(len: usize, text: &str) -> Option<LabelKind>
@@ -198,11 +198,11 @@ pub fn target_of(text: &str) -> Option<TargetMark>
 /// What a text that begins with a bar and a character that isn't white is.
 #[derive(Clone, Copy, Debug, PartialEq, Eq)]
 pub enum SubstitutionMark {
-    /// A name between bars with a space behind them: how many characters it has, and the marker.
+    /// A name between bars with a space after them: how many characters it has, and the marker.
     Named { len: usize, marker: Marker },
     /// No bar closes the first.
     Unclosed,
-    /// A bar closes the first, with something else than a space behind.
+    /// A bar closes the first, with something other than a space after it.
     Tight,
 }
 
@@ -236,8 +236,8 @@ pub struct DirectiveMark {
     pub marker: Marker,
 }
 
-/// The directive mark at the front of a text: a simple name and `::`, between which a space may stand if `spaced` says
-/// so.
+/// The directive mark at the front of a text: a simple name and `::`, between which a space may be if `spaced`
+/// is true.
 #[tactic(auto, unfolding(crate::specs::ExplicitMarks::directive_of, crate::specs::ExplicitMarks::colons))]
 pub fn directive_of(spaced: bool, text: &str) -> Option<DirectiveMark>
     ensures { result ≡ spec.directive_of spaced (chars text.now) }

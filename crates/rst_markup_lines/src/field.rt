@@ -16,7 +16,7 @@ pub struct FieldMark {
 }
 
 /// The field mark at the front of a line: a name between colons, up to the first unescaped one with a space or the end
-/// behind it. The name isn't empty, doesn't begin with a space or a colon, and doesn't end with a space.
+/// after it. The name isn't empty, doesn't begin with a space or a colon, and doesn't end with a space.
 #[tactic(auto, unfolding(crate::specs::Field::field_of))]
 pub fn field_of(text: &str) -> Option<FieldMark>
     ensures { result ≡ spec.field_of (chars text.now) }

@@ -1,4 +1,4 @@
-//! Marks: what stands at the front of a line and says what the line is.
+//! Marks: what is at the front of a line and determines what the line is.
 #![tactic(auto)]
 
 mod adornment;

@@ -1,19 +1,19 @@
-//! Markers: a mark at the front of a line with the spaces behind it.
+//! Markers: a mark at the front of a line with the spaces after it.
 ghost use Rattle.std.specs.Prelude.{◌≡◌, chars};
 ghost use Rattle.rst_markup_lines.specs.Marker as spec;
 
 use super::text::{begins_with, front, is_blank};
 use rst_text::{indentation, skip};
 
-/// A mark at the front of a line: how many characters it has with the spaces behind it, and whether nothing stands
-/// behind these.
+/// A mark at the front of a line: how many characters it has with the spaces after it, and whether nothing
+/// follows these.
 #[derive(Clone, Copy, Debug, PartialEq, Eq)]
 pub struct Marker {
     pub cut: usize,
     pub bare: bool,
 }
 
-/// The marker that the first `n` characters of a line are, if spaces or the line's end are behind them.
+/// The marker that the first `n` characters of a line are, if spaces or the line's end are after them.
 #[tactic(auto, unfolding(crate::specs::Marker::marker_of))]
 pub fn marker_of(n: usize, text: &str) -> Option<Marker>
     ensures { result ≡ spec.marker_of n (chars text.now) }

@@ -7,7 +7,7 @@ use super::marker::{Marker, marker_of};
 use super::text::{begins_with, front};
 use rst_text::{is_letter, skip};
 
-/// What stands between an option and its argument.
+/// What is between an option and its argument.
 #[derive(Clone, Copy, Debug, PartialEq, Eq)]
 pub enum Delimiter {
     Nothing,
@@ -16,7 +16,7 @@ pub enum Delimiter {
 }
 
 /// An option at the front of a text: how many characters it has without its argument, and the argument, if it has one:
-/// what stands before it, and how many characters it has.
+/// what precedes it, and how many characters it has.
 #[derive(Clone, Copy, Debug, PartialEq, Eq)]
 pub(crate) struct OptionMark {
     pub string: usize,
@@ -40,7 +40,7 @@ fn begins_ascii_alphanumeric(text: &str) -> bool
     }
 }
 
-/// The argument behind a delimiter of a character, or of none. It is a letter and alphanumerics, `_` and `-` after it, or something
+/// The argument after a delimiter of a character, or of none. It is a letter and alphanumerics, `_` and `-` after it, or something
 /// in angle brackets.
 #[tactic(auto, unfolding(crate::specs::OptionMarker::argument_behind, crate::specs::OptionMarker::argument_len))]
 fn argument_behind(delimiter: Delimiter, text: &str) -> Option<Argument>
@@ -117,7 +117,7 @@ pub(crate) fn option_at(text: &str) -> Option<OptionMark>
     })
 }
 
-/// How many characters an argument has with what stands before it.
+/// How many characters an argument has with what precedes it.
 fn argument_width(argument: Option<Argument>) -> usize
     requires { IfSome argument (λ a. a.len < 2 ^ 63 + 2) }
     ensures value { result ≡ spec.argument_width argument }
@@ -135,18 +135,18 @@ fn argument_width(argument: Option<Argument>) -> usize
     }
 }
 
-/// What stands behind an option.
+/// What follows an option.
 #[derive(Clone, Copy, Debug, PartialEq, Eq)]
 pub(crate) enum OptionTail {
     /// Nothing, or two or more spaces: the option is the last, and the marker it makes.
     Last(Marker),
-    /// A comma and a space: how many characters stand before the next option.
+    /// A comma and a space: how many characters come before the next option.
     Next(usize),
     /// Something else, or there is no option.
     Wrong,
 }
 
-/// What stands behind the option at the front of a text.
+/// What follows the option at the front of a text.
 #[tactic(auto, unfolding(crate::specs::OptionMarker::option_tail, crate::specs::OptionMarker::tail_at))]
 pub(crate) fn option_tail(text: &str) -> OptionTail
     ensures { result ≡ spec.option_tail (chars text.now) }
@@ -170,7 +170,7 @@ pub(crate) fn option_tail(text: &str) -> OptionTail
 }
 
 /// The marker at the front of a line that options joined by a comma and a space make, with two or more spaces or the
-/// line's end behind them.
+/// line's end after them.
 pub fn option_marker(text: &str) -> Option<Marker>
     ensures { result ≡ spec.option_marker (chars text.now) }
 {

@@ -20,13 +20,13 @@ pub struct ListedOption {
 /// An option's argument.
 #[derive(Clone, Copy, Debug, PartialEq, Eq)]
 pub struct ListedArgument {
-    /// What stands between the option and its argument.
+    /// What is between the option and its argument.
     pub delimiter: Delimiter,
     /// The argument itself.
     pub text: Characters,
 }
 
-/// The `len` characters behind `from` others.
+/// The `len` characters after `from` others.
 fn place_of(from: usize, len: usize) -> Characters
     requires { from + len < 2 ^ 64 }
     ensures { result ≡ places.place_of from len }
@@ -37,7 +37,7 @@ fn place_of(from: usize, len: usize) -> Characters
     }
 }
 
-/// An argument, behind `before` characters and its delimiter.
+/// An argument, after `before` characters and its delimiter.
 fn argument_behind(before: usize, argument: Argument) -> ListedArgument
     requires { before + argument.len + 1 < 2 ^ 64 }
     ensures { result ≡ spec.argument_at before argument }
@@ -53,7 +53,7 @@ fn argument_behind(before: usize, argument: Argument) -> ListedArgument
     }
 }
 
-/// An option, behind `before` characters.
+/// An option, after `before` characters.
 fn option_in(before: usize, option: OptionMark) -> ListedOption
     requires { before + option.string + markers.argument_width option.argument + 1 < 2 ^ 64 }
     ensures { result ≡ spec.option_in before option }
@@ -73,7 +73,7 @@ fn option_in(before: usize, option: OptionMark) -> ListedOption
 /// a comma and a space, two or more spaces or the line's end follow it, and the first that isn't ends the list. So these
 /// are all options of a line that [`option_marker`](super::option_marker) finds a marker in.
 ///
-/// The only refusal is want of memory.
+/// The only refusal is that memory runs out.
 pub fn listed_options(alloc: Global, text: &str) -> Result<Vec<ListedOption>, AllocError>
     ensures options { IfOk result (λ options. options.items ≡ spec.options_in (chars text.now)) }
     ensures within { IfOk result (λ options. spec.AreOptionsIn (chars text.now) options.items) }

@@ -49,7 +49,7 @@ fn digits(case: Case, place: RomanPlace) -> &'static [&'static str]
     }
 }
 
-/// Whether a character is a letter that stands in Roman numerals.
+/// Whether a character is a letter that occurs in Roman numerals.
 pub(crate) fn is_numeral_letter(c: char) -> bool
     ensures { result ≡ spec.is_numeral_letter c }
 {
@@ -59,7 +59,7 @@ pub(crate) fn is_numeral_letter(c: char) -> bool
     )
 }
 
-/// The greatest digit of a place whose letters stand first, 0 where there is none, and the letters behind it.
+/// The greatest digit of a place whose letters come first, 0 where there is none, and the letters after it.
 fn digit_at<'a>(case: Case, place: RomanPlace, letters: &'a [u8]) -> (usize, &'a [u8])
     ensures digit { (result.0, result.1.now) ≡ spec.digit_at (spec.digits case place) letters.now }
     ensures few { result.0 ≤ 9 }

@@ -37,7 +37,7 @@ pub fn bullets()
     ensures substitution { line_bar (codes "|a| b") ≡ None }
 {}
 
-/// Enumerators: what stands round the ordinal, the ordinal, and the marker (Markup Specification, 'Enumerated Lists').
+/// Enumerators: what encloses the ordinal, the ordinal, and the marker (Markup Specification, 'Enumerated Lists').
 pub fn enumerators()
     ensures period { enumerator_of (codes "12. a")
         ≡ Some (record { format = Period; written = record { ordinals = Arabic 12; len = 2 }; marker = record { cut = 4; bare = false } }) }

@@ -1,4 +1,4 @@
-//! The first character of a text, and what is behind it.
+//! The first character of a text, and what follows it.
 ghost use Rattle.std.specs.Prelude.{◌≡◌, ◌<◌, drop, length, IsSome, chars};
 ghost use Rattle.rst_text.specs.Block.{is_blank};
 ghost use Rattle.rst_markup_lines.specs.Front.{first, begins_with, is_loose};

@@ -29,7 +29,7 @@ pub least_from-none : (m : Option ℕ) → least_from m [] ≡ m
 unfolding least_from
 least_from-none m = refl
 
--- a white character at the end is dropped, and nothing is behind another one
+-- a white character at the end is dropped, and nothing is after another one
 dropped-white : (xs : List ℕ) (c : ℕ) → is_whitespace c ≡ true → drop_trailing_whitespace (xs ++ c ∷ []) ≡ drop_trailing_whitespace xs
 dropped-white [] c e = rw e refl
 dropped-white (x ∷ xs) c e = ap (λ l. cond (is_whitespace x && eqb (length l) 0) [] (x ∷ l)) (dropped-white xs c e)
@@ -63,7 +63,7 @@ pub places-ascii : (cs : List ℕ) → IsAscii cs → places_of cs ≡ map Chara
 places-ascii [] low = refl
 places-ascii (c ∷ cs) low = rw (is_double-ascii c (low 0)) (ap (λ ps. Character c ∷ ps) (places-ascii cs (λ i. low (suc i))))
 
--- the characters at the first places are the first characters, and those behind them the others
+-- the characters at the first places are the first characters, and those after them the others
 characters-take : (n : ℕ) (ps : List Place) → (m : ℕ) × (characters (take n ps) ≡ take m (characters ps))
 characters-take zero ps = (0, refl)
 characters-take (suc n) [] = (0, refl)

@@ -18,7 +18,7 @@ read_more xs i x below is = drop_more xs i x below ∙ ap (λ y. y ∷ drop (i +
 pub left_more : (k high : ℕ) → k < high → high - k ≡ suc (high - (k + 1))
 left_more k high h = omega arith
 
--- what `find` gives, said of the numbers from `low` up to `high`
+-- what `find` gives, stated for the numbers from `low` up to `high`
 pub first_from-found : (p : ℕ → Bool) (low high : ℕ) (r : Option ℕ)
     → MatchOption r ((k : ℕ) → low ≤ k → k < high → p k ≡ false) (λ i. (low ≤ i) × (i < high) × (p i ≡ true) × ((k : ℕ) → low ≤ k → k < i → p k ≡ false)) → r ≡ first_from p low (high - low)
 first_from-found p low high None h = first_from-is p low high None h
@@ -61,7 +61,7 @@ below_same p q (suc n) same =
     let here : p n ≡ q n = same n (omega arith) in
     below_more p n ∙ ap₂ (λ a b. a + cond b 1 0) rest here ∙ sym (below_more q n)
 
--- pushed onto what stands before
+-- pushed onto what precedes
 pub onto : {X : Type 0} (front rest new all : List X) (x : X) → new ≡ front ++ x ∷ [] → front ++ (x ∷ rest) ≡ all → new ++ rest ≡ all
 onto front rest new all x is e = ap (λ l. l ++ rest) is ∙ append_assoc front (x ∷ []) rest ∙ e
 

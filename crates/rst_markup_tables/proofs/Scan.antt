@@ -114,7 +114,7 @@ reached_all G i j rs s once = record { drawn = subst (AreDrawn G 0 0) (append-ni
 
 -- ---- how far down the columns of unit squares are covered
 
--- the rectangles that were found before the unit square (i, j); `depths` says of each column of unit squares how far down they cover it
+-- the rectangles that were found before the unit square (i, j); `depths` gives for each column of unit squares how far down they cover it
 pub record Stands (G : Grid) (i j : ℕ) (depths : List ℕ) (rs : List Rectangle) : Type 0 where
   pub size : length depths ≡ width G - 1
   pub above : (k : ℕ) → k < j → k < length depths → i < get_or depths k 0

@@ -1,4 +1,4 @@
--- What a scan for a table goes over behind it.
+-- What a scan for a table goes over after it.
 use Rattle.std.proofs.Common.{⊎_elim, ◌≡◌, ℕ, ◌+◌, ◌-◌, ◌<◌, ◌≤◌, false, List, [], ◌∷◌, length, drop, refl, sym, ap, ◌∙◌, arith, Option, Some, None}
 use Rattle.std.specs.Prelude.{unwrap_or}
 use Rattle.std.specs.Option.{option_or}
@@ -24,7 +24,7 @@ stop_line (l ∷ ls) h = grind (arith, stop_line ls)
 no_border : (t : List ℕ) → is_drawn t ≡ false → is_grid_border t ≡ false
 no_border t e = grind (arith, grid_drawn t)
 
--- of the lines that begin with `+` or `|` none behind the bottom border is one
+-- of the lines that begin with `+` or `|` none after the bottom border is one
 past_bottom : (X : Block) (k : ℕ) (o : Option ℕ) → IsLast (is_border_at X) 2 (2 + (lines_while Drawn X - 2)) o → through (lines_while Drawn X) o ≤ k → k < lines_while Drawn X → is_border_at X k ≡ false
 past_bottom X k None h behind inside = absurd (omega arith)
 past_bottom X k (Some b) h behind inside = h.3 k behind (omega arith)
@@ -40,7 +40,7 @@ no_grid X k behind inside = ⊎_elim
 
 -- ---- simple tables
 
--- without a bottom border none stands behind the one that closes the head
+-- without a bottom border there is none after the one that closes the head
 past_head : (X : Block) (h k : ℕ) (o : Option ℕ) → IsFirst (is_lower_border_at X) (h + 1) (h + 1 + (length X - (h + 1))) o → o ≡ None → h + 1 ≤ k → k < length X → is_lower_border_at X k ≡ false
 past_head X h k None none e behind inside = none k behind (omega arith)
 past_head X h k (Some b) none e behind inside = cc

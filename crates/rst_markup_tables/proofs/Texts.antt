@@ -90,7 +90,7 @@ spread-drop first count n ts = by (range_with_len 0 count)
     by [] = refl
     by (k ∷ ks) = ap₂ (λ t ls. (let l : Line = record { number = first + k; text = t } in l) ∷ ls) (text_at-drop n ts k) (by ks)
 
--- ---- texts that can stand in lines
+-- ---- texts that can occur in lines
 
 placed-texts : (f : ℕ → List ℕ) (from low n : ℕ) → from ≤ low → are_lines (as_lines (texts_by f (range_with_len low n))) ≡ true → ArePlaced from (low + n) (texts_by f (range_with_len low n))
 placed-texts f from low zero h lines = omega arith

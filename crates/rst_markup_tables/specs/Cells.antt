@@ -1,4 +1,4 @@
--- What stands in the cells of a table (Markup Specification, 'Grid Tables', 'Simple Tables').
+-- What is in the cells of a table (Markup Specification, 'Grid Tables', 'Simple Tables').
 use Rattle.std.specs.Prelude.{◌≡◌, ℕ, ◌-◌, Bool, true, false, not, nat_lt, List, [], ◌∷◌, take, drop, map, filter, get_or, length, Option, Some, None}
 use Rattle.std.specs.Char.{is_whitespace}
 use Rattle.std.specs.List.{list_any, range_with_len}

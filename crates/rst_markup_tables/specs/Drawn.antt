@@ -52,7 +52,7 @@ abbrev pub times : List Rectangle → ℕ → ℕ → ℕ
 times [] i j = 0
 times (r ∷ rs) i j = one_if (covers r i j) + times rs i j
 
--- in reading order, the rectangle begins at the unit square or behind it
+-- in reading order, the rectangle begins at the unit square or after it
 abbrev pub BeginsFrom : ℕ → ℕ → Rectangle → Type 0
 BeginsFrom i j r = (i ≤ r.top) × (i ≡ r.top → j ≤ r.left)
 

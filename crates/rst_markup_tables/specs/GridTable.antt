@@ -1,5 +1,5 @@
--- Grid tables: what can be wrong with their lines, and what stands in them (Markup Specification, 'Grid Tables'). Which
--- lines they are is told by the row of the table of constructs.
+-- Grid tables: what can be wrong with their lines, and what is in them (Markup Specification, 'Grid Tables'). Which
+-- lines they are is determined by the row of the table of constructs.
 use Rattle.std.specs.Prelude.{◌≡◌, ℕ, ◌+◌, ◌-◌, Bool, ◌&&◌, ◌||◌, ◌==◌, nat_le, List, Option, Some, None, option_map, unwrap_or, option_and_then, if◌then◌else◌, get_or, slice_set, length, take, drop, map, filter}
 use Rattle.std.specs.List.{list_all, list_any, range_with_len}
 use Rattle.rst_text.specs.Block.{Block, first_number}
@@ -69,20 +69,20 @@ with_dashes T (Some k) = slice_set T k (dashed (get_or T k no_row))
 abbrev pub is_between : ℕ → ℕ → ℕ → Bool
 is_between low high k = nat_le low k && nat_le k high
 
--- A `+` of the rectangle's top or bottom side stands in the column. The left and the right side have a `+` in a
+-- A `+` of the rectangle's top or bottom side is in the column. The left and the right side have a `+` in a
 -- corner, which belongs to the top side, too.
 unfoldable pub bounds_column : Grid → ℕ → Rectangle → Bool
 bounds_column G j r = is_between r.left r.right j && (place G r.top j == 43 || place G r.bottom j == 43)
 
--- a `+` of the rectangle's left or right side stands in the row
+-- a `+` of the rectangle's left or right side is in the row
 unfoldable pub bounds_row : Grid → ℕ → Rectangle → Bool
 bounds_row G i r = is_between r.top r.bottom i && (place G i r.left == 43 || place G i r.right == 43)
 
--- a column is a bound: a `+` of a rectangle's top or bottom side stands in it
+-- a column is a bound: a `+` of a rectangle's top or bottom side is in it
 abbrev pub is_column : Grid → List Rectangle → ℕ → Bool
 is_column G rs j = list_any (bounds_column G j) rs
 
--- a row is a bound: a `+` of a rectangle's left or right side stands in it
+-- a row is a bound: a `+` of a rectangle's left or right side is in it
 abbrev pub is_row : Grid → List Rectangle → ℕ → Bool
 is_row G rs i = list_any (bounds_row G i) rs
 
@@ -90,7 +90,7 @@ is_row G rs i = list_any (bounds_row G i) rs
 abbrev pub gaps : List ℕ → List ℕ
 gaps bounds = map (λ (p : ℕ × ℕ). p.1 - p.0 - 1) (neighbours bounds)
 
--- How many rows, or columns, there are from one bound up to another, less 1. A rank says how many bounds stand before
+-- How many rows, or columns, there are from one bound up to another, less 1. A rank is the number of bounds before
 -- a place.
 abbrev pub more_of : (ℕ → ℕ) → ℕ → ℕ → ℕ
 more_of rank from to = rank to - rank from - 1

@@ -12,11 +12,11 @@ use Rattle.rst_markup_tables.specs.declared.results.TableResult.{TableResult}
 abbrev pub HaveOneTiling : Type 0
 HaveOneTiling = (G : Grid) → OneTiling G
 
--- At none of the lines that a scan for a grid table goes over behind the table a grid table begins.
+-- No grid table begins at a line that a scan for a grid table goes over after the table.
 abbrev pub NoGridBehind : Type 0
 NoGridBehind = (X : Block) (k : ℕ) → grid_size X ≤ k → k < grid_scan X → is_grid_row (drop k X) ≡ false
 
--- None of the lines that a scan for a simple table goes over behind the table is a border.
+-- None of the lines that a scan for a simple table goes over after the table is a border.
 abbrev pub NoSimpleBehind : Type 0
 NoSimpleBehind = (X : Block) (k : ℕ) → simple_size X ≤ k → k < simple_scan X → is_lower_border_at X k ≡ false
 

@@ -12,7 +12,7 @@ pub record AreMarked (p : ℕ → Bool) (n : ℕ) (marks : List Bool) : Type 0 w
   pub size : length marks ≡ n
   pub at : (k : ℕ) → k < n → get_or marks k false ≡ p k
 
--- for each number up to the size how many marks stand before it
+-- for each number up to the size how many marks come before it
 pub record AreRanks (rank : ℕ → ℕ) (n : ℕ) (ranks : List ℕ) : Type 0 where
   pub size : n < length ranks
   pub at : (k : ℕ) → k ≤ n → get_or ranks k 0 ≡ rank k

@@ -1,4 +1,4 @@
--- Items of a list that stand side by side. No rule of markup: rows and columns of tables lie between such.
+-- Neighbouring items of a list. No rule of markup: rows and columns of tables lie between neighbours.
 use Rattle.std.specs.Prelude.{List, drop, zip}
 
 -- each item of a list but the last, with the next one

@@ -15,7 +15,7 @@ abbrev pub numbered : ℕ → List String → Block
 numbered n [] = []
 numbered n (text ∷ texts) = record { number = n; text = codes text } ∷ numbered (n + 1) texts
 
--- a cell that takes so many more rows and columns, with its lines from line n on
+-- a cell that takes `rows` more rows and `columns` more columns, with its lines from line n on
 abbrev pub cell : ℕ → ℕ → ℕ → List String → Cell
 cell rows columns n texts = record { morerows = rows; morecols = columns; lines = numbered n texts }
 

@@ -57,7 +57,7 @@ abbrev pub Begins : List Place → ℕ → ℕ → Type 0
 Begins row end begin = (left : ℕ) → (begin ≤ left → IsRun row left end) × (left < begin → IsRun row left end → ⊥)
 
 -- where the run of `-` and `+` through a column begins, if the one through the column before begins at `begin`; any
--- other character ends the run, and the next may begin behind it
+-- other character ends the run, and the next may begin after it
 unfoldable pub next_begin : ℕ → ℕ → ℕ → ℕ
 next_begin c begin column = if is_across c then begin else column + 1
 

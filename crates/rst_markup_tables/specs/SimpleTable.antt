@@ -1,5 +1,5 @@
--- Simple tables: what can be wrong with their lines, and what stands in them (Markup Specification, 'Simple Tables'). Which
--- lines they are is told by the row of the table of constructs.
+-- Simple tables: what can be wrong with their lines, and what is in them (Markup Specification, 'Simple Tables'). Which
+-- lines they are is determined by the row of the table of constructs.
 use Rattle.std.specs.Prelude.{ℕ, ◌+◌, ◌-◌, ◌≤◌, max, Bool, false, not, ◌&&◌, ◌||◌, ◌==◌, nat_le, List, [], ◌∷◌, ◌++◌, Option, Some, None, is_some, if◌then◌else◌, get_or, length, take, drop, slice_range, map, fold, count_by, unwrap_or, option_map, option_and_then, flat_map, filter, find, position}
 use Rattle.std.specs.Char.{is_whitespace}
 use Rattle.std.specs.List.{list_all, range_with_len}
@@ -37,7 +37,7 @@ is_empty_row row = length row == 0
 
 -- ---- columns
 
--- a space stands at the place
+-- a space is at the place
 abbrev pub is_space : List Place → ℕ → Bool
 is_space row k = mark_at row k == 32
 
@@ -82,7 +82,7 @@ abbrev pub no_more : List RuleSpan → Option (List RuleSpan)
 no_more [] = Some []
 no_more (c ∷ cs) = None
 
--- Spans with how many columns each joins. They have to join all columns, each those behind the ones that the span before
+-- Spans with how many columns each joins. They have to join all columns, each those after the ones that the span before
 -- it joins.
 abbrev pub spread : List RuleSpan → List RuleSpan → Option (List RuleSpan)
 spread columns [] = no_more columns
@@ -107,7 +107,7 @@ unfoldable pub is_white_place : Place → Bool
 is_white_place (Character c) = is_whitespace c
 is_white_place Second = false
 
--- nothing but white stands from one place up to another
+-- there is nothing but white from one place up to another
 abbrev pub is_clear : ℕ → ℕ → List Place → Bool
 is_clear from to row = list_all is_white_place (take (to - from) (drop from row))
 
@@ -124,7 +124,7 @@ abbrev pub row_lines : ℕ → ℕ → ℕ → RowLines
 row_lines from to rule = record { from = from; to = to; rule = rule }
 
 -- Where the rows begin in the lines before a rule, the first of which that isn't blank is line `start`: there, and at each
--- line behind it whose first column isn't blank.
+-- line after it whose first column isn't blank.
 abbrev pub row_places : Grid → ℕ → ℕ → List ℕ
 row_places T start rule = start ∷ filter (begins_row T) (range_with_len (start + 1) (rule - (start + 1)))
 
@@ -154,7 +154,7 @@ simple_rows T = sections T (rules_of T)
 abbrev pub row_spans : Grid → RowLines → List RuleSpan
 row_spans T r = unwrap_or (rule_spans T r.rule) []
 
--- nothing but white stands between neighbouring spans
+-- there is nothing but white between neighbouring spans
 abbrev pub are_clear : List RuleSpan → List Place → Bool
 are_clear spans row = list_all (λ (p : RuleSpan × RuleSpan). is_clear p.0.to p.1.from row) (neighbours spans)
 

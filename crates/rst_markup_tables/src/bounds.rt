@@ -10,7 +10,7 @@ use super::drawn::Rectangle;
 use super::places::{TableLine, mark, width};
 use std::alloc::Global;
 
-/// Marks the columns in which a `+` of the rectangle's top or bottom side stands.
+/// Marks the columns in which a `+` of the rectangle's top or bottom side is.
 fn mark_columns(marks: &mut [bool], lines: &[TableLine], rectangle: Rectangle)
     requires wide { rectangle.left < rectangle.right }
     requires within { rectangle.right < length marks.old }
@@ -26,7 +26,7 @@ fn mark_columns(marks: &mut [bool], lines: &[TableLine], rectangle: Rectangle)
     }
 }
 
-/// Marks the rows in which a `+` of the rectangle's left or right side stands.
+/// Marks the rows in which a `+` of the rectangle's left or right side is.
 fn mark_rows(marks: &mut [bool], lines: &[TableLine], rectangle: Rectangle)
     requires high { rectangle.top < rectangle.bottom }
     requires within { rectangle.bottom < length marks.old }

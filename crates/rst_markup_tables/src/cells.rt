@@ -16,7 +16,7 @@ use rst_markup_lines::is_blank;
 use rst_text::{indentation, skip};
 use std::alloc::Global;
 
-/// Places without those behind the last character that isn't white.
+/// Places without those after the last character that isn't white.
 fn trimmed(row: &[Place]) -> &[Place]
     ensures { characters result.now ≡ drop_trailing_whitespace (characters row.now) }
 {

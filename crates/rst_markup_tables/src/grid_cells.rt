@@ -11,7 +11,7 @@ use super::counts::{marked, ranks};
 use super::drawn::Rectangle;
 use super::results::{Cell, Rows, TableResult, Widths};
 
-/// How many bounds stand before each row and column.
+/// How many bounds come before each row and column.
 #[derive(Drop)]
 struct Ranks {
     rows: Vec<usize>,

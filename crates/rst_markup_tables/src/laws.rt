@@ -6,12 +6,12 @@ pub fn one_tiling()
     ensures { HaveOneTiling }
 {}
 
-/// No grid table begins at a line that the scan for one went over behind it.
+/// No grid table begins at a line after a grid table that the scan for this table went over.
 pub fn no_grid_behind()
     ensures { NoGridBehind }
 {}
 
-/// No simple table begins at a line that the scan for the last border of one went over behind it.
+/// No simple table begins at a line after a simple table that the scan for the last border of this table went over.
 pub fn no_simple_behind()
     ensures { NoSimpleBehind }
 {}

@@ -8,7 +8,7 @@ use std::alloc::Global;
 
 /// The text of the message on a malformed table: `Malformed table.`, a line end and what is wrong.
 ///
-/// The only error is want of memory.
+/// The only error is that memory runs out.
 pub fn malformed_text(alloc: Global, detail: TableDetail) -> Result<String>
     ensures { IfOk result (λ text. string_bytes text ≡ malformed_text detail) }
 {

@@ -75,7 +75,7 @@ impl TableLine {
     }
 }
 
-/// The places of a text. The width of a character is that of the character by itself, whatever stands beside it.
+/// The places of a text. The width of a character is that of the character by itself, whatever is next to it.
 #[tactic(auto, unfolding(crate::specs::Places::is_double))]
 fn places_of(alloc: Global, text: &str) -> Result<Vec<Place>>
     ensures { IfOk result (λ places. places.items ≡ places_of (chars text.now)) }

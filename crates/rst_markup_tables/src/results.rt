@@ -35,7 +35,7 @@ impl CellLines {
     ghost use Rattle.rst_text.specs.Faults.{Gives};
     ghost use Rattle.rst_text.specs.Source.{ArePlaced, spread, texts_with};
 
-    /// So many lines, numbered from `first` on, with these texts at their places.
+    /// `count` lines, numbered from `first` on, with these texts at their places.
     pub(crate) fn of(first: usize, count: usize, texts: Vec<(usize, String)>) -> CellLines
         requires placed { ArePlaced 0 count (texts_with texts.items) }
         requires few { count < 2 ^ 63 }

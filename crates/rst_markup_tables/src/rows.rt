@@ -164,7 +164,7 @@ pub fn simple_faults()
     ensures head_border_alone { BreaksSimple ("== ==" ∷ "a  b" ∷ "== ==" ∷ "c  d" ∷ []) BottomMissing 3 }
 {}
 
-/// What is said of malformed tables (Markup Specification, 'Simple Tables').
+/// The messages on malformed tables (Markup Specification, 'Simple Tables').
 pub fn messages()
     ensures grid { map malformed_text (BottomBorderMissing ∷ RightEdgeBroken ∷ TwoHeadRules 3 12 ∷ ParseIncomplete ∷ [])
         ≡ codes "Malformed table.\nBottom border missing."

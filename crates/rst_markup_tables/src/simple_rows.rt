@@ -54,7 +54,7 @@ fn are_white(places: &[Place]) -> bool
     })
 }
 
-/// Whether nothing but white stands from one place up to another.
+/// Whether there is nothing but white from one place up to another.
 fn is_clear(row: &[Place], from: usize, to: usize) -> bool
     ensures { result ≡ spec.is_clear from to row.now }
 {
@@ -62,7 +62,7 @@ fn is_clear(row: &[Place], from: usize, to: usize) -> bool
     are_white(&row[from.min(end)..end])
 }
 
-/// Whether nothing but white stands between neighbouring spans.
+/// Whether there is nothing but white between neighbouring spans.
 fn are_clear(row: &[Place], spans: &[RuleSpan]) -> bool
     requires { spec.AreInOrder 0 spans.now }
     ensures { result ≡ spec.are_clear spans.now row.now }

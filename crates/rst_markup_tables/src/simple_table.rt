@@ -18,7 +18,7 @@ use rst_markup_blocks::simple_borders;
 use rst_text::{Looks, View};
 use std::alloc::Global;
 
-/// What the lines of a table are. The first has this number and stands at place `first`; the line at place `head` of the
+/// What the lines of a table are. The first has this number and is at place `first`; the line at place `head` of the
 /// table closes its head.
 fn simple_of(
     alloc: Global,
@@ -58,11 +58,11 @@ fn simple_of(
 }
 
 /// The simple table whose top border is the line at place `i` of a view: a table with its rows, or malformed with its
-/// first fault (Markup Specification, 'Simple Tables'). It ends where the row of simple tables says. It looks at most four
+/// first fault (Markup Specification, 'Simple Tables'). The row of simple tables determines its end. It looks at most four
 /// times at each line of the table, and of those after it through the one that stops the scan for a border; and at least once at
 /// each line of the table below the first.
 ///
-/// The only error is want of memory, which leaves all but `looks` as it was.
+/// The only error is that memory runs out, which leaves all but `looks` as it was.
 pub fn simple(alloc: Global, view: &View<'_>, i: usize, looks: &mut Looks) -> Result<TableResult>
     requires there { i < length (block_of view.now) }
     ensures table { IfOk result (λ table. table ≡ spec.simple_table (block_of view.now) i) }

@@ -79,7 +79,7 @@ pub(crate) fn last_joined(columns: &[RuleSpan], span: RuleSpan) -> Option<usize>
     ending(columns, span.to)
 }
 
-/// The spans behind the first `n`; of fewer nothing is left.
+/// The spans after the first `n`; of fewer nothing is left.
 pub(crate) fn behind(spans: &[RuleSpan], n: usize) -> &[RuleSpan]
     ensures { result.now ≡ drop n spans.now }
 {

@@ -14,7 +14,7 @@ use super::results::{TableDetail, TableFault, TableResult};
 use rst_text::{Looks, View};
 use std::alloc::Global;
 
-/// Lines that are no table, as many as `size` says, from place `first` on; `line` is the number of the first.
+/// `size` lines that are no table, from place `first` on; `line` is the number of the first.
 pub(crate) fn malformed(line: usize, first: usize, size: usize, detail: TableDetail) -> TableResult
     requires { first + size < 2 ^ 64 }
     ensures { result ≡ spec.malformed line first size detail }
@@ -57,8 +57,8 @@ fn grid_of(alloc: Global, line: usize, first: usize, found: GridLines) -> Result
 }
 
 /// The grid table whose top border is the line at place `i` of a view: a table with the cells of the tiling by its
-/// drawn rectangles, or malformed with its first fault (Markup Specification, 'Grid Tables'). It ends where the row of grid
-/// tables says. It looks once at each line of the table, and at those after it through the one that stops the scan.
+/// drawn rectangles, or malformed with its first fault (Markup Specification, 'Grid Tables'). The row of grid tables
+/// determines its end. It looks once at each line of the table, and at those after it through the one that stops the scan.
 ///
 /// The only error is that memory ran out, which leaves all but `looks` as it was; looks that were taken stay counted.
 pub fn grid(alloc: Global, view: &View<'_>, i: usize, looks: &mut Looks) -> Result<TableResult>

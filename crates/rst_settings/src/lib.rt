@@ -42,11 +42,11 @@ impl Threshold {
 /// The settings of a run (Configuration, 'General').
 #[derive(Clone, Copy, Debug, PartialEq, Eq)]
 pub struct Settings {
-    /// From which level on messages are shown.
+    /// From which level on messages are reported.
     pub report: Threshold,
     /// From which level on a message halts the run.
     pub halt: Threshold,
-    /// From which level on the exit status tells the highest level.
+    /// From which level on the exit status gives the highest level.
     pub exit: Threshold,
     /// Whether a lone section's title becomes the document's.
     pub title: bool,
@@ -61,7 +61,7 @@ pub struct Settings {
 }
 
 impl Settings {
-    /// The settings of a run with no options: WARNINGs and above are shown, a SEVERE message halts, the status tells
+    /// The settings of a run with no options: WARNINGs and above are reported, a SEVERE message halts, the status gives
     /// no level, titles and bibliographic fields are looked for, tabs are 8 columns wide, lines have at most 10,000
     /// characters.
     pub fn usual() -> Settings

@@ -1,4 +1,4 @@
--- What the tables say of ASCII.
+-- What the tables hold for ASCII.
 use Rattle.std.proofs.Common.{◌≡◌, ℕ, ◌<◌, refl}
 use Rattle.std.specs.Char.{is_ascii_alphanumeric}
 use Rattle.std.proofs.lemmas.Bool.{agree_below_at}

@@ -79,7 +79,7 @@ Finds-blank B from least i end lowest f after there none =
       blank = λ h. blank_at end i B f.in_order f.blank (ap is_blank none);
     }
 
--- What holds at a line that has no character holds behind it and the empty lines that follow, if it goes over each.
+-- What holds at a line that has no character holds after it and the empty lines that follow, if it goes over each.
 pub past_run : (P : ℕ → Type 0) (B : Block) (i next : ℕ) → i < length B → length (front_text (drop i B)) ≡ 0 → IsEmptyRun B (i + 1) (length B) next
     → ((k : ℕ) → i ≤ k → k < length B → front_text (drop k B) ≡ [] → P k → P (k + 1)) → P i → P next
 past_run P B i next below none run step start =
@@ -91,7 +91,7 @@ past_run P B i next below none run step start =
         let same : (i + 1) + suc n ≡ (i + 1) + n + 1 = omega arith in
         rw same (step ((i + 1) + n) (omega arith) (omega (arith, run.within)) (run.empty ((i + 1) + n) (omega arith) (omega arith)) (go n (omega arith)))
 
--- a blank line, and the empty ones behind it
+-- a blank line, and the empty ones after it
 pub Finds-run : (B : Block) (from least i end : ℕ) (lowest : Option ℕ) (next : ℕ) → Finds B from least i end lowest → from ≤ i → i < length B → length (front_text (drop i B)) ≡ 0 → IsEmptyRun B (i + 1) (length B) next
     → Finds B from least next end lowest
 Finds-run B from least i end lowest next f after there none run =

@@ -36,7 +36,7 @@ pub is_escaped-bare : (t : Text) (from i : ℕ) → from ≤ i → IsBare t i �
 unfolding IsBare
 is_escaped-bare t from i h bare = is_escaped-more t from i h ∙ bare (is_escaped t from i)
 
--- behind a character that is no backslash it is the same how far back escapes are counted
+-- after a character that is no backslash it is the same how far back escapes are counted
 agree : (t : Text) (s i n : ℕ) → s ≤ i → IsBare t i → is_escaped t s (i + 1 + n) ≡ is_escaped t i (i + 1 + n)
 agree t s i zero h bare =
     let e : i + 1 + 0 ≡ i + 1 = omega arith in
@@ -57,7 +57,7 @@ unescaped-plain (c ∷ d ∷ cs) h =
     let parts = or_parts (c == 92) (has_backslash (d ∷ cs)) h in
     ap (λ b. cond b (cond (is_white d) (unescaped cs) (d ∷ unescaped cs)) (c ∷ unescaped (d ∷ cs))) parts.0 ∙ ap (λ rest. c ∷ rest) (unescaped-plain (d ∷ cs) parts.1)
 
--- what is left of characters behind a backslash that isn't itself escaped, or behind none
+-- what is left of characters after a backslash that isn't itself escaped, or after none
 abbrev pub unescaped_from : Bool → Text → Text
 unescaped_from escaped [] = []
 unescaped_from true (c ∷ cs) = if is_white c then unescaped_from false cs else c ∷ unescaped_from false cs

@@ -20,7 +20,7 @@ use Rattle.rst_text.proofs.PlacesLemmas.{cases_bool}
 abbrev is_no_id_char : ℕ → Bool
 is_no_id_char c = not (is_id_char c)
 
--- what the characters that are left give: `begun` says that a letter has come, `due` that a hyphen is due
+-- what the characters that are left give: `begun` means that a letter has come, `due` that a hyphen is due
 abbrev pub id_from : Bool → Bool → List ℕ → List ℕ
 id_from begun due [] = []
 id_from false due (c ∷ cs) = if is_ascii_lowercase c then c ∷ id_from true due cs else id_from false due cs
@@ -30,7 +30,7 @@ id_from true due (c ∷ cs) = if is_ascii c then (if is_no_id_char c then id_fro
 abbrev hyphened : Bool → Bool → List ℕ → List ℕ
 hyphened begun due cs = joined_from is_no_id_char 45 begun due (filter is_ascii cs)
 
--- behind the first letter
+-- after the first letter
 begun-is : (due : Bool) (cs : List ℕ) → id_from true due cs ≡ hyphened true due cs
 begun-is due [] = refl
 begun-is due (c ∷ cs) = elim (cases_bool (is_ascii c)) [
@@ -125,7 +125,7 @@ module _ (text out rest after : List ℕ) (due : Bool) (c : ℕ) where
   pub Identifies-char : Identifies text out rest true false → rest ≡ encode c ++ after → is_ascii c ≡ true → is_id_char c ≡ true → Identifies text (out ++ encode c) after true false
   Identifies-char x e a b = Writes-one (id_from true false) (id_from true false) _ out rest after c x e c (rw (a, b) refl)
 
-  -- a character behind a hyphen
+  -- a character after a hyphen
   pub Identifies-due : Identifies text out rest true true → rest ≡ encode c ++ after → is_ascii c ≡ true → is_id_char c ≡ true → Identifies text ((out ++ encode 45) ++ encode c) after true false
   Identifies-due x e a b = Writes-two (id_from true true) (id_from true false) _ out rest after c x e 45 c (rw (a, b) refl)
 

@@ -8,7 +8,7 @@ use Rattle.std.proofs.lemmas.Str.{encodes-chars, chars-nil, is_utf8-from_IsUtf8,
 use Rattle.rst_text.specs.Kept.{AreStarts, texts_in}
 use Rattle.rst_text.specs.MayCut.{is_text}
 
--- ---- more bytes behind the others
+-- ---- more bytes after the others
 
 range-front : (xs ys : List ℕ) (a b : ℕ) → a ≤ b → b ≤ length xs → slice_range (xs ++ ys) a b ≡ slice_range xs a b
 range-front xs ys a b order within =

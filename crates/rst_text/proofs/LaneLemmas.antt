@@ -1,4 +1,4 @@
--- A mask that is computed lane by lane is held to a test of each of the 256 bytes.
+-- A mask that is computed lane by lane is checked by a test of each of the 256 bytes.
 use Rattle.std.proofs.Common.{◌≡◌, ⊎_elim, ℕ, ◌+◌, ◌*◌, get_or, ◌%◌, ◌^◌, ◌<◌, ◌≤◌, Bool, true, false, cond, not, T, List, [], ◌∷◌, map, length, refl, sym, ap, ap₂, ◌∙◌, arith, w8, Fits}
 use Rattle.std.specs.List.{prefix_len}
 use Rattle.std.proofs.lemmas.Simd.{mask_l-mod, length-chunk, trailing_mask_l, run_in_chunk_le, run_in_chunk_fails, run_in_chunk_stops}
@@ -16,7 +16,7 @@ each_byte : (f : ℕ → ℕ) (p : ℕ → Bool) → T (agree_below (λ x. top 7
 each_byte f p all [] fits = refl
 each_byte f p all (x ∷ xs) fits = ap₂ (λ a b. a ∷ b) (agree_below_at (λ y. top 7 (f y)) p 256 x (t_true _ all) fits.0.fits) (each_byte f p all xs fits.1)
 
--- the mask of lanes that f computes, where the top bit of each says whether the byte passes the test
+-- the mask of lanes that f computes, where the top bit of each shows whether the byte passes the test
 pub masked : (f : ℕ → ℕ) (p : ℕ → Bool) (v z : List ℕ) → length v ≤ 64 → Each1 (Fits w8) v → z ≡ map f v → T (agree_below (λ x. top 7 (f x)) p 256)
     → mask_l (map (top 7) z) % 2 ^ 64 ≡ mask_l (map p v)
 masked f p v z short fits e all =

@@ -1,4 +1,4 @@
--- Texts that can stand in a line.
+-- Texts that can occur in a line.
 use Rattle.std.proofs.Common.{◌≡◌, inl, inr, ℕ, zero, suc, ◌+◌, ◌-◌, ◌%◌, ◌<◌, ◌==◌, Bool, true, false, cond, ◌&&◌, List, [], ◌∷◌, ◌++◌, length, take, drop, map, replicate, refl, sym, ap, ◌∙◌, arith}
 use Rattle.std.proofs.Math.Bool.{not}
 use Rattle.std.specs.Char.{is_whitespace}
@@ -33,7 +33,7 @@ ends_white-suffix : (xs ys : List ℕ) → ends_white (xs ++ ys) ≡ false → e
 ends_white-suffix [] ys h = h
 ends_white-suffix (x ∷ xs) ys h = ends_white-suffix xs ys (or_parts (is_whitespace x && is_blank (xs ++ ys)) (ends_white (xs ++ ys)) h).1
 
--- what follows a front of a line's text can stand in a line
+-- what follows a front of a line's text can occur in a line
 pub is_line_text-suffix : (xs ys : List ℕ) → is_line_text (xs ++ ys) ≡ true → is_line_text ys ≡ true
 is_line_text-suffix xs ys h =
     let parts = is_line_text-parts (xs ++ ys) h in
@@ -69,7 +69,7 @@ unended-trimmed (c ∷ cs) h =
     cond_both (is_whitespace c && length (drop_trailing_whitespace cs) == 0) [] (c ∷ drop_trailing_whitespace cs) (λ (l : List ℕ). list_any is_line_end l ≡ false)
     (λ e. refl) (λ e. rw (t.0, unended-trimmed cs t.1) refl)
 
--- a text without line ends can stand in a line, once it is trimmed
+-- a text without line ends can occur in a line, once it is trimmed
 pub is_line_text-trimmed : (cs : List ℕ) → list_any is_line_end cs ≡ false → is_line_text (drop_trailing_whitespace cs) ≡ true
 is_line_text-trimmed cs h = is_line_text-from_parts (drop_trailing_whitespace cs) (unended-trimmed cs h) (ends_white-trimmed cs)
 

@@ -15,7 +15,7 @@ use Rattle.rst_text.proofs.LinesLemmas.{length-chars}
 use Rattle.rst_text.proofs.Scanning.{past_char}
 use Rattle.rst_text.proofs.Tabs.{expanded_from, expanded_from-start}
 
--- how many columns a character takes that stands at a column
+-- how many columns a character takes at a column
 abbrev pub width : ℕ → ℕ → ℕ → ℕ
 width tab column c = if c == 9 then tab - column % tab else 1
 
@@ -95,7 +95,7 @@ Measures-end limit tab column piece rest m none =
 
 -- ---- the first of some lines
 
--- Where none is too long, the first is among those behind.
+-- Where none is too long, the first is among those after it.
 longer-behind : (limit n : ℕ) (before after : List (List ℕ)) → first_longer limit (numbered_from n before) ≡ None
     → first_longer limit (numbered_from n (before ++ after)) ≡ first_longer limit (numbered_from (n + length before) after)
 longer-behind limit n [] after none = let same : n ≡ n + 0 = omega arith in ap (λ k. first_longer limit (numbered_from k after)) same

@@ -108,7 +108,7 @@ ScansLine-run text rest n (front, (s, clear)) p =
       ),
     )
 
--- a line feed behind it ends the first piece
+-- a line feed after it ends the first piece
 pub pieces-ordinary : (text after : List ℕ) (n : ℕ) → IsUtf8 text → IsOrdinaryTo text n → drop n text ≡ encode 10 ++ after → pieces (chars text) ≡ chars (take n text) ∷ pieces (chars after)
 pieces-ordinary text after n good p e =
     let s = scans-front text n good p in

@@ -6,7 +6,7 @@ use Rattle.rst_text.specs.Block.{is_blank}
 use Rattle.rst_text.specs.Names.{parts_between, skip_while}
 use Rattle.rst_text.proofs.PlacesLemmas.{cases_bool}
 
--- ---- what is left behind some characters
+-- ---- what is left after some characters
 
 pub skip-next : (passes : ℕ → Bool) (c : ℕ) (cs : List ℕ) → passes c ≡ true → skip_while passes (c ∷ cs) ≡ skip_while passes cs
 skip-next passes c cs h = rw h (sym (drop-drop (prefix_len passes cs) 1 (c ∷ cs)))
@@ -21,7 +21,7 @@ some_parts parts = filter (λ (part : List ℕ). not (is_blank part)) parts
 
 -- ---- joined in one pass
 
--- what the characters that are left give: `begun` says that a part has come, `due` that a separator has come since
+-- what the characters that are left give: `begun` means that a part has come, `due` that a separator has come since
 abbrev pub joined_from : (ℕ → Bool) → ℕ → Bool → Bool → List ℕ → List ℕ
 joined_from separates j begun due [] = []
 joined_from separates j begun due (c ∷ cs) =
@@ -39,12 +39,12 @@ module _ (separates : ℕ → Bool) (j : ℕ) where
   pub joined_from-char : (begun : Bool) (c : ℕ) (cs : List ℕ) → separates c ≡ false → joined_from separates j begun false (c ∷ cs) ≡ c ∷ joined_from separates j true false cs
   joined_from-char begun c cs h = rw h refl
 
-  -- the parts that come after another, each behind a separator
+  -- the parts that come after another, each after a separator
   abbrev further : List (List ℕ) → List ℕ
   further [] = []
   further (w ∷ ws) = j ∷ join_with_byte j (w ∷ ws)
 
-  -- what stands behind a character: its part to the end, and the others
+  -- what follows a character: its part to the end, and the others
   abbrev behind : List (List ℕ) → List ℕ
   behind [] = []
   behind (part ∷ parts) = part ++ further (some_parts parts)
@@ -59,7 +59,7 @@ module _ (separates : ℕ → Bool) (j : ℕ) where
   onto c (part ∷ parts) = let e = further-first (c ∷ part) (some_parts parts) in (refl, e, ap (λ l. j ∷ l) e)
 
   mutual
-    -- behind a part and a separator
+    -- after a part and a separator
     joined-due : (cs : List ℕ) → joined_from separates j true true cs ≡ further (parts_between separates cs)
     joined-due [] = refl
     joined-due (c ∷ cs) = elim (cases_bool (separates c)) [
@@ -67,7 +67,7 @@ module _ (separates : ℕ → Bool) (j : ℕ) where
       | inr h ↦ rw h (ap (λ l. j ∷ c ∷ l) (joined-behind cs) ∙ sym (onto c (slice_split separates cs)).2)
     ]
 
-    -- behind a character of a part
+    -- after a character of a part
     joined-behind : (cs : List ℕ) → joined_from separates j true false cs ≡ behind (slice_split separates cs)
     joined-behind [] = refl
     joined-behind (c ∷ cs) = elim (cases_bool (separates c)) [

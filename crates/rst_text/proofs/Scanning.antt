@@ -13,7 +13,7 @@ pub record Scans (text front rest : List ℕ) : Type 0 where
   pub utf8 : IsUtf8 rest
   pub scalar : scalars front ≡ true
 
--- what stands behind a character of a text, and the character itself
+-- what follows a character of a text, and the character itself
 pub past_char : (rest after : List ℕ) (c : ℕ) → IsUtf8 rest → rest ≡ encode c ++ after → (scalar c ≡ true) × IsUtf8 after
 past_char rest after c good e =
     let f = cons_from_encodes good.0 after c (good.1.1 ∙ e) in
@@ -45,7 +45,7 @@ pub chars-scanned : (text front rest : List ℕ) → Scans text front rest → c
 chars-scanned text front rest s =
     ap chars s.bytes ∙ chars-append (encodes front) rest (front, (s.scalar, refl)) ∙ ap (λ l. l ++ chars rest) (chars-encodes front s.scalar)
 
--- how long the parts are, with a character behind the front
+-- how long the parts are, with a character after the front
 pub length-scanned : (text front rest after : List ℕ) (c : ℕ) → Scans text front rest → rest ≡ encode c ++ after
     → length text ≡ length (encodes front) + (length (encode c) + length after)
 length-scanned text front rest after c s e =
@@ -57,7 +57,7 @@ pub take-scanned : (text front rest : List ℕ) (n : ℕ) → Scans text front r
 take-scanned text front rest n s e =
     ap chars (ap (λ k. take k text) e ∙ ap (take (length (encodes front))) s.bytes ∙ take-append_seam (encodes front) rest) ∙ chars-encodes front s.scalar
 
--- the text may be cut behind the front
+-- the text may be cut after the front
 pub IsCharBoundary-scanned : (text front rest : List ℕ) (n : ℕ) → Scans text front rest → n ≡ length (encodes front) → IsCharBoundary text n
 IsCharBoundary-scanned text front rest n s e = let P : ℕ → Type 0 = λ k. IsCharBoundary text k in subst P (sym e) (IsCharBoundary-at_seam text (encodes front) rest s.bytes s.utf8)
 

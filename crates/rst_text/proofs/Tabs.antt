@@ -12,7 +12,7 @@ expanded_from tab column (c ∷ cs) =
     if c == 9 then replicate (tab - column % tab) 32 ++ expanded_from tab (column + (tab - column % tab)) cs
     else (shown c ∷ expanded_from tab (column + 1) cs)
 
--- a test that doesn't tell form feed and vertical tab from a space
+-- a test that doesn't distinguish form feed and vertical tab from a space
 pub shown-keeps : (p : ℕ → Bool) (c : ℕ) → p 11 ≡ p 32 → p 12 ≡ p 32 → p (shown c) ≡ p c
 shown-keeps p c e f = by (c == 11) (c == 12) (eqb-true c 11) (eqb-true c 12)
   where
@@ -24,7 +24,7 @@ shown-keeps p c e f = by (c == 11) (c == 12) (eqb-true c 11) (eqb-true c 12)
 tab-shown : (c : ℕ) → is_tab (shown c) ≡ (c == 9)
 tab-shown c = shown-keeps is_tab c refl refl
 
--- the parts that are left, the first behind the characters of it that were read
+-- the parts that are left, the first after the characters of it that were read
 abbrev behind : List ℕ → List (List ℕ) → List (List ℕ)
 behind part [] = part ∷ []
 behind part (first ∷ others) = (part ++ first) ∷ others

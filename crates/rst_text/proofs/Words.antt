@@ -10,7 +10,7 @@ use Rattle.rst_text.specs.Characters.{is_white}
 use Rattle.rst_text.specs.Names.{normalized_white}
 use Rattle.rst_text.proofs.Parts.{joined_from, joined_from-over, joined_from-due, joined_from-char, joined_from-start}
 
--- what the characters that are left give: `begun` says that a word has come, `due` that white has come since
+-- what the characters that are left give: `begun` means that a word has come, `due` that white has come since
 abbrev pub spaced_from : Bool → Bool → List ℕ → List ℕ
 spaced_from begun due cs = joined_from is_white 32 begun due cs
 
@@ -43,7 +43,7 @@ Spaces-end f text out rest begun due x none = Writes-end _ _ out rest refl x non
 
 -- ---- a text that has its words with one space between them already
 
--- The characters that are left behind a character of a word stay as they are, and are ASCII.
+-- The characters that are left after a character of a word stay as they are, and are ASCII.
 abbrev Stays : (ℕ → ℕ) → List ℕ → Type 0
 Stays f rest = IsAscii rest × (spaced_from true false rest ≡ rest) × (map f rest ≡ rest)
 
@@ -51,7 +51,7 @@ Stays f rest = IsAscii rest × (spaced_from true false rest ≡ rest) × (map f 
 abbrev Settled : (ℕ → ℕ) → List ℕ → Type 0
 Settled f text = IsAscii text × (normalized_white text ≡ text) × (map f text ≡ text)
 
--- The text stays as it is if what is left does, behind a character of a word or not.
+-- The text stays as it is if what is left does, after a character of a word or not.
 abbrev pub Settles : (ℕ → ℕ) → List ℕ → List ℕ → Bool → Type 0
 Settles f text rest true = Stays f rest → Settled f text
 Settles f text rest false = (c : ℕ) (cs : List ℕ) → rest ≡ c ∷ cs → c < 128 → is_white c ≡ false → f c ≡ c → Stays f cs → Settled f text

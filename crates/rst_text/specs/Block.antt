@@ -6,7 +6,7 @@ pub record Line : Type 0 where
   pub number : ℕ
   pub text : List ℕ
 
--- a block: lines, one behind another
+-- a block: lines, one after another
 abbrev pub Block : Type 0
 Block = List Line
 
@@ -20,7 +20,7 @@ abbrev pub first_number : Block → ℕ
 first_number [] = 0
 first_number (l ∷ ls) = l.number
 
--- a line with this text is blank: no character stands in it
+-- a line with this text is blank: there is no character in it
 abbrev pub is_blank : List ℕ → Bool
 is_blank [] = true
 is_blank (c ∷ cs) = false

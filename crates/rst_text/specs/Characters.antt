@@ -1,5 +1,5 @@
 -- What white characters, letters, alphanumerics and the width of a text are (Markup Specification, 'Whitespace', 'Reference
--- Names', 'Option Lists', 'Sections'): the standard leaves it open, the Unicode Character Database says it.
+-- Names', 'Option Lists', 'Sections'): the standard leaves it open, the Unicode Character Database defines it.
 use Rattle.std.specs.Prelude.{ℕ, Bool, false, not, ◌&&◌, ◌||◌, ◌==◌, nat_lt, List, filter, length, slice_index}
 use Rattle.std.specs.List.{list_any}
 use Rattle.std.specs.Char.{is_whitespace}
@@ -32,7 +32,7 @@ Text = List ℕ
 abbrev pub is_among : List ℕ → ℕ → Bool
 is_among cs c = list_any (λ x. c == x) cs
 
--- the character stands at the place
+-- the character is at the place
 abbrev pub has : Text → ℕ → ℕ → Bool
 has t i c = nat_lt i (length t) && slice_index t i == c
 
@@ -40,10 +40,10 @@ has t i c = nat_lt i (length t) && slice_index t i == c
 abbrev pub without_white : Text → Text
 without_white t = filter (λ c. not (is_white c)) t
 
--- a character that is not white stands at the place
+-- a character that is not white is at the place
 abbrev pub is_dark : Text → ℕ → Bool
 is_dark t i = nat_lt i (length t) && not (is_white (slice_index t i))
 
--- a letter or a number stands at the place
+-- a letter or a number is at the place
 abbrev pub is_alnum_at : Text → ℕ → Bool
 is_alnum_at t i = nat_lt i (length t) && is_alphanumeric (slice_index t i)

@@ -45,12 +45,12 @@ abbrev pub Reads : Stream → Option ℕ → List ℕ → Type 0
 Reads reader None buf = Untouched reader × (reader.failed ≡ true)
 Reads reader (Some n) buf = (n ≤ length buf) × HandsOut reader (take n buf) × (n ≡ 0 → 0 < length buf → IsAtEnd reader.after) × (reader.failed ≡ reader.had_failed)
 
--- One write takes the bytes that it tells, some if there are some; one that fails takes none.
+-- One write takes as many bytes as it reports, some if there are some; one that fails takes none.
 abbrev pub Writes : Stream → Option ℕ → List ℕ → Type 0
 Writes writer None bytes = Untouched writer × (writer.failed ≡ true)
 Writes writer (Some n) bytes = (n ≤ length bytes) × (0 < length bytes → 0 < n) × Gains writer (take n bytes) × (writer.failed ≡ writer.had_failed)
 
--- A write is told as the one call answered it: as failed where the call failed, or took 0 of some bytes; else with its number.
+-- A write is reported as the one call answered it: as failed where the call failed, or took 0 of some bytes; else with its number.
 abbrev pub WriteIsToldBy : (Option ℕ → Type 0) → Option ℕ → List ℕ → Type 0
 WriteIsToldBy Answers None bytes = Answers None ⊎ (Answers (Some 0) × (0 < length bytes))
 WriteIsToldBy Answers (Some n) bytes = Answers (Some n)

@@ -3,16 +3,16 @@ use Rattle.std.specs.Prelude.{ℕ, zero, suc, Bool, false, not, ◌&&◌, ◌==�
 use Rattle.std.specs.List.{list_any}
 use Rattle.rst_text.specs.Characters.{is_white, Text}
 
--- the character c escapes the one behind it: it is a backslash, and `escaped` says that it isn't escaped itself
+-- the character c escapes the one after it: it is a backslash, and `escaped` is false: it isn't escaped itself
 abbrev pub escapes : ℕ → Bool → Bool
 escapes c escaped = c == 92 && not escaped
 
--- an odd number of backslashes stands directly before the place, counted back no further than to `from`
+-- an odd number of backslashes comes directly before the place, counted back no further than to `from`
 unfoldable pub is_escaped : Text → ℕ → ℕ → Bool
 is_escaped t from zero = false
 is_escaped t from (suc i) = nat_le from i && escapes (slice_index t i) (is_escaped t from i)
 
--- The text without its escapes: a backslash and white behind it vanish, another character behind one stays, and a last
+-- The text without its escapes: a backslash and white after it vanish, another character after one stays, and a last
 -- backslash vanishes.
 abbrev pub unescaped : Text → Text
 unescaped [] = []

@@ -20,7 +20,7 @@ pieces [] = []
 pieces (c ∷ cs) = if c == 13 && begins_with 10 cs then pieces cs
     else (if is_line_end c then [] ∷ pieces cs else onto_first c (pieces cs))
 
--- a character as it stands in a line: form feed and vertical tab are a space
+-- a character as it appears in a line: form feed and vertical tab are a space
 abbrev pub shown : ℕ → ℕ
 shown c = if c == 11 || c == 12 then 32 else c
 
@@ -28,11 +28,11 @@ shown c = if c == 11 || c == 12 then 32 else c
 abbrev pub is_tab : ℕ → Bool
 is_tab c = c == 9
 
--- a part with spaces behind it up to the next multiple of the tab width above its length
+-- a part with spaces after it up to the next multiple of the tab width above its length
 abbrev pub padded : ℕ → List ℕ → List ℕ
 padded tab part = part ++ replicate (tab - length part % tab) 32
 
--- parts with a tab behind each but the last: as each is padded, the next begins at a multiple of the tab width
+-- parts with a tab after each but the last: as each is padded, the next begins at a multiple of the tab width
 abbrev pub with_tabs : ℕ → List (List ℕ) → List ℕ
 with_tabs tab [] = []
 with_tabs tab (part ∷ []) = part
@@ -60,11 +60,11 @@ abbrev pub ends_white : List ℕ → Bool
 ends_white [] = false
 ends_white (c ∷ cs) = (is_whitespace c && is_blank cs) || ends_white cs
 
--- a text that can stand in a line: no character of it ends a line, and its last isn't white
+-- a text that can occur in a line: no character of it ends a line, and its last isn't white
 unfoldable pub is_line_text : List ℕ → Bool
 is_line_text text = not (list_any is_line_end text) && not (ends_white text)
 
--- each line's text can stand in a line
+-- each line's text can occur in a line
 abbrev pub are_lines : Block → Bool
 are_lines ls = list_all (λ (l : Line). is_line_text l.text) ls
 

@@ -9,6 +9,6 @@ most = 2 ^ 128 - 1
 abbrev pub capped : ℕ → ℕ
 capped n = min n most
 
--- what was counted before a call and after it: at least so many looks more, if that can be counted, and at most so many
+-- what was counted before a call and after it: at least `least` looks more, if that can be counted, and at most `most`
 abbrev pub Looked : ℕ → ℕ → ℕ → ℕ → Type 0
 Looked least most before after = (capped (before + least) ≤ after) × (after ≤ before + most)

@@ -20,11 +20,11 @@ words_of text = parts_between is_white text
 unfoldable pub normalized_white : List ℕ → List ℕ
 normalized_white text = join_with_byte 32 (words_of text)
 
--- the same by simple case folding, where the standard says lowercase: how reference names are compared
+-- the same by simple case folding, where the standard has lowercase: how reference names are compared
 unfoldable pub name_of : List ℕ → List ℕ
 name_of text = map simple_fold (normalized_white text)
 
--- one of a to z and 0 to 9: what stands between the hyphens of an id
+-- one of a to z and 0 to 9: what is between the hyphens of an id
 unfoldable pub is_id_char : ℕ → Bool
 is_id_char c = is_ascii_lowercase c || is_ascii_digit c
 

@@ -20,6 +20,6 @@ unfoldable pub through_text : Block → ℕ
 through_text [] = 0
 through_text (l ∷ ls) = if is_blank l.text then suc (through_text ls) else 1
 
--- how many lines a construct of n lines at the front has, with those behind it through the first that isn't blank
+-- how many lines a construct of n lines at the front has, with those after it through the first that isn't blank
 abbrev pub reach : ℕ → Block → ℕ
 reach n X = n + through_text (drop n X)

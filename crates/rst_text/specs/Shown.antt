@@ -22,7 +22,7 @@ block_of v = byte_cut v.first v.rest (take (v.to - v.from) (drop v.from v.lines.
 abbrev pub source_of : View → Block
 source_of v = v.lines.now
 
--- the block that stands somewhere in a text
+-- the block at a placement in a text
 unfoldable pub placement_block : Block → Placement → Block
 placement_block S p = byte_cut p.first p.rest (take (p.to - p.from) (drop p.from S))
 

@@ -7,7 +7,7 @@ use Rattle.rst_text.specs.Places.{first_from, all_from}
 unfoldable pub is_joint : ℕ → Bool
 is_joint c = c == 45 || (c == 95 || (c == 46 || (c == 58 || c == 43)))
 
--- The place may be one of a simple reference name: a letter or a number stands there, or a joint between two of these.
+-- The place may be one of a simple reference name: a letter or a number is there, or a joint between two of these.
 unfoldable pub is_name_at : Text → ℕ → Bool
 is_name_at t i = is_alnum_at t i || (is_joint (slice_index t i) && (nat_lt 0 i && (is_alnum_at t (i - 1) && is_alnum_at t (i + 1))))
 
@@ -15,7 +15,7 @@ is_name_at t i = is_alnum_at t i || (is_joint (slice_index t i) && (nat_lt 0 i &
 unfoldable pub is_simple_name : Text → Bool
 is_simple_name t = nat_lt 0 (length t) && all_from (is_name_at t) 0 (length t)
 
--- the end of the longest simple name that begins at the place, where something stands behind it
+-- the end of the longest simple name that begins at the place, where something follows it
 unfoldable pub name_stop : Text → ℕ → Option ℕ
 name_stop t i = if is_alnum_at t i then first_from (λ k. not (is_name_at t k)) i (length t - i) else None
 

@@ -16,11 +16,11 @@ texts_with texts = map (λ t. (t.0, chars_of t.1)) texts
 abbrev pub text_at : List (ℕ × List ℕ) → ℕ → List ℕ
 text_at texts place = unwrap_or (option_map (λ (t : ℕ × List ℕ). t.1) (find (λ (t : ℕ × List ℕ). t.0 == place) texts)) []
 
--- so many lines, numbered from a number on: empty but for the texts that are given, with their places from 0
+-- a number of lines, numbered from a given number on: empty but for the texts that are given, with their places from 0
 abbrev pub spread : ℕ → ℕ → List (ℕ × List ℕ) → Block
 spread first count texts = map (λ place. record { number = first + place; text = text_at texts place }) (range_with_len 0 count)
 
--- texts that can stand in lines, at places that rise: the first is no less than a place, and the last below another
+-- texts that can occur in lines, at places that rise: the first is no less than a place, and the last below another
 abbrev pub ArePlaced : ℕ → ℕ → List (ℕ × List ℕ) → Type 0
 ArePlaced from to [] = from ≤ to
 ArePlaced from to (t ∷ ts) = (from ≤ t.0) × IsTrue (is_line_text t.1) × ArePlaced (t.0 + 1) to ts

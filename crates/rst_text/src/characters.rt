@@ -66,14 +66,14 @@ pub fn ascii_characters(alloc: Global, bytes: &[u8]) -> Result<Vec<char>, AllocE
     Ok(characters)
 }
 
-/// Whether the character stands at the place.
+/// Whether the character is at the place.
 pub fn has(text: &[char], place: usize, c: char) -> bool
     ensures { result ≡ spec.has text.now place c }
 {
     text.get(place) == Some(&c)
 }
 
-/// Whether a character that isn't white stands at the place.
+/// Whether a character that isn't white is at the place.
 pub fn is_dark(text: &[char], place: usize) -> bool
     ensures { result ≡ spec.is_dark text.now place }
 {
@@ -83,7 +83,7 @@ pub fn is_dark(text: &[char], place: usize) -> bool
     }
 }
 
-/// Whether a letter or a number stands at the place.
+/// Whether a letter or a number is at the place.
 pub fn is_alnum_at(text: &[char], place: usize) -> bool
     ensures { result ≡ spec.is_alnum_at text.now place }
 {

@@ -7,10 +7,10 @@ ghost use Rattle.rst_text.specs.Counted.{inner_of, has_failed, between, Reads, W
 
 use std::io::{self, Read, Write};
 
-/// A reader with a relation that only a call of it can bring about: what is proved for every such relation tells of
+/// A reader with a relation that only a call of it can bring about: what is proved for every such relation holds of
 /// one call. Each reader is one.
 pub trait ReadCall: Read {
-    /// The reader before a call, how many bytes it gave, or that it failed, the bytes that then stood in the buffer,
+    /// The reader before a call, how many bytes it gave, or that it failed, the bytes that were then in the buffer,
     /// and the reader after it.
     ghost call_gives: { Self → Option ℕ → List ℕ → Self → Type 0 } = { λ _ _ _ _. ⊤ };
 
@@ -111,7 +111,7 @@ impl<W: WriteCall> Counted<W> {
         }
     }
 
-    /// Writes all of the bytes, in as many writes as it takes: none where there are no bytes. An `Err` says how many of
+    /// Writes all of the bytes, in as many writes as it takes: none where there are no bytes. An `Err` gives how many of
     /// them the writer took before a write failed, or took none of the others.
     pub fn write_all(&mut self, bytes: &[u8]) -> Result<(), usize>
         ensures bytes { Puts (between W.contents self.old self.new) bytes.now result }

@@ -7,7 +7,7 @@ use super::fault::TextFault;
 use simdutf8::compat::from_utf8;
 use std::alloc::Global;
 
-/// The text whose UTF-8 the bytes are, without one byte order mark at its front, as it stands in them.
+/// The text whose UTF-8 the bytes are, without one byte order mark at its front, as the bytes encode it.
 ///
 /// The only refusal is [`TextFault::NotUtf8`], where the bytes are no UTF-8, with the length in bytes of their longest front that
 /// is (a byte order mark counts).

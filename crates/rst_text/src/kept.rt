@@ -75,7 +75,7 @@ impl Kept {
         &self.text.as_str()[self.starts[i]..self.starts[i + 1]]
     }
 
-    /// Whether the texts from place `i` up to place `end` are empty. `false` tells nothing.
+    /// Whether the texts from place `i` up to place `end` are empty. `false` means nothing.
     fn are_empty(&self, i: usize, end: usize) -> bool
         requires some { i < end }
         requires within { end ≤ length self.now }

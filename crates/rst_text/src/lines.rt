@@ -65,7 +65,7 @@ impl Lines {
         requires to { tab ≤ 99 }
         ensures { AreWithin limit tab (chars text.now) result }
     {
-        // Only a tab makes a line longer than it stands in the text, so this room is seldom too small.
+        // Only a tab makes a line longer than it is in the text, so this room is seldom too small.
         let mut kept = Kept::with_room(alloc, text.len())?;
         let tab = usize::from(tab);
         let most = limit / tab;
@@ -94,7 +94,7 @@ impl Lines {
         })
     }
 
-    /// So many lines, numbered from `first` on. They are empty but for these texts, which are given with their places,
+    /// `count` lines, numbered from `first` on. They are empty but for these texts, which are given with their places,
     /// counted from 0. The places rise and are below `count`; no character of a text ends a line, and its last isn't
     /// white. A line that is given no text takes no memory.
     ///
@@ -181,7 +181,7 @@ pub fn is_line_end(c: char) -> bool
 }
 
 /// The first piece of a text that isn't empty, what follows the end of that line, and whether the bytes of the piece are ordinary.
-/// `false` tells nothing.
+/// `false` means nothing.
 fn first_piece(text: &str) -> (&str, &str, bool)
     requires { 0 < length text.now }
     ensures pieces { pieces (chars text.now) ≡ chars result.0.now ∷ pieces (chars result.1.now) }
@@ -265,7 +265,7 @@ fn expand(alloc: Global, piece: &str, tab: usize) -> Result<String, AllocError>
     }
 }
 
-/// A character as it stands in a line: form feed and vertical tab are a space.
+/// A character as it appears in a line: form feed and vertical tab are a space.
 fn plain(c: char) -> char
     ensures { result ≡ shown c }
 {

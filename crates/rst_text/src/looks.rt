@@ -42,7 +42,7 @@ impl Looks {
         self.count = self.count.saturating_add(1);
     }
 
-    /// So many looks more.
+    /// `count` looks more.
     pub(crate) fn look_at(&mut self, count: usize)
         ensures { self.new ≡ capped (self.old + count) }
     {

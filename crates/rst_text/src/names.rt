@@ -87,12 +87,12 @@ pub fn id_of(alloc: Global, text: &str) -> Result<String, TextFault>
     Ok(identifier_of(alloc, decomposed.as_str())?)
 }
 
-/// What becomes of the case of characters.
+/// What is done with the case of characters.
 trait Case {
-    /// What becomes of a character.
+    /// What a character is turned into.
     ghost cased: { ℕ → ℕ };
 
-    /// What becomes of a character.
+    /// What a character is turned into.
     fn cased(c: char) -> char
         ensures { result ≡ cased c };
 }

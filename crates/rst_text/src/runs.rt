@@ -22,7 +22,7 @@ pub trait ByteTest {
         ensures { result ≡ mask_l (map (fails passes) bytes) };
 }
 
-/// The place behind the bytes from a place on that pass a test.
+/// The place after the bytes from a place on that pass a test.
 pub fn run_end<T: ByteTest>(bytes: &[u8], place: usize) -> usize
     requires { place ≤ length bytes.now }
     ensures { IsRun T.passes bytes.now place result }

@@ -4,7 +4,7 @@ ghost use Rattle.rst_text.specs.SimpleNames.{is_joint, is_name_at, is_simple_nam
 
 use super::characters::is_alnum_at;
 
-/// Whether the character may stand between two letters or numbers of a simple name: `-`, `_`, `.`, `:` or `+`.
+/// Whether the character may occur between two letters or numbers of a simple name: `-`, `_`, `.`, `:` or `+`.
 #[tactic(auto, unfolding(crate::specs::SimpleNames::is_joint))]
 pub fn is_joint(c: char) -> bool
     ensures { result ≡ is_joint c }
@@ -38,7 +38,7 @@ pub fn is_simple_name(text: &[char]) -> bool
     0 < len
 }
 
-/// The end of the longest simple name that begins at the place, where something stands behind it.
+/// The end of the longest simple name that begins at the place, where something follows it.
 pub fn name_stop(text: &[char], start: usize) -> Option<usize>
     ensures exact { result ≡ name_stop text.now start }
     ensures above { IfSome result (λ stop. start ≤ stop) }

@@ -26,7 +26,7 @@ pub struct View<'a> {
     ghost of_texts: { IsTrue (are_texts lines.now) },
 }
 
-/// Where a view stands in its text, without the text: the lines at which it begins and ends, and its cuts.
+/// Where a view is in its text, without the text: the lines at which it begins and ends, and its cuts.
 #[derive(Clone, Copy, Debug, PartialEq, Eq)]
 pub struct Placement {
     from: usize,
@@ -65,7 +65,7 @@ impl<'a> View<'a> {
         }
     }
 
-    /// Where the view stands in its text.
+    /// Where the view is in its text.
     pub fn placement(&self) -> Placement
         ensures inside { IsPlacement (source_of self.now) result }
         ensures block { placement_block (source_of self.now) result ≡ block_of self.now }
@@ -78,7 +78,7 @@ impl<'a> View<'a> {
         }
     }
 
-    /// The view of the same text that stands where a view of it stood.
+    /// The view of the same text at the place where a view of it was.
     pub fn at(&self, placement: Placement) -> View<'a>
         requires { IsPlacement (source_of self.now) placement }
         ensures block { block_of result ≡ placement_block (source_of self.now) placement }
@@ -166,7 +166,7 @@ impl<'a> View<'a> {
         }
     }
 
-    /// The place behind some lines from place `i` on that are empty without a cut, and so with any.
+    /// The place after some lines from place `i` on that are empty without a cut, and so with any.
     fn empty_end(&self, i: usize) -> usize
         requires { i ≤ length (block_of self.now) }
         ensures { IsEmptyRun (block_of self.now) i (length (block_of self.now)) result }

@@ -38,7 +38,7 @@ titled_first settings document known =
     let retargeted = with_targets expanded.0 expanded.1 in
     asked settings.title with_title retargeted.0 retargeted.1
 
--- all transforms; the profile says whether a leading field list is bibliographic
+-- all transforms; the profile decides whether a leading field list is bibliographic
 abbrev pub transformed : Profile → Settings → Document → Known → Document × Known
 transformed profile settings document known =
     let titled = titled_first settings document known in
@@ -51,7 +51,7 @@ abbrev pub document_in : Node → Document
 document_in (Element t a c l) = record { attrs = a; children = c; line = l }
 document_in (Text t) = record { attrs = []; children = bare; line = 0 }
 
--- what is known before the transforms; so many numbers were given to messages
+-- what is known before the transforms; `messages` numbers were given to messages
 abbrev pub known_at_first : ℕ → Registration → Known
 known_at_first messages r = record { ids = r.ids; names = r.names; reports = []; first_number = messages; serials = r.serials }
 
@@ -64,7 +64,7 @@ sectioned messages profile settings r =
 abbrev pub all_messages : Registration → List Report → List Numbered
 all_messages r reports = messages_among (document_in r.root).children ++ map report_said reports
 
--- What is left of a document that was parsed, in which so many numbers were given to messages: the document as it is shown, and the list of
+-- What is left of a parsed document whose messages were given `messages` numbers: the document as it is printed, and the list of
 -- messages, up to the first that halts the run.
 abbrev pub left_of : Settings → List Numbered → Document → Node × List Note
 left_of settings all document =

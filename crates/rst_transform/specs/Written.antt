@@ -19,7 +19,7 @@ usual = record { report = Warning; halt = Severe; exit = Never; title = true; in
 abbrev pub Leaves : Settings → List Node → List String → Type 0
 Leaves settings nodes lines = Prints (leaves 0 (profile_of settings) settings (document nodes)).0 lines
 
--- the list of its messages says this, in order
+-- the list of its messages has these texts, in order
 abbrev pub Says : Settings → List Node → List String → Type 0
 Says settings nodes texts = map (λ note. note.text) (leaves 0 (profile_of settings) settings (document nodes)).1 ≡ map codes texts
 

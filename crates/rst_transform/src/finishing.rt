@@ -31,7 +31,7 @@ use std::alloc::Global;
 /// A document as it is printed, and the messages of the run.
 #[derive(Debug, Drop)]
 pub struct Finished {
-    /// The document, without what isn't shown, and without `source`, which is added where it is printed.
+    /// The document, without what isn't printed, and without `source`, which is added where it is printed.
     pub tree: Node,
     /// The messages in order, up to the first that halts the run.
     pub notes: Vec<Note>,
@@ -42,7 +42,7 @@ pub struct Finished {
 /// Finishes a parsed document: names and ids, then all transforms, the last section, and the messages below the report level taken out
 /// (Document Tree, 'Introduction').
 ///
-/// The only refusal is want of memory.
+/// Fails only if memory runs out.
 pub fn finish(alloc: Global, parsed: Parsed, settings: &Settings) -> Result<Finished>
     requires document { IsDocument parsed.tree }
     ensures finishes { Finishes parsed.messages (profile_of settings.now) settings.now parsed.tree result }

@@ -82,7 +82,7 @@ fn first_changes(
     Ok((changes, done + 1))
 }
 
-/// What becomes of linked elements, as a transform decides.
+/// What happens to linked elements, as a transform decides.
 fn outcomes_by(
     context: &mut Context,
     linked: &[Linked<'_>],

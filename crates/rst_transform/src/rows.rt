@@ -10,7 +10,7 @@ ghost use Rattle.rst_transform_docinfo.specs.Written.{field};
 ghost use Rattle.rst_transform_references.specs.Written.{footnote};
 ghost use Rattle.rst_transform.specs.Written.{anonymous_reference, definition, indirect_target, numbered_reference, reference, section, substitution, transition, usual, Leaves, Says};
 
-/// Transitions are looked at after the links, and before the last section stands (Markup Specification, 'Transitions').
+/// Transitions are looked at after the links, and before the last section is added (Markup Specification, 'Transitions').
 pub fn transitions()
     ensures after_links { Says usual (transition ∷ reference "c" "c_" ∷ []) ("Unknown target name: \"c\"." ∷ "Document or section may not begin with a transition." ∷ []) }
     ensures before_the_last_section { Says usual (reference "c" "c_" ∷ transition ∷ []) ("Unknown target name: \"c\"." ∷ "Document may not end with a transition." ∷ []) }
@@ -40,13 +40,13 @@ pub fn links()
     ensures footnotes_before_references { Says usual (reference "1" "1_" ∷ footnote "#" [] ∷ []) [] }
 {}
 
-/// The messages of the document come before those of the transforms, and the last section stands before what isn't shown is taken out (Markup Specification, 'Error Handling').
+/// Messages of the document precede those of transforms; the last section is added before filtering (Markup Specification, 'Error Handling').
 pub fn messages()
     ensures of_the_document_first { Says usual (transition ∷ paragraph "a" ∷ element SystemMessage (counts Level 2 ∷ []) (paragraph "m" ∷ []) ∷ []) ("m" ∷ "Document or section may not begin with a transition." ∷ []) }
     ensures in_the_last_section { Leaves usual (reference "a" "a_" ∷ []) ("<document>" ∷ "    <paragraph>" ∷ "        <problematic ids=\"problematic-1\" refid=\"system-message-1\">" ∷ "            a_" ∷ "    <section classes=\"system-messages\">" ∷ "        <title>" ∷ "            Docutils System Messages" ∷ "        <system_message backrefs=\"problematic-1\" ids=\"system-message-1\" level=\"3\" line=\"1\" type=\"ERROR\">" ∷ "            <paragraph>" ∷ "                Unknown target name: \"a\"." ∷ []) }
 {}
 
-/// Messages below the report level aren't shown, and their problematics are text (Configuration, 'report_level').
+/// Messages below the report level aren't printed, and their problematics are text (Configuration, 'report_level').
 pub fn report_levels()
     ensures below_it { Leaves (record usual { report = Severe }) (reference "a" "a_" ∷ []) ("<document>" ∷ "    <paragraph>" ∷ "        a_" ∷ []) }
     ensures in_the_list { Says (record usual { report = Severe }) (reference "a" "a_" ∷ []) ("Unknown target name: \"a\"." ∷ []) }

@@ -41,7 +41,7 @@ abbrev pub and_author : ℕ → Option Forest → Option (List Node) → Option 
 and_author line None more = None
 and_author line (Some name) more = option_map (λ authors. author line name ∷ authors) more
 
--- each item's paragraph as an author, if each holds one paragraph alone
+-- each item's paragraph as an author, if each contains one paragraph alone
 abbrev pub all_paragraphs : ℕ → List Node → Option (List Node)
 all_paragraphs line [] = Some []
 all_paragraphs line (item ∷ more) = and_author line (paragraph_in item) (all_paragraphs line more)

@@ -19,7 +19,7 @@ abbrev pub first_named : List Attr → List Node → List Node
 first_named from [] = []
 first_named from (n ∷ ns) = named from n ∷ ns
 
--- what becomes of a field list, and the messages then; the first node has the list's ids and names, too
+-- what happens to a field list, and the messages then; the first node has the list's ids and names, too
 abbrev pub replaced : ℕ → List Report → Node → List Node × List Report
 replaced first reports (Element t a c l) =
     let all = gathered first (none_yet reports) (nodes_of c) in (first_named a (docinfo_nodes l all), all.reports)

@@ -24,7 +24,7 @@ abbrev pub field_in : Node → Option Field
 field_in (Element IsField a c l) = field_of a (nodes_of c) l
 field_in _ = None
 
--- the name of a field, which says what it is for
+-- the name of a field, which determines what it is for
 abbrev pub name_of : Field → List ℕ
 name_of f = name_in (text_in f.name)
 
@@ -48,6 +48,6 @@ abbrev pub in_paragraph : Option Node → Option Forest
 in_paragraph (Some (Element Paragraph a c l)) = Some c
 in_paragraph _ = None
 
--- the nodes in the one paragraph that a node holds, if it holds that alone
+-- the nodes in the one paragraph of a node, if the node contains that alone
 abbrev pub paragraph_in : Node → Option Forest
 paragraph_in n = in_paragraph (lone_in n)

@@ -50,7 +50,7 @@ fn named_by(alloc: Global, paragraph: &Children, line: usize) -> Result<Vec<Node
     Ok(nodes)
 }
 
-/// The paragraphs in the items of a list as one author each, if each item holds one paragraph alone.
+/// The paragraphs in the items of a list as one author each, if each item contains one paragraph alone.
 fn all_paragraphs(alloc: Global, items: &Children, line: usize) -> Result<Option<Vec<Node>>>
     ensures { let wanted = all_paragraphs line (nodes_of items.now) in Gives (λ found. MatchOption found (wanted ≡ None) (λ nodes. wanted ≡ Some nodes.items)) result }
 {
@@ -64,7 +64,7 @@ fn all_paragraphs(alloc: Global, items: &Children, line: usize) -> Result<Option
     Ok(Some(nodes))
 }
 
-/// Whether a text holds a semicolon.
+/// Whether a text contains a semicolon.
 fn has_semicolon(text: &str) -> bool
     ensures { result ≡ list_any (λ c. c == 59) (chars text.now) }
 {

@@ -46,7 +46,7 @@ impl Field {
     }
 }
 
-/// The nodes in the one paragraph that a node holds, if it holds that alone.
+/// The nodes in the one paragraph of a node, if the node contains that alone.
 pub fn paragraph_in(node: &Node) -> Option<&Children>
     ensures { MatchOption result (paragraph_in node.now ≡ None) (λ nodes. paragraph_in node.now ≡ Some nodes.now) }
 {

@@ -46,7 +46,7 @@ until_more halt (first ∷ more) note runs = ⊎_elim
     (λ t. let halted = rw t at runs in absurd (cc))
     (λ f. rw f (ap (λ notes. first ∷ notes) (until_more halt more note (rw f at runs)))) (cases_Bool (halts halt first))
 
--- the numbers that are shown with one message more
+-- the numbers of printed messages with one message more
 shown_more : (report : Threshold) (all : List Numbered) (note : Note) (number : Option ℕ) (n : ℕ)
     → is_number_shown report (all ++ (note, number) ∷ []) n ≡ (is_number_shown report all n || (is_reached report (level_number note.level) && has_number n number))
 shown_more report all note number n =
@@ -144,7 +144,7 @@ pub takes_said : (old now new : Messages) (n : Node) (t : Tag) (a : List Attr) (
 takes_said old now new n t a c l is here early notes halt report shown keeps adds =
     rw is ((keeps.0.0 ∙ halt, keeps.0.1 ∙ report), (λ all lists. rw here (adds all (same_lists all old now notes halt report shown lists))), keeps.1 ∙ early, rw here refl)
 
--- a text alone in an element is what is said there
+-- a text alone in an element is all of its text
 pub lone_text : (c : Forest) (t : List ℕ) → length (nodes_of c) ≡ 1 → slice_get (nodes_of c) 0 ≡ Some (Text t) → t ≡ text_all c
 lone_text bare t one first = absurd (omega arith)
 lone_text (element tag a c l r) t one first = cc

@@ -1,4 +1,4 @@
--- Nodes that are shown.
+-- Nodes that are printed.
 use Rattle.std.proofs.Common.{◌≡◌, ℕ, ◌+◌, ◌<◌, ◌≤◌, List, [], ◌∷◌, ◌++◌, length, take, drop, set, get_or, Bool, true, false, append_assoc, append-nil, arith, refl, ap, sym, ◌∙◌}
 use Rattle.std.proofs.lemmas.Bool.{not-true, not-false}
 use Rattle.std.proofs.lemmas.List.{drop_all, drop-set-lt, take_all, take_more_set}
@@ -18,7 +18,7 @@ use Rattle.rst_tree.specs.Tree.{text_all, text_in}
 use Rattle.rst_transform_messages.specs.Filtered.{filtered, is_unexplained}
 use Rattle.rst_transform_messages.specs.Shown.{is_below, may_stay, are_shown}
 
--- given from which level on messages are shown, and which are
+-- given from which level on messages are printed, and which are
 module _ (report : Threshold) (shown : ℕ → Bool) where
   -- what is left of nodes without the messages below the report level
   abbrev pub remaining : List Node → List Node
@@ -50,7 +50,7 @@ module _ (report : Threshold) (shown : ℕ → Bool) where
       let other : is_unexplained shown (Element t a c l) ≡ false = rw is at explained in
       rw (is, high, other, nodes) refl
 
-  -- nodes filtered in place, up to a place: what remains of them, with what is left of those behind it, is left in the end; some leave, or all are left
+  -- nodes filtered in place, up to a place: what remains of them, with what is left of those after it, is left in the end; some go, or all are left
   pub record Sifting (old now : Forest) (leaves : Bool) (i : ℕ) : Type 0 where
     pub same : Same old now i
     pub nodes : remaining (take i (nodes_of now)) ++ kept (drop i (nodes_of now)) ≡ kept (nodes_of old)

@@ -1,4 +1,4 @@
--- What is left of a document where it is shown (Configuration, `report_level`).
+-- What is left of a document where it is printed (Configuration, `report_level`).
 use Rattle.std.specs.Prelude.{ℕ, Bool, false, not, if◌then◌else◌, option_map, unwrap_or}
 use Rattle.rst_settings.specs.declared.Threshold.{Threshold}
 use Rattle.rst_tree.specs.declared.key.Key.TheVariants.{Message}
@@ -11,13 +11,13 @@ use Rattle.rst_tree.specs.Tree.{text_all}
 use Rattle.rst_transform_messages.specs.Shown.{is_below}
 use Rattle.rst_transform_work.specs.declared.document.Document.{Document}
 
--- whether a node is a problematic whose message isn't shown; where it tells no number, there is no message
+-- whether a node is a problematic whose message isn't printed; where it has no number, there is no message
 abbrev pub is_unexplained : (ℕ → Bool) → Node → Bool
 is_unexplained shown (Element Problematic a c l) = not (unwrap_or (option_map shown (said_number (value_of Message a))) false)
 is_unexplained shown _ = false
 
--- The nodes without the messages below the report level, and with the text of each problematic whose message isn't shown in its place. `shown` tells
--- of the number of each message whether that is shown.
+-- The nodes without the messages below the report level, and with its text in place of each problematic whose message isn't printed. `shown` has
+-- for each message's number whether the message is printed.
 abbrev pub filtered : Threshold → (ℕ → Bool) → Forest → Forest
 filtered report shown bare = bare
 filtered report shown (words t r) = words t (filtered report shown r)

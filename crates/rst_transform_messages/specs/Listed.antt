@@ -14,20 +14,20 @@ use Rattle.rst_transform_work.specs.declared.report.Report.{Report}
 use Rattle.rst_transform_messages.specs.Messages.{is_number_shown, marked, notes_of, until_halt, Numbered}
 use Rattle.rst_transform_work.specs.Reports.{report_note}
 
--- the list holds what these messages say, up to the first that halts, and knows which numbers are those of messages that are shown
+-- the list has these messages, up to the first that halts, and knows which numbers are those of messages that are printed
 pub record Lists (all : List Numbered) (list : Messages) : Type 0 where
   pub notes : list.notes.items ≡ until_halt list.halt (notes_of all)
   pub shown : (n : ℕ) → marked list.shown.items n ≡ is_number_shown list.report all n
 
--- the list holds more messages, after those that it held
+-- the list has more messages, after those that it had
 abbrev pub Adds : List Numbered → Messages → Messages → Type 0
 Adds more old new = (all : List Numbered) → Lists all old → Lists (all ++ more) new
 
--- the levels from which on messages halt and are shown stay
+-- the levels from which on messages halt and are printed stay
 abbrev pub KeepsLevels : Messages → Messages → Type 0
 KeepsLevels old new = (new.halt ≡ old.halt) × (new.report ≡ old.report)
 
--- these stay, and what is told of the elements that were read
+-- these stay, and what is known of the elements that were read
 abbrev pub Keeps : Messages → Messages → Type 0
 Keeps old new = KeepsLevels old new × (new.early ≡ old.early)
 

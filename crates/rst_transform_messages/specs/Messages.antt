@@ -1,4 +1,4 @@
--- The messages of a run, up to the first that halts it (Configuration, `halt_level`), and which of them are shown (Configuration,
+-- The messages of a run, up to the first that halts it (Configuration, `halt_level`), and which of them are printed (Configuration,
 -- `report_level`).
 use Rattle.std.specs.Prelude.{◌≡◌, ℕ, ◌-◌, ◌==◌, ◌&&◌, max, List, [], ◌∷◌, map, length, take, slice_index_or, Bool, false, if◌then◌else◌, Option, Some, None, unwrap_or}
 use Rattle.std.specs.List.{list_any}
@@ -32,7 +32,7 @@ abbrev pub highest_level : List Note → ℕ
 highest_level [] = 0
 highest_level (note ∷ more) = max (level_number note.level) (highest_level more)
 
--- the number of the level that a `system_message` with these attributes tells, 0 where it tells none
+-- the number of the level of a `system_message` with these attributes, 0 where it has none
 abbrev pub level_said : List Attr → ℕ
 level_said attrs = unwrap_or (said_number (value_of Level attrs)) 0
 
@@ -40,7 +40,7 @@ level_said attrs = unwrap_or (said_number (value_of Level attrs)) 0
 abbrev pub Numbered : Type 0
 Numbered = Note × Option ℕ
 
--- what messages say
+-- the notes of messages
 abbrev pub notes_of : List Numbered → List Note
 notes_of all = map (λ one. one.0) all
 
@@ -49,11 +49,11 @@ abbrev pub has_number : ℕ → Option ℕ → Bool
 has_number n None = false
 has_number n (Some number) = n == number
 
--- whether a message is shown, and carries this number
+-- whether a message is printed, and carries this number
 abbrev pub is_shown_as : Threshold → ℕ → Numbered → Bool
 is_shown_as report n one = is_reached report (level_number one.0.level) && has_number n one.1
 
--- whether one of the messages is shown and carries this number
+-- whether one of the messages is printed and carries this number
 abbrev pub is_number_shown : Threshold → List Numbered → ℕ → Bool
 is_number_shown report all n = list_any (is_shown_as report n) all
 

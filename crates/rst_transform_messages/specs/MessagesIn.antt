@@ -11,7 +11,7 @@ use Rattle.rst_tree.specs.Nodes.{nodes_of}
 use Rattle.rst_tree.specs.Tree.{option_or_nothing, text_in}
 use Rattle.rst_transform_messages.specs.Messages.{level_said, Numbered}
 
--- what a `system_message` with these attributes and nodes on a line tells: its first element says it, the second one shows source text
+-- the message of a `system_message` with these attributes and nodes on a line: its first element has the text, the second one source text
 abbrev pub note_said : List Attr → Forest → ℕ → Note
 note_said attrs nodes line =
     record { level = level_of (max (level_said attrs) 1); line = line; text = option_or_nothing (slice_get (nodes_of nodes) 0); block = option_map text_in (slice_get (nodes_of nodes) 1) }
@@ -20,7 +20,7 @@ note_said attrs nodes line =
 abbrev pub message_said : List Attr → Forest → ℕ → Numbered
 message_said attrs nodes line = (note_said attrs nodes line, said_number (value_of Message attrs))
 
--- the messages among nodes and in them, in preorder: a message holds no other
+-- the messages among nodes and in them, in preorder: a message contains no other
 abbrev pub messages_among : Forest → List Numbered
 messages_among bare = []
 messages_among (words t r) = messages_among r

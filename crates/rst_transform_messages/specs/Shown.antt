@@ -1,4 +1,4 @@
--- What of a finished document is shown (Configuration, `report_level`).
+-- What is printed of a finished document (Configuration, `report_level`).
 use Rattle.std.specs.Prelude.{min, List, Bool, true, not, ◌&&◌}
 use Rattle.rst_settings.specs.declared.Threshold.{Threshold}
 use Rattle.rst_settings.specs.Threshold.{is_reached}

@@ -1,4 +1,4 @@
-//! What of a document is shown.
+//! What is printed of a document.
 ghost use Rattle.std.specs.Prelude.{◌≡◌, true, filter};
 ghost use Rattle.rst_tree.specs.Faults.{Gives};
 ghost use Rattle.rst_tree.specs.Nodes.{forest_of, nodes_of};
@@ -15,9 +15,9 @@ use std::alloc::Global;
 use std::mem;
 
 /// Takes the messages below the report level out of a document, and lets each problematic whose message is gone become its text
-/// (Configuration, `report_level`). `shown` tells of the number of each message whether that stays.
+/// (Configuration, `report_level`). `shown` has for each message's number whether the message stays.
 ///
-/// Before, where WARNINGs aren't shown:
+/// Before, where WARNINGs aren't printed:
 ///
 ///     <paragraph>
 ///         <problematic message="0">
@@ -43,7 +43,7 @@ pub fn filter(
     Ok(document)
 }
 
-/// Whether a node is a problematic whose message isn't shown; where it tells no number, there is none.
+/// Whether a node is a problematic whose message isn't printed; where it has no number, there is none.
 fn is_unexplained(node: &Node, shown: &[bool]) -> bool
     ensures { result ≡ is_unexplained (marked shown.now) node.now }
 {
@@ -82,7 +82,7 @@ fn may_stay(node: &Node, report: Threshold) -> bool
     }
 }
 
-/// Takes what isn't shown out of nodes.
+/// Takes what isn't printed out of nodes.
 fn filter_in(alloc: Global, nodes: &mut Children, report: Threshold, shown: &[bool]) -> Result<()>
     ensures { Gives (λ _. nodes.new ≡ filtered report (marked shown.now) nodes.old) result }
 {

@@ -30,7 +30,7 @@ pub fn level_number(attrs: &Attrs) -> u64
     attrs.number(Key::Level).unwrap_or(0)
 }
 
-/// The messages of a run in order, up to the first that halts it (Configuration, `halt_level`), and which of all are shown
+/// The messages of a run in order, up to the first that halts it (Configuration, `halt_level`), and which of all are printed
 /// (Configuration, `report_level`).
 #[derive(Drop)]
 pub struct Messages {
@@ -39,9 +39,9 @@ pub struct Messages {
     halt: Threshold,
     /// Whether the last message does.
     halted: bool,
-    /// From which level on a message is shown.
+    /// From which level on a message is printed.
     report: Threshold,
-    /// Whether the message of each number is shown.
+    /// Whether the message of each number is printed.
     shown: Vec<bool>,
     /// Whether the first transforms have something to act on among the nodes that were gone through.
     pub early: bool,
@@ -55,8 +55,8 @@ impl Messages {
     ghost use Rattle.rst_transform_messages.specs.MessagesIn.{message_said, messages_among};
     ghost use Rattle.rst_transform_messages.specs.Listed.{report_said, Adds, Keeps, KeepsLevels, Lists};
 
-    /// The messages among nodes and in them, in preorder, in a list with room for so many, of a run that halts at a threshold and shows
-    /// messages from another one on. A message holds no other.
+    /// The messages among nodes and in them, in preorder, in a list with room for `room` of them, of a run that halts at one threshold and prints
+    /// messages from another one on. A message contains no other.
     pub fn of(
         alloc: Global,
         nodes: &Children,
@@ -97,7 +97,7 @@ impl Messages {
         Ok(())
     }
 
-    /// Adds the message that a `system_message` with these attributes and nodes on a line tells.
+    /// Adds the message of a `system_message` with these attributes and nodes on a line.
     // What it keeps is off the stack while nodes are gone through.
     #[inline(never)]
     fn push_said(
@@ -127,8 +127,8 @@ impl Messages {
         Ok(())
     }
 
-    /// Whether the message of each number is shown, once all messages were added. No transform takes a message out of a
-    /// document, so those that are shown are in it.
+    /// Whether the message of each number is printed, once all messages were added. No transform takes a message out of a
+    /// document, so those that are printed are in it.
     pub fn shown(&self) -> &[bool]
         ensures { (all : List Numbered) → Lists all self.now → (n : ℕ) → marked result.now n ≡ is_number_shown self.now.report all n }
     {
@@ -157,7 +157,7 @@ impl<'a> Reader<'a> for Messages {
 
     ghost takes = { TakesMessage };
 
-    // Some level stands for the inside of a message.
+    // The inside of a message is marked by `Some` level.
     #[inline(always)]
     fn read(
         &mut self,
@@ -200,7 +200,7 @@ fn is_message(tag: Tag) -> bool
     matches!(tag, Tag::SystemMessage)
 }
 
-/// Marks the number of a message that is shown, if it has one.
+/// Marks the number of a message that is printed, if it has one.
 fn mark_shown(marks: &mut Vec<bool>, is_shown: bool, number: Option<u64>) -> Result<()>
     ensures { Gives (λ _. (n : ℕ) → marked marks.new.items n ≡ (marked marks.old.items n || (is_shown && has_number n number))) result }
 {
@@ -225,7 +225,7 @@ fn mark(marks: &mut Vec<bool>, number: usize) -> Result<()>
     Ok(())
 }
 
-/// What a `system_message` with these attributes and nodes on a line tells.
+/// The message of a `system_message` with these attributes and nodes on a line.
 fn note_of(alloc: Global, attrs: &Attrs, children: &Children, line: usize) -> Result<Note>
     ensures { Gives (λ note. note ≡ note_said attrs.now children.now line) result }
 {
@@ -238,7 +238,7 @@ fn note_of(alloc: Global, attrs: &Attrs, children: &Children, line: usize) -> Re
         None => None,
     };
     Ok(Note {
-        // One that tells no level is as grave as the first.
+        // One without a level is as grave as the first.
         level: Level::of_number(level_number(attrs).max(1)),
         line,
         text,

@@ -1,4 +1,4 @@
-//! Worked examples of the list of messages and of what is shown of a document, as theorems on the definitions alone.
+//! Worked examples of the list of messages and of what is printed of a document, as theorems on the definitions alone.
 #![tactic(auto, unfolding(crate::proofs::Computing::rst_transform_messages))]
 
 ghost use Rattle.std.specs.Prelude.{◌≡◌, ◌==◌, true, false, Some, None, codes, [], ◌∷◌, map};
@@ -33,7 +33,7 @@ pub fn messages()
         ≡ record { level = Severe; line = 1; text = codes "a"; block = Some (codes "x") } ∷ [] }
 {}
 
-/// What is shown of a document: neither messages below the level nor the problematics of messages that aren't shown (Configuration, 'report_level').
+/// What is printed of a document: no message below the level, and no problematic whose message isn't printed (Configuration, 'report_level').
 pub fn filters()
     ensures below_the_level { Shows (with_filtered FromWarning (λ n. false) (document_of (element SystemMessage (counts Level 1 ∷ []) (paragraph "a"
         ∷ []) ∷ element SystemMessage (counts Level 2 ∷ []) [] ∷ [])))

@@ -84,7 +84,7 @@ module _ (ids : Ids) (base : List ℕ) (n : ℕ) (some : 0 < n) (small : n < 2 ^
 
 -- ---- ids that hinder
 
--- how far the number in an id is behind another
+-- how far the number in an id is above another
 abbrev behind_first : {Y : Type 0} → ℕ → String Y → ℕ
 behind_first first id = unwrap_or (option_map (λ (parts : List ℕ × ℕ). parts.1) (number_of (string_bytes id))) 0 - first
 
@@ -108,7 +108,7 @@ module _ (ids : Ids) (base : List ℕ) (first count : ℕ) (some : 0 < first) (s
       (le-length_from_below (map (behind_first first) ids.hindering.keys) count (λ q less.
       any_mapped (λ k. is_at (λ k. slice_cmp nat_cmp (numbered base (first + q)) (string_bytes k)) k) (behind_first first) q (one_number q less) ids.hindering.keys (all (first + q) (omega arith) (omega arith))))
 
--- behind the last number of a text all are hindered up to one
+-- after the last number of a text all are hindered up to one
 module _ (ids : Ids) (base : List ℕ) (first n : ℕ) (next : first ≡ last_of ids base + 1) (from : first ≤ n) (small : n < 2 ^ 64)
     (hindered : (m : ℕ) → first ≤ m → m < n → contains_text ids.hindering (numbered base m) ≡ true) where
   pub unhindered : contains_text ids.hindering (numbered base n) ≡ false → IsLeastFree (is_taken ids) base n
@@ -140,7 +140,7 @@ module _ (old : Ids) (last : BTreeMap (String Global) ℕ) (base : List ℕ) (n 
   read_id : number_of (numbered base n) ≡ Some (base, n)
   read_id = number_of-numbered base n free.from_one small
 
-  -- it is behind the last one
+  -- it is after the last one
   behind : last_of old base < n
   behind = leb-false n (last_of old base) (or_parts (nat_le n (last_of old base)) _ (sym (ap (taken_by old (numbered base n)) read_id) ∙ free.is_free)).0
 
@@ -210,7 +210,7 @@ module _ (taken : List (List ℕ)) (base : List ℕ) where
       (le-length_from_below (map place taken) count (λ q less.
       any_mapped (bytes_eq (numbered base (q + 1))) place q (place_is q (omega arith)) taken (all (q + 1) (omega arith) (omega arith))))
 
--- the least number that passes no test is found if so many are tried
+-- the least number that passes no test is found if enough are tried
 least_from_is : (test : ℕ → Bool) (n first count : ℕ) → test n ≡ false → ((m : ℕ) → first ≤ m → m < n → test m ≡ true) → first ≤ n → n ≤ first + count → n ≡ least_from test first count
 least_from_is test n first zero free below low high = omega arith
 least_from_is test n first (suc more) free below low high = ⊎_elim

@@ -120,7 +120,7 @@ module _ (digits : List ℕ) where
       let parts = and_parts (nat_le 49 (get_or digits 0 0)) (nat_le (get_or digits 0 0) 57) h in
       (leb-true 49 (get_or digits 0 0) parts.0, leb-true (get_or digits 0 0) 57 parts.1)
 
-  -- what stands first in a number from 1
+  -- what comes first in a number from 1
   pub no_first : (nat_le 49 (get_or digits 0 0) && nat_le (get_or digits 0 0) 57) ≡ false → number_in digits ≡ None
   no_first h = no_number digits (λ n is some small.
       let first : 48 < get_or digits 0 0 = subst (λ l. 48 < get_or l 0 0) (sym is) (first_decimal n some small) in

@@ -1,4 +1,4 @@
--- Standings and what becomes of them.
+-- Standings and what happens to them.
 use Rattle.std.proofs.Common.{◌≡◌, ℕ, zero, suc, ◌<◌, ◌≤◌, List, [], ◌∷◌, length, Option, refl, sym, ap, arith, slice_set}
 use Rattle.std.proofs.Common.{◌∙◌, Vec, String, BTreeMap, bytes_eq, string_bytes, string_cmp, nat_cmp}
 use Rattle.std.specs.BTreeMap.{get_by_text, UpdatesBy}
@@ -16,7 +16,7 @@ use Rattle.rst_transform_names.specs.Registering.{Holds, Register}
 use Rattle.rst_transform_names.specs.Registry.{without_name, losing}
 use Rattle.rst_transform_names.specs.Written.{given}
 
--- a list changed at a place in it, and at one behind it
+-- a list changed at a place in it, and at one after it
 pub changed_there : {X : Type 0} (change : X → X) (n : ℕ) (xs : List X) (d now : X) → n < length xs → now ≡ change (slice_index_or xs n d) → slice_set xs n now ≡ map_at change n xs
 changed_there change n [] d now l is = absurd (omega arith)
 changed_there change zero (x ∷ xs) d now l is = ap (λ y. y ∷ xs) is
@@ -42,7 +42,7 @@ losing-length Unregistered ss = refl
 pub put_lost : {Z : Type 0} (v : Vec Standing Z) (now : List Standing) (h : Holder) → now ≡ losing h v.items → (with_items v now).items ≡ losing h v.items
 put_lost v now h is = with_items_is v now (ap length is ∙ losing-length h v.items ∙ sym v.ok.0) ∙ is
 
--- what a map tells of texts once one of them tells something else
+-- what a map gives for texts once it gives something else for one of them
 pub entered : {X Y : Type 0} (old new : BTreeMap (String Y) X) (name : List ℕ) (w : Option X) → UpdatesBy string_cmp (λ k. slice_cmp nat_cmp name (string_bytes k)) old new w
     → (other : List ℕ) → get_by_text new other ≡ (if bytes_eq other name then w else get_by_text old other)
 entered old new name w h other = btree_map_updates_text name old new w h other ∙ ap (λ b. if b then w else get_by_text old other) (nat_list_eq_equiv.symm name other)

@@ -13,7 +13,7 @@ use Rattle.rst_transform_names.specs.declared.names.Strength.TheVariants.{Implic
 use Rattle.rst_transform_names.specs.declared.rulings.DuplicateMessage.{DuplicateMessage}
 use Rattle.rst_transform_names.specs.Gathered.{own_name}
 
--- the message that says some words and an element's name
+-- the message with some words and an element's name
 abbrev pub name_message : Level → List ℕ → Item → Node
 name_message level words new = note_node (record { level = level; line = new.line; text = (words ++ own_name new) ++ codes "\"."; block = None })
 

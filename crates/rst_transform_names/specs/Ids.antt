@@ -62,7 +62,7 @@ wanted_id name = encode_utf8_all (id_of (chars name))
 abbrev pub is_among : List (List ℕ) → List ℕ → Bool
 is_among ids id = list_any (bytes_eq id) ids
 
--- the least number, from one on, that doesn't pass a test; at most so many numbers pass it
+-- the least number, from one on, that doesn't pass a test; at most a given number of them pass it
 abbrev pub least_from : (ℕ → Bool) → ℕ → ℕ → ℕ
 least_from test number zero = number
 least_from test number (suc more) = if test number then least_from test (number + 1) more else number
@@ -97,7 +97,7 @@ Takes id old new = (other : List ℕ) → is_taken new other ≡ (if bytes_eq ot
 abbrev pub TakesNone : Ids → Ids → Type 0
 TakesNone old new = (other : List ℕ) → is_taken new other ≡ is_taken old other
 
--- an id that a name gave is taken, and the result says whether it was free; or memory ran out and none is
+-- an id that a name gave is taken, and the result is whether it was free; or memory ran out and none is
 abbrev pub Tries : List ℕ → Ids → Ids → Result Bool TreeFault → Type 0
 Tries id old new (Ok was_free) = (is_taken old id ≡ (if was_free then false else true)) × Takes id old new
 Tries id old new (Err NoMemory) = TakesNone old new

@@ -20,7 +20,7 @@ use Rattle.rst_transform_names.specs.Gathered.{number_at}
 abbrev pub Placed : Type 0
 Placed = List (ℕ × Node)
 
--- the place so many nodes after another; places are counted up to the largest number
+-- the place a number of nodes after another; places are counted up to the largest number
 abbrev pub further : ℕ → ℕ → ℕ
 further place count = min (place + count) (2 ^ 64 - 1)
 
@@ -59,8 +59,8 @@ no_texts = record { own = 0; placed = [] }
 abbrev pub then_texts : Texts → Texts → Texts
 then_texts texts more = record { own = further texts.own more.own; placed = texts.placed ++ from texts.own more.placed }
 
--- how many nodes an element says to be of its text: the text's own messages, which follow the element; in a section the nodes between its title
--- and its content
+-- how many nodes belong to an element's text, by its attributes: the text's own messages, which follow it; in a section the nodes between title
+-- and content
 abbrev pub counted : List Attr → ℕ
 counted attrs = unwrap_or (number_at TextMessages attrs) 0
 

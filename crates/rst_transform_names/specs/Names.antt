@@ -16,7 +16,7 @@ held_by names name = get_by_text names.held name
 abbrev pub Knows : List ℕ → Option NameEntry → Names → Names → Type 0
 Knows name held old new = (other : List ℕ) → held_by new other ≡ (if bytes_eq other name then held else held_by old other)
 
--- something is known of a name, and of the others what these say
+-- something is known of a name, and of the others what these know
 abbrev pub with_held : List ℕ → Option NameEntry → (List ℕ → Option NameEntry) → List ℕ → Option NameEntry
 with_held name held names other = if bytes_eq other name then held else names other
 
@@ -24,7 +24,7 @@ with_held name held names other = if bytes_eq other name then held else names ot
 abbrev pub AreHeld : Names → (List ℕ → Option NameEntry) → Type 0
 AreHeld names known = (name : List ℕ) → held_by names name ≡ known name
 
--- what is known of a name was said, or memory ran out and nothing changed
+-- what is known of a name was set, or memory ran out and nothing changed
 abbrev pub Holds : {A : Type 0} → List ℕ → NameEntry → Names → Names → Result A TreeFault → Type 0
 Holds name held old new (Ok done) = Knows name (Some held) old new
 Holds name held old new (Err NoMemory) = (other : List ℕ) → held_by new other ≡ held_by old other

@@ -37,7 +37,7 @@ pub record Register : Type 0 where
   pub messages : List MessageIds
   pub name_messages : List (Option Node)
 
--- before the first element; so many numbers were given to messages
+-- before the first element; `messages` numbers were given to messages
 abbrev pub nothing_known : ℕ → Register
 nothing_known messages = record {
   ids = [];
@@ -54,7 +54,7 @@ abbrev pub with_member : Tag → ℕ → MessageIds → MessageIds
 with_member Problematic number l = record { id = l.id; problematics = l.problematics ++ problematic_id number ∷ [] }
 with_member _ number l = record { id = Some number; problematics = l.problematics }
 
--- what is known of messages, where that changes of the one that an element says
+-- what is known of messages, where that changes for the one that an element names
 abbrev pub with_message_changed : Option ℕ → (MessageIds → MessageIds) → List MessageIds → List MessageIds
 with_message_changed None change messages = messages
 with_message_changed (Some message) change messages = map_at change message messages
@@ -122,7 +122,7 @@ pub record Registration : Type 0 where
   pub names : List ℕ → Option NameEntry
   pub serials : ℕ
 
--- what is known of a document in which so many numbers were given to messages
+-- what is known of a document whose messages were given `messages` numbers
 abbrev pub registered : ℕ → Node → Register
 registered messages document = all_registered (filter is_registered (node_items document)) (nothing_known messages)
 

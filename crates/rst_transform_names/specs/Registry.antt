@@ -1,4 +1,4 @@
--- What becomes of a new element's name and of the element that had it (Document Tree, attributes `ids`, `names` and `dupnames`;
+-- What happens to a new element's name and to the element that had it (Document Tree, attributes `ids`, `names` and `dupnames`;
 -- reStructuredText Markup Specification, 'Implicit Hyperlink Targets').
 use Rattle.std.specs.Prelude.{ℕ, Bool, true, false, if◌then◌else◌, List, [], ◌∷◌, Option, Some, None}
 use Rattle.std.specs.Str.{bytes_eq}
@@ -26,7 +26,7 @@ abbrev pub strength_of : Tag → Strength
 strength_of Section = Implicit
 strength_of _ = Explicit
 
--- both say a text, and it is the same
+-- both have a text, and it is the same
 abbrev pub is_same_text : Option (List ℕ) → Option (List ℕ) → Bool
 is_same_text None b = false
 is_same_text (Some a) None = false
@@ -57,7 +57,7 @@ losing (Element n) standings = map_at without_name n standings
 losing Lost standings = standings
 losing Unregistered standings = standings
 
--- nothing becomes of a name
+-- nothing happens to a name
 abbrev pub no_rule : Ruling
 no_rule = record { now = Old; loser = Lost; new_loses = false; message = None }
 

@@ -1,4 +1,4 @@
--- Equal names: what becomes of a name with which one more element was written (reStructuredText Markup Specification,
+-- Equal names: what happens to a name with which one more element was written (reStructuredText Markup Specification,
 -- 'Implicit Hyperlink Targets').
 use Rattle.std.specs.Prelude.{Bool, true, false, if◌then◌else◌, Option, Some, None}
 use Rattle.rst_tree.specs.declared.note.Level.TheVariants.{Info, Warning}

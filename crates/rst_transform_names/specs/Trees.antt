@@ -42,6 +42,6 @@ document nodes = element Document [] nodes
 abbrev pub Prints : Node → List String → Type 0
 Prints node lines = print_of (with_printed_attrs None node) ≡ written lines
 
--- a document with these nodes, in which so many numbers were given to messages, is printed in these lines once it is registered
+-- a document with these nodes, whose messages were given `messages` numbers, is printed in these lines once it is registered
 abbrev pub PrintsRegistered : ℕ → List Node → List String → Type 0
 PrintsRegistered messages nodes lines = Prints (registration messages (document nodes)).root lines

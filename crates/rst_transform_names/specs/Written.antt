@@ -33,7 +33,7 @@ problematic_id number = codes "problematic-" ++ decimal number
 abbrev pub message_id : ℕ → List ℕ
 message_id number = codes "system-message-" ++ decimal number
 
--- what is known of the message whose number an element's attributes say, if they say one
+-- what is known of the message whose number is in an element's attributes, if there is one
 abbrev pub message_of : List MessageIds → List Attr → Option MessageIds
 message_of messages attrs = option_and_then (slice_get messages) (number_at Message attrs)
 

@@ -42,7 +42,7 @@ pub fn duplicate_definition(alloc: Global, new: Element<'_>) -> Result<Node>
     )
 }
 
-/// The message that says some words and an element's name.
+/// The message with some words and an element's name.
 fn name_message(alloc: Global, level: Level, words: &str, new: Element<'_>) -> Result<Node>
     ensures { Gives (λ made. made ≡ spec.name_message level words.now (item_of new.entry)) result }
 {

@@ -40,7 +40,7 @@ impl Ids {
     /// It is the id that the name gives. If that is taken: it, a hyphen and the least number from 1 that makes it free. If
     /// there is none: the kind's name with hyphens, a hyphen and the least such number.
     ///
-    /// The only refusal is want of memory; then the same ids are taken as before.
+    /// Fails only if memory runs out; the same ids are then taken as before.
     pub fn give(&mut self, alloc: Global, tag: Tag, name: &str) -> Result<Text>
         ensures { GivesId tag name.now self.old self.new result }
     {
@@ -58,7 +58,7 @@ impl Ids {
     /// A free id for an element of a kind without a name: the kind's name with hyphens, a hyphen and the least number from 1 that
     /// makes it free. It is taken from now on.
     ///
-    /// The only refusal is want of memory; then the same ids are taken as before.
+    /// Fails only if memory runs out; the same ids are then taken as before.
     pub fn give_kind(&mut self, alloc: Global, tag: Tag) -> Result<Text>
         ensures { GivesNumbered (hyphenated (tag_name tag)) self.old self.new result }
     {
@@ -67,7 +67,7 @@ impl Ids {
 
     /// Takes the first free id of a kind's name, a hyphen and a number from 1, and gives that number.
     ///
-    /// The only refusal is want of memory; then the same ids are taken as before.
+    /// Fails only if memory runs out; the same ids are then taken as before.
     pub fn give_number(&mut self, alloc: Global, tag: Tag) -> Result<u64>
         ensures { GivesNumber (hyphenated (tag_name tag)) self.old self.new result }
     {
@@ -77,7 +77,7 @@ impl Ids {
         Ok(number)
     }
 
-    /// Takes an id that a name gave, unless it is taken, and tells whether it was free.
+    /// Takes an id that a name gave, unless it is taken, and returns whether it was free.
     fn take(&mut self, id: String) -> Result<bool>
         ensures { Tries (string_bytes id) self.old self.new result }
     {
@@ -181,7 +181,7 @@ fn id_text(alloc: Global, name: &str) -> Result<String>
 {
     match id_of(alloc, name) {
         Ok(id) => Ok(id),
-        // The call has no other refusal than want of memory.
+        // The call fails only if memory runs out.
         Err(_) => Err(TreeFault::NoMemory),
     }
 }

@@ -91,7 +91,7 @@ impl Inside {
         ensures own { Gives (λ outside. outside.own.items ≡ (if spec.is_section tag then [] else own.items)) result }
         ensures texts { Gives (λ outside. texts_in outside.texts ≡ spec.texts tag attrs.now (seen [] self)) result }
     {
-        // How many nodes the element says to be of its text: the text's messages, which follow it; in a section those between title
+        // How many nodes belong to the element's text, by its attributes: the text's messages, which follow it; in a section those between title
         // and content.
         let counted = attrs.number(Key::TextMessages).unwrap_or(0);
         let mut among = self.after;
@@ -116,7 +116,7 @@ impl Inside {
         Ok(Outside { ahead, own, texts })
     }
 
-    /// Puts the messages of one more element behind so many nodes of an element of a kind.
+    /// Puts the messages of one more element after some number of nodes of an element of a kind.
     pub fn put(
         &mut self,
         parent: Tag,

@@ -30,7 +30,7 @@ pub struct KnownMessages {
 }
 
 impl KnownMessages {
-    /// What is known before the first of so many messages and problematics; so many numbers were given to messages.
+    /// What is known before the first message or problematic, with room for `room` of them; `messages` numbers were given to messages.
     pub fn new(alloc: Global, room: usize, messages: u64) -> Result<KnownMessages>
         ensures numbers { Gives (λ known_messages. known_messages.numbers.items ≡ []) result }
         ensures messages { Gives (λ known_messages. known_messages.messages.items ≡ replicate messages (record { id = None; problematics = [] })) result }

@@ -31,7 +31,7 @@ pub enum Strength {
 pub struct NameEntry {
     pub holder: Holder,
     pub strength: Strength,
-    /// The id of the element that brought the name, the last one that held it.
+    /// The id of the element that brought the name, the last one that had it.
     pub id: Text,
     /// Where that element leads, if it is a target with a URI: there the name leads though the target may leave the document.
     pub uri: Option<Text>,
@@ -69,9 +69,9 @@ impl Names {
         }
     }
 
-    /// Says what is known of a name, in place of what was known.
+    /// Sets what is known of a name, in place of what was known.
     ///
-    /// The only refusal is want of memory; then what is known is as before.
+    /// Fails only if memory runs out; what is known is then as before.
     pub fn hold(&mut self, alloc: Global, name: &str, held: NameEntry) -> Result<()>
         ensures { Holds name.now held self.old self.new result }
     {

@@ -28,8 +28,8 @@ pub struct Registered {
 /// (Document Tree) their id, those with a name the name, or the duplicate name where another one has it, and equal names
 /// their messages.
 ///
-/// Sections give their names implicitly, other elements explicitly; of an element that holds two equal names the rules of
-/// 'Implicit Hyperlink Targets' (reStructuredText Markup Specification) say who keeps it. Of substitution definitions with
+/// Sections give their names implicitly, other elements explicitly; of an element that has two equal names the rules of
+/// 'Implicit Hyperlink Targets' (reStructuredText Markup Specification) decide which keeps it. Of substitution definitions with
 /// equal names the last keeps it.
 ///
 /// ```text
@@ -44,7 +44,7 @@ pub struct Registered {
 ///
 /// `messages` numbers were given to its messages, from 0 on.
 ///
-/// The only refusal is want of memory.
+/// Fails only if memory runs out.
 pub fn register(alloc: Global, document: Marked, messages: u64) -> Result<Registered>
     ensures { Gives (IsRegistered (registration messages document)) result }
 {

@@ -47,7 +47,7 @@ pub struct Registry {
 }
 
 impl Registry {
-    /// What is known before the first of some elements, with room for all; so many numbers were given to messages.
+    /// What is known before the first of some elements, with room for all; `messages` numbers were given to messages.
     fn new(alloc: Global, elements: &[Element<'_>], messages: u64) -> Result<Registry>
         ensures { Gives (λ first. Holds first (nothing_known messages)) result }
     {
@@ -162,7 +162,7 @@ fn ruling_on(names: &Names, name: &str, new: Element<'_>) -> Ruling
     }
 }
 
-/// Lets a name be held as a rule says; the new element has a number and an id.
+/// Gives a name to the element that a ruling chooses, or to none; the new element has a number and an id.
 fn follow(
     alloc: Global,
     names: &mut Names,

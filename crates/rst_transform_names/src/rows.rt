@@ -38,7 +38,7 @@ pub fn ids()
     ensures too_large { number_in (codes "18446744073709551616") ≡ None }
 {}
 
-/// What becomes of equal names: those of sections are implicit, all others explicit (Markup Specification, 'Implicit Hyperlink Targets').
+/// What happens to equal names: those of sections are implicit, all others explicit (Markup Specification, 'Implicit Hyperlink Targets').
 pub fn equal_names()
     ensures first { ruling_for None Implicit false ≡ record { now = New; loser = Nobody; new_loses = false; message = None } }
     ensures section_then_target { ruling_for (Some (Implicit, By 0)) Explicit false ≡ record {
@@ -117,7 +117,7 @@ pub fn names_of_elements()
         ≡ NobodyNow }
 {}
 
-/// What messages on equal names say, and where they refer to (Markup Specification, 'Implicit Hyperlink Targets').
+/// The texts of messages on equal names, and where they refer to (Markup Specification, 'Implicit Hyperlink Targets').
 pub fn messages()
     ensures on_a_target { Prints (duplicate_name (record { level = Warning; strength = Explicit }) (item Target (says OwnName "a b"
         ∷ []) 3) (codes "a-b-1"))

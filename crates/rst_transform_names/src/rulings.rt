@@ -1,4 +1,4 @@
-//! What becomes of a name with which one more element was written (reStructuredText Markup Specification, 'Implicit
+//! What happens to a name with which one more element was written (reStructuredText Markup Specification, 'Implicit
 //! Hyperlink Targets'; Docutils, 'Duplicate Explicit Target Names').
 
 ghost use Rattle.std.specs.Prelude.{◌≡◌};
@@ -22,11 +22,11 @@ pub struct DuplicateMessage {
     pub strength: Strength,
 }
 
-/// What becomes of a name, of the element that held it and of the new one.
+/// What happens to a name, to the element that had it and to the new one.
 #[derive(Clone, Copy)]
 pub struct Ruling {
     pub now: Now,
-    /// The element that held the name and has it as a duplicate one only, if there is one.
+    /// The element that had the name and now has it as a duplicate one only, if there is one.
     pub loser: Holder,
     /// Whether the new element has the name as a duplicate one only.
     pub new_loses: bool,
@@ -45,7 +45,7 @@ const WARNING: Option<DuplicateMessage> = Some(DuplicateMessage {
     strength: Strength::Explicit,
 });
 
-/// Nothing becomes of a name.
+/// Nothing happens to a name.
 pub const NO_RULING: Ruling = Ruling {
     now: Now::Old,
     loser: Holder::Nobody,
@@ -61,7 +61,7 @@ const NEW_HAS_IT: Ruling = Ruling {
     message: None,
 };
 
-/// The element that has the name keeps it; an INFO says so.
+/// The element that has the name keeps it; an INFO reports that.
 fn old_keeps_it(strength: Strength) -> Ruling
     ensures { result ≡ spec.old_keeps_it strength }
 {
@@ -88,7 +88,7 @@ fn nobody_has_it(loser: Holder, message: Option<DuplicateMessage>) -> Ruling
     }
 }
 
-/// The rule for a name, by how it was held and is given.
+/// The rule for a name, by how the element before had it and how the new one gives it.
 #[tactic(auto, unfolding(crate::specs::Rulings::held_ruling))]
 pub fn ruling_for(old: Option<(Strength, Holder)>, new: Strength, same_uri: bool) -> Ruling
     ensures { result ≡ spec.ruling_for old new same_uri }

@@ -12,7 +12,7 @@ use std::mem;
 /// Messages among nodes, each with its place: how many of the nodes come before it.
 pub type Placed = Vec<(u64, Node)>;
 
-/// Puts messages behind others, with their places counted from a place on.
+/// Puts messages after others, with their places counted from a place on.
 pub fn put_from(placed: &mut Placed, place: u64, messages: Placed) -> Result<()>
     ensures { Gives (λ _. placed.new.items ≡ placed.old.items ++ spec.from place messages.items) result }
 {
@@ -42,7 +42,7 @@ impl TextMessages {
         }
     }
 
-    /// Puts those of other texts behind.
+    /// Appends those of other texts.
     pub fn append(&mut self, more: TextMessages) -> Result<()>
         ensures { Gives (λ _. texts_in self.new ≡ spec.then_texts (texts_in self.old) (texts_in more)) result }
     {
@@ -65,7 +65,7 @@ pub fn weave(alloc: Global, nodes: &mut Children, placed: Placed) -> Result<()>
     Ok(())
 }
 
-/// The messages in each gap of so many nodes: before each node, and after all.
+/// The messages in each gap among `count` nodes: before each node, and after all.
 fn gaps_of(alloc: Global, count: usize, placed: Placed) -> Result<Vec<Vec<Node>>>
     ensures { Gives (λ all. gap_nodes all.items ≡ spec.in_gaps count placed.items (replicate (count + 1) [])) result }
 {

@@ -11,7 +11,7 @@ use std::alloc::Global;
 use std::collections::VecDeque;
 use std::marker::Model;
 
-/// Lets attributes tell an element's id, if it has one.
+/// Writes an element's id into attributes, if it has one.
 fn write_id(alloc: Global, attrs: &mut Attrs, id: Option<Text>) -> Result<()>
     ensures { Gives (λ _. attrs.new ≡ with_id id attrs.old) result }
 {
@@ -21,7 +21,7 @@ fn write_id(alloc: Global, attrs: &mut Attrs, id: Option<Text>) -> Result<()>
     }
 }
 
-/// Lets attributes tell an element's name, if it has one, as a duplicate one where it lost it.
+/// Writes an element's name into attributes, if it has one, as a duplicate one where the element lost it.
 fn write_name(alloc: Global, attrs: &mut Attrs, lost: bool, name: Option<Text>) -> Result<()>
     ensures { Gives (λ _. attrs.new ≡ with_name lost name attrs.old) result }
 {
@@ -34,7 +34,7 @@ fn write_name(alloc: Global, attrs: &mut Attrs, lost: bool, name: Option<Text>) 
     }
 }
 
-/// Lets the attributes of an element tell what registration gave it.
+/// Writes into the attributes of an element what registration gave it.
 fn write(alloc: Global, attrs: &mut Attrs, standing: Standing) -> Result<()>
     ensures { Gives (λ _. attrs.new ≡ with_standing standing attrs.old) result }
 {
@@ -46,7 +46,7 @@ fn write(alloc: Global, attrs: &mut Attrs, standing: Standing) -> Result<()>
     write_id(alloc, attrs, id)
 }
 
-/// What is known of the message whose number an element's attributes say, if they say one.
+/// What is known of the message whose number is in an element's attributes, if there is one.
 fn message_of<'a>(messages: &'a [MessageIds], attrs: &Attrs) -> Option<&'a MessageIds>
     ensures { MatchOption result (message_of messages.now attrs.now ≡ None) (λ l. message_of messages.now attrs.now ≡ Some l.now) }
 {
@@ -56,7 +56,7 @@ fn message_of<'a>(messages: &'a [MessageIds], attrs: &Attrs) -> Option<&'a Messa
     }
 }
 
-/// Lets the attributes of a problematic tell the id of its message, which has a number, if there is that.
+/// Writes the id of a problematic's message into its attributes, if the message has a number for that id.
 fn write_refid(alloc: Global, attrs: &mut Attrs, message: Option<u64>) -> Result<()>
     ensures { Gives (λ _. attrs.new ≡ with_refid message attrs.old) result }
 {
@@ -66,7 +66,7 @@ fn write_refid(alloc: Global, attrs: &mut Attrs, message: Option<u64>) -> Result
     }
 }
 
-/// Lets the attributes of a message tell the ids of its problematics, if it has some.
+/// Writes the ids of a message's problematics into its attributes, if there are any.
 fn write_backrefs(alloc: Global, attrs: &mut Attrs, ids: &Texts) -> Result<()>
     ensures { Gives (λ _. attrs.new ≡ with_backrefs ids.now attrs.old) result }
 {
@@ -110,7 +110,7 @@ impl Writing {
         }
     }
 
-    /// Lets the attributes of a problematic tell its id, which has a number, and that of its message, if that is in the document.
+    /// Writes a problematic's id, with this number, into its attributes, and its message's id, if the message is in the document.
     fn write_problematic(&self, attrs: &mut Attrs, number: u64) -> Result<()>
         ensures { Gives (λ _. attrs.new ≡ with_problematic self.now.messages number attrs.old) result }
     {
@@ -121,7 +121,7 @@ impl Writing {
         write_id(self.alloc, attrs, Some(problematic_id(self.alloc, number)?))
     }
 
-    /// Lets the attributes of a message tell its id, which has a number, and the ids of its problematics, if it has some.
+    /// Writes a message's id, with this number, into its attributes, and the ids of its problematics, if there are any.
     fn write_message(&self, attrs: &mut Attrs, number: u64) -> Result<()>
         ensures { Gives (λ _. attrs.new ≡ with_message self.now.messages number attrs.old) result }
     {

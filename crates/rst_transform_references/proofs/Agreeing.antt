@@ -1,4 +1,4 @@
--- What becomes of linked elements, by whether there are as many anonymous references as anonymous targets.
+-- What happens to linked elements, by whether there are as many anonymous references as anonymous targets.
 use Rattle.std.proofs.Common.{◌≡◌, ℕ, List, [], length, map, sym, ◌∙◌, ap, ap₂, true, false, nat_eq}
 use Rattle.std.proofs.lemmas.List.{length-map}
 use Rattle.rst_tree.specs.declared.note.Level.TheVariants.{Error}
@@ -11,7 +11,7 @@ use Rattle.rst_transform_work.specs.Reports.{report_in, IsReported, KeepsRest}
 use Rattle.rst_transform_work.proofs.Holding.{holds_reported}
 use Rattle.rst_transform_references.specs.Anonymous.{agree, anonymous_outcomes, anonymous_references, anonymous_targets, failing, first_line, mismatch, paired}
 
--- as many are held as are listed
+-- as many are kept as are listed
 counted : (list : List Linked) (all : List Held) → map held list ≡ all → length list ≡ length all
 counted list all is = sym (length-map list held) ∙ ap length is
 

@@ -1,4 +1,4 @@
--- What becomes of footnotes and their references, put together.
+-- What happens to footnotes and their references, put together.
 use Rattle.std.proofs.Common.{◌≡◌, ◌∙◌, ℕ, List, length, refl, sym, ap, true}
 use Rattle.std.specs.Prelude.{Option, Some, None, unwrap_or, false, []}
 use Rattle.std.specs.List.{enumerate_from, list_all}

@@ -17,7 +17,7 @@ use Rattle.rst_transform_references.specs.Linkings.{Held, held}
 use Rattle.rst_transform_references.specs.FootnoteOrders.{mark_of}
 use Rattle.rst_transform_references.specs.FootnoteLabels.{free_numbers, is_to_number, is_written, number_of, numbers_in, to_number}
 
--- ---- no more numbers are written than elements say
+-- ---- no more numbers are written than elements have
 
 one_apart : (passes : Bool) (a b : ℕ) (rest : List ℕ) → b < a → AllByRecursion (λ y. nat_eq b y ≡ false) rest → AllByRecursion (λ y. nat_eq b y ≡ false) (if passes then a ∷ rest else rest)
 one_apart true a b rest low h = (grind (arith, nat_tests), h)

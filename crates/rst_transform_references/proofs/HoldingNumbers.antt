@@ -10,6 +10,6 @@ use Rattle.rst_transform_references.specs.declared.links.Linked.{Linked}
 use Rattle.rst_transform_references.specs.Linkings.{held}
 use Rattle.rst_transform_references.specs.Footnotes.{numbered_entry}
 
--- what is known of names, or else what the elements that are left say of them
+-- what is known of names, or else what the elements that are left make known of them
 abbrev pub known_with : List (Option (List ℕ)) → ℕ → List Linked → Names → List ℕ → Option NameEntry
 known_with labels place linked names name = option_or (held_by names name) (numbered_entry labels (enumerate_from place (map held (drop place linked))) name)

@@ -1,4 +1,4 @@
--- What becomes of linked elements, by the first steps from indirect targets.
+-- What happens to linked elements, by the first steps from indirect targets.
 use Rattle.std.proofs.Common.{◌≡◌, ℕ, true, false, List, [], ◌∙◌, ap, sym}
 use Rattle.std.specs.List.{list_all}
 use Rattle.std.specs.Prelude.{Option}
@@ -26,7 +26,7 @@ made linked answers targets first reports =
 pub leads_none : (linked : List Held) (context : Context) (outcomes : List Outcome) → list_all is_direct linked ≡ true → outcomes ≡ [] → Makes (indirect_outcomes linked) context context outcomes
 leads_none linked context outcomes none become known h = rw none (become, h)
 
--- where all answers, messages and targets are found, that is what becomes of the elements
+-- where all answers, messages and targets are found, that is what happens to the elements
 pub leads_all : (linked : List Held) (before after : Context) (places : Holder → Option ℕ) (answers : List (Option Answer)) (targets reports : List (Option ℕ)) (outcomes : List Outcome)
     → ((holder : Holder) → places holder ≡ holder_place before.serials linked holder) → answers ≡ answers_of (steps_of (held_by before.names) places linked)
     → list_all is_direct linked ≡ false → targets ≡ targets_of (held_by before.names) places linked → reports ≡ (with_reports (at_place answers) before.first_number before.reports.items 0 linked).0

@@ -14,7 +14,7 @@ more : (old new : List Linked) (behind : List Held) → map held new ≡ map hel
 more old new behind is =
     sym (sym (length-map new held) ∙ ap length is ∙ length-append (map held old) behind ∙ ap (λ n. n + length behind) (length-map old held))
 
--- those among nodes come behind the others
+-- those among nodes come after the others
 pub linked_read : (outer : Option ℕ) (f : Forest) (old new : LinkedReader) → AreRead TakesLinked outer f old new → map held new.list.items ≡ map held old.list.items ++ linked_among (length old.list.items) outer f
 linked_read outer bare old new read = rw read (sym (append-nil (map held old.list.items)))
 linked_read outer (words t r) old new read = linked_read outer r old new read

@@ -17,7 +17,7 @@ or_false : (b : Bool) → (b || false) ≡ b
 or_false true = refl
 or_false false = refl
 
--- a number that an element says is found, or was found
+-- a number that an element has is found, or was found
 said_or_found : (said : Option ℕ) (rest : List ℕ) (written : List Bool) (number : ℕ) → number < length written
     → (list_any (nat_eq number) rest || get_or (with_written said written) number false) ≡ (list_any (nat_eq number) (cons_option said rest) || get_or written number false)
 said_or_found None rest written number within = refl

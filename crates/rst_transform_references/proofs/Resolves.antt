@@ -1,4 +1,4 @@
--- What becomes of linked elements: of one that fails, of one more, and in the end.
+-- What happens to linked elements: to one that fails, to one more, and in the end.
 use Rattle.std.proofs.Common.{◌≡◌, ◌∙◌, ℕ, ◌+◌, ◌<◌, List, [], ◌∷◌, ◌++◌, length, map, drop, get_or, refl, sym, ap, ap₂, subst}
 use Rattle.std.proofs.Math.Path.{fun_ext}
 use Rattle.std.proofs.lemmas.List.{drop_more}
@@ -53,7 +53,7 @@ next_element places all linked i one before next after ended outcome rest within
     let behind = subst (λ o. let d = resolved_from places all (ended ++ (gone || fails o) ∷ []) (map held (drop (i + 1) linked)) then in (rest ≡ d.0) × Holds after d.1) own.0 (others then own.1) in
     rw (drop_more linked i one within, ← at) (ap₂ (λ o more. o ∷ more) own.0 behind.0, behind.1)
 
--- all elements, and what the footnotes and citations among them tell
+-- all elements, and what the footnotes and citations among them list
 pub decided : (places : Holder → Option ℕ) (linked : List Held) (old new : Context) (outcomes changed : List Outcome) → ((holder : Holder) → places holder ≡ holder_place old.serials linked holder)
     → Makes (resolved_from places linked [] linked) old new outcomes → changed ≡ with_backrefs (referents_of places linked (held_by new.names)) linked outcomes → Makes (reference_outcomes linked) old new changed
 decided places linked old new outcomes changed at makes is known h =

@@ -14,7 +14,7 @@ use Rattle.rst_transform_work.specs.Lists.{at_place}
 
 -- ---- turns in order
 
--- from some message on they rise, and all are of the first so many
+-- from some message on they rise, and all are below the bound
 abbrev Rises : ℕ → ℕ → List (ℕ × ℕ) → Type 0
 Rises low reports [] = Unit {0}
 Rises low reports (turn ∷ more) = (low ≤ turn.0) × (turn.0 < reports) × Rises turn.0 reports more

@@ -28,7 +28,7 @@ abbrev pub is_anonymous_target : Node → Bool
 is_anonymous_target (Element t a c l) = is_target t && is_some (value_of Anonymous a)
 is_anonymous_target (Text t) = false
 
--- what a reference says of its target: where that leads, or else its id, unless it is an indirect one
+-- what a reference takes from its target: where that leads, or else its id, unless it is an indirect one
 abbrev pub lead_to : Node → Option Attr
 lead_to target =
     option_or (lead_of target) (if is_some (node_value Refname target) then None else lead_to_id (slice_get (list_said Ids target) 0))
@@ -62,7 +62,7 @@ first_line (one ∷ more) targets = line_of one.0
 first_line [] (one ∷ more) = line_of one.0
 first_line [] [] = 0
 
--- what the message says where there aren't
+-- the text of the message where there aren't
 abbrev pub mismatch : ℕ → ℕ → List ℕ
 mismatch references targets = codes "Anonymous hyperlink mismatch: " ++ (decimal references ++ (codes " references but " ++ (decimal targets ++ codes " targets.")))
 
@@ -70,7 +70,7 @@ mismatch references targets = codes "Anonymous hyperlink mismatch: " ++ (decimal
 abbrev pub failing : ℕ → Node → Outcome
 failing report node = if is_anonymous_reference node then Fails report else adds None
 
--- What becomes of linked elements: nothing if none of them is an anonymous reference or target. Where there aren't as many of the ones as of the
+-- What happens to linked elements: nothing if none of them is an anonymous reference or target. Where there aren't as many of the ones as of the
 -- others, an ERROR comes after the other messages, and the references fail for it.
 abbrev pub anonymous_outcomes : List Held → Known → List Outcome × Known
 anonymous_outcomes linked known =

@@ -1,4 +1,4 @@
--- What footnotes and citations tell of the references to them (Document Tree, `backrefs`).
+-- What footnotes and citations list of the references to them (Document Tree, `backrefs`).
 use Rattle.std.specs.Prelude.{ℕ, Bool, false, List, [], ◌∷◌, ◌++◌, length, map, nat_eq, if◌then◌else◌, slice_get, Option, Some, None}
 use Rattle.std.specs.List.{cons_option, enumerate_from, filter_map, range_with_len, zip}
 use Rattle.rst_transform_names.specs.declared.names.Holder.{Holder}
@@ -49,16 +49,16 @@ id_of_reference place referent node = if is_at place referent then slice_get (li
 abbrev pub ids_of_references : List (Option ℕ) → List Held → ℕ → List (List ℕ)
 ids_of_references referents linked place = filter_map (λ p. id_of_reference place p.0 p.1.0) (zip referents linked)
 
--- what becomes of an element that these references refer to
+-- what happens to an element that these references refer to
 abbrev pub referred_to : List (List ℕ) → Outcome → Outcome
 referred_to [] outcome = outcome
 referred_to (id ∷ more) outcome = adds (Some (attr Backrefs (Listed (id ∷ more))))
 
--- for each of so many elements the ids of the references to it
+-- for each of `count` elements the ids of the references to it
 abbrev pub reference_ids : List (Option ℕ) → List Held → ℕ → List (List (List ℕ))
 reference_ids referents linked count = map (ids_of_references referents linked) (range_with_len 0 count)
 
--- What becomes of linked elements. No other element than a footnote or a citation is referred to so.
+-- What happens to linked elements. No other element than a footnote or a citation is referred to so.
 abbrev pub with_backrefs : List (Option ℕ) → List Held → List Outcome → List Outcome
 with_backrefs referents linked outcomes = map (λ p. referred_to p.0 p.1) (zip (reference_ids referents linked (length outcomes)) outcomes)
 

@@ -68,6 +68,6 @@ labels_from free before (one ∷ more) =
     let mark : Option (List ℕ) = mark_of one.0 in
     label_by mark free before ∷ labels_from (if is_to_number mark then drop 1 free else free) (if is_symbol mark then before + 1 else before) more
 
--- the label that each footnote shows; the other elements have none
+-- the label of each footnote; the other elements have none
 abbrev pub labels : List Held → List (Option (List ℕ))
 labels linked = labels_from (free_numbers linked) 0 linked

@@ -31,7 +31,7 @@ order_of mark = if bytes_eq mark (codes "#") then Some Numbers else (if bytes_eq
 abbrev pub footnote_order : Node → Option Order
 footnote_order node = option_and_then order_of (mark_of node)
 
--- a reference to a symbol footnote says so
+-- the order that an attribute of a reference names: that of symbols if its text is `*`
 abbrev pub order_said : Option Value → Option Order
 order_said None = None
 order_said (Some (Text mark)) = if bytes_eq mark (codes "*") then Some Symbols else Some Numbers

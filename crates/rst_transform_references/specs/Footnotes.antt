@@ -48,11 +48,11 @@ entry_of name None node = None
 abbrev pub entry_at : List (Option (List ℕ)) → List ℕ → ℕ × Held → Option NameEntry
 entry_at labels name (place, one) = entry_of name (own_number one.0 (at_place labels place)) one.0
 
--- what is known of a name that elements, each at its place, hold as their numbers: what the first such element says
+-- what is known of a name that elements, each at its place, have as their numbers: what the first of them has
 abbrev pub numbered_entry : List (Option (List ℕ)) → List (ℕ × Held) → List ℕ → Option NameEntry
 numbered_entry labels placed name = slice_get (filter_map (entry_at labels name) placed) 0
 
--- what is known of names: what was known before, or else what those elements say
+-- what is known of names: what was known before, or else what those elements have
 abbrev pub with_numbers : List (Option (List ℕ)) → List Held → (List ℕ → Option NameEntry) → List ℕ → Option NameEntry
 with_numbers labels linked known name = option_or (known name) (numbered_entry labels (enumerate_from 0 linked) name)
 
@@ -70,7 +70,7 @@ left_over order found placed = find (is_left_over order found) placed
 abbrev pub first_left_over : Order → List (Option ℕ) → List Held → Option ℕ
 first_left_over order found linked = option_map (λ p. line_of p.1.0) (left_over order found (enumerate_from 0 linked))
 
--- what the message on them says, by how many footnotes of the order there are
+-- the text of the message on them, by how many footnotes of the order there are
 abbrev pub too_many : Order → ℕ → List ℕ
 too_many order footnotes = codes "Too many " ++ (order_name order ++ (codes " footnote references: only " ++ (decimal footnotes ++ codes " corresponding footnotes available.")))
 
@@ -89,14 +89,14 @@ report_of (Some Numbers) numbers symbols = numbers
 report_of (Some Symbols) numbers symbols = symbols
 report_of None numbers symbols = None
 
--- ---- what becomes of the elements
+-- ---- what happens to the elements
 
 -- a reference leads to the id of its footnote
 abbrev pub lead_to_footnote : Option Held → Option Attr
 lead_to_footnote None = None
 lead_to_footnote (Some one) = lead_to_id (slice_get (list_said Ids one.0) 0)
 
--- and shows the label of the footnote at a place
+-- and gets the label of the footnote at a place
 abbrev pub referring : List Held → List (Option (List ℕ)) → ℕ → Outcome
 referring linked labels footnote = Stays (lead_to_footnote (slice_get linked footnote)) (at_place labels footnote)
 
@@ -104,7 +104,7 @@ abbrev pub is_label : Node → Bool
 is_label (Element Label a c l) = true
 is_label _ = false
 
--- a label shows that of the footnote that it is in
+-- a label gets that of the footnote that it is in
 abbrev pub label_in : List (Option (List ℕ)) → Option ℕ → Option (List ℕ)
 label_in labels = option_and_then (at_place labels)
 
@@ -113,13 +113,13 @@ abbrev pub with_number : Node → Option (List ℕ) → Option Attr
 with_number node None = None
 with_number node (Some number) = Some (attr Names (Listed (list_said Names node ++ number ∷ [])))
 
--- what becomes of a label, a footnote and any other element, at a place, that is no reference by the order
+-- what happens to a label, a footnote and any other element, at a place, that is no reference by the order
 abbrev pub labelled : List (Option (List ℕ)) → ℕ → Held → Outcome
 labelled labels place one =
     if is_label one.0 then Stays None (label_in labels one.1)
     else adds (with_number one.0 (own_number one.0 (at_place labels place)))
 
--- what becomes of an element, by the footnote that it finds and the message on it
+-- what happens to an element, by the footnote that it finds and the message on it
 abbrev pub outcome_by : List Held → List (Option (List ℕ)) → ℕ → Held → Option ℕ → Option ℕ → Outcome
 outcome_by linked labels place one (Some footnote) report = referring linked labels footnote
 outcome_by linked labels place one None (Some report) = Fails report
@@ -129,7 +129,7 @@ outcome_by linked labels place one None None = labelled labels place one
 abbrev pub outcome_at : List Held → List (Option (List ℕ)) → List (Option ℕ) → Option ℕ → Option ℕ → ℕ × Held → Outcome
 outcome_at linked labels found numbers symbols (place, one) = outcome_by linked labels place one (at_place found place) (report_of (reference_order one.0) numbers symbols)
 
--- what becomes of all
+-- what happens to all
 abbrev pub outcomes_by : List Held → List (Option (List ℕ)) → List (Option ℕ) → Option ℕ → Option ℕ → List Outcome
 outcomes_by linked labels found numbers symbols = map (outcome_at linked labels found numbers symbols) (enumerate_from 0 linked)
 
@@ -142,7 +142,7 @@ is_of_footnotes _ = false
 abbrev pub is_no_footnote : Held → Bool
 is_no_footnote one = not (is_of_footnotes one.0)
 
--- What becomes of linked elements: nothing if none of them is a footnote or a reference to one. The numbers are held as names, and then come
+-- What happens to linked elements: nothing if none of them is a footnote or a reference to one. The numbers are kept as names, and then come
 -- the messages on the references left over, those to numbered footnotes first.
 abbrev pub footnote_outcomes : List Held → Known → List Outcome × Known
 footnote_outcomes linked known =

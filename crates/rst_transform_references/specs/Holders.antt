@@ -26,17 +26,17 @@ lead_by None id = lead_to_id id
 abbrev pub lead_of : Node → Option Attr
 lead_of target = lead_by (text_said Refuri target) (text_said Refid target)
 
--- an element that says a number has it
+-- whether an element has this number
 abbrev pub is_it : ℕ → Option ℕ → Bool
 is_it serial None = false
 is_it serial (Some said) = nat_eq said serial
 
--- the place of the last element with a number, after so many others, or else that among those
+-- the place of the last element with a number, after a number of others, or else that among those
 abbrev pub last_numbered : ℕ → ℕ → Option ℕ → List Held → Option ℕ
 last_numbered serial place before [] = before
 last_numbered serial place before (one ∷ more) = last_numbered serial (place + 1) (if is_it serial (number_said Serial one.0) then Some place else before) more
 
--- the place of a holder among linked elements, whose numbers are below so many
+-- the place of a holder among linked elements, whose numbers are below a bound
 abbrev pub holder_place : ℕ → List Held → Holder → Option ℕ
 holder_place serials linked (Element serial) = if nat_lt serial serials then last_numbered serial 0 None linked else None
 holder_place serials linked _ = None
@@ -46,7 +46,7 @@ abbrev pub place_at : List (Option ℕ) → Holder → Option ℕ
 place_at places (Element serial) = option_flatten (slice_get places serial)
 place_at places _ = None
 
--- the places, with another one at the number that an element says
+-- the places, with another one at the number that an element has
 abbrev pub with_place : ℕ → Option ℕ → List (Option ℕ) → List (Option ℕ)
 with_place place None places = places
 with_place place (Some serial) places = slice_set places serial (Some place)

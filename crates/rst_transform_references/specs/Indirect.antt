@@ -25,11 +25,11 @@ use Rattle.rst_transform_work.specs.Lists.{at_place}
 use Rattle.rst_transform_work.specs.Reading.{line_of, text_said}
 use Rattle.rst_transform_work.specs.Reports.{next_report}
 
--- what the message says of a target whose chain breaks at a name that no element holds
+-- the words of the message on a target whose chain breaks at a name that no element has
 abbrev pub missing_text : List ℕ → List ℕ → List ℕ
 missing_text name missing = codes "Indirect hyperlink target \"" ++ (name ++ (codes "\" refers to target \"" ++ (missing ++ codes "\", which does not exist.")))
 
--- what the message says of a target of some name, by what it comes to
+-- the words of the message on a target of some name, by what it comes to
 abbrev pub failure : List ℕ → Option Answer → Option (List ℕ)
 failure name (Some (Missing missing)) = Some (missing_text name missing)
 failure name (Some Circular) = Some (codes "Indirect hyperlink target \"" ++ (name ++ codes "\" is circular."))
@@ -79,7 +79,7 @@ targets_from known places left (one ∷ more) =
 abbrev pub targets_of : (List ℕ → Option NameEntry) → (Holder → Option ℕ) → List Held → List (Option ℕ)
 targets_of known places linked = targets_from known places (anonymous_from 0 linked) linked
 
--- what becomes of an element that leads where an answer says
+-- what happens to an element that leads where an answer points
 abbrev pub led : Answer → Outcome
 led (Leads attr) = adds (Some attr)
 led _ = adds None
@@ -95,14 +95,14 @@ abbrev pub outcome_through : (ℕ → Option Answer) → (ℕ → Option ℕ) �
 outcome_through answers reports node None = adds None
 outcome_through answers reports node (Some target) = outcome_by node (reports target) (answers target)
 
--- what becomes of the element at a place: an indirect target leads where its answer says
+-- what happens to the element at a place: an indirect target leads where its answer points
 abbrev pub outcome_at : (ℕ → Option Answer) → (ℕ → Option ℕ) → (ℕ → Option ℕ) → ℕ × Held → Outcome
 outcome_at answers reports targets (place, one) = unwrap_or (option_map led (answers place)) (outcome_through answers reports one.0 (targets place))
 
 abbrev pub outcomes_by : (ℕ → Option Answer) → (ℕ → Option ℕ) → (ℕ → Option ℕ) → List Held → List Outcome
 outcomes_by answers reports targets linked = map (outcome_at answers reports targets) (enumerate_from 0 linked)
 
--- What becomes of linked elements: nothing if none of them is an indirect target. Each indirect target leads where its answer says. Where that is
+-- What happens to linked elements: nothing if none of them is an indirect target. Each indirect target leads where its answer points. Where that is
 -- nowhere, an ERROR comes after the other messages, and the references to the target fail for it.
 abbrev pub indirect_outcomes : List Held → Known → List Outcome × Known
 indirect_outcomes linked known =

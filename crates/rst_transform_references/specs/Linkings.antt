@@ -22,7 +22,7 @@ held one = (one.element.now, one.outer)
 abbrev pub own_linked : Option ℕ → Tag → Node → List Held
 own_linked outer tag node = if is_linked_tag tag then ((node, outer) ∷ []) else []
 
--- the innermost linked element that the nodes in one are inside, which comes after so many
+-- the innermost linked element that the nodes in one are inside, which comes after a number of others
 abbrev pub inner_of : ℕ → Option ℕ → Tag → Option ℕ
 inner_of before outer tag = if is_linked_tag tag then (Some before) else outer
 
@@ -32,7 +32,7 @@ TakesLinked old outer (Text t) new inner = Unit {0}
 TakesLinked old outer (Element t a c l) new inner =
     (map held new.list.items ≡ map held old.list.items ++ own_linked outer t (Element t a c l)) × (inner ≡ inner_of (length old.list.items) outer t)
 
--- those among some nodes that are inside the one at a place, after so many others
+-- those among some nodes that are inside the one at a place, after a number of others
 abbrev pub linked_among : ℕ → Option ℕ → Forest → List Held
 linked_among before outer bare = []
 linked_among before outer (words t r) = linked_among before outer r

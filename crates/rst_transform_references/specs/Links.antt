@@ -21,7 +21,7 @@ abbrev pub with_more : Option Attr → List Attr → List Attr
 with_more None attrs = attrs
 with_more (Some more) attrs = with_attr more.key more.value attrs
 
--- an element that stays, or shows a text in place of what stood in it
+-- an element that stays, or gets a text in place of its content
 abbrev pub shown_as : Option (List ℕ) → Tag → List Attr → ℕ → Rewrite
 shown_as None t a l = Keep t a l
 shown_as (Some text) t a l = Replace (Element t a (words text bare) l)
@@ -33,7 +33,7 @@ changed_by (Stays attr shown ∷ more) t a l = shown_as shown t (with_more attr 
 changed_by (Fails report ∷ more) t a l = Keep t a l
 changed_by (Failed p ∷ more) t a l = Replace (Element Problematic p (words (source_said a) bare) l)
 
--- what becomes of an element
+-- what happens to an element
 abbrev pub change_of : List Outcome → Node → Rewrite
 change_of s (Element t a c l) = if is_linked_tag t then changed_by s t a l else Keep t a l
 change_of s (Text t) = kept (Text t)

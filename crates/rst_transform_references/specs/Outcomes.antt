@@ -1,10 +1,10 @@
--- What becomes of linked elements. No rule of markup: the transforms of references are said by it.
+-- What happens to linked elements. No rule of markup: the transforms of references are defined by it.
 use Rattle.std.specs.Prelude.{Bool, true, false, Option, None}
 use Rattle.rst_tree.specs.declared.attrs.Attr.{Attr}
 use Rattle.rst_transform_references.specs.declared.links.Outcome.{Outcome}
 use Rattle.rst_transform_references.specs.declared.links.Outcome.TheVariants.{Stays, Fails}
 
--- an element says one thing more, if there is one
+-- an element gets one more attribute, if there is one
 abbrev pub adds : Option Attr → Outcome
 adds attr = Stays attr None
 

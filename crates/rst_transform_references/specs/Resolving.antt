@@ -21,41 +21,41 @@ use Rattle.rst_transform_references.specs.Outcomes.{adds, fails}
 use Rattle.rst_transform_work.specs.Reading.{line_of, text_said}
 use Rattle.rst_transform_work.specs.Reports.{reported}
 
--- the label that a footnote or a citation shows: the text of its first node
+-- the label of a footnote or a citation: the text of its first node
 abbrev pub label_of : Node → Option (List ℕ)
 label_of (Element t a c l) = option_map text_in (slice_get (nodes_of c) 0)
 label_of (Text t) = None
 
--- a reference to a footnote that shows the footnote's label
+-- a reference to a footnote that gets the footnote's label
 abbrev pub shows_label : Node → Bool
 shows_label node = refers_to_footnote_or_citation node && is_some (node_value Auto node)
 
--- what a reference shows that leads to an element: the label of that, or what it holds
+-- the text of a reference that leads to an element: the label of that, or its own content
 abbrev pub shown_for : List Held → Node → Option ℕ → Option (List ℕ)
 shown_for linked node place = if shows_label node then option_and_then label_of (element_at linked place) else None
 
--- what the ERROR says of a name that means nothing
+-- the words of the ERROR on a name that means nothing
 abbrev pub unknown : List ℕ → List ℕ
 unknown name = codes "Unknown target name: \"" ++ (name ++ codes "\".")
 
--- what the ERROR says of a name that elements with equal names lost
+-- the words of the ERROR on a name that elements with equal names lost
 abbrev pub duplicate : List ℕ → List ℕ
 duplicate name = codes "Duplicate target name, cannot be used as a unique reference: \"" ++ (name ++ codes "\".")
 
 abbrev pub name_of : Node → List ℕ
 name_of node = unwrap_or (text_said Refname node) []
 
--- a reference fails for an ERROR of its own, which the last section shows
+-- a reference fails for an ERROR of its own, which is in the last section
 abbrev pub failing : Node → List ℕ → Known → Outcome × Known
 failing node text known = (Fails (length known.reports), reported Error (line_of node) text true known)
 
--- what becomes of a reference whose name means something
+-- what happens to a reference whose name means something
 abbrev pub outcome_of : List Held → Node → Meaning → Known → Outcome × Known
 outcome_of linked node (Leads attr place) known = (Stays (Some attr) (shown_for linked node place), known)
 outcome_of linked node Unknown known = failing node (unknown (name_of node)) known
 outcome_of linked node Duplicate known = failing node (duplicate (name_of node)) known
 
--- what becomes of an element that may be gone with the one that it is inside
+-- what happens to an element that may be gone with the one that it is inside
 abbrev pub outcome_unless : Bool → List Held → Node → Option Meaning → Known → Outcome × Known
 outcome_unless false linked node (Some meaning) known = outcome_of linked node meaning known
 outcome_unless _ linked node _ known = (adds None, known)
@@ -79,7 +79,7 @@ module _ (places : Holder → Option ℕ) (linked : List Held) where
       let rest : List Outcome × Known = resolved_from (ended ++ (gone || fails own.0) ∷ []) more own.1 in
       (own.0 ∷ rest.0, rest.1)
 
--- What becomes of linked elements. In the end each footnote and citation lists the references to it; the names are as before.
+-- What happens to linked elements. In the end each footnote and citation lists the references to it; the names are as before.
 abbrev pub reference_outcomes : List Held → Known → List Outcome × Known
 reference_outcomes linked known =
     let places : Holder → Option ℕ = holder_place known.serials linked in

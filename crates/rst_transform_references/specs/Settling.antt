@@ -30,7 +30,7 @@ abbrev pub firsts : List (Option ℕ) → List Outcome → List Held → List (O
 firsts before outcomes [] = before
 firsts before outcomes (one ∷ more) = firsts (before ++ first_in before outcomes one.1 ∷ []) outcomes more
 
--- the turn of the element at a place, if it becomes a problematic of one of so many messages, and is still there when that comes: the message, and
+-- the turn of the element at a place, if it becomes a problematic of one of the messages and is still there when that comes: the message, and
 -- the place
 abbrev pub turn_of : ℕ → List (Option ℕ) → ℕ × Outcome → Option (ℕ × ℕ)
 turn_of reports around (place, Fails report) = if nat_lt report reports && nat_lt report (unwrap_or (at_place around place) reports) then Some (report, place) else None
@@ -40,7 +40,7 @@ turn_of reports around (place, _) = None
 abbrev pub turns_of : ℕ → List (Option ℕ) → List Outcome → List (ℕ × ℕ)
 turns_of reports around outcomes = filter_map (turn_of reports around) (enumerate_from 0 outcomes)
 
--- the same of the first so many messages, message by message
+-- the same for the first messages, message by message
 abbrev pub by_message : ℕ → List (ℕ × ℕ) → List (ℕ × ℕ)
 by_message zero turns = []
 by_message (suc report) turns = by_message report turns ++ filter (λ turn. nat_eq turn.0 report) turns
@@ -51,15 +51,15 @@ take_turns [] outcomes known = (outcomes, known)
 take_turns (turn ∷ more) outcomes known =
     let made : List Attr × Known = problematic turn.0 known in take_turns more (slice_set outcomes turn.1 (Failed made.0)) made.1
 
--- what becomes of the element at a place, if it is inside none that fails
+-- what happens to the element at a place, if it is inside none that fails
 abbrev pub left_at : List (Option ℕ) → ℕ × Outcome → Option Outcome
 left_at around (place, outcome) = if is_none (at_place around place) then Some outcome else None
 
--- what becomes of those that remain in the end
+-- what happens to those that remain in the end
 abbrev pub remaining : List (Option ℕ) → List Outcome → List Outcome
 remaining around outcomes = filter_map (left_at around) (enumerate_from 0 outcomes)
 
--- what becomes of the linked elements that remain, by the outcomes of all
+-- what happens to the linked elements that remain, by the outcomes of all
 abbrev pub settled : List Held → List Outcome → Known → List Outcome × Known
 settled linked outcomes known =
     let around : List (Option ℕ) = firsts [] outcomes linked in
@@ -67,6 +67,6 @@ settled linked outcomes known =
     let done : List Outcome × Known = take_turns (by_message reports (turns_of reports around outcomes)) outcomes known in
     (remaining around done.0, done.1)
 
--- what becomes of linked elements as a transform decides
+-- what happens to linked elements as a transform decides
 abbrev pub link_changes : (List Held → Known → List Outcome × Known) → List Held → Known → List Outcome × Known
 link_changes decides linked known = let decided : List Outcome × Known = decides linked known in settled linked decided.0 decided.1

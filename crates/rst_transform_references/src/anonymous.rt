@@ -123,7 +123,7 @@ fn mismatch(alloc: Global, references: usize, targets: usize) -> Result<Text>
     Ok(Text::new(text))
 }
 
-/// What becomes of the elements: each anonymous reference takes the next target.
+/// What happens to the elements: each anonymous reference takes the next target.
 fn paired(alloc: Global, linked: &[Linked<'_>], targets: &[Linked<'_>]) -> Result<Vec<Outcome>>
     ensures { Gives (λ outcomes. outcomes.items ≡ paired (map held linked.entry.now) (map held targets.entry.now)) result }
 {
@@ -147,7 +147,7 @@ fn behind_first<'t, 'a>(targets: &'t [Linked<'a>]) -> &'t [Linked<'a>]
     &targets[targets.len().min(1)..]
 }
 
-/// What a reference says of the first of some targets, if there is one: where that leads, or its id, unless it is an indirect one.
+/// What a reference takes from the first of some targets, if there is one: where that leads, or its id, unless it is an indirect one.
 fn first_lead(alloc: Global, targets: &[Linked<'_>]) -> Result<Option<Attr>>
     ensures { Gives (λ lead. lead ≡ first_lead (map held targets.entry.now)) result }
 {
@@ -166,7 +166,7 @@ fn first_lead(alloc: Global, targets: &[Linked<'_>]) -> Result<Option<Attr>>
     }
 }
 
-/// Where all anonymous references fail for a report, what becomes of the elements.
+/// Where all anonymous references fail for a report, what happens to the elements.
 fn mismatched(alloc: Global, linked: &[Linked<'_>], report: usize) -> Result<Vec<Outcome>>
     ensures { Gives (λ outcomes. outcomes.items ≡ map (λ one. failing report one.element.now) linked.now) result }
 {
@@ -174,7 +174,7 @@ fn mismatched(alloc: Global, linked: &[Linked<'_>], report: usize) -> Result<Vec
     Ok(outcomes.collect(alloc)?)
 }
 
-/// What becomes of an element where all anonymous references fail for a report.
+/// What happens to an element where all anonymous references fail for a report.
 fn failing(report: usize, element: &Node) -> Outcome
     ensures { result ≡ failing report element.now }
 {

@@ -1,4 +1,4 @@
-//! What footnotes and citations tell of the references to them.
+//! What footnotes and citations list of the references to them.
 ghost use Rattle.std.specs.Prelude.{◌≡◌, [], map, replicate};
 ghost use Rattle.std.specs.List.{list_any};
 ghost use Rattle.rst_tree.specs.Faults.{Gives};
@@ -49,7 +49,7 @@ fn referents_of(names: &Names, holders: &Holders<'_>) -> Result<Vec<Option<usize
     Ok(referents)
 }
 
-/// No id for each of so many elements.
+/// No id for each of `count` elements.
 fn no_ids(alloc: Global, count: usize) -> Result<Vec<Texts>>
     ensures { Gives (λ lists. lists.items ≡ replicate count []) result }
 {
@@ -84,7 +84,7 @@ fn add_reference(
     Ok(())
 }
 
-/// For each of so many elements the ids of the references to it, in order.
+/// For each of `count` elements the ids of the references to it, in order.
 fn reference_ids(
     holders: &Holders<'_>,
     referents: &[Option<usize>],
@@ -102,7 +102,7 @@ fn reference_ids(
     Ok(lists)
 }
 
-/// What becomes of an element that the references with these ids refer to.
+/// What happens to an element that the references with these ids refer to.
 fn referred_to(ids: Texts, outcome: Outcome) -> Outcome
     ensures { result ≡ referred_to ids outcome }
 {
@@ -123,7 +123,7 @@ fn any_refers_to_footnote_or_citation(linked: &[Linked<'_>]) -> bool
         .any(|one| refers_to_footnote_or_citation(one.element))
 }
 
-/// What becomes of the linked elements, where each footnote and citation lists the ids of the references to it, in order.
+/// What happens to the linked elements, where each footnote and citation lists the ids of the references to it, in order.
 pub fn with_backrefs(
     names: &Names,
     holders: &Holders<'_>,

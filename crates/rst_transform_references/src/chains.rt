@@ -12,9 +12,9 @@ use std::alloc::Global;
 /// What an indirect target comes to, through further ones.
 #[derive(Drop)]
 pub enum Answer {
-    /// It leads where this attribute says.
+    /// It leads where this attribute points.
     Leads(Entry),
-    /// The last name in its chain is held by no element.
+    /// The last name in its chain belongs to no element.
     Missing(Text),
     /// Its chain runs into a circle.
     Circular,

@@ -16,7 +16,7 @@ use std::alloc::Global;
 /// Footnotes').
 const SYMBOLS: [char; 10] = ['*', '†', '‡', '§', '¶', '#', '♠', '♥', '♦', '♣'];
 
-/// Says that a footnote was written with a number, if it was and the number is among those that the list is about.
+/// Marks the number that a footnote was written with, if there is one and it is among those that the list is about.
 fn set_written(written: &mut Vec<bool>, node: &Node)
     ensures { written.new.items ≡ with_written (number_of (mark_of node.now)) written.old.items }
 {
@@ -69,7 +69,7 @@ fn symbol_label(alloc: Global, n: usize) -> Result<Text>
     Ok(Text::new(label))
 }
 
-/// The label that each footnote shows, by its place; there is nothing for the other elements. Each footnote that is to be numbered
+/// The label of each footnote, by its place; there is nothing for the other elements. Each footnote that is to be numbered
 /// takes the next free number, and each symbol footnote the next symbol.
 pub fn labels(alloc: Global, linked: &[Linked<'_>]) -> Result<Vec<Option<Text>>>
     ensures { Gives (λ list. list.items ≡ labels (map held linked.now)) result }

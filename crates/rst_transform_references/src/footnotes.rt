@@ -179,8 +179,8 @@ fn leftover(
     Ok(Some(place))
 }
 
-/// What becomes of the linked elements, by their labels, what they find and the messages on the two orders: a reference shows the label of
-/// its footnote or fails, a label shows that of the footnote that it is in, and a footnote that was to be numbered gets its number as a name.
+/// What happens to the linked elements, by their labels, what they find and the messages on the two orders: a reference gets the label of
+/// its footnote or fails, a label gets that of the footnote that it is in, and a footnote that was to be numbered gets its number as a name.
 fn outcomes_by(
     alloc: Global,
     linked: &[Linked<'_>],
@@ -236,7 +236,7 @@ fn label_in(labels: &[Option<Text>], footnote: Option<usize>) -> Result<Option<T
     }
 }
 
-/// What a reference says of the footnote at a place: its id.
+/// What a reference takes from the footnote at a place: its id.
 fn lead_to_footnote(alloc: Global, linked: &[Linked<'_>], footnote: usize) -> Result<Option<Attr>>
     ensures { Gives (λ lead. lead ≡ lead_to_footnote (slice_get (map held linked.now) footnote)) result }
 {

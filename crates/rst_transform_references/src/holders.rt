@@ -24,7 +24,7 @@ pub struct Holders<'a> {
 }
 
 impl<'a> Holders<'a> {
-    /// The places of some elements, whose numbers are below `serials`.
+    /// The places of some elements, whose numbers are below a bound.
     pub fn of(alloc: Global, linked: &'a [Linked<'a>], serials: u64) -> Result<Holders<'a>>
         ensures linked { Gives (λ holders. holders.linked.now ≡ linked.now) result }
         ensures places { Gives (λ holders. (holder : Holder) → place_at holders.places.items holder ≡ holder_place serials (map held linked.now) holder) result }

@@ -46,7 +46,7 @@ use std::alloc::Global;
 /// ```
 ///
 /// References by name are left to the last of these transforms. A target whose chain runs into a circle, or breaks at a name
-/// that no element holds, gives an ERROR, and the references through it become problematics of that message: message by message,
+/// that no element has, gives an ERROR, and the references through it become problematics of that message: message by message,
 /// under each in the order of the document.
 pub fn indirect_outcomes(context: &mut Context, linked: &[Linked<'_>]) -> Result<Vec<Outcome>>
     ensures { Gives (λ outcomes. Makes (indirect_outcomes (map held linked.now)) context.old context.new outcomes.items) result }
@@ -126,7 +126,7 @@ fn first_steps(names: &Names, holders: &Holders<'_>) -> Result<Vec<Option<Step>>
     Ok(steps)
 }
 
-/// What the message says of a target whose chain breaks at a name that no element holds.
+/// The words of the message on a target whose chain breaks at a name that no element has.
 fn missing_text(alloc: Global, name: &str, missing: &str) -> Result<Text>
     ensures { Gives (λ text. text ≡ missing_text name.now missing.now) result }
 {
@@ -136,7 +136,7 @@ fn missing_text(alloc: Global, name: &str, missing: &str) -> Result<Text>
     Ok(Text::new(text))
 }
 
-/// What the message on the element at a place says, if it fails.
+/// The text of the message on the element at a place, if it fails.
 fn failure_at(
     alloc: Global,
     node: &Node,
@@ -227,7 +227,7 @@ fn targets_of(names: &Names, holders: &Holders<'_>) -> Result<Vec<Option<usize>>
     Ok(targets)
 }
 
-/// What becomes of an element that leads where an answer says.
+/// What happens to an element that leads where an answer points.
 fn led(alloc: Global, answer: &Answer) -> Result<Outcome>
     ensures { Gives (λ outcome. outcome ≡ led answer.now) result }
 {
@@ -242,7 +242,7 @@ fn led(alloc: Global, answer: &Answer) -> Result<Outcome>
     }
 }
 
-/// What becomes of the linked elements.
+/// What happens to the linked elements.
 fn outcomes(
     alloc: Global,
     linked: &[Linked<'_>],

@@ -25,11 +25,11 @@ pub struct Linked<'a> {
     pub outer: Option<usize>,
 }
 
-/// What becomes of a linked element.
+/// What happens to a linked element.
 #[derive(Drop)]
 pub enum Outcome {
-    /// It stays. In the end it has this attribute, and shows this text in place of what stood in it, if there are such. What gets a text,
-    /// a label or a reference to a footnote, holds no linked element.
+    /// It stays. In the end it has this attribute, and this text in place of its content, if there are any. What gets a text,
+    /// a label or a reference to a footnote, contains no linked element.
     Stays {
         attr: Option<Attr>,
         shown: Option<Text>,
@@ -41,7 +41,7 @@ pub enum Outcome {
 }
 
 impl Outcome {
-    /// It stays, and says this, if there is something.
+    /// It stays, and gets this attribute, if there is one.
     pub fn adds(attr: Option<Attr>) -> Outcome
         ensures { result ≡ adds attr }
     {
@@ -106,7 +106,7 @@ pub fn linked_in<'a>(alloc: Global, document: &'a Document) -> Result<Vec<Linked
     Ok(linked.list)
 }
 
-/// What becomes of the linked elements of a tree, in preorder, which contracts see as the list of
+/// What happens to the linked elements of a tree, in preorder, which contracts see as the list of
 /// that.
 #[derive(Drop)]
 pub struct Changes {
@@ -144,7 +144,7 @@ impl Changes {
         self.left.iter().all(|change| is_idle(change))
     }
 
-    /// Changes the parts of a linked element on a line, and tells whether what stands in it is to be gone through.
+    /// Changes the parts of a linked element on a line, and returns whether its content is to be gone through.
     // Few elements are linked: the others are passed without this call.
     #[inline(never)]
     fn change(

@@ -13,7 +13,7 @@ use rst_tree::{Attr, Key, Node, Result, Tag};
 /// What a name means to a reference (Markup Specification, 'Hyperlink References').
 #[derive(Drop)]
 pub enum Meaning {
-    /// It leads where the attribute says: to the footnote or citation at this place, if it is one.
+    /// It leads where the attribute points: to the footnote or citation at this place, if it is one.
     Leads { attr: Attr, referent: Option<usize> },
     /// No element of the kind that is looked for has it.
     Unknown,

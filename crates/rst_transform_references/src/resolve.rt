@@ -14,7 +14,7 @@ use crate::meanings::{Meaning, meaning_to, refers_to_footnote_or_citation};
 use rst_transform_work::{Context, has, line_of, text_said};
 use rst_tree::{Key, Level, Node, Result, Text};
 
-/// Lets each reference by name refer to what the name means, and each footnote and citation tell its references (Markup
+/// Lets each reference by name refer to what the name means, and each footnote and citation list its references (Markup
 /// Specification, 'Hyperlink References').
 ///
 /// Before:
@@ -56,7 +56,7 @@ pub fn reference_outcomes(context: &mut Context, linked: &[Linked<'_>]) -> Resul
     Ok(outcomes)
 }
 
-/// What a reference shows in place of what it holds, if it shows the label of the footnote or citation at a place.
+/// The new text of a reference in place of its content, if it gets the label of the footnote or citation at a place.
 fn shown_for(holders: &Holders<'_>, reference: &Node, place: Option<usize>) -> Result<Option<Text>>
     ensures { Gives (λ shown. shown ≡ shown_for (map held holders.now.linked.now) reference.now place) result }
 {
@@ -72,7 +72,7 @@ fn shown_for(holders: &Holders<'_>, reference: &Node, place: Option<usize>) -> R
     }
 }
 
-/// A reference that fails for an ERROR of its own, which says these words before its name.
+/// A reference that fails for an ERROR of its own, which has these words before its name.
 #[tactic(auto, using(crate::proofs::Resolves::fails_for))]
 fn failing(context: &mut Context, reference: &Node, words: &str) -> Result<Outcome>
     ensures { Gives (Makes (failing reference.now (words.now ++ (name_of reference.now ++ codes "\"."))) context.old context.new) result }
@@ -84,10 +84,10 @@ fn failing(context: &mut Context, reference: &Node, words: &str) -> Result<Outco
     Ok(Outcome::Fails(report))
 }
 
-/// What the ERROR says of a name that elements with equal names lost, before the name.
+/// The words of the ERROR on a name that elements with equal names lost, before the name.
 const DUPLICATE: &str = "Duplicate target name, cannot be used as a unique reference: \"";
 
-/// What becomes of a reference whose name means this.
+/// What happens to a reference whose name means this.
 fn outcome_of(
     context: &mut Context,
     holders: &Holders<'_>,
@@ -114,7 +114,7 @@ fn is_gone(ended: &[bool], outer: Option<usize>) -> bool
     outer.is_some_and(|outer| ended.get(outer).copied().unwrap_or(false))
 }
 
-/// What becomes of an element that may be gone.
+/// What happens to an element that may be gone.
 fn what_becomes(
     context: &mut Context,
     holders: &Holders<'_>,
@@ -133,7 +133,7 @@ fn what_becomes(
     Ok(outcome)
 }
 
-/// What becomes of all linked elements, where the messages of those that fail are made.
+/// What happens to all linked elements, where the messages of those that fail are made.
 fn resolved(context: &mut Context, holders: &Holders<'_>) -> Result<Vec<Outcome>>
     ensures { let all = map held holders.now.linked.now in Gives (λ outcomes. Makes (resolved_from (place_at holders.now.places.items) all [] all) context.old context.new outcomes.items) result }
 {

@@ -12,7 +12,7 @@ use rst_transform_work::{Context, at_place, put_at};
 use rst_tree::Result;
 use std::alloc::Global;
 
-/// Settles the outcomes of linked elements: what becomes of each that remains, in preorder.
+/// Settles the outcomes of linked elements: what happens to each that remains, in preorder.
 ///
 /// Those that fail become problematics here, message by message, and take their ids in this order. An element inside one that became a
 /// problematic is gone: it becomes none afterwards, and doesn't remain in the end.
@@ -114,7 +114,7 @@ fn take_turns(
     Ok(())
 }
 
-/// What becomes of the elements that remain in the end.
+/// What happens to the elements that remain in the end.
 fn remaining(alloc: Global, outcomes: Vec<Outcome>, around: &[Option<usize>]) -> Result<Changes>
     ensures { Gives (λ changes. changes ≡ remaining around.now outcomes.items) result }
 {

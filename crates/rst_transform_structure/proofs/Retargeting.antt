@@ -30,7 +30,7 @@ use Rattle.rst_transform_structure.specs.Targets.{at_first, changed_at, handed, 
 
 -- ---- which elements take ids
 
--- those that are read come behind the others
+-- those that are read come after the others
 pub takers_read : (level : Option ℕ) (f : Forest) (old new : List Bool) → AreRead TakesTaker level f old new → new ≡ old ++ takers (items f)
 takers_read level bare old new read = rw read (sym (append-nil old))
 takers_read level (words t r) old new read = takers_read level r old new read

@@ -37,7 +37,7 @@ section_of reports = Element Section (attr Classes (Listed (codes "system-messag
 abbrev pub ids_moved : Report → Report
 ids_moved one = if one.own then without_ids one else one
 
--- the document with the section, if one of the messages is shown, and what is known then
+-- the document with the section, if one of the messages is printed, and what is known then
 abbrev pub with_last_section : Threshold → Document → Known → Document × Known
 with_last_section report document known =
     if list_any (is_shown report) known.reports

@@ -72,7 +72,7 @@ reached takers handed got = record { takers = takers; handed = handed; got = got
 abbrev pub at_first : List Item → Reached
 at_first xs = reached (takers xs) (handed [] []) []
 
--- A target hands its ids and names to the element directly after it in document order, if that takes them. An internal target holds no element,
+-- A target hands its ids and names to the element directly after it in document order, if that takes them. An internal target contains no element,
 -- so it is its next sibling, or else the next sibling of the nearest ancestor that has one.
 abbrev pub hands_on : Reached → Item → Bool
 hands_on r x = is_internal x && unwrap_or (slice_get r.takers 1) false
@@ -87,7 +87,7 @@ next_reached r x =
     if hands_on r x then reached (drop 1 r.takers) (handed_by x.attrs r.handed) r.got
     else reached (drop 1 r.takers) (handed [] []) (r.got ++ got_by x.attrs r.handed.names)
 
--- what becomes of the element
+-- what happens to the element
 abbrev pub changed_at : Reached → Item → Item
 changed_at r x = item x.tag (if hands_on r x then referring x.attrs else given r.handed x.attrs) x.line
 

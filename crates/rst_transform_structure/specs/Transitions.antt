@@ -1,5 +1,5 @@
 -- The places of transitions, and the messages on those in places where none may be (reStructuredText Markup Specification, 'Transitions').
--- No element but the document and its sections holds a transition.
+-- No element but the document and its sections contains a transition.
 use Rattle.std.specs.Prelude.{ℕ, ◌-◌, Bool, true, false, ◌&&◌, not, List, [], ◌∷◌, ◌++◌, length, slice_get, Option, Some, None, if◌then◌else◌, codes}
 use Rattle.std.specs.List.{filter, list_all}
 use Rattle.rst_tree.specs.declared.attrs.Attr.{Attr}

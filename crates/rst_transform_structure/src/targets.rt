@@ -190,7 +190,7 @@ impl Visitor for Walking {
     }
 }
 
-/// Lets attributes tell a reference to the first of some ids, if there is one.
+/// Writes a reference to the first of some ids, if there is one, into attributes.
 fn refer(attrs: &mut Attrs, ids: &[Text]) -> Result<()>
     ensures { Gives (λ _. attrs.new ≡ with_refid ids.now attrs.old) result }
 {

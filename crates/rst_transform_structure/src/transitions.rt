@@ -33,7 +33,7 @@ use rst_tree::{Attrs, Children, Level, Node, Result, Tag, Text};
 ///     <transition>
 ///     <section>
 ///
-/// One that the document ends with stays, and a message follows it. No element but the document and its sections holds a
+/// One that the document ends with stays, and a message follows it. No element but the document and its sections contains a
 /// transition, so nothing else is gone through.
 pub fn transitions(mut document: Document, context: &mut Context) -> Result<Document>
     ensures { Gives (Makes (with_transitions document) context.old context.new) result }

@@ -15,7 +15,7 @@ use Rattle.rst_transform_substitutions.specs.Definitions.{defined, definitions_a
 use Rattle.rst_transform_substitutions.specs.Numbering.{names_said, own_name, TakesListed}
 use Rattle.rst_transform_work.specs.Reading.{name_in}
 
--- those among nodes come behind the others
+-- those among nodes come after the others
 pub listed_read : (level : Option ℕ) (f : Forest) (old new : Listed) → AreRead TakesListed level f old new
     → (map defined new.definitions.items ≡ map defined old.definitions.items ++ definitions_among f) × (map (λ name. name.now) new.names.items ≡ map (λ name. name.now) old.names.items ++ names_said f)
 listed_read level bare old new read = rw read (sym (append-nil (map defined old.definitions.items)), sym (append-nil (map (λ name. name.now) old.names.items)))

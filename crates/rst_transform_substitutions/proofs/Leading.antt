@@ -139,7 +139,7 @@ gives_standing known numbers place outer other name ordered finds led apart (Err
 pub next_given : {X A : Type 0} (f : X → List A) (xs : List X) (i : ℕ) (d : X) (old new : List A) → i < length xs → new ≡ old ++ f (get_or xs i d) → old ≡ flat_map f (take i xs) → new ≡ flat_map f (take (i + 1) xs)
 next_given f xs i d old new within adds is = adds ∙ ap (λ front. front ++ f (get_or xs i d)) is ∙ flat_map_more f [] (take i xs) (get_or xs i d) ∙ ap (flat_map f) (sym (take_more xs i d within))
 
--- the places that names find which are said among some nodes
+-- the places found by the names in references among some nodes
 pub found_of : (known : Definitions) (names : List (Bor (List ℕ))) (nodes : Forest) (places : List ℕ) → places ≡ flat_map (λ name. option_to_list (known_found known name.now)) names → map (λ name. name.now) names ≡ names_said nodes
     → places ≡ places_found known nodes
 found_of known names nodes places is said = is ∙ sym (flat_map-map (λ name. option_to_list (known_found known name)) (λ name. name.now) names) ∙ ap (places_of known) said

@@ -33,7 +33,7 @@ same_place None (Some place) is = absurd (true≢false (sym is))
 same_place (Some place) None is = absurd (true≢false (sym is))
 same_place (Some place) (Some other) is = ap Some (eqb-true place other is)
 
--- two references that stand in the same definition, or in none, and go into the same one come to the same
+-- two references that are in the same definition, or in none, and go into the same one come to the same
 pub same_nodes : (known : Definitions) (within : Option ℕ) (place : ℕ) (one two : List ℕ) → GoesInto known within place one → GoesInto known within place two
     → nodes_for (found_by known) within one ≡ nodes_for (found_by known) within two
 same_nodes known within place one two first second =

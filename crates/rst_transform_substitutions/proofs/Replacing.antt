@@ -23,7 +23,7 @@ use Rattle.rst_transform_substitutions.specs.Expanded.{around, expanded_in, foll
 use Rattle.rst_transform_substitutions.proofs.Defining.{found_known, place_known}
 
 module _ (found : List ℕ → Option (ℕ × Forest)) (place : List ℕ → Option ℕ) (within : Option ℕ) where
-  -- what becomes of one node
+  -- what happens to one node
   abbrev pub expanded_node : Node → Known → Nodes
   expanded_node (Text t) known = (Text t ∷ [], known)
   expanded_node (Element t a c l) known = if is_reference t then replaced found within a l known else around t a l (expanded_in found place (within_element place t a within) c known)

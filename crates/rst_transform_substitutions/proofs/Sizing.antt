@@ -20,7 +20,7 @@ use Rattle.rst_transform_substitutions.specs.Sizes.{added, both, content_last, d
 use Rattle.rst_transform_substitutions.proofs.Expanding.{entered_within, found-some, too_deep_within}
 use Rattle.rst_transform_substitutions.proofs.Leading.{weaker}
 
--- what nodes of a size come to, where so many definitions more may be gone into and so much may be visited
+-- what nodes of a size come to, by how many nested definitions may still be gone into and how much may be visited
 abbrev pub takes : Size → ℕ → ℕ → Result ℕ ExpansionFault
 takes s more left = if nat_le s.nested more && nat_le s.visited left then Ok (left - s.visited) else Err TooLarge
 
@@ -77,7 +77,7 @@ module _ (given : List ℕ → ℕ → Expansion) (size : List ℕ → Option Si
   here_takes true t a c l s left known low small inner = told (name_said a) s left known low small
   here_takes false t a c l s left known low small inner = left_inside t a l (expanded given c left) ∙ inner s known low
 
-  -- nodes of a known size come to what the size says
+  -- nodes of a known size come to what the size predicts
   nodes_take : (c : Forest) (s : Size) (left : ℕ) → measured size c ≡ Some s → s.nested ≤ n → left ≤ most_visited → left_of (expanded given c left) ≡ takes s more left
   nodes_take bare s left known low small =
       let e : flat 0 true ≡ s = cc in
@@ -173,7 +173,7 @@ takes_none s nested left is = grind arith
 takes_deeper : (inner s : Size) (more left : ℕ) → inner.visited ≡ s.visited → inner.nested + 1 ≡ s.nested → takes inner more left ≡ takes s (suc more) left
 takes_deeper inner s more left visited nested = grind arith
 
--- a reference of a known size comes to what the size says
+-- a reference of a known size comes to what the size predicts
 given_takes : (known : Definitions) (sizes : List (Option Size)) → AreMeasured known sizes → (more n : ℕ) (path : List ℕ) → list_all (is_above sizes n) path ≡ true → (name : List ℕ) (s : Size) (left : ℕ) → size_found known sizes name ≡ Some s → s.nested ≤ n → left ≤ most_visited
     → left_of (given_within (found_by known) more path name left) ≡ takes s more left
 given_takes known sizes sized zero n path above name s left is low small =
@@ -218,7 +218,7 @@ fits_empty : (fits : Bool) (e : Expansion) → IsEmpty e → IsEmpty (if fits th
 fits_empty true e empty = empty
 fits_empty false e empty = tt
 
--- nodes are references of which no node is left, if their size says so
+-- nodes are references of which no node is left, if that is their size
 nodes_empty : (given : List ℕ → ℕ → Expansion) (size : List ℕ → Option Size) → ((name : List ℕ) (s : Size) (left : ℕ) → size name ≡ Some s → s.is_empty ≡ true → IsEmpty (given name left)) → (c : Forest) (s : Size) (left : ℕ) → measured size c ≡ Some s → s.is_empty ≡ true → IsEmpty (expanded given c left)
 nodes_empty given size told bare s left known empty = refl
 nodes_empty given size told (words t r) s left known empty =
@@ -269,7 +269,7 @@ pub fault_is : (e : Expansion) (fault : ExpansionFault) → left_of e ≡ Err fa
 fault_is (Ok done) fault is = absurd (cc)
 fault_is (Err other) fault is = let same : other ≡ fault = cc in rw same refl
 
--- an expansion comes to what a size says, where so many definitions more may be gone into and so much may be visited
+-- an expansion comes to what a size predicts, by how many nested definitions may still be gone into and how much may be visited
 abbrev pub Comes : Expansion → Size → ℕ → ℕ → Type 0
 Comes e s more left = (left_of e ≡ takes s more left) × ((n : ℕ) → s.is_empty ≡ true → left_of e ≡ Ok n → e ≡ Ok ([], n))
 

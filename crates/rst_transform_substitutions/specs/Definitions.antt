@@ -13,7 +13,7 @@ use Rattle.rst_transform_substitutions.specs.declared.listing.Defined.{Defined}
 use Rattle.rst_transform_substitutions.specs.declared.definitions.Definitions.{Definitions}
 use Rattle.rst_transform_work.specs.Reading.{name_in}
 
--- a definition: its name as it was written, and the nodes that stand for a reference
+-- a definition: its name as it was written, and the nodes that replace a reference
 abbrev pub Definition : Type 0
 Definition = List ℕ × Forest
 
@@ -32,7 +32,7 @@ definitions_among bare = []
 definitions_among (words t r) = definitions_among r
 definitions_among (element t a c l r) = own_definition t a c ++ (definitions_among c ++ definitions_among r)
 
--- the place of the last of some definitions whose name passes a test, behind so many others, or else that among those
+-- the place of the last of some definitions whose name passes a test, after some others, or else that among those
 abbrev pub last_place : (List ℕ → Bool) → ℕ → Option ℕ → List Definition → Option ℕ
 last_place passes place before [] = before
 last_place passes place before (one ∷ more) = last_place passes (place + 1) (if passes one.0 then Some place else before) more
@@ -53,7 +53,7 @@ place_found all name = option_or (place_of_name all name) (place_of_normalized a
 abbrev pub placed : List Forest → Option ℕ → Option (ℕ × Forest)
 placed contents = option_and_then (λ place. option_map (λ content. (place, content)) (slice_get contents place))
 
--- the definition that a name finds: its place, and the nodes that stand for a reference
+-- the definition that a name finds: its place, and the nodes that replace a reference
 abbrev pub found_among : List Definition → List ℕ → Option (ℕ × Forest)
 found_among all name = placed (map (λ one. one.1) all) (place_found all name)
 
@@ -63,7 +63,7 @@ pub record AreKnown (all : List Definition) (known : Definitions) : Type 0 where
   pub exact : (name : List ℕ) → get_by_text known.exact name ≡ place_of_name all name
   pub normalized : (name : List ℕ) → get_by_text known.normalized name ≡ place_of_normalized all name
 
--- the places that known definitions tell, of a name as it was written, and of what a name finds
+-- the place that known definitions have for a name as it was written, and the place that a name finds
 abbrev pub known_place : Definitions → List ℕ → Option ℕ
 known_place known name = get_by_text known.exact name
 

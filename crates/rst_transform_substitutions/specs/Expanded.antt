@@ -1,4 +1,4 @@
--- Substitution references in a document (Markup Specification, 'Substitution References'): each gives way to what stands for it, or to a
+-- Substitution references in a document (Markup Specification, 'Substitution References'): each gives way to what replaces it, or to a
 -- problematic (Document Tree, 'problematic').
 use Rattle.std.specs.Prelude.{ℕ, Bool, true, false, List, [], ◌∷◌, ◌++◌, length, if◌then◌else◌, unwrap_or, Option, None, Result, Ok, Err}
 use Rattle.rst_tree.specs.declared.attrs.Attr.{Attr}
@@ -46,18 +46,18 @@ abbrev pub given_way : List Attr → ℕ → Result (List Node) ExpansionFault �
 given_way a l (Ok nodes) known = (nodes, known)
 given_way a l (Err fault) known = lone (at_fault a l fault known)
 
--- what becomes of a reference, by which definition a name finds; it stands in the definition at a place, or in none
+-- what happens to a reference, by which definition a name finds; it is in the definition at a place, or in none
 abbrev pub replaced : (List ℕ → Option (ℕ × Forest)) → Option ℕ → List Attr → ℕ → Known → Nodes
 replaced found within a l = given_way a l (nodes_for found within (name_said a))
 
--- the place of the definition that the nodes in an element stand in, if there is one: that of its own name if it is a definition
+-- the place of the definition that the nodes in an element are in, if there is one: that of its own name if it is a definition
 abbrev pub within_element : (List ℕ → Option ℕ) → Tag → List Attr → Option ℕ → Option ℕ
 within_element place SubstitutionDefinition a within = place (unwrap_or (said_text (value_of OwnName a)) [])
 within_element place _ a within = within
 
--- given which definition a name finds, and at which place the definition of a name stands
+-- given which definition a name finds, and at which place the definition of a name is
 module _ (found : List ℕ → Option (ℕ × Forest)) (place : List ℕ → Option ℕ) where
-  -- What becomes of nodes, in the order of the document: the references among them and in them give way. The nodes stand in the definition at a
+  -- What happens to nodes, in the order of the document: the references among them and in them give way. The nodes are in the definition at a
   -- place, or in none.
   abbrev pub expanded_in : Option ℕ → Forest → Known → Nodes
   expanded_in within bare known = ([], known)
@@ -72,7 +72,7 @@ with_expansions document known =
     let done : Nodes = expanded_in (found_among all) (place_of_name all) None document.children known in
     (record document { children = forest_of done.0 }, done.1)
 
--- while references are replaced in place, each holds the nodes that it gives way to
+-- while references are replaced in place, each contains the nodes that it gives way to
 abbrev pub opened : Node → List Node
 opened (Element t a c l) = if is_reference t then nodes_of c else Element t a c l ∷ []
 opened (Text t) = Text t ∷ []

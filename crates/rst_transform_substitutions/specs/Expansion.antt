@@ -1,4 +1,4 @@
--- What stands for a substitution reference (Markup Specification, 'Substitution References', 'Substitution Definitions'). How much may be visited
+-- What replaces a substitution reference (Markup Specification, 'Substitution References', 'Substitution Definitions'). How much may be visited
 -- for one is no rule of markup.
 use Rattle.std.specs.Prelude.{◌≡◌, ℕ, zero, suc, ◌+◌, ◌-◌, ◌==◌, nat_le, Bool, true, false, List, [], ◌∷◌, ◌++◌, codes, length, if◌then◌else◌, unwrap_or, Option, Some, None, Result, Ok, Err}
 use Rattle.std.specs.List.{list_any}
@@ -25,7 +25,7 @@ most_nested = 100
 abbrev pub most_visited : ℕ
 most_visited = 10000
 
--- the name that a reference says
+-- the name in a reference
 abbrev pub name_said : List Attr → List ℕ
 name_said a = unwrap_or (said_text (value_of Refname a)) []
 
@@ -42,7 +42,7 @@ copied t a nodes l = Element t (without_key Serial a) (forest_of nodes) l
 abbrev pub Expansion : Type 0
 Expansion = Result (List Node × ℕ) ExpansionFault
 
--- so much is visited, if so much may still be, and then the rest
+-- visits something of a size, if that much may still be visited, and then the rest
 abbrev pub visiting : ℕ → ℕ → (ℕ → Expansion) → Expansion
 visiting size left rest = if nat_le size left then rest (left - size) else Err TooLarge
 
@@ -61,14 +61,14 @@ abbrev pub inside : Tag → List Attr → ℕ → Expansion → Expansion
 inside t a l (Ok done) = Ok (copied t a done.0 l ∷ [], done.1)
 inside t a l (Err fault) = Err fault
 
--- what copies of nodes come to, while so much may be visited, given what a reference to a name does
+-- what copies of nodes come to, by how much may be visited, given what a reference to a name does
 abbrev pub expanded : (List ℕ → ℕ → Expansion) → Forest → ℕ → Expansion
 expanded given bare left = Ok ([], left)
 expanded given (words t r) left = visiting (size_of (Text t)) left (λ more. behind (Text t ∷ []) (expanded given r more))
 expanded given (element t a c l r) left =
     visiting (size_of (Element t a c l)) left (λ more. and_then (if is_reference t then given (name_said a) more else inside t a l (expanded given c more)) (λ then_more. expanded given r then_more))
 
--- the path of a reference that stands in the definition at a place, or in none
+-- the path of a reference that is in the definition at a place, or in none
 abbrev pub path_from : Option ℕ → List ℕ
 path_from None = []
 path_from (Some place) = place ∷ []
@@ -85,7 +85,7 @@ entering path name (Some one) content = if list_any (λ place. place == one.0) p
 
 -- given which definition a name finds
 module _ (found : List ℕ → Option (ℕ × Forest)) where
-  -- what a reference to a name comes to behind the definitions on a path, where so many more may be gone into
+  -- what a reference to a name comes to after the definitions on a path, by how many further ones may be gone into
   unfoldable pub given_within : ℕ → List ℕ → List ℕ → ℕ → Expansion
   given_within zero path name left = entering path name (found name) (λ one. Err TooLarge)
   given_within (suc more) path name left = entering path name (found name) (λ one. expanded (given_within more (path ++ one.0 ∷ [])) one.1 left)
@@ -94,7 +94,7 @@ module _ (found : List ℕ → Option (ℕ × Forest)) where
   abbrev pub given : List ℕ → List ℕ → ℕ → Expansion
   given path = given_within (most_nested - length path) path
 
-  -- the nodes for a reference to a name, which stands in the definition at a place or in none
+  -- the nodes for a reference to a name, which is in the definition at a place or in none
   abbrev pub nodes_for : Option ℕ → List ℕ → Result (List Node) ExpansionFault
   nodes_for within name = nodes_in (given (path_from within) name most_visited)
 
@@ -103,13 +103,13 @@ abbrev pub left_of : Expansion → Result ℕ ExpansionFault
 left_of (Ok done) = Ok done.1
 left_of (Err fault) = Err fault
 
--- what the message says of a reference to a name that isn't replaced
+-- the text of the message on a reference to a name that isn't replaced
 abbrev pub fault_text : List ℕ → ExpansionFault → List ℕ
 fault_text name (Undefined inner) = codes "Undefined substitution referenced: \"" ++ (inner ++ codes "\".")
 fault_text name (Circular inner) = codes "Circular substitution definition referenced: \"" ++ (inner ++ codes "\".")
 fault_text name TooLarge = codes "Substitution expansion too large: \"" ++ (name ++ codes "\".")
 
--- the call comes to the same, or tells want of memory
+-- the call comes to the same, or reports that memory ran out
 abbrev pub ComesTo : {A B : Type 0} → Result B ExpansionFault → (A → B) → Result A Halted → Type 0
 ComesTo wanted given (Ok done) = wanted ≡ Ok (given done)
 ComesTo wanted given (Err (By fault)) = wanted ≡ Err fault

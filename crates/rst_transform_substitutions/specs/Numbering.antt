@@ -1,4 +1,4 @@
--- Numbers of definitions, which show that one doesn't lead to another. No rule of markup: it is what makes remembering right.
+-- Numbers of definitions, which prove that one doesn't lead to another. No rule of markup: it is what makes remembering right.
 use Rattle.std.specs.Prelude.{◌≡◌, ℕ, nat_le, Bool, true, false, List, [], ◌∷◌, ◌++◌, if◌then◌else◌, map, slice_get, Option, Some, None}
 use Rattle.std.specs.List.{flat_map, list_all}
 use Rattle.std.specs.Option.{option_to_list}
@@ -13,17 +13,17 @@ use Rattle.rst_transform_substitutions.specs.declared.listing.Listed.{Listed}
 use Rattle.rst_transform_substitutions.specs.Definitions.{defined, known_found, own_definition}
 use Rattle.rst_transform_substitutions.specs.Expansion.{name_said}
 
--- the name that an element says, if it is a reference
+-- the name in an element, if it is a reference
 abbrev pub own_name : Tag → List Attr → List (List ℕ)
 own_name t a = if is_reference t then name_said a ∷ [] else []
 
--- the names that the references among some nodes say, and those in them, in preorder
+-- the names in the references among some nodes, and those in them, in preorder
 abbrev pub names_said : Forest → List (List ℕ)
 names_said bare = []
 names_said (words t r) = names_said r
 names_said (element t a c l r) = own_name t a ++ (names_said c ++ names_said r)
 
--- what is listed, and of one more element what it defines or says
+-- what is listed, and of one more element the name that it defines or refers to
 abbrev pub TakesListed : Listed → Option ℕ → Node → Listed → Option ℕ → Type 0
 TakesListed old level (Text t) new inner = Unit {0}
 TakesListed old level (Element t a c l) new inner =

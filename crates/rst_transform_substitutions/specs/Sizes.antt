@@ -11,7 +11,7 @@ use Rattle.rst_transform_substitutions.specs.declared.sizes.Size.{Size}
 use Rattle.rst_transform_substitutions.specs.Definitions.{known_found}
 use Rattle.rst_transform_substitutions.specs.Expansion.{left_of, name_said, size_of, Expansion}
 
--- the size of nodes where so much is visited and no definition is gone into, by whether no node is left
+-- the size of nodes where this much is visited and no definition is gone into, by whether no node is left
 abbrev pub flat : ℕ → Bool → Size
 flat visited is_empty = record { visited = visited; nested = 0; is_empty = is_empty }
 
@@ -23,7 +23,7 @@ added a b = record { visited = min (a.visited + b.visited) (2 ^ 64 - 1); nested 
 abbrev pub both : Option Size → Option Size → Option Size
 both a b = option_and_then (λ one. option_map (added one) b) a
 
--- the size of a reference to a definition of this size, if it can be told
+-- the size of a reference to a definition of this size, if it fits a `usize`
 abbrev pub deeper : Size → Option Size
 deeper size = if size.nested == 2 ^ 64 - 1 then None else Some (record size { nested = size.nested + 1 })
 
@@ -50,7 +50,7 @@ AreMeasured known sizes = (place : ℕ) (size : Size) → size_at sizes place �
 abbrev pub AreSized : Definitions → Type 0
 AreSized known = AreMeasured known known.sizes.items
 
--- so many definitions are nested in the one at a place, if its size is known
+-- at least some number of definitions are nested in the one at a place, if its size is known
 abbrev pub is_above : List (Option Size) → ℕ → ℕ → Bool
 is_above sizes nested place = option_map_or (λ size. nat_le nested size.nested) (size_at sizes place) true
 

@@ -1,4 +1,4 @@
--- Substitution definitions and references that are written out, and what becomes of them, for worked examples. No rule of markup.
+-- Substitution definitions and references that are written out, and what happens to them, for worked examples. No rule of markup.
 use Prim.Native.String.{String}
 use Rattle.std.specs.Prelude.{ℕ, List, [], ◌∷◌, codes, map, Option, Some, None, Result}
 use Rattle.rst_tree.specs.declared.key.Key.TheVariants.{OwnName, Rawsource, Refname}
@@ -15,7 +15,7 @@ use Rattle.rst_transform_substitutions.specs.Definitions.{definitions_among, fou
 use Rattle.rst_transform_substitutions.specs.Expanded.{with_expansions}
 use Rattle.rst_transform_substitutions.specs.Expansion.{nodes_for}
 
--- a definition of a name, with the nodes that stand for a reference
+-- a definition of a name, with the nodes that replace a reference
 abbrev pub definition : String → List Node → Node
 definition name nodes = element SubstitutionDefinition (says OwnName name ∷ []) nodes
 
@@ -23,7 +23,7 @@ definition name nodes = element SubstitutionDefinition (says OwnName name ∷ []
 abbrev pub reference : String → Node
 reference name = element SubstitutionReference (says Refname name ∷ []) []
 
--- what stands for a reference to a name, in the definition at a place or in none, by some definitions
+-- what replaces a reference to a name, in the definition at a place or in none, by some definitions
 abbrev pub stands_in : Option ℕ → String → List Node → Result (List Node) ExpansionFault
 stands_in within name definitions = nodes_for (found_among (definitions_among (forest_of definitions))) within (codes name)
 
@@ -42,7 +42,7 @@ problem id number own source = element Problematic (problematic_attrs (codes id)
 abbrev pub expands : List Node → Document × Known
 expands nodes = with_expansions (document_of nodes) (knowing [])
 
--- the nodes of that document, and what the messages say
+-- the nodes of that document, and the texts of the messages
 abbrev pub leaves : List Node → List Node
 leaves nodes = nodes_of (expands nodes).0.children
 

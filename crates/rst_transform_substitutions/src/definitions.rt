@@ -12,13 +12,13 @@ use rst_tree::{Attrs, Children, Key, Result, Tag};
 use std::alloc::Global;
 use std::collections::BTreeMap;
 
-/// The substitution definitions of a document as they stood when they were gathered, each known by how many stand before it (Markup
+/// The substitution definitions of a document as they were when they were gathered, each known by how many are before it (Markup
 /// Specification, 'Substitution Definitions').
 ///
 /// Of several definitions with one name the last is found.
 #[derive(Drop)]
 pub struct Definitions {
-    /// The nodes that stand for references.
+    /// The nodes that replace references.
     pub contents: Vec<Children>,
     /// Their sizes, once they are measured.
     pub sizes: Vec<Option<Size>>,
@@ -57,7 +57,7 @@ impl Definitions {
         Ok(definitions)
     }
 
-    /// Adds a definition behind the last, and forgets what names find.
+    /// Adds a definition after the last, and forgets what names find.
     fn add(&mut self, alloc: Global, name: &str, content: &Children) -> Result<()>
         ensures { Gives (λ _. (all : List Definition) → AreKnown all self.old → AreKnown (all ++ (name.now, content.now) ∷ []) self.new) result }
     {
@@ -85,7 +85,7 @@ impl Definitions {
         Ok(())
     }
 
-    /// The place of the definition that the nodes in an element stand in, which stands in the one at the place `within`.
+    /// The place of the definition that the nodes in an element are in; the element itself is in the one at the place `within`.
     pub fn within_element(&self, tag: Tag, attrs: &Attrs, within: Option<usize>) -> Option<usize>
         ensures { result ≡ within_element (known_place self.now) tag attrs.now within }
     {
@@ -109,7 +109,7 @@ impl Definitions {
         Ok(self.normalized.get(normalized.as_str()).copied())
     }
 
-    /// The nodes that stand for a reference to the definition at a place, if there is one.
+    /// The nodes that replace a reference to the definition at a place, if there is one.
     pub fn content(&self, place: usize) -> Option<&Children>
         ensures { let there = slice_get self.now.contents.items place in MatchOption result (there ≡ None) (λ content. there ≡ Some content.now) }
     {

@@ -54,8 +54,8 @@ pub fn expand(mut document: Document, context: &mut Context) -> Result<Document>
     Ok(document)
 }
 
-/// Replaces the references among nodes and in them, in document order; `within` is the definition that the nodes stand in. Each
-/// reference first holds the nodes that it gives way to.
+/// Replaces the references among nodes and in them, in document order; `within` is the definition that the nodes are in. Each
+/// reference first contains the nodes that it gives way to.
 fn expand_in(
     definitions: &Definitions,
     nodes: &mut Children,
@@ -121,7 +121,7 @@ fn open_references(alloc: Global, nodes: &mut Children) -> Result<()>
     Ok(())
 }
 
-/// What becomes of a reference: the nodes for it, or a problematic.
+/// What happens to a reference: the nodes for it, or a problematic.
 #[inline(never)]
 fn replaced(
     definitions: &Definitions,

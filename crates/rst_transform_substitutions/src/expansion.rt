@@ -1,4 +1,4 @@
-//! What stands for one substitution reference.
+//! What replaces one substitution reference.
 ghost use Rattle.std.specs.Prelude.{◌≡◌, ◌+◌, ◌≤◌, nat_le, true, take, vec_len, ◌-◌, IfOk, OnOk, Some};
 ghost use Rattle.rst_tree.specs.Faults.{Gives};
 ghost use Rattle.rst_tree_index.specs.Kinds.{is_reference};
@@ -21,10 +21,10 @@ const MOST_NESTED: usize = 100;
 /// The most nodes and characters that are visited for one reference.
 const MOST_VISITED: usize = 10_000;
 
-/// What the message says of a name without definition, before the name.
+/// The words of the message on a name without definition, before the name.
 const UNDEFINED: &str = "Undefined substitution referenced: \"";
 
-/// What it says of the name of a definition that leads back to itself.
+/// Its words on the name of a definition that leads back to itself.
 const CIRCULAR: &str = "Circular substitution definition referenced: \"";
 
 /// Why a reference isn't replaced.
@@ -50,7 +50,7 @@ impl ExpansionFault {
         }
     }
 
-    /// What the message says of a reference to a name that isn't replaced.
+    /// The text of the message on a reference to a name that isn't replaced.
     pub fn text(&self, alloc: Global, name: &str) -> Result<Text>
         ensures { Gives (λ text. text ≡ fault_text name.now self.now) result }
     {
@@ -91,14 +91,14 @@ impl From<TreeFault> for Halted {
 /// How far the expansion of one reference has come.
 #[derive(Drop)]
 struct Progress {
-    /// The places of the definitions that stand one in another here, the outermost first.
+    /// The places of the definitions that are nested here, the outermost first.
     path: Vec<usize>,
     /// How many more nodes and characters may be visited.
     left: usize,
 }
 
 impl Progress {
-    /// Counts a node that is visited, and the characters of a text, if so many may still be visited.
+    /// Counts a node that is visited, and the characters of a text, if that many may still be visited.
     fn visit(&mut self, node: &Node) -> bool
         ensures fits { result ≡ nat_le (size_of node.now) self.old.left }
         ensures left { result ≡ true → self.new.left + size_of node.now ≡ self.old.left }
@@ -169,7 +169,7 @@ pub fn is_reference(tag: Tag) -> bool
     matches!(tag, Tag::SubstitutionReference)
 }
 
-/// Visits the nodes and, if it copies them, puts the copies behind those that are there, with the references in them replaced in turn.
+/// Visits the nodes and, if it copies them, puts the copies after those that are there, with the references in them replaced in turn.
 fn add_expanded(
     alloc: Global,
     definitions: &Definitions,
@@ -272,7 +272,7 @@ fn undefined(alloc: Global, name: &str) -> Result<Halted>
     Ok(Halted::By(ExpansionFault::Undefined(name)))
 }
 
-/// The nodes for a reference of a name; `within` is the definition that it stands in.
+/// The nodes for a reference of a name; `within` is the definition that it is in.
 pub fn expansion(
     alloc: Global,
     definitions: &Definitions,

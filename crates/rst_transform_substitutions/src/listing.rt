@@ -1,4 +1,4 @@
-//! The substitution definitions of a document, and the names that its references say.
+//! The substitution definitions of a document, and the names in its references.
 ghost use Rattle.std.specs.Prelude.{◌≡◌, map};
 ghost use Rattle.rst_tree.specs.Faults.{Gives};
 ghost use Rattle.rst_transform_substitutions.specs.Definitions.{defined, definitions_among};
@@ -9,16 +9,16 @@ use rst_transform_work::said;
 use rst_tree::{Children, Key, Node, Reader, Result, Tag, read_elements};
 use std::alloc::Global;
 
-/// A substitution definition as it stands in a document.
+/// A substitution definition as it is in a document.
 #[derive(Clone, Copy)]
 pub struct Defined<'a> {
     /// Its name as it was written.
     pub name: &'a str,
-    /// The nodes that stand for a reference.
+    /// The nodes that replace a reference.
     pub content: &'a Children,
 }
 
-/// What is listed of nodes: the definitions, and the names that references say.
+/// What is listed of nodes: the definitions, and the names in references.
 #[derive(Drop)]
 pub struct Listed<'a> {
     pub definitions: Vec<Defined<'a>>,
@@ -26,7 +26,7 @@ pub struct Listed<'a> {
 }
 
 impl<'a> Listed<'a> {
-    /// The definitions among nodes, and in them, in preorder, and the names that references say there.
+    /// The definitions among nodes, and in them, in preorder, and the names in references there.
     pub fn of(alloc: Global, nodes: &'a Children) -> Result<Listed<'a>>
         ensures definitions { Gives (λ listed. map defined listed.definitions.items ≡ definitions_among nodes.now) result }
         ensures names { Gives (λ listed. map (λ name. name.now) listed.names.items ≡ names_said nodes.now) result }

@@ -1,4 +1,4 @@
-//! Numbers of definitions, which show that one doesn't lead to another.
+//! Numbers of definitions, which prove that one doesn't lead to another.
 ghost use Rattle.std.specs.Prelude.{◌≡◌, slice_get, true, map, List, ℕ};
 ghost use Rattle.std.specs.List.{list_all};
 ghost use Rattle.rst_tree.specs.Faults.{Gives};

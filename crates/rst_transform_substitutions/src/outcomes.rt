@@ -41,25 +41,25 @@ impl Outcome {
 /// What came of the last reference that went into a definition.
 #[derive(Drop)]
 struct Kept {
-    /// The place of the definition that the reference stands in, if it stands in one.
+    /// The place of the definition that the reference is in, if it is in one.
     within: Option<usize>,
     /// What it came to.
     outcome: Outcome,
 }
 
-/// What references came to that all stand in definitions, or all in none, by the places of the definitions that they found.
+/// What references came to that are all in definitions, or all in none, by the places of the definitions that they found.
 type Memory = BTreeMap<usize, Kept>;
 
 /// What references came to.
 ///
-/// Whatever its name and its line, each reference that stands in the same definition, or in none, and goes into the same one comes
+/// Whatever its name and its line, each reference that is in the same definition, or in none, and goes into the same one comes
 /// to the same. So it does in all definitions that the one that it goes into doesn't lead to. So only the first of them costs an
 /// expansion; this bounds the work of a document with many references to large definitions.
 #[derive(Drop)]
 pub struct Outcomes {
     /// The numbers of the definitions.
     numbers: Vec<usize>,
-    /// What references came to that stand in no definition.
+    /// What references came to that are in no definition.
     outside: Memory,
     /// What those in definitions came to.
     inside: Memory,
@@ -90,7 +90,7 @@ impl Outcomes {
     }
 }
 
-/// The place of the definition that a reference goes into, if it goes into one that it doesn't stand in.
+/// The place of the definition that a reference goes into, if it goes into one that it isn't in.
 fn entered_place(
     alloc: Global,
     definitions: &Definitions,
@@ -113,7 +113,7 @@ fn entered_place(
     Ok(Some(place))
 }
 
-/// What a reference of a name comes to, expanded anew.
+/// What a reference of a name comes to, expanded again.
 fn new_outcome(
     alloc: Global,
     definitions: &Definitions,
@@ -130,8 +130,8 @@ fn new_outcome(
     }
 }
 
-/// What a reference of a name comes to, which goes into the definition at a place: what the last one came to, if that stands in the
-/// same definition, or in none as that; or it is expanded anew, and remembered.
+/// What a reference of a name comes to, which goes into the definition at a place: what the last one came to, if that is in the
+/// same definition, or in none as that; or it is expanded again, and remembered.
 fn remembered(
     alloc: Global,
     definitions: &Definitions,
@@ -158,7 +158,7 @@ fn remembered(
     Ok(new)
 }
 
-/// What a reference of a name comes to; `within` is the definition that it stands in.
+/// What a reference of a name comes to; `within` is the definition that it is in.
 pub fn reference_outcome(
     alloc: Global,
     definitions: &Definitions,

@@ -1,4 +1,4 @@
-//! Worked examples of what stands for substitution references, as theorems on the definitions alone.
+//! Worked examples of what replaces substitution references, as theorems on the definitions alone.
 #![tactic(auto, unfolding(crate::proofs::Computing::rst_transform_substitutions))]
 
 ghost use Rattle.std.specs.Prelude.{◌≡◌, nat_lt, Some, None, Ok, Err, codes, [], ◌∷◌, length, replicate, if◌then◌else◌};
@@ -42,7 +42,7 @@ pub fn nested()
     ensures first_fault { stands_for "a" (definition "a" (reference "a" ∷ reference "x" ∷ []) ∷ []) ≡ Err (Circular (codes "a")) }
 {}
 
-/// How much may stand for one reference. `found` finds a definition for each name, which refers to a name that is one character longer (Markup
+/// How much may replace one reference. `found` finds a definition for each name, which refers to a name that is one character longer (Markup
 /// Specification, 'Substitution References').
 pub fn bounds()
     ensures hundred_definitions { nodes_for (λ name. Some (
@@ -64,7 +64,7 @@ pub fn bounds()
     ensures counted_first { expanded (λ name left. Err (Undefined name)) (forest_of (reference "x" ∷ [])) 0 ≡ Err TooLarge }
 {}
 
-/// What the messages on references that aren't replaced say (Markup Specification, 'Substitution References').
+/// The texts of the messages on references that aren't replaced (Markup Specification, 'Substitution References').
 pub fn messages()
     ensures undefined { fault_text (codes "a") (Undefined (codes "x")) ≡ codes "Undefined substitution referenced: \"x\"." }
     ensures circular { fault_text (codes "a") (Circular (codes "b")) ≡ codes "Circular substitution definition referenced: \"b\"." }

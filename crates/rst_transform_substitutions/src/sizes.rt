@@ -33,7 +33,7 @@ impl Size {
         }
     }
 
-    /// The size of a reference to a definition of this size, if it can be told.
+    /// The size of a reference to a definition of this size, if it fits a `usize`.
     fn deeper(self) -> Option<Size>
         ensures { result ≡ deeper self }
     {
@@ -74,14 +74,14 @@ pub fn size_at(sizes: &[Option<Size>], place: usize) -> Option<Size>
     *sizes.get(place)?
 }
 
-/// Whether so many definitions are nested in each of those at some places whose size is known.
+/// Whether at least `nested` definitions are nested in each of those at some places whose size is known.
 pub fn are_above(sizes: &[Option<Size>], nested: usize, places: &[usize]) -> bool
     ensures { result ≡ list_all (is_above sizes.now nested) places.now }
 {
     places.iter().all(|place| is_above(sizes, nested, *place))
 }
 
-/// Whether so many are nested in the definition at a place, if its size is known.
+/// Whether at least `nested` ones are nested in the definition at a place, if its size is known.
 fn is_above(sizes: &[Option<Size>], nested: usize, place: usize) -> bool
     ensures { result ≡ is_above sizes.now nested place }
 {

@@ -14,16 +14,16 @@ use Rattle.rst_transform_work.specs.Reading.{members_in}
 abbrev pub listed : Key → List Attr → List (List ℕ)
 listed k attrs = members_in (value_of k attrs)
 
--- the attributes with texts, if there are some, behind those that the attribute of a name lists
+-- the attributes with texts, if there are some, after those that the attribute of a name lists
 abbrev pub with_listed : Key → List (List ℕ) → List Attr → List Attr
 with_listed k [] attrs = attrs
 with_listed k (text ∷ more) attrs = with_attr k (Listed (listed k attrs ++ text ∷ more)) (without_key k attrs)
 
--- the attributes with what other attributes list under a name behind what they list there
+-- the attributes with what other attributes list under a name after what they list there
 abbrev pub with_list_of : Key → List Attr → List Attr → List Attr
 with_list_of k from attrs = with_listed k (listed k from) attrs
 
--- the attributes with the ids, names and lost names of others behind their own
+-- the attributes with the ids, names and lost names of others after their own
 abbrev pub with_names : List Attr → List Attr → List Attr
 with_names from attrs = with_list_of Dupnames from (with_list_of Names from (with_list_of Ids from attrs))
 

@@ -29,7 +29,7 @@ abbrev pub message_attrs : Option (ℕ × List ℕ) → List Attr
 message_attrs (Some message) = attr Message (Number message.0) ∷ attr Refid (Words message.1) ∷ []
 message_attrs None = []
 
--- what a problematic tells: its id, and those
+-- the attributes of a problematic: its id, and those
 abbrev pub problematic_attrs : List ℕ → Option (ℕ × List ℕ) → List Attr
 problematic_attrs id message = attr IdsKey (Listed (id ∷ [])) ∷ message_attrs message
 

@@ -1,4 +1,4 @@
--- What the attributes of an element say.
+-- The values of an element's attributes.
 use Rattle.std.specs.Prelude.{ℕ, Bool, true, false, List, [], Option, Some, None, unwrap_or, encode_utf8_all}
 use Rattle.std.specs.Str.{chars}
 use Rattle.rst_text.specs.Names as names
@@ -34,7 +34,7 @@ abbrev pub line_of : Node → ℕ
 line_of (Element t a c l) = l
 line_of (Words t) = 0
 
--- the source text that the attributes of a reference tell, or the empty text
+-- the source text in the attributes of a reference, or the empty text
 abbrev pub source_said : List Attr → List ℕ
 source_said attrs = unwrap_or (said_text (value_of Rawsource attrs)) []
 
@@ -44,7 +44,7 @@ is_title (Element Title a c l) = true
 is_title (Element Subtitle a c l) = true
 is_title _ = false
 
--- what may stand before a lone section: a comment, a target, a substitution definition or a message
+-- what may come before a lone section: a comment, a target, a substitution definition or a message
 abbrev pub may_precede : Node → Bool
 may_precede (Element Comment a c l) = true
 may_precede (Element Target a c l) = true

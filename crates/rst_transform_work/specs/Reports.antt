@@ -13,7 +13,7 @@ use Rattle.rst_transform_work.specs.declared.report.Report.{Report}
 use Rattle.rst_transform_work.specs.declared.context.Context.{Context}
 use Rattle.rst_transform_work.specs.Known.{Known}
 
--- what the message says, for the list of messages
+-- the message as a note, for the list of messages
 abbrev pub report_note : Report → Note
 report_note r = record { level = r.level; line = r.line; text = r.text; block = None }
 
@@ -22,7 +22,7 @@ abbrev pub id_attrs : Option (List ℕ) → List Attr
 id_attrs (Some id) = attr IdsKey (Listed (id ∷ [])) ∷ []
 id_attrs None = []
 
--- what the message tells: the ids of its problematics, its own, its level and its number
+-- the attributes of the message: the ids of its problematics, its own, its level and its number
 abbrev pub report_attrs : Report → List Attr
 report_attrs r = attr Backrefs (Listed r.backrefs) ∷ id_attrs r.id ++ (attr LevelKey (Number (level_number r.level)) ∷ attr Message (Number r.number) ∷ [])
 
@@ -34,12 +34,12 @@ report_node r = message_with (report_attrs r) (report_note r)
 abbrev pub without_ids : Report → Report
 without_ids r = record r { id = None; backrefs = [] }
 
--- The message that comes next behind these, without problematics. The first has the first number, each other the next one, up to the largest `u64`.
+-- The message that comes next after these, without problematics. The first has the first number, each other the next one, up to the largest `u64`.
 abbrev pub next_report : ℕ → List Report → Level → ℕ → List ℕ → Bool → Report
 next_report first reports level line text own =
     record { level = level; line = line; text = text; number = min (first + length reports) (2 ^ 64 - 1); id = None; backrefs = []; own = own }
 
--- the same behind those that are known
+-- the same after those that are known
 abbrev pub report_in : Context → Level → ℕ → List ℕ → Bool → Report
 report_in context level line text own = next_report context.first_number context.reports.items level line text own
 
@@ -47,7 +47,7 @@ report_in context level line text own = next_report context.first_number context
 abbrev pub reported : Level → ℕ → List ℕ → Bool → Known → Known
 reported level line text own known = record known { reports = known.reports ++ next_report known.first_number known.reports level line text own ∷ [] }
 
--- one more message is known, behind the others
+-- one more message is known, after the others
 abbrev pub IsReported : Report → Context → Context → Type 0
 IsReported next before after = after.reports.items ≡ before.reports.items ++ next ∷ []
 

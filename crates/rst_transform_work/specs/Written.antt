@@ -12,7 +12,7 @@ use Rattle.rst_transform_work.specs.declared.document.Document.{Document}
 use Rattle.rst_transform_work.specs.Known.{Known}
 use Rattle.rst_transform_work.specs.States.{document_node}
 
--- a document without attributes that holds nodes
+-- a document without attributes that contains nodes
 abbrev pub document_of : List Node → Document
 document_of nodes = record { attrs = []; children = forest_of nodes; line = 1 }
 
@@ -20,7 +20,7 @@ document_of nodes = record { attrs = []; children = forest_of nodes; line = 1 }
 abbrev pub Shows : Document → List String → Type 0
 Shows document lines = Prints (document_node document) lines
 
--- names, the first of which is held by the element with a number, each other by that with the next one; each gave the id of the same text
+-- names, the first of which the element with a number has, each other that with the next one; each gave the id of the same text
 abbrev pub names_from : ℕ → List String → List ℕ → Option NameEntry
 names_from serial [] name = None
 names_from serial (held ∷ more) name =

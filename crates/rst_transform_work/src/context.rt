@@ -38,7 +38,7 @@ impl Context {
             level,
             line,
             text,
-            // The sum can't saturate: memory doesn't hold so many messages.
+            // The sum can't saturate: memory has no room for that many messages.
             number: self.first_number.saturating_add(self.reports.len() as u64),
             id: None,
             backrefs: Texts::new(self.alloc),
@@ -46,7 +46,7 @@ impl Context {
         }
     }
 
-    /// Adds a message, and gives its place among the reports. It stands in the last section if it is `own`, and else where
+    /// Adds a message, and gives its place among the reports. It is in the last section if it is `own`, and else where
     /// the caller puts its `node`.
     pub fn report(&mut self, level: Level, line: usize, text: Text, own: bool) -> Result<usize>
         ensures place { Gives (λ place. (place ≡ vec_len self.old.reports) × (vec_len self.new.reports ≡ place + 1)) result }
@@ -59,7 +59,7 @@ impl Context {
         Ok(place)
     }
 
-    /// Adds a message that stands in the tree itself, and gives its node, for the caller to put into its place.
+    /// Adds a message that is in the tree itself, and returns its node, for the caller to put into its place.
     pub fn report_in_place(&mut self, level: Level, line: usize, text: Text) -> Result<Node>
         ensures node { Gives (λ node. node ≡ report_node (report_in self.old level line text false)) result }
         ensures reports { Gives (λ _. IsReported (report_in self.old level line text false) self.old self.new) result }
@@ -71,8 +71,8 @@ impl Context {
         Ok(node)
     }
 
-    /// The problematic with the source text of a reference that is at fault, as the message at a place among the reports
-    /// tells.
+    /// The problematic with the source text of a reference that is at fault, for the message at a place among the
+    /// reports.
     pub fn problematic(&mut self, report: usize, source: Text, line: usize) -> Result<Node>
         ensures { Gives (Makes (spec.problematic_node report source line) self.old self.new) result }
     {
@@ -82,8 +82,8 @@ impl Context {
         Ok(element(Tag::Problematic, attrs, children, line))
     }
 
-    /// What the next problematic tells, as the message at a place among the reports has it. It gets its id before the message
-    /// gets one. A place behind the last report gives a problematic without message.
+    /// The attributes of the next problematic, for the message at a place among the reports. It gets its id before the message
+    /// gets one. A place after the last report gives a problematic without message.
     pub fn next_problematic(&mut self, report: usize) -> Result<ProblematicAttrs>
         ensures { Gives (Makes (spec.problematic report) self.old self.new) result }
     {

@@ -5,7 +5,7 @@ ghost use Rattle.rst_transform_work.specs.States.{document_node, IsDocument};
 use crate::texts::element;
 use rst_tree::{Attrs, Children, Node, Tag};
 
-/// The document: the element that all others stand in (Document Tree, 'document'). Its tag is always `Tag::Document`.
+/// The document: the element that all others are in (Document Tree, 'document'). Its tag is always `Tag::Document`.
 #[derive(Drop)]
 pub struct Document {
     /// Its attributes.

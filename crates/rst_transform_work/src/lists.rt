@@ -18,7 +18,7 @@ pub fn take_list(alloc: Global, attrs: &mut Attrs, key: Key) -> Texts
     }
 }
 
-/// Puts texts behind those that an attribute lists.
+/// Puts texts after those that an attribute lists.
 pub fn append(alloc: Global, attrs: &mut Attrs, key: Key, more: &[Text]) -> Result<()>
     ensures { Gives (λ _. attrs.new ≡ with_listed key more.now attrs.old) result }
 {
@@ -32,7 +32,7 @@ pub fn append(alloc: Global, attrs: &mut Attrs, key: Key, more: &[Text]) -> Resu
     attrs.set(key, Value::List(texts))
 }
 
-/// Puts the ids, names and lost names that attributes tell behind those that others tell.
+/// Puts the ids, names and lost names of attributes after those of others.
 pub fn append_names(alloc: Global, attrs: &mut Attrs, from: &Attrs) -> Result<()>
     ensures { Gives (λ _. attrs.new ≡ with_names from.now attrs.old) result }
 {
@@ -41,7 +41,7 @@ pub fn append_names(alloc: Global, attrs: &mut Attrs, from: &Attrs) -> Result<()
     append_from(alloc, attrs, Key::Dupnames, from)
 }
 
-/// Puts the texts that an attribute lists elsewhere behind those that it lists here.
+/// Puts the texts that an attribute lists elsewhere after those that it lists here.
 fn append_from(alloc: Global, attrs: &mut Attrs, key: Key, from: &Attrs) -> Result<()>
     ensures { Gives (λ _. attrs.new ≡ with_list_of key from.now attrs.old) result }
 {

@@ -1,4 +1,4 @@
-//! What problematics tell.
+//! The attributes of problematics.
 ghost use Rattle.std.specs.Prelude.{◌≡◌, ◌++◌, Some};
 ghost use Rattle.rst_tree.specs.Faults.{Gives};
 ghost use Rattle.rst_transform_work.specs.Problematics.{message_attrs, problematic_attrs};
@@ -8,7 +8,7 @@ use std::alloc::Global;
 use std::marker::Model;
 use std::mem;
 
-/// What a problematic tells, which contracts see as its attributes (Document Tree, 'problematic'). A document can have many that
+/// The id and the message of a problematic, which contracts see as its attributes (Document Tree, 'problematic'). A document can have many that
 /// wait for their places in the tree, and this takes no memory of its own.
 #[derive(Drop)]
 pub struct ProblematicAttrs {
@@ -28,7 +28,7 @@ impl Model for ProblematicAttrs {
 }
 
 impl ProblematicAttrs {
-    /// Lets an element tell it in place of its attributes, in the room that they had.
+    /// Writes it into an element in place of its attributes, in the room that they had.
     #[tactic(auto, using(crate::proofs::Orders::problematic_in_order))]
     pub fn tell(self, alloc: Global, attrs: &mut Attrs) -> Result<()>
         ensures { Gives (λ _. attrs.new ≡ self) result }

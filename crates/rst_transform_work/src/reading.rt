@@ -1,4 +1,4 @@
-//! What the attributes of an element say.
+//! The values of an element's attributes.
 ghost use Rattle.std.specs.Prelude.{◌≡◌, [], MatchOption, Some, None, is_some, slice_get, unwrap_or};
 ghost use Rattle.rst_tree.specs.Attributes.{value_of, said_text};
 ghost use Rattle.rst_tree.specs.Faults.{Gives};
@@ -8,7 +8,7 @@ ghost use Rattle.rst_transform_work.specs.Reading.{text_said, number_said, list_
 use rst_tree::{Attrs, Key, Node, Result, Said, Tag, Texts};
 use std::alloc::Global;
 
-/// What the attribute of a name says, where it is a text.
+/// The value of the attribute of a name, where it is a text.
 fn text<'a>(attrs: &'a Attrs, key: Key) -> Option<&'a str>
     ensures { MatchOption result (said_text (value_of key attrs.now) ≡ None) (λ text. said_text (value_of key attrs.now) ≡ Some text.now) }
 {
@@ -22,7 +22,7 @@ pub fn said(attrs: &Attrs, key: Key) -> &str
     text(attrs, key).unwrap_or("")
 }
 
-/// What an attribute of a node says, where it is a text.
+/// The value of an attribute of a node, where it is a text.
 pub fn text_said<'a>(node: &'a Node, key: Key) -> Option<&'a str>
     ensures { MatchOption result (text_said key node.now ≡ None) (λ text. text_said key node.now ≡ Some text.now) }
 {
@@ -32,7 +32,7 @@ pub fn text_said<'a>(node: &'a Node, key: Key) -> Option<&'a str>
     }
 }
 
-/// What an attribute of a node says, where it is a number.
+/// The value of an attribute of a node, where it is a number.
 pub fn number_said(node: &Node, key: Key) -> Option<u64>
     ensures { result ≡ number_said key node.now }
 {
@@ -42,7 +42,7 @@ pub fn number_said(node: &Node, key: Key) -> Option<u64>
     }
 }
 
-/// The first member of what an attribute says, where it is a list that has one.
+/// The first member of an attribute's value, where it is a list that has one.
 pub fn first_said<'a>(node: &'a Node, key: Key) -> Option<&'a str>
     ensures { MatchOption result (slice_get (list_said key node.now) 0 ≡ None) (λ text. slice_get (list_said key node.now) 0 ≡ Some text.now) }
 {
@@ -52,7 +52,7 @@ pub fn first_said<'a>(node: &'a Node, key: Key) -> Option<&'a str>
     }
 }
 
-/// A copy of what an attribute says, where it is a list, or else an empty list.
+/// A copy of an attribute's value, where it is a list, or else an empty list.
 pub fn list_said(alloc: Global, node: &Node, key: Key) -> Result<Texts>
     ensures { Gives (λ list. list ≡ list_said key node.now) result }
 {
@@ -79,7 +79,7 @@ pub fn line_of(node: &Node) -> usize
     }
 }
 
-/// Whether a node may stand before the lone section of a document.
+/// Whether a node may come before the lone section of a document.
 pub fn may_precede(node: &Node) -> bool
     ensures { result ≡ may_precede node.now }
 {

@@ -17,7 +17,7 @@ pub struct Report {
     pub level: Level,
     /// The number of the line that it speaks of.
     pub line: usize,
-    /// What it says.
+    /// Its text.
     pub text: Text,
     /// The number that it and its problematics carry (`Key::Message`), which no other message has.
     pub number: u64,
@@ -25,7 +25,7 @@ pub struct Report {
     pub id: Option<Text>,
     /// The ids of its problematics, in the order in which they were made.
     pub backrefs: Texts,
-    /// Whether it stands in the last section. One that doesn't stands where its transform put it.
+    /// Whether it is in the last section. One that isn't is where its transform put it.
     pub own: bool,
 }
 
@@ -45,7 +45,7 @@ impl Report {
         note.into_node_with(alloc, attrs)
     }
 
-    /// What the `system_message` tells, in the order of the names: the ids of its problematics and its own, which move there, its level
+    /// The attributes of the `system_message`, in the order of the names: the ids of its problematics and its own, which move there, its level
     /// and its number.
     #[tactic(auto, using(crate::proofs::Orders::report_in_order))]
     fn take_attrs(&mut self, alloc: Global) -> Result<Attrs>
@@ -63,7 +63,7 @@ impl Report {
         Ok(Attrs::of(list))
     }
 
-    /// What it says, for the list of messages.
+    /// Its text, level and line, for the list of messages.
     pub fn into_note(self) -> Note
         ensures { result ≡ report_note self }
     {

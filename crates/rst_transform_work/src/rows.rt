@@ -27,7 +27,7 @@ pub fn messages()
         ("<problematic ids=\"problematic-1\" refid=\"system-message-1\">" ∷ []) }
 {}
 
-/// Ids and names that go to an element: they stand after its own (Document Tree, 'Attribute Reference').
+/// Ids and names that go to an element: they come after its own (Document Tree, 'Attribute Reference').
 pub fn passed_on()
     ensures after_its_own { Prints (named (lists Ids ("a" ∷ "b" ∷ []) ∷ lists Names ("c" ∷ []) ∷ []) (element Paragraph (lists Ids ("x" ∷ [])
         ∷ lists Names ("y" ∷ []) ∷ []) []))
@@ -37,7 +37,7 @@ pub fn passed_on()
     ensures to_none { Prints (named (lists Ids ("a b" ∷ []) ∷ []) (element Paragraph [] [])) ("<paragraph ids=\"a\\ b\">" ∷ []) }
 {}
 
-/// What may stand before the lone section of a document, and what a title is (Markup Specification, 'Document Title').
+/// What may come before the lone section of a document, and what a title is (Markup Specification, 'Document Title').
 pub fn before_a_section()
     ensures allowed { map may_precede (element Comment [] [] ∷ element Target [] [] ∷ element SubstitutionDefinition [] []
         ∷ element SystemMessage [] [] ∷ [])

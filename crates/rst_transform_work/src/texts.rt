@@ -15,7 +15,7 @@ use std::alloc::Global;
 pub fn folded(alloc: Global, text: &str) -> Result<String>
     ensures { Gives (λ name. string_bytes name ≡ name_in text.now) result }
 {
-    // The call has no other refusal than want of memory.
+    // The call fails only if memory runs out.
     name_of(alloc, text).map_err(|_| TreeFault::NoMemory)
 }
 
@@ -24,7 +24,7 @@ pub fn folded(alloc: Global, text: &str) -> Result<String>
 pub fn identified(alloc: Global, text: &str) -> Result<String>
     ensures { Gives (λ id. string_bytes id ≡ identifier text.now) result }
 {
-    // The call has no other refusal than want of memory.
+    // The call fails only if memory runs out.
     id_of(alloc, text).map_err(|_| TreeFault::NoMemory)
 }
 
@@ -51,7 +51,7 @@ pub fn copies(alloc: Global, nodes: &Children) -> Result<Children>
     Ok(Children::of(copied))
 }
 
-/// Puts the ids, names and lost names that attributes tell behind those of a node.
+/// Puts the ids, names and lost names of attributes after those of a node.
 pub fn add_names(alloc: Global, node: &mut Node, from: &Attrs) -> Result<()>
     ensures { Gives (λ _. node.new ≡ named from.now node.old) result }
 {
@@ -61,7 +61,7 @@ pub fn add_names(alloc: Global, node: &mut Node, from: &Attrs) -> Result<()>
     }
 }
 
-/// The source text of a reference, taken out of its attributes; the empty text where they tell none.
+/// The source text of a reference, taken out of its attributes; the empty text where they have none.
 pub fn take_source(alloc: Global, attrs: &mut Attrs) -> Result<Text>
     ensures { Gives (λ source. source ≡ source_said attrs.old) result }
 {

@@ -21,7 +21,7 @@ pub put_there : (k : Key) (v : Value) (xs : List Attr) → is_at k (drop (places
 put_there k v [] h = refl
 put_there k v (a ∷ xs) h = grind (arith, common_steps, put_there k v xs)
 
--- a name is before another one, the same, or behind it
+-- a name is before another one, the same, or after it
 trichotomy : (m n : ℕ) → nat_lt m n ≡ false → nat_eq m n ≡ false → nat_lt n m ≡ true
 trichotomy m n h k = grind (arith, h, k)
 

@@ -7,7 +7,7 @@ use Rattle.rst_tree.specs.Law.{line_if_any, PrintsEachLine}
 use Rattle.rst_tree.specs.Print.{text_lines, printed_line}
 use Rattle.std.proofs.lemmas.List.Folds.{flat_map-map}
 
--- what `All` says of the first, and of the others
+-- what `All` gives for the first, and for the others
 head_of : {X : Type 0} (P : X → Type 0) (x : X) (xs : List X) → All P (x ∷ xs) → P x
 head_of P x xs h = h 0 x (omega arith)
 

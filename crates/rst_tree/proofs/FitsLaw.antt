@@ -15,7 +15,7 @@ last_within : (m : ℕ) (x : Node) (ns : List Node) → Within m (ns ++ x ∷ []
 last_within m x [] h = (within_parts m x [] h).0
 last_within m x (n ∷ ns) h = last_within m x ns (within_parts m n (ns ++ x ∷ []) h).1
 
--- what a change of one of some nodes that keep within the levels tells
+-- what a change of one of some nodes that keep within the levels implies
 told_at : (f : Node → Node) (at : List ℕ) (P : Type 0) (m i : ℕ) (ns : List Node) → ((n : Node) → is_element (node_at at n) ≡ true → NodeWithin m (f n) → P)
     → is_element (option_and_then (node_at at) (slice_get ns i)) ≡ true → Within m (map_at f i ns) → P
 told_at f at P m i [] tells h k = cc

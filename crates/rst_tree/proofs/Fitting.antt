@@ -28,7 +28,7 @@ pub sound-cons : (n : Node) (ns : List Node) → is_sound (forest_of (n ∷ ns))
 sound-cons (Element t a c l) ns = refl
 sound-cons (Text t) ns = refl
 
--- nodes, or one node, that nest no deeper than so many levels, and are sound
+-- nodes, or one node, that nest no deeper than a number of levels, and are sound
 abbrev pub Within : ℕ → List Node → Type 0
 Within m ns = (height (forest_of ns) ≤ m) × (is_sound (forest_of ns) ≡ true)
 

@@ -70,6 +70,6 @@ module _ {S : Type 0} (takes : S → Option ℕ → Node → S → Option ℕ �
     read_whole [] [] none last before = before now now refl refl
     read_whole _ _ none last before = absurd (omega arith)
 
--- an element's own, what is in it, and what is behind it, one added after the other
+-- an element's own, what is in it, and what is after it, one added after the other
 pub three_added : {A : Type 0} (old own inside behind x y z : List A) → x ≡ old ++ own → y ≡ x ++ inside → z ≡ y ++ behind → z ≡ old ++ (own ++ (inside ++ behind))
 three_added old own inside behind x y z first second third = rw (third, second, first, append_assoc (old ++ own) inside behind, append_assoc old own (inside ++ behind)) refl

@@ -15,7 +15,7 @@ key_at n [] d = d
 key_at zero (k ∷ ks) d = k
 key_at (suc n) (k ∷ ks) d = key_at n ks d
 
--- each key stands at the place of its code
+-- each key is at the place of its code
 found : (k : Key) → key_at (key_code k) keys Align ≡ k
 found Align = refl
 found _ = refl

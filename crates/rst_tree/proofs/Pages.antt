@@ -23,7 +23,7 @@ module _ {W : Type 0} {N : ℕ} {Takes : W → Option ℕ → List ℕ → W →
     };
   }
 
-  -- what the page held, and a text behind it, are written
+  -- what the page contained, and a text after it, are written
   pub Sends-written : (text bytes : List ℕ) (a b : Counted W) (p p' : Page N) (count : ℕ) → has_failed a ≡ false → held p ++ text ≡ bytes → IsTaken Takes contents a b bytes count
       → (has_failed b ≡ false → held p' ≡ []) → p'.taken ≡ min (p.taken + count) (2 ^ 64 - 1) → Sends Takes contents text a p b p'
   unfolding sent_then

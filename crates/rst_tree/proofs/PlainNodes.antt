@@ -8,7 +8,7 @@ use Rattle.rst_tree.specs.declared.tag.Tag.{Tag}
 use Rattle.rst_tree.specs.Forest.{Forest, bare, element, words}
 use Rattle.rst_tree.specs.Nodes.{are_plain, nodes_of}
 
--- the first node tells it, and how many there are
+-- the first node and how many there are determine it
 pub first_text : (c : Forest) (t : List ℕ) (n : ℕ) → n ≡ length (nodes_of c) → slice_get (nodes_of c) 0 ≡ Some (Text t) → nat_eq n 1 ≡ are_plain c
 first_text (words x bare) t n count first = rw count refl
 first_text _ t n count first = grind (arith, nat_tests)

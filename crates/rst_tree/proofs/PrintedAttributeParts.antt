@@ -24,7 +24,7 @@ use Rattle.rst_tree.specs.PrintedAttributes.{with_source, with_type, printed_att
 use Rattle.rst_tree.proofs.PrintedParts.{printed-element, printed-words}
 use Rattle.rst_tree.specs.KeyNames.{is_same}
 
--- the attributes before a name, and those behind it, by their places
+-- the attributes before a name, and those after it, by their places
 pub before_place : (k : Key) (xs : List Attr) → take (places_below k xs) xs ≡ before k xs
 before_place k [] = refl
 before_place k (a ∷ xs) = let e : take (places_below k xs + 1) (a ∷ xs) ≡ a ∷ take (places_below k xs) xs = rw add-one refl in grind (arith, e, before_place k xs)
@@ -42,7 +42,7 @@ pub behind_between : (k : Key) (xs : List Attr) → is_at k (drop (places_below 
 behind_between k [] h = refl
 behind_between k (a ∷ xs) h = grind (arith, common_steps, behind_between k xs)
 
--- an attribute that is added stands between those before it and after it
+-- an attribute that is added is between those before it and after it
 pub parted : (k : Key) (v : Value) (xs : List Attr) → before k xs ++ (attr k v ∷ behind k xs) ≡ with_attr k v xs
 parted k v [] = refl
 parted k v (a ∷ xs) =
@@ -55,7 +55,7 @@ parted k v (a ∷ xs) =
 rising : (m n p : ℕ) → nat_lt m n ≡ true → nat_lt n p ≡ true → nat_lt m p ≡ true
 rising m n p h k = grind (arith, h, k)
 
--- one of a later name stands among those behind it
+-- one of a later name is among those after it
 passed : (k j : Key) (v w : Value) (xs ys : List Attr) → nat_lt (key_code k) (key_code j) ≡ true
     → with_attr j w (before k xs ++ (attr k v ∷ ys)) ≡ before k xs ++ (attr k v ∷ with_attr j w ys)
 passed k j v w [] ys h = rw h refl

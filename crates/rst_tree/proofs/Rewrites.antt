@@ -20,17 +20,17 @@ module _ {S : Type 0} (entered : S → Node → S) (becomes : S → Node → Rew
   abbrev redone : S → Forest → Forest × S
   redone = rewritten entered becomes
 
-  -- what becomes of one element, and the state then
+  -- what is made of one element, and the state then
   abbrev pub decided : Rewrite → S → Forest → List Node × S
   decided (Replace n) u c = (n ∷ [], u)
   decided (Keep t a l) u c = (Element t a (redone u c).0 l ∷ [], (redone u c).1)
 
-  -- what becomes of one node
+  -- what is made of one node
   abbrev pub step : S → Node → List Node × S
   step s (Text t) = (Text t ∷ [], s)
   step s (Element t a c l) = decided (becomes s (Element t a c l)) (entered s (Element t a c l)) c
 
-  -- what becomes of nodes, one after another
+  -- what is made of nodes, one after another
   abbrev pub steps : S → List Node → List Node × S
   steps s [] = ([], s)
   steps s (n ∷ ns) = ((step s n).0 ++ (steps (step s n).1 ns).0, (steps (step s n).1 ns).1)
@@ -47,7 +47,7 @@ module _ {S : Type 0} (entered : S → Node → S) (becomes : S → Node → Rew
       ]
 
 module _ {S : Type 0} (entered : S → Node → S) (becomes : S → Node → Rewrite) where
-  -- what becomes of nodes, each of which stays or gives way to one
+  -- what is made of nodes, each of which stays or gives way to one
   abbrev pub turns : S → List Node → List Node × S
   turns = steps entered becomes
 
@@ -105,7 +105,7 @@ module _ {S : Type 0} (entered : S → Node → S) (becomes : S → Node → Rew
       away (Replace x) did = ap (λ z. (z ∷ [], entered u (Element t a c l))) (sym did.0)
       away (Keep t' a' l') did = let z : true ≡ false = rw did.1 at gone in cc
 
-  -- an element with what stands in it rewritten
+  -- an element with what is in it rewritten
   abbrev pub remade : S → Node → Node × S
   remade u (Element t a c l) = (Element t a (turned u c).0 l, (turned u c).1)
   remade u (Text x) = (Text x, u)

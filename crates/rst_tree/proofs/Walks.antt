@@ -1,4 +1,4 @@
--- A walk changes the elements in place as the definition says.
+-- A walk changes the elements in place as defined.
 use Rattle.std.proofs.Common.{◌≡◌, ℕ, ◌+◌, ◌<◌, List, [], ◌∷◌, ◌++◌, ◌≤◌, length, take, drop, get_or, set, length-set, arith, append_assoc, append-nil, add-zero, refl, sym, ◌∙◌, ap}
 use Rattle.std.proofs.lemmas.List.{drop-drop, take_more_set, drop-set-lt, drop_all, take_all, get_or-drop}
 use Rattle.rst_tree.proofs.Changes.{nodes_of-forest_of, forest_of-nodes_of}

@@ -6,7 +6,7 @@ use Rattle.rst_tree.specs.declared.attrs.Value.TheVariants.{Text, Number, List a
 use Rattle.rst_tree.specs.declared.key.Key.{Key}
 use Rattle.rst_tree.specs.KeyNames.{key_code, is_same}
 
--- an attribute: its name, and what it says
+-- an attribute: its name, and its value
 abbrev pub attr : Key → Value → Attr
 attr k v = record { key = k; value = v }
 
@@ -16,26 +16,26 @@ in_order [] = true
 in_order (a ∷ []) = true
 in_order (a ∷ b ∷ more) = nat_lt (key_code a.key) (key_code b.key) && in_order (b ∷ more)
 
--- what the attribute of a name says
+-- the value of the attribute of a name
 abbrev pub value_of : Key → List Attr → Option Value
 value_of k [] = None
 value_of k (a ∷ more) = if is_same a.key k then Some a.value else value_of k more
 
--- the text that is said, where it is one
+-- the text that is the value, where it is one
 abbrev pub said_text : Option Value → Option (List ℕ)
 said_text None = None
 said_text (Some (Text text)) = Some text
 said_text (Some (Number number)) = None
 said_text (Some (Listed texts)) = None
 
--- the number that is said, where it is one
+-- the number that is the value, where it is one
 abbrev pub said_number : Option Value → Option ℕ
 said_number None = None
 said_number (Some (Text text)) = None
 said_number (Some (Number number)) = Some number
 said_number (Some (Listed texts)) = None
 
--- how many attributes stand before the first whose name isn't before k
+-- how many attributes come before the first whose name isn't before k
 abbrev pub places_below : Key → List Attr → ℕ
 places_below k [] = 0
 places_below k (a ∷ more) = if nat_lt (key_code a.key) (key_code k) then places_below k more + 1 else 0
@@ -45,7 +45,7 @@ abbrev pub is_at : Key → List Attr → Bool
 is_at k [] = false
 is_at k (a ∷ more) = is_same a.key k
 
--- the attributes with k saying v, in place of what it said or between the names before and behind it
+-- the attributes with k set to v, in place of its old value or between the names before and after it
 abbrev pub with_attr : Key → Value → List Attr → List Attr
 with_attr k v [] = attr k v ∷ []
 with_attr k v (a ∷ more) =
@@ -57,7 +57,7 @@ abbrev pub before : Key → List Attr → List Attr
 before k [] = []
 before k (a ∷ more) = if nat_lt (key_code a.key) (key_code k) then a ∷ before k more else []
 
--- the attributes behind those, without one of the name k in front
+-- the attributes after those, without the first of them if it has the name k
 abbrev pub behind : Key → List Attr → List Attr
 behind k [] = []
 behind k (a ∷ more) = if nat_lt (key_code a.key) (key_code k) then behind k more else (if is_same a.key k then more else a ∷ more)
@@ -67,7 +67,7 @@ abbrev pub without_key : Key → List Attr → List Attr
 without_key k [] = []
 without_key k (a ∷ more) = if is_same a.key k then more else a ∷ without_key k more
 
--- how many attributes stand before the first of a name
+-- how many attributes come before the first of a name
 abbrev pub place_named : Key → List Attr → ℕ
 place_named k [] = 0
 place_named k (a ∷ more) = if is_same a.key k then 0 else place_named k more + 1

@@ -17,7 +17,7 @@ stored_attr (StoredNumber key number) = attr key (Number number)
 stored_attr (StoredLone key alloc text) = attr key (Listed (text ∷ []))
 stored_attr (StoredList key list) = attr key (Listed list.items)
 
--- what an attribute is seen to say
+-- the value of an attribute, as contracts see it
 abbrev pub said : Said → Value
 said (SaidText text) = Text text.now
 said (SaidNumber number) = Number number

@@ -1,4 +1,4 @@
--- What calls do that want of memory or a failed write can hinder. No rule of markup: the standard speaks of neither.
+-- What calls do that can fail for lack of memory or at a write. No rule of markup: the standard covers neither.
 use Rattle.std.specs.Prelude.{◌≡◌, ℕ, ◌≤◌, List, length, take, Bool, true, false, Result, Ok, Err}
 use Rattle.rst_text.specs.Counted.{Stream, Gains}
 use Rattle.rst_tree.specs.declared.fault.TreeFault.{TreeFault}
@@ -7,17 +7,17 @@ use Rattle.rst_tree.specs.declared.fault.PrintFault.{PrintFault}
 use Rattle.rst_tree.specs.declared.fault.PrintFault.TheVariants.{Write}
 use Rattle.rst_tree.specs.Sends.{counted_on}
 
--- the call gives a value of which this holds, or tells want of memory
+-- the call gives a value of which this holds, or reports that memory ran out
 abbrev pub Gives : {A : Type 0} → (A → Type 0) → Result A TreeFault → Type 0
 Gives P (Ok value) = P value
 Gives P (Err NoMemory) = Unit {0}
 
--- what is changed becomes the wanted value, or stays the old one at want of memory
+-- what is changed becomes the wanted value, or stays the old one if memory runs out
 abbrev pub Becomes : {A S : Type 0} → S → S → S → Result A TreeFault → Type 0
 Becomes old new wanted (Ok done) = new ≡ wanted
 Becomes old new wanted (Err NoMemory) = new ≡ old
 
--- the same for a call that takes a node in, and gives it back at want of memory
+-- the same for a call that takes a node in, and gives it back if memory runs out
 abbrev pub GivesBack : {A N S : Type 0} → N → S → S → S → Result A (TreeFault × N) → Type 0
 GivesBack node old new wanted (Ok done) = new ≡ wanted
 GivesBack node old new wanted (Err (NoMemory, back)) = (new ≡ old) × (back ≡ node)
@@ -30,7 +30,7 @@ pub record CutShort (writer : Stream) (text : List ℕ) (done : ℕ) : Type 0 wh
   pub gained : Gains writer (take came text)
   pub failed : writer.failed ≡ true
 
--- the end of a print, where a write has failed or not and so many bytes were taken
+-- the end of a print, where a write has failed or not and `taken` bytes were taken
 abbrev pub IsEnd : {A : Type 0} → ℕ → Bool → Result A PrintFault → Type 0
 IsEnd taken failed (Ok done) = failed ≡ false
 IsEnd taken failed (Err (Write done)) = (failed ≡ true) × (done ≡ taken)

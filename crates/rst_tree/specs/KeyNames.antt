@@ -93,7 +93,7 @@ key_code XmlSpace = 39
 abbrev pub is_same : Key → Key → Bool
 is_same k j = key_code k == key_code j
 
--- what the transforms alone need, which Document Tree doesn't show: they take these off, for the printer shows whatever stands
+-- what the transforms alone need, which Document Tree doesn't show: they take these off, for the printer prints whatever is
 -- in a tree
 abbrev pub is_hidden : Key → Bool
 is_hidden Inline = true

@@ -1,5 +1,5 @@
--- A message as it stands on standard error. No rule of markup: it is the form of Docutils (Configuration, 'report_level', says
--- which are shown).
+-- A message as it is written to standard error. No rule of markup: it is the form of Docutils (Configuration, 'report_level', defines
+-- which are reported).
 use Rattle.std.specs.Prelude.{List, ℕ, [], ◌++◌, codes, Option, Some, None}
 use Rattle.std.specs.Fmt.{decimal}
 use Rattle.rst_tree.specs.declared.note.Note.{Note}

@@ -22,7 +22,7 @@ holding tag attrs text line = Element tag attrs (words text bare) line
 abbrev pub literal_of : List ℕ → ℕ → Node
 literal_of text line = holding LiteralBlock (attr XmlSpace (Text (codes "preserve")) ∷ []) text line
 
--- what a message says, and the source text that it shows
+-- the text of a message, and the source text that it quotes
 abbrev pub note_nodes : List ℕ → Option (List ℕ) → ℕ → List Node
 note_nodes text None line = holding Paragraph [] text line ∷ []
 note_nodes text (Some shown) line = holding Paragraph [] text line ∷ literal_of shown line ∷ []
@@ -31,7 +31,7 @@ note_nodes text (Some shown) line = holding Paragraph [] text line ∷ literal_o
 abbrev pub note_attrs : Level → List Attr
 note_attrs level = attr LevelKey (Number (level_number level)) ∷ []
 
--- the same with the number of the message, as it stands among their names
+-- the same with the number of the message, at its place among their names
 abbrev pub numbered_attrs : ℕ → Level → List Attr
 numbered_attrs number level = with_attr Message (Number number) (note_attrs level)
 

@@ -1,4 +1,4 @@
--- What is said of inline markup whose start-string has no end-string (Markup Specification, 'Inline Markup').
+-- The message on inline markup whose start-string has no end-string (Markup Specification, 'Inline Markup').
 use Rattle.std.specs.Prelude.{ℕ, List, ◌++◌, codes}
 use Rattle.rst_tree.specs.declared.phrase.Phrase.{Phrase}
 use Rattle.rst_tree.specs.declared.phrase.Phrase.TheVariants.{UnendedEmphasis, UnendedStrong, UnendedLiteral, UnendedTarget, UnendedSubstitution, UnendedInterpreted}

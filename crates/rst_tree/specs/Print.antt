@@ -1,5 +1,5 @@
 -- What is printed of a tree, in the pseudo-XML of the examples in Document Tree, 'Element Reference': its lines in preorder, each
--- behind its indentation and with its end.
+-- after its indentation and with its end.
 use Rattle.std.specs.Prelude.{ℕ, ◌+◌, ◌-◌, ◌*◌, ◌^◌, min, ◌==◌, ◌&&◌, ◌||◌, if◌then◌else◌, Bool, true, false, List, [], ◌∷◌, ◌++◌, map, codes, replicate}
 use Rattle.std.specs.List.{flat_map, onto_first}
 use Rattle.std.specs.Fmt.{decimal}
@@ -19,7 +19,7 @@ use Rattle.rst_tree.specs.Forest.{Forest, bare, element, words}
 abbrev pub is_escaped : ℕ → Bool
 is_escaped b = b == 92 || b == 32
 
--- a byte of a list's member: a backslash stands before a space and before a backslash
+-- a byte of a list's member: a backslash comes before a space and before a backslash
 abbrev pub escaped_byte : ℕ → List ℕ
 escaped_byte b = if b == 92 then 92 ∷ 92 ∷ [] else (if b == 32 then 92 ∷ 32 ∷ [] else b ∷ [])
 
@@ -32,13 +32,13 @@ abbrev pub spaced : List (List ℕ) → List ℕ
 spaced [] = []
 spaced (t ∷ ts) = escaped t ++ flat_map (λ u. 32 ∷ escaped u) ts
 
--- what stands between the quotes
+-- what is between the quotes
 abbrev pub value_text : Value → List ℕ
 value_text (Text t) = t
 value_text (Number n) = decimal n
 value_text (Listed ts) = spaced ts
 
--- the lists that aren't shown where they are empty
+-- the lists that aren't printed where they are empty
 abbrev pub hides_empty : Key → Bool
 hides_empty Ids = true
 hides_empty Classes = true
@@ -52,11 +52,11 @@ abbrev pub is_empty_list : Value → Bool
 is_empty_list (Listed []) = true
 is_empty_list _ = false
 
--- an attribute that isn't shown: one that serves the transforms alone, or one of those lists, where it is empty
+-- an attribute that isn't printed: one that serves the transforms alone, or one of those lists, where it is empty
 abbrev pub is_left_out : Attr → Bool
 is_left_out a = is_hidden a.key || (is_empty_list a.value && hides_empty a.key)
 
--- ` name="`, which stands in front of a value
+-- ` name="`, which comes before a value
 abbrev pub attribute_opening : Key → List ℕ
 attribute_opening k = codes " " ++ key_name k ++ codes "=\""
 
@@ -68,7 +68,7 @@ shown_attr a = if is_left_out a then [] else attribute_opening a.key ++ value_te
 abbrev pub start_tag : Tag → List Attr → List ℕ
 start_tag t attrs = codes "<" ++ tag_name t ++ flat_map shown_attr attrs ++ codes ">"
 
--- the lines of a text: each LF ends one, and what stands behind the last LF is one if it isn't empty
+-- the lines of a text: each LF ends one, and what follows the last LF is one if it isn't empty
 abbrev pub text_lines : List ℕ → List (List ℕ)
 text_lines [] = []
 text_lines (b ∷ bs) = if b == 10 then [] ∷ text_lines bs else onto_first b (text_lines bs)
@@ -96,7 +96,7 @@ lines_at n (words t r) = map (λ l. (n, l)) (text_lines t) ++ lines_at n r
 abbrev pub printed_line : Line → List ℕ
 printed_line l = replicate (4 * l.0) 32 ++ l.1 ++ 10 ∷ []
 
--- what is printed of lines, one behind another
+-- what is printed of lines, one after another
 abbrev pub printed : List Line → List ℕ
 printed = flat_map printed_line
 

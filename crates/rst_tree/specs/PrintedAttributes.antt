@@ -23,7 +23,7 @@ abbrev pub with_source : Option (List ℕ) → List Attr → List Attr
 with_source None a = a
 with_source (Some source) a = with_attr Source (Words source) a
 
--- the attributes with the type of the level that has a number, if one is said (Document Tree, `system_message`)
+-- the attributes with the type of the level that has a number, if one is given (Document Tree, `system_message`)
 abbrev pub with_type : Option ℕ → List Attr → List Attr
 with_type None a = a
 with_type (Some number) a = with_attr Type_ (Words (level_name (level_of number))) a

@@ -1,4 +1,4 @@
--- Elements that are taken in in preorder, each with what stands in it. No rule of markup: transforms read by it.
+-- Elements that are taken in in preorder, each with what is in it. No rule of markup: transforms read by it.
 use Rattle.std.specs.Prelude.{◌≡◌}
 use Rattle.rst_tree.specs.declared.node.Node.{Node}
 use Rattle.rst_tree.specs.declared.node.Node.TheVariants.{Element}

@@ -1,4 +1,4 @@
--- Elements replaced by other nodes, each by one, or changed, in preorder, with a state. No rule of markup: transforms are said by it.
+-- Elements replaced by other nodes, each by one, or changed, in preorder, with a state. No rule of markup: transforms are defined by it.
 use Rattle.std.specs.Prelude.{◌≡◌, Bool, true, false}
 use Rattle.rst_tree.specs.Nodes.{join_node}
 use Rattle.rst_tree.specs.declared.node.Node.{Node}
@@ -19,8 +19,8 @@ Turned (Replace n) old new stays = (new ≡ n) × (stays ≡ false)
 Turned (Keep t a l) (Element t' a' c l') new stays = (new ≡ Element t a c l) × (stays ≡ true)
 Turned (Keep t a l) (Text x) new stays = ⊥
 
--- What becomes of an element and of the nodes behind it, and the state then. Another node stands in its place; or it stays, what
--- stands in it is gone through, and then comes what is behind it.
+-- What is made of an element and of the nodes after it, and the state then. Another node takes its place; or it stays, what
+-- is in it is gone through, and then comes what is after it.
 abbrev pub go_on : {S : Type 0} → Rewrite → S → (S → Forest × S) → (S → Forest × S) → Forest × S
 go_on (Replace n) s inside behind = (join_node n (behind s).0, (behind s).1)
 go_on (Keep t a l) s inside behind = (element t a (inside s).0 l (behind (inside s).1).0, (behind (inside s).1).1)

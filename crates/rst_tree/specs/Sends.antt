@@ -25,7 +25,7 @@ pub record Came {W : Type 0} {N : ℕ} (Takes : W → Option ℕ → List ℕ �
 pub record Sends {W : Type 0} {N : ℕ} (Takes : W → Option ℕ → List ℕ → W → Type 0) (contents : W → Option (List ℕ)) (text : List ℕ) (old : Counted W) (page : Page N) (new : Counted W) (page' : Page N) : Type 0 where
   pub after : (start : Counted W) (before : List ℕ) → Came Takes contents start before old page → Came Takes contents start (before ++ text) new page'
 
--- nothing came: what the page held was written, up to a write that failed
+-- nothing came: what the page contained was written, up to a write that failed
 abbrev pub Turns : {W : Type 0} {N : ℕ} → (W → Option ℕ → List ℕ → W → Type 0) → (W → Option (List ℕ)) → Counted W → Page N → Counted W → Page N → Type 0
 Turns Takes contents old page new page' = Sends Takes contents [] old page new page' × (has_failed new ≡ false → held page' ≡ [])
 

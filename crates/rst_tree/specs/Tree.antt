@@ -33,7 +33,7 @@ is_sound_node (Text t) = is_lines t
 abbrev pub most_levels : ℕ
 most_levels = 1350
 
--- the nodes nest no deeper than so many levels, the attributes are in order, and the texts hold no line end but LF
+-- the nodes nest no deeper than a number of levels, the attributes are in order, and the texts hold no line end but LF
 abbrev pub is_tree_within : Node → ℕ → Bool
 is_tree_within n levels = nat_le (node_height n) levels && is_sound_node n
 

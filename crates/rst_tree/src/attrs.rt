@@ -11,7 +11,7 @@ use crate::text::{Text, Texts};
 use std::alloc::Global;
 use std::marker::Model;
 
-/// What an attribute says.
+/// The value of an attribute.
 #[derive(Debug, Drop)]
 pub enum Value {
     Text(Text),
@@ -19,7 +19,7 @@ pub enum Value {
     List(Texts),
 }
 
-/// An attribute: its name and what it says. Lists of them hold each as an `Entry`.
+/// An attribute: its name and its value. Lists of them hold each as an `Entry`.
 #[derive(Debug, Drop)]
 pub struct Attr {
     pub key: Key,
@@ -93,7 +93,7 @@ impl Attrs {
         let _ = &self.list;
     }
 
-    /// What the attribute of a name says, if there is one.
+    /// The value of the attribute of a name, if there is one.
     pub fn get(&self, key: Key) -> Option<Said<'_>>
         ensures { MatchOption result (value_of key self.now ≡ None) (λ v. value_of key self.now ≡ Some (said v)) }
     {
@@ -105,7 +105,7 @@ impl Attrs {
         None
     }
 
-    /// The text that the attribute of a name says, if it says one.
+    /// The value of the attribute of a name, if it is a text.
     pub fn text(&self, key: Key) -> Option<&Text>
         ensures { MatchOption result (said_text (value_of key self.now) ≡ None) (λ t. said_text (value_of key self.now) ≡ Some t.now) }
     {
@@ -115,7 +115,7 @@ impl Attrs {
         }
     }
 
-    /// The number that the attribute of a name says, if it says one.
+    /// The value of the attribute of a name, if it is a number.
     pub fn number(&self, key: Key) -> Option<u64>
         ensures { result ≡ said_number (value_of key self.now) }
     {
@@ -132,7 +132,7 @@ impl Attrs {
         self.get(key).is_some()
     }
 
-    /// Lets the attribute of a name say a value: in place of what it said, or as a new one at its place among the names.
+    /// Sets the attribute of a name to a value: in place of its old value, or as a new one at its place among the names.
     pub fn set(&mut self, key: Key, value: Value) -> Result<()>
         ensures { Becomes self.old self.new (with_attr key value self.old) result }
     {
@@ -148,7 +148,7 @@ impl Attrs {
         Ok(())
     }
 
-    /// Makes room for so many attributes more, so that setting them doesn't make the list grow.
+    /// Makes room for `more` attributes more, so that setting them doesn't make the list grow.
     pub fn reserve(&mut self, more: usize) -> Result<()>
         ensures { self.new ≡ self.old }
     {
@@ -156,7 +156,7 @@ impl Attrs {
         Ok(())
     }
 
-    /// Takes out the attribute of a name, if there is one, and gives what it said.
+    /// Takes out the attribute of a name, if there is one, and gives its value.
     pub fn remove(&mut self, key: Key) -> Option<Value>
         ensures value { result ≡ value_of key self.old }
         ensures rest { self.new ≡ without_key key self.old }
@@ -192,7 +192,7 @@ fn make_room(list: &mut Vec<Entry>) -> Result<()>
     Ok(())
 }
 
-/// How many attributes stand before the first whose name isn't before `key`.
+/// How many attributes come before the first whose name isn't before `key`.
 pub(crate) fn place_of(attrs: &[Entry], key: Key) -> usize
     ensures place { result ≡ places_below key attrs.now }
     ensures within { result ≤ length attrs.now }
@@ -212,7 +212,7 @@ pub(crate) fn is_at(attrs: &[Entry], place: usize, key: Key) -> bool
     place < attrs.len() && attrs[place].key().code() == key.code()
 }
 
-/// How many attributes stand before the first of a name.
+/// How many attributes come before the first of a name.
 fn place_named(attrs: &[Entry], key: Key) -> usize
     ensures { result ≡ place_named key attrs.now }
 {

@@ -18,7 +18,7 @@ pub struct Entry {
     storage: EntryStorage,
 }
 
-/// What an attribute is made of. A document has many of them, and here they take the least memory: the name and what tells
+/// What an attribute is made of. A document has many of them, and here they take the least memory: the name and what sets
 /// the kinds of values apart lie side by side.
 #[derive(Debug, Drop)]
 enum EntryStorage {
@@ -29,7 +29,7 @@ enum EntryStorage {
     List(Key, Vec<Text>),
 }
 
-/// What an attribute says, lent from where it is stored.
+/// The value of an attribute, borrowed from where it is stored.
 #[derive(Clone, Copy, Debug)]
 pub enum Said<'a> {
     Text(&'a Text),
@@ -50,7 +50,7 @@ impl Model for Entry {
 impl Entry {
     ghost use Rattle.rst_tree.specs.Print.{is_left_out};
 
-    /// The attribute of a name that says a value.
+    /// The attribute of a name with a value.
     pub fn new(key: Key, value: Value) -> Entry
         ensures { result ≡ attr key value }
     {
@@ -77,7 +77,7 @@ impl Entry {
         }
     }
 
-    /// What it says.
+    /// Its value.
     pub fn said(&self) -> Said<'_>
         ensures { said result ≡ self.now.value }
     {
@@ -89,7 +89,7 @@ impl Entry {
         }
     }
 
-    /// What it said, taken out.
+    /// Its value, taken out.
     pub fn into_value(self) -> Value
         ensures { result ≡ self.value }
     {
@@ -117,7 +117,7 @@ impl Entry {
         Ok(Entry { storage })
     }
 
-    /// Whether it isn't shown: it serves the transforms alone, or is an empty list of a name that isn't shown with one.
+    /// Whether it isn't printed: it serves the transforms alone, or is an empty list of a name that isn't printed with one.
     pub fn is_left_out(&self) -> bool
         ensures { result ≡ is_left_out self.now }
     {

@@ -1,7 +1,7 @@
 //! The names of attributes.
 ghost use Rattle.std.specs.Prelude.{◌≡◌};
 
-/// An attribute, in the order of the names (Document Tree, 'Attribute Reference'). Those that `is_hidden` tells serve the
+/// An attribute, in the order of the names (Document Tree, 'Attribute Reference'). Those of which `is_hidden` is true serve the
 /// transforms alone, and aren't printed.
 #[derive(Clone, Copy, Debug, PartialEq, Eq)]
 pub enum Key {
@@ -19,7 +19,7 @@ pub enum Key {
     Enumtype,
     Height,
     Ids,
-    /// Hidden: of a target: it stands in a text.
+    /// Hidden: of a target: it is in a text.
     Inline,
     Level,
     Line,
@@ -59,7 +59,7 @@ impl Key {
     ghost use Rattle.rst_tree.specs.KeyNames.{key_code, is_hidden};
     ghost use Rattle.rst_tree.specs.Print.{hides_empty, attribute_opening};
 
-    /// What is printed in front of the value: a space, the name, `=` and the quote.
+    /// What is printed before the value: a space, the name, `=` and the quote.
     #[tactic(auto, unfolding(crate::specs::KeyNames::key_name))]
     pub fn opening(self) -> &'static str
         ensures { result.now ≡ attribute_opening self }
@@ -132,7 +132,7 @@ impl Key {
         )
     }
 
-    /// Whether an empty list of this name isn't shown.
+    /// Whether an empty list of this name isn't printed.
     pub fn hides_empty(self) -> bool
         ensures { result ≡ hides_empty self }
     {

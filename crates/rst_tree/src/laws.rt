@@ -1,7 +1,7 @@
 //! Laws over the definitions.
 ghost use Rattle.rst_tree.specs.Law.{PrintsEachLine, KeysAreInOrder, FitsWithinLevels};
 
-/// Each line of a text is printed once, in order, behind one indentation.
+/// Each line of a text is printed once, in order, after one indentation.
 pub fn prints_each_line()
     ensures { PrintsEachLine }
 {}

@@ -14,8 +14,8 @@ use crate::text::Text;
 use std::alloc::Global;
 
 impl Note {
-    /// The message as a `system_message`: a paragraph with what it says, and a literal block with the source text that it
-    /// shows, each on the message's line. Its list of attributes has room for three more: its number, its id and the ids of its
+    /// The message as a `system_message`: a paragraph with its text, and a literal block with the source text that it
+    /// quotes, each on the message's line. Its list of attributes has room for three more: its number, its id and the ids of its
     /// problematics. The line, the source and the type are added when the message is printed.
     pub fn into_node(self, alloc: Global) -> Result<Node>
         ensures { Gives (λ node. node ≡ note_node self) result }

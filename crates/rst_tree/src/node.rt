@@ -14,7 +14,7 @@ use crate::text::Text;
 use std::alloc::Global;
 use std::marker::Model;
 
-/// An element with what stands in it and the number of its first line, or a text.
+/// An element with what is in it and the number of its first line, or a text.
 #[derive(Debug, Drop)]
 #[cycle(node)]
 pub enum Node {
@@ -70,7 +70,7 @@ impl Children {
         }
     }
 
-    /// No node, in a list with room for so many.
+    /// No node, in a list with room for `room` nodes.
     pub fn with_room(alloc: Global, room: usize) -> Result<Children>
         ensures { Gives (λ nodes. nodes ≡ bare) result }
     {
@@ -151,7 +151,7 @@ impl Children {
         &mut self.list[i]
     }
 
-    /// Puts a node behind the last; it is dropped at want of memory.
+    /// Puts a node after the last; it is dropped if memory runs out.
     pub fn push(&mut self, node: Node) -> Result<()>
         ensures { Becomes self.old self.new (forest_of (nodes_of self.old ++ node ∷ [])) result }
     {
@@ -160,7 +160,7 @@ impl Children {
         Ok(())
     }
 
-    /// Lets a node stand in the place of all; it is dropped at want of memory. The list keeps its room.
+    /// Replaces all nodes by a node, which is dropped if memory runs out. The list keeps its room.
     pub fn set_lone(&mut self, node: Node) -> Result<()>
         ensures { Becomes self.old self.new (forest_of (node ∷ [])) result }
     {
@@ -210,7 +210,7 @@ impl Node {
         }
     }
 
-    /// What the attribute of a name says, if there is one; a text has none.
+    /// The value of the attribute of a name, if there is one; a text has none.
     pub fn value(&self, key: Key) -> Option<Said<'_>>
         ensures { MatchOption result (node_value key self.now ≡ None) (λ v. node_value key self.now ≡ Some (said v)) }
     {
@@ -220,7 +220,7 @@ impl Node {
         }
     }
 
-    /// Puts a node behind the last in the element at a path; it is given back at want of memory.
+    /// Puts a node after the last in the element at a path; it is given back if memory runs out.
     pub fn push_at(&mut self, at: &[usize], child: Node) -> Result<(), (TreeFault, Node)>
         requires path { IsSomeAnd (node_at at.now self.old) IsElement }
         ensures { GivesBack child self.old self.new (changed_at (with_child child) at.now self.old) result }
@@ -243,7 +243,7 @@ impl Node {
         }
     }
 
-    /// Lets the attribute of a name say a value at the element at a path.
+    /// Sets the attribute of a name to a value at the element at a path.
     pub fn set_at(&mut self, at: &[usize], key: Key, value: Value) -> Result<()>
         requires path { IsSomeAnd (node_at at.now self.old) IsElement }
         ensures { Becomes self.old self.new (changed_at (with_value key value) at.now self.old) result }
@@ -313,7 +313,7 @@ impl Node {
     }
 }
 
-/// Puts the texts in a node behind a text.
+/// Puts the texts in a node after a text.
 fn add_text(node: &Node, text: &mut String) -> Result<()>
     ensures { Gives (λ _. string_bytes text.new ≡ string_bytes text.old ++ text_in node.now) result }
 {

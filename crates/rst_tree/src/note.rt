@@ -52,7 +52,7 @@ impl Level {
     }
 }
 
-/// A message: its level, the number of the line that it speaks of, what it says, and the source text that it shows.
+/// A message: its level, the number of the line that it is about, its text, and the source text that it quotes.
 #[derive(Debug, Drop)]
 pub struct Note {
     pub level: Level,

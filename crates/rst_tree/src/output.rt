@@ -46,7 +46,7 @@ fn has_escaped(text: &[u8]) -> bool
     found
 }
 
-/// Writes a member of a list, in which a backslash stands before a space and before a backslash. Mostly it has none, and is written
+/// Writes a member of a list, in which a backslash comes before a space and before a backslash. Mostly it has none, and is written
 /// at once.
 fn put_escaped<W: WriteCall, const N: usize>(out: &mut Counted<W>, page: &mut Page<N>, text: &[u8])
     ensures { Sends W.call_takes W.contents (escaped text.now) out.old page.old out.new page.new }
@@ -118,7 +118,7 @@ fn put_printed_attrs<W: WriteCall, const N: usize>(
     }
 }
 
-/// Writes the attributes with the source, if one is given, and the type of the level that has a number, if one is said.
+/// Writes the attributes with the source, if one is given, and the type of the level that has a number, if one is given.
 fn put_source_and_type<W: WriteCall, const N: usize>(
     out: &mut Counted<W>,
     page: &mut Page<N>,
@@ -138,7 +138,7 @@ fn put_source_and_type<W: WriteCall, const N: usize>(
     }
 }
 
-/// Writes the attributes with the type of the level that has a number, if one is said.
+/// Writes the attributes with the type of the level that has a number, if one is given.
 fn put_with_type<W: WriteCall, const N: usize>(
     out: &mut Counted<W>,
     page: &mut Page<N>,
@@ -176,7 +176,7 @@ fn put_before<'a, W: WriteCall, const N: usize>(
     &attrs[place..]
 }
 
-/// Writes an attribute that says a text and doesn't serve the transforms alone.
+/// Writes an attribute whose value is a text and that doesn't serve the transforms alone.
 fn put_text_attr<W: WriteCall, const N: usize>(
     out: &mut Counted<W>,
     page: &mut Page<N>,
@@ -191,7 +191,7 @@ fn put_text_attr<W: WriteCall, const N: usize>(
     page.put(out, b"\"");
 }
 
-/// Writes the attributes that are shown.
+/// Writes the attributes that are printed.
 fn put_attrs<W: WriteCall, const N: usize>(
     out: &mut Counted<W>,
     page: &mut Page<N>,
@@ -209,7 +209,7 @@ fn put_attrs<W: WriteCall, const N: usize>(
     }
 }
 
-/// The indentation of so many levels is written at once.
+/// The indentation of this many levels is written at once.
 const LEVELS: usize = 256;
 
 /// Their indentation.
@@ -227,7 +227,7 @@ fn put_indent<W: WriteCall, const N: usize>(out: &mut Counted<W>, page: &mut Pag
     page.put(out, &SPACES[..4 * left]);
 }
 
-/// Writes the lines of a text, each behind its indentation. The last may have no LF.
+/// Writes the lines of a text, each after its indentation. The last may have no LF.
 fn put_text<W: WriteCall, const N: usize>(
     out: &mut Counted<W>,
     page: &mut Page<N>,
@@ -282,7 +282,7 @@ pub fn put_node<W: WriteCall, const N: usize>(
     }
 }
 
-/// Writes the source text that a message shows, behind a blank line.
+/// Writes the source text that a message quotes, after a blank line.
 fn put_block<W: WriteCall, const N: usize>(
     out: &mut Counted<W>,
     page: &mut Page<N>,
@@ -297,7 +297,7 @@ fn put_block<W: WriteCall, const N: usize>(
     }
 }
 
-/// Writes a message, behind its head: `source:line: (TYPE/level) `.
+/// Writes a message, after its head: `source:line: (TYPE/level) `.
 pub fn put_message<W: WriteCall, const N: usize>(
     out: &mut Counted<W>,
     page: &mut Page<N>,

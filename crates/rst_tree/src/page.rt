@@ -9,7 +9,7 @@ use rst_text::{Counted, WriteCall};
 #[derive(Drop)]
 pub struct Page<const N: usize> {
     bytes: [u8; N],
-    /// How many of the bytes are gathered; those behind them are left from before.
+    /// How many of the bytes are gathered; those after them are left from before.
     len: usize,
     /// How many bytes of the text the writer took, or the largest `usize` if they are more.
     taken: usize,
@@ -47,7 +47,7 @@ impl<const N: usize> Page<N> {
         }
     }
 
-    /// Gathers the bytes, for which there is room behind what the page holds.
+    /// Gathers the bytes, for which there is room after what the page holds.
     #[inline(always)]
     fn gather(&mut self, bytes: &[u8])
         requires { self.old.len + length bytes.now ≤ N }
@@ -60,7 +60,7 @@ impl<const N: usize> Page<N> {
         self.len = end;
     }
 
-    /// The same as `put`, where the bytes don't fit behind what the page holds: that is written first.
+    /// The same as `put`, where the bytes don't fit after what the page holds: that is written first.
     #[cold]
     #[inline(never)]
     fn put_over<W: WriteCall>(&mut self, out: &mut Counted<W>, bytes: &[u8])

@@ -2,7 +2,7 @@
 ghost use Rattle.std.specs.Prelude.{◌≡◌};
 ghost use Rattle.rst_tree.specs.Phrases.{phrase_text};
 
-/// What is said of inline markup whose start-string has no end-string (reStructuredText Markup Specification, 'Inline Markup').
+/// The message on inline markup whose start-string has no end-string (reStructuredText Markup Specification, 'Inline Markup').
 /// A document may have one such message for every few characters, so a text that is one of these takes no memory.
 #[derive(Clone, Copy, Debug, PartialEq, Eq)]
 pub enum Phrase {

@@ -20,7 +20,7 @@ const TREE_PAGE: usize = 8192;
 /// How many bytes of a message are gathered: most have fewer, and a page is blanked for each message anew.
 const MESSAGE_PAGE: usize = 512;
 
-/// Prints a tree to a writer that hasn't failed: each element and each line of a text is a line, behind four spaces for
+/// Prints a tree to a writer that hasn't failed: each element and each line of a text is a line, after four spaces for
 /// each level. All attributes are printed but those that serve the transforms alone, and empty lists of ids, classes, names and
 /// references back; `xml:space` is one like any other, which the makers of literal blocks, doctest blocks, comments and addresses set.
 /// Each message is printed with its line and its type (Document Tree, `system_message`), which the tree itself needn't hold: the line
@@ -64,7 +64,7 @@ fn print_given<W: WriteCall>(
     page.end(out.failed())
 }
 
-/// Prints a message to a writer that hasn't failed, as `source:line: (TYPE/level) text` and, behind a blank line, the
+/// Prints a message to a writer that hasn't failed, as `source:line: (TYPE/level) text` and, after a blank line, the
 /// source text that it shows.
 pub fn message_line<W: WriteCall>(
     note: &Note,

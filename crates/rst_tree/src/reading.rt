@@ -13,7 +13,7 @@ pub trait Reader<'a> {
     /// What taking in an element at a level makes of the state, and the level of the elements in it.
     ghost takes: { Self → Option ℕ → Node → Self → Option ℕ → Type 0 };
 
-    /// Takes in an element, which is seen with all that stands in it, and tells the level of the elements in it.
+    /// Takes in an element, which is seen with all that is in it, and gives the level of the elements in it.
     fn read(
         &mut self,
         alloc: Global,

@@ -11,12 +11,12 @@ use crate::node::{Children, Node};
 use crate::tag::Tag;
 use std::alloc::Global;
 
-/// What becomes of an element, as contracts tell it.
+/// What is done with an element, as contracts describe it.
 #[derive(Debug, Drop)]
 pub enum Rewrite {
-    /// It stays, with this of its own. What stands in it is gone through.
+    /// It stays, with this of its own. What is in it is gone through.
     Keep { tag: Tag, attrs: Attrs, line: usize },
-    /// This node stands in its place, and isn't gone through.
+    /// This node takes its place, and isn't gone through.
     Replace(Node),
 }
 
@@ -25,16 +25,16 @@ pub trait Rewriter {
     /// The state after an element.
     ghost entered: { Self → Node → Self };
 
-    /// What becomes of an element that is met: it stays, or one node stands in its place.
+    /// What is done with an element that is met: it stays, or one node takes its place.
     ghost becomes: { Self → Node → Rewrite };
 
-    /// Turns an element that is met into what becomes of it, and tells whether it stays.
+    /// Keeps or replaces an element that is met, and returns whether it stays.
     fn turn(&mut self, alloc: Global, element: &mut Node) -> Result<bool>
         ensures state { Gives (λ _. self.new ≡ entered self.old element.old) result }
         ensures outcome { Gives (λ stays. Turned (becomes self.old element.old) element.old element.new stays) result };
 }
 
-/// Rewrites nodes and what stands in them, in preorder. At want of memory some of them are rewritten.
+/// Rewrites nodes and what is in them, in preorder. If memory runs out, some of them are rewritten.
 pub fn rewrite_in<R: Rewriter>(alloc: Global, nodes: &mut Children, rewriter: &mut R) -> Result<()>
     ensures nodes { Gives (λ _. nodes.new ≡ (rewritten R.entered R.becomes rewriter.old nodes.old).0) result }
     ensures state { Gives (λ _. rewriter.new ≡ (rewritten R.entered R.becomes rewriter.old nodes.old).1) result }

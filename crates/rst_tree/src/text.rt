@@ -72,7 +72,7 @@ impl Text {
         Ok(Text { storage })
     }
 
-    /// Three texts, one behind the other, as one.
+    /// Three texts, one after the other, as one.
     pub fn of_three(alloc: Global, front: &str, middle: &str, back: &str) -> Result<Text>
         ensures { Gives (λ t. t ≡ front.now ++ (middle.now ++ back.now)) result }
     {
@@ -126,7 +126,7 @@ impl Text {
         }
     }
 
-    /// Puts a text behind this one.
+    /// Puts a text after this one.
     pub fn push_str(&mut self, text: &str) -> Result<()>
         ensures { Becomes self.old self.new (self.old ++ text.now) result }
     {
@@ -146,7 +146,7 @@ impl Text {
     }
 }
 
-/// Three texts, one behind the other, in the value itself, unless they are too long.
+/// Three texts, one after the other, in the value itself, unless they are too long.
 fn short_joined<'a>(
     front: &'a str,
     middle: &'a str,
@@ -160,7 +160,7 @@ fn short_joined<'a>(
     Ok(short)
 }
 
-/// Three texts, one behind the other, in room for them alone.
+/// Three texts, one after the other, in room for them alone.
 fn joined(alloc: Global, front: &str, middle: &str, back: &str) -> Result<String>
     ensures { Gives (λ s. string_bytes s ≡ front.now ++ (middle.now ++ back.now)) result }
 {
@@ -234,7 +234,7 @@ impl Texts {
         }
     }
 
-    /// Puts a text behind the last.
+    /// Puts a text after the last.
     pub fn push(&mut self, text: Text) -> Result<()>
         ensures { Becomes self.old self.new (self.old ++ text ∷ []) result }
     {

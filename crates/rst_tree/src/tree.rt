@@ -13,7 +13,7 @@ use crate::node::Node;
 use std::alloc::Global;
 use std::marker::Model;
 
-/// A document: the attributes of each element stand in the order of their names, each name once; no text holds a line end
+/// A document: the attributes of each element are in the order of their names, each name once; no text holds a line end
 /// but LF; and the nodes nest no deeper than 1,350.
 #[derive(Debug, Drop)]
 pub struct Tree {
@@ -69,7 +69,7 @@ impl Tree {
         root
     }
 
-    /// What the attribute of a name says at the node at a path, if there is one.
+    /// The value of the attribute of a name at the node at a path, if there is one.
     pub fn attr(&self, at: &[usize], name: Key) -> Option<Said<'_>>
         ensures { MatchOption result (value_at at.now name self.now ≡ None) (λ v. value_at at.now name self.now ≡ Some (said v)) }
     {
@@ -104,7 +104,7 @@ impl Tree {
         at.len() < Tree::MOST_LEVELS && is_tree_within(node, Tree::MOST_LEVELS - 1 - at.len())
     }
 
-    /// Puts a node that `fits` behind the last in the element at a path; it is given back at want of memory.
+    /// Puts a node that `fits` after the last in the element at a path; it is given back if memory runs out.
     pub fn push(
         &mut self,
         _alloc: Global,
@@ -118,8 +118,8 @@ impl Tree {
         Ok(())
     }
 
-    /// Lets the attribute of a name say a value at the element at a path, which `has_element` tells; the value is dropped
-    /// at want of memory.
+    /// Sets the attribute of a name to a value at the element at a path, of which `has_element` is true; the value is dropped
+    /// if memory runs out.
     pub fn set(&mut self, _alloc: Global, at: &[usize], name: Key, value: Value) -> Result<()>
         requires { IsTrue (is_element (node_at at.now self.old)) }
         ensures { Becomes self.old self.new (changed_at (with_value name value) at.now self.old) result }

@@ -22,7 +22,7 @@ pub trait Visitor {
         ensures element { Gives (λ _. item tag.new attrs.new line.new ≡ out self.old (item tag.old attrs.old line.old)) result };
 }
 
-/// Visits a node's elements in preorder. At want of memory the node is given up.
+/// Visits a node's elements in preorder. If memory runs out, the node is given up.
 pub fn walk<V: Visitor>(mut node: Node, visitor: &mut V) -> Result<Node>
     ensures node { Gives (λ n. n ≡ walked_node V.next V.out visitor.old node) result }
     ensures state { Gives (λ _. visitor.new ≡ after V.next V.out visitor.old (node_items node)) result }

@@ -1,4 +1,4 @@
--- What is known of nodes, as more come behind them, as they become those of an element, and as the first is taken.
+-- What is known of nodes, as more come after them, as they become those of an element, and as the first is taken.
 use Rattle.std.proofs.Common.{◌≡◌, ℕ, ◌+◌, ◌-◌, ◌^◌, ◌≤◌, min, suc, length, List, [], ◌∷◌, ◌++◌, append_assoc, refl, sym, ◌∙◌, ap, ap₂, arith}
 use Rattle.std.specs.Prelude.{map}
 use Rattle.std.proofs.lemmas.List.{append-nil, length-append, map-append}

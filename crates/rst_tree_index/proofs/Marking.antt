@@ -118,7 +118,7 @@ module _ (needs : Item → Bool) where
       ap (map later) e ∙ map-append later (places needs (forest_of ns)) (map (in_node (length ns)) (marks_of needs n))
       ∙ ap (λ z. map later (places needs (forest_of ns)) ++ z) (map-map later (in_node (length ns)) (marks_of needs n))
 
-  -- one node more, behind the others
+  -- one node more, after the others
   places-push : (ns : List Node) (n : Node) → places needs (forest_of (ns ++ n ∷ [])) ≡ places needs (forest_of ns) ++ map (in_node (length ns)) (marks_of needs n)
   places-push [] (Text t) = refl
   places-push [] (Element t a c l) =
@@ -134,7 +134,7 @@ module _ (needs : Item → Bool) where
       ∙ ap (λ z. own_place needs x ++ z) (sym (append_assoc (map deeper (places needs c)) (map later (places needs (forest_of ns))) (map (in_node (suc (length ns))) (marks_of needs n))))
       ∙ sym (append_assoc (own_place needs x) (map deeper (places needs c) ++ map later (places needs (forest_of ns))) (map (in_node (suc (length ns))) (marks_of needs n)))
 
-  -- the marks in a list of nodes, and in one more behind them
+  -- the marks in a list of nodes, and in one more after them
   pub paths_push : (ns : List Node) (n : Node) (own held inner now : List (List ℕ)) (k : ℕ) → held ≡ own ++ map path_of (places needs (forest_of ns)) → k ≡ length ns → inner ≡ marks_of needs n
       → now ≡ held ++ map (λ p. k ∷ p) inner → now ≡ own ++ map path_of (places needs (forest_of (ns ++ n ∷ [])))
   paths_push ns n own held inner now k old at more all =

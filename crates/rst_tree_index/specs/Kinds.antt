@@ -28,6 +28,6 @@ abbrev pub is_reference : Tag → Bool
 is_reference SubstitutionReference = true
 is_reference _ = false
 
--- an internal target of the body: it stands in no text, and tells neither a URI nor a name
+-- an internal target of the body: it is in no text, and has neither a URI nor a name
 abbrev pub is_internal : Item → Bool
 is_internal x = is_target x.tag && not (tells Inline x) && not (tells Refuri x) && not (tells Refname x)

@@ -13,7 +13,7 @@ Entry = ℕ × List (List ℕ)
 abbrev pub entry_of : Known → Entry
 entry_of k = (k.place, node_paths k.own k.inner)
 
--- the same of a node before which so many others were put
+-- the same of a node before which `before` others were put
 abbrev pub entry_behind : ℕ → Entry → Entry
 entry_behind before e = (min (before + e.0) (2 ^ 64 - 1), e.1)
 

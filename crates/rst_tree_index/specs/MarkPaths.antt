@@ -1,4 +1,4 @@
--- Marks as the paths of what they mark. No rule of markup: a tree of marks says the same as these paths.
+-- Marks as the paths of what they mark. No rule of markup: a tree of marks means the same as these paths.
 use Rattle.std.specs.Prelude.{◌≢◌, ℕ, ◌+◌, max, Bool, if◌then◌else◌, List, [], ◌∷◌, ◌++◌, length, map}
 use Rattle.rst_tree_index.specs.declared.marks.Mark.{Mark}
 

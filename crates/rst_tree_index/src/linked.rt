@@ -23,7 +23,7 @@ pub fn is_linked_tag(tag: Tag) -> bool
     )
 }
 
-/// Whether an element is an internal target of the body: one that stands in no text, and tells neither a URI nor a name.
+/// Whether an element is an internal target of the body: one that is in no text, and has neither a URI nor a name.
 pub fn is_internal(tag: Tag, attrs: &Attrs) -> bool
     ensures { result ≡ is_internal (item tag attrs.now 0) }
 {

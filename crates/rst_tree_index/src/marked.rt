@@ -101,7 +101,7 @@ fn visit_in<V: Visitor>(node: &mut Node, own: bool, inner: &Marks, visitor: &mut
     Ok(())
 }
 
-/// Puts the marks of nodes that were made elsewhere behind others, seen from the element that holds them.
+/// Puts the marks of nodes that were made elsewhere after others, seen from the element that holds them.
 ///
 /// Most of these nodes are texts or hold texts alone: those cost no list of marks.
 fn add_marks(alloc: Global, nodes: &Children, marks: &mut Marks) -> Result<()>
@@ -149,7 +149,7 @@ pub(crate) fn marks_of(alloc: Global, node: &Node) -> Result<(bool, Marks)>
     Ok((is_registered(*tag, attrs, *line), inner))
 }
 
-/// A node, and where those of its elements stand that registration needs: their paths, in preorder.
+/// A node, and where those of its elements are that registration needs: their paths, in preorder.
 #[derive(Debug, Drop)]
 pub struct Marked {
     pub(crate) root: Node,

@@ -1,4 +1,4 @@
-//! Nodes that stand beside each other, and the marks of those that have any.
+//! Neighbouring nodes, and the marks of those that have any.
 ghost use Rattle.std.specs.Prelude.{◌≡◌, ◌<◌, ◌∷◌, ◌++◌, [], map, OnErr, vec_capacity, vec_len};
 ghost use Rattle.rst_tree.specs.Faults.{Gives};
 ghost use Rattle.rst_tree.specs.Nodes.{forest_of};
@@ -26,7 +26,7 @@ struct Known {
     inner: Marks,
 }
 
-/// Puts what is known of the node at a place behind the rest, if anything is known.
+/// Puts what is known of the node at a place after the rest, if anything is known.
 #[inline(always)]
 fn note(known: &mut Vec<Known>, place: usize, own: bool, inner: Marks) -> Result<()>
     ensures noted { Gives (λ _. map entry_of known.new.items ≡ map entry_of known.old.items ++ known_at place (node_paths own inner)) result }
@@ -38,7 +38,7 @@ fn note(known: &mut Vec<Known>, place: usize, own: bool, inner: Marks) -> Result
     Ok(())
 }
 
-/// What is known of some nodes, when they follow so many others.
+/// What is known of some nodes, when they follow `before` others.
 fn behind(known: Vec<Known>, before: usize) -> Result<Vec<Known>>
     ensures { Gives (λ moved. map entry_of moved.items ≡ map (entry_behind before) (map entry_of known.items)) result }
 {
@@ -68,8 +68,8 @@ fn make_room(nodes: &mut Vec<Node>) -> Result<()>
     Ok(())
 }
 
-/// Nodes that stand beside each other, as those of an element, with the marks of each. Most nodes have none: so what is known is
-/// kept beside the nodes, for the others alone, and the nodes become those of an element as they stand.
+/// Neighbouring nodes, as those of an element, with the marks of each. Most nodes have none: so what is known is
+/// kept beside the nodes, for the others alone, and the nodes become those of an element as they are.
 #[derive(Debug, Drop)]
 pub struct MarkedNodes {
     nodes: Vec<Node>,
@@ -130,7 +130,7 @@ impl MarkedNodes {
         Ok(made)
     }
 
-    /// Makes room for so many nodes more and no others.
+    /// Makes room for exactly `more` nodes more.
     #[inline(always)]
     pub fn reserve(&mut self, more: usize) -> Result<()>
         ensures { self.new ≡ self.old }
@@ -155,7 +155,7 @@ impl MarkedNodes {
         self.nodes.is_empty()
     }
 
-    /// Puts a node behind the others whose marks are known.
+    /// Puts a node after the others whose marks are known.
     #[inline(always)]
     fn put(&mut self, root: Node, own: bool, inner: Marks) -> Result<()>
         requires { node_paths own inner ≡ marks_of is_registered root }
@@ -168,7 +168,7 @@ impl MarkedNodes {
         Ok(())
     }
 
-    /// Puts a node behind the others.
+    /// Puts a node after the others.
     #[inline(always)]
     pub fn push(&mut self, node: Marked) -> Result<()>
         ensures { Gives (λ _. self.new ≡ self.old ++ node ∷ []) result }
@@ -177,7 +177,7 @@ impl MarkedNodes {
         self.put(root, own, inner)
     }
 
-    /// Puts a node behind the others that was made elsewhere. It is marked by a pass over it.
+    /// Puts a node that was made elsewhere after the others. It is marked by a pass over it.
     pub fn push_new(&mut self, root: Node) -> Result<()>
         ensures { Gives (λ _. self.new ≡ self.old ++ root ∷ []) result }
     {
@@ -186,7 +186,7 @@ impl MarkedNodes {
         self.put(root, own, inner)
     }
 
-    /// Puts nodes behind the others that were made elsewhere.
+    /// Puts nodes that were made elsewhere after the others.
     #[inline(always)]
     pub fn append_new(&mut self, more: Vec<Node>) -> Result<()>
         ensures { Gives (λ _. self.new ≡ self.old ++ more.items) result }
@@ -209,7 +209,7 @@ impl MarkedNodes {
         Ok(())
     }
 
-    /// Puts nodes behind the others. Nobody goes through them: they are moved at once, and what is known of them follows.
+    /// Puts nodes after the others. Nobody goes through them: they are moved at once, and what is known of them follows.
     pub fn append(&mut self, more: MarkedNodes) -> Result<()>
         ensures { Gives (λ _. self.new ≡ self.old ++ more) result }
     {
@@ -268,7 +268,7 @@ impl MarkedNodes {
 #[derive(Drop)]
 pub struct MarkedIter {
     nodes: IntoIter<Node>,
-    /// What is known of the nodes behind those of which `ahead` tells.
+    /// What is known of the nodes after those that `ahead` is about.
     known: IntoIter<Known>,
     /// What is known of the first node of which anything is.
     ahead: Option<Known>,

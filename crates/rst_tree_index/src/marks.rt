@@ -1,4 +1,4 @@
-//! Where marked elements stand among some nodes.
+//! Where marked elements are among some nodes.
 ghost use Rattle.std.specs.Prelude.{◌≡◌, ◌≢◌, ◌∷◌, ◌++◌, [], true, false, map};
 ghost use Rattle.rst_tree.specs.Faults.{Gives};
 ghost use Rattle.rst_tree_index.specs.MarkPaths.{AreUsed, node_paths, paths_in};
@@ -20,7 +20,7 @@ pub(crate) struct Mark {
 }
 
 /// The marks among some nodes, which contracts see as the paths of what they mark, in preorder. They are kept as a tree: so where
-/// the nodes come to stand in another one, that costs the same however many marks there are, and however deep.
+/// the nodes are put into another one, that costs the same however many marks there are, and however deep.
 #[derive(Debug, Drop)]
 #[cycle(marks)]
 pub(crate) struct Marks {
@@ -76,7 +76,7 @@ impl Marks {
         self.list.as_slice()
     }
 
-    /// Puts the marks of the node at a place behind the others: its own, if it is marked, and those in it.
+    /// Puts the marks of the node at a place after the others: its own, if it is marked, and those in it.
     #[inline(always)]
     pub fn push(&mut self, place: usize, own: bool, inner: Marks) -> Result<()>
         ensures { Gives (λ _. self.new ≡ self.old ++ map (λ p. place ∷ p) (node_paths own inner)) result }

@@ -66,7 +66,7 @@ fn paragraphs(alloc: Global, count: usize) -> Result<String, Fail> {
     Ok(text)
 }
 
-/// A look at least for each line of each block, and 128 at most for each line and level: no table stands in these.
+/// A look at least for each line of each block, and 128 at most for each line and level: none of these blocks is a table.
 #[test]
 fn looks_are_within_their_bounds(rt: HostRuntime) -> Result<(), Fail> {
     let alloc = rt.alloc();
@@ -128,7 +128,7 @@ fn items(alloc: Global, before: &str, levels: usize) -> Result<String, Fail> {
     Ok(text)
 }
 
-/// 250 blocks may stand in one another; the block inside these is told by its first line that isn't blank.
+/// 250 blocks may be nested; the block inside these is reported by its first line that isn't blank.
 #[test]
 fn blocks_are_nested_250_deep(rt: HostRuntime) -> Result<(), Fail> {
     let alloc = rt.alloc();

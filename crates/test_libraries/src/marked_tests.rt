@@ -11,7 +11,7 @@ fn element(alloc: Global, tag: Tag, nodes: MarkedNodes, line: usize) -> Result<M
     nodes.into_element(tag, Attrs::new(alloc), line)
 }
 
-/// A document with a paragraph, and behind it a section with a title and a target.
+/// A document with a paragraph, and after it a section with a title and a target.
 fn document(alloc: Global) -> Result<Marked, TreeFault> {
     let text = Node::Text(Text::from_str(alloc, "T")?);
     let title = MarkedNodes::of(alloc, vec![in alloc; text]?)?;

@@ -1,4 +1,4 @@
-//! Directives, what their options and messages say, and the options of option lists.
+//! Directives, their options and messages, and the options of option lists.
 ghost use Rattle.rst_text.specs.Shown.{block_of};
 ghost use Rattle.rst_markup_blocks.specs.Parts.{IsCall};
 

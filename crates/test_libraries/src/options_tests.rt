@@ -56,7 +56,7 @@ const CHOICES: &[(&str, &str)] = &[
     ),
 ];
 
-/// Lines of arguments that are refused, by what is said of them.
+/// Lines of arguments that are refused, by the error text on them.
 const REFUSED: &[(&str, &[&str])] = &[
     (
         "bad level",

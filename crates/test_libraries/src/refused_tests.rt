@@ -280,7 +280,7 @@ fn line<'a>(view: &View<'a>, i: usize) -> &'a str {
     }
 }
 
-/// Ends the test where the view doesn't show the lines of a text.
+/// Ends the test where the view doesn't give the lines of a text.
 fn judge_view(rt: &impl Abort, view: &View<'_>, text: &str) {
     let mut wanted = text.split('\n');
     for i in 0..view.len() {
@@ -356,7 +356,7 @@ fn simples(rt: HostRuntime) {
     );
 }
 
-/// Ends the test where this isn't a note with an option, a line before the option and three lines behind it.
+/// Ends the test where this isn't a note with an option, a line before the option and three lines after it.
 fn judge_note(rt: &impl Abort, found: &Directive) {
     match found {
         Directive::Found {

@@ -47,7 +47,7 @@ const SIMPLES: &[(&str, &str)] = &[
     ),
 ];
 
-/// A cell as `[morerows morecols number:text; ..]`, spaces shown as `_`.
+/// A cell as `[morerows morecols number:text; ..]`, spaces written as `_`.
 fn show_cell(alloc: Global, out: &mut String, cell: Cell) -> Result<(), TextFault> {
     out.push_str(" [")?;
     push_number(out, cell.morerows)?;
@@ -72,7 +72,7 @@ fn push_number(out: &mut String, number: usize) -> Result<(), AllocError> {
     out.push_str(buffer.format(number))
 }
 
-/// A table as `T`, its end, widths, head rows and rows, each behind a `/`; what is wrong as `E`, the end and the detail.
+/// A table as `T`, its end, widths, head rows and rows, each after a `/`; what is wrong as `E`, the end and the detail.
 pub fn show(alloc: Global, table: TableResult) -> Result<String, TextFault> {
     let mut out = String::new(alloc);
     match table {

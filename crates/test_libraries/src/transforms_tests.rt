@@ -46,7 +46,7 @@ pub fn unresolved(alloc: Global) -> Result<Document, TreeFault> {
     document(alloc, nodes)
 }
 
-/// Ends the test where a document isn't finished as wanted: its tree as it is printed, and behind it each message.
+/// Ends the test where a document isn't finished as wanted: its tree as it is printed, and after it each message.
 fn judge(rt: &impl Abort, alloc: Global, document: Document, want: &str) -> Result<(), Fail> {
     let parsed = Parsed::of(alloc, document.into_node())?;
     let Finished { tree, notes, .. } = finish(alloc, parsed, &Settings::usual())?;

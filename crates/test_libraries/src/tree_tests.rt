@@ -15,7 +15,7 @@ use std::alloc::Global;
 use std::process::Abort;
 use std::test::Fail;
 
-/// What an attribute of a test's element says.
+/// The value of an attribute of a test's element.
 #[derive(Clone, Copy)]
 pub enum Says<'a> {
     Text(&'a str),
@@ -61,7 +61,7 @@ pub fn element<const N: usize>(
     })
 }
 
-/// An element that holds one text.
+/// An element that contains one text.
 pub fn holding(alloc: Global, tag: Tag, said: &str) -> Result<Node, TreeFault> {
     element(alloc, tag, &[], [text(alloc, said)?])
 }

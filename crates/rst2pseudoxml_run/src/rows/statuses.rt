@@ -1,4 +1,4 @@
-//! Which messages are shown, which halt the run, and the exit status.
+//! Which messages are printed, which halt the run, and the exit status.
 #![tactic(auto, unfolding(crate::proofs::Computing::rst2pseudoxml_run))]
 
 ghost use Rattle.std.specs.Prelude.{[], ◌∷◌};

@@ -4,7 +4,7 @@
 ghost use Rattle.std.specs.Prelude.{[], ◌∷◌};
 ghost use Rattle.rst2pseudoxml_run.specs.Written.{usual, Outputs, Reports};
 
-/// Substitution references give way to what their definitions hold (Markup Specification, 'Substitution Definitions').
+/// Substitution references give way to the content of their definitions (Markup Specification, 'Substitution Definitions').
 pub fn substitutions()
     ensures replaced { Outputs ("|a|!" ∷ "" ∷ ".. |a| replace:: b *c*" ∷ [])
         ("<document source=\"x\">" ∷ "    <paragraph>" ∷ "        b " ∷ "        <emphasis>" ∷ "            c" ∷ "        !"

@@ -1,4 +1,4 @@
-//! Worked examples of elements, as theorems on the definitions alone: the prover computes what blocks of texts and numbers that are written out say.
+//! Worked examples of elements, as theorems on the definitions alone: the prover computes the nodes of texts and numbers that are written out.
 #![tactic(auto, unfolding(crate::proofs::Computing::rst_block_nodes))]
 
 ghost use Rattle.std.specs.Prelude.{◌≡◌, [], ◌∷◌, map, option_map, true, false, None, Some, Err, codes, option_to_list};
@@ -143,7 +143,7 @@ pub fn labels()
     ensures substitution { Says (substitution_definition_node (codes "A b") 3 ∷ []) ("<substitution_definition own_name=\"A b\"> 3" ∷ []) }
 {}
 
-/// What may stand in a replacement text (Directives, 'Replacement Text').
+/// What a replacement text may contain (Directives, 'Replacement Text').
 pub fn replacements()
     ensures roles { may_replace (nodes_behind (codes "*a* **b** ``c`` :sub:`d` :sup:`e` `f` |g| h") 1 0
         (pieces_of (codes "*a* **b** ``c`` :sub:`d` :sup:`e` `f` |g| h"))) ≡ true }

@@ -44,7 +44,7 @@ pub fn nodes()
         ≡ codes "[\"block_quote\",5,{},[\"bullet_list\",5,{\"bullet\":\"-\"},[\"list_item\",5,{},[\"paragraph\",5,{},\"a\"]],[\"list_item\",6,{}]],[\"paragraph\",8,{},\"b\"]]" }
 {}
 
-/// Attributes: texts, numbers, lists, and what isn't shown (JSON, 'The document').
+/// Attributes: texts, numbers, lists, and what isn't printed (JSON, 'The document').
 pub fn attributes()
     ensures text { json_attr (attr key.Title (Text (codes "a \"b\""))) ≡ codes "\"title\":\"a \\\"b\\\"\"" ∷ [] }
     ensures empty_text { json_attr (attr key.Alt (Text [])) ≡ codes "\"alt\":\"\"" ∷ [] }

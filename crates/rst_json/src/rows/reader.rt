@@ -25,7 +25,7 @@ pub fn attributes()
     ensures list { reads (codes "[\"entry\",1,{\"ids\":[\"a\"]}]") ≡ Some (Element tag.Entry (attr key.Ids (Listed (codes "a" ∷ [])) ∷ []) bare 1) }
 {}
 
-/// What a tree's JSON gives: the tree, without the attributes that aren't shown (JSON, 'The document').
+/// What a tree's JSON gives: the tree, without the attributes that aren't printed (JSON, 'The document').
 pub fn trees_given_back()
     ensures without_what_is_not_shown { reads (json_node (Element tag.Target (attr key.Ids (Listed (codes "a" ∷ [])) ∷ attr key.Names (Listed []) ∷ attr key.Rawsource (Text (codes "b"))
         ∷ attr key.Refuri (Text (codes "c\"\\\n\t")) ∷ attr key.Scale (Number 7) ∷ [])

@@ -54,7 +54,7 @@ pub fn anonymous()
     ensures line_of_a_target { first_line [] (linked_of (document_of (Element Target [] bare 3 ∷ Element Target [] bare 4 ∷ []))) ≡ 3 }
 {}
 
-/// Indirect targets: those that fail, and what becomes of the references to them (Markup Specification, 'Hyperlink Targets').
+/// Indirect targets: those that fail, and what happens to the references to them (Markup Specification, 'Hyperlink Targets').
 pub fn indirect()
     ensures name { map indirect_name (element Target (says Refname "b" ∷ []) [] ∷ element Reference (says Refname "b" ∷ []) []
         ∷ element Target [] [] ∷ [])

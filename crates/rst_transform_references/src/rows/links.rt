@@ -1,4 +1,4 @@
-//! Worked examples of the elements that references join, of what becomes of those that fail, of the orders of footnotes, and of where names lead, as
+//! Worked examples of the elements that references join, of how those that fail end, of the orders of footnotes, and of where names lead, as
 //! theorems on the definitions alone.
 #![tactic(auto, unfolding(crate::proofs::Computing::rst_transform_references))]
 
@@ -69,7 +69,7 @@ pub fn holders()
         ≡ None ∷ None ∷ None ∷ [] }
 {}
 
-/// What becomes of the elements (Markup Specification, 'Hyperlink Targets').
+/// What happens to the elements (Markup Specification, 'Hyperlink Targets').
 pub fn outcomes()
     ensures addition { Shows (changed_document (adds (Some (says Refuri "u")) ∷ Stays None (Some (codes "1"))
         ∷ []) (document_of (element Reference [] (text "a" ∷ []) ∷ element Label [] (text "x" ∷ []) ∷ [])))

@@ -1,4 +1,4 @@
-//! Worked examples of references by name and of what footnotes and citations tell of them, as theorems on the definitions alone.
+//! Worked examples of references by name and of what footnotes and citations list of them, as theorems on the definitions alone.
 #![tactic(auto, unfolding(crate::proofs::Computing::rst_transform_references))]
 
 ghost use Rattle.std.specs.Prelude.{◌≡◌, true, false, Some, None, codes, [], ◌∷◌, length, map};
@@ -48,7 +48,7 @@ pub fn meanings()
         ≡ Unknown }
 {}
 
-/// What becomes of a reference, by what its name means (Markup Specification, 'Hyperlink References').
+/// What happens to a reference, by what its name means (Markup Specification, 'Hyperlink References').
 pub fn outcomes()
     ensures leads { (known : Known) → (outcome_of [] (element Reference (says Refname "a" ∷ []) []) (Leads (says Refuri "u") None) known).0
         ≡ adds (Some (says Refuri "u")) }
@@ -63,7 +63,7 @@ pub fn outcomes()
     ensures gone { (known : Known) → outcome_unless true [] (element Reference (says Refname "a" ∷ []) []) (Some Unknown) known ≡ (adds None, known) }
 {}
 
-/// What the messages on references say, and on which lines (Markup Specification, 'Hyperlink References').
+/// The texts of the messages on references, and their lines (Markup Specification, 'Hyperlink References').
 pub fn messages()
     ensures unknown { map (λ r. r.text) (outcome_of [] (element Reference (says Refname "a b" ∷ []) []) Unknown (knowing [])).1.reports
         ≡ codes "Unknown target name: \"a b\"." ∷ [] }
@@ -87,7 +87,7 @@ pub fn resolved()
         ∷ "    <reference refuri=\"u\">" ∷ "        u" ∷ []) }
 {}
 
-/// What footnotes and citations tell of the references to them (Document Tree, 'Attribute Reference').
+/// What footnotes and citations list of the references to them (Document Tree, 'Attribute Reference').
 pub fn backrefs()
     ensures in_order { with_backrefs (Some 2 ∷ Some 3 ∷ None ∷ None ∷ Some 2
         ∷ []) (linked_of (document_of (element FootnoteReference (lists Ids ("r1" ∷ []) ∷ []) [] ∷ element CitationReference (lists Ids ("r2" ∷ [])

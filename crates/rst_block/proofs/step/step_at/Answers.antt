@@ -20,7 +20,7 @@ use Rattle.rst_block.proofs.step.step_at.Goals as goal
 pub text_line-requires-clause-text : goal.text_line-requires-clause-text
 text_line-requires-clause-text c = rw c.new.ensures.items (next_of Text c.args.level.now (block_of c.args.view.now) c.in-Text.ensures.begun tt)
 
--- a line that is blank is passed, and those behind it
+-- a line that is blank is passed, and those after it
 blank_more : (X : Block) → 1 ≤ length X → IsBegun X Blank → lines_while BlankTest X ≡ suc (lines_while BlankTest (drop 1 X))
 unfolding lines_while
 blank_more [] some h = absurd (omega arith)

@@ -20,7 +20,7 @@ returns-then-from-indented c =
     let end : c.block_end-indented.result.end ≡ c.args.from + extent 1 Y = ap (λ e. e.end) c.block_end-indented.ensures.extent in
     search (arith, literal_indented Y (omega arith), looked_indented Y (omega arith))
 
--- the blank lines that were looked at, and the line behind them
+-- the blank lines that were looked at, and the line after them
 behind_blank : (from k b : ℕ) (B : Block) → k ≡ from + b → drop k B ≡ drop b (drop from B)
 behind_blank from k b B e = ap (λ j. drop j B) e ∙ drop_far from b B
 

@@ -7,7 +7,7 @@ use Rattle.rst_transform_references.specs.Linkings.{held}
 use Rattle.rst_transform_references.specs.Resolving.{resolved_from}
 use Rattle.rst_transform_references.proofs.resolve.resolved.Given as goal
 
--- the outcomes so far, and then what becomes of the elements that are left, are what becomes of all
+-- the outcomes so far, and then what happens to the elements that are left, are what happens to all
 abbrev pub invariant-loop-one : goal.invariant-loop-one
 invariant-loop-one l =
     (after : Context) (rest : List Outcome) → Makes (resolved_from (place_at l.holders.places.items) (map held l.holders.linked.now) l.ended.items (map held (drop l.one-index l.holders.linked.now))) l.context after rest
