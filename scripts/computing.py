@@ -61,7 +61,7 @@ def text_of(crate, libraries):
 
 def records(crate):
     """The fields of each record of equations in the definitions of a crate, by its name."""
-    for path in sorted((TOP / "crates" / crate / "specs").glob("*.antt")):
+    for path in sorted((TOP / "crates" / crate / "specs").rglob("*.antt")):
         for name, fields in re.findall(r"^pub record (\w+) .*where\n((?:  .*\n)+)", path.read_text(), re.M):
             yield name, re.findall(r"^  pub (\w+) :", fields, re.M)
 

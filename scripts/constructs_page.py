@@ -32,7 +32,7 @@ ROWS = [
     ("Line blocks", "is_bar_row line_bar", "indented_size", "line_nodes indented_lines indented_line indentation_of bar_lines"),
     ("Grid tables", "is_grid_row is_grid_border", "grid_size grid_bottom is_border_at", "table_nodes table_node head_nodes row_of entry_of"),
     ("Simple tables", "is_simple_row is_simple_border", "simple_size simple_bottom head_border closes_head border_below", "table_nodes"),
-    ("Explicit markup", "is_explicit_row dots", "explicit_size", "explicit_of behind_dots dots_alone explicit_by markup_nodes markup_by"),
+    ("Explicit markup", "is_explicit_row dots", "explicit_size", "explicit_of after_dots dots_alone explicit_by markup_nodes markup_by"),
     ("Anonymous targets", "is_anonymous_row underscores", "indented_size", "anonymous_of markup_by"),
     ("Titles with overlines, transitions", "is_adornment_row adornment_of", "adornment_size adorned_size",
      "adorned_form adorned_over adorned_alone adorned_below over_title adorned_by overlined_nodes transition_node"),
@@ -45,11 +45,12 @@ DEFINITION = re.compile(r"((?:^--(?! ----).*\n)*)^(?:abbrev|unfoldable) pub (\w+
 def definitions():
     """Of each name: the definitions of it, each with its crate and file, its comment, and its lines."""
     found = {}
-    for path in sorted(TOP.glob("crates/rst_*/specs/*.antt")):
+    for path in sorted(TOP.glob("crates/rst_*/specs/**/*.antt")):
         for match in DEFINITION.finditer(path.read_text()):
             comment = re.sub(r"\s+", " ", match[1].replace("--", " ")).strip()
             code = match[0][len(match[1]) :].rstrip().splitlines()
-            found.setdefault(match[2], []).append((f"{path.parts[-3]}::{path.stem}", comment, code))
+            crate = path.relative_to(TOP / "crates").parts[0]
+            found.setdefault(match[2], []).append((f"{crate}::{path.stem}", comment, code))
     return found
 
 

@@ -1,5 +1,5 @@
 //! Runs over long lines and long substitutions: what is at a limit, and one more.
-use super::rows::{joined, shown};
+use super::rows::{output_of, repeated_texts};
 use itoa::Buffer;
 use std::alloc::Global;
 use std::process::Abort;
@@ -16,9 +16,9 @@ fn compare(
     out: &[(&str, usize)],
     err: &str,
 ) -> Result<(), Fail> {
-    let input = joined(alloc, input)?;
-    let found = shown(alloc, "", input.as_bytes())?;
-    let out = joined(alloc, out)?;
+    let input = repeated_texts(alloc, input)?;
+    let found = output_of(alloc, "", input.as_bytes())?;
+    let out = repeated_texts(alloc, out)?;
     assert_eq!(rt; str::from_utf8(found.err.as_slice())?, err);
     assert_eq!(rt; str::from_utf8(found.out.as_slice())?, out.as_str());
     Ok(())
@@ -133,7 +133,7 @@ fn chain(alloc: Global, last: usize) -> Result<String, Fail> {
 #[test]
 fn expands_in_100_steps(rt: HostRuntime) -> Result<(), Fail> {
     let alloc = rt.alloc();
-    let found = shown(alloc, "", chain(alloc, 100)?.as_bytes())?;
+    let found = output_of(alloc, "", chain(alloc, 100)?.as_bytes())?;
     assert!(rt; found.err.is_empty());
     let out = str::from_utf8(found.out.as_slice())?;
     assert!(rt;
@@ -141,7 +141,7 @@ fn expands_in_100_steps(rt: HostRuntime) -> Result<(), Fail> {
             "<document source=\"<stdin>\">\n    <paragraph>\n        x\n    <substitution_definition"
         )
     );
-    let found = shown(alloc, "", chain(alloc, 101)?.as_bytes())?;
+    let found = output_of(alloc, "", chain(alloc, 101)?.as_bytes())?;
     assert_eq!(rt;
         str::from_utf8(found.err.as_slice())?,
         "<stdin>:1: (ERROR/3) Substitution expansion too large: \"a1\".\n<stdin>:3: (ERROR/3) Substitution expansion too large: \"a2\".\n"

@@ -49,7 +49,7 @@ fn started<E: Write>(rt: &HostRuntime, err: &mut Counted<E>) -> Stop
         let mut input = Counted::of(rt.stdin());
         return Stop::Ran(run(alloc, &settings, "<stdin>", &mut input, &mut out, err));
     };
-    match opened(rt, source.as_str()) {
+    match open_source(rt, source.as_str()) {
         Ok(file) => {
             let mut input = Counted::of(file);
             Stop::Ran(run(alloc, &settings, source.as_str(), &mut input, &mut out, err))
@@ -61,7 +61,7 @@ fn started<E: Write>(rt: &HostRuntime, err: &mut Counted<E>) -> Stop
 /// The file of this name, opened to be read.
 // The room for its path is off the stack while a document is read.
 #[inline(never)]
-fn opened(rt: &HostRuntime, name: &str) -> Result<File, Error> {
+fn open_source(rt: &HostRuntime, name: &str) -> Result<File, Error> {
     File::open(rt, name)
 }
 

@@ -35,7 +35,7 @@ fn words_of(alloc: Global, text: &str) -> Result<Vec<String>, Fail> {
 }
 
 /// Texts joined, each repeated by its number.
-pub(super) fn joined(alloc: Global, texts: &[(&str, usize)]) -> Result<String, Fail> {
+pub(super) fn repeated_texts(alloc: Global, texts: &[(&str, usize)]) -> Result<String, Fail> {
     let mut all = String::new(alloc);
     for (text, times) in texts {
         for _ in 0..*times {
@@ -46,7 +46,7 @@ pub(super) fn joined(alloc: Global, texts: &[(&str, usize)]) -> Result<String, F
 }
 
 /// Runs over an input in memory, as the program does over standard input.
-pub(super) fn shown(alloc: Global, words: &str, input: &[u8]) -> Result<Output, Fail> {
+pub(super) fn output_of(alloc: Global, words: &str, input: &[u8]) -> Result<Output, Fail> {
     let words = words_of(alloc, words)?;
     let mut input = Counted::of(input);
     let mut out = Vec::new(alloc);
@@ -68,7 +68,7 @@ pub(super) fn shown(alloc: Global, words: &str, input: &[u8]) -> Result<Output, 
 /// Compares what is printed for each row's input with what the row expects.
 pub(super) fn compare(alloc: Global, rows: &[Row], rt: &impl Abort) -> Result<(), Fail> {
     for row in rows {
-        let Output { out, err, status } = shown(alloc, row.words, row.input.as_bytes())?;
+        let Output { out, err, status } = output_of(alloc, row.words, row.input.as_bytes())?;
         let name = row.name;
         assert_eq!(rt; str::from_utf8(out.as_slice())?, row.out, "{name}");
         assert_eq!(rt; str::from_utf8(err.as_slice())?, row.err, "{name}");

@@ -14,7 +14,7 @@ use std::test::Fail;
 /// A writer that takes at most `step` bytes a call and `room` in all. Once full it takes 0 bytes, or fails.
 #[derive(Drop)]
 struct Narrow {
-    held: Vec<u8>,
+    written: Vec<u8>,
     room: usize,
     step: usize,
     fails: bool,
@@ -23,7 +23,7 @@ struct Narrow {
 impl Narrow {
     fn new(alloc: Global, room: usize, step: usize, fails: bool) -> Narrow {
         Narrow {
-            held: Vec::new(alloc),
+            written: Vec::new(alloc),
             room,
             step,
             fails,
@@ -32,14 +32,14 @@ impl Narrow {
 }
 
 impl Write for Narrow {
-    ghost contents = { λ w. Some w.held.items };
+    ghost contents = { λ w. Some w.written.items };
 
     fn write(&mut self, buf: &[u8]) -> Result<usize> {
         let n = buf.len().min(self.room).min(self.step);
         if n == 0 && self.fails {
             return Err(Error::from(ErrorKind::StorageFull));
         }
-        self.held.extend_from_slice(&buf[..n])?;
+        self.written.extend_from_slice(&buf[..n])?;
         self.room -= n;
         Ok(n)
     }
@@ -145,7 +145,7 @@ fn shows_texts(rt: HostRuntime) -> std::result::Result<(), Fail> {
     for (text, want) in rows {
         let (end, out) = run_into(rt.alloc(), text, wide(rt.alloc()));
         assert_eq!(rt; end, End::Done(0));
-        assert_eq!(rt; out.held.as_slice(), want.as_bytes());
+        assert_eq!(rt; out.written.as_slice(), want.as_bytes());
     }
     Ok(())
 }
@@ -163,7 +163,7 @@ fn refuses_texts(rt: HostRuntime) -> std::result::Result<(), Fail> {
     for (text, want) in rows {
         let (end, out) = run_into(rt.alloc(), text, wide(rt.alloc()));
         assert_eq!(rt; end, want);
-        assert!(rt; out.held.is_empty());
+        assert!(rt; out.written.is_empty());
     }
     Ok(())
 }
@@ -176,13 +176,13 @@ fn keeps_what_a_narrow_writer_took(rt: HostRuntime) -> std::result::Result<(), F
                 let narrow = Narrow::new(rt.alloc(), room, step, fails);
                 let (end, out) = run_into(rt.alloc(), b"Hello, world", narrow);
                 assert_eq!(rt; end, End::WriteOut { done: room });
-                assert_eq!(rt; out.held.as_slice(), &HELLO.as_bytes()[..room]);
+                assert_eq!(rt; out.written.as_slice(), &HELLO.as_bytes()[..room]);
             }
         }
         let narrow = Narrow::new(rt.alloc(), 65, step, true);
         let (end, out) = run_into(rt.alloc(), b"Hello, world", narrow);
         assert_eq!(rt; end, End::Done(0));
-        assert_eq!(rt; out.held.as_slice(), HELLO.as_bytes());
+        assert_eq!(rt; out.written.as_slice(), HELLO.as_bytes());
     }
     Ok(())
 }
@@ -197,8 +197,8 @@ fn keeps_what_a_narrow_error_writer_took(rt: HostRuntime) -> std::result::Result
                 let err = Narrow::new(rt.alloc(), room, step, fails);
                 let (end, out, err) = run_between(rt.alloc(), &mut input, wide(rt.alloc()), err);
                 assert_eq!(rt; end, End::WriteErr { done: room });
-                assert_eq!(rt; err.held.as_slice(), &message.as_bytes()[..room]);
-                assert!(rt; out.held.is_empty());
+                assert_eq!(rt; err.written.as_slice(), &message.as_bytes()[..room]);
+                assert!(rt; out.written.is_empty());
             }
         }
     }
@@ -245,7 +245,7 @@ fn reads_to_the_limit(rt: HostRuntime) {
 /// As many line ends as an input may have bytes are blank lines.
 #[test]
 fn reads_line_ends_to_the_limit(rt: HostRuntime) {
-    for (left, want, shown) in [
+    for (left, want, printed) in [
         (
             16_777_216usize,
             End::Done(0),
@@ -263,17 +263,17 @@ fn reads_line_ends_to_the_limit(rt: HostRuntime) {
         });
         let (end, out, _) = run_between(rt.alloc(), &mut input, wide(rt.alloc()), wide(rt.alloc()));
         assert_eq!(rt; end, want);
-        assert_eq!(rt; out.held.as_slice(), shown.as_bytes());
+        assert_eq!(rt; out.written.as_slice(), printed.as_bytes());
     }
 }
 
 /// A reader that gives some bytes and then fails.
 #[derive(Drop)]
-struct Front {
+struct FailingReader {
     left: &'static [u8],
 }
 
-impl Read for Front {
+impl Read for FailingReader {
     fn read(&mut self, buf: &mut [u8]) -> Result<usize> {
         if self.left.is_empty() {
             return Err(Error::from(ErrorKind::UnexpectedEof));
@@ -302,7 +302,7 @@ fn run_whole(alloc: Global, out_room: usize, err_room: usize) -> (End, Narrow, N
 #[test]
 fn tells_each_failed_read_of_the_document(rt: HostRuntime) {
     for n in 0..DOCUMENT.len() + 1 {
-        let mut input = Counted::of(Front {
+        let mut input = Counted::of(FailingReader {
             left: &DOCUMENT.as_bytes()[..n],
         });
         let (end, out, err) = run_between(
@@ -312,7 +312,7 @@ fn tells_each_failed_read_of_the_document(rt: HostRuntime) {
             wide(rt.alloc()),
         );
         assert_eq!(rt; end, End::Read);
-        assert!(rt; out.held.is_empty() && err.held.is_empty());
+        assert!(rt; out.written.is_empty() && err.written.is_empty());
     }
 }
 
@@ -321,15 +321,15 @@ fn tells_each_failed_read_of_the_document(rt: HostRuntime) {
 fn keeps_what_was_taken_of_the_document(rt: HostRuntime) {
     let (end, tree, messages) = run_whole(rt.alloc(), 40_000, 40_000);
     assert_eq!(rt; end, End::Done(0));
-    let (tree, messages) = (tree.held.as_slice(), messages.held.as_slice());
+    let (tree, messages) = (tree.written.as_slice(), messages.written.as_slice());
     for room in 0..tree.len() {
         if room % 499 != 0 {
             continue;
         }
         let (end, out, err) = run_whole(rt.alloc(), room, 40_000);
         assert_eq!(rt; end, End::WriteOut { done: room });
-        assert_eq!(rt; out.held.as_slice(), &tree[..room]);
-        assert_eq!(rt; err.held.as_slice(), messages);
+        assert_eq!(rt; out.written.as_slice(), &tree[..room]);
+        assert_eq!(rt; err.written.as_slice(), messages);
     }
     for room in 0..messages.len() {
         if room % 97 != 0 {
@@ -337,8 +337,8 @@ fn keeps_what_was_taken_of_the_document(rt: HostRuntime) {
         }
         let (end, out, err) = run_whole(rt.alloc(), 40_000, room);
         assert_eq!(rt; end, End::WriteErr { done: room });
-        assert_eq!(rt; err.held.as_slice(), &messages[..room]);
-        assert!(rt; out.held.is_empty());
+        assert_eq!(rt; err.written.as_slice(), &messages[..room]);
+        assert!(rt; out.written.is_empty());
     }
 }
 
@@ -436,7 +436,7 @@ fn reports_each_stop(rt: HostRuntime) -> std::result::Result<(), Fail> {
         for step in [1usize, 1000] {
             let mut err = Counted::of(Narrow::new(rt.alloc(), 100, step, true));
             assert_eq!(rt; report(stop, &mut err), *status);
-            assert_eq!(rt; err.inner().held.as_slice(), want.as_bytes());
+            assert_eq!(rt; err.inner().written.as_slice(), want.as_bytes());
             assert!(rt; !err.failed());
         }
         let mut full = Counted::of(Narrow::new(rt.alloc(), 10, 4, false));

@@ -8,7 +8,7 @@ use Rattle.rst_settings.specs.declared.Settings.{Settings}
 use Rattle.rst2pseudoxml_options.specs.declared.fault.OptionFault.{OptionFault}
 use Rattle.rst2pseudoxml_options.specs.declared.fault.OptionFault.TheVariants.{Usage, NoMemory}
 use Rattle.rst2pseudoxml_options.specs.Command.{fault_of, faults_at, rows_at}
-use Rattle.rst2pseudoxml_options.specs.Options.{Chooses, choice_of, is_dashed, options_of, refuses, with_source}
+use Rattle.rst2pseudoxml_options.specs.Options.{Chooses, choice_of, is_dashed, options_of, refuses, with_source_operand}
 use Rattle.rst2pseudoxml_options.proofs.CommandLemmas.{some_kind}
 
 refused-by : (kinds : Kinds) (words : List Text) → kinds ≢ [] → faults_at words ≡ kinds → options_of words ≡ Err Usage
@@ -30,7 +30,7 @@ unfolding options_of
 dashed words h = rw (h, or-true (refuses (faults_at words)))
 
 -- all others choose what their values do
-pub taken : (words : List Text) → faults_at words ≡ [] → is_dashed (first_of (codes "source") (rows_at words)) ≡ false → options_of words ≡ with_source (first_of (codes "source") (rows_at words)) (choice_of (rows_at words))
+pub taken : (words : List Text) → faults_at words ≡ [] → is_dashed (first_of (codes "source") (rows_at words)) ≡ false → options_of words ≡ with_source_operand (first_of (codes "source") (rows_at words)) (choice_of (rows_at words))
 unfolding options_of
 taken words none plain = rw (none, plain)
 

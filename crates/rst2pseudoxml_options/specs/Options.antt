@@ -24,8 +24,8 @@ pub record Choice : Type 0 where
   pub limit : ℕ
 
 -- the values of these settings
-abbrev pub said_by : Settings → Choice
-said_by settings = record {
+abbrev pub choice_by : Settings → Choice
+choice_by settings = record {
   report = settings.report;
   halt = settings.halt;
   exit = settings.exit;
@@ -42,8 +42,8 @@ usual = record { report = Warning; halt = Severe; exit = Never; title = true; in
 -- ---- options that a level comes from
 
 -- `-v` reports all messages, `-q` none
-abbrev pub report_of : List Row → Threshold → Threshold
-report_of rows otherwise = if is_on (codes "verbose") rows then Info else (if is_on (codes "quiet") rows then Never else otherwise)
+abbrev pub report_threshold : List Row → Threshold → Threshold
+report_threshold rows otherwise = if is_on (codes "verbose") rows then Info else (if is_on (codes "quiet") rows then Never else otherwise)
 
 -- `--strict` halts at any message
 abbrev pub halt_of : List Row → Threshold → Threshold
@@ -81,7 +81,7 @@ choice_of rows = first_fault
     (limit_or (first_of (codes "line-length-limit") rows) usual.limit)
     (has_two_levels rows)
     (λ report halt exit tab limit. record {
-      report = report_of rows report;
+      report = report_threshold rows report;
       halt = halt_of rows halt;
       exit = exit;
       title = not (is_on (codes "no-doc-title") rows);
@@ -92,7 +92,7 @@ choice_of rows = first_fault
 
 -- The settings are those that the values choose, or the fault is their first.
 abbrev pub Settles : List Row → Result Settings OptionFault → Type 0
-Settles rows (Ok settings) = choice_of rows ≡ Ok (said_by settings)
+Settles rows (Ok settings) = choice_of rows ≡ Ok (choice_by settings)
 Settles rows (Err fault) = choice_of rows ≡ Err fault
 
 -- ---- the whole line
@@ -111,19 +111,19 @@ abbrev pub is_misused : List Text → Bool
 is_misused words = refuses (faults_at words) || is_dashed (first_of (codes "source") (rows_at words))
 
 -- a choice together with the source, or the fault
-abbrev pub with_source : Option Text → Result Choice OptionFault → Result (Choice × Option Text) OptionFault
-with_source source (Ok choice) = Ok (choice, source)
-with_source source (Err fault) = Err fault
+abbrev pub with_source_operand : Option Text → Result Choice OptionFault → Result (Choice × Option Text) OptionFault
+with_source_operand source (Ok choice) = Ok (choice, source)
+with_source_operand source (Err fault) = Err fault
 
 -- what the words choose and SOURCE, or the first fault
 unfoldable pub options_of : List Text → Result (Choice × Option Text) OptionFault
 options_of words =
     if is_misused words then Err Usage
-    else with_source (first_of (codes "source") (rows_at words)) (choice_of (rows_at words))
+    else with_source_operand (first_of (codes "source") (rows_at words)) (choice_of (rows_at words))
 
 -- The settings and the source are what the words choose, each fault is just the first of the words, and memory may
 -- run out at any point.
 abbrev pub Chooses : {A : Type 0} → List Text → Result (Settings × Option (String A)) OptionFault → Type 0
-Chooses words (Ok answer) = options_of words ≡ Ok (said_by answer.0, option_map string_bytes answer.1)
+Chooses words (Ok answer) = options_of words ≡ Ok (choice_by answer.0, option_map string_bytes answer.1)
 Chooses words (Err NoMemory) = Unit {0}
 Chooses words (Err fault) = options_of words ≡ Err fault

@@ -5,7 +5,7 @@ use Rattle.std.specs.Prelude.{if◌then◌else◌}
 use Rattle.rst_settings.specs.declared.Settings.{Settings}
 use Rattle.rst_settings.specs.Threshold.{is_reached}
 use Rattle.rst_tree.specs.LevelNames.{level_number}
-use Rattle.rst2pseudoxml_run.specs.Shown.{last_level, if_reached, halting}
+use Rattle.rst2pseudoxml_run.specs.RunResult.{last_level, if_reached, halting}
 
 pub last_level_some : (notes : List Note) (note : Note) → slice_get notes (length notes - 1) ≡ Some note → last_level notes ≡ Some note.level
 last_level_some [] note e = cc

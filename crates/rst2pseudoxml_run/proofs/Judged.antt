@@ -8,7 +8,7 @@ use Rattle.rst_text.specs.Text.{text_of}
 use Rattle.rst_tree.specs.declared.node.Node.{Node}
 use Rattle.rst2pseudoxml_run.specs.declared.end.End.TheVariants.{TooLong}
 use Rattle.rst2pseudoxml_run.specs.Reading.{read_of}
-use Rattle.rst2pseudoxml_run.specs.Shown.{is_judged, result_of_read, result_of_text, IsJudged}
+use Rattle.rst2pseudoxml_run.specs.RunResult.{is_judged, result_of_read, result_of_text, IsJudged}
 
 module _ (profile : Profile) (settings : Settings) (source bytes : List ℕ) where
   by_read : (read : Result (Node × ℕ) ℕ) → is_judged (result_of_read profile settings source read) ≡ true

@@ -12,14 +12,14 @@ use Rattle.rst_tree.specs.declared.node.Node.{Node}
 use Rattle.rst_transform.specs.Finishing.{leaves}
 use Rattle.rst2pseudoxml_run.specs.CodeCalls.{IsWithoutCode}
 use Rattle.rst2pseudoxml_run.specs.declared.end.End.TheVariants.{TooDeep}
-use Rattle.rst2pseudoxml_run.specs.Profiles.{first_profile, list_of, titled_of, CallsNoCode, HasNoList, ProfilesAgree}
+use Rattle.rst2pseudoxml_run.specs.Profiles.{first_profile, leading_field_list, titled_of, CallsNoCode, HasNoList, ProfilesAgree}
 use Rattle.rst2pseudoxml_run.specs.Reading.{read_by, read_of}
-use Rattle.rst2pseudoxml_run.specs.Shown.{parts_of, result_of_read, result_of_text}
+use Rattle.rst2pseudoxml_run.specs.RunResult.{parts_of, result_of_read, result_of_text}
 use Rattle.rst2pseudoxml_run.proofs.ProfilesCalls.{calls_agree}
 use Rattle.rst2pseudoxml_run.proofs.ProfilesCuts.{cells_keep, opened_keep}
 use Rattle.rst2pseudoxml_run.proofs.ProfilesLevels.{documents_follow}
 use Rattle.rst2pseudoxml_run.proofs.ProfilesDocinfo.{left_alike, left_without_list}
-use Rattle.rst2pseudoxml_run.proofs.ShownLemmas.{long_result, short_result}
+use Rattle.rst2pseudoxml_run.proofs.RunResultLemmas.{long_result, short_result}
 
 -- what is read is a document, or is refused
 read_or_refused : {A B R : Type 0} (read : Result A B) → ((one : A) → read ≡ Ok one → R) → ((line : B) → read ≡ Err line → R) → R
@@ -43,7 +43,7 @@ module _ (settings : Settings) where
       ap (λ n. read_by (first_longer n lines) (profile_of settings) lines) limit ∙ read_follows (first_longer 10000 lines) lines r free is
 
   -- what is left of a document
-  left : (read : Node × ℕ) → (settings.info ≡ false) ⊎ (list_of (titled_of read.1 settings read.0) ≡ None)
+  left : (read : Node × ℕ) → (settings.info ≡ false) ⊎ (leading_field_list (titled_of read.1 settings read.0) ≡ None)
       → leaves read.1 first_profile settings read.0 ≡ leaves read.1 (profile_of settings) settings read.0
   left read (inl off) = left_alike settings read.1 read.0 first_profile (profile_of settings) (sym off)
   left read (inr none) = left_without_list settings read.1 read.0 first_profile (profile_of settings) none
@@ -51,7 +51,7 @@ module _ (settings : Settings) where
   module _ (source bytes : List ℕ) (limit : settings.limit ≡ 10000) where
     -- the result of lines, where they aren't refused under the first profile
     lines_alike : (lines : Block) → IsWithoutCode lines → ((line : ℕ) → read_of first_profile lines ≡ Err line → ⊥)
-        → ((read : Node × ℕ) → read_of first_profile lines ≡ Ok read → (settings.info ≡ false) ⊎ (list_of (titled_of read.1 settings read.0) ≡ None))
+        → ((read : Node × ℕ) → read_of first_profile lines ≡ Ok read → (settings.info ≡ false) ⊎ (leading_field_list (titled_of read.1 settings read.0) ≡ None))
         → result_of_read first_profile settings source (read_of first_profile lines) ≡ result_of_read (profile_of settings) settings source (read_of (profile_of settings) lines)
     lines_alike lines free nests apart = read_or_refused (read_of first_profile lines)
         (λ read is.

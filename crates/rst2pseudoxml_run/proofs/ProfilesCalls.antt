@@ -3,9 +3,9 @@ use Rattle.std.proofs.Common.{◌≡◌, ℕ, zero, suc, ◌+◌, Bool, true, fa
 use Rattle.std.proofs.lemmas.List.{drop-drop}
 use Rattle.std.specs.Option.{option_and_then}
 use Rattle.rst_text.proofs.Choices.{none_is}
-use Rattle.rst_text.specs.Block.{Block, front_text, is_blank}
-use Rattle.rst_markup_lines.specs.ExplicitMarks.{colons, directive_by, directive_of, dots, label_of, substitution_of, target_of}
-use Rattle.rst_markup_lines.specs.Front.{begins_with}
+use Rattle.rst_text.specs.Block.{Block, first_text, is_blank}
+use Rattle.rst_markup_lines.specs.ExplicitMarks.{colons, directive_mark_by, directive_mark_of, dots, label_of, substitution_of, target_of}
+use Rattle.rst_markup_lines.specs.TextStart.{begins_with}
 use Rattle.rst_markup_lines.specs.Marker.{marker_of}
 use Rattle.rst_markup_lines.specs.Place.{place_of}
 use Rattle.rst_markup_lines.specs.declared.explicit_marks.DirectiveMark.{DirectiveMark}
@@ -19,7 +19,7 @@ use Rattle.rst_markup_lines.specs.declared.explicit_marks.TargetMark.TheVariants
 use Rattle.rst_markup_lines.specs.declared.marker.Marker.{Marker}
 use Rattle.rst_markup_lines.specs.declared.place.Characters.{Characters}
 use Rattle.rst_markup_blocks.specs.Conditions.{next_text}
-use Rattle.rst_markup_blocks.specs.Explicit.{anonymous_of, behind_dots, call_by, call_of, dots_alone, explicit_by, explicit_of, explicit_with, held_of, label_with, substitution_with, target_with}
+use Rattle.rst_markup_blocks.specs.Explicit.{anonymous_of, after_dots, call_by, call_of, dots_alone, explicit_by, explicit_of, explicit_with, embedded_directive, label_with, substitution_with, target_with}
 use Rattle.rst_markup_blocks.specs.ExplicitMarkup.{comment_cause, explicit_form, first_form, hanging_part, substitution_form}
 use Rattle.rst_markup_blocks.specs.Sizes.{hanging_size}
 use Rattle.rst_markup_blocks.specs.declared.explicit_markup.ExplicitForm.TheVariants.{Label, Target as TargetForm, Directive as DirectiveForm, Comment as CommentForm}
@@ -56,7 +56,7 @@ colons_follow len n t mark h = by (begins_with 58 (drop n t)) (begins_with 58 (d
     by false b k = absurd (none_is k)
 
 -- n characters are the name
-marked_call : (spaced : Bool) (n : ℕ) (t : Text) (mark : DirectiveMark) → directive_by spaced n t ≡ Some mark → begins_call (drop mark.len t) ≡ true
+marked_call : (spaced : Bool) (n : ℕ) (t : Text) (mark : DirectiveMark) → directive_mark_by spaced n t ≡ Some mark → begins_call (drop mark.len t) ≡ true
 unfolding begins_call
 marked_call spaced n t mark h = by (n == 0) (spaced && begins_with 32 (drop n t)) refl h
   where
@@ -77,8 +77,8 @@ marked_call spaced n t mark h = by (n == 0) (spaced && begins_with 32 (drop n t)
         subst (λ i. begins_call (drop i t) ≡ true) (sym c.2) (or_left _ _ (two n c.0 c.1))
 
 -- after the name in the mark of a directive follows a call
-marks_are_calls : (spaced : Bool) (t : Text) (mark : DirectiveMark) → directive_of spaced t ≡ Some mark → begins_call (drop mark.len t) ≡ true
-unfolding directive_of
+marks_are_calls : (spaced : Bool) (t : Text) (mark : DirectiveMark) → directive_mark_of spaced t ≡ Some mark → begins_call (drop mark.len t) ≡ true
+unfolding directive_mark_of
 marks_are_calls spaced t mark h = marked_call spaced _ t mark h
 
 -- a directive that explicit markup calls in a line is called there
@@ -89,20 +89,20 @@ IsMarkupIn t _ = Unit {0}
 
 module _ (i : ℕ) (X : Block) where
   abbrev t : Text
-  t = front_text X
+  t = first_text X
 
   -- a call after n characters of the line
-  called_after : (n : ℕ) (spaced : Bool) (mark : DirectiveMark) → directive_of spaced (drop n t) ≡ Some mark → IsCalledIn t (call_of i n mark X)
+  called_after : (n : ℕ) (spaced : Bool) (mark : DirectiveMark) → directive_mark_of spaced (drop n t) ≡ Some mark → IsCalledIn t (call_of i n mark X)
   called_after n spaced mark h =
       (omega arith, ap begins_call (sym (drop-drop mark.len n t ∙ ap (λ k. drop k t) (omega arith))) ∙ marks_are_calls spaced (drop n t) mark h)
 
-  held_called : (n : ℕ) (name : Characters) (end : ℕ) (d : Option DirectiveMark) → directive_of false (drop n t) ≡ d → IsMarkupIn t (Substitution name (call_by d i n X) end)
-  held_called n name end None h = tt
-  held_called n name end (Some mark) h = called_after n false mark h
+  embedded_called : (n : ℕ) (name : Characters) (end : ℕ) (d : Option DirectiveMark) → directive_mark_of false (drop n t) ≡ d → IsMarkupIn t (Substitution name (call_by d i n X) end)
+  embedded_called n name end None h = tt
+  embedded_called n name end (Some mark) h = called_after n false mark h
 
   substitution_called : (n : ℕ) (name : Characters) → IsMarkupIn t (substitution_with i name n X)
-  unfolding held_of
-  substitution_called n name = held_called n name (i + hanging_size X) (directive_of false (drop n t)) refl
+  unfolding embedded_directive
+  substitution_called n name = embedded_called n name (i + hanging_size X) (directive_mark_of false (drop n t)) refl
 
   label_called : (kind : LabelKind) (label : Characters) (body : Part) → IsMarkupIn t (label_with kind label body)
   label_called FootnoteLabel label body = tt
@@ -114,7 +114,7 @@ module _ (i : ℕ) (X : Block) where
 
   -- the first of the rows
   rows_called : (m : Marker) (cause : CommentCause) (l : Option LabelMark) (g : Option TargetMark) (s : Option SubstitutionMark) (d : Option DirectiveMark)
-      → directive_of true (drop m.cut t) ≡ d
+      → directive_mark_of true (drop m.cut t) ≡ d
       → IsMarkupIn t (explicit_by (first_form (option_map (λ l. Label l) l ∷ option_map (λ m. TargetForm m) g ∷ option_and_then substitution_form s ∷ option_map (λ d. DirectiveForm d) d ∷ []) (CommentForm cause)) i m X)
   rows_called m cause (Some label) g s d h = label_called label.kind (place_of (m.cut + 1) label.len) (hanging_part i (m.cut + label.marker.cut) label.marker.bare X)
   rows_called m cause None (Some target) s d h = target_called m.cut target
@@ -128,7 +128,7 @@ module _ (i : ℕ) (X : Block) where
   unfolding explicit_form
   form_called m =
       let u = drop m.cut t in
-      rows_called m (comment_cause u) (label_of u) (target_of u) (substitution_of u) (directive_of true u) refl
+      rows_called m (comment_cause u) (label_of u) (target_of u) (substitution_of u) (directive_mark_of true u) refl
 
   alone_called : (m : Marker) (blank : Bool) → IsMarkupIn t (cond blank EmptyComment (Comment (hanging_part i m.cut true X) Plain))
   alone_called m true = tt
@@ -139,7 +139,7 @@ module _ (i : ℕ) (X : Block) where
   dots_called m false = form_called m
 
   with_called : (m : Option Marker) → IsMarkupIn t (explicit_with m i X)
-  unfolding behind_dots anonymous_of
+  unfolding after_dots anonymous_of
   with_called None = tt
   with_called (Some m) = dots_called m m.bare
 
@@ -148,17 +148,17 @@ module _ (i : ℕ) (X : Block) where
   markup_called = with_called (dots t)
 
 -- no call is in the first line of what is left of a block
-pub front_free : (B : Block) (i : ℕ) → IsWithoutCode B → holds_code (front_text (drop i B)) ≡ false
-front_free [] zero free = refl
-front_free [] (suc i) free = refl
-front_free (l ∷ ls) zero free = free.0
-front_free (l ∷ ls) (suc i) free = front_free ls i free.1
+pub line_without_code : (B : Block) (i : ℕ) → IsWithoutCode B → holds_code (first_text (drop i B)) ≡ false
+line_without_code [] zero free = refl
+line_without_code [] (suc i) free = refl
+line_without_code (l ∷ ls) zero free = free.0
+line_without_code (l ∷ ls) (suc i) free = line_without_code ls i free.1
 
-agree_by : (B : Block) (i : ℕ) (markup : Explicit) → holds_code (front_text (drop i B)) ≡ false → IsMarkupIn (front_text (drop i B)) markup → CallsAgree false true B i markup
+agree_by : (B : Block) (i : ℕ) (markup : Explicit) → holds_code (first_text (drop i B)) ≡ false → IsMarkupIn (first_text (drop i B)) markup → CallsAgree false true B i markup
 agree_by B i (Directive call) free called = λ place paragraph. directive_alike false true B i call place paragraph called free
 agree_by B i (Substitution name (Some call) end) free called = λ place paragraph. directive_alike false true B i call place paragraph called free
 agree_by B i _ free called = tt
 
 -- explicit markup in a block without calls of program code calls the same directive with and without it
 pub calls_agree : CallsAgreeUnder IsWithoutCode
-calls_agree B i free = agree_by B i (explicit_of i (drop i B)) (front_free B i free) (markup_called i (drop i B))
+calls_agree B i free = agree_by B i (explicit_of i (drop i B)) (line_without_code B i free) (markup_called i (drop i B))

@@ -13,9 +13,9 @@ use Rattle.rst_markup_blocks.specs.TableRows.{grid_bottom, grid_size, head_borde
 use Rattle.rst_markup_tables.specs.Cells.{cell_block, cell_line, characters, cut_places}
 use Rattle.rst_markup_tables.specs.Counts.{below}
 use Rattle.rst_markup_tables.specs.GridTable.{cell_of, dash, dashed, grid_fault, head_of, is_column, is_head_rule, is_row, row_cells, tiled, with_dashes}
-use Rattle.rst_markup_tables.specs.Places.{consists_of, is_double, mark_at, mark_of, no_row, places_of, row_at, row_of, rows_of, Grid, Row}
+use Rattle.rst_markup_tables.specs.Places.{consists_of, is_double, mark_at, mark_of, no_row, places_of, row_at, row_of_line, rows_of, Grid, Row}
 use Rattle.rst_markup_tables.specs.Results.{cell_blocks}
-use Rattle.rst_markup_tables.specs.SimpleTable.{entry, lines_of_row, right_of, row_entries, row_spans, simple_by, simple_fault, simple_rows, simple_table, span_of}
+use Rattle.rst_markup_tables.specs.SimpleTable.{entry, lines_of_row, span_right, row_entries, row_spans, simple_by, simple_fault, simple_rows, simple_table, span_of}
 use Rattle.rst_markup_tables.specs.Tiling.{grid_by, grid_table, tiling_of}
 use Rattle.rst_markup_tables.specs.declared.results.Cell.{Cell}
 use Rattle.rst_markup_tables.specs.declared.results.TableDetail.{TableDetail}
@@ -48,14 +48,14 @@ AreRowsFree G = AllByRecursion IsRowFree G
 abbrev pub IsLineFree : Line → Type 0
 IsLineFree l = holds_code l.text ≡ false
 
-line_free : (l : Line) → IsLineFree l → IsRowFree (row_of l)
+line_free : (l : Line) → IsLineFree l → IsRowFree (row_of_line l)
 line_free l free left right =
     let cut = cut-keeps (λ t. holds_code t ≡ false) (λ n t h. part_free 0 n t h) drop_free left right (places_of l.text) (ap holds_code (characters-places l.text) ∙ free) in
     let k = trimmed (characters (cut_places left right (places_of l.text))) in
     ap holds_code k.1 ∙ part_free 0 k.0 _ cut
 
 rows_free : (B : Block) → IsWithoutCode B → AreRowsFree (rows_of B)
-rows_free B free = all_map IsLineFree IsRowFree row_of line_free B free
+rows_free B free = all_map IsLineFree IsRowFree row_of_line line_free B free
 
 cell_free : (left : ℕ) (right : Option ℕ) (G : Grid) → AreRowsFree G → IsWithoutCode (cell_block left right G)
 cell_free left right G free =
@@ -77,7 +77,7 @@ dashes_free (c ∷ cs) h = ap (λ b. b || holds_code cs) (not_code c cs h.0) ∙
 sixth : (a b c d e f : Bool) → (a && (b && (c && (d && (e && f))))) ≡ true → f ≡ true
 sixth a b c d e f h = and_right e f (and_right d (e && f) (and_right c (d && (e && f)) (and_right b (c && (d && (e && f))) (and_right a (b && (c && (d && (e && f)))) h))))
 
-rule_free : (l : Line) → is_head_rule (row_of l).places ≡ true → IsRowFree (dashed (row_of l))
+rule_free : (l : Line) → is_head_rule (row_of_line l).places ≡ true → IsRowFree (dashed (row_of_line l))
 unfolding is_head_rule
 rule_free l rule left right =
     let row = places_of l.text in
@@ -145,7 +145,7 @@ simple_by_free line i head T (Some detail) free = tt
 simple_by_free line i head T None free =
     table_free (map (row_entries T) (simple_rows T)) (all_any (AllByRecursion IsCellFree) (row_entries T) (λ r.
     all_any IsCellFree (entry (lines_of_row T r) (row_spans T r)) (λ k.
-    cell_free (span_of (row_spans T r) k).from (right_of (row_spans T r) k) (lines_of_row T r) (all_take IsRowFree (r.to - r.from) (drop r.from T) (all_drop IsRowFree r.from T free))) _) (simple_rows T))
+    cell_free (span_of (row_spans T r) k).from (span_right (row_spans T r) k) (lines_of_row T r) (all_take IsRowFree (r.to - r.from) (drop r.from T) (all_drop IsRowFree r.from T free))) _) (simple_rows T))
 
 -- the lines of a table
 lines_free : (n i : ℕ) (B : Block) → IsWithoutCode B → IsWithoutCode (take n (drop i B))

@@ -2,8 +2,8 @@
 use Rattle.std.proofs.Common.{◌≡◌, ℕ, zero, suc, Bool, true, false, ◌&&◌, ◌||◌, ◌==◌, eqb, List, [], ◌∷◌, ◌++◌, map, take, drop, codes, refl, sym, ap, ◌∙◌, ◌-◌, ◌≤◌, arith, true≢false, bytes_eq, cond, find, option_map, take-append-drop, Some, if◌then◌else◌}
 use Rattle.std.proofs.lemmas.List.{drop-drop}
 use Rattle.std.specs.Char.{to_ascii_lowercase}
-use Rattle.rst_text.specs.Block.{Block, front_text}
-use Rattle.rst_markup_lines.specs.Front.{begins_with}
+use Rattle.rst_text.specs.Block.{Block, first_text}
+use Rattle.rst_markup_lines.specs.TextStart.{begins_with}
 use Rattle.rst_markup_blocks.specs.declared.forms.Invocation.{Invocation}
 use Rattle.rst_markup_directives.specs.Call.{name_text}
 use Rattle.rst_markup_directives.specs.Characters.{Text, is_word, lookup}
@@ -124,17 +124,17 @@ called_same (c ∷ cs) rest [] h k = absurd (true≢false (sym h))
 called_same (c ∷ cs) rest (w ∷ ws) h k = both _ _ (and_left (eqb (to_ascii_lowercase c) w) _ h) (called_same cs rest ws (and_right (eqb (to_ascii_lowercase c) w) _ h) k)
 
 -- a text that begins with a call of program code holds it
-begun_held : (t : Text) → begins_code t ≡ true → holds_code t ≡ true
+code_begun : (t : Text) → begins_code t ≡ true → holds_code t ≡ true
 unfolding begins_code
-begun_held [] h = absurd (true≢false (sym h))
-begun_held (c ∷ cs) h = or_left _ _ h
+code_begun [] h = absurd (true≢false (sym h))
+code_begun (c ∷ cs) h = or_left _ _ h
 
 -- a word that ends in one whose call is one of program code
-ending_held : (p w : List ℕ) → ((t : Text) → is_called w t ≡ true → begins_code t ≡ true) → (name rest : Text) → IsSame name (p ++ w) ≡ true
+code_at_end : (p w : List ℕ) → ((t : Text) → is_called w t ≡ true → begins_code t ≡ true) → (name rest : Text) → IsSame name (p ++ w) ≡ true
     → begins_call rest ≡ true → holds_code (name ++ rest) ≡ true
-ending_held [] w code name rest h k = begun_held (name ++ rest) (code (name ++ rest) (called_same name rest w h k))
-ending_held (x ∷ p) w code [] rest h k = absurd (true≢false (sym h))
-ending_held (x ∷ p) w code (c ∷ cs) rest h k = or_right (begins_code (c ∷ (cs ++ rest))) _ (ending_held p w code cs rest (and_right (eqb (to_ascii_lowercase c) x) _ h) k)
+code_at_end [] w code name rest h k = code_begun (name ++ rest) (code (name ++ rest) (called_same name rest w h k))
+code_at_end (x ∷ p) w code [] rest h k = absurd (true≢false (sym h))
+code_at_end (x ∷ p) w code (c ∷ cs) rest h k = or_right (begins_code (c ∷ (cs ++ rest))) _ (code_at_end p w code cs rest (and_right (eqb (to_ascii_lowercase c) x) _ h) k)
 
 by_code : (t : Text) → is_called (codes "code") t ≡ true → begins_code t ≡ true
 unfolding begins_code
@@ -148,15 +148,15 @@ word_same : (t : Text) (w : List ℕ) → is_word t w ≡ true → IsSame t w �
 unfolding is_word
 word_same t w h = h
 
-calls_held : (name rest : Text) → is_code name ≡ true → begins_call rest ≡ true → holds_code (name ++ rest) ≡ true
+code_called : (name rest : Text) → is_code name ≡ true → begins_call rest ≡ true → holds_code (name ++ rest) ≡ true
 unfolding is_code
-calls_held name rest h k =
+code_called name rest h k =
     either (is_word name (codes "code")) _
-    (λ e. ending_held [] (codes "code") by_code name rest (word_same name (codes "code") e) k)
+    (λ e. code_at_end [] (codes "code") by_code name rest (word_same name (codes "code") e) k)
     (λ f. either (is_word name (codes "code-block")) _
-    (λ e. ending_held [] (codes "code-block") by_block name rest (word_same name (codes "code-block") e) k)
+    (λ e. code_at_end [] (codes "code-block") by_block name rest (word_same name (codes "code-block") e) k)
     (λ g. either (is_word name (codes "sourcecode")) false
-    (λ e. ending_held (codes "source") (codes "code") by_code name rest (word_same name (codes "sourcecode") e) k)
+    (λ e. code_at_end (codes "source") (codes "code") by_code name rest (word_same name (codes "sourcecode") e) k)
     (λ e. absurd (true≢false (sym e)))
     g)
     f)
@@ -171,9 +171,9 @@ lookup_next {A} passes x xs ys h = by (passes x.0)
     by true = refl
     by false = h
 
-lookup_after : {A : Type 0} (passes : Text → Bool) (front xs ys : List (Text × A)) → lookup passes xs ≡ lookup passes ys → lookup passes (front ++ xs) ≡ lookup passes (front ++ ys)
+lookup_after : {A : Type 0} (passes : Text → Bool) (prefix xs ys : List (Text × A)) → lookup passes xs ≡ lookup passes ys → lookup passes (prefix ++ xs) ≡ lookup passes (prefix ++ ys)
 lookup_after passes [] xs ys h = h
-lookup_after passes (x ∷ front) xs ys h = lookup_next passes x (front ++ xs) (front ++ ys) (lookup_after passes front xs ys h)
+lookup_after passes (x ∷ prefix) xs ys h = lookup_next passes x (prefix ++ xs) (prefix ++ ys) (lookup_after passes prefix xs ys h)
 
 -- another text than those names names the same directive with and without the one for program code
 pub named_alike : (t : Text) → is_code t ≡ false → directive_named t true ≡ directive_named t false
@@ -189,11 +189,11 @@ abbrev pub IsCalledIn : Text → Invocation → Type 0
 IsCalledIn t call = (call.name.from ≤ call.name.to) × (begins_call (drop call.name.to t) ≡ true)
 
 -- the name of a directive in a line without calls of program code isn't one of those
-other_name : (B : Block) (at : ℕ) (call : Invocation) → IsCalledIn (front_text (drop at B)) call → holds_code (front_text (drop at B)) ≡ false → is_code (name_text B at call) ≡ false
+other_name : (B : Block) (at : ℕ) (call : Invocation) → IsCalledIn (first_text (drop at B)) call → holds_code (first_text (drop at B)) ≡ false → is_code (name_text B at call) ≡ false
 other_name B at call called free = by (is_code (name_text B at call)) refl
   where
     line : Text
-    line = front_text (drop at B)
+    line = first_text (drop at B)
 
     whole : name_text B at call ++ drop (call.name.to - call.name.from) (drop call.name.from line) ≡ drop call.name.from line
     whole = take-append-drop (call.name.to - call.name.from) (drop call.name.from line)
@@ -204,17 +204,17 @@ other_name B at call called free = by (is_code (name_text B at call)) refl
     by : (b : Bool) → is_code (name_text B at call) ≡ b → b ≡ false
     by false e = refl
     by true e =
-        let held = calls_held (name_text B at call) _ e (ap begins_call after ∙ called.1) in
-        absurd (true≢false (sym (holds_drop call.name.from line (ap holds_code (sym whole) ∙ held)) ∙ free))
+        let has_code = code_called (name_text B at call) _ e (ap begins_call after ∙ called.1) in
+        absurd (true≢false (sym (holds_drop call.name.from line (ap holds_code (sym whole) ∙ has_code)) ∙ free))
 
-with_and_without : (B : Block) (at : ℕ) (call : Invocation) (place : Place) (paragraph : Bool) → IsCalledIn (front_text (drop at B)) call
-    → holds_code (front_text (drop at B)) ≡ false → directive_at true B at call place paragraph ≡ directive_at false B at call place paragraph
+with_and_without : (B : Block) (at : ℕ) (call : Invocation) (place : Place) (paragraph : Bool) → IsCalledIn (first_text (drop at B)) call
+    → holds_code (first_text (drop at B)) ≡ false → directive_at true B at call place paragraph ≡ directive_at false B at call place paragraph
 with_and_without B at call place paragraph called free =
     ap (λ name. directive_of name B at call.block place paragraph) (named_alike (name_text B at call) (other_name B at call called free))
 
 -- where no call of program code is in the line, a directive is the same whether there is one for program code
-pub directive_alike : (a b : Bool) (B : Block) (at : ℕ) (call : Invocation) (place : Place) (paragraph : Bool) → IsCalledIn (front_text (drop at B)) call
-    → holds_code (front_text (drop at B)) ≡ false → directive_at a B at call place paragraph ≡ directive_at b B at call place paragraph
+pub directive_alike : (a b : Bool) (B : Block) (at : ℕ) (call : Invocation) (place : Place) (paragraph : Bool) → IsCalledIn (first_text (drop at B)) call
+    → holds_code (first_text (drop at B)) ≡ false → directive_at a B at call place paragraph ≡ directive_at b B at call place paragraph
 directive_alike true true B at call place paragraph called free = refl
 directive_alike true false B at call place paragraph called free = with_and_without B at call place paragraph called free
 directive_alike false true B at call place paragraph called free = sym (with_and_without B at call place paragraph called free)

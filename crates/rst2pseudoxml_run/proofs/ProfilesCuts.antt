@@ -9,7 +9,7 @@ use Rattle.rst_markup_blocks.specs.declared.forms.Explicit.{Explicit}
 use Rattle.rst_markup_blocks.specs.declared.forms.Explicit.TheVariants.{Footnote, Citation, Target, Anonymous, Substitution, Directive, Comment, EmptyComment}
 use Rattle.rst_markup_blocks.specs.declared.lines.LineTest.TheVariants.{Blank}
 use Rattle.rst_markup_blocks.specs.declared.part.Part.{Part}
-use Rattle.rst_markup_directives.specs.Argument.{Given, nothing as no_argument, title, uri, language}
+use Rattle.rst_markup_directives.specs.Argument.{ArgumentMeaning, nothing as no_argument, title, uri, language}
 use Rattle.rst_markup_directives.specs.Directive.{Outcome, found, wrong}
 use Rattle.rst_markup_directives.specs.declared.found.Content.{Content}
 use Rattle.rst_markup_directives.specs.declared.found.Place.TheVariants.{Top, Body, Substitution as InDefinition}
@@ -59,7 +59,7 @@ quoted_free (suc n) (l ∷ ls) free = by (first_attribution (l ∷ ls)) (λ Q al
 content_free : (B : Block) (content : Content) → IsWithoutCode B → AreFree (content_blocks B content)
 content_free B content free = (part_free_in B content.first free, (part_free_in B content.second free, tt))
 
-directive_content_free : (given : Given) (name : Name) (B : Block) (content : Content) → IsWithoutCode B → AreFree (directive_content given name B content)
+directive_content_free : (given : ArgumentMeaning) (name : Name) (B : Block) (content : Content) → IsWithoutCode B → AreFree (directive_content given name B content)
 directive_content_free no_argument Code B content free = tt
 directive_content_free no_argument name B content free = content_free B content free
 directive_content_free (title part) name B content free = content_free B content free
@@ -70,7 +70,7 @@ directive_free : (o : Outcome) (B : Block) → IsWithoutCode B → AreFree (dire
 directive_free (found read) B free = directive_content_free read.argument read.name B read.content free
 directive_free (wrong fault part) B free = tt
 
-definition_content_free : (given : Given) (B : Block) (content : Content) → IsWithoutCode B → AreFree (definition_content given B content)
+definition_content_free : (given : ArgumentMeaning) (B : Block) (content : Content) → IsWithoutCode B → AreFree (definition_content given B content)
 definition_content_free (uri address) B content free = tt
 definition_content_free _ B content free = content_free B content free
 

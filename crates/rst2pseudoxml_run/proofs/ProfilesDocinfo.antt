@@ -6,25 +6,25 @@ use Rattle.rst_tree.specs.Nodes.{forest_of, nodes_of}
 use Rattle.rst_tree.proofs.Changes.{forest_of-nodes_of}
 use Rattle.rst_tree.specs.declared.node.Node.{Node}
 use Rattle.rst_tree.specs.declared.note.Note.{Note}
-use Rattle.rst_transform_docinfo.specs.Docinfo.{nodes_with, with_docinfo}
+use Rattle.rst_transform_docinfo.specs.Docinfo.{nodes_with_docinfo, with_docinfo}
 use Rattle.rst_transform_names.specs.Registering.{registration, Registration}
 use Rattle.rst_transform_structure.specs.LastSection.{with_last_section}
 use Rattle.rst_transform_structure.specs.Transitions.{with_transitions}
 use Rattle.rst_transform_work.specs.declared.document.Document.{Document}
 use Rattle.rst_transform_work.specs.Known.{Known}
-use Rattle.rst_transform.specs.Finishing.{all_messages, asked, document_in, known_at_first, leaves, left_of, titled_first}
+use Rattle.rst_transform.specs.Finishing.{all_messages, asked, document_in, known_at_first, leaves, left_of_document, titled_first}
 use Rattle.rst_transform.specs.Linking.{with_links}
-use Rattle.rst2pseudoxml_run.specs.Profiles.{list_of, titled_of}
+use Rattle.rst2pseudoxml_run.specs.Profiles.{leading_field_list, titled_of}
 
 -- a document without such a list stays as it is, and so do the messages
-without_list : (document : Document) (known : Known) → list_of document ≡ None → with_docinfo document known ≡ (document, known)
+without_list : (document : Document) (known : Known) → leading_field_list document ≡ None → with_docinfo document known ≡ (document, known)
 without_list document known none =
     ap (λ list.
-    let made = nodes_with known.first_number known.reports list (nodes_of document.children) in
+    let made = nodes_with_docinfo known.first_number known.reports list (nodes_of document.children) in
     (record document { children = forest_of made.0 }, record known { reports = made.1 })) none
     ∙ ap (λ children. (record document { children = children }, known)) (forest_of-nodes_of document.children)
 
-asked_alike : (one other : Bool) (document : Document) (known : Known) → list_of document ≡ None → asked one with_docinfo document known ≡ asked other with_docinfo document known
+asked_alike : (one other : Bool) (document : Document) (known : Known) → leading_field_list document ≡ None → asked one with_docinfo document known ≡ asked other with_docinfo document known
 asked_alike true true document known none = refl
 asked_alike true false document known none = without_list document known none
 asked_alike false true document known none = sym (without_list document known none)
@@ -43,11 +43,11 @@ module _ (settings : Settings) (messages : ℕ) (document : Node) where
       let linked = with_links informed.0 informed.1 in
       let placed = with_transitions linked.0 linked.1 in
       let done = with_last_section settings.report placed.0 placed.1 in
-      left_of settings (all_messages registered done.1.reports) done.0
+      left_of_document settings (all_messages registered done.1.reports) done.0
 
   -- what is left is the same where bibliographic fields are looked for by both profiles or by neither, and where no field list leads the document
   pub left_alike : (first later : Profile) → first.docinfo ≡ later.docinfo → leaves messages first settings document ≡ leaves messages later settings document
   left_alike first later same = ap (λ is_asked. left_after (asked is_asked with_docinfo titled.0 titled.1)) same
 
-  pub left_without_list : (first later : Profile) → list_of (titled_of messages settings document) ≡ None → leaves messages first settings document ≡ leaves messages later settings document
+  pub left_without_list : (first later : Profile) → leading_field_list (titled_of messages settings document) ≡ None → leaves messages first settings document ≡ leaves messages later settings document
   left_without_list first later none = ap left_after (asked_alike first.docinfo later.docinfo titled.0 titled.1 none)

@@ -6,7 +6,7 @@ use Rattle.rst_settings.specs.Profile.{Profile}
 use Rattle.rst_text.specs.Block.{Block, is_blank}
 use Rattle.rst_tree.specs.declared.node.Node.{Node}
 use Rattle.rst_markup_blocks.specs.Partition.{Span, spans_from, construct_size}
-use Rattle.rst_block_nodes.specs.LineBlocks.{IndentedLine, LinePart, level_line, deeper_lines, least_indent, parts_of, part_node, line_block}
+use Rattle.rst_block_nodes.specs.LineBlocks.{IndentedLine, LinePart, level_line, deeper_lines, least_indent, line_parts, part_node, line_block}
 use Rattle.rst_block_nodes.specs.Sections.{document_of}
 use Rattle.rst_block_state.specs.Constructs.{Construct, nothing, block_quote, item_of_list, doctest_block, bar_line, grid, simple, explicit_markup, transition, overlined_title, misplaced_lines, underlined_title, paragraph, Found, found_at}
 use Rattle.rst_block.specs.Documents.{document}
@@ -14,7 +14,7 @@ use Rattle.rst_block_state.specs.Joins.{runs_of, joining_of, joining_after}
 use Rattle.rst_block_state.specs.LineRuns.{indented_lines}
 use Rattle.rst_block_state.specs.Nodes.{nodes_among, piece_of, whole_by, ended, run_items, block_items, below_last_level, inner_nodes}
 use Rattle.rst_block_state.specs.Numbered.{Numbered, then_read, ◌>>=◌, just, each, flat_each}
-use Rattle.rst_block_state.specs.Runs.{Run, members, runs}
+use Rattle.rst_block_state.specs.Runs.{Run, run_members, runs}
 use Rattle.rst_block_state.specs.Titles.{Item}
 use Rattle.rst_block_state.specs.Within.{Within}
 use Rattle.rst2pseudoxml_run.proofs.ProfilesNeeds.{CallsAgreeUnder, OpenedKeep, CellsKeep}
@@ -46,8 +46,8 @@ pub lines_again : (levels more : ℕ) → levels ≤ more → (ls : List Indente
 lines_again zero more within ls n = tt
 lines_again (suc levels) zero within ls n = absurd (omega (arith, within))
 lines_again (suc levels) (suc more) within ls n =
-    same_alike false (each (part_node (line_block levels)) (parts_of (least_indent ls) ls) n) (each (part_node (line_block more)) (parts_of (least_indent ls) ls) n) _
-    (each_again (part_node (line_block levels)) (part_node (line_block more)) (part_again (line_block levels) (line_block more) (lines_again levels more (omega (arith, within)))) (parts_of (least_indent ls) ls) n)
+    same_alike false (each (part_node (line_block levels)) (line_parts (least_indent ls) ls) n) (each (part_node (line_block more)) (line_parts (least_indent ls) ls) n) _
+    (each_again (part_node (line_block levels)) (part_node (line_block more)) (part_again (line_block levels) (line_block more) (lines_again levels more (omega (arith, within)))) (line_parts (least_indent ls) ls) n)
 
 -- ---- blocks
 
@@ -98,7 +98,7 @@ module _ (P : Block → Type 0) (agree : CallsAgreeUnder P) (opened : OpenedKeep
 
     whole_again : (what : Construct) (run : Run Found) (items : List Item) (n : ℕ) → Alike false (whole_by what c B run items n) (whole_by what d B run items n)
     whole_again (bar_line m) run items n =
-        let ls : List IndentedLine = indented_lines B 0 (members run) in
+        let ls : List IndentedLine = indented_lines B 0 (run_members run) in
         same_alike false (then_read (λ (made : Node × List Node). just (made.0 ∷ made.1)) (line_block levels ls n)) (then_read (λ (made : Node × List Node). just (made.0 ∷ made.1)) (line_block more ls n)) _
         (same_alike false (line_block levels ls n) (line_block more ls n) _ (lines_again levels more within ls n))
     whole_again _ run items n = refl
@@ -108,8 +108,8 @@ module _ (P : Block → Type 0) (agree : CallsAgreeUnder P) (opened : OpenedKeep
 
     run_again : (run : Run Found) (n : ℕ) → Alike false (run_items c B run n) (run_items d B run n)
     run_again run n =
-        then_alike false (flat_each (piece_of c B) (members run) n) (flat_each (piece_of d B) (members run) n) (ended c B run) (ended d B run)
-        (flat_again (piece_of c B) (piece_of d B) found_again (members run) n) (ended_again run)
+        then_alike false (flat_each (piece_of c B) (run_members run) n) (flat_each (piece_of d B) (run_members run) n) (ended c B run) (ended d B run)
+        (flat_again (piece_of c B) (piece_of d B) found_again (run_members run) n) (ended_again run)
 
     pub items_again : (n : ℕ) → Alike false (block_items c B n) (block_items d B n)
     items_again n = flat_again (run_items c B) (run_items d B) run_again (runs_of titles B) n

@@ -4,7 +4,7 @@ use Rattle.std.specs.Prelude.{◌≡◌, ℕ, Bool, false, ◌&&◌, ◌||◌, �
 use Rattle.std.specs.Char.{to_ascii_lowercase}
 use Rattle.std.specs.List.{AllByRecursion}
 use Rattle.rst_text.specs.Block.{Line, Block}
-use Rattle.rst_markup_lines.specs.Front.{begins_with}
+use Rattle.rst_markup_lines.specs.TextStart.{begins_with}
 
 -- a text begins with two colons
 abbrev pub begins_colons : List ℕ → Bool

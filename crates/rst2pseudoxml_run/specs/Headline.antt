@@ -4,7 +4,7 @@ use Rattle.rst_text.specs.Counted.{Stream, Untouched, Gains, HandsOut, IsReadOut
 use Rattle.rst2pseudoxml_run.specs.declared.end.End.{End}
 use Rattle.rst2pseudoxml_run.specs.declared.end.End.TheVariants.{Done, Read, TooLong, NotUtf8, NoMemory, WriteErr, WriteOut, TooDeep}
 use Rattle.rst_tree.specs.Faults.{CutShort}
-use Rattle.rst2pseudoxml_run.specs.Shown.{Parts}
+use Rattle.rst2pseudoxml_run.specs.RunResult.{Parts}
 
 -- the writer gained all of a text, and no write of it has failed
 abbrev pub IsWritten : Stream → List ℕ → Type 0
@@ -45,9 +45,9 @@ IsUnread input bytes NoMemory = Unit {0}
 IsUnread input bytes _ = ⊥
 
 -- the bytes that were read, or the fault
-abbrev pub Takes : {A : Type 0} → Stream → List ℕ → Result (Vec ℕ A) End → Type 0
-Takes input bytes (Ok read) = IsReadOut input × (read.items ≡ bytes) × (length bytes ≤ 16777216)
-Takes input bytes (Err end) = IsUnread input bytes end
+abbrev pub TakesInput : {A : Type 0} → Stream → List ℕ → Result (Vec ℕ A) End → Type 0
+TakesInput input bytes (Ok read) = IsReadOut input × (read.items ≡ bytes) × (length bytes ≤ 16777216)
+TakesInput input bytes (Err end) = IsUnread input bytes end
 
 -- Reads, from a state of the reader to a later one, before which some number of bytes has come. Each is made only while no more than 16,777,216
 -- bytes have come. One that fails, or gives 0 bytes, is the last.

@@ -1,4 +1,4 @@
-pub mod Shown
+pub mod RunResult
 pub mod Written
 pub mod Reading
 pub mod Headline

@@ -6,7 +6,7 @@ use Rattle.rst_text.specs.Counted.{Stream, Gains}
 use Rattle.rst2pseudoxml_run.specs.declared.end.End.{End}
 use Rattle.rst2pseudoxml_run.specs.declared.end.End.TheVariants.{Done, TooLong, NotUtf8, TooDeep}
 use Rattle.rst2pseudoxml_run.specs.Headline.{Headline}
-use Rattle.rst2pseudoxml_run.specs.Shown.{result_of}
+use Rattle.rst2pseudoxml_run.specs.RunResult.{result_of}
 
 -- a run came to its own end: no read, no write and no growth failed
 abbrev pub is_own : End → Bool
@@ -25,12 +25,12 @@ pub record Comes (profile : Profile) (settings : Settings) (source text : List �
 -- two of them ended alike, and their writers gained the same
 pub record EndAlike (out err also_out also_err : Stream) (end also : End) : Type 0 where
   pub same : end ≡ also
-  pub shown : List ℕ
-  pub told : List ℕ
-  pub out_gains : Gains out shown
-  pub err_gains : Gains err told
-  pub also_out_gains : Gains also_out shown
-  pub also_err_gains : Gains also_err told
+  pub written : List ℕ
+  pub reported : List ℕ
+  pub out_gains : Gains out written
+  pub err_gains : Gains err reported
+  pub also_out_gains : Gains also_out written
+  pub also_err_gains : Gains also_err reported
 
 abbrev pub HasOneEnd : Type 0
 HasOneEnd =

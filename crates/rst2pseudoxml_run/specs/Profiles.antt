@@ -14,7 +14,7 @@ use Rattle.rst_transform.specs.Finishing.{document_in, known_at_first, titled_fi
 use Rattle.rst2pseudoxml_run.specs.CodeCalls.{IsWithoutCode}
 use Rattle.rst2pseudoxml_run.specs.declared.end.End.TheVariants.{TooDeep}
 use Rattle.rst2pseudoxml_run.specs.Reading.{IsReadOf}
-use Rattle.rst2pseudoxml_run.specs.Shown.{result_of}
+use Rattle.rst2pseudoxml_run.specs.RunResult.{result_of}
 
 -- the profile that the program ran under at first
 abbrev pub first_profile : Profile
@@ -38,13 +38,13 @@ titled_of messages settings document =
     let registered = registration messages document in (titled_first settings (document_in registered.root) (known_at_first messages registered)).0
 
 -- the field list of a document that would become its bibliography, if there is one
-abbrev pub list_of : Document → Option Node
-list_of document = leading_list (nodes_of document.children)
+abbrev pub leading_field_list : Document → Option Node
+leading_field_list document = leading_list (nodes_of document.children)
 
 -- there is none in the document that is read of a text, after its title
 abbrev pub HasNoList : Profile → Settings → Option (List ℕ) → Type 0
 HasNoList profile settings text =
-    (read : Node × ℕ) → IsReadOf profile settings text (Ok read) → list_of (titled_of read.1 settings read.0) ≡ None
+    (read : Node × ℕ) → IsReadOf profile settings text (Ok read) → leading_field_list (titled_of read.1 settings read.0) ≡ None
 
 -- no block is nested too deeply: that isn't the result under a profile
 abbrev pub NestsWithin : Profile → Settings → List ℕ → List ℕ → Type 0

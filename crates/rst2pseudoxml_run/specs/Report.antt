@@ -7,15 +7,15 @@ use Rattle.rst2pseudoxml_run.specs.declared.reporting.Stop.TheVariants.{Words, O
 use Rattle.rst2pseudoxml_options.specs.declared.fault.OptionFault.{OptionFault}
 use Rattle.rst2pseudoxml_options.specs.declared.fault.OptionFault.TheVariants.{Usage, BadLevel, BadTab, BadLimit, TwoLevels, NoMemory as NoRoom}
 
-abbrev pub message_of : End → List ℕ
-message_of (Done status) = []
-message_of Read = codes "read failed"
-message_of TooLong = codes "input too long"
-message_of (NotUtf8 at) = codes "not UTF-8 at byte " ++ decimal at
-message_of NoMemory = codes "out of memory"
-message_of (WriteErr done) = codes "write failed"
-message_of (WriteOut done) = codes "write failed"
-message_of (TooDeep line) = codes "line " ++ decimal line ++ codes ": nesting too deep"
+abbrev pub end_message : End → List ℕ
+end_message (Done status) = []
+end_message Read = codes "read failed"
+end_message TooLong = codes "input too long"
+end_message (NotUtf8 at) = codes "not UTF-8 at byte " ++ decimal at
+end_message NoMemory = codes "out of memory"
+end_message (WriteErr done) = codes "write failed"
+end_message (WriteOut done) = codes "write failed"
+end_message (TooDeep line) = codes "line " ++ decimal line ++ codes ": nesting too deep"
 
 abbrev pub option_message : OptionFault → List ℕ
 option_message Usage = codes "bad arguments"
@@ -29,12 +29,12 @@ abbrev pub fault_line : List ℕ → List ℕ
 fault_line message = codes "rst2pseudoxml: " ++ message ++ 10 ∷ []
 
 -- the line of a fault, and nothing for a run that is done
-abbrev pub line_of : Stop → List ℕ
-line_of Words = fault_line (codes "bad arguments")
-line_of (Options fault) = fault_line (option_message fault)
-line_of (Open source) = fault_line (codes "cannot open " ++ string_bytes source)
-line_of (Ran (Done status)) = []
-line_of (Ran end) = fault_line (message_of end)
+abbrev pub fault_line_of : Stop → List ℕ
+fault_line_of Words = fault_line (codes "bad arguments")
+fault_line_of (Options fault) = fault_line (option_message fault)
+fault_line_of (Open source) = fault_line (codes "cannot open " ++ string_bytes source)
+fault_line_of (Ran (Done status)) = []
+fault_line_of (Ran end) = fault_line (end_message end)
 
 abbrev pub status_of : Stop → ℕ
 status_of Words = 2

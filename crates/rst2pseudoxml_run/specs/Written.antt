@@ -7,7 +7,7 @@ use Rattle.rst_settings.specs.declared.Settings.{Settings}
 use Rattle.rst_text.specs.Written.{written}
 -- the settings of a call without options
 pub use Rattle.rst_transform.specs.Written.{usual}
-use Rattle.rst2pseudoxml_run.specs.Shown.{result_of}
+use Rattle.rst2pseudoxml_run.specs.RunResult.{result_of}
 
 -- the usual settings with tab stops every four columns
 abbrev pub narrow_tabs : Settings

@@ -1,6 +1,6 @@
 //! The text for standard error: the messages that are reported.
 ghost use Rattle.std.specs.Prelude.{◌≡◌, ◌≤◌, Some, IfOk, string_bytes};
-ghost use Rattle.rst2pseudoxml_run.specs.Shown as spec;
+ghost use Rattle.rst2pseudoxml_run.specs.RunResult as spec;
 
 use crate::end::End;
 use itoa::Buffer;

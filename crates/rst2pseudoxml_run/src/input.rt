@@ -1,7 +1,7 @@
 //! Reading an input to its end.
 ghost use Rattle.std.specs.Prelude.{◌≡◌, ℕ, List, false};
 ghost use Rattle.rst_text.specs.Counted.{inner_of, has_failed, between, HandsOut};
-ghost use Rattle.rst2pseudoxml_run.specs.Headline.{Takes, ReadsOn};
+ghost use Rattle.rst2pseudoxml_run.specs.Headline.{TakesInput, ReadsOn};
 
 use crate::end::End;
 use rst_text::{Counted, ReadCall};
@@ -16,7 +16,7 @@ const LIMIT: usize = 16_777_216;
 pub fn read_input<R: ReadCall>(alloc: Global, input: &mut Counted<R>) -> Result<Vec<u8>, End>
     requires { has_failed input.old ≡ false }
     ensures bytes { (bytes : List ℕ) × HandsOut (between R.remaining input.old input.new) bytes
-        × Takes (between R.remaining input.old input.new) bytes result }
+        × TakesInput (between R.remaining input.old input.new) bytes result }
     ensures reads { ReadsOn R.call_gives 0 (inner_of input.old) (inner_of input.new) }
 {
     let mut bytes = Vec::new(alloc);

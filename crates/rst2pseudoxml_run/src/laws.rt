@@ -1,7 +1,7 @@
 //! Laws on the definitions, each by a function that does nothing and whose contract is the law.
 ghost use Rattle.rst2pseudoxml_run.specs.OneEnd.{HasOneEnd};
 ghost use Rattle.rst2pseudoxml_run.specs.Profiles.{IsFirstProfile, ProfilesAgree};
-ghost use Rattle.rst2pseudoxml_run.specs.Shown.{IsJudged};
+ghost use Rattle.rst2pseudoxml_run.specs.RunResult.{IsJudged};
 
 /// Each input has a result: what is printed for it, or its refusal as too long, no UTF-8 or nested too deeply.
 pub fn judged()

@@ -1,7 +1,7 @@
 //! The line by which a fault is reported.
 ghost use Rattle.std.specs.Prelude.{◌≡◌, ◌++◌, decimal, flat_map};
 ghost use Rattle.rst_text.specs.Counted.{IsSent};
-ghost use Rattle.rst2pseudoxml_run.specs.Report.{line_of, status_of, option_message, fault_line};
+ghost use Rattle.rst2pseudoxml_run.specs.Report.{fault_line_of, status_of, option_message, fault_line};
 
 use crate::end::End;
 use itoa::Buffer;
@@ -25,7 +25,7 @@ pub enum Stop {
 ///
 /// It stops at the first write that fails; the status stays the same.
 pub fn report<E: WriteCall>(stop: &Stop, err: &mut Counted<E>) -> u8
-    ensures line { IsSent E.call_takes E.contents err.old err.new (line_of stop.now) }
+    ensures line { IsSent E.call_takes E.contents err.old err.new (fault_line_of stop.now) }
     ensures status { result ≡ status_of stop.now }
 {
     match stop {

@@ -4,7 +4,7 @@ ghost use Rattle.rst_settings.specs.Profile.{profile_of};
 ghost use Rattle.rst_text.specs.Counted.{inner_of, has_failed, between, IsSent};
 ghost use Rattle.rst_transform_messages.specs.Messages.{highest_level};
 ghost use Rattle.rst2pseudoxml_run.specs.Headline.{Headline, Shows, ReadsOn, IsQuiet};
-ghost use Rattle.rst2pseudoxml_run.specs.Shown.{parts_of, result_of};
+ghost use Rattle.rst2pseudoxml_run.specs.RunResult.{parts_of, result_of};
 
 use crate::document::document_of;
 use crate::end::End;

@@ -3,8 +3,8 @@ use Rattle.std.proofs.Common.{◌≡◌, ℕ, zero, suc, ◌+◌, ◌*◌, ◌�
 use Rattle.std.specs.List.{AllByRecursion}
 use Rattle.std.proofs.lemmas.Bool.{and_parts}
 use Rattle.rst_text.specs.Block.{Block, is_blank}
-use Rattle.rst_block_state.specs.Budget.{unread, is_bare, sum_of, filled_sum, deepest_of, depth, cells_budget, budget, floor, total}
-use Rattle.rst_block_state.specs.BudgetLaws.{is_trimmed, IsFronted, BlocksAreInside, CellsAreTrimmed}
+use Rattle.rst_block_state.specs.looks.Budget.{unread, has_blank_lines_only, sum_of, filled_sum, deepest_of, depth, cells_budget, budget, floor, total}
+use Rattle.rst_block_state.specs.looks.BudgetLaws.{is_trimmed, IsFronted, BlocksAreInside, CellsAreTrimmed}
 use Rattle.rst_block_state.specs.Inside.{inside, cells}
 use Rattle.rst_block_state.specs.Within.{Within}
 
@@ -22,9 +22,9 @@ pub trimmed : (Cs : List Block) → AllByRecursion IsFronted Cs → AllByRecursi
 trimmed [] h = tt
 trimmed (C ∷ Cs) h = (h.0.trimmed, trimmed Cs h.1)
 
-no_line : (C : Block) → IsFronted C → is_bare C ≡ true → length C ≡ 0
+no_line : (C : Block) → IsFronted C → has_blank_lines_only C ≡ true → length C ≡ 0
 no_line [] h bare = refl
-no_line (l ∷ ls) h bare = let no : false ≡ true = sym (h.front (omega arith)) ∙ (and_parts (is_blank l.text) (is_bare ls) bare).0 in cc
+no_line (l ∷ ls) h bare = let no : false ≡ true = sym (h.first_not_blank (omega arith)) ∙ (and_parts (is_blank l.text) (has_blank_lines_only ls) bare).0 in cc
 
 sum_add : (f g : Block → ℕ) (Cs : List Block) → sum_of (λ C. f C + g C) Cs ≡ sum_of f Cs + sum_of g Cs
 unfolding sum_of
@@ -40,7 +40,7 @@ sum_scale f (C ∷ Cs) = omega (arith, sum_scale f Cs)
 deep_sum : (g : Block → ℕ) (Cs : List Block) → AllByRecursion IsFronted Cs → sum_of (λ C. length C * suc (g C)) Cs ≤ sum_of length Cs * deepest_of g Cs
 unfolding sum_of deepest_of
 deep_sum g [] h = omega arith
-deep_sum g (C ∷ Cs) h = by (is_bare C) (no_line C h.0) (deep_sum g Cs h.1)
+deep_sum g (C ∷ Cs) h = by (has_blank_lines_only C) (no_line C h.0) (deep_sum g Cs h.1)
   where
     add : (n m d e x : ℕ) → x ≤ n * max d e → sum_of (λ C. length C * suc (g C)) Cs ≤ m * e → x + sum_of (λ C. length C * suc (g C)) Cs ≤ (n + m) * max d e
     add n m d e x a b =
@@ -78,7 +78,7 @@ high a cells_trimmed code (suc levels) titles B t =
 filled_le : (f g : Block → ℕ) → ((C : Block) → f C ≤ g C) → (Cs : List Block) → filled_sum f Cs ≤ sum_of g Cs
 unfolding sum_of filled_sum
 filled_le f g h [] = omega arith
-filled_le f g h (C ∷ Cs) = by (is_bare C) (filled_le f g h Cs)
+filled_le f g h (C ∷ Cs) = by (has_blank_lines_only C) (filled_le f g h Cs)
   where
     by : (b : Bool) → filled_sum f Cs ≤ sum_of g Cs → cond b 0 (f C) + filled_sum f Cs ≤ g C + sum_of g Cs
     by true i = omega (arith, i)

@@ -10,14 +10,14 @@ use Rattle.rst_markup_tables.specs.Cells.{characters, cut_places, cell_line, cel
 use Rattle.rst_markup_tables.specs.GridTable.{head_of, with_dashes, grid_fault, is_row, is_column, cell_of, row_cells, tiled}
 use Rattle.rst_markup_tables.specs.Counts.{below}
 use Rattle.rst_markup_tables.specs.Places.{Grid, rows_of}
-use Rattle.rst_markup_tables.specs.SimpleTable.{simple_rows, row_spans, lines_of_row, span_of, right_of, entry, row_entries, simple_fault, simple_by, simple_table}
+use Rattle.rst_markup_tables.specs.SimpleTable.{simple_rows, row_spans, lines_of_row, span_of, span_right, entry, row_entries, simple_fault, simple_by, simple_table}
 use Rattle.rst_markup_tables.specs.Tiling.{tiling_of, grid_by, grid_table}
 use Rattle.rst_markup_tables.specs.declared.results.Cell.{Cell}
 use Rattle.rst_markup_tables.specs.declared.results.TableDetail.{TableDetail}
-use Rattle.rst_block_state.specs.BudgetLaws.{is_trimmed}
+use Rattle.rst_block_state.specs.looks.BudgetLaws.{is_trimmed}
 use Rattle.rst_block_state.specs.Constructs.{Construct, grid, simple, Found}
 use Rattle.rst_block_state.specs.Inside.{cell_blocks, cells_by, cells_with, cells}
-use Rattle.rst_block_state.specs.Rest.{found_from}
+use Rattle.rst_block_state.specs.machine.Rest.{found_from}
 use Rattle.rst_block_state.specs.Within.{Within}
 use Rattle.rst_block_state.proofs.PartFacts.{trimmed_shorten}
 
@@ -94,7 +94,7 @@ simple_trimmed B i = by (simple_fault X T)
     by (Some detail) = tt
     by None =
         rows_trimmed (row_entries T)
-        (λ r. let spans = row_spans T r in row_trimmed (entry (lines_of_row T r) spans) (λ k. block_trimmed (span_of spans k).from (right_of spans k) (lines_of_row T r)) (range_with_len 0 (length spans)))
+        (λ r. let spans = row_spans T r in row_trimmed (entry (lines_of_row T r) spans) (λ k. block_trimmed (span_of spans k).from (span_right spans k) (lines_of_row T r)) (range_with_len 0 (length spans)))
         (simple_rows T)
 
 -- ---- the cells of a block

@@ -9,10 +9,10 @@ use Rattle.rst_block_nodes.specs.Elements.{entry_node}
 use Rattle.rst_block_nodes.specs.Sections.{filled}
 use Rattle.rst_block_state.specs.Constructs.{grid}
 use Rattle.rst_block_state.specs.Joins.{alone_ending}
-use Rattle.rst_block_state.specs.Meanings.{Keeps, comes, deepest, done_of, reads, reads_from, text_items, text_with, within_at}
+use Rattle.rst_block_state.specs.machine.Meanings.{Keeps, comes, deepest, done_of, reads, reads_from, text_items, text_with, within_at}
 use Rattle.rst_block_state.specs.Nodes.{below_last_level, block_items, ending_notes, inner_nodes, nodes_among}
 use Rattle.rst_block_state.specs.Numbered.{Numbered, then_read, ◌>>=◌, just, each}
-use Rattle.rst_block_state.specs.OpenBlocks.{IsMoved, HasMore}
+use Rattle.rst_block_state.specs.machine.OpenBlocks.{IsMoved, HasMore}
 use Rattle.rst_block_state.specs.Tables.{entry_of, row_of, table_node}
 use Rattle.rst_block_state.specs.Titles.{Item, plain}
 use Rattle.rst_block_state.specs.declared.fault.BlockFault.{BlockFault}

@@ -8,11 +8,11 @@ use Rattle.rst_text.specs.Block.{Block}
 use Rattle.rst_text.specs.Lines.{ends_white, is_line_text, are_lines}
 use Rattle.rst_text.proofs.LineTexts.{is_line_text-parts}
 use Rattle.rst_markup_blocks.specs.Partition.{spans_from}
-use Rattle.rst_block_state.specs.Budget.{sum_of, total}
-use Rattle.rst_block_state.specs.BudgetLaws.{is_trimmed}
-use Rattle.rst_block_state.specs.Ledger.{total_at}
-use Rattle.rst_block_state.specs.LedgerLaws.{IsBounded}
-use Rattle.rst_block_state.specs.Meanings.{deepest}
+use Rattle.rst_block_state.specs.looks.Budget.{sum_of, total}
+use Rattle.rst_block_state.specs.looks.BudgetLaws.{is_trimmed}
+use Rattle.rst_block_state.specs.looks.Ledger.{total_at}
+use Rattle.rst_block_state.specs.looks.LedgerLaws.{IsBounded}
+use Rattle.rst_block_state.specs.machine.Meanings.{deepest}
 use Rattle.rst_block.proofs.BudgetLemmas.{high, low}
 use Rattle.rst_block.proofs.CellFacts.{cells_trimmed}
 use Rattle.rst_block.proofs.OpenedFacts.{blocks_inside}

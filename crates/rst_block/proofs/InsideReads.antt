@@ -2,7 +2,7 @@
 use Rattle.std.proofs.Common.{◌≡◌, ℕ, zero, suc, ◌+◌, cond, Bool, true, false, List, [], ◌∷◌, ◌++◌, map, take, drop, length, Option, None, Some, Result, Ok, Err, refl, sym, ap, ◌∙◌, subst}
 use Rattle.std.specs.Prelude.{flat_map, slice_range}
 use Rattle.std.specs.List.{AllByRecursion}
-use Rattle.rst_text.specs.Block.{Block, front_text, first_number}
+use Rattle.rst_text.specs.Block.{Block, first_text, first_number}
 use Rattle.rst_tree.specs.declared.node.Node.{Node}
 use Rattle.rst_tree.specs.declared.tag.Tag.{Tag}
 use Rattle.rst_tree.specs.declared.tag.Tag.TheVariants.{Attribution as AttributionTag, Title as TitleTag, FieldName, DefinitionListItem, Definition, Field, FieldBody}
@@ -14,7 +14,7 @@ use Rattle.rst_markup_blocks.specs.declared.forms.Explicit.{Explicit}
 use Rattle.rst_markup_blocks.specs.declared.forms.Explicit.TheVariants.{Footnote, Citation, Target, Anonymous, Substitution, Directive, Comment, EmptyComment}
 use Rattle.rst_markup_blocks.specs.declared.forms.Invocation.{Invocation}
 use Rattle.rst_markup_blocks.specs.declared.part.Part.{Part}
-use Rattle.rst_markup_directives.specs.Argument.{Given, nothing as no_argument, title, uri, language}
+use Rattle.rst_markup_directives.specs.Argument.{ArgumentMeaning, nothing as no_argument, title, uri, language}
 use Rattle.rst_markup_directives.specs.Directive.{Read, Outcome, directive_at, found, wrong}
 use Rattle.rst_markup_directives.specs.declared.found.Content.{Content}
 use Rattle.rst_markup_directives.specs.declared.found.Place.{Place}
@@ -29,7 +29,7 @@ use Rattle.rst_markup_tables.specs.declared.results.TableResult.TheVariants.{Tab
 use Rattle.rst_block_nodes.specs.Options.{directive_element}
 use Rattle.rst_block_nodes.specs.Sections.{filled}
 use Rattle.rst_block_state.specs.Constructs.{ItemMark, bullet_item, enumerated_item, definition_item, field_item, option_item, Construct, nothing, block_quote, item_of_list, doctest_block, bar_line, grid, simple, explicit_markup, transition, overlined_title, misplaced_lines, underlined_title, paragraph, Found}
-use Rattle.rst_block_state.specs.Directives.{content_nodes, called, titled_element, right_by, directive_by, definition_by, holding}
+use Rattle.rst_block_state.specs.Directives.{content_nodes, called, titled_element, right_by, directive_by, definition_by, definition_or_error}
 use Rattle.rst_block_state.specs.Inside.{quoted_by, quoted, part_of_item, content_blocks, directive_content, directive_blocks, definition_content, definition_blocks, markup_blocks, opened_by, opened_of, cell_blocks, cells_by, cells_with}
 use Rattle.rst_block_state.specs.LineRuns.{number_or}
 use Rattle.rst_block_state.specs.Lists.{item_by, item_with}
@@ -126,12 +126,12 @@ module _ (all code later titles : Bool) (levels more : ℕ) (g h : Block → Num
 
   item_alike : (B : Block) (at : ℕ) (mark : ItemMark) (X : Block) (n : ℕ) → Inside (lines_in B (part_of_item at mark X) ∷ []) → Alike all (item_by c B at mark X n) (item_by d B at mark X n)
   item_alike B at (definition_item infos) X n i =
-      after_alike all (termed (front_text X) (first_number X) n)
+      after_alike all (termed (first_text X) (first_number X) n)
       (λ (made : List Node × List Node). item_with c B DefinitionListItem Definition (first_number X) (indented_part (at + 1) (drop 1 X)) made.0 made.1)
       (λ (made : List Node × List Node). item_with d B DefinitionListItem Definition (first_number X) (indented_part (at + 1) (drop 1 X)) made.0 made.1)
       (λ made k. item_with_alike B DefinitionListItem Definition (first_number X) (indented_part (at + 1) (drop 1 X)) made.0 made.1 k i)
   item_alike B at (field_item m) X n i =
-      after_alike all (texted FieldName (first_number X) (slice_range (front_text X) m.name.from m.name.to) (first_number X) n)
+      after_alike all (texted FieldName (first_number X) (slice_range (first_text X) m.name.from m.name.to) (first_number X) n)
       (λ (made : Node × List Node). item_with c B Field FieldBody (first_number X) (hanging at m.marker X) (made.0 ∷ []) made.1)
       (λ (made : Node × List Node). item_with d B Field FieldBody (first_number X) (hanging at m.marker X) (made.0 ∷ []) made.1)
       (λ made k. item_with_alike B Field FieldBody (first_number X) (hanging at m.marker X) (made.0 ∷ []) made.1 k i)
@@ -150,7 +150,7 @@ module _ (all code later titles : Bool) (levels more : ℕ) (g h : Block → Num
       → Alike all ((content_nodes c B content >>= k) n) ((content_nodes d B content >>= k) n)
   content_then B content k n i = same_alike all (content_nodes c B content n) (content_nodes d B content n) k (content_alike B content n i)
 
-  right_alike : (given : Given) (name : Name) (B : Block) (line : ℕ) (read : Read) (lines : List ℕ) (n : ℕ) → Inside (directive_content given name B read.content)
+  right_alike : (given : ArgumentMeaning) (name : Name) (B : Block) (line : ℕ) (read : Read) (lines : List ℕ) (n : ℕ) → Inside (directive_content given name B read.content)
       → Alike all (right_by given name c B line read lines n) (right_by given name d B line read lines n)
   right_alike no_argument Code B line read lines n i = alike all _
   right_alike no_argument name B line read lines n i = content_then B read.content _ n i
@@ -166,12 +166,12 @@ module _ (all code later titles : Bool) (levels more : ℕ) (g h : Block → Num
   directive_alike (found read) B s name n i = right_alike read.argument read.name B (first_number (drop s.start B)) read _ n i
   directive_alike (wrong fault part) B s name n i = alike all _
 
-  definition_alike : (given : Given) (B : Block) (line : ℕ) (name : List ℕ) (read : Read) (lines : List ℕ) (n : ℕ) → Inside (definition_content given B read.content)
+  definition_alike : (given : ArgumentMeaning) (B : Block) (line : ℕ) (name : List ℕ) (read : Read) (lines : List ℕ) (n : ℕ) → Inside (definition_content given B read.content)
       → Alike all (definition_by given c B line name read lines n) (definition_by given d B line name read lines n)
   definition_alike (uri address) B line name read lines n i = alike all _
   definition_alike _ B line name read lines n i = content_then B read.content _ n i
 
-  holding_alike : (o : Outcome) (B : Block) (s : Span) (name written : List ℕ) (n : ℕ) → Inside (definition_blocks o B) → Alike all (holding o c B s name written n) (holding o d B s name written n)
+  holding_alike : (o : Outcome) (B : Block) (s : Span) (name written : List ℕ) (n : ℕ) → Inside (definition_blocks o B) → Alike all (definition_or_error o c B s name written n) (definition_or_error o d B s name written n)
   holding_alike (found read) B s name written n i = definition_alike read.argument B (first_number (drop s.start B)) name read _ n i
   holding_alike (wrong fault part) B s name written n i = alike all _
 
@@ -180,8 +180,8 @@ module _ (all code later titles : Bool) (levels more : ℕ) (g h : Block → Num
   same_call : (B : Block) (at : ℕ) (call : Invocation) (place : Place) → AgreesAt code later B at call → called c B at call place ≡ called d B at call place
   same_call B at call place agree = agree place (is_single_paragraph (lines_in B call.block))
 
-  held_alike : (o p : Outcome) → o ≡ p → (B : Block) (s : Span) (name written : List ℕ) (n : ℕ) → Inside (definition_blocks o B) → Alike all (holding o c B s name written n) (holding p d B s name written n)
-  held_alike o p e B s name written n i = subst (λ q. Alike all (holding o c B s name written n) (holding q d B s name written n)) e (holding_alike o B s name written n i)
+  definitions_alike : (o p : Outcome) → o ≡ p → (B : Block) (s : Span) (name written : List ℕ) (n : ℕ) → Inside (definition_blocks o B) → Alike all (definition_or_error o c B s name written n) (definition_or_error p d B s name written n)
+  definitions_alike o p e B s name written n i = subst (λ q. Alike all (definition_or_error o c B s name written n) (definition_or_error q d B s name written n)) e (holding_alike o B s name written n i)
 
   called_alike : (o p : Outcome) → o ≡ p → (B : Block) (s : Span) (name : List ℕ) (n : ℕ) → Inside (directive_blocks o B) → Alike all (directive_by o c B s name n) (directive_by p d B s name n)
   called_alike o p e B s name n i = subst (λ q. Alike all (directive_by o c B s name n) (directive_by q d B s name n)) e (directive_alike o B s name n i)
@@ -190,7 +190,7 @@ module _ (all code later titles : Bool) (levels more : ℕ) (g h : Block → Num
   markup_alike (Footnote label body) B s X n agree i = same_alike all (g (lines_in B body) n) (h (lines_in B body) n) _ (i.0 n)
   markup_alike (Citation label body) B s X n agree i = same_alike all (g (lines_in B body) n) (h (lines_in B body) n) _ (i.0 n)
   markup_alike (Substitution name (Some call) end) B s X n agree i =
-      held_alike (called c B s.start call InDefinition) (called d B s.start call InDefinition) (same_call B s.start call InDefinition agree) B s _ _ n i
+      definitions_alike (called c B s.start call InDefinition) (called d B s.start call InDefinition) (same_call B s.start call InDefinition agree) B s _ _ n i
   markup_alike (Directive call) B s X n agree i =
       called_alike (called c B s.start call (cond titles Top Body)) (called d B s.start call (cond titles Top Body)) (same_call B s.start call (cond titles Top Body) agree) B s _ n i
   markup_alike _ B s X n agree i = alike all _

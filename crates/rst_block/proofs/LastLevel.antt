@@ -9,8 +9,8 @@ use Rattle.rst_markup_blocks.specs.Lines.{lines_while}
 use Rattle.rst_markup_blocks.specs.Partition.{spans_from}
 use Rattle.rst_markup_blocks.specs.declared.lines.LineTest.TheVariants.{Blank}
 use Rattle.rst_markup_blocks.specs.declared.part.Part.{Part}
-use Rattle.rst_block_state.specs.MeaningLaws.{IsRefusedBelow, IsBlankPart, IsRefused}
-use Rattle.rst_block_state.specs.Meanings.{IsNew, Keeps, TellsBlank, after, comes, deepest, done_of, resumed, text_items, text_with, within_at}
+use Rattle.rst_block_state.specs.machine.MeaningLaws.{IsRefusedBelow, IsBlankPart, IsRefused}
+use Rattle.rst_block_state.specs.machine.Meanings.{IsNew, Keeps, TellsBlank, after, comes, deepest, done_of, resumed, text_items, text_with, within_at}
 use Rattle.rst_block_state.specs.Nodes.{below_last_level, block_items, inner_nodes, plainly}
 use Rattle.rst_block_state.specs.Numbered.{then_read, just}
 use Rattle.rst_block_state.specs.Texts.{lines_in}

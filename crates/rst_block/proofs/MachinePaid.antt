@@ -7,19 +7,19 @@ use Rattle.rst_settings.specs.declared.Settings.{Settings}
 use Rattle.rst_text.specs.Block.{Block}
 use Rattle.rst_text.specs.Lines.{are_lines}
 use Rattle.rst_text.specs.Looked.{capped}
-use Rattle.rst_text.specs.Shown.{placement_block}
+use Rattle.rst_text.specs.ViewBlock.{placement_block}
 use Rattle.rst_markup_blocks.specs.declared.part.Part.{Part}
 use Rattle.rst_markup_tables.specs.Results.{cells_of}
 use Rattle.rst_markup_tables.specs.declared.results.Cell.{Cell}
 use Rattle.rst_markup_tables.specs.declared.results.TableResult.{TableResult}
 use Rattle.rst_markup_tables.specs.declared.results.TableResult.TheVariants.{Table}
 use Rattle.rst_tree.specs.declared.node.Node.{Node}
-use Rattle.rst_block_state.specs.Budget.{sum_of, total, IsWithinBounds}
+use Rattle.rst_block_state.specs.looks.Budget.{sum_of, total, IsWithinBounds}
 use Rattle.rst_block_state.specs.Inside.{cell_blocks}
-use Rattle.rst_block_state.specs.Ledger.{total_at, totals, most_from, least_from, run_looks, most_after, least_after, most_in, least_in, most_left, least_left, Takes, TakesFor}
-use Rattle.rst_block_state.specs.Meanings.{IsNew, deepest, open_of}
-use Rattle.rst_block_state.specs.OpenBlocks.{IsMoved, HasMore}
-use Rattle.rst_block_state.specs.Rest.{no_run}
+use Rattle.rst_block_state.specs.looks.Ledger.{total_at, totals, most_from, least_from, run_looks, most_after, least_after, most_in, least_in, most_left, least_left, Takes, TakesFor}
+use Rattle.rst_block_state.specs.machine.Meanings.{IsNew, deepest, open_run_of}
+use Rattle.rst_block_state.specs.machine.OpenBlocks.{IsMoved, HasMore}
+use Rattle.rst_block_state.specs.machine.Rest.{no_run}
 use Rattle.rst_block_state.specs.Texts.{lines_in}
 use Rattle.rst_block_state.specs.declared.frame.Frame.{Frame}
 use Rattle.rst_block_state.specs.declared.open_block.OpenBlock.{OpenBlock}
@@ -122,7 +122,7 @@ table_paid old moved mid new B depth found cols head end rows more last before n
 -- ---- blocks that wait
 
 -- a run that ended is none
-none_open : (r : Run) → open_of r ≡ no_run → r ≡ NoRun
+none_open : (r : Run) → open_run_of r ≡ no_run → r ≡ NoRun
 none_open NoRun h = refl
 none_open _ h = cc
 

@@ -4,9 +4,9 @@ use Rattle.std.specs.Prelude.{IfSome, unwrap_or, option_map}
 use Rattle.std.specs.Option.{option_and_then}
 use Rattle.std.proofs.lemmas.List.{drop-drop}
 use Rattle.rst_markup_blocks.proofs.ExplicitLemmas.{label_end, explicit_ends, hanging_block}
-use Rattle.rst_text.specs.Block.{Block, front_text, is_blank}
+use Rattle.rst_text.specs.Block.{Block, first_text, is_blank}
 use Rattle.rst_text.proofs.CutLaws.{length-cut}
-use Rattle.rst_markup_lines.specs.ExplicitMarks.{dots, label_of, target_of, substitution_of, directive_of}
+use Rattle.rst_markup_lines.specs.ExplicitMarks.{dots, label_of, target_of, substitution_of, directive_mark_of}
 use Rattle.rst_markup_lines.specs.Place.{place_of}
 use Rattle.rst_markup_lines.specs.declared.explicit_marks.DirectiveMark.{DirectiveMark}
 use Rattle.rst_markup_lines.specs.declared.explicit_marks.LabelKind.{LabelKind}
@@ -16,7 +16,7 @@ use Rattle.rst_markup_lines.specs.declared.explicit_marks.TargetMark.TheVariants
 use Rattle.rst_markup_lines.specs.declared.marker.Marker.{Marker}
 use Rattle.rst_markup_lines.specs.declared.place.Characters.{Characters}
 use Rattle.rst_markup_blocks.specs.Conditions.{next_text}
-use Rattle.rst_markup_blocks.specs.Explicit.{call_of, call_by, held_of, label_with, explicit_by, behind_dots, anonymous_of, explicit_with, explicit_of, explicit_size, explicit_end}
+use Rattle.rst_markup_blocks.specs.Explicit.{call_of, call_by, embedded_directive, label_with, explicit_by, after_dots, anonymous_of, explicit_with, explicit_of, explicit_size, explicit_end}
 use Rattle.rst_markup_blocks.specs.ExplicitMarkup.{explicit_form, substitution_form, hanging_part}
 use Rattle.rst_markup_blocks.specs.Parts.{IsBlock}
 use Rattle.rst_markup_blocks.specs.Sizes.{hanging_size}
@@ -28,12 +28,12 @@ use Rattle.rst_markup_blocks.specs.declared.forms.Explicit.TheVariants.{EmptyCom
 use Rattle.rst_markup_blocks.specs.declared.forms.Invocation.{Invocation}
 use Rattle.rst_markup_blocks.specs.declared.part.Part.{Part}
 use Rattle.rst_markup_directives.specs.declared.found.Place.TheVariants.{Top, Body, Substitution as InDefinition}
-use Rattle.rst_block_state.specs.Budget.{sum_of}
-use Rattle.rst_block_state.specs.BudgetLaws.{is_trimmed, IsFronted, AreWithin}
+use Rattle.rst_block_state.specs.looks.Budget.{sum_of}
+use Rattle.rst_block_state.specs.looks.BudgetLaws.{is_trimmed, IsFronted, HaveAtMostLines}
 use Rattle.rst_block_state.specs.Inside.{substitution_blocks, markup_blocks}
 use Rattle.rst_block_state.specs.Texts.{lines_in}
 use Rattle.rst_block_state.specs.Within.{Within}
-use Rattle.rst_block_markup.proofs.ContentFacts.{none_within, more_within, directive_within, held_within}
+use Rattle.rst_block_markup.proofs.ContentFacts.{none_within, more_within, directive_within, call_blocks_within}
 use Rattle.rst_block_state.proofs.MarkFacts.{Tells, label_tells, directive_tells}
 use Rattle.rst_block_state.proofs.PartFacts.{hanging_fronted, hanging_from, hanging_le}
 
@@ -63,7 +63,7 @@ form_tells t =
     row_tells t _ _ (map_tells t (λ l. Label l) (label_of t) (label_tells t))
     (row_tells t _ _ (any_tells t (λ m. Target m) (target_of t) (λ m. tt))
     (row_tells t _ _ (by (substitution_of t))
-    (row_tells t _ _ (map_tells t (λ d. Directive d) (directive_of true t) (directive_tells true t)) tt)))
+    (row_tells t _ _ (map_tells t (λ d. Directive d) (directive_mark_of true t) (directive_tells true t)) tt)))
   where
     by : (o : _) → IfSome (option_and_then substitution_form o) (FormTells t)
     by None = tt
@@ -81,48 +81,48 @@ shifted_tells n t m h = h ∙ ap is_blank (drop-drop m.cut n t)
 abbrev IsCalled : Block → ℕ → Invocation → Type 0
 IsCalled B i call = IsFronted (lines_in B call.block) × (length (lines_in B call.block) ≡ call.block.to - call.block.from) × (length (lines_in B call.block) ≤ hanging_size (drop i B))
 
-call_is : (B : Block) (i n : ℕ) (d : DirectiveMark) → is_trimmed B ≡ true → i < length B → Tells (drop n (front_text (drop i B))) d.marker → IsCalled B i (call_of i n d (drop i B))
+call_is : (B : Block) (i n : ℕ) (d : DirectiveMark) → is_trimmed B ≡ true → i < length B → Tells (drop n (first_text (drop i B))) d.marker → IsCalled B i (call_of i n d (drop i B))
 call_is B i n d h inside tells =
     let X : Block = drop i B in
     let cut : ℕ = n + d.marker.cut in
     let p : Part = hanging_part i cut d.marker.bare X in
     let b : IsBlock B p = hanging_block B i cut d.marker.bare inside in
-    (hanging_fronted B i cut d.marker.bare h (shifted_tells n (front_text X) d.marker tells), length-cut B p.from p.to p.first_cut p.rest_cut b.within, hanging_le B X i cut d.marker.bare)
+    (hanging_fronted B i cut d.marker.bare h (shifted_tells n (first_text X) d.marker tells), length-cut B p.from p.to p.first_cut p.rest_cut b.within, hanging_le B X i cut d.marker.bare)
 
-held_is : (c : Within) (B : Block) (i n : ℕ) → is_trimmed B ≡ true → i < length B → AreWithin (hanging_size (drop i B)) (substitution_blocks (held_of i n (drop i B)) c B i)
-unfolding held_of
-held_is c B i n h inside = by (directive_of false (drop n (front_text (drop i B)))) (directive_tells false (drop n (front_text (drop i B))))
+embedded_is : (c : Within) (B : Block) (i n : ℕ) → is_trimmed B ≡ true → i < length B → HaveAtMostLines (hanging_size (drop i B)) (substitution_blocks (embedded_directive i n (drop i B)) c B i)
+unfolding embedded_directive
+embedded_is c B i n h inside = by (directive_mark_of false (drop n (first_text (drop i B)))) (directive_tells false (drop n (first_text (drop i B))))
   where
     X : Block
     X = drop i B
 
-    by : (o : Option DirectiveMark) → IfSome o (λ d. Tells (drop n (front_text X)) d.marker) → AreWithin (hanging_size X) (substitution_blocks (call_by o i n X) c B i)
+    by : (o : Option DirectiveMark) → IfSome o (λ d. Tells (drop n (first_text X)) d.marker) → HaveAtMostLines (hanging_size X) (substitution_blocks (call_by o i n X) c B i)
     by None tells = none_within (hanging_size X)
     by (Some d) tells =
         let call : Invocation = call_of i n d X in
         let k = call_is B i n d h inside tells in
-        more_within (length (lines_in B call.block)) (hanging_size X) _ k.2 (held_within c B i call InDefinition k.0 k.1)
+        more_within (length (lines_in B call.block)) (hanging_size X) _ k.2 (call_blocks_within c B i call InDefinition k.0 k.1)
 
 label_is : (c : Within) (B : Block) (i : ℕ) (k : LabelKind) (label : Characters) (body : Part) → IsFronted (lines_in B body) → length (lines_in B body) ≤ hanging_size (drop i B)
-    → AreWithin (hanging_size (drop i B)) (markup_blocks (label_with k label body) c B i)
+    → HaveAtMostLines (hanging_size (drop i B)) (markup_blocks (label_with k label body) c B i)
 unfolding sum_of
 label_is c B i FootnoteLabel label body f few = record { few = omega (arith, few); fronted = (f, tt) }
 label_is c B i CitationLabel label body f few = record { few = omega (arith, few); fronted = (f, tt) }
 
 -- the blocks of markup that ends at its place
 abbrev AreOf : Explicit → Within → Block → ℕ → Type 0
-AreOf x c B i = AreWithin (explicit_end i x - i) (markup_blocks x c B i)
+AreOf x c B i = HaveAtMostLines (explicit_end i x - i) (markup_blocks x c B i)
 
-form_is : (c : Within) (B : Block) (i : ℕ) (m : Marker) (f : ExplicitForm) → is_trimmed B ≡ true → i < length B → FormTells (drop m.cut (front_text (drop i B))) f → AreOf (explicit_by f i m (drop i B)) c B i
+form_is : (c : Within) (B : Block) (i : ℕ) (m : Marker) (f : ExplicitForm) → is_trimmed B ≡ true → i < length B → FormTells (drop m.cut (first_text (drop i B))) f → AreOf (explicit_by f i m (drop i B)) c B i
 form_is c B i m (Label l) h inside tells =
     let X : Block = drop i B in
     let cut : ℕ = m.cut + l.marker.cut in
     let place : Characters = place_of (m.cut + 1) l.len in
     let p : Part = hanging_part i cut l.marker.bare X in
-    let f : IsFronted (lines_in B p) = hanging_fronted B i cut l.marker.bare h (shifted_tells m.cut (front_text X) l.marker tells) in
+    let f : IsFronted (lines_in B p) = hanging_fronted B i cut l.marker.bare h (shifted_tells m.cut (first_text X) l.marker tells) in
     more_within (hanging_size X) (explicit_end i (label_with l.kind place p) - i) _ (omega (arith, label_end i l.kind place p, (hanging_from i cut l.marker.bare X).1)) (label_is c B i l.kind place p f (hanging_le B X i cut l.marker.bare))
 form_is c B i m (Target (Named from len k)) h inside tells = none_within _
-form_is c B i m (Substitution len x) h inside tells = more_within (hanging_size (drop i B)) (i + hanging_size (drop i B) - i) _ (omega arith) (held_is c B i (m.cut + x.cut) h inside)
+form_is c B i m (Substitution len x) h inside tells = more_within (hanging_size (drop i B)) (i + hanging_size (drop i B) - i) _ (omega arith) (embedded_is c B i (m.cut + x.cut) h inside)
 form_is c B i m (Directive d) h inside tells =
     let X : Block = drop i B in
     let call : Invocation = call_of i m.cut d X in
@@ -132,15 +132,15 @@ form_is c B i m _ h inside tells = none_within _
 
 -- ---- explicit markup
 
-behind_is : (c : Within) (B : Block) (i : ℕ) (m : Marker) → is_trimmed B ≡ true → i < length B → AreOf (behind_dots i m (drop i B)) c B i
-unfolding behind_dots
-behind_is c B i m h inside = by m.bare (is_blank (next_text (drop i B)))
+after_dots_is : (c : Within) (B : Block) (i : ℕ) (m : Marker) → is_trimmed B ≡ true → i < length B → AreOf (after_dots i m (drop i B)) c B i
+unfolding after_dots
+after_dots_is c B i m h inside = by m.bare (is_blank (next_text (drop i B)))
   where
     X : Block
     X = drop i B
 
     t : List ℕ
-    t = drop m.cut (front_text X)
+    t = drop m.cut (first_text X)
 
     by : (a b : Bool) → AreOf (cond a (cond b EmptyComment (CommentMarkup (hanging_part i m.cut true X) Plain)) (explicit_by (explicit_form t) i m X)) c B i
     by true true = none_within _
@@ -148,18 +148,18 @@ behind_is c B i m h inside = by m.bare (is_blank (next_text (drop i B)))
     by false b = form_is c B i m (explicit_form t) h inside (form_tells t)
 
 -- the blocks of explicit markup
-pub markup_within : (c : Within) (B : Block) (i : ℕ) → is_trimmed B ≡ true → i < length B → AreWithin (explicit_size (drop i B)) (markup_blocks (explicit_of i (drop i B)) c B i)
+pub markup_within : (c : Within) (B : Block) (i : ℕ) → is_trimmed B ≡ true → i < length B → HaveAtMostLines (explicit_size (drop i B)) (markup_blocks (explicit_of i (drop i B)) c B i)
 unfolding explicit_of anonymous_of
-markup_within c B i h inside = more_within (explicit_end i (explicit_of i X) - i) (explicit_size X) _ (omega (arith, explicit_ends i X)) (by (dots (front_text X)))
+markup_within c B i h inside = more_within (explicit_end i (explicit_of i X) - i) (explicit_size X) _ (omega (arith, explicit_ends i X)) (by (dots (first_text X)))
   where
     X : Block
     X = drop i B
 
     by : (o : Option Marker) → AreOf (explicit_with o i X) c B i
     by None = none_within _
-    by (Some m) = behind_is c B i m h inside
+    by (Some m) = after_dots_is c B i m h inside
 
 -- an anonymous target opens none
-pub anonymous_within : (c : Within) (B : Block) (i n : ℕ) → dots (front_text (drop i B)) ≡ None → AreWithin n (markup_blocks (explicit_of i (drop i B)) c B i)
+pub anonymous_within : (c : Within) (B : Block) (i n : ℕ) → dots (first_text (drop i B)) ≡ None → HaveAtMostLines n (markup_blocks (explicit_of i (drop i B)) c B i)
 unfolding explicit_of anonymous_of
 anonymous_within c B i n e = rw e (none_within n)

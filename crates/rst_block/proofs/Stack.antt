@@ -2,10 +2,10 @@
 use Rattle.std.proofs.Common.{◌≡◌, ℕ, suc, ◌+◌, ◌-◌, ◌*◌, ◌<◌, ◌≤◌, ◌++◌, List, [], ◌∷◌, length, length-append, take, drop, map, Option, None, Some, arith, refl, ap, sym, subst, ◌∙◌}
 use Rattle.std.proofs.lemmas.List.{drop-append-le, take-append-le, map-append, length-map}
 use Rattle.rst_text.specs.Block.{Block}
-use Rattle.rst_text.specs.Shown.{placement_block}
+use Rattle.rst_text.specs.ViewBlock.{placement_block}
 use Rattle.rst_markup_blocks.specs.declared.part.Part.{Part}
-use Rattle.rst_block_state.specs.Frames.{IsFrame, AreFrames, AreNested, IsNow, HasSecond}
-use Rattle.rst_block_state.specs.Steps.{IsTable, IsStep, IsNext, IsResumed}
+use Rattle.rst_block_state.specs.machine.Frames.{IsFrame, AreFrames, AreNested, IsNow, HasSecond}
+use Rattle.rst_block_state.specs.machine.Steps.{IsTable, IsStep, IsNext, IsResumed}
 use Rattle.rst_block_state.specs.declared.frame.Frame.{Frame}
 use Rattle.rst_block_state.specs.declared.step.Step.{Step}
 use Rattle.rst_block_state.specs.declared.step.Step.TheVariants.{Next, Open, Cells, Done}

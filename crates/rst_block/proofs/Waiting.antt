@@ -1,16 +1,16 @@
 -- A block inside one that waits has ended: the next part is read for the one that waits, or it goes on with the nodes of the one inside.
 use Rattle.std.proofs.Common.{◌≡◌, ℕ, suc, ◌<◌, ◌≤◌, List, [], ◌∷◌, ◌++◌, Option, Some, None, Result, Err, arith, sym, ◌∙◌, ap}
 use Rattle.rst_text.specs.Block.{Block}
-use Rattle.rst_text.specs.Shown.{block_of, placement_block}
+use Rattle.rst_text.specs.ViewBlock.{block_of, placement_block}
 use Rattle.rst_text.specs.declared.view.View.{View}
 use Rattle.rst_tree.specs.declared.node.Node.{Node}
 use Rattle.rst_markup_blocks.specs.declared.part.Part.{Part}
 use Rattle.rst_block_nodes.specs.Sections.{items_of}
-use Rattle.rst_block_state.specs.Frames.{ended_as}
-use Rattle.rst_block_state.specs.Meanings.{IsNew, Keeps, after, comes, deepest, done_of, open_of, plug, reads, reads_from, resumed, with_item, within_at}
+use Rattle.rst_block_state.specs.machine.Frames.{ended_as}
+use Rattle.rst_block_state.specs.machine.Meanings.{IsNew, Keeps, after, comes, deepest, done_of, open_run_of, plug, reads, reads_from, resumed, with_item, within_at}
 use Rattle.rst_block_state.specs.Nodes.{block_items, nodes_among}
 use Rattle.rst_block_state.specs.Numbered.{Numbered, ◌>>=◌, just}
-use Rattle.rst_block_state.specs.OpenBlocks.{HasMore, HasItem}
+use Rattle.rst_block_state.specs.machine.OpenBlocks.{HasMore, HasItem}
 use Rattle.rst_block_state.specs.Texts.{lines_in}
 use Rattle.rst_block_state.specs.Titles.{Item}
 use Rattle.rst_block_state.specs.declared.fault.BlockFault.{BlockFault}
@@ -147,6 +147,6 @@ nodes_given {old} B n h e is = ap (λ l. reads l B n) is ∙ at_number n (more_i
 
 -- an item is given in its list
 pub item_given : (old new last : OpenBlock) (B : Block) (item wanted : Node) (n : ℕ) → HasItem old new item → item ≡ wanted → last ≡ new
-    → reads last B n ≡ with_item old B wanted (open_of old.run) n
+    → reads last B n ≡ with_item old B wanted (open_run_of old.run) n
 item_given old new last B item wanted n h e is =
-    ap (λ l. reads l B n) is ∙ at_number n (item_is_read old new B item h) ∙ ap (λ node. with_item old B node (open_of old.run) n) e
+    ap (λ l. reads l B n) is ∙ at_number n (item_is_read old new B item h) ∙ ap (λ node. with_item old B node (open_run_of old.run) n) e

@@ -14,11 +14,11 @@ abbrev pub AgreeOn : (Block → Numbered (List Node)) → (Block → Numbered (L
 AgreeOn f g Cs = AllByRecursion (λ C. (number : ℕ) → f C number ≡ g C number) Cs
 
 -- the same with another reading of the blocks inside
-abbrev pub reading : Within → (Block → Numbered (List Node)) → Within
-reading c g = record { titles = c.titles; code = c.code; levels = c.levels; inner = g }
+abbrev pub with_reading : Within → (Block → Numbered (List Node)) → Within
+with_reading c g = record { titles = c.titles; code = c.code; levels = c.levels; inner = g }
 
 -- what a construct gives depends on no other block than those that it opens and its cells
 abbrev pub InsideIsRead : Type 0
 InsideIsRead = (c : Within) (g : Block → Numbered (List Node)) (B : Block) (f : Found) (number : ℕ) → AgreeOn c.inner g (opened_of c B f)
     → AgreeOn c.inner g (cells_with B f)
-    → piece_of c B f number ≡ piece_of (reading c g) B f number
+    → piece_of c B f number ≡ piece_of (with_reading c g) B f number

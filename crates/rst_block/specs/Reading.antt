@@ -1,13 +1,13 @@
 -- What is read of a text, and what is left of it, between the tables in it.
 use Rattle.std.specs.Prelude.{◌≡◌, ℕ, zero, suc, ◌+◌, ◌-◌, ◌*◌, ◌^◌, ◌≤◌, List, [], ◌∷◌, length, drop, map, Option, Some, None, Result, IfOk}
 use Rattle.rst_text.specs.Block.{Block}
-use Rattle.rst_text.specs.Shown.{block_of, source_of, placement_block}
+use Rattle.rst_text.specs.ViewBlock.{block_of, source_of, placement_block}
 use Rattle.rst_text.specs.declared.view.View.{View}
 use Rattle.rst_markup_blocks.specs.declared.part.Part.{Part}
 use Rattle.rst_markup_tables.specs.declared.results.TableResult.{TableResult}
-use Rattle.rst_block_state.specs.Frames.{AreFrames, AreNested, IsNow}
-use Rattle.rst_block_state.specs.Ledger.{Takes, least_left, most_left}
-use Rattle.rst_block_state.specs.Meanings.{Keeps, comes}
+use Rattle.rst_block_state.specs.machine.Frames.{AreFrames, AreNested, IsNow}
+use Rattle.rst_block_state.specs.looks.Ledger.{Takes, least_left, most_left}
+use Rattle.rst_block_state.specs.machine.Meanings.{Keeps, comes}
 use Rattle.rst_block_state.specs.Numbered.{Numbered}
 use Rattle.rst_block_state.specs.Titles.{Item}
 use Rattle.rst_block_state.specs.declared.fault.BlockFault.{BlockFault}

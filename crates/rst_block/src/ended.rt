@@ -1,10 +1,10 @@
 //! The end of a block inside another.
 ghost use Rattle.std.specs.Prelude.{◌≡◌, suc, ◌-◌, ◌<◌, IfOk};
-ghost use Rattle.rst_text.specs.Shown.{source_of, placement_block};
-ghost use Rattle.rst_block_state.specs.Frames as frames;
-ghost use Rattle.rst_block_state.specs.Meanings.{Keeps, after, deepest, done_of};
+ghost use Rattle.rst_text.specs.ViewBlock.{source_of, placement_block};
+ghost use Rattle.rst_block_state.specs.machine.Frames as frames;
+ghost use Rattle.rst_block_state.specs.machine.Meanings.{Keeps, after, deepest, done_of};
 ghost use Rattle.rst_block_state.specs.Nodes.{nodes_among};
-ghost use Rattle.rst_block_state.specs.Ledger.{Takes, ended_least, ended_most, least_after, most_after};
+ghost use Rattle.rst_block_state.specs.looks.Ledger.{Takes, ended_least, ended_most, least_after, most_after};
 
 use super::resume::resume;
 use rst_block_state::{Ended, Frame, OpenBlock, Pass, Result, inside};

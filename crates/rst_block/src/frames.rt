@@ -1,6 +1,6 @@
 //! The blocks that wait for one inside them.
 ghost use Rattle.std.specs.Prelude.{◌≡◌, ◌<◌, ◌≤◌, [], ◌∷◌, ◌++◌, length, IfNone, IfSome};
-ghost use Rattle.rst_block_state.specs.OpenBlocks.{Gives};
+ghost use Rattle.rst_block_state.specs.machine.OpenBlocks.{Gives};
 
 use arrayvec::ArrayVec;
 use rst_block_state::{Frame, Result};

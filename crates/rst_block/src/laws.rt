@@ -1,11 +1,11 @@
 //! Laws on the definitions, each by a function that does nothing and whose contract is the law.
-ghost use Rattle.rst_block_state.specs.Begins.{MarksTellConstructs};
-ghost use Rattle.rst_block_state.specs.BudgetLaws as budget;
+ghost use Rattle.rst_block_state.specs.machine.Begins.{MarksTellConstructs};
+ghost use Rattle.rst_block_state.specs.looks.BudgetLaws as budget;
 ghost use Rattle.rst_block.specs.InsideLaws as inside;
-ghost use Rattle.rst_block_state.specs.LedgerLaws as ledger;
-ghost use Rattle.rst_block_state.specs.MeaningLaws as meaning;
-ghost use Rattle.rst_block_state.specs.Reaches as reaches;
-ghost use Rattle.rst_block_state.specs.RestLaws as law;
+ghost use Rattle.rst_block_state.specs.looks.LedgerLaws as ledger;
+ghost use Rattle.rst_block_state.specs.machine.MeaningLaws as meaning;
+ghost use Rattle.rst_block_state.specs.looks.Reaches as reaches;
+ghost use Rattle.rst_block_state.specs.machine.RestLaws as law;
 
 /// The construct at a line is the one with the mark that is found there.
 pub fn marks_tell_constructs()

@@ -1,7 +1,7 @@
 //! A document's tree.
 ghost use Rattle.rst_settings.specs.Profile.{profile_of};
 ghost use Rattle.rst_settings.specs.declared.Settings.{Settings};
-ghost use Rattle.rst_block_state.specs.Budget.{IsWithinBounds};
+ghost use Rattle.rst_block_state.specs.looks.Budget.{IsWithinBounds};
 ghost use Rattle.rst_block.specs.Documents as spec;
 ghost use Rattle.std.specs.Prelude.{IfOk};
 
@@ -18,7 +18,7 @@ use std::alloc::Global;
 /// It is refused with [`BlockFault::TooDeep`] where a block that isn't blank is inside more than 250 blocks: at the first such
 /// block; and with [`BlockFault::NoMemory`].
 pub fn parse(alloc: Global, lines: &Lines) -> Result<Parsed>
-    ensures tree { (settings : Settings) → spec.Parses (spec.document (profile_of settings) lines.now 0) result }
+    ensures tree { (settings : Settings) → spec.ParsesLines (spec.document (profile_of settings) lines.now 0) result }
     ensures looks { (settings : Settings) → IfOk result (λ parsed. IsWithinBounds (profile_of settings) lines.now parsed.looks) }
 {
     let mut pass = Pass {

@@ -1,12 +1,12 @@
 //! What is done with the nodes of a block inside once it is read.
 ghost use Rattle.std.specs.Prelude.{◌≡◌, ◌+◌, ◌-◌, [], ◌∷◌, ◌++◌, IfOk, option_map, box_value, ℕ, Box, Option, None, Some};
-ghost use Rattle.rst_text.specs.Shown.{block_of};
+ghost use Rattle.rst_text.specs.ViewBlock.{block_of};
 ghost use Rattle.rst_tree.specs.Faults as faults;
 ghost use Rattle.rst_block_nodes.specs.Elements.{element_of};
-ghost use Rattle.rst_block_state.specs.Steps as spec;
-ghost use Rattle.rst_block_state.specs.Meanings.{after_quote, quote_by, resumed};
-ghost use Rattle.rst_block_state.specs.OpenBlocks.{Gives, HasMore};
-ghost use Rattle.rst_block_state.specs.Ledger.{least_after, most_after};
+ghost use Rattle.rst_block_state.specs.machine.Steps as spec;
+ghost use Rattle.rst_block_state.specs.machine.Meanings.{after_quote, quote_by, resumed};
+ghost use Rattle.rst_block_state.specs.machine.OpenBlocks.{Gives, HasMore};
+ghost use Rattle.rst_block_state.specs.looks.Ledger.{least_after, most_after};
 ghost use Rattle.rst_block.specs.Reading.{Continues};
 ghost use Rattle.std.specs.declared.alloc.Global.{Global};
 ghost use Rattle.rst_block_nodes.specs.declared.texted.Texted.{Texted};

@@ -1,10 +1,10 @@
 //! One step: the construct at the next line of a block.
 ghost use Rattle.std.specs.Prelude.{◌≢◌, ◌<◌, length, IfOk};
-ghost use Rattle.rst_text.specs.Shown.{block_of};
+ghost use Rattle.rst_text.specs.ViewBlock.{block_of};
 ghost use Rattle.rst_markup_blocks.specs.declared.begun.Begun.TheVariants.{Blank, Text};
-ghost use Rattle.rst_block_state.specs.Steps as spec;
+ghost use Rattle.rst_block_state.specs.machine.Steps as spec;
 ghost use Rattle.rst_block.specs.Reading.{ContinuesFrom};
-ghost use Rattle.rst_block_body.specs.ReadSteps.{BeginsAt, IsRead};
+ghost use Rattle.rst_block_body.specs.ReadSteps.{BeginsAt, IsReadStep};
 ghost use Rattle.rst_block_state.specs.declared.step.Step.TheVariants.{Next};
 
 use rst_block_body::adornment::adornment;
@@ -51,7 +51,7 @@ fn marked_step(
     requires here { BeginsAt (block_of view.now) level.old begun }
     requires filled { begun ≢ Blank }
     requires mark { begun ≢ Text }
-    ensures { IsRead 29 (block_of view.now) level.old pass.old level.new pass.new result }
+    ensures { IsReadStep 29 (block_of view.now) level.old pass.old level.new pass.new result }
 {
     let at = level.at;
     match begun {

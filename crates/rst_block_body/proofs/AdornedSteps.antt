@@ -6,7 +6,7 @@ use Rattle.std.specs.Option.{option_map_or}
 use Rattle.rst_text.specs.Block.{Block, first_number}
 use Rattle.rst_tree.specs.declared.node.Node.{Node}
 use Rattle.rst_tree.specs.declared.note.Level.{Level}
-use Rattle.rst_markup_lines.specs.Front.{unindented}
+use Rattle.rst_markup_lines.specs.TextStart.{unindented}
 use Rattle.rst_markup_lines.specs.declared.adornment.Adornment.{Adornment}
 use Rattle.rst_markup_blocks.specs.Begun.{IsBegun}
 use Rattle.rst_markup_blocks.specs.Conditions.{next_text}
@@ -17,8 +17,8 @@ use Rattle.rst_markup_blocks.specs.declared.form.Adorned.{Adorned}
 use Rattle.rst_markup_blocks.specs.declared.form.Adorned.TheVariants.{Title as AdornedTitle, Text, Unexpected, ShortAdornment}
 use Rattle.rst_block_nodes.specs.declared.heading.Style.{Style}
 use Rattle.rst_block_state.specs.Constructs.{adorned_by, misplaced_lines}
-use Rattle.rst_block_state.specs.NextLine.{IsNextConstruct, IsMessageOn}
-use Rattle.rst_block_state.specs.Texts.{source_of}
+use Rattle.rst_block_state.specs.machine.NextLine.{IsNextConstruct, IsMessageOn}
+use Rattle.rst_block_state.specs.Texts.{span_source}
 use Rattle.rst_block_state.specs.Titles.{Item, short_warning, title_item, overlined_nodes}
 use Rattle.rst_block_state.specs.declared.open_block.OpenBlock.{OpenBlock}
 use Rattle.rst_block_state.proofs.NextConstructs.{next_of, span_to}
@@ -78,8 +78,8 @@ wrong_next l B {mark} level text h e m s =
 -- the title that is made is that of the lines
 pub overlined_reads : (mark : Adornment) (short : Bool) (B : Block) (at stop line m : ℕ) (text bytes : List ℕ) (warning : Option Node) (read : Result (List Item × ℕ) ℕ)
     → text ≡ unindented (next_text (drop at B)) → line ≡ first_number (drop 1 (drop at B)) → warning ≡ short_warning short (first_number (drop at B)) (codes "Title overline too short.") bytes
-    → bytes ≡ source_of B (span_to at stop) → title_item (record { character = mark.character; overlined = true }) text line warning bytes m ≡ read
-    → overlined_nodes mark short (source_of B (span_to at stop)) (drop at B) m ≡ read
+    → bytes ≡ span_source B (span_to at stop) → title_item (record { character = mark.character; overlined = true }) text line warning bytes m ≡ read
+    → overlined_nodes mark short (span_source B (span_to at stop)) (drop at B) m ≡ read
 overlined_reads mark short B at stop line m text bytes warning read t n w b h =
     let X : Block = drop at B in
     let style : Style = record { character = mark.character; overlined = true } in

@@ -3,7 +3,7 @@ use Rattle.std.proofs.Common.{◌≡◌, ℕ, ◌+◌, ◌-◌, ◌<◌, ◌≤�
 use Rattle.std.specs.Prelude.{if◌then◌else◌, box_value}
 use Rattle.std.specs.declared.string.String.{String}
 use Rattle.std.proofs.lemmas.Str.{chars-append, chars_from_encodes, encode_ascii}
-use Rattle.rst_text.specs.Block.{Block, front_text, first_number, cut, shorten_all}
+use Rattle.rst_text.specs.Block.{Block, first_text, first_number, cut, shorten_all}
 use Rattle.rst_text.specs.Text.{chars_of}
 use Rattle.rst_markup_lines.specs.declared.marker.Marker.{Marker}
 use Rattle.rst_markup_blocks.specs.Partition.{Span}
@@ -13,12 +13,12 @@ use Rattle.rst_block_state.specs.Constructs.{bar_line, Found}
 use Rattle.rst_block_state.specs.Joins.{lines_from, joining_after}
 use Rattle.rst_block_state.specs.LineRuns.{below_bar, bar_lines, number_or, indentation_of, indented_line, indented_lines}
 use Rattle.rst_block_body.specs.TextSteps.{text_over}
-use Rattle.rst_block_state.specs.Meanings.{joining_in, open_of, within_at, done_of, reads}
-use Rattle.rst_block_state.specs.NextLine.{IsNextConstruct}
+use Rattle.rst_block_state.specs.machine.Meanings.{joining_in, open_run_of, within_at, done_of, reads}
+use Rattle.rst_block_state.specs.machine.NextLine.{IsNextConstruct}
 use Rattle.rst_block_state.specs.Numbered.{Numbered, ◌>>=◌, before}
-use Rattle.rst_block_state.specs.OpenBlocks.{IsMoved, HasRun, HasLine, line_added, lines_end_at}
-use Rattle.rst_block_state.specs.Rest.{OpenRun, no_run, open_lines, joining_with, last_indent, rest, rest_with}
-use Rattle.rst_block_state.specs.RestLaws.{found_as}
+use Rattle.rst_block_state.specs.machine.OpenBlocks.{IsMoved, HasRun, HasLine, line_added, lines_end_at}
+use Rattle.rst_block_state.specs.machine.Rest.{OpenRun, no_run, open_lines, joining_with, last_indent, rest, rest_with}
+use Rattle.rst_block_state.specs.machine.RestLaws.{found_as}
 use Rattle.rst_block_state.specs.Texts.{joined}
 use Rattle.rst_block_state.specs.Titles.{Item}
 use Rattle.rst_block_state.specs.declared.open_block.OpenBlock.{OpenBlock}
@@ -54,18 +54,18 @@ over_none text first [] none e = ap chars e
 over_none text first (l ∷ ls) none e = absurd (omega (arith, none))
 
 -- the rest of a bar's line
-first_cut : (f : ℕ) (X : Block) → 1 ≤ length X → shorten_all f 0 (take 1 X) ≡ (record { number = first_number X; text = drop f (front_text X) }) ∷ []
+first_cut : (f : ℕ) (X : Block) → 1 ≤ length X → shorten_all f 0 (take 1 X) ≡ (record { number = first_number X; text = drop f (first_text X) }) ∷ []
 first_cut f [] some = absurd (omega (arith, some))
 first_cut f (l ∷ ls) some = refl
 
-line_cut : (B : Block) (at f : ℕ) → at < length B → cut B at (at + 1) f 0 ≡ (record { number = first_number (drop at B); text = drop f (front_text (drop at B)) }) ∷ []
+line_cut : (B : Block) (at f : ℕ) → at < length B → cut B at (at + 1) f 0 ≡ (record { number = first_number (drop at B); text = drop f (first_text (drop at B)) }) ∷ []
 line_cut B at f h =
     let one : at + 1 - at ≡ 1 = omega arith in
     ap (λ n. shorten_all f 0 (take n (drop at B))) one ∙ first_cut f (drop at B) (omega (arith, length-drop at B, h))
 
 -- the lines of a bar's text
 full_lines : (B : Block) (m : Marker) (s : Span) → m.bare ≡ false → s.start < length B
-    → bar_lines B m s ≡ (record { number = first_number (drop s.start B); text = drop m.cut (front_text (drop s.start B)) }) ∷ below_bar B s
+    → bar_lines B m s ≡ (record { number = first_number (drop s.start B); text = drop m.cut (first_text (drop s.start B)) }) ∷ below_bar B s
 full_lines B m s bare h =
     ap (λ (b : Bool). if b then below_bar B s else cut B s.start (s.start + 1) m.cut 0 ++ below_bar B s) bare
     ∙ ap (λ X. X ++ below_bar B s) (line_cut B s.start m.cut h)
@@ -79,7 +79,7 @@ line_is i j line m n k t u a b c d = rw (a, b, c, d) refl
 
 -- a line with text after its bar
 pub full_line : (B : Block) (m : Marker) (s : Span) (indent line last : ℕ) (t : List ℕ) (below : Block) → m.bare ≡ false → s.start < length B → indent ≡ m.cut - 2 → line ≡ first_number (drop s.start B)
-    → below ≡ below_bar B s → t ≡ text_over (drop m.cut (front_text (drop s.start B))) below
+    → below ≡ below_bar B s → t ≡ text_over (drop m.cut (first_text (drop s.start B))) below
     → (let l : IndentedLine = record { indent = indent; line = line; text_line = line; text = t } in l) ≡ indented_line (indentation_of last m) B m s
 full_line B m s indent line last t below bare h i n b e =
     let lines = full_lines B m s bare h in
@@ -87,7 +87,7 @@ full_line B m s indent line last t below bare h i n b e =
     (i ∙ sym (ap (λ (c : Bool). if c then last else m.cut - 2) bare))
     n
     (n ∙ sym (ap (number_or (first_number (drop s.start B))) lines))
-    (e ∙ ap (text_over (drop m.cut (front_text (drop s.start B)))) b ∙ sym (ap joined lines))
+    (e ∙ ap (text_over (drop m.cut (first_text (drop s.start B)))) b ∙ sym (ap joined lines))
 
 -- a line whose bar is alone
 pub bare_line : (B : Block) (m : Marker) (s : Span) (line text_line last : ℕ) (t : List ℕ) (below : Block) → m.bare ≡ true → line ≡ first_number (drop s.start B)
@@ -114,7 +114,7 @@ pub line_pushed : (bars more : List BarText) (bar : BarText) (end e : ℕ) → m
 line_pushed bars more bar end e h = ap (λ bs. open_lines end (indented bs)) h ∙ ap (open_lines end) (lines_push 0 bars bar)
 
 -- a run that is no line block stays
-pub other_stays : (run : Run) (bar : BarText) (end : ℕ) → ((lines : _) (e : ℕ) → run ≡ Lines lines e → ⊥) → open_of run ≡ line_added bar end (open_of run)
+pub other_stays : (run : Run) (bar : BarText) (end : ℕ) → ((lines : _) (e : ℕ) → run ≡ Lines lines e → ⊥) → open_run_of run ≡ line_added bar end (open_run_of run)
 other_stays (Lines lines e) bar end h = absurd (h lines e refl)
 other_stays _ bar end h = refl
 
@@ -126,14 +126,14 @@ no_list (Bullet c) m s = refl
 no_list _ m s = refl
 
 -- a line joins no run but a line block that ends where the line begins
-begins : (run : Run) (m : Marker) (s : Span) → lines_end_at s.start (open_of run) ≡ false → joining_with (open_of run) (found_as (bar_line m) s) ≡ None
+begins : (run : Run) (m : Marker) (s : Span) → lines_end_at s.start (open_run_of run) ≡ false → joining_with (open_run_of run) (found_as (bar_line m) s) ≡ None
 begins NoRun m s h = refl
 begins (ListRun l) m s h = no_list (box_value l).kind m s
 begins (Lines lines end) m s h = ap (λ (b : Bool). if b then Some (lines_from s.stop) else None) h
 begins (Explicit end) m s h = refl
 
 -- a line that joins the open line block
-joins_by : (o : OpenRun) (old new : OpenBlock) (B : Block) (m : Marker) (bar : BarText) (lines n : ℕ) → open_of old.run ≡ o → lines_end_at old.at o ≡ true
+joins_by : (o : OpenRun) (old new : OpenBlock) (B : Block) (m : Marker) (bar : BarText) (lines n : ℕ) → open_run_of old.run ≡ o → lines_end_at old.at o ≡ true
     → IsNextConstruct old B (bar_line m) lines
     → ((last : ℕ) → indented_by (unwrap_or bar.indent last) bar ≡ indented_line (indentation_of last m) B m (span_to old.at (old.at + lines)))
     → HasLine old new (line_added bar (old.at + lines) o) → new.at ≡ old.at + lines → reads new B n ≡ reads old B n
@@ -150,28 +150,28 @@ joins_by (open_lines end ls) old new B m bar lines n e h next line g at =
 joins_by _ old new B m bar lines n e h next line g at = cc
 
 -- the same, whatever run is open
-pub line_joined : {old new : OpenBlock} {B : Block} {m : Marker} {lines : ℕ} (bar : BarText) (n : ℕ) → lines_end_at old.at (open_of old.run) ≡ true → IsNextConstruct old B (bar_line m) lines
+pub line_joined : {old new : OpenBlock} {B : Block} {m : Marker} {lines : ℕ} (bar : BarText) (n : ℕ) → lines_end_at old.at (open_run_of old.run) ≡ true → IsNextConstruct old B (bar_line m) lines
     → ((last : ℕ) → indented_by (unwrap_or bar.indent last) bar ≡ indented_line (indentation_of last m) B m (span_to old.at (old.at + lines)))
-    → HasLine old new (line_added bar (old.at + lines) (open_of old.run)) → new.at ≡ old.at + lines → reads new B n ≡ reads old B n
-line_joined {old} {new} {B} {m} {lines} bar n h next line g at = joins_by (open_of old.run) old new B m bar lines n refl h next line g at
+    → HasLine old new (line_added bar (old.at + lines) (open_run_of old.run)) → new.at ≡ old.at + lines → reads new B n ≡ reads old B n
+line_joined {old} {new} {B} {m} {lines} bar n h next line g at = joins_by (open_run_of old.run) old new B m bar lines n refl h next line g at
 
 -- what comes of a line that begins a line block
 after_begin : OpenBlock → Block → Marker → ℕ → Numbered (List Item)
 after_begin old B m lines = rest (within_at old.depth) B (old.at + lines) (open_lines (old.at + lines) (indented_lines B 0 (next_found old (bar_line m) lines ∷ [])))
 
-run_then_line : {l : OpenBlock} {B : Block} {m : Marker} {lines : ℕ} (n : ℕ) → lines_end_at l.at (open_of l.run) ≡ false → IsNextConstruct l B (bar_line m) lines
+run_then_line : {l : OpenBlock} {B : Block} {m : Marker} {lines : ℕ} (n : ℕ) → lines_end_at l.at (open_run_of l.run) ≡ false → IsNextConstruct l B (bar_line m) lines
     → reads l B n ≡ before (done_of l) (run_of l B >>= λ done. before done (after_begin l B m lines)) n
 unfolding after_begin
 run_then_line {l} {B} {m} {lines} n h next =
     let f : Found = next_found l (bar_line m) lines in
     next_reads n next
-    ∙ same_before (done_of l) (rest_with (within_at l.depth) B (open_of l.run) f) (run_of l B >>= λ done. before done (after_begin l B m lines)) n
-    (line_begins (within_at l.depth) B (open_of l.run) m f.span n (begins l.run m f.span h))
+    ∙ same_before (done_of l) (rest_with (within_at l.depth) B (open_run_of l.run) f) (run_of l B >>= λ done. before done (after_begin l B m lines)) n
+    (line_begins (within_at l.depth) B (open_run_of l.run) m f.span n (begins l.run m f.span h))
 
 -- a line that begins a line block, once the open run has ended and one without lines is open
-pub line_begun : {old mid new : OpenBlock} {B : Block} {m : Marker} {lines n k : ℕ} (opened : OpenBlock) (bar : BarText) (e : ℕ) → lines_end_at old.at (open_of old.run) ≡ false → IsNextConstruct old B (bar_line m) lines
+pub line_begun : {old mid new : OpenBlock} {B : Block} {m : Marker} {lines n k : ℕ} (opened : OpenBlock) (bar : BarText) (e : ℕ) → lines_end_at old.at (open_run_of old.run) ≡ false → IsNextConstruct old B (bar_line m) lines
     → ((last : ℕ) → indented_by (unwrap_or bar.indent last) bar ≡ indented_line (indentation_of last m) B m (span_to old.at (old.at + lines)))
-    → HasEnded old mid B n k → HasRun mid opened (open_lines e []) → HasLine opened new (line_added bar (old.at + lines) (open_of opened.run)) → new.at ≡ old.at + lines → reads new B k ≡ reads old B n
+    → HasEnded old mid B n k → HasRun mid opened (open_lines e []) → HasLine opened new (line_added bar (old.at + lines) (open_run_of opened.run)) → new.at ≡ old.at + lines → reads new B k ≡ reads old B n
 unfolding after_begin
 line_begun {old} {mid} {new} {B} {m} {lines} {n} {k} opened bar e h next line ended run g at =
     at_number k (reads_is new B (done_same opened new g.nodes g.headings ∙ done_same mid opened run.nodes run.headings) (g.depth ∙ run.depth ∙ ended.closed.depth) at (g.run ∙ ap (line_added bar (old.at + lines)) run.run))
@@ -181,7 +181,7 @@ line_begun {old} {mid} {new} {B} {m} {lines} {n} {k} opened bar e h next line en
     ∙ closed_reads old mid B n k no_run (λ done. before done (after_begin old B m lines)) (after_begin old B m lines) ended.closed (λ done j. refl))
 
 -- where the open run is nested too deeply, so is all
-pub line_refused : {l : OpenBlock} {B : Block} {m : Marker} {lines line : ℕ} (n : ℕ) → lines_end_at l.at (open_of l.run) ≡ false → IsNextConstruct l B (bar_line m) lines → run_of l B n ≡ Err line → reads l B n ≡ Err line
+pub line_refused : {l : OpenBlock} {B : Block} {m : Marker} {lines line : ℕ} (n : ℕ) → lines_end_at l.at (open_run_of l.run) ≡ false → IsNextConstruct l B (bar_line m) lines → run_of l B n ≡ Err line → reads l B n ≡ Err line
 unfolding after_begin
 line_refused {l} {B} {m} {lines} {line} n h next e = run_then_line n h next ∙ close_refused l B n line (λ done. before done (after_begin l B m lines)) e
 
@@ -189,4 +189,4 @@ line_refused {l} {B} {m} {lines} {line} n h next e = run_then_line n h next ∙ 
 
 -- a line that was put, where the block then goes on
 pub line_gone : {old mid new : OpenBlock} {o : OpenRun} → HasLine old mid o → IsMoved mid new → HasLine old new o
-line_gone g m = record { depth = m.depth ∙ g.depth; nodes = m.nodes ∙ g.nodes; headings = m.headings ∙ g.headings; run = ap open_of m.run ∙ g.run }
+line_gone g m = record { depth = m.depth ∙ g.depth; nodes = m.nodes ∙ g.nodes; headings = m.headings ∙ g.headings; run = ap open_run_of m.run ∙ g.run }

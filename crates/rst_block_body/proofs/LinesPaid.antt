@@ -7,7 +7,7 @@ use Rattle.rst_markup_lines.specs.declared.marker.Marker.{Marker}
 use Rattle.rst_markup_blocks.specs.Begun.{IsBegun}
 use Rattle.rst_markup_blocks.specs.Sizes.{indented_size}
 use Rattle.rst_markup_blocks.specs.declared.begun.Begun.TheVariants.{Line}
-use Rattle.rst_block_state.specs.Ledger.{run_looks, IsPaid}
+use Rattle.rst_block_state.specs.looks.Ledger.{run_looks, IsPaid}
 use Rattle.rst_block_state.specs.declared.open_block.OpenBlock.{OpenBlock}
 use Rattle.rst_block_state.specs.declared.step.Step.TheVariants.{Next}
 use Rattle.rst_block_state.proofs.NextConstructs.{next_of, next_some}

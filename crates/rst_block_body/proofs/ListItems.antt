@@ -4,12 +4,12 @@ use Rattle.std.specs.Prelude.{◌⊎◌, ◌||◌, if◌then◌else◌, slice_ra
 use Rattle.std.specs.Option.{option_and_then, option_map_or}
 use Rattle.std.proofs.lemmas.List.{drop-drop}
 use Rattle.rst_text.proofs.Choices.{chosen}
-use Rattle.rst_text.specs.Block.{Block, front_text, first_number}
+use Rattle.rst_text.specs.Block.{Block, first_text, first_number}
 use Rattle.rst_text.specs.Extent.{extent}
 use Rattle.rst_tree.specs.declared.node.Node.{Node}
 use Rattle.rst_tree.specs.declared.tag.Tag.TheVariants.{Definition as DefinitionTag, DefinitionListItem, Field as FieldTag, FieldBody, FieldName, OptionListItem, Description}
 use Rattle.rst_markup_lines.specs.Enumerator.{enumerator_of, begins_next}
-use Rattle.rst_markup_lines.specs.Front.{is_loose}
+use Rattle.rst_markup_lines.specs.TextStart.{is_loose}
 use Rattle.rst_markup_lines.specs.declared.enumerator.Enumerator.{Enumerator}
 use Rattle.rst_markup_lines.specs.declared.field.FieldMark.{FieldMark}
 use Rattle.rst_markup_lines.specs.declared.marker.Marker.{Marker}
@@ -26,12 +26,12 @@ use Rattle.rst_block_nodes.specs.Elements.{bullet_list_node}
 use Rattle.rst_block_state.specs.Constructs.{ItemMark, bullet_item, enumerated_item, definition_item, field_item, option_item, item_of_list, Found}
 use Rattle.rst_block_state.specs.Joins.{Joining, list_joining_after}
 use Rattle.rst_block_state.specs.Lists.{item_by, list_item, item_with, option_group, infos_of, empty_list}
-use Rattle.rst_block_state.specs.Meanings.{joining_in, open_of, list_kind_in, within_at, done_of, reads, comes}
-use Rattle.rst_block_state.specs.NextLine.{IsText, IsNextConstruct}
+use Rattle.rst_block_state.specs.machine.Meanings.{joining_in, open_run_of, list_kind_in, within_at, done_of, reads, comes}
+use Rattle.rst_block_state.specs.machine.NextLine.{IsText, IsNextConstruct}
 use Rattle.rst_block_state.specs.Numbered.{Numbered, then_read, ◌>>=◌, just, before}
-use Rattle.rst_block_state.specs.OpenBlocks.{joined_at, begun_at, IsMoved, HasRun, IsClosed, Closes, Gives, with_infos}
-use Rattle.rst_block_state.specs.Rest.{ListSoFar, OpenRun, no_run, open_list, open_lines, open_markup, joining_with, joined_run, begun_run, with_items, rest, rest_with}
-use Rattle.rst_block_state.specs.RestLaws.{found_as}
+use Rattle.rst_block_state.specs.machine.OpenBlocks.{joined_at, begun_at, IsMoved, HasRun, IsClosed, Closes, Gives, with_infos}
+use Rattle.rst_block_state.specs.machine.Rest.{ListSoFar, OpenRun, no_run, open_list, open_lines, open_markup, joining_with, joined_run, begun_run, with_items, rest, rest_with}
+use Rattle.rst_block_state.specs.machine.RestLaws.{found_as}
 use Rattle.rst_block_state.specs.Texts.{termed, texted}
 use Rattle.rst_block_state.specs.Titles.{Item}
 use Rattle.rst_block_state.specs.Within.{Within, hanging, item_part, indented_part}
@@ -48,7 +48,7 @@ use Rattle.rst_block_state.specs.declared.texts.Pass.{Pass}
 use Rattle.rst_block_state.specs.declared.step.Step.TheVariants.{Open}
 use Rattle.rst_block_state.proofs.Changes.{run_then, closed_then, done_same, done_moved}
 use Rattle.rst_block_state.proofs.MeaningLemmas.{item_means}
-use Rattle.rst_block_body.specs.ReadSteps.{IsRead}
+use Rattle.rst_block_body.specs.ReadSteps.{IsReadStep}
 use Rattle.rst_block_body.proofs.ReadLemmas.{refused}
 use Rattle.rst_block_state.proofs.NextConstructs.{next_of, next_of_form, next_some, span_to, next_reads, run_of, closed_reads, close_refused}
 use Rattle.rst_block_state.proofs.NumberedLemmas.{before_then, same_before}
@@ -96,7 +96,7 @@ listed_is (Some f) next e h = (chosen (is_loose next || begins_next f next) (Som
 -- an item of an enumerated list has as many lines as its marker determines
 enumerator_sized : (X : Block) (e : Enumerator) → IsBegun X (begun.Enumerator e) → enumerator_size X ≡ item_size e.marker X
 unfolding enumerator_size item_enumerator
-enumerator_sized X e h = ap (λ o. option_map_or (λ (f : Enumerator). item_size f.marker X) o 1) (listed_is (enumerator_of (front_text X)) (next_text X) e h.mark)
+enumerator_sized X e h = ap (λ o. option_map_or (λ (f : Enumerator). item_size f.marker X) o 1) (listed_is (enumerator_of (first_text X)) (next_text X) e h.mark)
 
 -- ---- an item comes next
 
@@ -107,8 +107,8 @@ pub record IsNextItem (l : OpenBlock) (B : Block) (mark : ItemMark) (stop : ℕ)
   pub end : stop ≡ l.at + lines
 
 -- the place is after its first line
-pub item_behind : {l : OpenBlock} {B : Block} {mark : ItemMark} {stop : ℕ} → IsNextItem l B mark stop → l.at < length B → l.at < stop
-item_behind h inside = omega (arith, h.end, next_some h.next inside)
+pub item_end_later : {l : OpenBlock} {B : Block} {mark : ItemMark} {stop : ℕ} → IsNextItem l B mark stop → l.at < length B → l.at < stop
+item_end_later h inside = omega (arith, h.end, next_some h.next inside)
 
 pub next_bullet : (l : OpenBlock) (B : Block) {c : ℕ} {m : Marker} {part : Part} → IsBegun (drop l.at B) (begun.Bullet c m) → part ≡ item_part l.at m (drop l.at B) → IsNextItem l B (bullet_item c m) part.to
 next_bullet l B {c} {m} h e = record {
@@ -139,7 +139,7 @@ next_option l B {m} h e = record {
   end = ap (λ (p : Part). p.to) e ∙ hanging_to l.at m (drop l.at B);
 }
 
-pub next_definition : (l : OpenBlock) (B : Block) (infos : List Node) {part : Part} → IsText l B infos → text_form (front_text (drop l.at B)) (next_text (drop l.at B)) ≡ forms.Definition
+pub next_definition : (l : OpenBlock) (B : Block) (infos : List Node) {part : Part} → IsText l B infos → text_form (first_text (drop l.at B)) (next_text (drop l.at B)) ≡ forms.Definition
     → part ≡ indented_part (l.at + 1) (drop (l.at + 1) B) → IsNextItem l B (definition_item infos) part.to
 next_definition l B infos {part} h f e = record { lines = hanging_size (drop l.at B); next = next_of_form infos h f; end = definition_to l.at B part e }
 
@@ -147,7 +147,7 @@ next_definition l B infos {part} h f e = record { lines = hanging_size (drop l.a
 
 -- the kind of the open list, if one is open, decides whether an item joins
 joining_by_kind : (run : Run) (mark : ItemMark) (s : Span)
-    → joining_with (open_of run) (found_as (item_of_list mark) s) ≡ option_and_then (λ (kind : ListKind). list_joining_after (joining_in kind) mark) (list_kind_in run)
+    → joining_with (open_run_of run) (found_as (item_of_list mark) s) ≡ option_and_then (λ (kind : ListKind). list_joining_after (joining_in kind) mark) (list_kind_in run)
 joining_by_kind NoRun mark s = refl
 joining_by_kind _ mark s = refl
 
@@ -224,8 +224,8 @@ item_then depth B at mark stop o = item_by (within_at depth) B at mark (drop at 
 
 -- what the block gives where an item comes next
 item_reads : {l : OpenBlock} {B : Block} {mark : ItemMark} {stop : ℕ} (n : ℕ) → IsNextItem l B mark stop
-    → reads l B n ≡ before (done_of l) (rest_with (within_at l.depth) B (open_of l.run) (item_found l mark stop)) n
-item_reads {l} {B} {mark} n h = next_reads n h.next ∙ ap (λ i. before (done_of l) (rest_with (within_at l.depth) B (open_of l.run) (item_found l mark i)) n) (sym h.end)
+    → reads l B n ≡ before (done_of l) (rest_with (within_at l.depth) B (open_run_of l.run) (item_found l mark stop)) n
+item_reads {l} {B} {mark} n h = next_reads n h.next ∙ ap (λ i. before (done_of l) (rest_with (within_at l.depth) B (open_run_of l.run) (item_found l mark i)) n) (sym h.end)
 
 -- what comes where the open run ends before an item
 after_run : ℕ → Block → ℕ → ItemMark → ℕ → List Item → Numbered (List Item)
@@ -241,22 +241,22 @@ run_first depth B at mark stop done k =
     sym (before_then done (item_by (within_at depth) B at mark (drop at B)) (λ ns. rest (within_at depth) B stop (with_items ns (begun_run (item_of_list mark) B (span_to at stop) (drop at B)))) k)
 
 -- where an item begins a list the open run ends, and then the item comes
-run_then_item : {l : OpenBlock} {B : Block} {mark : ItemMark} {stop : ℕ} (n : ℕ) → IsNextItem l B mark stop → joining_with (open_of l.run) (item_found l mark stop) ≡ None
+run_then_item : {l : OpenBlock} {B : Block} {mark : ItemMark} {stop : ℕ} (n : ℕ) → IsNextItem l B mark stop → joining_with (open_run_of l.run) (item_found l mark stop) ≡ None
     → reads l B n ≡ before (done_of l) (run_of l B >>= after_run l.depth B l.at mark stop) n
 unfolding after_run
 run_then_item {l} {B} {mark} {stop} n h none =
     item_reads n h
-    ∙ same_before (done_of l) (rest_with (within_at l.depth) B (open_of l.run) (item_found l mark stop)) (run_of l B >>= after_run l.depth B l.at mark stop) n
-    (item_begins (within_at l.depth) B (open_of l.run) mark (span_to l.at stop) n none)
+    ∙ same_before (done_of l) (rest_with (within_at l.depth) B (open_run_of l.run) (item_found l mark stop)) (run_of l B >>= after_run l.depth B l.at mark stop) n
+    (item_begins (within_at l.depth) B (open_run_of l.run) mark (span_to l.at stop) n none)
 
 -- where the open run is nested too deeply, so is all
-pub item_refused : {l : OpenBlock} {B : Block} {mark : ItemMark} {stop line : ℕ} (n : ℕ) → IsNextItem l B mark stop → joining_with (open_of l.run) (item_found l mark stop) ≡ None → run_of l B n ≡ Err line
+pub item_refused : {l : OpenBlock} {B : Block} {mark : ItemMark} {stop line : ℕ} (n : ℕ) → IsNextItem l B mark stop → joining_with (open_run_of l.run) (item_found l mark stop) ≡ None → run_of l B n ≡ Err line
     → reads l B n ≡ Err line
 item_refused {l} {B} {mark} {stop} {line} n h none e = run_then_item n h none ∙ close_refused l B n line (after_run l.depth B l.at mark stop) e
 
 -- what comes next reads an item of the open list, and then what is still to come
 abbrev ReadsItem : OpenBlock → Block → Step → ℕ → (Within → Numbered (List Node)) → Type 0
-ReadsItem l B s m item = (r : ListSoFar) → open_of l.run ≡ open_list r
+ReadsItem l B s m item = (r : ListSoFar) → open_run_of l.run ≡ open_list r
     → comes l B s m ≡ before (done_of l) (item (within_at l.depth) >>= λ ns. rest (within_at l.depth) B l.at (with_items ns (open_list r))) m
 
 -- an open list
@@ -275,7 +275,7 @@ joined_is_list _ B mark j s h = absurd (cc)
 -- the step of an item gives the item in its list, and what comes after it
 step_reads : (old mid new : OpenBlock) (B : Block) (mark : ItemMark) (s : Step) (item : Within → Numbered (List Node)) (stop k m : ℕ) (o : OpenRun) → IsList o
     → ReadsItem new B s m item → item_by (within_at old.depth) B old.at mark (drop old.at B) k ≡ item (within_at old.depth) m
-    → done_of new ≡ done_of mid → new.depth ≡ old.depth → new.at ≡ stop → open_of new.run ≡ o
+    → done_of new ≡ done_of mid → new.depth ≡ old.depth → new.at ≡ stop → open_run_of new.run ≡ o
     → before (done_of mid) (item_then old.depth B old.at mark stop o) k ≡ comes new B s m
 step_reads old mid new B mark s item stop k m o l reads same done depth at run =
     let r : ListSoFar = l.list in
@@ -288,21 +288,21 @@ step_reads old mid new B mark s item stop k m o l reads same done depth at run =
 
 -- an item that joins the open list
 item_in_list : (old mid new : OpenBlock) (B : Block) (mark : ItemMark) (j : Joining) (s : Step) (item : Within → Numbered (List Node)) (stop n m : ℕ) → IsNextItem old B mark stop
-    → joining_with (open_of old.run) (item_found old mark stop) ≡ Some j → HasRun old mid (joined_run j (open_of old.run) B (item_found old mark stop)) → IsMoved mid new → new.at ≡ stop
+    → joining_with (open_run_of old.run) (item_found old mark stop) ≡ Some j → HasRun old mid (joined_run j (open_run_of old.run) B (item_found old mark stop)) → IsMoved mid new → new.at ≡ stop
     → ReadsItem new B s m item → item_by (within_at old.depth) B old.at mark (drop old.at B) n ≡ item (within_at old.depth) m → comes new B s m ≡ reads old B n
 item_in_list old mid new B mark j s item stop n m found h run moved at reads same =
-    let o : OpenRun = joined_run j (open_of old.run) B (item_found old mark stop) in
+    let o : OpenRun = joined_run j (open_run_of old.run) B (item_found old mark stop) in
     sym (
     item_reads n found
-    ∙ same_before (done_of old) (rest_with (within_at old.depth) B (open_of old.run) (item_found old mark stop)) (item_then old.depth B old.at mark stop o) n
-    (item_joins (within_at old.depth) B (open_of old.run) mark (span_to old.at stop) j n h)
+    ∙ same_before (done_of old) (rest_with (within_at old.depth) B (open_run_of old.run) (item_found old mark stop)) (item_then old.depth B old.at mark stop o) n
+    (item_joins (within_at old.depth) B (open_run_of old.run) mark (span_to old.at stop) j n h)
     ∙ ap (λ items. before items (item_then old.depth B old.at mark stop o) n) (sym (done_same old mid run.nodes run.headings))
-    ∙ step_reads old mid new B mark s item stop n m o (joined_is_list (open_of old.run) B mark j (span_to old.at stop) h) reads same (done_moved moved) (moved.depth ∙ run.depth) at
-    (ap open_of moved.run ∙ run.run))
+    ∙ step_reads old mid new B mark s item stop n m o (joined_is_list (open_run_of old.run) B mark j (span_to old.at stop) h) reads same (done_moved moved) (moved.depth ∙ run.depth) at
+    (ap open_run_of moved.run ∙ run.run))
 
 -- an item that begins a list
 item_of_new_list : (old mid new : OpenBlock) (B : Block) (mark : ItemMark) (s : Step) (item : Within → Numbered (List Node)) (stop n k m : ℕ) → IsNextItem old B mark stop
-    → joining_with (open_of old.run) (item_found old mark stop) ≡ None
+    → joining_with (open_run_of old.run) (item_found old mark stop) ≡ None
     → IsClosed (run_of old B n) old mid k (begun_run (item_of_list mark) B (span_to old.at stop) (drop old.at B)) → IsMoved mid new → new.at ≡ stop → ReadsItem new B s m item → item_by (within_at old.depth) B old.at mark (drop old.at B) k ≡ item (within_at old.depth) m → comes new B s m ≡ reads old B n
 item_of_new_list old mid new B mark s item stop n k m found h run moved at reads same =
     let o : OpenRun = begun_run (item_of_list mark) B (span_to old.at stop) (drop old.at B) in
@@ -310,7 +310,7 @@ item_of_new_list old mid new B mark s item stop n k m found h run moved at reads
     sym (
     run_then_item n found h
     ∙ closed_reads old mid B n k o (after_run old.depth B old.at mark stop) (item_then old.depth B old.at mark stop o) run (run_first old.depth B old.at mark stop)
-    ∙ step_reads old mid new B mark s item stop k m o list reads same (done_moved moved) (moved.depth ∙ run.depth) at (ap open_of moved.run ∙ run.run))
+    ∙ step_reads old mid new B mark s item stop k m o list reads same (done_moved moved) (moved.depth ∙ run.depth) at (ap open_run_of moved.run ∙ run.run))
 
 -- ---- items that are the block of their marker: those of bullet lists and of enumerated lists
 
@@ -327,18 +327,18 @@ enumerated_made l B mark n e p = λ w. rw (e, p) refl
 
 -- one that joins the open list
 pub listed_joins : {old mid new : OpenBlock} {B : Block} {mark : ItemMark} {j : Joining} {s : Step} {line : ℕ} {part : Part} (n : ℕ) → infos_of (item_of_list mark) ≡ [] → s ≡ Open (InItem line) part None
-    → IsNextItem old B mark part.to → joining_with (open_of old.run) (item_found old mark part.to) ≡ Some j → HasRun old mid (joined_at j part.to (open_of old.run)) → IsMoved mid new → new.at ≡ part.to
+    → IsNextItem old B mark part.to → joining_with (open_run_of old.run) (item_found old mark part.to) ≡ Some j → HasRun old mid (joined_at j part.to (open_run_of old.run)) → IsMoved mid new → new.at ≡ part.to
     → IsListItem old B mark line part n → comes new B s n ≡ reads old B n
 listed_joins {old} {mid} {new} {B} {mark} {j} {s} {line} {part} n none e found h run moved at made =
-    let o : OpenRun = joined_at j part.to (open_of old.run) in
-    let is = sym (after_none o) ∙ ap (λ infos. with_infos infos o) (sym none) ∙ after_joined j (open_of old.run) B mark (span_to old.at part.to) h in
+    let o : OpenRun = joined_at j part.to (open_run_of old.run) in
+    let is = sym (after_none o) ∙ ap (λ infos. with_infos infos o) (sym none) ∙ after_joined j (open_run_of old.run) B mark (span_to old.at part.to) h in
     ap (λ step. comes new B step n) e
     ∙ item_in_list old mid new B mark j (Open (InItem line) part None) (λ c. list_item c B line part) part.to n n found h (subst (HasRun old mid) is run) moved at
     (λ r k. item_means new B line part r n k) (made (within_at old.depth))
 
 -- one that begins a list
 pub listed_begins : {old mid new : OpenBlock} {B : Block} {mark : ItemMark} {s : Step} {line : ℕ} {part : Part} (n k : ℕ) → s ≡ Open (InItem line) part None → IsNextItem old B mark part.to
-    → joining_with (open_of old.run) (item_found old mark part.to) ≡ None
+    → joining_with (open_run_of old.run) (item_found old mark part.to) ≡ None
     → IsClosed (run_of old B n) old mid k (begun_run (item_of_list mark) B (span_to old.at part.to) (drop old.at B)) → IsMoved mid new → new.at ≡ part.to → IsListItem old B mark line part k → comes new B s k ≡ reads old B n
 listed_begins {old} {mid} {new} {B} {mark} {s} {line} {part} n k e found h run moved at made =
     ap (λ step. comes new B step k) e
@@ -346,11 +346,11 @@ listed_begins {old} {mid} {new} {B} {mark} {s} {line} {part} n k e found h run m
     (λ r j. item_means new B line part r k j) (made (within_at old.depth))
 
 -- an item with a bullet joins the open list with this bullet
-pub bullet_joins : (l : OpenBlock) (c : ℕ) (m : Marker) (stop : ℕ) → list_kind_in l.run ≡ Some (Bullet c) → joining_with (open_of l.run) (item_found l (bullet_item c m) stop) ≡ Some (joining_in (Bullet c))
+pub bullet_joins : (l : OpenBlock) (c : ℕ) (m : Marker) (stop : ℕ) → list_kind_in l.run ≡ Some (Bullet c) → joining_with (open_run_of l.run) (item_found l (bullet_item c m) stop) ≡ Some (joining_in (Bullet c))
 bullet_joins l c m stop e = joining_by_kind l.run (bullet_item c m) (span_to l.at stop) ∙ rw e (same_bullet c m)
 
 -- where no list with this bullet is open, the item begins one
-pub bullet_begins : (l : OpenBlock) (c : ℕ) (m : Marker) (stop : ℕ) → (list_kind_in l.run ≡ Some (Bullet c) → ⊥) → joining_with (open_of l.run) (item_found l (bullet_item c m) stop) ≡ None
+pub bullet_begins : (l : OpenBlock) (c : ℕ) (m : Marker) (stop : ℕ) → (list_kind_in l.run ≡ Some (Bullet c) → ⊥) → joining_with (open_run_of l.run) (item_found l (bullet_item c m) stop) ≡ None
 bullet_begins l c m stop h = joining_by_kind l.run (bullet_item c m) (span_to l.at stop) ∙ other_bullet c m (list_kind_in l.run) h
 
 -- the list that it begins
@@ -362,7 +362,7 @@ bullet_run {old} {mid} {new} {read} {c} {stop} {k} B m h run e l =
 
 -- the open list decides whether an item with an enumerator joins it
 pub enumerated_joins : (l : OpenBlock) (mark : Enumerator) (stop : ℕ) {o : Option Joining} → o ≡ next_joining (enumerated_item mark) (list_kind_in l.run)
-    → joining_with (open_of l.run) (item_found l (enumerated_item mark) stop) ≡ o
+    → joining_with (open_run_of l.run) (item_found l (enumerated_item mark) stop) ≡ o
 enumerated_joins l mark stop e = joining_by_kind l.run (enumerated_item mark) (span_to l.at stop) ∙ sym e
 
 -- the list that it begins
@@ -383,18 +383,18 @@ plain_begun _ kind B X s h = rw h refl
 
 -- a list of a kind is open: that of before, or a new one, before which the open run has ended
 pub record IsOpened (old mid : OpenBlock) (B : Block) (kind : ListKind) (element : Node) (stop n k : ℕ) : Type 0 where
-  pub joins : list_kind_in old.run ≡ Some kind → HasRun old mid (joined_at (joining_in kind) stop (open_of old.run))
+  pub joins : list_kind_in old.run ≡ Some kind → HasRun old mid (joined_at (joining_in kind) stop (open_run_of old.run))
   pub numbers : list_kind_in old.run ≡ Some kind → k ≡ n
   pub begins : (list_kind_in old.run ≡ Some kind → ⊥) → IsClosed (run_of old B n) old mid k (begun_at (joining_in kind) stop element)
 
 -- no messages come before it
-pub none_noted : (l : OpenBlock) → HasRun l l (with_infos [] (open_of l.run))
-none_noted l = record { depth = refl; at = refl; nodes = refl; headings = refl; run = sym (after_none (open_of l.run)) }
+pub none_noted : (l : OpenBlock) → HasRun l l (with_infos [] (open_run_of l.run))
+none_noted l = record { depth = refl; at = refl; nodes = refl; headings = refl; run = sym (after_none (open_run_of l.run)) }
 
 -- an item of such a list, after the messages that come before the list
 pub plain_item : (old mid put new : OpenBlock) (B : Block) (mark : ItemMark) (kind : ListKind) (s : Step) (item : Within → Numbered (List Node)) (stop n k m : ℕ)
     → IsPlain mark kind → IsNextItem old B mark stop → IsOpened old mid B kind (empty_list mark (drop old.at B)) stop n k
-    → HasRun mid put (with_infos (infos_of (item_of_list mark)) (open_of mid.run)) → IsMoved put new → new.at ≡ stop → ReadsItem new B s m item → item_by (within_at old.depth) B old.at mark (drop old.at B) k ≡ item (within_at old.depth) m
+    → HasRun mid put (with_infos (infos_of (item_of_list mark)) (open_run_of mid.run)) → IsMoved put new → new.at ≡ stop → ReadsItem new B s m item → item_by (within_at old.depth) B old.at mark (drop old.at B) k ≡ item (within_at old.depth) m
     → comes new B s m ≡ reads old B n
 plain_item old mid put new B mark kind s item stop n k m plain found opened noted moved at reads same =
     let infos : List Node = infos_of (item_of_list mark) in
@@ -403,7 +403,7 @@ plain_item old mid put new B mark kind s item stop n k m plain found opened note
     elim (plain_joins mark kind (list_kind_in old.run) plain) [
       | inl e ↦ (
           let run = opened.joins e.0 in
-          let is = ap (with_infos infos) run.run ∙ after_joined (joining_in kind) (open_of old.run) B mark span (by ∙ e.1) in
+          let is = ap (with_infos infos) run.run ∙ after_joined (joining_in kind) (open_run_of old.run) B mark span (by ∙ e.1) in
           item_in_list old put new B mark (joining_in kind) s item stop n m found (by ∙ e.1) (subst (HasRun old put) is (run_then run noted)) moved at reads
           (ap (λ i. item_by (within_at old.depth) B old.at mark (drop old.at B) i) (sym (opened.numbers e.0)) ∙ same))
       | inr e ↦ (
@@ -422,7 +422,7 @@ opened_depth {old = old} {kind = kind} mark plain opened = elim (plain_joins mar
 -- where the run before the list is nested too deeply, so is all
 pub plain_refused : {each : ℕ} {B : Block} {l new : OpenBlock} {before after : Pass} {mark : ItemMark} {stop : ℕ} {result : Result Step BlockFault} (fault : BlockFault) (kind : ListKind)
     → result ≡ Err fault → IsPlain mark kind → IsNextItem l B mark stop → (list_kind_in l.run ≡ Some kind → Gives {A = Unit {0}} (λ _. Unit {0}) (Err fault))
-    → ((list_kind_in l.run ≡ Some kind → ⊥) → Closes {A = Unit {0}} (run_of l B before.numbers) l l 0 no_run (Err fault)) → IsRead each B l before new after result
+    → ((list_kind_in l.run ≡ Some kind → ⊥) → Closes {A = Unit {0}} (run_of l B before.numbers) l l 0 no_run (Err fault)) → IsReadStep each B l before new after result
 plain_refused NoMemory kind r plain found joins begins = refused r tt
 plain_refused {l = l} {before = before} {mark = mark} {stop = stop} (TooDeep line) kind r plain found joins begins = refused r (
     elim (plain_joins mark kind (list_kind_in l.run) plain) [
@@ -432,12 +432,12 @@ plain_refused {l = l} {before = before} {mark = mark} {stop = stop} (TooDeep lin
 
 -- a field is made of its name, whose text was read, and of its hanging block
 pub field_made : (c : Within) (B : Block) (i : ℕ) (mark : FieldMark) (X : Block) {line : ℕ} {text : List ℕ} {part : Part} {element : Node} {notes heads : List Node} (k : ℕ) {m : ℕ}
-    → line ≡ first_number X → text ≡ slice_range (front_text X) mark.name.from mark.name.to → part ≡ hanging i mark.marker X → heads ≡ element ∷ []
+    → line ≡ first_number X → text ≡ slice_range (first_text X) mark.name.from mark.name.to → part ≡ hanging i mark.marker X → heads ≡ element ∷ []
     → texted FieldName line text line k ≡ Ok ((element, notes), m)
     → item_by c B i (field_item mark) X k ≡ item_with c B FieldTag FieldBody line part heads notes m
 field_made c B i mark X {line} {text} {part} {element} {notes} {heads} k {m} l t p h read =
     let at : ℕ = first_number X in
-    let name : List ℕ = slice_range (front_text X) mark.name.from mark.name.to in
+    let name : List ℕ = slice_range (first_text X) mark.name.from mark.name.to in
     let made : texted FieldName at name at k ≡ Ok ((element, notes), m) = sym (ap (λ u. texted FieldName line u line k) t ∙ ap (λ x. texted FieldName x name x k) l) ∙ read in
     ap (then_read (λ (made : Node × List Node). item_with c B FieldTag FieldBody at (hanging i mark.marker X) (made.0 ∷ []) made.1)) made
     ∙ ap (λ x. item_with c B FieldTag FieldBody x (hanging i mark.marker X) (element ∷ []) notes m) (sym l)
@@ -446,18 +446,18 @@ field_made c B i mark X {line} {text} {part} {element} {notes} {heads} k {m} l t
 
 -- an item of an option list is made of its options and of its hanging block
 pub option_made : (c : Within) (B : Block) (i : ℕ) (mark : Marker) (X : Block) {line : ℕ} {text : List ℕ} {part : Part} {group : Node} {notes heads : List Node} (k : ℕ)
-    → line ≡ first_number X → text ≡ front_text X → part ≡ hanging i mark X → group ≡ option_group text line → heads ≡ group ∷ [] → notes ≡ []
+    → line ≡ first_number X → text ≡ first_text X → part ≡ hanging i mark X → group ≡ option_group text line → heads ≡ group ∷ [] → notes ≡ []
     → item_by c B i (option_item mark) X k ≡ item_with c B OptionListItem Description line part heads notes k
 option_made c B i mark X k l t p g h n = rw (h, n, g, p, l, t) refl
 
 -- a definition is made of its term and classifiers, whose text was read, and of the indented block below
 pub definition_made : (c : Within) (B : Block) (i : ℕ) (infos : List Node) (X : Block) {line : ℕ} {text : List ℕ} {part : Part} {heads notes : List Node} (k : ℕ) {m : ℕ}
-    → X ≡ drop i B → line ≡ first_number X → text ≡ front_text X → part ≡ indented_part (i + 1) (drop (i + 1) B) → termed text line k ≡ Ok ((heads, notes), m)
+    → X ≡ drop i B → line ≡ first_number X → text ≡ first_text X → part ≡ indented_part (i + 1) (drop (i + 1) B) → termed text line k ≡ Ok ((heads, notes), m)
     → item_by c B i (definition_item infos) X k ≡ item_with c B DefinitionListItem DefinitionTag line part heads notes m
 definition_made c B i infos X {line} {text} {part} {heads} {notes} k {m} x l t p read =
     let below : indented_part (i + 1) (drop (i + 1) B) ≡ indented_part (i + 1) (drop 1 X) = ap (indented_part (i + 1)) (sym (ap (drop 1) x ∙ drop-drop 1 i B)) in
     let at : ℕ = first_number X in
-    let made : termed (front_text X) at k ≡ Ok ((heads, notes), m) = sym (ap (λ u. termed u line k) t ∙ ap (λ x. termed (front_text X) x k) l) ∙ read in
+    let made : termed (first_text X) at k ≡ Ok ((heads, notes), m) = sym (ap (λ u. termed u line k) t ∙ ap (λ x. termed (first_text X) x k) l) ∙ read in
     ap (then_read (λ (made : List Node × List Node). item_with c B DefinitionListItem DefinitionTag at (indented_part (i + 1) (drop 1 X)) made.0 made.1)) made
     ∙ ap (λ x. item_with c B DefinitionListItem DefinitionTag x (indented_part (i + 1) (drop 1 X)) heads notes m) (sym l)
     ∙ ap (λ q. item_with c B DefinitionListItem DefinitionTag line q heads notes m) (sym (p ∙ below))

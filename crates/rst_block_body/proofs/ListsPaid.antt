@@ -16,12 +16,12 @@ use Rattle.rst_markup_blocks.specs.Sizes.{hanging_size, item_size}
 use Rattle.rst_markup_blocks.specs.declared.kind.Kind.{Kind}
 use Rattle.rst_markup_blocks.specs.declared.kind.Kind.TheVariants.{Grid, Simple}
 use Rattle.rst_markup_blocks.specs.declared.part.Part.{Part}
-use Rattle.rst_markup_blocks.proofs.LineLemmas.{reach_behind}
+use Rattle.rst_markup_blocks.proofs.LineLemmas.{reach_after}
 use Rattle.rst_block_state.specs.Constructs.{ItemMark, definition_item, item_of_list, construct_by}
 use Rattle.rst_block_state.specs.Inside.{part_of_item}
-use Rattle.rst_block_state.specs.Ledger.{totals, next_blocks, run_looks, waiting_looks, end_looks, WaitsForOne, IsPaid}
-use Rattle.rst_block_state.specs.NextLine.{IsNextConstruct}
-use Rattle.rst_block_state.specs.Reaches.{reach_at}
+use Rattle.rst_block_state.specs.looks.Ledger.{totals, next_blocks, run_looks, waiting_looks, end_looks, WaitsForOne, IsPaid}
+use Rattle.rst_block_state.specs.machine.NextLine.{IsNextConstruct}
+use Rattle.rst_block_state.specs.looks.Reaches.{reach_at}
 use Rattle.rst_block_state.specs.Texts.{lines_in}
 use Rattle.rst_block_state.specs.Within.{hanging, indented_part, item_part}
 use Rattle.rst_block_state.specs.declared.open_block.OpenBlock.{OpenBlock}
@@ -60,7 +60,7 @@ pub found_below : (B : Block) (i : ℕ) {part : Part} (before after : ℕ) → p
 found_below B i {part} before after e looks low =
     let n : ℕ = extent 1 (drop (i + 1) B) in
     let to : part.to ≡ (i + 1) + extent 1 (drop (i + 1) B) = ap (λ (p : Part). p.to) e in
-    let far : reach (1 + n) (drop i B) ≡ 1 + reach n (drop (i + 1) B) = reach_behind 1 n (drop i B) ∙ ap (λ X. 1 + reach n X) (drop-drop 1 i B) in
+    let far : reach (1 + n) (drop i B) ≡ 1 + reach n (drop (i + 1) B) = reach_after 1 n (drop i B) ∙ ap (λ X. 1 + reach n X) (drop-drop 1 i B) in
     record { size = 1 + n; some = omega arith; end = omega (arith, to); most = omega (arith, looks, far); least = omega (arith, low) }
 
 -- a definition is the indented block below its term

@@ -3,7 +3,7 @@ use Rattle.std.proofs.Common.{◌≡◌, ℕ, zero, suc, ◌+◌, ◌-◌, ◌*�
 use Rattle.std.specs.Prelude.{codes, if◌then◌else◌, slice_range}
 use Rattle.std.proofs.lemmas.Bool.{eqb-true}
 use Rattle.std.proofs.lemmas.List.{drop_all}
-use Rattle.rst_text.specs.Block.{Block, front_text, first_number, indentation, is_blank}
+use Rattle.rst_text.specs.Block.{Block, first_text, first_number, indentation, is_blank}
 use Rattle.rst_text.specs.Extent.{extent, past_blank}
 use Rattle.rst_text.specs.Looked.{capped}
 use Rattle.rst_text.specs.Reach.{reach}
@@ -12,13 +12,13 @@ use Rattle.rst_tree.specs.declared.tag.Tag.TheVariants.{LiteralBlock, DoctestBlo
 use Rattle.rst_text.specs.Escapes.{is_escaped}
 use Rattle.rst_markup_lines.specs.Adornment.{is_punctuation}
 use Rattle.rst_markup_lines.specs.Closing.{ends_in_colons}
-use Rattle.rst_markup_lines.specs.Front.{first, begins_with}
+use Rattle.rst_markup_lines.specs.TextStart.{first, begins_with}
 use Rattle.rst_markup_blocks.specs.Lines.{lines_while}
-use Rattle.rst_markup_blocks.specs.Sizes.{quoted_size, quoted_by, literal_size, doctest_size}
+use Rattle.rst_markup_blocks.specs.Sizes.{quoted_size, quoted_len, literal_size, doctest_size}
 use Rattle.rst_markup_blocks.specs.declared.lines.LineTest.TheVariants.{Blank, Begins, Filled}
 use Rattle.rst_block_nodes.specs.Elements.{preserved_node}
 use Rattle.rst_block_state.specs.Literals.{quoting_text, literal_node, indented_literal, quoted_literal, no_literal, literal_by, literal_nodes, doctest_node}
-use Rattle.rst_block_state.specs.Texts.{joined, lines_in, said, source_of, spelled, unless_blank, warned}
+use Rattle.rst_block_state.specs.Texts.{joined, lines_in, system_message, span_source, spelled, unless_blank, warned}
 use Rattle.rst_tree.specs.declared.note.Level.TheVariants.{Warning, Error}
 use Rattle.rst_block_state.specs.Within.{indented_part}
 use Rattle.rst_block_state.proofs.RestLemmas.{lines_after, span_to}
@@ -39,10 +39,10 @@ one_before b zero = refl
 one_before b (suc n) = rw (let e : b + suc n ≡ suc (b + n) = omega arith in e) (let f : suc (suc (b + n)) ≡ suc b + suc n = omega arith in f)
 
 -- an extent with the blank lines before it
-extent_behind : (Y : Block) → extent 1 Y ≡ with_blanks (lines_while Blank Y) (extent 1 (drop (lines_while Blank Y) Y))
+extent_after_blanks : (Y : Block) → extent 1 Y ≡ with_blanks (lines_while Blank Y) (extent 1 (drop (lines_while Blank Y) Y))
 unfolding extent lines_while
-extent_behind [] = refl
-extent_behind (l ∷ ls) = by (is_blank l.text) refl (extent_behind ls)
+extent_after_blanks [] = refl
+extent_after_blanks (l ∷ ls) = by (is_blank l.text) refl (extent_after_blanks ls)
   where
     by : (b : Bool) → is_blank l.text ≡ b → extent 1 ls ≡ with_blanks (lines_while Blank ls) (extent 1 (drop (lines_while Blank ls) ls))
         → extent 1 (l ∷ ls) ≡ with_blanks (lines_while Blank (l ∷ ls)) (extent 1 (drop (lines_while Blank (l ∷ ls)) (l ∷ ls)))
@@ -52,7 +52,7 @@ extent_behind (l ∷ ls) = by (is_blank l.text) refl (extent_behind ls)
         sym (none_before (extent 1 (l ∷ ls))) ∙ ap (λ n. with_blanks n (extent 1 (drop n (l ∷ ls)))) (sym none)
 
 -- a line that begins with a space begins an extent, and no other line does
-extent_some : (Z : Block) → begins_with 32 (front_text Z) ≡ true → (n : ℕ) × (extent 1 Z ≡ suc n)
+extent_some : (Z : Block) → begins_with 32 (first_text Z) ≡ true → (n : ℕ) × (extent 1 Z ≡ suc n)
 unfolding extent
 extent_some [] h = absurd (let no : false ≡ true = h in cc)
 extent_some (l ∷ ls) h = by l.text refl h
@@ -61,7 +61,7 @@ extent_some (l ∷ ls) h = by l.text refl h
     by [] e h = absurd (let no : false ≡ true = h in cc)
     by (c ∷ cs) e h = (extent 1 ls, rw e (rw h (rw (le-leb 1 (suc (indentation cs)) (omega arith)) refl)))
 
-extent_none : (Z : Block) → begins_with 32 (front_text Z) ≡ false → is_blank (front_text Z) ≡ false → extent 1 Z ≡ 0
+extent_none : (Z : Block) → begins_with 32 (first_text Z) ≡ false → is_blank (first_text Z) ≡ false → extent 1 Z ≡ 0
 unfolding extent
 extent_none [] h k = refl
 extent_none (l ∷ ls) h k = by l.text refl h k
@@ -71,51 +71,51 @@ extent_none (l ∷ ls) h k = by l.text refl h k
     by (c ∷ cs) e h k = rw e (rw h refl)
 
 -- where the line after the blank ones is blank, there is none
-stopped : (Y : Block) → is_blank (front_text (drop (lines_while Blank Y) Y)) ≡ true → drop (lines_while Blank Y) Y ≡ []
+stopped : (Y : Block) → is_blank (first_text (drop (lines_while Blank Y) Y)) ≡ true → drop (lines_while Blank Y) Y ≡ []
 unfolding lines_while
 stopped [] h = refl
 stopped (l ∷ ls) h = by (is_blank l.text) refl (stopped ls) h
   where
-    by : (b : Bool) → is_blank l.text ≡ b → (is_blank (front_text (drop (lines_while Blank ls) ls)) ≡ true → drop (lines_while Blank ls) ls ≡ [])
-        → is_blank (front_text (drop (lines_while Blank (l ∷ ls)) (l ∷ ls))) ≡ true → drop (lines_while Blank (l ∷ ls)) (l ∷ ls) ≡ []
+    by : (b : Bool) → is_blank l.text ≡ b → (is_blank (first_text (drop (lines_while Blank ls) ls)) ≡ true → drop (lines_while Blank ls) ls ≡ [])
+        → is_blank (first_text (drop (lines_while Blank (l ∷ ls)) (l ∷ ls))) ≡ true → drop (lines_while Blank (l ∷ ls)) (l ∷ ls) ≡ []
     by true e more h = rw e (more (rw e at h))
     by false e more h = absurd (let no : is_blank l.text ≡ true = rw e at h in let both : true ≡ false = sym no ∙ e in cc)
 
 -- what a paragraph announces, by the line after the blank ones
-abbrev pub behind_blanks : Block → Block
-behind_blanks Y = drop (lines_while Blank Y) Y
+abbrev pub after_blanks : Block → Block
+after_blanks Y = drop (lines_while Blank Y) Y
 
-size_indented : (Y : Block) → begins_with 32 (front_text (behind_blanks Y)) ≡ true → literal_size Y ≡ lines_while Blank Y + extent 1 (behind_blanks Y)
+size_indented : (Y : Block) → begins_with 32 (first_text (after_blanks Y)) ≡ true → literal_size Y ≡ lines_while Blank Y + extent 1 (after_blanks Y)
 unfolding literal_size
 size_indented Y h =
-    let some = extent_some (behind_blanks Y) h in
-    let all : extent 1 Y ≡ lines_while Blank Y + extent 1 (behind_blanks Y) =
-    extent_behind Y ∙ ap (with_blanks (lines_while Blank Y)) some.1 ∙ ap (λ n. lines_while Blank Y + n) (sym some.1) in
+    let some = extent_some (after_blanks Y) h in
+    let all : extent 1 Y ≡ lines_while Blank Y + extent 1 (after_blanks Y) =
+    extent_after_blanks Y ∙ ap (with_blanks (lines_while Blank Y)) some.1 ∙ ap (λ n. lines_while Blank Y + n) (sym some.1) in
     let positive : 0 < extent 1 Y = omega (arith, all, some.1) in
     rw (lt-ltb 0 (extent 1 Y) positive) all
 
-no_extent : (Y : Block) → extent 1 (behind_blanks Y) ≡ 0 → literal_size Y ≡ quoted_size (lines_while Blank Y) Y
+no_extent : (Y : Block) → extent 1 (after_blanks Y) ≡ 0 → literal_size Y ≡ quoted_size (lines_while Blank Y) Y
 unfolding literal_size
 no_extent Y h =
-    let none : extent 1 Y ≡ 0 = extent_behind Y ∙ ap (with_blanks (lines_while Blank Y)) h in
+    let none : extent 1 Y ≡ 0 = extent_after_blanks Y ∙ ap (with_blanks (lines_while Blank Y)) h in
     rw (le-ltb 0 (extent 1 Y) (omega (arith, none))) refl
 
 not_blank : (t : List ℕ) (c : ℕ) → first t ≡ Some c → is_blank t ≡ false
 not_blank [] c h = cc
 not_blank (d ∷ ds) c h = refl
 
-size_quoted : (Y : Block) (c : ℕ) → begins_with 32 (front_text (behind_blanks Y)) ≡ false → first (front_text (behind_blanks Y)) ≡ Some c → is_punctuation c ≡ true
-    → literal_size Y ≡ lines_while Blank Y + lines_while (Begins c) (behind_blanks Y)
+size_quoted : (Y : Block) (c : ℕ) → begins_with 32 (first_text (after_blanks Y)) ≡ false → first (first_text (after_blanks Y)) ≡ Some c → is_punctuation c ≡ true
+    → literal_size Y ≡ lines_while Blank Y + lines_while (Begins c) (after_blanks Y)
 unfolding quoted_size
 size_quoted Y c h f p =
-    no_extent Y (extent_none (behind_blanks Y) h (not_blank (front_text (behind_blanks Y)) c f))
-    ∙ ap (λ o. quoted_by o (lines_while Blank Y) Y) f ∙ rw p refl
+    no_extent Y (extent_none (after_blanks Y) h (not_blank (first_text (after_blanks Y)) c f))
+    ∙ ap (λ o. quoted_len o (lines_while Blank Y) Y) f ∙ rw p refl
 
-size_other : (Y : Block) (c : ℕ) → begins_with 32 (front_text (behind_blanks Y)) ≡ false → first (front_text (behind_blanks Y)) ≡ Some c → is_punctuation c ≡ false → literal_size Y ≡ 0
+size_other : (Y : Block) (c : ℕ) → begins_with 32 (first_text (after_blanks Y)) ≡ false → first (first_text (after_blanks Y)) ≡ Some c → is_punctuation c ≡ false → literal_size Y ≡ 0
 unfolding quoted_size
 size_other Y c h f p =
-    no_extent Y (extent_none (behind_blanks Y) h (not_blank (front_text (behind_blanks Y)) c f))
-    ∙ ap (λ o. quoted_by o (lines_while Blank Y) Y) f ∙ rw p refl
+    no_extent Y (extent_none (after_blanks Y) h (not_blank (first_text (after_blanks Y)) c f))
+    ∙ ap (λ o. quoted_len o (lines_while Blank Y) Y) f ∙ rw p refl
 
 is_none : (t : List ℕ) → first t ≡ None → is_blank t ≡ true
 is_none [] h = refl
@@ -125,11 +125,11 @@ no_lines : extent 1 [] ≡ 0
 unfolding extent
 no_lines = refl
 
-size_none : (Y : Block) → first (front_text (behind_blanks Y)) ≡ None → literal_size Y ≡ 0
+size_none : (Y : Block) → first (first_text (after_blanks Y)) ≡ None → literal_size Y ≡ 0
 unfolding quoted_size
 size_none Y f =
-    no_extent Y (ap (extent 1) (stopped Y (is_none (front_text (behind_blanks Y)) f)) ∙ no_lines)
-    ∙ ap (λ o. quoted_by o (lines_while Blank Y) Y) f
+    no_extent Y (ap (extent 1) (stopped Y (is_none (first_text (after_blanks Y)) f)) ∙ no_lines)
+    ∙ ap (λ o. quoted_len o (lines_while Blank Y) Y) f
 
 -- ---- what a literal block gives
 
@@ -141,29 +141,29 @@ other_first : (t : List ℕ) (c : ℕ) → begins_with 32 t ≡ false → first 
 other_first [] c h f = cc
 other_first (d ∷ ds) c h f = let same : d ≡ c = cc in ap (λ x. x == 32) (sym same) ∙ h
 
-nodes_indented : (last : ℕ) (Y : Block) → begins_with 32 (front_text (behind_blanks Y)) ≡ true → literal_nodes last Y ≡ indented_literal (behind_blanks Y)
-nodes_indented last Y h = ap (λ o. literal_by o last (behind_blanks Y)) (begins_first (front_text (behind_blanks Y)) 32 h)
+nodes_indented : (last : ℕ) (Y : Block) → begins_with 32 (first_text (after_blanks Y)) ≡ true → literal_nodes last Y ≡ indented_literal (after_blanks Y)
+nodes_indented last Y h = ap (λ o. literal_by o last (after_blanks Y)) (begins_first (first_text (after_blanks Y)) 32 h)
 
-nodes_quoted : (last : ℕ) (Y : Block) (c : ℕ) → begins_with 32 (front_text (behind_blanks Y)) ≡ false → first (front_text (behind_blanks Y)) ≡ Some c → is_punctuation c ≡ true
-    → literal_nodes last Y ≡ quoted_literal (lines_while (Begins c) (behind_blanks Y)) (behind_blanks Y)
+nodes_quoted : (last : ℕ) (Y : Block) (c : ℕ) → begins_with 32 (first_text (after_blanks Y)) ≡ false → first (first_text (after_blanks Y)) ≡ Some c → is_punctuation c ≡ true
+    → literal_nodes last Y ≡ quoted_literal (lines_while (Begins c) (after_blanks Y)) (after_blanks Y)
 nodes_quoted last Y c h f p =
-    ap (λ o. literal_by o last (behind_blanks Y)) f
-    ∙ ap (λ (b : Bool). if b then indented_literal (behind_blanks Y) else if is_punctuation c then quoted_literal (lines_while (Begins c) (behind_blanks Y)) (behind_blanks Y) else no_literal last (behind_blanks Y)) (other_first (front_text (behind_blanks Y)) c h f)
-    ∙ ap (λ (b : Bool). if b then quoted_literal (lines_while (Begins c) (behind_blanks Y)) (behind_blanks Y) else no_literal last (behind_blanks Y)) p
+    ap (λ o. literal_by o last (after_blanks Y)) f
+    ∙ ap (λ (b : Bool). if b then indented_literal (after_blanks Y) else if is_punctuation c then quoted_literal (lines_while (Begins c) (after_blanks Y)) (after_blanks Y) else no_literal last (after_blanks Y)) (other_first (first_text (after_blanks Y)) c h f)
+    ∙ ap (λ (b : Bool). if b then quoted_literal (lines_while (Begins c) (after_blanks Y)) (after_blanks Y) else no_literal last (after_blanks Y)) p
 
-nodes_other : (last : ℕ) (Y : Block) (c : ℕ) → begins_with 32 (front_text (behind_blanks Y)) ≡ false → first (front_text (behind_blanks Y)) ≡ Some c → is_punctuation c ≡ false
-    → literal_nodes last Y ≡ no_literal last (behind_blanks Y)
+nodes_other : (last : ℕ) (Y : Block) (c : ℕ) → begins_with 32 (first_text (after_blanks Y)) ≡ false → first (first_text (after_blanks Y)) ≡ Some c → is_punctuation c ≡ false
+    → literal_nodes last Y ≡ no_literal last (after_blanks Y)
 nodes_other last Y c h f p =
-    ap (λ o. literal_by o last (behind_blanks Y)) f
-    ∙ ap (λ (b : Bool). if b then indented_literal (behind_blanks Y) else if is_punctuation c then quoted_literal (lines_while (Begins c) (behind_blanks Y)) (behind_blanks Y) else no_literal last (behind_blanks Y)) (other_first (front_text (behind_blanks Y)) c h f)
-    ∙ ap (λ (b : Bool). if b then quoted_literal (lines_while (Begins c) (behind_blanks Y)) (behind_blanks Y) else no_literal last (behind_blanks Y)) p
+    ap (λ o. literal_by o last (after_blanks Y)) f
+    ∙ ap (λ (b : Bool). if b then indented_literal (after_blanks Y) else if is_punctuation c then quoted_literal (lines_while (Begins c) (after_blanks Y)) (after_blanks Y) else no_literal last (after_blanks Y)) (other_first (first_text (after_blanks Y)) c h f)
+    ∙ ap (λ (b : Bool). if b then quoted_literal (lines_while (Begins c) (after_blanks Y)) (after_blanks Y) else no_literal last (after_blanks Y)) p
 
-nodes_none : (last : ℕ) (Y : Block) → first (front_text (behind_blanks Y)) ≡ None → literal_nodes last Y ≡ no_literal last (behind_blanks Y)
-nodes_none last Y f = ap (λ o. literal_by o last (behind_blanks Y)) f
+nodes_none : (last : ℕ) (Y : Block) → first (first_text (after_blanks Y)) ≡ None → literal_nodes last Y ≡ no_literal last (after_blanks Y)
+nodes_none last Y f = ap (λ o. literal_by o last (after_blanks Y)) f
 
 -- ---- quoted literal blocks
 
-one_at_least : (c : ℕ) (Z : Block) → begins_with c (front_text Z) ≡ true → (n : ℕ) × (lines_while (Begins c) Z ≡ suc n)
+one_at_least : (c : ℕ) (Z : Block) → begins_with c (first_text Z) ≡ true → (n : ℕ) × (lines_while (Begins c) Z ≡ suc n)
 unfolding lines_while
 one_at_least c [] h = absurd (let no : false ≡ true = h in cc)
 one_at_least c (l ∷ ls) h = (lines_while (Begins c) ls, rw h refl)
@@ -173,8 +173,8 @@ first_taken n [] = refl
 first_taken n (l ∷ ls) = refl
 
 -- the literal block of some lines of a block that begin with a character
-pub quoted_node : (B : Block) (i j c line : ℕ) (bytes : List ℕ) → begins_with c (front_text (drop i B)) ≡ true → j ≡ i + lines_while (Begins c) (drop i B)
-    → line ≡ first_number (drop i B) → bytes ≡ source_of B (record { start = i; stop = j })
+pub quoted_node : (B : Block) (i j c line : ℕ) (bytes : List ℕ) → begins_with c (first_text (drop i B)) ≡ true → j ≡ i + lines_while (Begins c) (drop i B)
+    → line ≡ first_number (drop i B) → bytes ≡ span_source B (record { start = i; stop = j })
     → preserved_node LiteralBlock line bytes ≡ literal_node (take (lines_while (Begins c) (drop i B)) (drop i B))
 quoted_node B i j c line bytes h e l s =
     let n : ℕ = lines_while (Begins c) (drop i B) in
@@ -186,12 +186,12 @@ quoted_node B i j c line bytes h e l s =
 -- ---- texts and lines
 
 -- no message where a line is blank, and one where it isn't
-pub none_said : (n i j : ℕ) (text : List ℕ) (B : Block) → j ≡ i + n → is_blank (front_text (drop j B)) ≡ true → unless_blank Error text (drop n (drop i B)) ≡ []
-none_said n i j text B e h = rw (lines_after B i n j e) (rw h refl)
+pub no_message : (n i j : ℕ) (text : List ℕ) (B : Block) → j ≡ i + n → is_blank (first_text (drop j B)) ≡ true → unless_blank Error text (drop n (drop i B)) ≡ []
+no_message n i j text B e h = rw (lines_after B i n j e) (rw h refl)
 
-pub one_said : (n i j line : ℕ) (text shown : List ℕ) (B : Block) (node : Node) → j ≡ i + n → is_blank (front_text (drop j B)) ≡ false → line ≡ first_number (drop j B) → shown ≡ text
-    → node ≡ said Error line shown → node ∷ [] ≡ unless_blank Error text (drop n (drop i B))
-one_said n i j line text shown B node e h l t is = rw (lines_after B i n j e) (rw (h, is, l, t) refl)
+pub one_message : (n i j line : ℕ) (text message_text : List ℕ) (B : Block) (node : Node) → j ≡ i + n → is_blank (first_text (drop j B)) ≡ false → line ≡ first_number (drop j B) → message_text ≡ text
+    → node ≡ system_message Error line message_text → node ∷ [] ≡ unless_blank Error text (drop n (drop i B))
+one_message n i j line text message_text B node e h l t is = rw (lines_after B i n j e) (rw (h, is, l, t) refl)
 
 pub quoting_spaced : (t : List ℕ) → begins_with 32 t ≡ true → codes "Unexpected indentation." ≡ quoting_text t
 quoting_spaced t h = rw h refl
@@ -202,19 +202,19 @@ quoting_other t h = rw h refl
 -- a quoted literal block with the message at the line that follows it, if there is one
 pub quoted_whole : (B : Block) (i j c : ℕ) (node : Node) (notes : List Node) → j ≡ i + lines_while (Begins c) (drop i B)
     → node ≡ literal_node (take (lines_while (Begins c) (drop i B)) (drop i B))
-    → notes ≡ unless_blank Error (quoting_text (front_text (drop j B))) (drop (lines_while (Begins c) (drop i B)) (drop i B))
+    → notes ≡ unless_blank Error (quoting_text (first_text (drop j B))) (drop (lines_while (Begins c) (drop i B)) (drop i B))
     → node ∷ notes ≡ quoted_literal (lines_while (Begins c) (drop i B)) (drop i B)
 quoted_whole B i j c node notes e n m =
     let n0 : ℕ = lines_while (Begins c) (drop i B) in
     ap (λ (x : Node). x ∷ notes) n
-    ∙ ap (λ (xs : List Node). literal_node (take n0 (drop i B)) ∷ xs) (m ∙ ap (λ X. unless_blank Error (quoting_text (front_text X)) (drop n0 (drop i B))) (sym (lines_after B i n0 j e)))
+    ∙ ap (λ (xs : List Node). literal_node (take n0 (drop i B)) ∷ xs) (m ∙ ap (λ X. unless_blank Error (quoting_text (first_text X)) (drop n0 (drop i B))) (sym (lines_after B i n0 j e)))
 
 -- the WARNING where there is no literal block
 pub no_literal_is : (B : Block) (i line last : ℕ) → (((i < length B) × (line ≡ first_number (drop i B))) ⊎ ((length B ≤ i) × (line ≡ last)))
-    → said Warning line (codes "Literal block expected; none found.") ∷ [] ≡ no_literal last (drop i B)
+    → system_message Warning line (codes "Literal block expected; none found.") ∷ [] ≡ no_literal last (drop i B)
 no_literal_is B i line last (inl h) = by (drop i B) refl
   where
-    by : (Z : Block) → drop i B ≡ Z → said Warning line (codes "Literal block expected; none found.") ∷ [] ≡ no_literal last Z
+    by : (Z : Block) → drop i B ≡ Z → system_message Warning line (codes "Literal block expected; none found.") ∷ [] ≡ no_literal last Z
     by [] e = absurd (omega (arith, h.0, length-drop i B, ap length e))
     by (l ∷ ls) e = let n : line ≡ l.number = h.1 ∙ ap first_number e in rw n refl
 no_literal_is B i line last (inr h) = rw (drop_all i B h.0) (rw h.1 refl)
@@ -243,18 +243,18 @@ later_at : (xs ys : List ℕ) (i : ℕ) → get_or (xs ++ ys) (length xs + i) 0 
 later_at xs ys i = get_or-append-add xs ys i 0
 
 -- what comes before a line feed escapes nothing after it
-escaped_behind : (xs ys : List ℕ) (i : ℕ) → is_escaped (xs ++ 10 ∷ ys) 0 (length xs + suc i) ≡ is_escaped ys 0 i
+escaped_after : (xs ys : List ℕ) (i : ℕ) → is_escaped (xs ++ 10 ∷ ys) 0 (length xs + suc i) ≡ is_escaped ys 0 i
 unfolding is_escaped
-escaped_behind xs ys zero =
+escaped_after xs ys zero =
     let e : length xs + 1 ≡ suc (length xs + 0) = omega arith in
     rw e (rw (later_at xs (10 ∷ ys) 0) (rw (le-leb 0 (length xs + 0) (omega arith)) refl))
-escaped_behind xs ys (suc i) =
+escaped_after xs ys (suc i) =
     let e : length xs + suc (suc i) ≡ suc (length xs + suc i) = omega arith in
-    rw e (rw (later_at xs (10 ∷ ys) (suc i), escaped_behind xs ys i, le-leb 0 (length xs + suc i) (omega arith), le-leb 0 i (omega arith)) refl)
+    rw e (rw (later_at xs (10 ∷ ys) (suc i), escaped_after xs ys i, le-leb 0 (length xs + suc i) (omega arith), le-leb 0 i (omega arith)) refl)
 
 -- two colons at the end of the last line of a text are at the end of the text
-colons_behind : (xs ys : List ℕ) → ends_in_colons (xs ++ 10 ∷ ys) ≡ ends_in_colons ys
-colons_behind xs ys = by (length ys) refl
+colons_after : (xs ys : List ℕ) → ends_in_colons (xs ++ 10 ∷ ys) ≡ ends_in_colons ys
+colons_after xs ys = by (length ys) refl
   where
     whole : (n : ℕ) → length ys ≡ n → length (xs ++ 10 ∷ ys) ≡ length xs + suc n
     whole n e = length-append xs (10 ∷ ys) ∙ ap (λ k. length xs + suc k) e
@@ -283,7 +283,7 @@ colons_behind xs ys = by (length ys) refl
           d,
           later_at xs (10 ∷ ys) (suc n),
           later_at xs (10 ∷ ys) (suc (suc n)),
-          escaped_behind xs ys n,
+          escaped_after xs ys n,
           lt-ltb (length xs + suc n) (length xs + suc (suc (suc n))) (omega arith),
           lt-ltb (length xs + suc (suc n)) (length xs + suc (suc (suc n))) (omega arith),
           lt-ltb n (suc (suc n)) (omega arith),
@@ -293,59 +293,59 @@ colons_behind xs ys = by (length ys) refl
         ) refl
 
 -- the last of some lines decides whether their text ends in two colons
-pub colons_last : (n : ℕ) (X : Block) → n < length X → ends_in_colons (joined (take (suc n) X)) ≡ ends_in_colons (front_text (drop n X))
+pub colons_last : (n : ℕ) (X : Block) → n < length X → ends_in_colons (joined (take (suc n) X)) ≡ ends_in_colons (first_text (drop n X))
 colons_last n [] h = absurd (omega arith)
 colons_last zero (l ∷ ls) h = refl
 colons_last (suc n) (l ∷ []) h = absurd (omega arith)
-colons_last (suc n) (l ∷ m ∷ ms) h = colons_behind l.text (joined (take (suc n) (m ∷ ms))) ∙ colons_last n (m ∷ ms) (omega arith)
+colons_last (suc n) (l ∷ m ∷ ms) h = colons_after l.text (joined (take (suc n) (m ∷ ms))) ∙ colons_last n (m ∷ ms) (omega arith)
 
 -- ---- a literal block after blank lines
 
 -- the place after a literal block, by the place after the blank lines before it
-place_behind : (B : Block) (i j n size : ℕ) → j ≡ i + lines_while Blank (drop i B) → size ≡ lines_while Blank (drop i B) + n → j + n ≡ i + size
-place_behind B i j n size e f = omega (arith, e, f)
+place_after_blanks : (B : Block) (i j n size : ℕ) → j ≡ i + lines_while Blank (drop i B) → size ≡ lines_while Blank (drop i B) + n → j + n ≡ i + size
+place_after_blanks B i j n size e f = omega (arith, e, f)
 
 -- the lines after the blank ones
-lines_behind : (B : Block) (i j : ℕ) → j ≡ i + lines_while Blank (drop i B) → behind_blanks (drop i B) ≡ drop j B
-lines_behind B i j e = lines_after B i (lines_while Blank (drop i B)) j e
+lines_after_blanks : (B : Block) (i j : ℕ) → j ≡ i + lines_while Blank (drop i B) → after_blanks (drop i B) ≡ drop j B
+lines_after_blanks B i j e = lines_after B i (lines_while Blank (drop i B)) j e
 
-pub indented_here : (B : Block) (i j last : ℕ) → j ≡ i + lines_while Blank (drop i B) → begins_with 32 (front_text (drop j B)) ≡ true
+pub indented_here : (B : Block) (i j last : ℕ) → j ≡ i + lines_while Blank (drop i B) → begins_with 32 (first_text (drop j B)) ≡ true
     → (indented_literal (drop j B) ≡ literal_nodes last (drop i B)) × (j + extent 1 (drop j B) ≡ i + literal_size (drop i B))
 indented_here B i j last e h =
-    let same : behind_blanks (drop i B) ≡ drop j B = lines_behind B i j e in
-    let space : begins_with 32 (front_text (behind_blanks (drop i B))) ≡ true = ap (λ X. begins_with 32 (front_text X)) same ∙ h in (
+    let same : after_blanks (drop i B) ≡ drop j B = lines_after_blanks B i j e in
+    let space : begins_with 32 (first_text (after_blanks (drop i B))) ≡ true = ap (λ X. begins_with 32 (first_text X)) same ∙ h in (
       ap indented_literal (sym same) ∙ sym (nodes_indented last (drop i B) space),
-      place_behind B i j (extent 1 (drop j B)) (literal_size (drop i B)) e (size_indented (drop i B) space ∙ ap (λ X. lines_while Blank (drop i B) + extent 1 X) same),
+      place_after_blanks B i j (extent 1 (drop j B)) (literal_size (drop i B)) e (size_indented (drop i B) space ∙ ap (λ X. lines_while Blank (drop i B) + extent 1 X) same),
     )
 
-pub quoted_here : (B : Block) (i j last c : ℕ) → j ≡ i + lines_while Blank (drop i B) → begins_with 32 (front_text (drop j B)) ≡ false → first (front_text (drop j B)) ≡ Some c
+pub quoted_here : (B : Block) (i j last c : ℕ) → j ≡ i + lines_while Blank (drop i B) → begins_with 32 (first_text (drop j B)) ≡ false → first (first_text (drop j B)) ≡ Some c
     → is_punctuation c ≡ true
     → (quoted_literal (lines_while (Begins c) (drop j B)) (drop j B) ≡ literal_nodes last (drop i B)) × (j + lines_while (Begins c) (drop j B) ≡ i + literal_size (drop i B))
 quoted_here B i j last c e h f p =
-    let same : behind_blanks (drop i B) ≡ drop j B = lines_behind B i j e in
-    let space : begins_with 32 (front_text (behind_blanks (drop i B))) ≡ false = ap (λ X. begins_with 32 (front_text X)) same ∙ h in
-    let front : first (front_text (behind_blanks (drop i B))) ≡ Some c = ap (λ X. first (front_text X)) same ∙ f in (
-      ap (λ X. quoted_literal (lines_while (Begins c) X) X) (sym same) ∙ sym (nodes_quoted last (drop i B) c space front p),
-      place_behind B i j (lines_while (Begins c) (drop j B)) (literal_size (drop i B)) e (size_quoted (drop i B) c space front p ∙ ap (λ X. lines_while Blank (drop i B) + lines_while (Begins c) X) same),
+    let same : after_blanks (drop i B) ≡ drop j B = lines_after_blanks B i j e in
+    let space : begins_with 32 (first_text (after_blanks (drop i B))) ≡ false = ap (λ X. begins_with 32 (first_text X)) same ∙ h in
+    let first_char : first (first_text (after_blanks (drop i B))) ≡ Some c = ap (λ X. first (first_text X)) same ∙ f in (
+      ap (λ X. quoted_literal (lines_while (Begins c) X) X) (sym same) ∙ sym (nodes_quoted last (drop i B) c space first_char p),
+      place_after_blanks B i j (lines_while (Begins c) (drop j B)) (literal_size (drop i B)) e (size_quoted (drop i B) c space first_char p ∙ ap (λ X. lines_while Blank (drop i B) + lines_while (Begins c) X) same),
     )
 
-pub other_here : (B : Block) (i j last c : ℕ) → j ≡ i + lines_while Blank (drop i B) → begins_with 32 (front_text (drop j B)) ≡ false → first (front_text (drop j B)) ≡ Some c
+pub other_here : (B : Block) (i j last c : ℕ) → j ≡ i + lines_while Blank (drop i B) → begins_with 32 (first_text (drop j B)) ≡ false → first (first_text (drop j B)) ≡ Some c
     → is_punctuation c ≡ false → (no_literal last (drop j B) ≡ literal_nodes last (drop i B)) × (i ≡ i + literal_size (drop i B))
 other_here B i j last c e h f p =
-    let same : behind_blanks (drop i B) ≡ drop j B = lines_behind B i j e in
-    let space : begins_with 32 (front_text (behind_blanks (drop i B))) ≡ false = ap (λ X. begins_with 32 (front_text X)) same ∙ h in
-    let front : first (front_text (behind_blanks (drop i B))) ≡ Some c = ap (λ X. first (front_text X)) same ∙ f in (
-      ap (no_literal last) (sym same) ∙ sym (nodes_other last (drop i B) c space front p),
-      omega (arith, size_other (drop i B) c space front p),
+    let same : after_blanks (drop i B) ≡ drop j B = lines_after_blanks B i j e in
+    let space : begins_with 32 (first_text (after_blanks (drop i B))) ≡ false = ap (λ X. begins_with 32 (first_text X)) same ∙ h in
+    let first_char : first (first_text (after_blanks (drop i B))) ≡ Some c = ap (λ X. first (first_text X)) same ∙ f in (
+      ap (no_literal last) (sym same) ∙ sym (nodes_other last (drop i B) c space first_char p),
+      omega (arith, size_other (drop i B) c space first_char p),
     )
 
-pub none_here : (B : Block) (i j last : ℕ) → j ≡ i + lines_while Blank (drop i B) → first (front_text (drop j B)) ≡ None
+pub none_here : (B : Block) (i j last : ℕ) → j ≡ i + lines_while Blank (drop i B) → first (first_text (drop j B)) ≡ None
     → (no_literal last (drop j B) ≡ literal_nodes last (drop i B)) × (i ≡ i + literal_size (drop i B))
 none_here B i j last e f =
-    let same : behind_blanks (drop i B) ≡ drop j B = lines_behind B i j e in
-    let front : first (front_text (behind_blanks (drop i B))) ≡ None = ap (λ X. first (front_text X)) same ∙ f in (
-      ap (no_literal last) (sym same) ∙ sym (nodes_none last (drop i B) front),
-      omega (arith, size_none (drop i B) front),
+    let same : after_blanks (drop i B) ≡ drop j B = lines_after_blanks B i j e in
+    let first_char : first (first_text (after_blanks (drop i B))) ≡ None = ap (λ X. first (first_text X)) same ∙ f in (
+      ap (no_literal last) (sym same) ∙ sym (nodes_none last (drop i B) first_char),
+      omega (arith, size_none (drop i B) first_char),
     )
 
 -- ---- doctest blocks
@@ -355,7 +355,7 @@ pub doctest_end : (B : Block) (i at stop : ℕ) → i ≡ at → stop ≡ i + li
 unfolding doctest_size
 doctest_end B i at stop e h = h ∙ ap (λ k. k + lines_while Filled (drop k B)) e
 
-pub doctest_is : (B : Block) (i at stop line : ℕ) (text : List ℕ) (node : Node) → i ≡ at → node ≡ preserved_node DoctestBlock line text → line ≡ first_number (drop i B) → text ≡ source_of B (span_to i stop)
+pub doctest_is : (B : Block) (i at stop line : ℕ) (text : List ℕ) (node : Node) → i ≡ at → node ≡ preserved_node DoctestBlock line text → line ≡ first_number (drop i B) → text ≡ span_source B (span_to i stop)
     → node ≡ doctest_node B (span_to at stop)
 doctest_is B i at stop line text node e n l t = rw (n, l, t, e) refl
 

@@ -1,17 +1,17 @@
 -- Paragraphs, step by step.
 use Rattle.std.proofs.Common.{◌≡◌, ℕ, suc, ◌+◌, ◌-◌, ◌<◌, ◌≤◌, Bool, true, false, not, List, [], ◌∷◌, ◌++◌, length, length-drop, take, drop, Ok, refl, sym, ap, ◌∙◌, arith, append_assoc, append-nil}
 use Rattle.std.specs.Prelude.{codes, if◌then◌else◌}
-use Rattle.rst_text.specs.Block.{Block, front_text, first_number}
+use Rattle.rst_text.specs.Block.{Block, first_text, first_number}
 use Rattle.rst_tree.specs.declared.node.Node.{Node}
 use Rattle.rst_tree.specs.declared.note.Level.TheVariants.{Error}
 use Rattle.rst_markup_lines.specs.Closing.{ends_in_colons}
-use Rattle.rst_markup_lines.specs.Front.{is_loose}
+use Rattle.rst_markup_lines.specs.TextStart.{is_loose}
 use Rattle.rst_markup_blocks.specs.Lines.{lines_while}
 use Rattle.rst_markup_blocks.specs.Sizes.{literal_size, paragraph_len, run_size, paragraph_size, last_text}
 use Rattle.rst_markup_blocks.specs.declared.lines.LineTest.TheVariants.{Plain}
 use Rattle.rst_block_state.specs.Literals.{announced, text_paragraph, after_paragraph, literal_nodes, paragraph_nodes}
 use Rattle.rst_block_state.specs.Numbered.{then_read, ◌>>=◌, just}
-use Rattle.rst_block_body.specs.TextSteps.{shown_paragraph, paragraph_between, paragraph_end}
+use Rattle.rst_block_body.specs.TextSteps.{paragraph_with_text, paragraph_between, paragraph_end}
 use Rattle.rst_block_state.specs.Texts.{joined, unless_blank}
 use Rattle.rst_block_body.proofs.LiteralLemmas.{colons_last}
 use Rattle.rst_block_state.proofs.NumberedLemmas.{same_after, after_after}
@@ -23,8 +23,8 @@ use Rattle.rst_block_state.proofs.RestLemmas.{lines_after}
 abbrev pub indentation_error : Block → List Node
 indentation_error X = unless_blank Error (codes "Unexpected indentation.") X
 
-text_behind : (B : Block) (i j : ℕ) → i < j → drop (j - i) (drop i B) ≡ drop j B
-text_behind B i j h = lines_after B i (j - i) j (omega arith)
+text_after : (B : Block) (i j : ℕ) → i < j → drop (j - i) (drop i B) ≡ drop j B
+text_after B i j h = lines_after B i (j - i) j (omega arith)
 
 last_line : (B : Block) (i j : ℕ) → i < j → drop (j - i - 1) (drop i B) ≡ drop (j - 1) B
 last_line B i j h = lines_after B i (j - i - 1) (j - 1) (omega arith)
@@ -33,19 +33,19 @@ after_plain : (t : List ℕ) (i j : ℕ) (B : Block) → ends_in_colons t ≡ fa
 after_plain t i j B h w =
     let Y : Block = drop (j - i) (drop i B) in
     ap (λ (b : Bool). indentation_error Y ++ (if b then literal_nodes (first_number (drop (j - i - 1) (drop i B))) Y else [])) h
-    ∙ append-nil (indentation_error Y) ∙ ap indentation_error (text_behind B i j w)
+    ∙ append-nil (indentation_error Y) ∙ ap indentation_error (text_after B i j w)
 
 after_colons : (t : List ℕ) (i j : ℕ) (B : Block) → ends_in_colons t ≡ true → i < j
     → after_paragraph (j - i) t (drop i B) ≡ indentation_error (drop j B) ++ literal_nodes (first_number (drop (j - 1) B)) (drop j B)
 after_colons t i j B h w =
     let Y : Block = drop (j - i) (drop i B) in
     ap (λ (b : Bool). indentation_error Y ++ (if b then literal_nodes (first_number (drop (j - i - 1) (drop i B))) Y else [])) h
-    ∙ ap (λ X. indentation_error X ++ literal_nodes (first_number (drop (j - i - 1) (drop i B))) X) (text_behind B i j w)
+    ∙ ap (λ X. indentation_error X ++ literal_nodes (first_number (drop (j - i - 1) (drop i B))) X) (text_after B i j w)
     ∙ ap (λ X. indentation_error (drop j B) ++ literal_nodes (first_number X) (drop j B)) (last_line B i j w)
 
 -- a paragraph that announces no literal block
 pub between_plain : (t : List ℕ) (i j n next : ℕ) (B : Block) (more : List Node) → ends_in_colons t ≡ false → i < j
-    → shown_paragraph t i j B n ≡ Ok (more, next) → paragraph_between t i j B n ≡ Ok (more, next)
+    → paragraph_with_text t i j B n ≡ Ok (more, next) → paragraph_between t i j B n ≡ Ok (more, next)
 between_plain t i j n next B more h w r =
     let line : ℕ = first_number (drop i B) in
     let same : announced t ≡ t = rw h refl in
@@ -56,7 +56,7 @@ between_plain t i j n next B more h w r =
 
 -- a paragraph that announces a literal block
 pub between_colons : (t u : List ℕ) (i j n next : ℕ) (B : Block) (more : List Node) → ends_in_colons t ≡ true → u ≡ announced t → i < j
-    → shown_paragraph u i j B n ≡ Ok (more, next) → paragraph_between t i j B n ≡ Ok (more ++ literal_nodes (first_number (drop (j - 1) B)) (drop j B), next)
+    → paragraph_with_text u i j B n ≡ Ok (more, next) → paragraph_between t i j B n ≡ Ok (more ++ literal_nodes (first_number (drop (j - 1) B)) (drop j B), next)
 between_colons t u i j n next B more h e w r =
     let line : ℕ = first_number (drop i B) in
     let L : List Node = literal_nodes (first_number (drop (j - 1) B)) (drop j B) in
@@ -124,7 +124,7 @@ end_all B i j t p =
     let before : paragraph_len X - 1 ≡ lines_while Plain (drop 1 (drop i B)) = omega (arith, some) in
     let within : lines_while Plain (drop 1 (drop i B)) < length X = omega (arith, own_within (drop 1 X), length-drop 1 X, length-drop i B, p.inside) in
     let tells : ends_in_colons t ≡ ends_in_colons (last_text X) =
-    ap ends_in_colons (p.text ∙ ap (λ k. joined (take k X)) size) ∙ colons_last last X within ∙ ap (λ k. ends_in_colons (front_text (drop k X))) (sym before) in
+    ap ends_in_colons (p.text ∙ ap (λ k. joined (take k X)) size) ∙ colons_last last X within ∙ ap (λ k. ends_in_colons (first_text (drop k X))) (sym before) in
     let more : ℕ = if ends_in_colons (last_text X) then literal_size (drop (paragraph_len X) X) else 0 in
     ap (λ (b : Bool). j + (if b then literal_size (drop j B) else 0)) tells
     ∙ ap (λ Y. j + (if ends_in_colons (last_text X) then literal_size Y else 0)) (sym (lines_after B i (paragraph_len X) j len))
@@ -136,7 +136,7 @@ end_all B i j t p =
     sum a b c = omega arith
 
 -- the text of a paragraph of one line
-pub one_line : (X : Block) (n : ℕ) → 1 ≤ length X → n ≡ 1 → front_text X ≡ joined (take n X)
+pub one_line : (X : Block) (n : ℕ) → 1 ≤ length X → n ≡ 1 → first_text X ≡ joined (take n X)
 one_line [] n h e = absurd (omega arith)
 one_line (l ∷ ls) n h e = rw e refl
 

@@ -21,15 +21,15 @@ use Rattle.rst_block_nodes.specs.Elements.{element_of}
 use Rattle.rst_block_nodes.specs.declared.texted.Texted.{Texted}
 use Rattle.rst_block_state.specs.Constructs.{block_quote, Found}
 use Rattle.rst_block_state.specs.Joins.{alone_ending}
-use Rattle.rst_block_state.specs.MeaningLaws.{IsAttributed, front_of}
-use Rattle.rst_block_state.specs.Meanings.{open_of, within_at, done_of, reads, reads_from, quote_by, quotes_from, after_quote, comes}
+use Rattle.rst_block_state.specs.machine.MeaningLaws.{IsAttributed, first_lines_of}
+use Rattle.rst_block_state.specs.machine.Meanings.{open_run_of, within_at, done_of, reads, reads_from, quote_by, quotes_from, after_quote, comes}
 use Rattle.rst_block_state.specs.Nodes.{piece_of, ending_notes}
 use Rattle.rst_block_state.specs.Numbered.{Numbered, then_read, ◌>>=◌, just, before}
-use Rattle.rst_block_state.specs.OpenBlocks.{IsMoved, HasMore}
+use Rattle.rst_block_state.specs.machine.OpenBlocks.{IsMoved, HasMore}
 use Rattle.rst_block_state.specs.Quotes.{first_attribution, quote_after, quote_node, quotes_by, quotes}
-use Rattle.rst_block_state.specs.Rest.{no_run, rest}
-use Rattle.rst_block_state.specs.RestLaws.{found_as}
-use Rattle.rst_block_state.specs.Steps.{IsRest, rest_of}
+use Rattle.rst_block_state.specs.machine.Rest.{no_run, rest}
+use Rattle.rst_block_state.specs.machine.RestLaws.{found_as}
+use Rattle.rst_block_state.specs.machine.Steps.{IsRest, rest_of}
 use Rattle.rst_block_state.specs.Texts.{joined, lines_in, texted}
 use Rattle.rst_block_state.specs.Titles.{Item, plain}
 use Rattle.rst_block_state.specs.Within.{Within, indented_part}
@@ -117,7 +117,7 @@ further_quotes old new B p next earlier j h some within m at =
 -- a quote with an attribution, and further quotes
 pub attributed_quote : (old new : OpenBlock) (B : Block) (p : Part) (k next line n m : ℕ) (box : Box Texted Global) → IsAttributed (lines_in B p) k next (box_value box) n m
     → p.to ≤ length B → IsMoved old new → new.at ≡ p.from + next → line ≡ first_number (lines_in B p)
-    → quotes_from old B [] p n ≡ comes new B (Open (Quote line (Some box) (rest_of p next) p.to) (front_of p k) None) m
+    → quotes_from old B [] p n ≡ comes new B (Open (Quote line (Some box) (rest_of p next) p.to) (first_lines_of p k) None) m
 attributed_quote old new B p k next line n m box t within moved at number =
     let c : Within = within_at old.depth in
     let Q : Block = lines_in B p in
@@ -130,8 +130,8 @@ attributed_quote old new B p k next line n m box t within moved at number =
     let F : List Node → Numbered (List Item) = λ nodes. after_quote new B (quote_by line (Some made) nodes) (rest_of p next) p.to in
     let length_Q : length Q ≡ N = length-cut B p.from p.to p.first_cut p.rest_cut within in
     let inside = attribution_within Q k a t.first in
-    let some : 1 ≤ next = omega (arith, inside.0, t.behind) in
-    let h : next ≤ N = omega (arith, inside.1, t.behind, while_le Blank (drop a.end Q), length-drop a.end Q, length_Q) in
+    let some : 1 ≤ next = omega (arith, inside.0, t.after_blanks) in
+    let h : next ≤ N = omega (arith, inside.1, t.after_blanks, while_le Blank (drop a.end Q), length-drop a.end Q, length_Q) in
     ap (then_read R)
     (quotes_first c N Q n (omega (arith, length_Q, some, h)) (omega (arith, length_Q))
     ∙ ap (λ o. quotes_by c (quotes c N) Q o n) t.first
@@ -142,11 +142,11 @@ attributed_quote old new B p k next line n m box t within moved at number =
     let earlier : ℕ → List Node = λ i. element_of BlockQuote [] (nodes ++ made.element ∷ []) i ∷ made.notes.items in
     after_after (quotes c N (quote_after Q a) j) (λ more. just (earlier (first_number Q) ++ more)) R
     ∙ ap (λ X. then_read (λ more. reads_from old B ((earlier (first_number Q) ++ more) ++ E) p.to) (quotes c N X j))
-    (drop-drop (lines_while Blank (drop a.end Q)) a.end Q ∙ ap (λ i. drop i Q) (sym t.behind))
+    (drop-drop (lines_while Blank (drop a.end Q)) a.end Q ∙ ap (λ i. drop i Q) (sym t.after_blanks))
     ∙ further_quotes old new B p next (earlier (first_number Q)) j h some within moved at
     ∙ ap (λ i. after_quote new B (earlier i) (rest_of p next) p.to j) (sym number))
     ∙ ap (λ X. then_read F (c.inner X m)) (take-cut B p.from p.to p.first_cut p.rest_cut k (omega (arith, inside.0, inside.1, length_Q)))
-    ∙ ap (λ d. then_read F ((within_at d).inner (lines_in B (front_of p k)) m)) (sym moved.depth)
+    ∙ ap (λ d. then_read F ((within_at d).inner (lines_in B (first_lines_of p k)) m)) (sym moved.depth)
 
 -- ---- parts as they are read
 
@@ -171,9 +171,9 @@ pub attributed_part : (old new : OpenBlock) (B : Block) (p : Part) (k next line 
     → texted AttributionTag (first_number (drop k L)) (joined (lines_in L (attribution_part k a))) (first_number (drop k L)) n ≡ Ok ((made.element, made.notes.items), m)
     → box_value box ≡ made → p.from < p.to → p.to ≤ length B
     → IsMoved old new → new.at ≡ p.from + next → line ≡ first_number (drop p.from B)
-    → comes new B (Open (Quote line (Some box) (rest_of p next) p.to) (front_of p k) None) m ≡ quotes_from old B [] p n
-attributed_part old new B p k next line n m a made box L is first behind read value filled within moved at h =
-    let t : IsAttributed L k next made n m = record { attribution = a; first = sym first; behind = behind; read = read } in
+    → comes new B (Open (Quote line (Some box) (rest_of p next) p.to) (first_lines_of p k) None) m ≡ quotes_from old B [] p n
+attributed_part old new B p k next line n m a made box L is first after_blanks read value filled within moved at h =
+    let t : IsAttributed L k next made n m = record { attribution = a; first = sym first; after_blanks = after_blanks; read = read } in
     let u : IsAttributed (lines_in B p) k next (box_value box) n m =
     subst (λ Q. IsAttributed Q k next (box_value box) n m) is (subst (λ x. IsAttributed L k next x n m) (sym value) t) in
     sym (attributed_quote old new B p k next line n m box u within moved at
@@ -188,7 +188,7 @@ reads_after {old} {new} {earlier} B more at m =
     ap (λ items. items ++ map plain more) (done_more m)
     ∙ append_assoc (done_of old) (map plain earlier) (map plain more)
     ∙ ap (λ items. done_of old ++ items) (sym (map-append plain earlier more)) in
-    reads_from_is new B more at done m.depth (ap open_of m.run)
+    reads_from_is new B more at done m.depth (ap open_run_of m.run)
 
 -- what comes after a quote is the same once its nodes are among those of the block
 pub after_more : (old new : OpenBlock) (B : Block) (earlier : List Node) (left : Option Part) (end n : ℕ) → HasMore old new earlier
@@ -239,9 +239,9 @@ quote_reads {old} {mid} {B} {n} {m} inside b e =
     ∙ ap (λ items. before (done_of mid ++ items) rows j) (sym (map-append plain nodes E)))
     ∙ ap (then_read (λ nodes. before (done_of mid ++ map plain (nodes ++ E)) rows)) (quotes_enough c (length Q) N Q m (omega arith) (omega (arith, length_Q)))
     ∙ ap (λ o. then_read (λ nodes. before (done_of mid ++ map plain (nodes ++ E)) (rest c B p.to o)) (quotes c N Q m)) (sym e.closed.run)
-    ∙ ap (λ d. then_read (λ nodes. before (done_of mid ++ map plain (nodes ++ E)) (rest (within_at d) B p.to (open_of mid.run))) (quotes (within_at d) N Q m)) (sym e.closed.depth)
+    ∙ ap (λ d. then_read (λ nodes. before (done_of mid ++ map plain (nodes ++ E)) (rest (within_at d) B p.to (open_run_of mid.run))) (quotes (within_at d) N Q m)) (sym e.closed.depth)
 
 -- a quote with its attribution, as it is put together, and the messages on that
 pub quote_made : (line : ℕ) (nodes all : List Node) (attribution : Option (Box Texted Global)) (boxed : Box Texted Global) (made : Texted) (attrs : List Attr) (element quote : Node) → attribution ≡ Some boxed → made ≡ box_value boxed
     → attrs ≡ [] → element ≡ made.element → all ≡ nodes ++ element ∷ [] → quote ≡ element_of BlockQuote attrs all line → quote ∷ made.notes.items ≡ quote_by line (option_map box_value attribution) nodes
-quote_made line nodes all attribution boxed made attrs element quote is value bare own whole held = rw (is, held, whole, own, bare, value) refl
+quote_made line nodes all attribution boxed made attrs element quote is value bare own whole quote_is = rw (is, quote_is, whole, own, bare, value) refl

@@ -15,13 +15,13 @@ use Rattle.rst_markup_blocks.specs.declared.lines.LineTest.TheVariants.{Blank}
 use Rattle.rst_markup_blocks.specs.declared.part.Part.{Part}
 use Rattle.rst_block_nodes.specs.declared.texted.Texted.{Texted}
 use Rattle.rst_block_state.specs.Inside.{quoted_blocks}
-use Rattle.rst_block_state.specs.Ledger.{totals, most_from, least_from, still_before, goes_on_at, run_looks, waiting_looks, next_blocks, most_after, least_after, most_left, least_left, AreQuotesPaid, IsPaid, Takes, WaitsForOne}
-use Rattle.rst_block_state.specs.MeaningLaws.{front_of}
-use Rattle.rst_block_state.specs.Meanings.{open_of}
-use Rattle.rst_block_state.specs.OpenBlocks.{IsMoved, HasMore, HasItemIn, HasItem, IsClosed}
+use Rattle.rst_block_state.specs.looks.Ledger.{totals, most_from, least_from, still_before, goes_on_at, run_looks, waiting_looks, next_blocks, most_after, least_after, most_left, least_left, AreQuotesPaid, IsPaid, Takes, WaitsForOne}
+use Rattle.rst_block_state.specs.machine.MeaningLaws.{first_lines_of}
+use Rattle.rst_block_state.specs.machine.Meanings.{open_run_of}
+use Rattle.rst_block_state.specs.machine.OpenBlocks.{IsMoved, HasMore, HasItemIn, HasItem, IsClosed}
 use Rattle.rst_block_state.specs.Quotes.{first_attribution}
-use Rattle.rst_block_state.specs.Rest.{no_run}
-use Rattle.rst_block_state.specs.Steps.{rest_of}
+use Rattle.rst_block_state.specs.machine.Rest.{no_run}
+use Rattle.rst_block_state.specs.machine.Steps.{rest_of}
 use Rattle.rst_block_state.specs.Texts.{lines_in}
 use Rattle.rst_block_state.specs.Titles.{Item}
 use Rattle.rst_block_state.specs.Within.{indented_part}
@@ -77,15 +77,15 @@ pub attributed_paid : (old new : OpenBlock) (B : Block) (p : Part) (k next line 
     → left ≡ rest_of p next → L ≡ lines_in B p → Some (k, a) ≡ first_attribution L → next ≡ a.end + lines_while Blank (drop a.end L) → length L ≡ p.to - p.from → p.from < p.to → p.to ≤ length B → 0 < k
     → IsMoved old new → new.at ≡ p.from + next → Looked a.end (5 * a.end) before found → read ≤ found + (a.end - k) → capped (found + (a.end - k)) ≤ read
     → Looked (lines_while Blank (drop a.end L)) (lines_while Blank (drop a.end L) + 1) read after
-    → AreQuotesPaid old new B p p.to (Open (Quote line (Some box) left p.to) (front_of p k) None) before after
-attributed_paid old new B p k next line before found read after a box left L rest is first behind size filled within behind_text moved at looked each all blanks = rw rest (record {
+    → AreQuotesPaid old new B p p.to (Open (Quote line (Some box) left p.to) (first_lines_of p k) None) before after
+attributed_paid old new B p k next line before found read after a box left L rest is first after_blanks size filled within text_after moved at looked each all blanks = rw rest (record {
   goes = tt;
   depth = moved.depth;
   run = run;
   place = left_goes_on new p next line (Some box) at ends;
-  blocks = sym (ap (totals old.depth) (split_quotes B p k next line a (Some box) attributed (behind ∙ ap (λ (Q : Block). a.end + lines_while Blank (drop a.end Q)) is) within));
+  blocks = sym (ap (totals old.depth) (split_quotes B p k next line a (Some box) attributed (after_blanks ∙ ap (λ (Q : Block). a.end + lines_while Blank (drop a.end Q)) is) within));
   cells = refl;
-  most = omega (arith, run, left_looks p next line (Some box), ends, behind, inside.0, behind_text, looked.1, each, blanks.1, filled);
+  most = omega (arith, run, left_looks p next line (Some box), ends, after_blanks, inside.0, text_after, looked.1, each, blanks.1, filled);
   least = omega (arith, looked.0, all, blanks.0);
 })
   where
@@ -99,7 +99,7 @@ attributed_paid old new B p k next line before found read after a box left L res
     inside = attribution_within L k a (sym first)
 
     ends : p.from + next ≤ p.to
-    ends = omega (arith, behind, inside.1, while_le Blank (drop a.end L), length-drop a.end L, size, filled)
+    ends = omega (arith, after_blanks, inside.1, while_le Blank (drop a.end L), length-drop a.end L, size, filled)
 
 -- ---- a block quote
 
@@ -171,7 +171,7 @@ nodes_paid {old} {new} B waits looks one m is =
 item_same : (old new : OpenBlock) (item : Node) → HasItem old new item → (new.depth ≡ old.depth) × (new.at ≡ old.at) × (run_looks new.run ≤ run_looks old.run)
 item_same old new item h = by old.run refl h
   where
-    by : (r : Run) → old.run ≡ r → HasItemIn (open_of r) old new item → (new.depth ≡ old.depth) × (new.at ≡ old.at) × (run_looks new.run ≤ run_looks r)
+    by : (r : Run) → old.run ≡ r → HasItemIn (open_run_of r) old new item → (new.depth ≡ old.depth) × (new.at ≡ old.at) × (run_looks new.run ≤ run_looks r)
     by (ListRun l) e h = (h.depth, h.at, one_look new.run)
     by _ e h = (h.depth, h.at, omega (arith, ap run_looks (h.run ∙ e)))
 

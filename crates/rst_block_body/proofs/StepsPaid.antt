@@ -16,13 +16,13 @@ use Rattle.rst_markup_tables.specs.Ends.{end_of}
 use Rattle.rst_markup_tables.specs.declared.results.TableFault.{TableFault}
 use Rattle.rst_markup_tables.specs.declared.results.TableResult.{TableResult}
 use Rattle.rst_markup_tables.specs.declared.results.TableResult.TheVariants.{Malformed}
-use Rattle.rst_block_state.specs.Budget.{sum_of}
+use Rattle.rst_block_state.specs.looks.Budget.{sum_of}
 use Rattle.rst_block_state.specs.Constructs.{Construct, grid, simple}
 use Rattle.rst_block_state.specs.Inside.{opened_by, cell_blocks, cells_by}
-use Rattle.rst_block_state.specs.Ledger.{unread_at, totals, place_after, next_blocks, next_cells, run_looks, end_looks, most_after, least_after, most_left, least_left, GoesOn, IsPaid, Takes}
-use Rattle.rst_block_state.specs.Meanings.{deepest}
-use Rattle.rst_block_state.specs.NextLine.{IsNextConstruct, IsTableAt}
-use Rattle.rst_block_state.specs.Reaches.{reach_at}
+use Rattle.rst_block_state.specs.looks.Ledger.{unread_at, totals, place_after, next_blocks, next_cells, run_looks, end_looks, most_after, least_after, most_left, least_left, GoesOn, IsPaid, Takes}
+use Rattle.rst_block_state.specs.machine.Meanings.{deepest}
+use Rattle.rst_block_state.specs.machine.NextLine.{IsNextConstruct, IsTableAt}
+use Rattle.rst_block_state.specs.looks.Reaches.{reach_at}
 use Rattle.rst_block_state.specs.Texts.{lines_in}
 use Rattle.rst_block_state.specs.Within.{Within}
 use Rattle.rst_block_state.specs.declared.fault.BlockFault.{BlockFault}
@@ -124,11 +124,11 @@ table_paid {l} {new} {B} {t} {s} {before} {found} {after} h inside goes depth pl
     paid_next 29 l new B kind.what n s before after kind.next goes depth (place ∙ end) (ap (totals l.depth) (blocks ∙ sym (kind.alone (unread_at l.depth)))) (ap (totals l.depth) (cells ∙ sym kind.cells)) all (omega (arith, some, least))
 
 -- a malformed table, whose lines its message shows
-pub malformed_paid : {l new : OpenBlock} {B : Block} {end : ℕ} {fault : TableFault} (mid before found closed told after : ℕ) → IsTableAt B l.at (Malformed end fault) → l.at < length B → new.depth ≡ l.depth → new.at ≡ end
+pub malformed_paid : {l new : OpenBlock} {B : Block} {end : ℕ} {fault : TableFault} (mid before found closed reported after : ℕ) → IsTableAt B l.at (Malformed end fault) → l.at < length B → new.depth ≡ l.depth → new.at ≡ end
     → found ≤ before + 4 * reach_at (l.depth == 0) (drop l.at B) → capped (before + (construct_size (l.depth == 0) (drop l.at B) - 1)) ≤ found → mid ≡ l.at → closed ≤ found + run_looks l.run → capped found ≤ closed
-    → told ≤ closed + (end - mid) → capped closed ≤ told → after ≤ told + 1 → capped told ≤ after → IsPaid 29 l new B Next before after
-malformed_paid {l} {new} mid before found closed told after h inside depth at few some place run low most shown one more =
-    table_paid h inside tt depth at refl refl few some (omega (arith, place, run, most, one, one_look new.run)) (omega (arith, low, shown, more))
+    → reported ≤ closed + (end - mid) → capped closed ≤ reported → after ≤ reported + 1 → capped reported ≤ after → IsPaid 29 l new B Next before after
+malformed_paid {l} {new} mid before found closed reported after h inside depth at few some place run low most at_least one more =
+    table_paid h inside tt depth at refl refl few some (omega (arith, place, run, most, one, one_look new.run)) (omega (arith, low, at_least, more))
 
 -- a table whose cells come next
 pub cells_paid : {l new : OpenBlock} {B : Block} (t : TableResult) (before found after : ℕ) → IsTableAt B l.at t → l.at < length B → new.depth ≡ l.depth

@@ -25,16 +25,16 @@ use Rattle.rst_markup_tables.proofs.RowLemmas.{dashes-length}
 use Rattle.rst_markup_tables.proofs.TilingLemmas.{grid_table-is}
 use Rattle.rst_block_state.specs.Constructs.{Construct, grid, simple}
 use Rattle.rst_block_state.specs.Joins.{alone_ending}
-use Rattle.rst_block_state.specs.Meanings.{within_at, done_of, reads, reads_from, comes}
-use Rattle.rst_block_state.specs.NextLine.{IsNextConstruct, IsTableAt}
+use Rattle.rst_block_state.specs.machine.Meanings.{within_at, done_of, reads, reads_from, comes}
+use Rattle.rst_block_state.specs.machine.NextLine.{IsNextConstruct, IsTableAt}
 use Rattle.rst_block_state.specs.Nodes.{piece_of, plainly, ending_notes}
 use Rattle.rst_block_state.specs.Numbered.{Numbered, then_read, ◌>>=◌, just, before}
-use Rattle.rst_block_state.specs.OpenBlocks.{IsMoved, HasMore}
-use Rattle.rst_block_state.specs.Rest.{no_run, rest}
-use Rattle.rst_block_state.specs.RestLaws.{IsAlone}
-use Rattle.rst_block_state.specs.Steps.{IsStep}
+use Rattle.rst_block_state.specs.machine.OpenBlocks.{IsMoved, HasMore}
+use Rattle.rst_block_state.specs.machine.Rest.{no_run, rest}
+use Rattle.rst_block_state.specs.machine.RestLaws.{IsAlone}
+use Rattle.rst_block_state.specs.machine.Steps.{IsStep}
 use Rattle.rst_block_state.specs.Tables.{table_nodes}
-use Rattle.rst_block_state.specs.Texts.{shown, source_of}
+use Rattle.rst_block_state.specs.Texts.{message_with_lines, span_source}
 use Rattle.rst_block_state.specs.Titles.{Item, plain}
 use Rattle.rst_block_state.specs.Within.{Within}
 use Rattle.rst_block_state.specs.declared.open_block.OpenBlock.{OpenBlock}
@@ -131,7 +131,7 @@ table_comes {old} {mid} {B} {t} {n} {m} h e =
 -- a malformed one is its message, with the WARNING where no blank line follows
 pub malformed_reads : {old mid moved new : OpenBlock} {B : Block} {end : ℕ} {fault : TableFault} {n m : ℕ} → IsNextTable old B (Malformed end fault)
     → HasEnded old mid B n m → IsMoved mid moved → moved.at ≡ end
-    → HasMore moved new (shown Error (first_number (drop mid.at B)) (malformed_text fault.detail) (source_of B (span_to mid.at end)) ∷ ending_notes (alone_ending grid) (drop end B))
+    → HasMore moved new (message_with_lines Error (first_number (drop mid.at B)) (malformed_text fault.detail) (span_source B (span_to mid.at end)) ∷ ending_notes (alone_ending grid) (drop end B))
     → reads new B m ≡ reads old B n
 malformed_reads {B = B} {m = m} h e g at more = at_number m (more_is_read B (moved_more g at more)) ∙ table_comes h e
 

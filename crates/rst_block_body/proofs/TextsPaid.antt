@@ -13,11 +13,11 @@ use Rattle.rst_markup_blocks.specs.declared.kind.Kind.{Kind}
 use Rattle.rst_markup_blocks.specs.declared.kind.Kind.TheVariants.{Grid, Simple}
 use Rattle.rst_block_state.specs.Constructs.{Construct, transition, overlined_title, misplaced_lines, underlined_title, paragraph, construct_by}
 use Rattle.rst_block_state.specs.Inside.{opened_by, cells_by}
-use Rattle.rst_block_state.specs.Ledger.{unread_at, totals, run_looks, IsPaid}
-use Rattle.rst_block_state.specs.NextLine.{IsNextConstruct}
-use Rattle.rst_block_state.specs.OpenBlocks.{IsClosed}
-use Rattle.rst_block_state.specs.Reaches.{reach_at}
-use Rattle.rst_block_state.specs.Rest.{no_run}
+use Rattle.rst_block_state.specs.looks.Ledger.{unread_at, totals, run_looks, IsPaid}
+use Rattle.rst_block_state.specs.machine.NextLine.{IsNextConstruct}
+use Rattle.rst_block_state.specs.machine.OpenBlocks.{IsClosed}
+use Rattle.rst_block_state.specs.looks.Reaches.{reach_at}
+use Rattle.rst_block_state.specs.machine.Rest.{no_run}
 use Rattle.rst_block_state.specs.Titles.{Item}
 use Rattle.rst_block_state.specs.Within.{Within}
 use Rattle.rst_block_state.specs.declared.open_block.OpenBlock.{OpenBlock}

@@ -3,9 +3,9 @@ use Rattle.std.specs.Prelude.{ℕ, ◌<◌, length, drop, Result, IfOk}
 use Rattle.rst_text.specs.Block.{Block}
 use Rattle.rst_markup_blocks.specs.Begun.{IsBegun}
 use Rattle.rst_markup_blocks.specs.declared.begun.Begun.{Begun}
-use Rattle.rst_block_state.specs.Ledger.{IsPaid}
-use Rattle.rst_block_state.specs.Meanings.{Keeps, comes, reads}
-use Rattle.rst_block_state.specs.Steps.{IsStep}
+use Rattle.rst_block_state.specs.looks.Ledger.{IsPaid}
+use Rattle.rst_block_state.specs.machine.Meanings.{Keeps, comes, reads}
+use Rattle.rst_block_state.specs.machine.Steps.{IsStep}
 use Rattle.rst_block_state.specs.declared.fault.BlockFault.{BlockFault}
 use Rattle.rst_block_state.specs.declared.open_block.OpenBlock.{OpenBlock}
 use Rattle.rst_block_state.specs.declared.step.Step.{Step}
@@ -18,7 +18,7 @@ pub record BeginsAt (B : Block) (l : OpenBlock) (mark : Begun) : Type 0 where
 
 -- The step leads to a later line, the block gives what it gave before the call, and the construct is paid for with this many looks for each
 -- line of its reach.
-pub record IsRead (each : ℕ) (B : Block) (old : OpenBlock) (before : Pass) (new : OpenBlock) (after : Pass) (result : Result Step BlockFault) : Type 0 where
+pub record IsReadStep (each : ℕ) (B : Block) (old : OpenBlock) (before : Pass) (new : OpenBlock) (after : Pass) (result : Result Step BlockFault) : Type 0 where
   pub step : IfOk result (λ s. IsStep B old.at new.at s)
   pub read : Keeps result (λ s. comes new B s after.numbers) (reads old B before.numbers)
   pub paid : IfOk result (λ s. IsPaid each old new B s before.looks after.looks)

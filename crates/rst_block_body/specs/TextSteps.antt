@@ -7,13 +7,13 @@ use Rattle.rst_text.specs.Block.{Line, Block, first_number}
 use Rattle.rst_tree.specs.declared.node.Node.{Node}
 use Rattle.rst_tree.specs.declared.note.Level.TheVariants.{Error, Severe}
 use Rattle.rst_markup_lines.specs.Closing.{ends_in_colons}
-use Rattle.rst_markup_lines.specs.Front.{first}
+use Rattle.rst_markup_lines.specs.TextStart.{first}
 use Rattle.rst_markup_blocks.specs.Conditions.{next_text}
 use Rattle.rst_markup_blocks.specs.Sizes.{literal_size}
 use Rattle.rst_block_nodes.specs.declared.heading.Style.{Style}
 use Rattle.rst_block_state.specs.Literals.{announced, text_paragraph, after_paragraph}
 use Rattle.rst_block_state.specs.Numbered.{Numbered, ◌>>=◌, just}
-use Rattle.rst_block_state.specs.Texts.{shown, unless_blank}
+use Rattle.rst_block_state.specs.Texts.{message_with_lines, unless_blank}
 
 -- ---- lines of a line block
 
@@ -24,8 +24,8 @@ text_over first below = join_with_byte 10 (first ∷ map (λ (l : Line). l.text)
 -- ---- paragraphs
 
 -- a paragraph of a text, from line i of a block up to line j, and the ERROR at an indented line that follows directly
-abbrev pub shown_paragraph : List ℕ → ℕ → ℕ → Block → Numbered (List Node)
-shown_paragraph t i j B = do
+abbrev pub paragraph_with_text : List ℕ → ℕ → ℕ → Block → Numbered (List Node)
+paragraph_with_text t i j B = do
   nodes ← text_paragraph (first_number (drop i B)) t
   just (nodes ++ unless_blank Error (codes "Unexpected indentation.") (drop j B))
 
@@ -48,4 +48,4 @@ under_style X = record { character = unwrap_or (first (next_text X)) 32; overlin
 -- the messages on a title over its underline where none is recognized, after the WARNING on the underline; X begins with these lines
 abbrev pub unexpected_notes : Option Node → List ℕ → Block → List Node
 unexpected_notes warning lines X =
-    option_to_list warning ++ shown Severe (first_number (drop 1 X)) (codes "Unexpected section title.") lines ∷ []
+    option_to_list warning ++ message_with_lines Severe (first_number (drop 1 X)) (codes "Unexpected section title.") lines ∷ []

@@ -2,14 +2,14 @@
 //! Specification, 'Sections', 'Transitions').
 ghost use Rattle.std.specs.Prelude.{◌≡◌, ◌<◌, ◌∷◌, [], length, drop, Some};
 ghost use Rattle.rst_text.specs.Block.{first_number};
-ghost use Rattle.rst_text.specs.Shown.{block_of};
+ghost use Rattle.rst_text.specs.ViewBlock.{block_of};
 ghost use Rattle.rst_tree.specs.declared.note.Level.TheVariants.{Info};
 ghost use Rattle.rst_markup_blocks.specs.Sizes.{fixed_size};
 ghost use Rattle.rst_markup_blocks.specs.declared.begun.Begun.TheVariants as marks;
 ghost use Rattle.rst_block_state.specs.Constructs.{transition, overlined_title, misplaced_lines};
-ghost use Rattle.rst_block_state.specs.NextLine.{IsText, IsNextConstruct, IsWrong, IsMessageOn};
-ghost use Rattle.rst_block_state.specs.Texts.{said};
-ghost use Rattle.rst_block_body.specs.ReadSteps.{BeginsAt, IsRead};
+ghost use Rattle.rst_block_state.specs.machine.NextLine.{IsText, IsNextConstruct, IsWrongForm, IsMessageOn};
+ghost use Rattle.rst_block_state.specs.Texts.{system_message};
+ghost use Rattle.rst_block_body.specs.ReadSteps.{BeginsAt, IsReadStep};
 
 use super::text::text_line;
 use rst_block_nodes::{Style, message};
@@ -29,7 +29,7 @@ pub fn adornment(
     pass: &mut Pass,
 ) -> Result<Step>
     requires { BeginsAt (block_of view.now) level.old (marks.Adornment mark) }
-    ensures { IsRead 29 (block_of view.now) level.old pass.old level.new pass.new result }
+    ensures { IsReadStep 29 (block_of view.now) level.old pass.old level.new pass.new result }
 {
     let at = level.at;
     let next = below_text(view, at, 1, &mut pass.looks);
@@ -59,7 +59,7 @@ struct WrongForm {
 
 /// The message on a form that is wrong.
 fn wrong_form(form: Adorned) -> WrongForm
-    requires { IsWrong form }
+    requires { IsWrongForm form }
     ensures message { IsMessageOn form result.gravity result.text.now }
     ensures lines { fixed_size form ≡ Some result.lines }
 {
@@ -89,7 +89,7 @@ fn wrong_form(form: Adorned) -> WrongForm
 fn transition(view: &View<'_>, level: &mut OpenBlock, pass: &mut Pass) -> Result<Step>
     requires inside { level.old.at < length (block_of view.now) }
     requires found { IsNextConstruct level.old (block_of view.now) transition 1 }
-    ensures { IsRead 27 (block_of view.now) level.old pass.old level.new pass.new result }
+    ensures { IsReadStep 27 (block_of view.now) level.old pass.old level.new pass.new result }
 {
     level.close(view, pass)?;
     let at = level.at;
@@ -102,8 +102,8 @@ fn transition(view: &View<'_>, level: &mut OpenBlock, pass: &mut Pass) -> Result
 /// A short line that is taken as text, after a message on that.
 fn short(view: &View<'_>, level: &mut OpenBlock, text: &str, pass: &mut Pass) -> Result<Step>
     requires inside { level.old.at < length (block_of view.now) }
-    requires text { IsText level.old (block_of view.now) (said Info (first_number (drop level.old.at (block_of view.now))) text.now ∷ []) }
-    ensures { IsRead 27 (block_of view.now) level.old pass.old level.new pass.new result }
+    requires text { IsText level.old (block_of view.now) (system_message Info (first_number (drop level.old.at (block_of view.now))) text.now ∷ []) }
+    ensures { IsReadStep 27 (block_of view.now) level.old pass.old level.new pass.new result }
 {
     let alloc = pass.alloc;
     let info = message(alloc, Level::Info, number_at(view, level.at), text, None)?;
@@ -114,7 +114,7 @@ fn short(view: &View<'_>, level: &mut OpenBlock, text: &str, pass: &mut Pass) ->
 fn wrong(view: &View<'_>, level: &mut OpenBlock, form: WrongForm, pass: &mut Pass) -> Result<Step>
     requires inside { level.old.at < length (block_of view.now) }
     requires found { IsNextConstruct level.old (block_of view.now) (misplaced_lines form.gravity form.text.now) form.lines }
-    ensures { IsRead 27 (block_of view.now) level.old pass.old level.new pass.new result }
+    ensures { IsReadStep 27 (block_of view.now) level.old pass.old level.new pass.new result }
 {
     let alloc = pass.alloc;
     level.close(view, pass)?;
@@ -139,7 +139,7 @@ fn overlined(
     requires inside { level.old.at < length (block_of view.now) }
     requires found { IsNextConstruct level.old (block_of view.now) (overlined_title mark short) 3 }
     requires titles { level.old.depth ≡ 0 }
-    ensures { IsRead 27 (block_of view.now) level.old pass.old level.new pass.new result }
+    ensures { IsReadStep 27 (block_of view.now) level.old pass.old level.new pass.new result }
 {
     level.close(view, pass)?;
     let at = level.at;

@@ -1,12 +1,12 @@
 //! Items of definition lists (Markup Specification, 'Definition Lists').
 ghost use Rattle.std.specs.Prelude.{◌≡◌, ◌<◌, length, drop};
-ghost use Rattle.rst_text.specs.Shown.{block_of};
-ghost use Rattle.rst_text.specs.Block.{front_text};
+ghost use Rattle.rst_text.specs.ViewBlock.{block_of};
+ghost use Rattle.rst_text.specs.Block.{first_text};
 ghost use Rattle.rst_markup_blocks.specs.Conditions.{next_text};
 ghost use Rattle.rst_markup_blocks.specs.Forms.{text_form};
 ghost use Rattle.rst_markup_blocks.specs.declared.form.TextForm.TheVariants.{Definition};
-ghost use Rattle.rst_block_state.specs.NextLine.{IsText};
-ghost use Rattle.rst_block_body.specs.ReadSteps.{IsRead};
+ghost use Rattle.rst_block_state.specs.machine.NextLine.{IsText};
+ghost use Rattle.rst_block_body.specs.ReadSteps.{IsReadStep};
 
 use super::field::join_list;
 use rst_block_nodes::{append, term_and_classifiers};
@@ -23,8 +23,8 @@ pub(crate) fn definition(
 ) -> Result<Step>
     requires inside { level.old.at < length (block_of view.now) }
     requires text { IsText level.old (block_of view.now) infos.items }
-    requires form { let X = drop level.old.at (block_of view.now) in text_form (front_text X) (next_text X) ≡ Definition }
-    ensures { IsRead 25 (block_of view.now) level.old pass.old level.new pass.new result }
+    requires form { let X = drop level.old.at (block_of view.now) in text_form (first_text X) (next_text X) ≡ Definition }
+    ensures { IsReadStep 25 (block_of view.now) level.old pass.old level.new pass.new result }
 {
     let at = level.at;
     let line = number_at(view, at);

@@ -2,14 +2,14 @@
 ghost use Rattle.std.specs.Prelude.{◌≡◌, suc, ◌-◌, ◌<◌, [], drop, Some};
 ghost use Rattle.rst_text.specs.Block.{first_number};
 ghost use Rattle.rst_text.specs.Looked.{Looked};
-ghost use Rattle.rst_text.specs.Shown.{block_of};
+ghost use Rattle.rst_text.specs.ViewBlock.{block_of};
 ghost use Rattle.rst_tree.specs.Forest.{bare};
 ghost use Rattle.rst_tree.specs.declared.node.Node.TheVariants.{Element};
-ghost use Rattle.rst_block_state.specs.Meanings.{deepest, joining_in, list_kind_in, open_of};
-ghost use Rattle.rst_block_state.specs.OpenBlocks.{Closes, Gives, HasRun, begun_at, joined_at};
-ghost use Rattle.rst_block_state.specs.Rest.{closed_run};
+ghost use Rattle.rst_block_state.specs.machine.Meanings.{deepest, joining_in, list_kind_in, open_run_of};
+ghost use Rattle.rst_block_state.specs.machine.OpenBlocks.{Closes, Gives, HasRun, begun_at, joined_at};
+ghost use Rattle.rst_block_state.specs.machine.Rest.{closed_run};
 ghost use Rattle.rst_markup_blocks.specs.declared.begun.Begun.TheVariants.{Field};
-ghost use Rattle.rst_block_body.specs.ReadSteps.{BeginsAt, IsRead};
+ghost use Rattle.rst_block_body.specs.ReadSteps.{BeginsAt, IsReadStep};
 
 use rst_block_nodes::with_text;
 use rst_block_state::{
@@ -27,7 +27,7 @@ pub fn field(
     pass: &mut Pass,
 ) -> Result<Step>
     requires { BeginsAt (block_of view.now) level.old (Field mark) }
-    ensures { IsRead 29 (block_of view.now) level.old pass.old level.new pass.new result }
+    ensures { IsReadStep 29 (block_of view.now) level.old pass.old level.new pass.new result }
 {
     let at = level.at;
     let line = number_at(view, at);
@@ -70,10 +70,10 @@ pub(crate) fn join_list(
 ) -> Result<()>
     ensures at { level.new.at ≡ level.old.at }
     ensures joins { list_kind_in level.old.run ≡ Some kind
-        → Gives (λ _. HasRun level.old level.new (joined_at (joining_in kind) end (open_of level.old.run))) result }
+        → Gives (λ _. HasRun level.old level.new (joined_at (joining_in kind) end (open_run_of level.old.run))) result }
     ensures numbers { list_kind_in level.old.run ≡ Some kind → pass.new.numbers ≡ pass.old.numbers }
     ensures begins { let B = block_of view.now in
-        let closed = closed_run (suc deepest - level.old.depth) B (open_of level.old.run) pass.old.numbers in
+        let closed = closed_run (suc deepest - level.old.depth) B (open_run_of level.old.run) pass.old.numbers in
         let run = begun_at (joining_in kind) end (Element tag [] bare (first_number (drop level.old.at B))) in
         (list_kind_in level.old.run ≡ Some kind → ⊥) → Closes closed level.old level.new pass.new.numbers run result }
     ensures looked { Looked 0 1 pass.old.looks pass.new.looks }

@@ -1,14 +1,14 @@
 //! Lines of line blocks (Markup Specification, 'Line Blocks').
 ghost use Rattle.std.specs.Prelude.{◌≡◌, ℕ, ◌+◌, ◌-◌, ◌*◌, ◌^◌, ◌<◌, length, unwrap_or, IfOk};
 ghost use Rattle.rst_text.specs.Looked.{Looked};
-ghost use Rattle.rst_text.specs.Shown.{block_of};
+ghost use Rattle.rst_text.specs.ViewBlock.{block_of};
 ghost use Rattle.rst_block_nodes.specs.LineBlocks.{indented_by};
 ghost use Rattle.rst_markup_blocks.specs.declared.begun.Begun.TheVariants.{Line};
 ghost use Rattle.rst_block_state.specs.LineRuns.{indented_line, indentation_of};
-ghost use Rattle.rst_block_state.specs.Meanings.{open_of};
-ghost use Rattle.rst_block_state.specs.OpenBlocks.{Gives, HasLine, line_added};
+ghost use Rattle.rst_block_state.specs.machine.Meanings.{open_run_of};
+ghost use Rattle.rst_block_state.specs.machine.OpenBlocks.{Gives, HasLine, line_added};
 ghost use Rattle.rst_block_state.specs.Texts.{joined};
-ghost use Rattle.rst_block_body.specs.ReadSteps.{BeginsAt, IsRead};
+ghost use Rattle.rst_block_body.specs.ReadSteps.{BeginsAt, IsReadStep};
 
 use rst_block_nodes::BarText;
 use rst_block_state::{
@@ -28,7 +28,7 @@ pub fn bar_line(
     pass: &mut Pass,
 ) -> Result<Step>
     requires { BeginsAt (block_of view.now) level.old (Line marker) }
-    ensures { IsRead 29 (block_of view.now) level.old pass.old level.new pass.new result }
+    ensures { IsReadStep 29 (block_of view.now) level.old pass.old level.new pass.new result }
 {
     let at = level.at;
     let end = indented_end(view, at, &mut pass.looks);
@@ -50,7 +50,7 @@ pub fn bar_line(
 fn add_line(level: &mut OpenBlock, text: BarText, end: usize) -> Result<()>
     requires { level.old.at < 2 ^ 64 - 1 }
     ensures later { IfOk result (λ _. level.old.at < level.new.at) }
-    ensures line { Gives (λ _. HasLine level.old level.new (line_added text end (open_of level.old.run))
+    ensures line { Gives (λ _. HasLine level.old level.new (line_added text end (open_run_of level.old.run))
         × (level.old.at < end → level.new.at ≡ end)) result }
 {
     if let Run::Lines { lines, end: last } = &mut level.run {

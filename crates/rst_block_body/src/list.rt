@@ -3,22 +3,22 @@ ghost use Rattle.std.specs.Prelude.{◌≡◌, ◌-◌, ◌^◌, ◌<◌, length
 ghost use Rattle.std.specs.Option.{option_and_then};
 ghost use Rattle.rst_text.specs.Block.{Block};
 ghost use Rattle.rst_text.specs.Looked.{Looked};
-ghost use Rattle.rst_text.specs.Shown.{block_of};
+ghost use Rattle.rst_text.specs.ViewBlock.{block_of};
 ghost use Rattle.rst_tree.specs.Faults.{Gives};
 ghost use Rattle.rst_markup_lines.specs.Enumerator.{first_reading};
 ghost use Rattle.rst_markup_blocks.specs.Parts.{IsBlock};
 ghost use Rattle.rst_block_state.specs.Lists as lists;
-ghost use Rattle.rst_block_state.specs.Steps as spec;
+ghost use Rattle.rst_block_state.specs.machine.Steps as spec;
 ghost use Rattle.rst_markup_blocks.specs.declared.begun.Begun.TheVariants.{Bullet, Enumerator as ItemEnumerator};
 ghost use Rattle.rst_block_state.specs.Constructs.{enumerated_item, item_of_list};
 ghost use Rattle.rst_block_state.specs.Joins.{list_joining_after};
-ghost use Rattle.rst_block_state.specs.Meanings.{joining_in, list_kind_in};
-ghost use Rattle.rst_block_state.specs.OpenBlocks as blocks;
-ghost use Rattle.rst_block_state.specs.OpenBlocks.{HasRun, IsMoved};
-ghost use Rattle.rst_block_state.specs.Rest.{begun_run};
+ghost use Rattle.rst_block_state.specs.machine.Meanings.{joining_in, list_kind_in};
+ghost use Rattle.rst_block_state.specs.machine.OpenBlocks as blocks;
+ghost use Rattle.rst_block_state.specs.machine.OpenBlocks.{HasRun, IsMoved};
+ghost use Rattle.rst_block_state.specs.machine.Rest.{begun_run};
 ghost use Rattle.rst_block_state.specs.declared.waits.Waits.TheVariants.{ListItem};
 ghost use Rattle.rst_block_state.specs.declared.step.Step.TheVariants.{Open};
-ghost use Rattle.rst_block_body.specs.ReadSteps.{BeginsAt, IsRead};
+ghost use Rattle.rst_block_body.specs.ReadSteps.{BeginsAt, IsReadStep};
 
 use rst_block_nodes::{bullet_list, enumerated_list, start_message};
 use rst_block_state::{
@@ -30,7 +30,7 @@ use rst_markup_lines::{Enumerator, Format, Marker, first_reading};
 use rst_text::View;
 
 /// Opens the block of an item.
-fn opened(level: &mut OpenBlock, line: usize, body: Part) -> Step
+fn open_item(level: &mut OpenBlock, line: usize, body: Part) -> Step
     requires { level.old.at < 2 ^ 64 - 1 }
     ensures step { (B : Block) → IsBlock B body → spec.IsStep B level.old.at level.new.at result }
     ensures waits { result ≡ Open (ListItem line) body None }
@@ -54,7 +54,7 @@ pub fn bullet_item(
     pass: &mut Pass,
 ) -> Result<Step>
     requires { BeginsAt (block_of view.now) level.old (Bullet mark marker) }
-    ensures { IsRead 29 (block_of view.now) level.old pass.old level.new pass.new result }
+    ensures { IsReadStep 29 (block_of view.now) level.old pass.old level.new pass.new result }
 {
     let alloc = pass.alloc;
     let at = level.at;
@@ -63,11 +63,11 @@ pub fn bullet_item(
     let kind = ListKind::Bullet(mark);
     if level.run.list_kind() == Some(kind) {
         level.join(kind, body.to);
-        return Ok(opened(level, line, body));
+        return Ok(open_item(level, line, body));
     }
     level.close(view, pass)?;
     level.begin(alloc, kind, bullet_list(alloc, mark, line)?, body.to)?;
-    Ok(opened(level, line, body))
+    Ok(open_item(level, line, body))
 }
 
 /// An item of an enumerated list.
@@ -78,18 +78,18 @@ pub fn enumerated_item(
     pass: &mut Pass,
 ) -> Result<Step>
     requires { BeginsAt (block_of view.now) level.old (ItemEnumerator enumerator) }
-    ensures { IsRead 29 (block_of view.now) level.old pass.old level.new pass.new result }
+    ensures { IsReadStep 29 (block_of view.now) level.old pass.old level.new pass.new result }
 {
     let at = level.at;
     let line = number_at(view, at);
     let body = item_part(view, at, enumerator.marker, &mut pass.looks);
     if let Some(kind) = going_on(&level.run, enumerator) {
         level.join(kind, body.to);
-        return Ok(opened(level, line, body));
+        return Ok(open_item(level, line, body));
     }
     level.close(view, pass)?;
     begin_enumerated_list(view, level, enumerator, body.to, pass)?;
-    Ok(opened(level, line, body))
+    Ok(open_item(level, line, body))
 }
 
 /// The kind with which the open list goes on after an enumerator, if that joins it.
@@ -135,7 +135,7 @@ fn begin_enumerated_list(
     let written = characters(pass.alloc, text, from, enumerator.written.len)?;
     let note = start_message(pass.alloc, written.as_str(), ordinal, number_at(view, at))?;
     match &mut level.run {
-        Run::List(open) => Ok(push(&mut open.behind, note)?),
+        Run::List(open) => Ok(push(&mut open.messages_after, note)?),
         _ => Ok(()),
     }
 }

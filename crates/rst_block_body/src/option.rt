@@ -1,11 +1,11 @@
 //! Items of option lists (Markup Specification, 'Option Lists').
 ghost use Rattle.std.specs.Prelude.{◌≡◌, ◌<◌};
 ghost use Rattle.std.specs.Str.{chars};
-ghost use Rattle.rst_text.specs.Shown.{block_of};
+ghost use Rattle.rst_text.specs.ViewBlock.{block_of};
 ghost use Rattle.rst_tree.specs.Faults.{Gives};
 ghost use Rattle.rst_block_state.specs.Lists as lists;
 ghost use Rattle.rst_markup_blocks.specs.declared.begun.Begun.TheVariants.{OptionItem};
-ghost use Rattle.rst_block_body.specs.ReadSteps.{BeginsAt, IsRead};
+ghost use Rattle.rst_block_body.specs.ReadSteps.{BeginsAt, IsReadStep};
 
 use super::field::join_list;
 use rst_block_nodes::{element_of, option};
@@ -25,7 +25,7 @@ pub fn option_item(
     pass: &mut Pass,
 ) -> Result<Step>
     requires { BeginsAt (block_of view.now) level.old (OptionItem marker) }
-    ensures { IsRead 29 (block_of view.now) level.old pass.old level.new pass.new result }
+    ensures { IsReadStep 29 (block_of view.now) level.old pass.old level.new pass.new result }
 {
     let at = level.at;
     let line = number_at(view, at);

@@ -3,9 +3,9 @@
 ghost use Rattle.std.specs.Prelude.{◌≡◌, [], ◌+◌, ◌-◌, ◌*◌, ◌<◌, ◌≤◌, length, drop, min, codes, slice_range, true, IfOk};
 ghost use Rattle.std.specs.Cow.{cow_str_bytes};
 ghost use Rattle.std.specs.Str.{chars};
-ghost use Rattle.rst_text.specs.Shown.{block_of};
+ghost use Rattle.rst_text.specs.ViewBlock.{block_of};
 ghost use Rattle.rst_markup_blocks.specs.declared.begun.Begun.TheVariants.{Doctest};
-ghost use Rattle.rst_block_state.specs.OpenBlocks.{Gives, ReadsNodes, HasMoreAt};
+ghost use Rattle.rst_block_state.specs.machine.OpenBlocks.{Gives, ReadsNodes, HasMoreAt};
 ghost use Rattle.rst_block_state.specs.Literals as literals;
 ghost use Rattle.rst_block_state.specs.Texts.{joined, unless_blank};
 ghost use Rattle.rst_tree.specs.declared.note.Level.TheVariants.{Error};
@@ -13,18 +13,18 @@ ghost use Rattle.rst_block_body.specs.TextSteps as parts;
 ghost use Rattle.rst_markup_blocks.specs.Lines.{lines_while};
 ghost use Rattle.rst_markup_blocks.specs.Sizes.{paragraph_size, literal_size};
 ghost use Rattle.rst_markup_blocks.specs.declared.lines.LineTest.TheVariants.{Begins};
-ghost use Rattle.rst_markup_lines.specs.Front.{begins_with};
-ghost use Rattle.rst_text.specs.Block.{first_number, front_text};
+ghost use Rattle.rst_markup_lines.specs.TextStart.{begins_with};
+ghost use Rattle.rst_text.specs.Block.{first_number, first_text};
 ghost use Rattle.rst_text.specs.Looked.{Looked, capped};
 ghost use Rattle.rst_text.specs.Reach.{reach};
-ghost use Rattle.rst_block_body.specs.ReadSteps.{BeginsAt, IsRead};
+ghost use Rattle.rst_block_body.specs.ReadSteps.{BeginsAt, IsReadStep};
 
 use rst_block_nodes::{message, preserved, with_text};
 use rst_block_state::{
     OpenBlock, Pass, Result, Step, announced, indented, inside, joined, number_at, source,
 };
 use rst_markup_blocks::{LineTest, lines_end, text_at};
-use rst_markup_lines::{begins_with, ends_in_colons, front, is_blank, is_punctuation};
+use rst_markup_lines::{begins_with, ends_in_colons, first_char, is_blank, is_punctuation};
 use rst_text::{Looks, View};
 use rst_tree::{Level, Tag};
 use std::alloc::{AllocError, Global};
@@ -33,7 +33,7 @@ use std::borrow::CowStr;
 /// A doctest block: the lines up to a blank one.
 pub fn doctest_block(view: &View<'_>, level: &mut OpenBlock, pass: &mut Pass) -> Result<Step>
     requires { BeginsAt (block_of view.now) level.old Doctest }
-    ensures { IsRead 29 (block_of view.now) level.old pass.old level.new pass.new result }
+    ensures { IsReadStep 29 (block_of view.now) level.old pass.old level.new pass.new result }
 {
     let alloc = pass.alloc;
     level.close(view, pass)?;
@@ -96,7 +96,7 @@ fn put_paragraph(
     end: usize,
     pass: &mut Pass,
 ) -> Result<()>
-    ensures read { let nodes = parts.shown_paragraph (chars text.now) level.old.at end (block_of view.now) pass.old.numbers in
+    ensures read { let nodes = parts.paragraph_with_text (chars text.now) level.old.at end (block_of view.now) pass.old.numbers in
         Gives (λ _. ReadsNodes nodes level.old level.new level.old.at pass.new.numbers) result }
     ensures looked { IfOk result (λ _. Looked 0 1 pass.old.looks pass.new.looks) }
 {
@@ -136,7 +136,7 @@ fn put_indentation_error(
 fn literal(view: &View<'_>, level: &mut OpenBlock, end: usize, pass: &mut Pass) -> Result<()>
     requires end { end ≤ length (block_of view.now) }
     requires inside { level.old.at < length (block_of view.now) }
-    requires behind { level.old.at < end }
+    requires is_later { level.old.at < end }
     ensures gone { let B = block_of view.now in
         let Z = drop end B in
         let nodes = literals.literal_nodes (first_number (drop (end - 1) B)) Z in
@@ -162,7 +162,7 @@ fn literal(view: &View<'_>, level: &mut OpenBlock, end: usize, pass: &mut Pass) 
         level.push(node)?;
         return level.warn(view, lines.to, warning, pass);
     }
-    match front(text) {
+    match first_char(text) {
         Some(quote) if is_punctuation(quote) => quoted_literal(view, level, start, quote, pass),
         _ => {
             let place = if start < view.len() {
@@ -188,8 +188,8 @@ fn quoted_literal(
 ) -> Result<()>
     requires start { start ≤ length (block_of view.now) }
     requires inside { level.old.at < length (block_of view.now) }
-    requires behind { level.old.at < start }
-    requires quoted { begins_with quote (front_text (drop start (block_of view.now))) ≡ true }
+    requires is_later { level.old.at < start }
+    requires quoted { begins_with quote (first_text (drop start (block_of view.now))) ≡ true }
     ensures gone { let Z = drop start (block_of view.now) in
         let size = lines_while (Begins quote) Z in
         Gives (λ _. HasMoreAt level.old level.new (literals.quoted_literal size Z) (start + size)) result }

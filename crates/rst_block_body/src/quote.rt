@@ -2,18 +2,18 @@
 ghost use Rattle.std.specs.Prelude.{◌≡◌, [], ◌+◌, ◌-◌, ◌*◌, ◌<◌, ◌≤◌, length, drop, Ok, IfOk, IfSome, IfNone};
 ghost use Rattle.rst_text.specs.Block.{first_number};
 ghost use Rattle.rst_text.specs.Looked.{Looked, capped};
-ghost use Rattle.rst_text.specs.Shown.{block_of};
+ghost use Rattle.rst_text.specs.ViewBlock.{block_of};
 ghost use Rattle.rst_tree.specs.Faults.{Gives};
 ghost use Rattle.rst_tree.specs.declared.tag.Tag.TheVariants.{Attribution as AttributionTag};
 ghost use Rattle.rst_markup_blocks.specs.Parts.{IsBlock};
 ghost use Rattle.rst_markup_blocks.specs.Attributions.{attribution_part};
 ghost use Rattle.rst_block_state.specs.Quotes as quotes;
-ghost use Rattle.rst_block_state.specs.Steps as spec;
+ghost use Rattle.rst_block_state.specs.machine.Steps as spec;
 ghost use Rattle.rst_block_state.specs.Texts.{joined, lines_in, texted};
 ghost use Rattle.rst_markup_blocks.specs.declared.begun.Begun.TheVariants.{Quote};
-ghost use Rattle.rst_block_state.specs.Meanings.{Keeps, comes, quotes_from};
-ghost use Rattle.rst_block_state.specs.Ledger.{AreQuotesPaid};
-ghost use Rattle.rst_block_body.specs.ReadSteps.{BeginsAt, IsRead};
+ghost use Rattle.rst_block_state.specs.machine.Meanings.{Keeps, comes, quotes_from};
+ghost use Rattle.rst_block_state.specs.looks.Ledger.{AreQuotesPaid};
+ghost use Rattle.rst_block_body.specs.ReadSteps.{BeginsAt, IsReadStep};
 
 use rst_block_nodes::{Texted, with_text};
 use rst_block_state::{OpenBlock, Pass, Result, Step, Waits, indented, inside, joined, number_at};
@@ -24,7 +24,7 @@ use rst_tree::{Tag, TreeFault};
 /// A block quote.
 pub fn block_quote(view: &View<'_>, level: &mut OpenBlock, pass: &mut Pass) -> Result<Step>
     requires { BeginsAt (block_of view.now) level.old Quote }
-    ensures { IsRead 29 (block_of view.now) level.old pass.old level.new pass.new result }
+    ensures { IsReadStep 29 (block_of view.now) level.old pass.old level.new pass.new result }
 {
     level.close(view, pass)?;
     let quote = indented(view, level.at, &mut pass.looks);

@@ -1,25 +1,25 @@
 //! Tables (Markup Specification, 'Tables').
 ghost use Rattle.std.specs.Prelude.{◌≡◌, ◌+◌, ◌-◌, ◌<◌, ◌≤◌, ◌==◌, [], ◌∷◌, codes, length, drop, nat_lt, if◌then◌else◌, IfOk, ℕ, ◌*◌};
 ghost use Rattle.rst_text.specs.Looked.{Looked, capped};
-ghost use Rattle.rst_text.specs.Shown.{block_of};
+ghost use Rattle.rst_text.specs.ViewBlock.{block_of};
 ghost use Rattle.rst_tree.specs.Faults.{Gives};
 ghost use Rattle.rst_tree.specs.declared.note.Level.TheVariants.{Error};
 ghost use Rattle.rst_tree.specs.declared.tag.Tag.TheVariants.{Thead};
 ghost use Rattle.rst_markup_tables.specs.Messages.{malformed_text};
 ghost use Rattle.rst_block_nodes.specs.Elements.{element_of, entry_node};
 ghost use Rattle.rst_block_nodes.specs.Sections.{filled};
-ghost use Rattle.rst_block_state.specs.Steps as spec;
+ghost use Rattle.rst_block_state.specs.machine.Steps as spec;
 ghost use Rattle.rst_block_state.specs.Tables.{table_node};
-ghost use Rattle.rst_block_state.specs.Texts.{shown, warned};
-ghost use Rattle.rst_block_state.specs.Meanings.{Keeps, comes, reads};
-ghost use Rattle.rst_block_state.specs.NextLine.{IsTableAt};
-ghost use Rattle.rst_block_state.specs.OpenBlocks as blocks;
-ghost use Rattle.rst_block_state.specs.Ledger.{IsPaid};
-ghost use Rattle.rst_block_state.specs.Reaches.{reach_at};
+ghost use Rattle.rst_block_state.specs.Texts.{message_with_lines, warned};
+ghost use Rattle.rst_block_state.specs.machine.Meanings.{Keeps, comes, reads};
+ghost use Rattle.rst_block_state.specs.machine.NextLine.{IsTableAt};
+ghost use Rattle.rst_block_state.specs.machine.OpenBlocks as blocks;
+ghost use Rattle.rst_block_state.specs.looks.Ledger.{IsPaid};
+ghost use Rattle.rst_block_state.specs.looks.Reaches.{reach_at};
 ghost use Rattle.rst_markup_blocks.specs.Partition.{construct_size};
 
 use rst_block_nodes::{completed, entry, message, tgroup};
-use rst_block_state::{OpenBlock, Pass, Result, Step, number_at, parted, source};
+use rst_block_state::{OpenBlock, Pass, Result, Step, number_at, source, split_nodes};
 use rst_markup_tables::{TableResult, malformed_text};
 use rst_text::View;
 use rst_tree::{Attrs, Level, Tag, TreeFault};
@@ -52,8 +52,8 @@ pub fn table(
             let text = malformed_text(pass.alloc, note.detail)?;
             let lines = source(pass.alloc, view, at, end, &mut pass.looks)?;
             let line = number_at(view, at);
-            let shown = Some(lines.as_str());
-            let error = message(pass.alloc, Level::Error, line, text.as_str(), shown)?;
+            let literal_block = Some(lines.as_str());
+            let error = message(pass.alloc, Level::Error, line, text.as_str(), literal_block)?;
             level.go_to(end);
             level.push(error)?;
             after_table(view, level, pass)?;
@@ -85,7 +85,7 @@ pub fn table_of(
 ) -> Result<Marked, TreeFault>
     ensures { Gives (λ node. node ≡ table_node widths.now head rows line) result }
 {
-    let (heads, bodies) = parted(alloc, rows.into_marked(), head as u64)?;
+    let (heads, bodies) = split_nodes(alloc, rows.into_marked(), head as u64)?;
     let mut parts = head_nodes(alloc, head, heads)?;
     parts.push(bodies.into_element(Tag::Tbody, Attrs::new(alloc), 0)?)?;
     let group = completed(alloc, tgroup(alloc, widths, line)?, parts)?;

@@ -1,13 +1,13 @@
 //! Lines of text: titles, items of definition lists and paragraphs.
 ghost use Rattle.std.specs.Prelude.{◌+◌, ◌<◌, ◌==◌, length, drop, IfOk};
 ghost use Rattle.rst_text.specs.Looked.{Looked};
-ghost use Rattle.rst_text.specs.Shown.{block_of};
-ghost use Rattle.rst_block_state.specs.NextLine.{IsText};
-ghost use Rattle.rst_block_state.specs.OpenBlocks.{Gives, ReadsItems, HasMore};
+ghost use Rattle.rst_text.specs.ViewBlock.{block_of};
+ghost use Rattle.rst_block_state.specs.machine.NextLine.{IsText};
+ghost use Rattle.rst_block_state.specs.machine.OpenBlocks.{Gives, ReadsItems, HasMore};
 ghost use Rattle.rst_block_state.specs.Constructs as constructs;
-ghost use Rattle.rst_block_state.specs.Texts.{source_of};
+ghost use Rattle.rst_block_state.specs.Texts.{span_source};
 ghost use Rattle.rst_block_state.specs.Titles as titles;
-ghost use Rattle.rst_block_body.specs.ReadSteps.{IsRead};
+ghost use Rattle.rst_block_body.specs.ReadSteps.{IsReadStep};
 
 use super::definition::definition;
 use super::paragraph::paragraph;
@@ -16,7 +16,7 @@ use rst_block_state::{
     OpenBlock, Pass, Result, Step, heading_of, number_at, short_warning, source,
 };
 use rst_markup_blocks::{TextForm, below_text, text_at, text_form};
-use rst_markup_lines::front;
+use rst_markup_lines::first_char;
 use rst_text::View;
 use rst_tree::{Level, Node};
 use std::alloc::Global;
@@ -30,7 +30,7 @@ pub fn text_line(
 ) -> Result<Step>
     requires inside { level.old.at < length (block_of view.now) }
     requires text { IsText level.old (block_of view.now) infos.items }
-    ensures { IsRead 27 (block_of view.now) level.old pass.old level.new pass.new result }
+    ensures { IsReadStep 27 (block_of view.now) level.old pass.old level.new pass.new result }
 {
     let at = level.at;
     let text = view.line(at, &mut pass.looks);
@@ -84,7 +84,7 @@ fn put_short_underline(alloc: Global, view: &View<'_>, level: &mut OpenBlock) ->
 fn underlined(view: &View<'_>, level: &mut OpenBlock, short: bool, pass: &mut Pass) -> Result<()>
     requires inside { level.old.at + 1 < length (block_of view.now) }
     ensures read { let B = block_of view.now in
-        let lines = source_of B (record { start = level.old.at; stop = level.old.at + 2 }) in
+        let lines = span_source B (record { start = level.old.at; stop = level.old.at + 2 }) in
         let item = titles.underline_item (level.old.depth == 0) short lines (drop level.old.at B) pass.old.numbers in
         Gives (λ _. ReadsItems item level.old level.new (level.old.at + 2) pass.new.numbers) result }
     ensures looked { IfOk result (λ _. Looked 2 4 pass.old.looks pass.new.looks) }
@@ -103,7 +103,7 @@ fn underlined(view: &View<'_>, level: &mut OpenBlock, short: bool, pass: &mut Pa
     )?;
     if level.titles() {
         let style = Style {
-            character: front(text_at(view, next, &mut pass.looks)).unwrap_or(' '),
+            character: first_char(text_at(view, next, &mut pass.looks)).unwrap_or(' '),
             overlined: false,
         };
         let text = view.line(at, &mut pass.looks);
@@ -115,8 +115,8 @@ fn underlined(view: &View<'_>, level: &mut OpenBlock, short: bool, pass: &mut Pa
         level.push(warning)?;
     }
     let text = "Unexpected section title.";
-    let shown = Some(lines.as_str());
-    let severe = message(pass.alloc, Level::Severe, under, text, shown)?;
+    let literal_block = Some(lines.as_str());
+    let severe = message(pass.alloc, Level::Severe, under, text, literal_block)?;
     level.go_to(end);
     level.push(severe)
 }

@@ -9,22 +9,22 @@ use Rattle.rst_markup_blocks.proofs.RowLaws.{while_le}
 use Rattle.rst_markup_blocks.specs.declared.forms.Invocation.{Invocation}
 use Rattle.rst_markup_blocks.specs.declared.lines.LineTest.TheVariants.{Blank}
 use Rattle.rst_markup_blocks.specs.declared.part.Part.{Part}
-use Rattle.rst_markup_directives.specs.Argument.{Given, nothing, title, uri, argument_of}
+use Rattle.rst_markup_directives.specs.Argument.{ArgumentMeaning, nothing, title, uri, argument_of}
 use Rattle.rst_markup_directives.specs.Call.{called_at, part_of, content_of, is_empty}
 use Rattle.rst_markup_directives.specs.Characters.{Text}
-use Rattle.rst_markup_directives.specs.Directive.{Read, Outcome, found, wrong, run_in, is_code_name, options_of, read_parts, read_by, read_block, read_at, outcome_at, of_block, judged, named, lines_at, is_late, directive_of}
+use Rattle.rst_markup_directives.specs.Directive.{Read, Outcome, found, wrong, run_in, is_code_name, directive_options, read_parts, directive_by_layout, read_block, read_at, directive_outcome_at, of_block, judged_directive, named_directive, source_lines_at, is_late, directive_of}
 use Rattle.rst_markup_directives.specs.Judgement.{content_fault}
 use Rattle.rst_markup_directives.specs.Layout.{begins_field, before_field, content_alone, parts_without_argument, layout_at, layout_of}
-use Rattle.rst_markup_directives.specs.Lines.{first_run, blank_len, behind_blank}
-use Rattle.rst_markup_directives.specs.Options.{Choice}
+use Rattle.rst_markup_directives.specs.Lines.{first_run, blank_len, after_blank}
+use Rattle.rst_markup_directives.specs.Options.{OptionSetting}
 use Rattle.rst_markup_directives.specs.Wrong.{Wrong, Fault, and_then, unless, fault_in}
 use Rattle.rst_markup_directives.specs.declared.fault.DirectiveFault.{DirectiveFault}
 use Rattle.rst_markup_directives.specs.declared.found.Content.{Content}
 use Rattle.rst_markup_directives.specs.declared.found.Place.{Place}
 use Rattle.rst_markup_directives.specs.declared.name.Name.{Name}
 use Rattle.rst_markup_directives.specs.declared.name.Name.TheVariants.{Attention, Caution, Danger, Error, Hint, Important, Note, Tip, Warning, Admonition, Topic, Image, Figure, Replace, Code}
-use Rattle.rst_block_state.specs.Budget.{sum_of}
-use Rattle.rst_block_state.specs.BudgetLaws.{is_trimmed, IsFronted, AreWithin}
+use Rattle.rst_block_state.specs.looks.Budget.{sum_of}
+use Rattle.rst_block_state.specs.looks.BudgetLaws.{is_trimmed, IsFronted, HaveAtMostLines}
 use Rattle.rst_block_state.specs.Directives.{called}
 use Rattle.rst_block_state.specs.Inside.{content_blocks, directive_content, directive_blocks, definition_content, definition_blocks}
 use Rattle.rst_block_state.specs.Paragraphs.{is_single_paragraph}
@@ -42,15 +42,15 @@ record IsLaid (first second : ℕ) (H : Block) : Type 0 where
   fronted : IsFronted (drop second H)
 
 over : (H : Block) → is_trimmed H ≡ true → IsFronted (drop (length H) H)
-over H h = record { trimmed = trimmed_drop (length H) H h; front = λ some. absurd (omega (arith, some, length-drop (length H) H)) }
+over H h = record { trimmed = trimmed_drop (length H) H h; first_not_blank = λ some. absurd (omega (arith, some, length-drop (length H) H)) }
 
 alone_laid : (H : Block) → is_trimmed H ≡ true → IsLaid (length H) (length H) H
 alone_laid H h = record { ordered = omega arith; within = omega arith; fronted = over H h }
 
-rest_laid : (first : ℕ) (run : List Text) (H : Block) → is_trimmed H ≡ true → first ≤ length run → length run ≤ length H → IsLaid first (behind_blank H (length run)) H
+rest_laid : (first : ℕ) (run : List Text) (H : Block) → is_trimmed H ≡ true → first ≤ length run → length run ≤ length H → IsLaid first (after_blank H (length run)) H
 rest_laid first run H h f r =
     let Y : Block = drop (length run) H in
-    let place : drop (blank_len Y) Y ≡ drop (behind_blank H (length run)) H = drop-drop (blank_len Y) (length run) H in
+    let place : drop (blank_len Y) Y ≡ drop (after_blank H (length run)) H = drop-drop (blank_len Y) (length run) H in
     record {
       ordered = omega (arith, f);
       within = omega (arith, r, while_le Blank Y, length-drop (length run) H);
@@ -58,7 +58,7 @@ rest_laid first run H h f r =
     }
 
 without_laid : (run : List Text) (H : Block) → is_trimmed H ≡ true → length run ≤ length H
-    → let layout = parts_without_argument run (length H) (behind_blank H (length run)) in IsLaid layout.first layout.second H
+    → let layout = parts_without_argument run (length H) (after_blank H (length run)) in IsLaid layout.first layout.second H
 without_laid run H h r =
     chosen (λ layout. IsLaid layout.first layout.second H) (before_field run == length run) (content_alone run (length H)) _ (alone_laid H h) (rest_laid (before_field run) run H h (prefix_len-le-length (λ (t : Text). not (begins_field t)) run) r)
 
@@ -93,7 +93,7 @@ part_is B block from to ordered within =
     ∙ ap (take (to - from)) (sym (drop-cut B block.from block.to block.first_cut r from (omega (arith, ordered, within))))
 
 content_in : (B : Block) (block : Part) (first second : ℕ) → IsFronted (lines_in B block) → length (lines_in B block) ≡ block.to - block.from → IsLaid first second (lines_in B block)
-    → AreWithin (length (lines_in B block)) (lines_in B (part_of block 0 first) ∷ lines_in B (part_of block second (length (lines_in B block))) ∷ [])
+    → HaveAtMostLines (length (lines_in B block)) (lines_in B (part_of block 0 first) ∷ lines_in B (part_of block second (length (lines_in B block))) ∷ [])
 unfolding sum_of
 content_in B block first second h count laid =
     let H : Block = lines_in B block in
@@ -105,82 +105,82 @@ content_in B block first second h count laid =
     }
 
 abbrev MayBeIn : ℕ → Block → Result Read Wrong → Type 0
-MayBeIn n B (Ok read) = AreWithin n (content_blocks B read.content)
+MayBeIn n B (Ok read) = HaveAtMostLines n (content_blocks B read.content)
 MayBeIn n B (Err w) = Unit {0}
 
 abbrev IsIn : ℕ → Block → Outcome → Type 0
-IsIn n B (found read) = AreWithin n (content_blocks B read.content)
+IsIn n B (found read) = HaveAtMostLines n (content_blocks B read.content)
 IsIn n B (wrong fault source) = Unit {0}
 
-parts_in : (n : ℕ) (B : Block) (name : Name) (content : Content) (given : Result Given Wrong) (choices : Result (List Choice) Wrong) → AreWithin n (content_blocks B content) → MayBeIn n B (read_parts name content given choices)
+parts_in : (n : ℕ) (B : Block) (name : Name) (content : Content) (given : Result ArgumentMeaning Wrong) (choices : Result (List OptionSetting) Wrong) → HaveAtMostLines n (content_blocks B content) → MayBeIn n B (read_parts name content given choices)
 parts_in n B name content given (Err w) h = tt
 parts_in n B name content (Err w) (Ok choices) h = tt
 parts_in n B name content (Ok value) (Ok choices) h = h
 
 block_in : (B : Block) (name : Name) (late : Bool) (block : Part) → IsFronted (lines_in B block) → length (lines_in B block) ≡ block.to - block.from
     → MayBeIn (length (lines_in B block)) B (read_block name late block (lines_in B block))
-unfolding read_block read_by
+unfolding read_block directive_by_layout
 block_in B name late block h count =
     let H : Block = lines_in B block in
     let run : List Text = run_in name late H in
     let layout = layout_of name run H in
-    parts_in (length H) B name (content_of block layout (length H)) (argument_of name (take layout.argument run) (part_of block 0 layout.argument)) (options_of name (drop layout.options run))
+    parts_in (length H) B name (content_of block layout (length H)) (argument_of name (take layout.argument run) (part_of block 0 layout.argument)) (directive_options name (drop layout.options run))
     (content_in B block layout.first layout.second h count (layout_laid name run H h.trimmed (run_in-le name late H)))
 
-judged_in : (n : ℕ) (B : Block) (place : Place) (paragraph : Bool) (source : Part) (read : Result Read Wrong) → MayBeIn n B read → IsIn n B (outcome_at source (and_then (judged place paragraph) (of_block read)))
+judged_in : (n : ℕ) (B : Block) (place : Place) (paragraph : Bool) (source : Part) (read : Result Read Wrong) → MayBeIn n B read → IsIn n B (directive_outcome_at source (and_then (judged_directive place paragraph) (of_block read)))
 judged_in n B place paragraph source (Err w) h = tt
 judged_in n B place paragraph source (Ok read) h = by (content_fault read.name (is_empty read.content) place paragraph)
   where
-    by : (fault : Option DirectiveFault) → IsIn n B (outcome_at source (unless (option_map fault_in fault) (Ok read)))
+    by : (fault : Option DirectiveFault) → IsIn n B (directive_outcome_at source (unless (option_map fault_in fault) (Ok read)))
     by (Some fault) = tt
     by None = h
 
 outcome_in : (c : Within) (B : Block) (i : ℕ) (call : Invocation) (place : Place) → IsFronted (lines_in B call.block) → length (lines_in B call.block) ≡ call.block.to - call.block.from
     → IsIn (length (lines_in B call.block)) B (called c B i call place)
 unfolding directive_of
-outcome_in c B i call place h count = by (named (called_at c.code B i call) place)
+outcome_in c B i call place h count = by (named_directive (called_at c.code B i call) place)
   where
     paragraph : Bool
     paragraph = is_single_paragraph (lines_in B call.block)
 
-    by : (r : Result Name Fault) → IsIn (length (lines_in B call.block)) B (outcome_at (lines_at i call.block) (and_then (judged place paragraph) (and_then (read_at B i call.block) r)))
+    by : (r : Result Name Fault) → IsIn (length (lines_in B call.block)) B (directive_outcome_at (source_lines_at i call.block) (and_then (judged_directive place paragraph) (and_then (read_at B i call.block) r)))
     by (Err w) = tt
-    by (Ok name) = judged_in (length (lines_in B call.block)) B place paragraph (lines_at i call.block) (read_block name (is_late i call.block) call.block (lines_in B call.block)) (block_in B name (is_late i call.block) call.block h count)
+    by (Ok name) = judged_in (length (lines_in B call.block)) B place paragraph (source_lines_at i call.block) (read_block name (is_late i call.block) call.block (lines_in B call.block)) (block_in B name (is_late i call.block) call.block h count)
 
 -- ---- the blocks
 
-pub none_within : (n : ℕ) → AreWithin n []
+pub none_within : (n : ℕ) → HaveAtMostLines n []
 unfolding sum_of
 none_within n = record { few = omega arith; fronted = tt }
 
-pub more_within : (n m : ℕ) (Cs : List Block) → n ≤ m → AreWithin n Cs → AreWithin m Cs
+pub more_within : (n m : ℕ) (Cs : List Block) → n ≤ m → HaveAtMostLines n Cs → HaveAtMostLines m Cs
 more_within n m Cs h w = record { few = omega (arith, h, w.few); fronted = w.fronted }
 
-content_by : (n : ℕ) (B : Block) (given : Given) (name : Name) (content : Content) → AreWithin n (content_blocks B content) → AreWithin n (directive_content given name B content)
+content_by : (n : ℕ) (B : Block) (given : ArgumentMeaning) (name : Name) (content : Content) → HaveAtMostLines n (content_blocks B content) → HaveAtMostLines n (directive_content given name B content)
 content_by n B nothing Code content h = none_within n
 content_by n B nothing name content h = h
 content_by n B (title part) name content h = h
 content_by n B (uri address) Figure content h = h
 content_by n B _ _ content h = none_within n
 
-definition_by : (n : ℕ) (B : Block) (given : Given) (content : Content) → AreWithin n (content_blocks B content) → AreWithin n (definition_content given B content)
+definition_by : (n : ℕ) (B : Block) (given : ArgumentMeaning) (content : Content) → HaveAtMostLines n (content_blocks B content) → HaveAtMostLines n (definition_content given B content)
 definition_by n B (uri address) content h = none_within n
 definition_by n B _ content h = h
 
-directive_by : (n : ℕ) (B : Block) (o : Outcome) → IsIn n B o → AreWithin n (directive_blocks o B)
+directive_by : (n : ℕ) (B : Block) (o : Outcome) → IsIn n B o → HaveAtMostLines n (directive_blocks o B)
 directive_by n B (found read) h = content_by n B read.argument read.name read.content h
 directive_by n B (wrong fault source) h = none_within n
 
-held_by : (n : ℕ) (B : Block) (o : Outcome) → IsIn n B o → AreWithin n (definition_blocks o B)
-held_by n B (found read) h = definition_by n B read.argument read.content h
-held_by n B (wrong fault source) h = none_within n
+definition_blocks_within : (n : ℕ) (B : Block) (o : Outcome) → IsIn n B o → HaveAtMostLines n (definition_blocks o B)
+definition_blocks_within n B (found read) h = definition_by n B read.argument read.content h
+definition_blocks_within n B (wrong fault source) h = none_within n
 
 -- those of a directive
 pub directive_within : (c : Within) (B : Block) (i : ℕ) (call : Invocation) (place : Place) → IsFronted (lines_in B call.block) → length (lines_in B call.block) ≡ call.block.to - call.block.from
-    → AreWithin (length (lines_in B call.block)) (directive_blocks (called c B i call place) B)
+    → HaveAtMostLines (length (lines_in B call.block)) (directive_blocks (called c B i call place) B)
 directive_within c B i call place h count = directive_by (length (lines_in B call.block)) B (called c B i call place) (outcome_in c B i call place h count)
 
 -- those of a directive that a substitution definition holds
-pub held_within : (c : Within) (B : Block) (i : ℕ) (call : Invocation) (place : Place) → IsFronted (lines_in B call.block) → length (lines_in B call.block) ≡ call.block.to - call.block.from
-    → AreWithin (length (lines_in B call.block)) (definition_blocks (called c B i call place) B)
-held_within c B i call place h count = held_by (length (lines_in B call.block)) B (called c B i call place) (outcome_in c B i call place h count)
+pub call_blocks_within : (c : Within) (B : Block) (i : ℕ) (call : Invocation) (place : Place) → IsFronted (lines_in B call.block) → length (lines_in B call.block) ≡ call.block.to - call.block.from
+    → HaveAtMostLines (length (lines_in B call.block)) (definition_blocks (called c B i call place) B)
+call_blocks_within c B i call place h count = definition_blocks_within (length (lines_in B call.block)) B (called c B i call place) (outcome_in c B i call place h count)

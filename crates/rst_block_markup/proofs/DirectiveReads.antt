@@ -5,7 +5,7 @@ use Rattle.std.specs.Str.{chars}
 use Rattle.rst_text.specs.Block.{Block}
 use Rattle.rst_tree.specs.declared.node.Node.{Node}
 use Rattle.rst_tree.specs.declared.tag.Tag.TheVariants.{Title as TitleTag}
-use Rattle.rst_markup_directives.specs.Argument.{Given, nothing, uri, given_in}
+use Rattle.rst_markup_directives.specs.Argument.{ArgumentMeaning, nothing, uri, given_in}
 use Rattle.rst_markup_directives.specs.Directive.{Read, is_code_name}
 use Rattle.rst_markup_directives.specs.Options.{choices_in}
 use Rattle.rst_markup_directives.specs.declared.argument.Argument.{Argument}
@@ -19,11 +19,11 @@ use Rattle.rst_block_state.specs.Directives.{content_nodes, titled_element, titl
 use Rattle.rst_block_state.specs.Figures.{caption_error, figure_nodes}
 use Rattle.rst_block_state.specs.Inside.{content_blocks, directive_content}
 use Rattle.rst_block_state.specs.LineRuns.{number_or}
-use Rattle.rst_block_markup.specs.MarkupSteps.{IsDirectiveRead, is_figure, made_of, reads_with}
+use Rattle.rst_block_markup.specs.MarkupSteps.{IsDirectiveRead, is_figure, made_of_content, reads_with}
 use Rattle.rst_block_markup.specs.declared.directive.Found.{Found}
-use Rattle.rst_block_state.specs.Meanings.{within_at, reads_from, comes}
+use Rattle.rst_block_state.specs.machine.Meanings.{within_at, reads_from, comes}
 use Rattle.rst_block_state.specs.Numbered.{Numbered, then_read, just}
-use Rattle.rst_block_state.specs.OpenBlocks.{IsMoved}
+use Rattle.rst_block_state.specs.machine.OpenBlocks.{IsMoved}
 use Rattle.rst_block_state.specs.Texts.{joined, texted}
 use Rattle.rst_block_state.specs.Within.{Within}
 use Rattle.rst_block_state.specs.declared.fault.BlockFault.{BlockFault}
@@ -38,7 +38,7 @@ use Rattle.rst_block_markup.proofs.PartLemmas.{part_as}
 -- ---- a directive by its argument and its name
 
 -- what such a directive leaves, and the blocks of its content
-abbrev IsRightBy : Given → Name → Within → Block → ℕ → Read → List ℕ → Content → Numbered (List Node) → List Block → Type 0
+abbrev IsRightBy : ArgumentMeaning → Name → Within → Block → ℕ → Read → List ℕ → Content → Numbered (List Node) → List Block → Type 0
 IsRightBy given name c B line read lines content nodes inner = (nodes ≡ right_by given name c B line read lines) × (inner ≡ directive_content given name B content)
 
 pub figure_right : (name : Name) (t : List ℕ) (c : Within) (B : Block) (line : ℕ) (read : Read) (lines : List ℕ) (content : Content) → is_figure name ≡ true → encode_utf8_all (chars t) ≡ t
@@ -62,7 +62,7 @@ plain_right Code c B line read lines content h = absurd (let no : true ≡ false
 plain_right _ c B line read lines content h = (refl, refl)
 
 -- a directive whose argument is this one
-pub given_read : {few more : ℕ} {B : Block} {old new : OpenBlock} {before after : Pass} {argument : Argument} {result : Result Step BlockFault} (f : Found) (given : Given)
+pub given_read : {few more : ℕ} {B : Block} {old new : OpenBlock} {before after : Pass} {argument : Argument} {result : Result Step BlockFault} (f : Found) (given : ArgumentMeaning)
     → IsDirectiveRead few B old before f given new after result → given ≡ given_in argument → f.argument ≡ argument → few ≤ more → IsDirectiveRead more B old before f (given_in f.argument) new after result
 given_read {few} {more} {B} {old} {new} {before} {after} {argument} {result} f given h g is enough =
     subst (λ x. IsDirectiveRead more B old before f x new after result) (g ∙ ap given_in (sym is)) (part_as h refl refl refl (omega arith) (omega (arith, enough)))
@@ -90,7 +90,7 @@ plain_comes old new B read end n line at node slice s h o l e a moved =
     let c = within_at old.depth in
     ap (λ s. comes new B s n) e
     ∙ content_comes B (Element node) read.content (λ ns. filled node ns ∷ []) n moved a (λ ns. refl)
-    ∙ ap (λ x. reads_with old B (made_of c B read.content (λ ns. filled x ns ∷ [])) end n) (h ∙ ap (λ os. directive_element read.name os line) o ∙ ap (directive_element read.name read.options) l)
+    ∙ ap (λ x. reads_with old B (made_of_content c B read.content (λ ns. filled x ns ∷ [])) end n) (h ∙ ap (λ os. directive_element read.name os line) o ∙ ap (directive_element read.name read.options) l)
 
 -- ---- elements
 
@@ -98,13 +98,13 @@ pub image_is : (node : Node) (t : List ℕ) (slice items : List Setting) (line a
     → just (node ∷ []) ≡ just (image_element t (choices_in items) at false None ∷ [])
 image_is node t slice items line at e s l = ap (λ (x : Node). just (x ∷ [])) (e ∙ ap (λ ss. image_element t (choices_in ss) line false None) s ∙ ap (λ k. image_element t (choices_in items) k false None) l)
 
-pub figure_is : (c : Within) (B : Block) (read : Read) (t lines : List ℕ) (line at : ℕ) (slice : List Setting) (element shown figure : Node) (inner : List Node)
-    → element ≡ figure_element (choices_in slice) line → shown ≡ image_element t (choices_in slice) line true None → inner ≡ shown ∷ [] → figure ≡ filled element inner
+pub figure_is : (c : Within) (B : Block) (read : Read) (t lines : List ℕ) (line at : ℕ) (slice : List Setting) (element image_node figure : Node) (inner : List Node)
+    → element ≡ figure_element (choices_in slice) line → image_node ≡ image_element t (choices_in slice) line true None → inner ≡ image_node ∷ [] → figure ≡ filled element inner
     → choices_in slice ≡ read.options → line ≡ at
-    → made_of c B read.content (figure_nodes figure (caption_error at lines)) ≡ figure_of c B at read t lines
-figure_is c B read t lines line at slice element shown figure inner e s i f o l =
+    → made_of_content c B read.content (figure_nodes figure (caption_error at lines)) ≡ figure_of c B at read t lines
+figure_is c B read t lines line at slice element image_node figure inner e s i f o l =
     let whole : figure ≡ filled (figure_element read.options line) (image_element t read.options line true None ∷ []) =
     f ∙ ap (filled element) (i ∙ ap (λ (x : Node). x ∷ []) (s ∙ ap (λ os. image_element t os line true None) o))
     ∙ ap (λ x. filled x (image_element t read.options line true None ∷ [])) (e ∙ ap (λ os. figure_element os line) o) in
-    ap (λ x. made_of c B read.content (figure_nodes x (caption_error at lines))) whole
-    ∙ ap (λ k. made_of c B read.content (figure_nodes (filled (figure_element read.options k) (image_element t read.options k true None ∷ [])) (caption_error at lines))) l
+    ap (λ x. made_of_content c B read.content (figure_nodes x (caption_error at lines))) whole
+    ∙ ap (λ k. made_of_content c B read.content (figure_nodes (filled (figure_element read.options k) (image_element t read.options k true None ∷ [])) (caption_error at lines))) l

@@ -6,14 +6,14 @@ use Rattle.rst_text.specs.Names.{normalized_white}
 use Rattle.rst_text.specs.Characters.{is_among}
 use Rattle.rst_markup_blocks.specs.declared.forms.Invocation.{Invocation}
 use Rattle.rst_markup_blocks.specs.declared.part.Part.{Part}
-use Rattle.rst_markup_directives.specs.Argument.{Given, title, language, title_of, uri_of, word_of, language_of, argument_of}
+use Rattle.rst_markup_directives.specs.Argument.{ArgumentMeaning, title, language, title_argument, uri_of, word_of, language_of, argument_of}
 use Rattle.rst_markup_directives.specs.Call.{called_at, part_of, content_of, is_empty}
 use Rattle.rst_markup_directives.specs.Characters.{Text}
-use Rattle.rst_markup_directives.specs.Directive.{Read, Outcome, found, wrong, run_in, options_of, outcome_of, read_parts, read_by, read_block, read_at, outcome_at, of_block, judged, named, lines_at, is_late, directive_of}
+use Rattle.rst_markup_directives.specs.Directive.{Read, Outcome, found, wrong, run_in, directive_options, directive_outcome, read_parts, directive_by_layout, read_block, read_at, directive_outcome_at, of_block, judged_directive, named_directive, source_lines_at, is_late, directive_of}
 use Rattle.rst_markup_directives.specs.Judgement.{content_fault}
 use Rattle.rst_markup_directives.specs.Layout.{begins_field, before_field, layout_at, layout_of}
-use Rattle.rst_markup_directives.specs.Lines.{behind_blank, joined}
-use Rattle.rst_markup_directives.specs.Options.{Choice}
+use Rattle.rst_markup_directives.specs.Lines.{after_blank, joined_nonempty}
+use Rattle.rst_markup_directives.specs.Options.{OptionSetting}
 use Rattle.rst_markup_directives.specs.Wrong.{Wrong, Fault, many_arguments, and_then, unless, fault_in}
 use Rattle.rst_markup_directives.specs.declared.argument.Argument.TheVariants.{Title}
 use Rattle.rst_markup_directives.specs.declared.fault.DirectiveFault.{DirectiveFault}
@@ -24,7 +24,7 @@ use Rattle.rst_markup_directives.specs.declared.found.Place.{Place}
 use Rattle.rst_markup_directives.specs.declared.name.Name.{Name}
 use Rattle.rst_markup_directives.specs.declared.name.Name.TheVariants.{Admonition, Topic, Image, Figure, Code}
 use Rattle.rst_block_state.specs.Directives.{called}
-use Rattle.rst_block_state.specs.Ledger.{argument_lines}
+use Rattle.rst_block_state.specs.looks.Ledger.{argument_lines}
 use Rattle.rst_block_state.specs.Paragraphs.{is_single_paragraph}
 use Rattle.rst_block_state.specs.Texts.{lines_in}
 use Rattle.rst_block_state.specs.Within.{Within}
@@ -34,11 +34,11 @@ use Rattle.rst_block_state.proofs.PartFacts.{part_le}
 -- ---- the lines of a directive's parts
 
 -- a title has no more lines than this
-abbrev IsShort : ℕ → Given → Type 0
+abbrev IsShort : ℕ → ArgumentMeaning → Type 0
 IsShort n (title part) = part.to - part.from ≤ n
 IsShort n given = Unit {0}
 
-abbrev MayBeShort : ℕ → Result Given Wrong → Type 0
+abbrev MayBeShort : ℕ → Result ArgumentMeaning Wrong → Type 0
 MayBeShort n (Ok given) = IsShort n given
 MayBeShort n (Err w) = Unit {0}
 
@@ -54,7 +54,7 @@ abbrev AreOutcomeShort : ℕ → Outcome → Type 0
 AreOutcomeShort n (found read) = AreShort n read
 AreOutcomeShort n (wrong fault source) = Unit {0}
 
-title_short : (n : ℕ) (ts : List Text) (part : Part) → part.to - part.from ≤ n → MayBeShort n (title_of ts part)
+title_short : (n : ℕ) (ts : List Text) (part : Part) → part.to - part.from ≤ n → MayBeShort n (title_argument ts part)
 title_short n [] part h = tt
 title_short n (t ∷ ts) part h = h
 
@@ -68,14 +68,14 @@ language_short n [] = tt
 language_short n (t ∷ ts) = by (is_among words 32)
   where
     words : Text
-    words = normalized_white (joined (t ∷ ts))
+    words = normalized_white (joined_nonempty (t ∷ ts))
 
     by : (b : Bool) → MayBeShort n (cond b (Err many_arguments) (Ok (language words)))
     by true = tt
     by false = tt
 
 -- a title ends before the first option, within the run of lines that the block begins with
-run_title : (n : ℕ) (block : Part) (run : List Text) → length run ≤ n → MayBeShort n (title_of (take (before_field run) run) (part_of block 0 (before_field run)))
+run_title : (n : ℕ) (block : Part) (run : List Text) → length run ≤ n → MayBeShort n (title_argument (take (before_field run) run) (part_of block 0 (before_field run)))
 run_title n block run h = title_short n (take (before_field run) run) (part_of block 0 (before_field run)) (omega (arith, h, prefix_len-le-length (λ (t : Text). not (begins_field t)) run))
 
 argument_short : (n : ℕ) (name : Name) (block : Part) (run : List Text) (all rest : ℕ) → length run ≤ n
@@ -88,37 +88,37 @@ argument_short n Figure block run all rest h = uri_short n (take (before_field r
 argument_short n Code block run all rest h = language_short n (take (before_field run) run)
 argument_short n _ block run all rest h = tt
 
-parts_short : (n : ℕ) (name : Name) (content : Content) (given : Result Given Wrong) (choices : Result (List Choice) Wrong) → MayBeShort n given → content.second.to - content.second.from ≤ n
+parts_short : (n : ℕ) (name : Name) (content : Content) (given : Result ArgumentMeaning Wrong) (choices : Result (List OptionSetting) Wrong) → MayBeShort n given → content.second.to - content.second.from ≤ n
     → MayBeReadShort n (read_parts name content given choices)
 parts_short n name content given (Err w) h k = tt
 parts_short n name content (Err w) (Ok choices) h k = tt
 parts_short n name content (Ok value) (Ok choices) h k = (h, k)
 
 block_short : (n : ℕ) (name : Name) (late : Bool) (block : Part) (H : Block) → length H ≤ n → MayBeReadShort n (read_block name late block H)
-unfolding read_block read_by
+unfolding read_block directive_by_layout
 block_short n name late block H few =
     let run : List Text = run_in name late H in
     let layout = layout_of name run H in
-    parts_short n name (content_of block layout (length H)) (argument_of name (take layout.argument run) (part_of block 0 layout.argument)) (options_of name (drop layout.options run))
-    (argument_short n name block run (length H) (behind_blank H (length run)) (omega (arith, few, run_in-le name late H))) (omega (arith, few))
+    parts_short n name (content_of block layout (length H)) (argument_of name (take layout.argument run) (part_of block 0 layout.argument)) (directive_options name (drop layout.options run))
+    (argument_short n name block run (length H) (after_blank H (length run)) (omega (arith, few, run_in-le name late H))) (omega (arith, few))
 
-judged_short : (n : ℕ) (place : Place) (paragraph : Bool) (source : Part) (read : Result Read Wrong) → MayBeReadShort n read → AreOutcomeShort n (outcome_at source (and_then (judged place paragraph) (of_block read)))
+judged_short : (n : ℕ) (place : Place) (paragraph : Bool) (source : Part) (read : Result Read Wrong) → MayBeReadShort n read → AreOutcomeShort n (directive_outcome_at source (and_then (judged_directive place paragraph) (of_block read)))
 judged_short n place paragraph source (Err w) h = tt
 judged_short n place paragraph source (Ok read) h = by (content_fault read.name (is_empty read.content) place paragraph)
   where
-    by : (fault : Option DirectiveFault) → AreOutcomeShort n (outcome_at source (unless (option_map fault_in fault) (Ok read)))
+    by : (fault : Option DirectiveFault) → AreOutcomeShort n (directive_outcome_at source (unless (option_map fault_in fault) (Ok read)))
     by (Some fault) = tt
     by None = h
 
 outcome_short : (n : ℕ) (c : Within) (B : Block) (i : ℕ) (call : Invocation) (place : Place) → length (lines_in B call.block) ≤ n → AreOutcomeShort n (called c B i call place)
 unfolding directive_of
-outcome_short n c B i call place few = by (named (called_at c.code B i call) place)
+outcome_short n c B i call place few = by (named_directive (called_at c.code B i call) place)
   where
     paragraph : Bool
     paragraph = is_single_paragraph (lines_in B call.block)
 
-    by : (r : Result Name Fault) → AreOutcomeShort n (outcome_at (lines_at i call.block) (and_then (judged place paragraph) (and_then (read_at B i call.block) r)))
-    by (Ok name) = judged_short n place paragraph (lines_at i call.block) (read_block name (is_late i call.block) call.block (lines_in B call.block)) (block_short n name (is_late i call.block) call.block (lines_in B call.block) few)
+    by : (r : Result Name Fault) → AreOutcomeShort n (directive_outcome_at (source_lines_at i call.block) (and_then (judged_directive place paragraph) (and_then (read_at B i call.block) r)))
+    by (Ok name) = judged_short n place paragraph (source_lines_at i call.block) (read_block name (is_late i call.block) call.block (lines_in B call.block)) (block_short n name (is_late i call.block) call.block (lines_in B call.block) few)
     by (Err w) = tt
 
 -- a directive's title, and its content after the options, have no more lines than this
@@ -126,13 +126,13 @@ abbrev pub AreFew : ℕ → Directive → Type 0
 AreFew n (FoundDirective name argument options content) = (argument_lines argument ≤ n) × (content.second.to - content.second.from ≤ n)
 AreFew n (WrongDirective fault source) = Unit {0}
 
-kept_few : (n : ℕ) (d : Directive) → AreOutcomeShort n (outcome_of d) → AreFew n d
+kept_few : (n : ℕ) (d : Directive) → AreOutcomeShort n (directive_outcome d) → AreFew n d
 kept_few n (FoundDirective name (Title part) options content) h = h
 kept_few n (WrongDirective fault source) h = tt
 kept_few n _ h = (omega arith, h.1)
 
 -- they have no more lines than its block
-pub directive_few : (c : Within) (B : Block) (i : ℕ) (call : Invocation) (place : Place) (d : Directive) → outcome_of d ≡ called c B i call place → AreFew (call.block.to - call.block.from) d
+pub directive_few : (c : Within) (B : Block) (i : ℕ) (call : Invocation) (place : Place) (d : Directive) → directive_outcome d ≡ called c B i call place → AreFew (call.block.to - call.block.from) d
 directive_few c B i call place d e =
     let n : ℕ = call.block.to - call.block.from in
     kept_few n d (subst (AreOutcomeShort n) (sym e) (outcome_short n c B i call place (part_le B call.block).0))

@@ -2,11 +2,11 @@
 use Rattle.std.proofs.Common.{◌≡◌, ℕ, ◌+◌, ◌-◌, ◌*◌, ◌≤◌, ◌<◌, Bool, true, false, cond, [], ◌∷◌, length, drop, Option, None, Some, Result, IfOk, arith, refl, sym, ap, ◌∙◌, subst}
 use Rattle.std.specs.Prelude.{◌==◌, IfSome}
 use Rattle.std.proofs.lemmas.Result.{IfOk-weaker}
-use Rattle.rst_text.specs.Block.{Block, front_text, is_blank}
+use Rattle.rst_text.specs.Block.{Block, first_text, is_blank}
 use Rattle.rst_text.specs.Looked.{capped}
 use Rattle.rst_text.specs.Reach.{reach}
 use Rattle.rst_tree.specs.declared.node.Node.{Node}
-use Rattle.rst_markup_lines.specs.ExplicitMarks.{dots, directive_of}
+use Rattle.rst_markup_lines.specs.ExplicitMarks.{dots, directive_mark_of}
 use Rattle.rst_markup_lines.specs.Place.{place_of}
 use Rattle.rst_markup_lines.specs.declared.explicit_marks.DirectiveMark.{DirectiveMark}
 use Rattle.rst_markup_lines.specs.declared.explicit_marks.LabelKind.{LabelKind}
@@ -17,7 +17,7 @@ use Rattle.rst_markup_lines.specs.declared.place.Characters.{Characters}
 use Rattle.rst_markup_blocks.specs.Begun.{IsBegun, kind_in}
 use Rattle.rst_markup_blocks.specs.Conditions.{next_text}
 use Rattle.rst_markup_blocks.specs.Ends.{row_size, row_reach}
-use Rattle.rst_markup_blocks.specs.Explicit.{is_explicit_kind, call_by, held_of, label_with, explicit_by, behind_dots, anonymous_of, explicit_with, explicit_of, explicit_size, explicit_end}
+use Rattle.rst_markup_blocks.specs.Explicit.{is_explicit_kind, call_by, embedded_directive, label_with, explicit_by, after_dots, anonymous_of, explicit_with, explicit_of, explicit_size, explicit_end}
 use Rattle.rst_markup_blocks.specs.ExplicitMarkup.{explicit_form, hanging_part}
 use Rattle.rst_markup_blocks.specs.Kinds.{kind_at}
 use Rattle.rst_markup_blocks.specs.Sizes.{hanging_size}
@@ -33,13 +33,13 @@ use Rattle.rst_markup_blocks.specs.declared.kind.Kind.{Kind}
 use Rattle.rst_markup_blocks.specs.declared.kind.Kind.TheVariants as kinds
 use Rattle.rst_markup_blocks.specs.declared.part.Part.{Part}
 use Rattle.rst_markup_blocks.proofs.ExplicitLemmas.{size_other}
-use Rattle.rst_block_state.specs.Begins.{construct_with}
+use Rattle.rst_block_state.specs.machine.Begins.{construct_with}
 use Rattle.rst_block_state.specs.Constructs.{explicit_markup}
 use Rattle.rst_block_state.specs.Inside.{markup_blocks, opened_by, cells_by}
-use Rattle.rst_block_state.specs.Ledger.{unread_at, totals, next_blocks, run_looks, IsPaid, Opens}
+use Rattle.rst_block_state.specs.looks.Ledger.{unread_at, totals, next_blocks, run_looks, IsPaid, Opens}
 use Rattle.rst_block_state.specs.Markup.{markup_by}
-use Rattle.rst_block_state.specs.Meanings.{within_at}
-use Rattle.rst_block_state.specs.OpenBlocks.{IsMoved}
+use Rattle.rst_block_state.specs.machine.Meanings.{within_at}
+use Rattle.rst_block_state.specs.machine.OpenBlocks.{IsMoved}
 use Rattle.rst_block_state.specs.Texts.{lines_in}
 use Rattle.rst_block_state.specs.declared.fault.BlockFault.{BlockFault}
 use Rattle.rst_block_state.specs.declared.open_block.OpenBlock.{OpenBlock}
@@ -78,7 +78,7 @@ BeginsIn i (markup.Footnote label body) = i ≤ body.from
 BeginsIn i (markup.Citation label body) = i ≤ body.from
 BeginsIn i (markup.Target name text) = i ≤ text.from
 BeginsIn i (markup.Anonymous text) = i ≤ text.from
-BeginsIn i (markup.Substitution name held end) = IfSome held (λ (call : Invocation). (i ≤ call.block.from) × (call.block.to ≤ end))
+BeginsIn i (markup.Substitution name embedded end) = IfSome embedded (λ (call : Invocation). (i ≤ call.block.from) × (call.block.to ≤ end))
 BeginsIn i (markup.Directive call) = i ≤ call.block.from
 BeginsIn i (markup.Comment text cause) = i ≤ text.from
 BeginsIn i markup.EmptyComment = Unit {0}
@@ -89,9 +89,9 @@ label_begins i FootnoteLabel label body h = h
 label_begins i CitationLabel label body h = h
 
 -- what a substitution definition holds
-held_begins : (i n : ℕ) (X : Block) → IfSome (held_of i n X) (λ (call : Invocation). (i ≤ call.block.from) × (call.block.to ≤ i + hanging_size X))
-unfolding held_of
-held_begins i n X = by (directive_of false (drop n (front_text X)))
+embedded_begins : (i n : ℕ) (X : Block) → IfSome (embedded_directive i n X) (λ (call : Invocation). (i ≤ call.block.from) × (call.block.to ≤ i + hanging_size X))
+unfolding embedded_directive
+embedded_begins i n X = by (directive_mark_of false (drop n (first_text X)))
   where
     by : (o : Option DirectiveMark) → IfSome (call_by o i n X) (λ (call : Invocation). (i ≤ call.block.from) × (call.block.to ≤ i + hanging_size X))
     by None = tt
@@ -104,17 +104,17 @@ form_begins i m (Label l) X =
     label_begins i l.kind (place_of (m.cut + 1) l.len) (hanging_part i n l.marker.bare X) (hanging_from i n l.marker.bare X).0
 form_begins i m (TargetForm (Named from len k)) X = omega arith
 form_begins i m (TargetForm (AnonymousMark k)) X = omega arith
-form_begins i m (SubstitutionForm len x) X = held_begins i (m.cut + x.cut) X
+form_begins i m (SubstitutionForm len x) X = embedded_begins i (m.cut + x.cut) X
 form_begins i m (DirectiveForm d) X = (hanging_from i (m.cut + d.marker.cut) d.marker.bare X).0
 form_begins i m (CommentForm cause) X = (hanging_from i m.cut false X).0
 
 -- what dots begin
-behind_begins : (i : ℕ) (m : Marker) (X : Block) → BeginsIn i (behind_dots i m X)
-unfolding behind_dots
-behind_begins i m X = by m.bare (is_blank (next_text X))
+after_dots_begins : (i : ℕ) (m : Marker) (X : Block) → BeginsIn i (after_dots i m X)
+unfolding after_dots
+after_dots_begins i m X = by m.bare (is_blank (next_text X))
   where
     form : ExplicitForm
-    form = explicit_form (drop m.cut (front_text X))
+    form = explicit_form (drop m.cut (first_text X))
 
     by : (a b : Bool) → BeginsIn i (cond a (cond b markup.EmptyComment (markup.Comment (hanging_part i m.cut true X) Plain)) (explicit_by form i m X))
     by true true = tt
@@ -124,22 +124,22 @@ behind_begins i m X = by m.bare (is_blank (next_text X))
 -- explicit markup that begins in the line
 begins : (i : ℕ) (X : Block) → BeginsIn i (explicit_of i X)
 unfolding explicit_of anonymous_of
-begins i X = by (dots (front_text X))
+begins i X = by (dots (first_text X))
   where
     by : (o : Option Marker) → BeginsIn i (explicit_with o i X)
     by None = omega arith
-    by (Some m) = behind_begins i m X
+    by (Some m) = after_dots_begins i m X
 
 -- the same of the markup that is found, which has this form
 pub form_in : (i : ℕ) (X : Block) (found form : Markup) → found ≡ explicit_of i X → found ≡ form → BeginsIn i form
 form_in i X found form e is = subst (BeginsIn i) (sym e ∙ is) (begins i X)
 
 -- a directive that a definition holds begins in the definition's first line or later, and ends with it
-pub held_in : (i end stop : ℕ) (X : Block) (found : Markup) (name : Characters) (held : Option Invocation) → found ≡ explicit_of i X → found ≡ markup.Substitution name held stop → end ≡ explicit_end i found
-    → IfSome held (λ (call : Invocation). (i ≤ call.block.from) × (call.block.to ≤ end))
-held_in i end stop X found name held e is ends =
+pub embedded_in : (i end stop : ℕ) (X : Block) (found : Markup) (name : Characters) (embedded : Option Invocation) → found ≡ explicit_of i X → found ≡ markup.Substitution name embedded stop → end ≡ explicit_end i found
+    → IfSome embedded (λ (call : Invocation). (i ≤ call.block.from) × (call.block.to ≤ end))
+embedded_in i end stop X found name embedded e is ends =
     let there : stop ≡ end = sym (ends ∙ ap (explicit_end i) is) in
-    subst (λ n. IfSome held (λ (call : Invocation). (i ≤ call.block.from) × (call.block.to ≤ n))) there (form_in i X found (markup.Substitution name held stop) e is)
+    subst (λ n. IfSome embedded (λ (call : Invocation). (i ≤ call.block.from) × (call.block.to ≤ n))) there (form_in i X found (markup.Substitution name embedded stop) e is)
 
 -- ---- what explicit markup opens
 

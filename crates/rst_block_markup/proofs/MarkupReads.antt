@@ -2,13 +2,13 @@
 use Rattle.std.proofs.Common.{◌≡◌, ℕ, ◌+◌, ◌<◌, ◌≤◌, Bool, true, false, length, length-drop, List, [], ◌∷◌, ◌++◌, drop, map, Option, Some, None, Result, Ok, Err, arith, refl, sym, ◌∙◌, ap, append_assoc}
 use Rattle.std.specs.Prelude.{box_value, is_some, ◌&&◌, if◌then◌else◌}
 use Rattle.std.proofs.lemmas.Bool.{eqb-true}
-use Rattle.rst_text.specs.Block.{Block, front_text}
+use Rattle.rst_text.specs.Block.{Block, first_text}
 use Rattle.rst_tree.specs.Nodes.{forest_of, nodes_of}
 use Rattle.rst_tree.specs.declared.node.Node.{Node}
 use Rattle.rst_tree.specs.declared.node.Node.TheVariants.{Element, Text}
 use Rattle.rst_tree.proofs.Changes.{nodes_of-forest_of}
 use Rattle.rst_markup_lines.specs.ExplicitMarks.{dots, underscores}
-use Rattle.rst_markup_lines.specs.Front.{begins_with}
+use Rattle.rst_markup_lines.specs.TextStart.{begins_with}
 use Rattle.rst_markup_lines.specs.Marker.{marker_of}
 use Rattle.rst_markup_lines.specs.declared.marker.Marker.{Marker}
 use Rattle.rst_markup_blocks.specs.Explicit.{is_explicit_kind, explicit_of, explicit_size}
@@ -28,12 +28,12 @@ use Rattle.rst_block_state.specs.Constructs.{explicit_markup}
 use Rattle.rst_block_state.specs.Directives.{content_nodes}
 use Rattle.rst_block_state.specs.Joins.{joining_after}
 use Rattle.rst_block_state.specs.Markup.{markup_by, markup_nodes}
-use Rattle.rst_block_markup.specs.MarkupSteps.{is_markup, markup_reads, reads_with, made_of}
-use Rattle.rst_block_state.specs.Meanings.{joining_in, open_of, within_at, done_of, reads, reads_from, resumed, comes}
+use Rattle.rst_block_markup.specs.MarkupSteps.{is_markup, markup_reads, reads_with, made_of_content}
+use Rattle.rst_block_state.specs.machine.Meanings.{joining_in, open_run_of, within_at, done_of, reads, reads_from, resumed, comes}
 use Rattle.rst_block_state.specs.Numbered.{Numbered, then_read, ◌>>=◌, just, before}
-use Rattle.rst_block_state.specs.OpenBlocks.{IsMoved, HasRun}
-use Rattle.rst_block_state.specs.Rest.{OpenRun, open_markup, end_of_run, joining_with, rest, rest_with}
-use Rattle.rst_block_state.specs.RestLaws.{found_as}
+use Rattle.rst_block_state.specs.machine.OpenBlocks.{IsMoved, HasRun}
+use Rattle.rst_block_state.specs.machine.Rest.{OpenRun, open_markup, end_of_run, joining_with, rest, rest_with}
+use Rattle.rst_block_state.specs.machine.RestLaws.{found_as}
 use Rattle.rst_block_state.specs.Texts.{lines_in}
 use Rattle.rst_block_state.specs.Titles.{Item, plain}
 use Rattle.rst_block_state.specs.declared.open_block.OpenBlock.{OpenBlock}
@@ -64,7 +64,7 @@ part_comes {old} {new} {at} B w body make n m e waits =
 -- the same of the two parts of a directive's content
 pub content_comes : {old new : OpenBlock} {at : ℕ} (B : Block) (w : Waits) (content : Content) (make : List Node → List Node) (n : ℕ) → IsMoved old new → new.at ≡ at
     → ((ns : List Node) → resumed new B w ns ≡ reads_from new B (make ns) new.at)
-    → comes new B (Open w content.first (Some content.second)) n ≡ reads_with old B (made_of (within_at old.depth) B content make) at n
+    → comes new B (Open w content.first (Some content.second)) n ≡ reads_with old B (made_of_content (within_at old.depth) B content make) at n
 content_comes {old} {new} {at} B w content make n m e waits =
     let c = within_at old.depth in
     let one = c.inner (lines_in B content.first) in
@@ -108,7 +108,7 @@ joins_no_list (Bullet c) s = refl
 joins_no_list _ s = refl
 
 -- explicit markup joins no other run
-new_run : (run : Run) (s : Span) → is_markup (open_of run) ≡ false → joining_with (open_of run) (found_as explicit_markup s) ≡ None
+new_run : (run : Run) (s : Span) → is_markup (open_run_of run) ≡ false → joining_with (open_run_of run) (found_as explicit_markup s) ≡ None
 new_run NoRun s h = refl
 new_run (ListRun l) s h = joins_no_list (box_value l).kind s
 new_run (Lines lines end) s h = refl
@@ -123,7 +123,7 @@ markup_rest : ℕ → Block → ℕ → Numbered (List Item)
 markup_rest depth B end = rest (within_at depth) B end (open_markup end)
 
 -- once explicit markup is the open run, the block gives its nodes and what comes after it
-run_reads : (new : OpenBlock) (B : Block) (s : Span) (depth end n : ℕ) → new.depth ≡ depth → open_of new.run ≡ open_markup end
+run_reads : (new : OpenBlock) (B : Block) (s : Span) (depth end n : ℕ) → new.depth ≡ depth → open_run_of new.run ≡ open_markup end
     → before (done_of new) (markup_nodes (within_at depth) B s >>= λ ns. before (map plain ns) (markup_rest depth B end)) n
     ≡ reads_with new B (markup_nodes (within_at new.depth) B s) end n
 unfolding markup_rest
@@ -136,7 +136,7 @@ run_reads new B s depth end n e r =
     ∙ ap (λ d. reads_with new B (markup_nodes (within_at d) B s) end n) (sym e)
 
 -- explicit markup after explicit markup
-pub joined_markup : {old new : OpenBlock} {end : ℕ} (B : Block) (n : ℕ) → is_markup (open_of old.run) ≡ true → HasRun old new (open_markup end)
+pub joined_markup : {old new : OpenBlock} {end : ℕ} (B : Block) (n : ℕ) → is_markup (open_run_of old.run) ≡ true → HasRun old new (open_markup end)
     → reads_with new B (markup_nodes (within_at new.depth) B (span_to old.at end)) end n ≡ markup_reads old B end n
 unfolding markup_rest
 joined_markup {old} {new} {end} B n h m =
@@ -144,9 +144,9 @@ joined_markup {old} {new} {end} B n h m =
     let s : Span = span_to old.at end in
     let R : Numbered (List Item) = rest c B end (open_markup end) in
     sym (
-    ap (λ o. before (done_of old) (rest_with c B o (found_as explicit_markup s)) n) (is_open_markup (open_of old.run) h)
-    ∙ same_before (done_of old) (rest_with c B (open_markup (end_of_run (open_of old.run))) (found_as explicit_markup s)) (markup_nodes c B s >>= λ ns. before (map plain ns) R) n
-    (markup_joins c B (end_of_run (open_of old.run)) s n)
+    ap (λ o. before (done_of old) (rest_with c B o (found_as explicit_markup s)) n) (is_open_markup (open_run_of old.run) h)
+    ∙ same_before (done_of old) (rest_with c B (open_markup (end_of_run (open_run_of old.run))) (found_as explicit_markup s)) (markup_nodes c B s >>= λ ns. before (map plain ns) R) n
+    (markup_joins c B (end_of_run (open_run_of old.run)) s n)
     ∙ ap (λ items. before items (markup_nodes c B s >>= λ ns. before (map plain ns) R) n) (sym (done_same old new m.nodes m.headings))
     ∙ run_reads new B s old.depth end n m.depth m.run)
 
@@ -156,16 +156,16 @@ markup_after depth B s end done = do
   ns ← markup_nodes (within_at depth) B s
   before (done ++ map plain ns) (rest (within_at depth) B end (open_markup end))
 
-run_then_markup : (l : OpenBlock) (B : Block) (end n : ℕ) → is_markup (open_of l.run) ≡ false
+run_then_markup : (l : OpenBlock) (B : Block) (end n : ℕ) → is_markup (open_run_of l.run) ≡ false
     → markup_reads l B end n ≡ before (done_of l) (run_of l B >>= markup_after l.depth B (span_to l.at end) end) n
 unfolding markup_after
 run_then_markup l B end n h =
     let c = within_at l.depth in
     let s : Span = span_to l.at end in
-    same_before (done_of l) (rest_with c B (open_of l.run) (found_as explicit_markup s)) (run_of l B >>= markup_after l.depth B s end) n (markup_begins c B (open_of l.run) s n (new_run l.run s h))
+    same_before (done_of l) (rest_with c B (open_run_of l.run) (found_as explicit_markup s)) (run_of l B >>= markup_after l.depth B s end) n (markup_begins c B (open_run_of l.run) s n (new_run l.run s h))
 
 -- explicit markup after something else
-pub begun_markup : {old mid new : OpenBlock} {B : Block} {end n m : ℕ} → is_markup (open_of old.run) ≡ false → HasEnded old mid B n m → HasRun mid new (open_markup end)
+pub begun_markup : {old mid new : OpenBlock} {B : Block} {end n m : ℕ} → is_markup (open_run_of old.run) ≡ false → HasEnded old mid B n m → HasRun mid new (open_markup end)
     → reads_with new B (markup_nodes (within_at new.depth) B (span_to old.at end)) end m ≡ markup_reads old B end n
 unfolding markup_rest markup_after
 begun_markup {old} {mid} {new} {B} {end} {n} {m} h e r =
@@ -183,7 +183,7 @@ begun_markup {old} {mid} {new} {B} {end} {n} {m} h e r =
     ∙ run_reads new B s old.depth end m all.depth all.run)
 
 -- where the open run is nested too deeply, so is all
-pub markup_refused : (l : OpenBlock) (B : Block) (end n line : ℕ) → is_markup (open_of l.run) ≡ false → run_of l B n ≡ Err line → markup_reads l B end n ≡ Err line
+pub markup_refused : (l : OpenBlock) (B : Block) (end n line : ℕ) → is_markup (open_run_of l.run) ≡ false → run_of l B n ≡ Err line → markup_reads l B end n ≡ Err line
 markup_refused l B end n line h e = run_then_markup l B end n h ∙ close_refused l B n line (markup_after l.depth B (span_to l.at end) end) e
 
 -- a block whose open run becomes explicit markup up to a place
@@ -198,19 +198,19 @@ begins_otherwise [] h = cc
 begins_otherwise (c ∷ cs) h = let e : c ≡ 95 = eqb-true c 95 h in rw e refl
 
 -- an anonymous target doesn't begin with dots
-pub no_dots : (X : Block) → kind_at X ≡ kinds.Anonymous → dots (front_text X) ≡ None
+pub no_dots : (X : Block) → kind_at X ≡ kinds.Anonymous → dots (first_text X) ≡ None
 unfolding dots underscores
-no_dots X h = by (begins_with 95 (front_text X)) refl (row_at kinds.Anonymous X (sym h))
+no_dots X h = by (begins_with 95 (first_text X)) refl (row_at kinds.Anonymous X (sym h))
   where
-    by : (b : Bool) → begins_with 95 (front_text X) ≡ b → is_some (if b && begins_with 95 (drop 1 (front_text X)) then marker_of 2 (front_text X) else None) ≡ true → dots (front_text X) ≡ None
-    by true e h = rw (begins_otherwise (front_text X) e) refl
+    by : (b : Bool) → begins_with 95 (first_text X) ≡ b → is_some (if b && begins_with 95 (drop 1 (first_text X)) then marker_of 2 (first_text X) else None) ≡ true → dots (first_text X) ≡ None
+    by true e h = rw (begins_otherwise (first_text X) e) refl
     by false e h = cc
 
 -- explicit markup has a line or more
 pub explicit_some : (B : Block) (i : ℕ) → i < length B → 1 ≤ explicit_size (drop i B)
-explicit_some B i h = by (dots (front_text (drop i B))) refl
+explicit_some B i h = by (dots (first_text (drop i B))) refl
   where
-    by : (o : Option Marker) → dots (front_text (drop i B)) ≡ o → 1 ≤ explicit_size (drop i B)
+    by : (o : Option Marker) → dots (first_text (drop i B)) ≡ o → 1 ≤ explicit_size (drop i B)
     by None e = omega (arith, size_other (drop i B) e, indented_some (drop i B))
     by (Some m) e = (explicit_within false (drop i B) (omega (arith, length-drop i B)) (rw e refl)).0
 

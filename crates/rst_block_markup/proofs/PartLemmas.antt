@@ -6,11 +6,11 @@ use Rattle.rst_tree.specs.declared.node.Node.{Node}
 use Rattle.rst_markup_directives.specs.Call.{IsContentIn}
 use Rattle.rst_markup_directives.specs.declared.found.Content.{Content}
 use Rattle.rst_block_state.specs.Inside.{content_blocks}
-use Rattle.rst_block_state.specs.Ledger.{Opens, WaitsForOne, waiting_looks, run_looks, totals}
-use Rattle.rst_block_state.specs.Meanings.{comes}
+use Rattle.rst_block_state.specs.looks.Ledger.{Opens, WaitsForOne, waiting_looks, run_looks, totals}
+use Rattle.rst_block_state.specs.machine.Meanings.{comes}
 use Rattle.rst_block_state.specs.Numbered.{Numbered, just}
-use Rattle.rst_block_state.specs.OpenBlocks.{Gives, HasMoreAt, IsMoved}
-use Rattle.rst_block_state.specs.Steps.{IsWaiting}
+use Rattle.rst_block_state.specs.machine.OpenBlocks.{Gives, HasMoreAt, IsMoved}
+use Rattle.rst_block_state.specs.machine.Steps.{IsWaiting}
 use Rattle.rst_block_state.specs.Texts.{lines_in}
 use Rattle.rst_block_state.specs.declared.fault.BlockFault.{BlockFault}
 use Rattle.rst_block_state.specs.declared.fault.BlockFault.TheVariants.{TooDeep, NoMemory}

@@ -11,7 +11,7 @@ use Rattle.rst_tree.proofs.Changes.{nodes_of-forest_of}
 use Rattle.rst_markup_blocks.specs.Partition.{Span}
 use Rattle.rst_markup_directives.specs.Argument.{uri}
 use Rattle.rst_markup_directives.specs.Directive.{Outcome, found}
-use Rattle.rst_markup_directives.specs.Options.{Choice}
+use Rattle.rst_markup_directives.specs.Options.{OptionSetting}
 use Rattle.rst_markup_directives.specs.declared.found.Content.{Content}
 use Rattle.rst_markup_directives.specs.declared.name.Name.{Name}
 use Rattle.rst_block_nodes.specs.Elements.{substitution_definition_node}
@@ -20,43 +20,43 @@ use Rattle.rst_block_nodes.specs.Targets.{may_replace}
 use Rattle.rst_block_nodes.specs.Texts.{message_node}
 use Rattle.rst_block_nodes.specs.Values.{normalized, unescaped}
 use Rattle.rst_block_nodes.specs.Sections.{filled}
-use Rattle.rst_block_state.specs.Directives.{about, holding, replacement, substitution_nodes}
+use Rattle.rst_block_state.specs.Directives.{about, definition_or_error, replacement, substitution_nodes}
 use Rattle.rst_block_state.specs.Numbered.{just}
-use Rattle.rst_block_state.specs.Texts.{source_of}
+use Rattle.rst_block_state.specs.Texts.{span_source}
 use Rattle.rst_block_state.specs.Within.{Within}
 
-image_held : List Choice → ℕ → List ℕ → List ℕ → Node
-image_held choices line name address = filled (substitution_definition_node name line) (image_element address choices line false (Some name) ∷ [])
+image_in_definition : List OptionSetting → ℕ → List ℕ → List ℕ → Node
+image_in_definition choices line name address = filled (substitution_definition_node name line) (image_element address choices line false (Some name) ∷ [])
 
 -- a definition that holds an image
-pub image_holds : (outcome : Outcome) (name : Name) (choices : List Choice) (content : Content) (word t shown n written : List ℕ) (c : Within) (B : Block) (s : Span) (line : ℕ) (node : Node)
-    → outcome ≡ found (record { name = name; argument = uri (chars word); options = choices; content = content }) → t ≡ word → encode_utf8_all (chars t) ≡ t → shown ≡ n → line ≡ first_number (drop s.start B)
-    → node ≡ filled (substitution_definition_node shown line) (image_element t choices line false (Some shown) ∷ []) → just (node ∷ []) ≡ holding outcome c B s n written
-unfolding image_held
-image_holds outcome name choices content word t shown n written c B s line node o h u e l m =
+pub image_holds : (outcome : Outcome) (name : Name) (choices : List OptionSetting) (content : Content) (word t displayed n written : List ℕ) (c : Within) (B : Block) (s : Span) (line : ℕ) (node : Node)
+    → outcome ≡ found (record { name = name; argument = uri (chars word); options = choices; content = content }) → t ≡ word → encode_utf8_all (chars t) ≡ t → displayed ≡ n → line ≡ first_number (drop s.start B)
+    → node ≡ filled (substitution_definition_node displayed line) (image_element t choices line false (Some displayed) ∷ []) → just (node ∷ []) ≡ definition_or_error outcome c B s n written
+unfolding image_in_definition
+image_holds outcome name choices content word t displayed n written c B s line node o h u e l m =
     let at : ℕ = first_number (drop s.start B) in
     ap (λ (x : Node). just (x ∷ []))
-    (m ∙ ap (λ x. image_held choices line x t) e ∙ ap (λ k. image_held choices k n t) l ∙ ap (image_held choices at n) (sym u ∙ ap (λ w. encode_utf8_all (chars w)) h))
-    ∙ ap (λ (x : Outcome). holding x c B s n written) (sym o)
+    (m ∙ ap (λ x. image_in_definition choices line x t) e ∙ ap (λ k. image_in_definition choices k n t) l ∙ ap (image_in_definition choices at n) (sym u ∙ ap (λ w. encode_utf8_all (chars w)) h))
+    ∙ ap (λ (x : Outcome). definition_or_error x c B s n written) (sym o)
 
 -- a definition that holds no directive
-pub none_holds : (c : Within) (B : Block) (s : Span) (written name told text shown : List ℕ) (line : ℕ) (node : Node) → told ≡ name → name ≡ normalized (unescaped written) → text ≡ about told (codes " empty or invalid.")
-    → shown ≡ source_of B s → line ≡ first_number (drop s.start B) → node ≡ message_node Warning line text (Some shown) → just (node ∷ []) ≡ substitution_nodes c B s written None
-none_holds c B s written name told text shown line node d e a h l m =
+pub none_holds : (c : Within) (B : Block) (s : Span) (written name reported_name text displayed : List ℕ) (line : ℕ) (node : Node) → reported_name ≡ name → name ≡ normalized (unescaped written) → text ≡ about reported_name (codes " empty or invalid.")
+    → displayed ≡ span_source B s → line ≡ first_number (drop s.start B) → node ≡ message_node Warning line text (Some displayed) → just (node ∷ []) ≡ substitution_nodes c B s written None
+none_holds c B s written name reported_name text displayed line node d e a h l m =
     ap (λ (x : Node). just (x ∷ [])) (
     m
-    ∙ ap (λ k. message_node Warning k text (Some shown)) l
+    ∙ ap (λ k. message_node Warning k text (Some displayed)) l
     ∙ ap (λ x. message_node Warning (first_number (drop s.start B)) text (Some x)) h
-    ∙ ap (λ x. message_node Warning (first_number (drop s.start B)) x (Some (source_of B s))) (a ∙ ap (λ x. about x (codes " empty or invalid.")) (d ∙ e)))
+    ∙ ap (λ x. message_node Warning (first_number (drop s.start B)) x (Some (span_source B s))) (a ∙ ap (λ x. about x (codes " empty or invalid.")) (d ∙ e)))
 
 -- ---- replacement texts
 
 same_nodes : (children : Forest) (slice ns : List Node) → children ≡ forest_of slice → nodes_of children ≡ ns → slice ≡ ns
 same_nodes children slice ns e f = sym (nodes_of-forest_of slice) ∙ ap nodes_of (sym e) ∙ f
 
-pub replacement_refused : (name lines text shown : List ℕ) (line : ℕ) (children : Forest) (slice ns : List Node) → children ≡ forest_of slice → nodes_of children ≡ ns → may_replace slice ≡ false
-    → text ≡ about name (codes " contains an illegal element.") → shown ≡ lines → message_node Error line text (Some shown) ≡ replacement name line lines ns
-replacement_refused name lines text shown line children slice ns e f h t s =
+pub replacement_refused : (name lines text displayed : List ℕ) (line : ℕ) (children : Forest) (slice ns : List Node) → children ≡ forest_of slice → nodes_of children ≡ ns → may_replace slice ≡ false
+    → text ≡ about name (codes " contains an illegal element.") → displayed ≡ lines → message_node Error line text (Some displayed) ≡ replacement name line lines ns
+replacement_refused name lines text displayed line children slice ns e f h t s =
     let bad : may_replace ns ≡ false = ap may_replace (sym (same_nodes children slice ns e f)) ∙ h in rw (bad, t, s) refl
 
 pub replacement_accepted : (name lines written : List ℕ) (line : ℕ) (children : Forest) (slice ns content : List Node) (definition : Node) → children ≡ forest_of slice → nodes_of children ≡ ns

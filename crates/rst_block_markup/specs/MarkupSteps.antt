@@ -2,7 +2,7 @@
 use Rattle.std.specs.Prelude.{ℕ, ◌<◌, length, drop, Bool, true, false, List, Option, Some, Result, IfOk, if◌then◌else◌}
 use Rattle.rst_text.specs.Block.{Block, first_number}
 use Rattle.rst_tree.specs.declared.node.Node.{Node}
-use Rattle.rst_markup_directives.specs.Argument.{Given, given_in}
+use Rattle.rst_markup_directives.specs.Argument.{ArgumentMeaning, given_in}
 use Rattle.rst_markup_directives.specs.Call.{IsContentIn}
 use Rattle.rst_markup_directives.specs.Directive.{Read}
 use Rattle.rst_markup_directives.specs.Options.{choices_in}
@@ -15,18 +15,18 @@ use Rattle.rst_block_state.specs.Constructs.{explicit_markup}
 use Rattle.rst_block_state.specs.Directives.{content_nodes, right_by}
 use Rattle.rst_block_state.specs.Figures.{Beginning, caption, no_caption, neither}
 use Rattle.rst_block_state.specs.Inside.{directive_content}
-use Rattle.rst_block_state.specs.Ledger.{Opens}
-use Rattle.rst_block_state.specs.Meanings.{Keeps, comes, open_of, within_at, done_of, reads_from}
+use Rattle.rst_block_state.specs.looks.Ledger.{Opens}
+use Rattle.rst_block_state.specs.machine.Meanings.{Keeps, comes, open_run_of, within_at, done_of, reads_from}
 use Rattle.rst_block_state.specs.Numbered.{Numbered, ◌>>=◌, just, before}
-use Rattle.rst_block_state.specs.Rest.{OpenRun, open_markup, rest_with}
-use Rattle.rst_block_state.specs.RestLaws.{found_as}
-use Rattle.rst_block_state.specs.Steps.{IsStep}
-use Rattle.rst_block_state.specs.Texts.{source_of}
+use Rattle.rst_block_state.specs.machine.Rest.{OpenRun, open_markup, rest_with}
+use Rattle.rst_block_state.specs.machine.RestLaws.{found_as}
+use Rattle.rst_block_state.specs.machine.Steps.{IsStep}
+use Rattle.rst_block_state.specs.Texts.{span_source}
 use Rattle.rst_block_state.specs.Titles.{Item}
 use Rattle.rst_block_state.specs.Within.{Within}
 use Rattle.rst_block_markup.specs.declared.directive.Found.{Found}
-use Rattle.rst_block_markup.specs.declared.figure.Front.{Front}
-use Rattle.rst_block_markup.specs.declared.figure.Front.TheVariants.{Caption, Missing, Wrong}
+use Rattle.rst_block_markup.specs.declared.figure.ContentStart.{ContentStart}
+use Rattle.rst_block_markup.specs.declared.figure.ContentStart.TheVariants.{Caption, Missing, Wrong}
 use Rattle.rst_block_state.specs.declared.fault.BlockFault.{BlockFault}
 use Rattle.rst_block_state.specs.declared.open_block.OpenBlock.{OpenBlock}
 use Rattle.rst_block_state.specs.declared.step.Step.{Step}
@@ -40,7 +40,7 @@ is_markup _ = false
 -- what a block gives that has explicit markup at its next line, which ends at this place
 abbrev pub markup_reads : OpenBlock → Block → ℕ → Numbered (List Item)
 markup_reads l B end =
-    before (done_of l) (rest_with (within_at l.depth) B (open_of l.run) (found_as explicit_markup (record { start = l.at; stop = end })))
+    before (done_of l) (rest_with (within_at l.depth) B (open_run_of l.run) (found_as explicit_markup (record { start = l.at; stop = end })))
 
 -- what a block gives in which these nodes are read next, and which goes on at this line
 abbrev pub reads_with : OpenBlock → Block → Numbered (List Node) → ℕ → Numbered (List Item)
@@ -56,8 +56,8 @@ pub record IsPartRead (few : ℕ) (B : Block) (old : OpenBlock) (before : Pass) 
   pub paid : IfOk result (λ s. Opens few old new B inner end s before.looks after.looks)
 
 -- what is made of the nodes of a content
-abbrev pub made_of : Within → Block → Content → (List Node → List Node) → Numbered (List Node)
-made_of c B content make = do
+abbrev pub made_of_content : Within → Block → Content → (List Node → List Node) → Numbered (List Node)
+made_of_content c B content make = do
   nodes ← content_nodes c B content
   just (make nodes)
 
@@ -78,8 +78,8 @@ abbrev pub place_in : Bool → Place
 place_in titles = if titles then Top else Body
 
 -- a right directive, as it is kept
-abbrev pub read_of : Found → Read
-read_of f = record { name = f.name; argument = given_in f.argument; options = choices_in f.options.items; content = f.content }
+abbrev pub read_of_directive : Found → Read
+read_of_directive f = record { name = f.name; argument = given_in f.argument; options = choices_in f.options.items; content = f.content }
 
 -- a right directive at a line of a block: its content is in the block, and it ends after the line
 pub record IsRight (B : Block) (at : ℕ) (found : Found) : Type 0 where
@@ -88,14 +88,14 @@ pub record IsRight (B : Block) (at : ℕ) (found : Found) : Type 0 where
   pub later : at < found.end
 
 -- a right directive with an argument was read, which is at the next line of a block
-abbrev pub IsDirectiveRead : ℕ → Block → OpenBlock → Pass → Found → Given → OpenBlock → Pass → Result Step BlockFault → Type 0
+abbrev pub IsDirectiveRead : ℕ → Block → OpenBlock → Pass → Found → ArgumentMeaning → OpenBlock → Pass → Result Step BlockFault → Type 0
 IsDirectiveRead few B old before f given new after result =
-    let lines = source_of B (record { start = old.at; stop = f.end }) in
-    let nodes = right_by given f.name (within_at old.depth) B (first_number (drop old.at B)) (read_of f) lines in
+    let lines = span_source B (record { start = old.at; stop = f.end }) in
+    let nodes = right_by given f.name (within_at old.depth) B (first_number (drop old.at B)) (read_of_directive f) lines in
     IsPartRead few B old before nodes (directive_content given f.name B f.content) f.end new after result
 
 -- what the content of a figure begins with, as it is kept
-abbrev pub beginning_in : Front → Beginning
+abbrev pub beginning_in : ContentStart → Beginning
 beginning_in (Caption node count) = caption node count
 beginning_in Missing = no_caption
 beginning_in Wrong = neither

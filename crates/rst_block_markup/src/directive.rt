@@ -3,7 +3,7 @@ ghost use Rattle.std.specs.Prelude.{◌≡◌, ℕ, ◌+◌, ◌-◌, ◌*◌, �
 ghost use Rattle.std.specs.Str.{chars};
 ghost use Rattle.rst_text.specs.Block.{Block, first_number};
 ghost use Rattle.rst_text.specs.Looked.{Looked, capped};
-ghost use Rattle.rst_text.specs.Shown.{block_of};
+ghost use Rattle.rst_text.specs.ViewBlock.{block_of};
 ghost use Rattle.rst_tree.specs.Faults as faults;
 ghost use Rattle.rst_tree.specs.declared.note.Level.TheVariants.{Error};
 ghost use Rattle.rst_markup_directives.specs.Argument as given;
@@ -13,18 +13,18 @@ ghost use Rattle.rst_markup_directives.specs.Wrong.{fault_in};
 ghost use Rattle.rst_block_nodes.specs.Options.{directive_element};
 ghost use Rattle.rst_block_nodes.specs.Sections.{filled};
 ghost use Rattle.rst_block_state.specs.Directives as meaning;
-ghost use Rattle.rst_block_markup.specs.MarkupSteps.{IsDirectiveRead, IsPartRead, IsRight, place_in, read_of};
-ghost use Rattle.rst_block_state.specs.Meanings.{within_at};
+ghost use Rattle.rst_block_markup.specs.MarkupSteps.{IsDirectiveRead, IsPartRead, IsRight, place_in, read_of_directive};
+ghost use Rattle.rst_block_state.specs.machine.Meanings.{within_at};
 ghost use Rattle.rst_block_state.specs.Numbered.{just};
 ghost use Rattle.rst_markup_directives.specs.Call.{IsArgumentIn, IsDirectiveIn};
 ghost use Rattle.rst_markup_directives.specs.declared.found.Place.{Place};
 ghost use Rattle.rst_markup_blocks.specs.Parts.{IsBlock, IsCall};
-ghost use Rattle.rst_block_state.specs.OpenBlocks.{Gives, IsMoved};
+ghost use Rattle.rst_block_state.specs.machine.OpenBlocks.{Gives, IsMoved};
 ghost use Rattle.rst_block_state.specs.Paragraphs.{is_single_paragraph};
-ghost use Rattle.rst_block_state.specs.Texts.{joined, lines_in, shown, source_of};
+ghost use Rattle.rst_block_state.specs.Texts.{joined, lines_in, message_with_lines, span_source};
 ghost use Rattle.rst_block_state.specs.declared.step.Step.TheVariants.{Open};
 ghost use Rattle.rst_block_state.specs.declared.texts.Pass.{Pass};
-ghost use Rattle.rst_block_state.specs.Ledger.{argument_lines, unread_at};
+ghost use Rattle.rst_block_state.specs.looks.Ledger.{argument_lines, unread_at};
 ghost use Rattle.rst_block_state.specs.Inside.{directive_blocks};
 
 use super::explicit::put;
@@ -55,7 +55,7 @@ pub(crate) fn directive_at(
     pass: &mut Pass,
 ) -> Result<Directive>
     requires call { IsCall (block_of view.now) at invocation.now }
-    ensures outcome { Gives (λ found. directives.outcome_of found
+    ensures outcome { Gives (λ found. directives.directive_outcome found
         ≡ meaning.called (within_at 0) (block_of view.now) at invocation.now place) result }
     ensures parts { IfOk result (IsDirectiveIn (block_of view.now)) }
     ensures numbers { pass.new.numbers ≡ pass.old.numbers }
@@ -163,7 +163,7 @@ pub(crate) fn wrong_directive(
 ) -> Result<Node>
     ensures error { let B = block_of view.now in
         let text = fault_text (fault_in fault.now) name.now in
-        Gives (λ node. node ≡ shown Error (first_number (drop at B)) text (source_of B (record { start = at; stop = end }))) result }
+        Gives (λ node. node ≡ message_with_lines Error (first_number (drop at B)) text (span_source B (record { start = at; stop = end }))) result }
     ensures most { looks.new ≤ looks.old + (end - at) }
     ensures each { IfOk result (λ _. capped (looks.old + length (slice_range (block_of view.now) at end)) ≤ looks.new) }
 {
@@ -275,8 +275,8 @@ fn image_block(
     let line = number_at(view, at);
     let options = found.options.as_slice();
     if matches!(found.name, Name::Figure) {
-        let shown = image(alloc, uri, options, line, true, None)?;
-        let figure = filled(figure(alloc, options, line)?, alone(alloc, shown)?)?;
+        let image_node = image(alloc, uri, options, line, true, None)?;
+        let figure = filled(figure(alloc, options, line)?, alone(alloc, image_node)?)?;
         let waits = Waits::Figure {
             figure,
             start: at,
@@ -314,7 +314,7 @@ fn code_nodes(
     requires { IsRight (block_of view.now) level.old.at found.now }
     ensures { let B = block_of view.now in
         let line = first_number (drop level.old.at B) in
-        let nodes = meaning.code_nodes B line (read_of found.now) (option_map (λ word. word.now) language.entry) in
+        let nodes = meaning.code_nodes B line (read_of_directive found.now) (option_map (λ word. word.now) language.entry) in
         let few = found.now.content.second.to - found.now.content.second.from in
         IsPartRead few B level.old pass.old (just nodes) [] found.now.end level.new pass.new result }
 {

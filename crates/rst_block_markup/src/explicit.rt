@@ -1,8 +1,8 @@
 //! Explicit markup blocks (Markup Specification, 'Explicit Markup Blocks').
 ghost use Rattle.std.specs.Prelude.{◌≡◌, ◌+◌, ◌-◌, ◌*◌, ◌<◌, ◌≤◌, [], ◌∷◌, length, drop, string_bytes, option_map, IfOk, IsTrue};
-ghost use Rattle.rst_text.specs.Block.{first_number, front_text};
+ghost use Rattle.rst_text.specs.Block.{first_number, first_text};
 ghost use Rattle.rst_text.specs.Looked.{capped};
-ghost use Rattle.rst_text.specs.Shown.{block_of};
+ghost use Rattle.rst_text.specs.ViewBlock.{block_of};
 ghost use Rattle.rst_markup_blocks.specs.Parts.{IsBlock};
 ghost use Rattle.rst_tree.specs.Faults as faults;
 ghost use Rattle.rst_tree.specs.declared.note.Level.TheVariants.{Warning};
@@ -13,13 +13,13 @@ ghost use Rattle.rst_block_nodes.specs.Elements.{preserved_node};
 ghost use Rattle.rst_block_nodes.specs.Targets.{target_node};
 ghost use Rattle.rst_block_state.specs.Markup as markup;
 ghost use Rattle.rst_block_markup.specs.MarkupSteps.{IsPartRead, markup_reads, reads_with};
-ghost use Rattle.rst_block_state.specs.Meanings.{Keeps, comes, reads, within_at};
+ghost use Rattle.rst_block_state.specs.machine.Meanings.{Keeps, comes, reads, within_at};
 ghost use Rattle.rst_block_state.specs.Numbered.{just};
-ghost use Rattle.rst_block_state.specs.OpenBlocks as blocks;
+ghost use Rattle.rst_block_state.specs.machine.OpenBlocks as blocks;
 ghost use Rattle.rst_block_state.specs.declared.step.Step.TheVariants.{Next};
-ghost use Rattle.rst_block_state.specs.Steps as spec;
+ghost use Rattle.rst_block_state.specs.machine.Steps as spec;
 ghost use Rattle.rst_block_state.specs.Texts.{excerpt, lines_in, spelled};
-ghost use Rattle.rst_block_state.specs.Ledger.{IsPaid, run_looks, unread_at};
+ghost use Rattle.rst_block_state.specs.looks.Ledger.{IsPaid, run_looks, unread_at};
 ghost use Rattle.rst_block_state.specs.Inside.{markup_blocks};
 
 use super::directive::directive_block;
@@ -48,7 +48,7 @@ pub fn explicit_markup(view: &View<'_>, level: &mut OpenBlock, pass: &mut Pass) 
     let found = explicit(view, at, &mut pass.looks);
     let end = found.end(at);
     begin_markup(view, level, end, pass)?;
-    markup_of(view, level, found, end, pass)
+    explicit_markup_of(view, level, found, end, pass)
 }
 
 /// Opens explicit markup up to `end`, before which any other open run ends.
@@ -71,7 +71,7 @@ fn begin_markup(view: &View<'_>, level: &mut OpenBlock, end: usize, pass: &mut P
 }
 
 /// What explicit markup that ends at `end` is.
-fn markup_of(
+fn explicit_markup_of(
     view: &View<'_>,
     level: &mut OpenBlock,
     found: Explicit,
@@ -105,9 +105,9 @@ fn markup_of(
             put(level, node, end)
         }
         Explicit::Directive(invocation) => directive_block(view, level, &invocation, pass),
-        Explicit::Substitution { name, held, .. } => {
+        Explicit::Substitution { name, embedded, .. } => {
             let name = label_text(pass.alloc, view, level.at, name, &mut pass.looks)?;
-            substitution_definition(view, level, name.as_str(), held, end, pass)
+            substitution_definition(view, level, name.as_str(), embedded, end, pass)
         }
     }
 }
@@ -125,7 +125,7 @@ fn labelled_block(
     requires later { level.old.at < body.to }
     ensures { let B = block_of view.now in
         let X = drop level.old.at B in
-        let element = markup.labelled_node kind (excerpt (front_text X) label) (first_number X) in
+        let element = markup.node_by_label_kind kind (excerpt (first_text X) label) (first_number X) in
         let nodes = markup.noted (within_at level.old.depth) B element body in
         IsPartRead 1 B level.old pass.old nodes (lines_in B body ∷ []) body.to level.new pass.new result }
 {
@@ -155,7 +155,7 @@ fn target_block(
     requires later { level.old.at < text.to }
     ensures { let B = block_of view.now in
         let X = drop level.old.at B in
-        let node = target_node (option_map (excerpt (front_text X)) name) (spelled (lines_in B text)) (first_number X) in
+        let node = target_node (option_map (excerpt (first_text X)) name) (spelled (lines_in B text)) (first_number X) in
         IsPartRead (1 + (text.to - text.from)) B level.old pass.old (just (node ∷ [])) [] text.to level.new pass.new result }
 {
     let alloc = pass.alloc;
@@ -204,7 +204,7 @@ fn label_text(
     looks: &mut Looks,
 ) -> Result<String, AllocError>
     requires inside { at < length (block_of view.now) }
-    ensures text { IfOk result (λ label. string_bytes label ≡ excerpt (front_text (drop at (block_of view.now))) place) }
+    ensures text { IfOk result (λ label. string_bytes label ≡ excerpt (first_text (drop at (block_of view.now))) place) }
     ensures looks { looks.new ≡ capped (looks.old + 1) }
 {
     excerpt(alloc, view.line(at, looks), place)

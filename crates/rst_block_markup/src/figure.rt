@@ -2,22 +2,22 @@
 ghost use Rattle.std.specs.Prelude.{◌≡◌, ◌+◌, ◌-◌, ◌≤◌, ◌∷◌, ◌++◌, take, drop, IfOk};
 ghost use Rattle.rst_text.specs.Block.{first_number};
 ghost use Rattle.rst_text.specs.Looked.{capped};
-ghost use Rattle.rst_text.specs.Shown.{block_of};
+ghost use Rattle.rst_text.specs.ViewBlock.{block_of};
 ghost use Rattle.rst_tree.specs.Faults.{Gives};
 ghost use Rattle.rst_block_nodes.specs.Sections.{filled};
 ghost use Rattle.rst_block_state.specs.Figures as spec;
-ghost use Rattle.rst_block_state.specs.Texts.{source_of};
+ghost use Rattle.rst_block_state.specs.Texts.{span_source};
 ghost use Rattle.rst_block_markup.specs.MarkupSteps.{beginning_in};
 
 use rst_block_nodes::{completed, message};
-use rst_block_state::{number_at, parted, source};
+use rst_block_state::{number_at, source, split_nodes};
 use rst_text::{Looks, View};
 use rst_tree::{Attrs, Key, Level, Node, Tag, TreeFault};
 use rst_tree_index::{Marked, MarkedIter, MarkedNodes};
 use std::alloc::Global;
 
 /// What the content of a figure begins with.
-enum Front {
+enum ContentStart {
     /// A caption, and how many messages on its text follow it.
     Caption(Node, u64),
     /// An empty comment, in a caption's place.
@@ -38,7 +38,7 @@ pub fn finished_figure(
     looks: &mut Looks,
 ) -> Result<MarkedNodes, TreeFault>
     ensures figure { let B = block_of view.now in
-        let error = spec.caption_error (first_number (drop start B)) (source_of B (record { start = start; stop = end })) in
+        let error = spec.caption_error (first_number (drop start B)) (span_source B (record { start = start; stop = end })) in
         Gives (λ made. made ≡ spec.figure_nodes figure error nodes) result }
     ensures looks { looks.new ≤ looks.old + (end - start) }
     ensures low { IfOk result (λ _. capped looks.old ≤ looks.new) }
@@ -47,15 +47,15 @@ pub fn finished_figure(
     let Some(first) = rest.next(alloc) else {
         return MarkedNodes::alone(alloc, Marked::of(alloc, figure)?);
     };
-    match front_of(first.into_root()) {
+    match content_start(first.into_root()) {
         // The caption is marked as a new node. Its text was marked in its paragraph, but no caption is in another: so nothing
         // is marked more than twice.
-        Front::Caption(caption, count) => {
+        ContentStart::Caption(caption, count) => {
             let caption = MarkedNodes::alone(alloc, Marked::of(alloc, caption)?)?;
             captioned(alloc, figure, caption, rest, count)
         }
-        Front::Missing => captioned(alloc, figure, MarkedNodes::none(alloc), rest, 0),
-        Front::Wrong => {
+        ContentStart::Missing => captioned(alloc, figure, MarkedNodes::none(alloc), rest, 0),
+        ContentStart::Wrong => {
             let text = "Figure caption must be a paragraph or empty comment.";
             let lines = source(alloc, view, start, end, looks)?;
             let line = number_at(view, start);
@@ -72,21 +72,21 @@ pub fn finished_figure(
 fn captioned(
     alloc: Global,
     figure: Node,
-    mut held: MarkedNodes,
+    mut caption_nodes: MarkedNodes,
     rest: MarkedIter,
     count: u64,
 ) -> Result<MarkedNodes, TreeFault>
-    ensures { Gives (λ made. made ≡ filled figure (held ++ spec.legend_nodes (drop count rest)) ∷ take count rest) result }
+    ensures { Gives (λ made. made ≡ filled figure (caption_nodes ++ spec.legend_nodes (drop count rest)) ∷ take count rest) result }
 {
-    let (notes, legend) = parted(alloc, rest, count)?;
-    held.append(legend_nodes(alloc, legend)?)?;
-    let mut nodes = MarkedNodes::alone(alloc, completed(alloc, figure, held)?)?;
+    let (notes, legend) = split_nodes(alloc, rest, count)?;
+    caption_nodes.append(legend_nodes(alloc, legend)?)?;
+    let mut nodes = MarkedNodes::alone(alloc, completed(alloc, figure, caption_nodes)?)?;
     nodes.append(notes)?;
     Ok(nodes)
 }
 
 /// What the first node of a figure's content is.
-fn front_of(node: Node) -> Front
+fn content_start(node: Node) -> ContentStart
     ensures { beginning_in result ≡ spec.beginning_of node }
 {
     match node {
@@ -103,7 +103,7 @@ fn front_of(node: Node) -> Front
                 children,
                 line,
             };
-            Front::Caption(caption, count)
+            ContentStart::Caption(caption, count)
         }
         Node::Element {
             tag: Tag::Comment,
@@ -111,12 +111,12 @@ fn front_of(node: Node) -> Front
             ..
         } => {
             if children.len() == 0 {
-                Front::Missing
+                ContentStart::Missing
             } else {
-                Front::Wrong
+                ContentStart::Wrong
             }
         }
-        _ => Front::Wrong,
+        _ => ContentStart::Wrong,
     }
 }
 

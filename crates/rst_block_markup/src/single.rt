@@ -1,7 +1,7 @@
 //! Blocks in blocks that are one paragraph (Directives, 'Replacement Text').
 ghost use Rattle.std.specs.Prelude.{◌≡◌, ◌+◌, ◌-◌, ◌<◌, ◌≤◌, length, true, false};
 ghost use Rattle.rst_text.specs.Looked.{Looked, capped};
-ghost use Rattle.rst_text.specs.Shown.{block_of};
+ghost use Rattle.rst_text.specs.ViewBlock.{block_of};
 ghost use Rattle.rst_markup_blocks.specs.Conditions.{next_text};
 ghost use Rattle.rst_block_state.specs.Paragraphs as paragraphs;
 ghost use Rattle.rst_markup_blocks.specs.Sizes.{overline_looks};

@@ -1,7 +1,7 @@
 //! Substitution definitions (Markup Specification, 'Substitution Definitions').
 ghost use Rattle.std.specs.Prelude.{◌≡◌, ◌-◌, ◌*◌, ◌<◌, ◌≤◌, ◌∷◌, [], false, Some, length, drop, string_bytes, IfOk, IfSome};
-ghost use Rattle.rst_text.specs.Block.{first_number, front_text};
-ghost use Rattle.rst_text.specs.Shown.{block_of};
+ghost use Rattle.rst_text.specs.Block.{first_number, first_text};
+ghost use Rattle.rst_text.specs.ViewBlock.{block_of};
 ghost use Rattle.rst_tree.specs.Faults.{Gives};
 ghost use Rattle.rst_tree.specs.Nodes.{nodes_of};
 ghost use Rattle.rst_tree.specs.declared.note.Level.TheVariants.{Error};
@@ -13,11 +13,11 @@ ghost use Rattle.rst_markup_directives.specs.Call.{IsContentIn};
 ghost use Rattle.rst_markup_blocks.specs.Parts.{IsCall};
 ghost use Rattle.rst_block_nodes.specs.Sections.{filled};
 ghost use Rattle.rst_block_state.specs.Directives as directives;
-ghost use Rattle.rst_block_markup.specs.MarkupSteps.{IsPartRead, made_of};
-ghost use Rattle.rst_block_state.specs.Meanings.{within_at};
-ghost use Rattle.rst_block_state.specs.OpenBlocks as blocks;
+ghost use Rattle.rst_block_markup.specs.MarkupSteps.{IsPartRead, made_of_content};
+ghost use Rattle.rst_block_state.specs.machine.Meanings.{within_at};
+ghost use Rattle.rst_block_state.specs.machine.OpenBlocks as blocks;
 ghost use Rattle.rst_block_state.specs.Texts as texts;
-ghost use Rattle.rst_block_state.specs.Ledger.{unread_at};
+ghost use Rattle.rst_block_state.specs.looks.Ledger.{unread_at};
 ghost use Rattle.rst_block_state.specs.Inside.{content_blocks, definition_blocks, substitution_blocks};
 
 use super::directive::{directive_at, wrong_directive};
@@ -35,27 +35,27 @@ use rst_tree::{Children, Level, Node, Tag, TreeFault};
 use rst_tree_index::MarkedNodes;
 use std::alloc::{AllocError, Global};
 
-/// A substitution definition that ends at `end`. `written` is its name as written between the bars, `held` the directive
+/// A substitution definition that ends at `end`. `written` is its name as written between the bars, `embedded` the directive
 /// that it holds.
 pub(crate) fn substitution_definition(
     view: &View<'_>,
     level: &mut OpenBlock,
     written: &str,
-    held: Option<Invocation>,
+    embedded: Option<Invocation>,
     end: usize,
     pass: &mut Pass,
 ) -> Result<Step>
-    requires call { IfSome held (IsCall (block_of view.now) level.old.at) }
+    requires call { IfSome embedded (IsCall (block_of view.now) level.old.at) }
     requires inside { level.old.at < length (block_of view.now) }
     requires later { level.old.at < end }
-    requires begins { IfSome held (λ call. (level.old.at ≤ call.block.from) × (call.block.to ≤ end)) }
+    requires begins { IfSome embedded (λ call. (level.old.at ≤ call.block.from) × (call.block.to ≤ end)) }
     ensures { let B = block_of view.now in
-        let nodes = directives.substitution_nodes (within_at level.old.depth) B (record { start = level.old.at; stop = end }) written.now held in
-        let inner = substitution_blocks held (unread_at level.old.depth) B level.old.at in
+        let nodes = directives.substitution_nodes (within_at level.old.depth) B (record { start = level.old.at; stop = end }) written.now embedded in
+        let inner = substitution_blocks embedded (unread_at level.old.depth) B level.old.at in
         IsPartRead (18 * (end - level.old.at)) B level.old pass.old nodes inner end level.new pass.new result }
 {
     let name = substitution_name(pass.alloc, written)?;
-    let Some(invocation) = held else {
+    let Some(invocation) = embedded else {
         let text = about(pass.alloc, name.as_str(), " empty or invalid.")?;
         let lines = source(pass.alloc, view, level.at, end, &mut pass.looks)?;
         let line = number_at(view, level.at);
@@ -68,7 +68,7 @@ pub(crate) fn substitution_definition(
         )?;
         return put(level, warning, end);
     };
-    holding(view, level, name, &invocation, end, pass)
+    definition_or_error(view, level, name, &invocation, end, pass)
 }
 
 /// A text on a substitution definition.
@@ -83,7 +83,7 @@ fn about(alloc: Global, name: &str, what: &str) -> Result<String, AllocError>
 }
 
 /// A substitution definition that holds a directive.
-fn holding(
+fn definition_or_error(
     view: &View<'_>,
     level: &mut OpenBlock,
     name: String,
@@ -97,8 +97,8 @@ fn holding(
     ensures { let B = block_of view.now in
         let within = within_at level.old.depth in
         let outcome = directives.called within B level.old.at invocation.now Substitution in
-        let written = texts.excerpt (front_text (drop level.old.at B)) invocation.now.name in
-        let nodes = directives.holding outcome within B (record { start = level.old.at; stop = end }) (string_bytes name) written in
+        let written = texts.excerpt (first_text (drop level.old.at B)) invocation.now.name in
+        let nodes = directives.definition_or_error outcome within B (record { start = level.old.at; stop = end }) (string_bytes name) written in
         let few = 18 * (end - level.old.at) in
         IsPartRead few B level.old pass.old nodes (definition_blocks outcome B) end level.new pass.new result }
 {
@@ -108,11 +108,19 @@ fn holding(
         Directive::Wrong { fault, .. } => {
             let written = excerpt(pass.alloc, view.line(at, &mut pass.looks), invocation.name)?;
             // Where the definition may not contain the directive, the message has the definition's name.
-            let told = match fault {
+            let reported_name = match fault {
                 DirectiveFault::NotInSubstitution => name.as_str(),
                 _ => written.as_str(),
             };
-            let error = wrong_directive(pass.alloc, view, at, end, &fault, told, &mut pass.looks)?;
+            let error = wrong_directive(
+                pass.alloc,
+                view,
+                at,
+                end,
+                &fault,
+                reported_name,
+                &mut pass.looks,
+            )?;
             put(level, error, end)
         }
         Directive::Found {
@@ -122,8 +130,14 @@ fn holding(
             ..
         } => match argument {
             Argument::Uri(uri) => {
-                let shown = image_named(pass.alloc, uri.as_str(), &options, name.as_str(), line)?;
-                put(level, shown, end)
+                let image_node = image_named(
+                    pass.alloc,
+                    uri.as_str(),
+                    &options,
+                    name.as_str(),
+                    line,
+                )?;
+                put(level, image_node, end)
             }
             _ => replacement(view, level, name, content, end, pass),
         },
@@ -138,12 +152,12 @@ fn image_named(
     name: &str,
     line: usize,
 ) -> Result<Node, TreeFault>
-    ensures { let shown = image_element uri.now (choices_in options.now.items) line false (Some name.now) in
-        Gives (λ node. node ≡ filled (substitution_definition_node name.now line) (shown ∷ [])) result }
+    ensures { let image_node = image_element uri.now (choices_in options.now.items) line false (Some name.now) in
+        Gives (λ node. node ≡ filled (substitution_definition_node name.now line) (image_node ∷ [])) result }
 {
-    let shown = image(alloc, uri, options.as_slice(), line, false, Some(name))?;
+    let image_node = image(alloc, uri, options.as_slice(), line, false, Some(name))?;
     let definition = definition(alloc, name, line)?;
-    filled(definition, alone(alloc, shown)?)
+    filled(definition, alone(alloc, image_node)?)
 }
 
 /// Opens a replacement text.
@@ -160,8 +174,8 @@ fn replacement(
     requires later { level.old.at < end }
     ensures { let B = block_of view.now in
         let line = first_number (drop level.old.at B) in
-        let source = texts.source_of B (record { start = level.old.at; stop = end }) in
-        let nodes = made_of (within_at level.old.depth) B content
+        let source = texts.span_source B (record { start = level.old.at; stop = end }) in
+        let nodes = made_of_content (within_at level.old.depth) B content
         (λ nodes. directives.replacement (string_bytes name) line source (directives.first_paragraph nodes) ∷ []) in
         let few = end - level.old.at in
         IsPartRead few B level.old pass.old nodes (content_blocks B content) end level.new pass.new result }

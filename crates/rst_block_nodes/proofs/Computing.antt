@@ -6,6 +6,6 @@ unfolding
     Rattle.rst_markup_lines.proofs.Computing.rst_markup_lines Rattle.rst_inline_scan.proofs.Computing.rst_inline_scan
     Rattle.rst_inline.proofs.Computing.rst_inline Rattle.rst_markup_blocks.proofs.Computing.rst_markup_blocks
     Rattle.rst_markup_directives.proofs.Computing.rst_markup_directives Rattle.rst_block_nodes.specs.OpenSections.close
-    Rattle.rst_block_nodes.specs.Sections.level_of Rattle.rst_block_nodes.specs.Sections.judged Rattle.rst_block_nodes.specs.Sections.inside
-    Rattle.rst_block_nodes.specs.Sections.behind Rattle.rst_block_nodes.specs.Sections.members Rattle.rst_block_nodes.specs.Sections.items_of
+    Rattle.rst_block_nodes.specs.Sections.level_of Rattle.rst_block_nodes.specs.Sections.judged Rattle.rst_block_nodes.specs.Sections.inside_section
+    Rattle.rst_block_nodes.specs.Sections.after_section Rattle.rst_block_nodes.specs.Sections.members Rattle.rst_block_nodes.specs.Sections.items_of
 rst_block_nodes = tt

@@ -5,7 +5,7 @@ use Rattle.rst_inline_scan.specs.Reading.{pieces_of}
 use Rattle.rst_inline_scan.specs.declared.piece.Piece.{Piece}
 use Rattle.rst_inline_scan.proofs.PieceLemmas.{IsPieces-unique}
 use Rattle.rst_inline_scan.proofs.ReadingLemmas.{pieces_of-pieces}
-use Rattle.rst_inline.specs.Results.{nodes_behind, notes_of, IsRead}
+use Rattle.rst_inline.specs.Results.{nodes_from, notes_of, IsRead}
 use Rattle.rst_inline.specs.declared.nodes.Pieces.{Pieces}
 use Rattle.rst_tree.specs.Sends.{counted_on}
 use Rattle.rst_tree.specs.declared.node.Node.{Node}
@@ -15,7 +15,7 @@ use Rattle.rst_block_nodes.specs.declared.texted.Texted.{Texted}
 use Rattle.rst_block_nodes.specs.Elements.{element_of}
 use Rattle.rst_block_nodes.specs.Readings.{read_nodes, read_notes, texted_node, term_nodes, texted, termed}
 use Rattle.rst_block_nodes.specs.Results.{HoldsText, HeadsText}
-use Rattle.rst_block_nodes.specs.Terms.{texts_of, groups_of, heads_of}
+use Rattle.rst_block_nodes.specs.Terms.{piece_texts, groups_of, heads_of}
 use Rattle.rst_block_nodes.specs.Texts.{counting, messages_from}
 
 pieces_are : (t : List ℕ) (ps : List Piece) → IsPieces t 0 ps → ps ≡ pieces_of t
@@ -24,7 +24,7 @@ pieces_are t ps h = IsPieces-unique t 0 ps (pieces_of t) h (pieces_of-pieces t)
 reading_is : (t : List ℕ) (line first : ℕ) (r : Pieces) → IsRead t line first r → (r.nodes.items ≡ read_nodes t line first) × (messages_from first r.notes.items ≡ read_notes t line first)
 reading_is t line first r h =
     let same : h.0 ≡ pieces_of t = pieces_are t h.0 h.1 in (
-      h.2.nodes ∙ ap (nodes_behind t line first) same,
+      h.2.nodes ∙ ap (nodes_from t line first) same,
       ap (messages_from first) (h.2.notes ∙ ap (notes_of t line) same),
     )
 
@@ -43,9 +43,9 @@ pub termed-is : (t : List ℕ) (line first : ℕ) (made : Heads) → HeadsText t
 termed-is t line first made h =
     let r = reading_is t line first h.1 h.3 in (
       h.4.heads
-          ∙ ap (λ (ns : List Node). heads_of (length ns) line (groups_of (texts_of t h.0) h.1.nodes.items)) (h.4.notes ∙ r.1)
-          ∙ ap (λ (xs : List Node). heads_of (length (read_notes t line first)) line (groups_of (texts_of t h.0) xs)) r.0
-          ∙ ap (λ (ps : List Piece). heads_of (length (read_notes t line first)) line (groups_of (texts_of t ps) (read_nodes t line first))) (pieces_are t h.0 h.2),
+          ∙ ap (λ (ns : List Node). heads_of (length ns) line (groups_of (piece_texts t h.0) h.1.nodes.items)) (h.4.notes ∙ r.1)
+          ∙ ap (λ (xs : List Node). heads_of (length (read_notes t line first)) line (groups_of (piece_texts t h.0) xs)) r.0
+          ∙ ap (λ (ps : List Piece). heads_of (length (read_notes t line first)) line (groups_of (piece_texts t ps) (read_nodes t line first))) (pieces_are t h.0 h.2),
       h.4.notes ∙ r.1,
     )
 

@@ -7,7 +7,7 @@ use Rattle.rst_tree.specs.Attributes.{attr}
 use Rattle.rst_tree.specs.Forest.{bare}
 use Rattle.rst_tree.specs.Nodes.{forest_of}
 use Rattle.rst_tree.specs.declared.attrs.Attr.{Attr}
-use Rattle.rst_tree.specs.declared.attrs.Value.TheVariants.{Text as Said, Number}
+use Rattle.rst_tree.specs.declared.attrs.Value.TheVariants.{Text as TextValue, Number}
 use Rattle.rst_tree.specs.declared.key.Key.TheVariants.{Auto, Bullet, Cols, Colwidth, Delimiter as DelimiterKey, Enumtype, Mark, Morecols, Morerows, OwnName, Prefix, Start, Suffix, XmlSpace}
 use Rattle.rst_tree.specs.declared.node.Node.{Node}
 use Rattle.rst_tree.specs.declared.node.Node.TheVariants.{Element, Text as Words}
@@ -22,7 +22,7 @@ use Rattle.rst_markup_lines.specs.declared.enumerator.Sequence.TheVariants.{Arab
 use Rattle.rst_markup_lines.specs.declared.option.Delimiter.{Delimiter}
 use Rattle.rst_markup_lines.specs.declared.option.Delimiter.TheVariants.{Nothing, Space, Equals}
 use Rattle.rst_markup_lines.specs.Enumerator.{first_reading}
-use Rattle.rst_markup_lines.specs.Front.{begins_with}
+use Rattle.rst_markup_lines.specs.TextStart.{begins_with}
 use Rattle.rst_block_nodes.specs.Values.{name_in}
 
 -- an element with attributes and nodes
@@ -40,7 +40,7 @@ plain_node tag line text = element_of tag [] (text_nodes text) line
 
 -- the attribute by which white characters are kept
 abbrev pub preserving : List Attr
-preserving = attr XmlSpace (Said (codes "preserve")) ∷ []
+preserving = attr XmlSpace (TextValue (codes "preserve")) ∷ []
 
 -- the same element, whose white characters stay
 abbrev pub preserved_node : Tag → ℕ → List ℕ → Node
@@ -50,7 +50,7 @@ preserved_node tag line text = element_of tag preserving (text_nodes text) line
 
 -- a bullet list, which has its bullet as an attribute, and no item yet
 abbrev pub bullet_list_node : ℕ → ℕ → Node
-bullet_list_node mark line = Element BulletList (attr Bullet (Said (encode_utf8_all (mark ∷ []))) ∷ []) bare line
+bullet_list_node mark line = Element BulletList (attr Bullet (TextValue (encode_utf8_all (mark ∷ []))) ∷ []) bare line
 
 -- what a sequence of ordinals is called
 abbrev pub sequence_name : Sequence → List ℕ
@@ -76,8 +76,8 @@ suffix Period = codes "."
 abbrev pub enumerated_attrs : Reading → Format → List Attr
 enumerated_attrs reading format =
     if reading.ordinal == 1
-    then attr Enumtype (Said (sequence_name reading.sequence)) ∷ attr Prefix (Said (prefix format)) ∷ attr Suffix (Said (suffix format)) ∷ []
-    else attr Enumtype (Said (sequence_name reading.sequence)) ∷ attr Prefix (Said (prefix format)) ∷ attr Start (Number reading.ordinal) ∷ attr Suffix (Said (suffix format)) ∷ []
+    then attr Enumtype (TextValue (sequence_name reading.sequence)) ∷ attr Prefix (TextValue (prefix format)) ∷ attr Suffix (TextValue (suffix format)) ∷ []
+    else attr Enumtype (TextValue (sequence_name reading.sequence)) ∷ attr Prefix (TextValue (prefix format)) ∷ attr Start (Number reading.ordinal) ∷ attr Suffix (TextValue (suffix format)) ∷ []
 
 -- an enumerated list, which has its way of numbering as attributes, and no item yet
 abbrev pub enumerated_list_node : Enumerator → ℕ → Node
@@ -100,7 +100,7 @@ delimiter_text Equals = codes "="
 -- an option's argument, which has what comes before it as an attribute
 abbrev pub option_argument_node : Delimiter → List ℕ → ℕ → Node
 option_argument_node delimiter text line =
-    element_of OptionArgument (attr DelimiterKey (Said (delimiter_text delimiter)) ∷ []) (text_nodes text) line
+    element_of OptionArgument (attr DelimiterKey (TextValue (delimiter_text delimiter)) ∷ []) (text_nodes text) line
 
 -- the string of an option and its argument, if it has one
 abbrev pub option_nodes : List ℕ → Option (Delimiter × List ℕ) → ℕ → List Node
@@ -115,18 +115,18 @@ option_node string argument line = element_of OptionTag [] (option_nodes string 
 
 -- an element that begins with a label
 abbrev pub labelled_node : Tag → List Attr → List ℕ → ℕ → Node
-labelled_node tag attrs shown line = element_of tag attrs (plain_node Label line shown ∷ []) line
+labelled_node tag attrs label_text line = element_of tag attrs (plain_node Label line label_text ∷ []) line
 
 -- named by its digits, which it shows
 abbrev pub named_node : List ℕ → ℕ → Node
-named_node label line = labelled_node Footnote (attr Mark (Said label) ∷ attr OwnName (Said (name_in label)) ∷ []) label line
+named_node label line = labelled_node Footnote (attr Mark (TextValue label) ∷ attr OwnName (TextValue (name_in label)) ∷ []) label line
 
 -- `#` alone, or with a name
 abbrev pub numbered_attrs : List ℕ → List ℕ → List Attr
 numbered_attrs label name =
     if is_blank name
-    then attr Auto (Number 1) ∷ attr Mark (Said label) ∷ []
-    else attr Auto (Number 1) ∷ attr Mark (Said label) ∷ attr OwnName (Said (encode_utf8_all (name_of name))) ∷ []
+    then attr Auto (Number 1) ∷ attr Mark (TextValue label) ∷ []
+    else attr Auto (Number 1) ∷ attr Mark (TextValue label) ∷ attr OwnName (TextValue (encode_utf8_all (name_of name))) ∷ []
 
 -- a footnote that gets its number; it shows no label yet
 abbrev pub numbered_node : List ℕ → ℕ → Node
@@ -134,7 +134,7 @@ numbered_node label line = labelled_node Footnote (numbered_attrs label (drop 1 
 
 -- `*`
 abbrev pub symbol_node : List ℕ → ℕ → Node
-symbol_node label line = labelled_node Footnote (attr Auto (Said (codes "*")) ∷ attr Mark (Said label) ∷ []) [] line
+symbol_node label line = labelled_node Footnote (attr Auto (TextValue (codes "*")) ∷ attr Mark (TextValue label) ∷ []) [] line
 
 -- a footnote by its label, which `#` or `*` may begin
 abbrev pub footnote_node : List ℕ → ℕ → Node
@@ -145,13 +145,13 @@ footnote_node label line =
 
 -- a citation, named by its label, which it shows
 abbrev pub citation_node : List ℕ → ℕ → Node
-citation_node label line = labelled_node Citation (attr OwnName (Said (name_in label)) ∷ []) label line
+citation_node label line = labelled_node Citation (attr OwnName (TextValue (name_in label)) ∷ []) label line
 
 -- ---- substitutions
 
 -- a substitution definition by its name, still without content
 abbrev pub substitution_definition_node : List ℕ → ℕ → Node
-substitution_definition_node name line = Element SubstitutionDefinition (attr OwnName (Said name) ∷ []) bare line
+substitution_definition_node name line = Element SubstitutionDefinition (attr OwnName (TextValue name) ∷ []) bare line
 
 -- ---- tables
 

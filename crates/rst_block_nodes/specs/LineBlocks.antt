@@ -44,9 +44,9 @@ with_deeper l (level_line m ∷ parts) = deeper_lines (l ∷ []) ∷ level_line 
 with_deeper l (deeper_lines ms ∷ parts) = deeper_lines (l ∷ ms) ∷ parts
 
 -- the parts of lines of which this is the least indentation
-abbrev pub parts_of : ℕ → List IndentedLine → List LinePart
-parts_of least [] = []
-parts_of least (l ∷ ls) = if nat_lt least l.indent then with_deeper l (parts_of least ls) else level_line l ∷ parts_of least ls
+abbrev pub line_parts : ℕ → List IndentedLine → List LinePart
+line_parts least [] = []
+line_parts least (l ∷ ls) = if nat_lt least l.indent then with_deeper l (line_parts least ls) else level_line l ∷ line_parts least ls
 
 -- what a part gives: a line its element and the messages on its text, deeper lines a line block inside
 abbrev pub part_node : (List IndentedLine → Numbered (Node × List Node)) → LinePart → Numbered (Node × List Node)
@@ -58,7 +58,7 @@ part_node inner (deeper_lines ls) = inner ls
 abbrev pub line_block : ℕ → List IndentedLine → Numbered (Node × List Node)
 line_block zero ls = λ number. Err (first_line ls)
 line_block (suc levels) ls = do
-  made ← each (part_node (line_block levels)) (parts_of (least_indent ls) ls)
+  made ← each (part_node (line_block levels)) (line_parts (least_indent ls) ls)
   just (element_of LineBlock [] (map (λ (m : Node × List Node). m.0) made) (first_line ls), flat_map (λ (m : Node × List Node). m.1) made)
 
 -- how many lines at the front are deeper
@@ -84,7 +84,7 @@ indented bars = indented_from 0 bars
 
 -- What is made where this is read: its element and its messages, and then the next message has this number; or it is nested too deeply; or memory
 -- ran out.
-abbrev pub Makes : Result ((Node × List Node) × ℕ) ℕ → ℕ → Result Texted LineBlockFault → Type 0
-Makes read next (Ok made) = read ≡ Ok ((made.element, made.notes.items), next)
-Makes read next (Err (TooDeep line)) = read ≡ Err line
-Makes read next (Err NoMemory) = Unit {0}
+abbrev pub MakesLineBlock : Result ((Node × List Node) × ℕ) ℕ → ℕ → Result Texted LineBlockFault → Type 0
+MakesLineBlock read next (Ok made) = read ≡ Ok ((made.element, made.notes.items), next)
+MakesLineBlock read next (Err (TooDeep line)) = read ≡ Err line
+MakesLineBlock read next (Err NoMemory) = Unit {0}

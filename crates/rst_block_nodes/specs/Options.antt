@@ -5,14 +5,14 @@ use Rattle.rst_tree.specs.Attributes.{attr, value_of, with_attr, without_key}
 use Rattle.rst_tree.specs.Forest.{bare}
 use Rattle.rst_tree.specs.declared.attrs.Attr.{Attr}
 use Rattle.rst_tree.specs.declared.attrs.Value.{Value}
-use Rattle.rst_tree.specs.declared.attrs.Value.TheVariants.{Text as Said, Number, List as Listed}
+use Rattle.rst_tree.specs.declared.attrs.Value.TheVariants.{Text as TextValue, Number, List as Listed}
 use Rattle.rst_tree.specs.declared.key.Key.{Key}
 use Rattle.rst_tree.specs.declared.key.Key.TheVariants.{Align, Alt, Classes, Height, Name, OwnName, Rawsource, Refname, Refuri, Scale, Uri, Width}
 use Rattle.rst_tree.specs.declared.node.Node.{Node}
 use Rattle.rst_tree.specs.declared.node.Node.TheVariants.{Element}
 use Rattle.rst_tree.specs.declared.tag.Tag.{Tag}
 use Rattle.rst_tree.specs.declared.tag.Tag.TheVariants.{Admonition as AdmonitionTag, Attention as AttentionTag, Caution as CautionTag, Danger as DangerTag, Error as ErrorTag, Figure as FigureTag, Hint as HintTag, Image as ImageTag, Important as ImportantTag, LiteralBlock, Note as NoteTag, Paragraph, Reference, Tip as TipTag, Topic as TopicTag, Warning as WarningTag}
-use Rattle.rst_markup_directives.specs.Options.{Choice}
+use Rattle.rst_markup_directives.specs.Options.{OptionSetting}
 use Rattle.rst_markup_directives.specs.Target.{Destination, named, located}
 use Rattle.rst_markup_directives.specs.Value.{Meaning, plain, measured, numbered, placed, classed, linked, called}
 use Rattle.rst_markup_directives.specs.declared.measure.Alignment.{Alignment}
@@ -69,13 +69,13 @@ alignment_name Right = codes "right"
 
 -- the meaning of an option's value as the value of an attribute
 abbrev pub value_meant : Meaning → Value
-value_meant (plain text) = Said (encode_utf8_all text)
-value_meant (measured text) = Said (encode_utf8_all text)
+value_meant (plain text) = TextValue (encode_utf8_all text)
+value_meant (measured text) = TextValue (encode_utf8_all text)
 value_meant (numbered n) = Number n
-value_meant (placed alignment) = Said (alignment_name alignment)
+value_meant (placed alignment) = TextValue (alignment_name alignment)
 value_meant (classed ids) = Listed (map encode_utf8_all ids)
-value_meant (linked to source) = Said (encode_utf8_all source)
-value_meant (called name) = Said (encode_utf8_all name)
+value_meant (linked to source) = TextValue (encode_utf8_all source)
+value_meant (called name) = TextValue (encode_utf8_all name)
 
 -- attributes with a value, if there is a key for it
 abbrev pub with_value_at : Option Key → Value → List Attr → List Attr
@@ -83,14 +83,14 @@ with_value_at (Some key) value attrs = with_attr key value attrs
 with_value_at None value attrs = attrs
 
 -- attributes with those that the choices of options give, one after the other
-abbrev pub with_choices : Holder → List Choice → List Attr → List Attr
+abbrev pub with_choices : Holder → List OptionSetting → List Attr → List Attr
 with_choices holder [] attrs = attrs
 with_choices holder (ch ∷ more) attrs = with_choices holder more (with_value_at (option_key holder ch.0) (value_meant ch.1) attrs)
 
 -- ---- figures, admonitions and topics
 
 -- a figure, still without content
-abbrev pub figure_element : List Choice → ℕ → Node
+abbrev pub figure_element : List OptionSetting → ℕ → Node
 figure_element choices line = Element FigureTag (with_choices Figure choices []) bare line
 
 -- the element that a directive makes
@@ -112,7 +112,7 @@ tag_of Replace = Paragraph
 tag_of Code = LiteralBlock
 
 -- the element of a directive with a body, still without content
-abbrev pub directive_element : Directive → List Choice → ℕ → Node
+abbrev pub directive_element : Directive → List OptionSetting → ℕ → Node
 directive_element name choices line = Element (tag_of name) (with_choices Body choices []) bare line
 
 -- ---- program code
@@ -132,14 +132,14 @@ abbrev pub code_attrs : Option (List ℕ) → List Attr → List Attr
 code_attrs language attrs = with_attr Classes (code_classes language (value_of Classes attrs)) (without_key Classes attrs)
 
 -- program code, in a language if one is given: a literal block
-abbrev pub code_element : Option (List ℕ) → List Choice → List ℕ → ℕ → Node
+abbrev pub code_element : Option (List ℕ) → List OptionSetting → List ℕ → ℕ → Node
 code_element language choices text line = element_of LiteralBlock (code_attrs language (with_choices Body choices preserving)) (text_nodes text) line
 
 -- ---- images
 
 -- attributes with a text instead of the image, if there is one
 abbrev pub with_alt : Option (List ℕ) → List Attr → List Attr
-with_alt (Some text) attrs = with_attr Alt (Said text) attrs
+with_alt (Some text) attrs = with_attr Alt (TextValue text) attrs
 with_alt None attrs = attrs
 
 -- what an image is, in a figure or not, to its options
@@ -148,15 +148,15 @@ image_holder true = FigureImage
 image_holder false = Image
 
 -- the image by itself, with an alternate text unless the choices have one
-abbrev pub image_node : List ℕ → List Choice → ℕ → Bool → Option (List ℕ) → Node
+abbrev pub image_node : List ℕ → List OptionSetting → ℕ → Bool → Option (List ℕ) → Node
 image_node uri choices line in_figure alt =
-    Element ImageTag (with_choices (image_holder in_figure) choices (with_alt alt (attr Uri (Said uri) ∷ []))) bare line
+    Element ImageTag (with_choices (image_holder in_figure) choices (with_alt alt (attr Uri (TextValue uri) ∷ []))) bare line
 
 -- the attributes of a reference to a name, or to a URI, which also has its source
 abbrev pub link_attrs : Destination → List ℕ → List Attr
 link_attrs (named name) source =
-    attr Name (Said (encode_utf8_all (normalized_white name))) ∷ attr Rawsource (Said source) ∷ attr Refname (Said (encode_utf8_all (name_of name))) ∷ []
-link_attrs (located uri) source = attr Rawsource (Said source) ∷ attr Refuri (Said (encode_utf8_all uri)) ∷ []
+    attr Name (TextValue (encode_utf8_all (normalized_white name))) ∷ attr Rawsource (TextValue source) ∷ attr Refname (TextValue (encode_utf8_all (name_of name))) ∷ []
+link_attrs (located uri) source = attr Rawsource (TextValue source) ∷ attr Refuri (TextValue (encode_utf8_all uri)) ∷ []
 
 -- the reference round an image
 abbrev pub linked_node : Node → Destination → List ℕ → ℕ → Node
@@ -173,7 +173,7 @@ first_link (Some link) more = Some link
 first_link None more = more
 
 -- what the first `target` among choices refers to
-abbrev pub link_chosen : List Choice → Option (Destination × List ℕ)
+abbrev pub link_chosen : List OptionSetting → Option (Destination × List ℕ)
 link_chosen [] = None
 link_chosen (ch ∷ more) = first_link (link_meant ch.1) (link_chosen more)
 
@@ -183,5 +183,5 @@ linked_by (Some (to, source)) image line = linked_node image to source line
 linked_by None image line = image
 
 -- an image, in a figure or not, with an alternate text unless the choices have one; it is in a reference if they have a `target`
-abbrev pub image_element : List ℕ → List Choice → ℕ → Bool → Option (List ℕ) → Node
+abbrev pub image_element : List ℕ → List OptionSetting → ℕ → Bool → Option (List ℕ) → Node
 image_element uri choices line in_figure alt = linked_by (link_chosen choices) (image_node uri choices line in_figure alt) line

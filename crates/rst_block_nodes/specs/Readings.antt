@@ -5,18 +5,18 @@ use Rattle.rst_tree.specs.Sends.{counted_on}
 use Rattle.rst_tree.specs.declared.node.Node.{Node}
 use Rattle.rst_tree.specs.declared.tag.Tag.{Tag}
 use Rattle.rst_inline_scan.specs.Reading.{pieces_of}
-use Rattle.rst_inline.specs.Results.{nodes_behind, notes_of}
+use Rattle.rst_inline.specs.Results.{nodes_from, notes_of}
 use Rattle.rst_block_nodes.specs.declared.terms.Heads.{Heads}
 use Rattle.rst_block_nodes.specs.declared.texted.Texted.{Texted}
 use Rattle.rst_block_nodes.specs.Elements.{element_of}
 use Rattle.rst_block_nodes.specs.Numbered.{Numbered}
 use Rattle.rst_block_nodes.specs.Results.{HoldsText, HeadsText}
-use Rattle.rst_block_nodes.specs.Terms.{texts_of, groups_of, heads_of}
+use Rattle.rst_block_nodes.specs.Terms.{piece_texts, groups_of, heads_of}
 use Rattle.rst_block_nodes.specs.Texts.{counting, messages_from}
 
 -- the nodes of a text, where the messages on it are numbered from `first` on
 abbrev pub read_nodes : List ℕ → ℕ → ℕ → List Node
-read_nodes t line first = nodes_behind t line first (pieces_of t)
+read_nodes t line first = nodes_from t line first (pieces_of t)
 
 -- the messages on a text, which are numbered from `first` on and have the number of this line
 abbrev pub read_notes : List ℕ → ℕ → ℕ → List Node
@@ -28,7 +28,7 @@ texted_node tag line t text_line first = element_of tag (counting (length (read_
 
 -- the elements of a term and of its classifiers, which are the parts of one text
 abbrev pub term_nodes : List ℕ → ℕ → ℕ → List Node
-term_nodes t line first = heads_of (length (read_notes t line first)) line (groups_of (texts_of t (pieces_of t)) (read_nodes t line first))
+term_nodes t line first = heads_of (length (read_notes t line first)) line (groups_of (piece_texts t (pieces_of t)) (read_nodes t line first))
 
 -- an element of this line that holds a text, whose first line is `text_line`, and the messages on the text, which have that line's number
 abbrev pub texted : Tag → ℕ → List ℕ → ℕ → Numbered (Node × List Node)

@@ -77,14 +77,14 @@ is_outside level (loose n) = false
 is_outside level (section_at own n) = nat_le own level
 
 -- what is in a section of a level: all up to the next section of its level or a higher one
-unfoldable pub inside : ℕ → List Member → List Node
-inside level [] = []
-inside level (m ∷ ms) = if is_outside level m then [] else node_of m ∷ inside level ms
+unfoldable pub inside_section : ℕ → List Member → List Node
+inside_section level [] = []
+inside_section level (m ∷ ms) = if is_outside level m then [] else node_of m ∷ inside_section level ms
 
 -- what comes after it
-unfoldable pub behind : ℕ → List Member → List Member
-behind level [] = []
-behind level (m ∷ ms) = if is_outside level m then m ∷ ms else behind level ms
+unfoldable pub after_section : ℕ → List Member → List Member
+after_section level [] = []
+after_section level (m ∷ ms) = if is_outside level m then m ∷ ms else after_section level ms
 
 -- an element with more nodes in it; a text stays as it is
 abbrev pub filled : Node → List Node → Node
@@ -103,7 +103,7 @@ section_of t content = filled (section_node t.element (length (title_notes t)) t
 unfoldable pub members : List Entry → List Member
 members [] = []
 members (alone n ∷ es) = loose n ∷ members es
-members (under level t ∷ es) = section_at level (section_of t (inside level (members es))) ∷ behind level (members es)
+members (under level t ∷ es) = section_at level (section_of t (inside_section level (members es))) ∷ after_section level (members es)
 
 -- the document of some items
 abbrev pub document_of : List Item → Node

@@ -9,7 +9,7 @@ use Rattle.rst_tree.specs.Attributes.{attr, value_of, with_attr}
 use Rattle.rst_tree.specs.Forest.{Forest, bare}
 use Rattle.rst_tree.specs.Nodes.{nodes_of}
 use Rattle.rst_tree.specs.declared.attrs.Attr.{Attr}
-use Rattle.rst_tree.specs.declared.attrs.Value.TheVariants.{Text as Said, Number}
+use Rattle.rst_tree.specs.declared.attrs.Value.TheVariants.{Text as TextValue, Number}
 use Rattle.rst_tree.specs.declared.key.Key.TheVariants.{Anonymous, OwnName, Refname, Refuri}
 use Rattle.rst_tree.specs.declared.node.Node.{Node}
 use Rattle.rst_tree.specs.declared.node.Node.TheVariants.{Element, Text as Words}
@@ -22,13 +22,13 @@ use Rattle.rst_block_nodes.specs.Values.{name_in, unescaped}
 
 -- the name, as it is written, if there is one
 abbrev pub name_attrs : Option (List ℕ) → List Attr
-name_attrs (Some written) = attr OwnName (Said (name_in (unescaped written))) ∷ []
+name_attrs (Some written) = attr OwnName (TextValue (name_in (unescaped written))) ∷ []
 name_attrs None = attr Anonymous (Number 1) ∷ []
 
 -- with what the target leads to
 abbrev pub leading_attrs : List Attr → Option Destination → List Attr
-leading_attrs attrs (Some (named name)) = with_attr Refname (Said (encode_utf8_all (name_of name))) attrs
-leading_attrs attrs (Some (located uri)) = with_attr Refuri (Said (encode_utf8_all uri)) attrs
+leading_attrs attrs (Some (named name)) = with_attr Refname (TextValue (encode_utf8_all (name_of name))) attrs
+leading_attrs attrs (Some (located uri)) = with_attr Refuri (TextValue (encode_utf8_all uri)) attrs
 leading_attrs attrs None = attrs
 
 -- the target of a name, or an anonymous one, with what its text leads to

@@ -24,5 +24,5 @@ abbrev pub identifier : List ℕ → List ℕ
 identifier text = encode_utf8_all (names.id_of (chars text))
 
 -- a value that lists texts
-abbrev pub listed : {A : Type 0} → List (String A) → Value
-listed texts = Listed (map string_bytes texts)
+abbrev pub list_of_texts : {A : Type 0} → List (String A) → Value
+list_of_texts texts = Listed (map string_bytes texts)

@@ -7,7 +7,7 @@ use Rattle.std.specs.List.{flat_map}
 use Rattle.rst_text.specs.Written.{written}
 use Rattle.rst_tree.specs.Forest.{Forest, bare, element, words}
 use Rattle.rst_tree.specs.Nodes.{forest_of}
-use Rattle.rst_tree.specs.Print.{Line, attribute_opening, printed, text_lines, value_text}
+use Rattle.rst_tree.specs.Print.{PrintedLine, attribute_opening, printed, text_lines, value_text}
 use Rattle.rst_tree.specs.TagNames.{tag_name}
 use Rattle.rst_tree.specs.declared.attrs.Attr.{Attr}
 use Rattle.rst_tree.specs.declared.node.Node.{Node}
@@ -22,7 +22,7 @@ abbrev pub tag_and_line : Tag → List Attr → ℕ → List ℕ
 tag_and_line tag attrs line = codes "<" ++ tag_name tag ++ flat_map any_attr attrs ++ codes "> " ++ decimal line
 
 -- the lines of nodes at a level
-abbrev pub whole_at : ℕ → Forest → List Line
+abbrev pub whole_at : ℕ → Forest → List PrintedLine
 whole_at n bare = []
 whole_at n (element t a c l more) = (n, tag_and_line t a l) ∷ (whole_at (n + 1) c ++ whole_at n more)
 whole_at n (words t more) = map (λ l. (n, l)) (text_lines t) ++ whole_at n more
@@ -36,6 +36,6 @@ abbrev pub Says : List Node → List String → Type 0
 Says nodes tree = whole nodes ≡ encode_utf8_all (written tree)
 
 -- an element that was read, with the messages on its text; nothing where blocks are nested too deeply
-abbrev pub read_nodes : Result ((Node × List Node) × ℕ) ℕ → List Node
-read_nodes (Ok ((node, notes), number)) = node ∷ notes
-read_nodes (Err line) = []
+abbrev pub element_and_notes : Result ((Node × List Node) × ℕ) ℕ → List Node
+element_and_notes (Ok ((node, notes), number)) = node ∷ notes
+element_and_notes (Err line) = []

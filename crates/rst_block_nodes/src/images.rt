@@ -7,7 +7,7 @@ ghost use Rattle.rst_block_nodes.specs.Options.{image_element, link_chosen, link
 
 use super::nodes::element_of;
 use super::settings::{Holder, set_options};
-use super::values::{name_said, normalized, said};
+use super::values::{name_value, normalized, text_value};
 use rst_markup_directives::{OptionValue, Setting, Target};
 use rst_tree::{Attrs, Key, Node, Result, Tag, Text, Value};
 use std::alloc::Global;
@@ -27,9 +27,9 @@ pub fn image(
     ensures { Gives (λ node. node ≡ image_element uri.now (choices_in options.now) line in_figure (option_map (λ text. text.now) alt.entry)) result }
 {
     let mut attrs = Attrs::new(alloc);
-    attrs.set(Key::Uri, said(alloc, uri)?)?;
+    attrs.set(Key::Uri, text_value(alloc, uri)?)?;
     if let Some(text) = alt {
-        attrs.set(Key::Alt, said(alloc, text)?)?;
+        attrs.set(Key::Alt, text_value(alloc, text)?)?;
     }
     let holder = if in_figure {
         Holder::FigureImage
@@ -62,13 +62,13 @@ fn linked(alloc: Global, image: Node, to: &Target, source: &str, line: usize) ->
     ensures { Gives (λ node. node ≡ linked_node image (destination_of to.now) source.now line) result }
 {
     let mut attrs = Attrs::new(alloc);
-    attrs.set(Key::Rawsource, said(alloc, source)?)?;
+    attrs.set(Key::Rawsource, text_value(alloc, source)?)?;
     match to {
-        Target::Uri(uri) => attrs.set(Key::Refuri, said(alloc, uri.as_str())?)?,
+        Target::Uri(uri) => attrs.set(Key::Refuri, text_value(alloc, uri.as_str())?)?,
         Target::Name(name) => {
-            let shown = normalized(alloc, name.as_str())?;
-            attrs.set(Key::Name, Value::Text(Text::new(shown)))?;
-            attrs.set(Key::Refname, name_said(alloc, name.as_str())?)?;
+            let normalized_name = normalized(alloc, name.as_str())?;
+            attrs.set(Key::Name, Value::Text(Text::new(normalized_name)))?;
+            attrs.set(Key::Refname, name_value(alloc, name.as_str())?)?;
         }
     }
     let mut nodes = Vec::new(alloc);

@@ -4,7 +4,7 @@ ghost use Rattle.rst_tree.specs.Faults.{Gives};
 ghost use Rattle.rst_block_nodes.specs.Elements.{labelled_node, footnote_node, citation_node};
 
 use super::nodes::{element_of, plain};
-use super::values::{name_said, said};
+use super::values::{name_value, text_value};
 use rst_markup_lines::{begins_with, is_blank};
 use rst_text::skip;
 use rst_tree::{Attrs, Key, Node, Result, Tag, Value};
@@ -21,19 +21,19 @@ pub fn footnote(alloc: Global, label: &str, line: usize) -> Result<Node>
     if begins_with('#', label) {
         let name = skip(label, 1);
         attrs.set(Key::Auto, Value::Number(1))?;
-        attrs.set(Key::Mark, said(alloc, label)?)?;
+        attrs.set(Key::Mark, text_value(alloc, label)?)?;
         if !is_blank(name) {
-            attrs.set(Key::OwnName, name_said(alloc, name)?)?;
+            attrs.set(Key::OwnName, name_value(alloc, name)?)?;
         }
         return labelled(alloc, Tag::Footnote, attrs, "", line);
     }
     if begins_with('*', label) {
-        attrs.set(Key::Auto, said(alloc, "*")?)?;
-        attrs.set(Key::Mark, said(alloc, label)?)?;
+        attrs.set(Key::Auto, text_value(alloc, "*")?)?;
+        attrs.set(Key::Mark, text_value(alloc, label)?)?;
         return labelled(alloc, Tag::Footnote, attrs, "", line);
     }
-    attrs.set(Key::Mark, said(alloc, label)?)?;
-    attrs.set(Key::OwnName, name_said(alloc, label)?)?;
+    attrs.set(Key::Mark, text_value(alloc, label)?)?;
+    attrs.set(Key::OwnName, name_value(alloc, label)?)?;
     labelled(alloc, Tag::Footnote, attrs, label, line)
 }
 
@@ -43,15 +43,15 @@ pub fn footnote(alloc: Global, label: &str, line: usize) -> Result<Node>
 pub fn citation(alloc: Global, label: &str, line: usize) -> Result<Node>
     ensures { Gives (λ node. node ≡ citation_node label.now line) result }
 {
-    let attrs = Attrs::lone(alloc, Key::OwnName, name_said(alloc, label)?)?;
+    let attrs = Attrs::lone(alloc, Key::OwnName, name_value(alloc, label)?)?;
     labelled(alloc, Tag::Citation, attrs, label, line)
 }
 
 /// An element that begins with a label that shows a text.
-fn labelled(alloc: Global, tag: Tag, attrs: Attrs, shown: &str, line: usize) -> Result<Node>
-    ensures { Gives (λ node. node ≡ labelled_node tag attrs shown.now line) result }
+fn labelled(alloc: Global, tag: Tag, attrs: Attrs, label_text: &str, line: usize) -> Result<Node>
+    ensures { Gives (λ node. node ≡ labelled_node tag attrs label_text.now line) result }
 {
     let mut nodes = Vec::new(alloc);
-    nodes.push(plain(alloc, Tag::Label, line, shown)?)?;
+    nodes.push(plain(alloc, Tag::Label, line, label_text)?)?;
     Ok(element_of(tag, attrs, nodes, line))
 }

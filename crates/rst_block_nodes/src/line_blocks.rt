@@ -1,7 +1,7 @@
 //! Line blocks.
 ghost use Rattle.std.specs.Prelude.{◌≡◌, ◌≤◌, ◌-◌, suc, length, Ok};
 ghost use Rattle.rst_tree.specs.declared.tag.Tag.TheVariants.{Line};
-ghost use Rattle.rst_block_nodes.specs.LineBlocks.{Makes, line_block, indented, first_line, least_indent, deeper_len};
+ghost use Rattle.rst_block_nodes.specs.LineBlocks.{MakesLineBlock, line_block, indented, first_line, least_indent, deeper_len};
 ghost use Rattle.rst_block_nodes.specs.declared.line_blocks.LineBlockFault.TheVariants.{NoMemory};
 
 use super::nodes::element_of;
@@ -118,7 +118,7 @@ pub fn line_block(
     deepest: usize,
     numbers: &mut Numbers,
 ) -> Result<Texted, LineBlockFault>
-    ensures { Makes (line_block (suc deepest - level) (indented lines.items) numbers.old) numbers.new result }
+    ensures { MakesLineBlock (line_block (suc deepest - level) (indented lines.items) numbers.old) numbers.new result }
 {
     let mut texts = Vec::new(alloc);
     let mut last = 0;
@@ -178,7 +178,7 @@ fn block_of(
     levels: usize,
     numbers: &mut Numbers,
 ) -> Result<Texted, LineBlockFault>
-    ensures { Makes (line_block (suc levels) lines.now numbers.old) numbers.new result }
+    ensures { MakesLineBlock (line_block (suc levels) lines.now numbers.old) numbers.new result }
 {
     // The number fits a `u64`: the proof needs it.
     let _given = numbers.given();

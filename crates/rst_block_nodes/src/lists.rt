@@ -6,7 +6,7 @@ ghost use Rattle.rst_block_nodes.specs.Texts.{message_node};
 
 use super::messages::message;
 use super::nodes::{element_of, plain, text_nodes};
-use super::values::said;
+use super::values::text_value;
 use itoa::Buffer;
 use rst_markup_lines::{Delimiter, Enumerator, Format, Sequence, first_reading};
 use rst_tree::{Attrs, Key, Level, Node, Result, Tag, Text, Value};
@@ -45,9 +45,9 @@ pub fn enumerated_list(alloc: Global, enumerator: Enumerator, line: usize) -> Re
         Format::Period => ("", "."),
     };
     let mut attrs = Attrs::new(alloc);
-    attrs.set(Key::Enumtype, said(alloc, sequence)?)?;
-    attrs.set(Key::Prefix, said(alloc, prefix)?)?;
-    attrs.set(Key::Suffix, said(alloc, suffix)?)?;
+    attrs.set(Key::Enumtype, text_value(alloc, sequence)?)?;
+    attrs.set(Key::Prefix, text_value(alloc, prefix)?)?;
+    attrs.set(Key::Suffix, text_value(alloc, suffix)?)?;
     if reading.ordinal != 1 {
         attrs.set(Key::Start, Value::Number(reading.ordinal))?;
     }
@@ -89,9 +89,9 @@ pub fn option(
             Delimiter::Space => " ",
             Delimiter::Equals => "=",
         };
-        let attrs = Attrs::lone(alloc, Key::Delimiter, said(alloc, delimiter)?)?;
-        let shown = text_nodes(alloc, text)?;
-        nodes.push(element_of(Tag::OptionArgument, attrs, shown, line))?;
+        let attrs = Attrs::lone(alloc, Key::Delimiter, text_value(alloc, delimiter)?)?;
+        let content = text_nodes(alloc, text)?;
+        nodes.push(element_of(Tag::OptionArgument, attrs, content, line))?;
     }
     Ok(element_of(Tag::Option, Attrs::new(alloc), nodes, line))
 }

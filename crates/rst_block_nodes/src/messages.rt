@@ -17,11 +17,11 @@ pub fn message(
     text: &str,
     block: Option<&str>,
 ) -> Result<Node>
-    ensures { Gives (λ node. node ≡ message_node level line text.now (option_map (λ shown. shown.now) block.entry)) result }
+    ensures { Gives (λ node. node ≡ message_node level line text.now (option_map (λ lines. lines.now) block.entry)) result }
 {
     let text = Text::from_str(alloc, text)?;
     let block = match block {
-        Some(shown) => Some(Text::from_str(alloc, shown)?),
+        Some(lines) => Some(Text::from_str(alloc, lines)?),
         None => None,
     };
     let note = Note {

@@ -3,7 +3,7 @@ ghost use Rattle.std.specs.Prelude.{◌≡◌};
 ghost use Rattle.rst_tree.specs.Faults.{Gives};
 ghost use Rattle.rst_block_nodes.specs.Elements.{element_of, text_nodes, plain_node, preserving, preserved_node};
 
-use super::values::said;
+use super::values::text_value;
 use rst_tree::{Attrs, Children, Key, Node, Result, Tag};
 use std::alloc::Global;
 
@@ -44,7 +44,7 @@ pub fn plain(alloc: Global, tag: Tag, line: usize, text: &str) -> Result<Node>
 pub(crate) fn preserving(alloc: Global) -> Result<Attrs>
     ensures { Gives (λ attrs. attrs ≡ preserving) result }
 {
-    Attrs::lone(alloc, Key::XmlSpace, said(alloc, "preserve")?)
+    Attrs::lone(alloc, Key::XmlSpace, text_value(alloc, "preserve")?)
 }
 
 /// A literal block, a doctest block or a comment (Document Tree, 'literal_block'): the same as [`plain`], with the

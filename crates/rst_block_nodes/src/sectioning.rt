@@ -3,14 +3,14 @@ ghost use Rattle.std.specs.Prelude.{◌≡◌, ◌+◌, ◌≤◌, List, ◌∷�
 ghost use Rattle.rst_tree.specs.Faults.{Gives};
 ghost use Rattle.rst_block_nodes.specs.Sections.{Item, titled, Member, document_of, level_of, title_of, items_of};
 ghost use Rattle.rst_block_nodes.specs.Texts.{section_node};
-ghost use Rattle.rst_block_nodes.specs.OpenSections.{goes_on, closed_with, StopsAt};
+ghost use Rattle.rst_block_nodes.specs.OpenSections.{document_with_items, closed_with, StopsAt};
 
 use super::contents::completed;
 use super::heading::{Heading, Style};
 use super::messages::message;
 use super::nodes::element_of;
 use super::texted::counting;
-use super::values::name_said;
+use super::values::name_value;
 use rst_tree::{Key, Level as Gravity, Node, Result, Tag};
 use rst_tree_index::{Marked, MarkedNodes};
 use std::alloc::Global;
@@ -61,7 +61,7 @@ struct Sections {
 impl Sections {
     /// Meets a title: begins a new section, or puts the message on a title whose level is inconsistent.
     fn title(&mut self, alloc: Global, heading: Heading) -> Result<()>
-        ensures { Gives (λ _. (items : List Item) → goes_on self.new items ≡ goes_on self.old (titled (title_of heading) ∷ items)) result }
+        ensures { Gives (λ _. (items : List Item) → document_with_items self.new items ≡ document_with_items self.old (titled (title_of heading) ∷ items)) result }
     {
         let level = level_of(heading.style, self.styles.as_slice());
         // The level of the innermost section is the number of those round it.
@@ -129,7 +129,7 @@ fn section(alloc: Global, title: Node, notes: usize, line: usize) -> Result<Node
 {
     let text = title.text_of(alloc)?;
     let mut attrs = counting(alloc, notes)?;
-    attrs.set(Key::OwnName, name_said(alloc, text.as_str())?)?;
+    attrs.set(Key::OwnName, name_value(alloc, text.as_str())?)?;
     let mut nodes = Vec::new(alloc);
     nodes.push(title)?;
     Ok(element_of(Tag::Section, attrs, nodes, line))

@@ -5,7 +5,7 @@ ghost use Rattle.rst_markup_directives.specs.Options.{choices_in};
 ghost use Rattle.rst_markup_directives.specs.Value.{meaning_of};
 ghost use Rattle.rst_block_nodes.specs.Options.{with_choices, value_meant};
 
-use super::values::{listed, said};
+use super::values::{list_of_texts, text_value};
 use rst_markup_directives::{Alignment, OptionName, OptionValue, Setting};
 use rst_tree::{Attrs, Key, Result, Value};
 use std::alloc::Global;
@@ -56,20 +56,20 @@ pub(crate) fn set_options(
 /// The value of an option as the value of an attribute: of a target, the text that it is written with.
 #[tactic(auto, using(rst_text::proofs::TextLemmas::bytes_encoded, crate::proofs::TextLemmas::listed_bytes))]
 fn value_of(alloc: Global, value: &OptionValue) -> Result<Value>
-    ensures { Gives (λ said. said ≡ value_meant (meaning_of value.now)) result }
+    ensures { Gives (λ meant. meant ≡ value_meant (meaning_of value.now)) result }
 {
     match value {
-        OptionValue::Text(text) => said(alloc, text.as_str()),
-        OptionValue::Measure(measure) => said(alloc, measure.as_str()),
+        OptionValue::Text(text) => text_value(alloc, text.as_str()),
+        OptionValue::Measure(measure) => text_value(alloc, measure.as_str()),
         OptionValue::Number(number) => Ok(Value::Number(*number)),
-        OptionValue::Place(Alignment::Top) => said(alloc, "top"),
-        OptionValue::Place(Alignment::Middle) => said(alloc, "middle"),
-        OptionValue::Place(Alignment::Bottom) => said(alloc, "bottom"),
-        OptionValue::Place(Alignment::Left) => said(alloc, "left"),
-        OptionValue::Place(Alignment::Center) => said(alloc, "center"),
-        OptionValue::Place(Alignment::Right) => said(alloc, "right"),
-        OptionValue::Classes(classes) => listed(alloc, classes),
-        OptionValue::Link { source, .. } => said(alloc, source.as_str()),
-        OptionValue::Name(name) => said(alloc, name.as_str()),
+        OptionValue::Place(Alignment::Top) => text_value(alloc, "top"),
+        OptionValue::Place(Alignment::Middle) => text_value(alloc, "middle"),
+        OptionValue::Place(Alignment::Bottom) => text_value(alloc, "bottom"),
+        OptionValue::Place(Alignment::Left) => text_value(alloc, "left"),
+        OptionValue::Place(Alignment::Center) => text_value(alloc, "center"),
+        OptionValue::Place(Alignment::Right) => text_value(alloc, "right"),
+        OptionValue::Classes(classes) => list_of_texts(alloc, classes),
+        OptionValue::Link { source, .. } => text_value(alloc, source.as_str()),
+        OptionValue::Name(name) => text_value(alloc, name.as_str()),
     }
 }

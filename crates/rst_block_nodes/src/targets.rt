@@ -8,7 +8,7 @@ ghost use Rattle.rst_block_nodes.specs.Elements.{substitution_definition_node};
 ghost use Rattle.rst_block_nodes.specs.Targets.{target_node, name_attrs, leading_attrs, may_replace, may_stand, is_substitution};
 
 use super::nodes::element_of;
-use super::values::{name_said, normalized, said, unescaped};
+use super::values::{name_value, normalized, text_value, unescaped};
 use rst_markup_directives::{Target, target_value};
 use rst_tree::{Attrs, Entry, Key, Node, Result, Tag, Text, TreeFault, Value};
 use std::alloc::Global;
@@ -38,7 +38,7 @@ fn name_attr(alloc: Global, name: Option<&str>) -> Result<Entry>
         return Ok(Entry::new(Key::Anonymous, Value::Number(1)));
     };
     let name = unescaped(alloc, written)?;
-    Ok(Entry::new(Key::OwnName, name_said(alloc, name.as_str())?))
+    Ok(Entry::new(Key::OwnName, name_value(alloc, name.as_str())?))
 }
 
 /// Adds to a target's attributes what it leads to.
@@ -47,7 +47,7 @@ fn add_lead(alloc: Global, attrs: &mut Attrs, destination: Option<Target>) -> Re
     ensures { Gives (λ _. attrs.new ≡ leading_attrs attrs.old (option_map destination_of destination)) result }
 {
     match destination {
-        Some(Target::Name(name)) => attrs.set(Key::Refname, name_said(alloc, name.as_str())?),
+        Some(Target::Name(name)) => attrs.set(Key::Refname, name_value(alloc, name.as_str())?),
         Some(Target::Uri(uri)) => attrs.set(Key::Refuri, Value::Text(Text::new(uri))),
         None => Ok(()),
     }
@@ -71,7 +71,7 @@ pub fn substitution_name(alloc: Global, written: &str) -> Result<String>
 pub fn substitution_definition(alloc: Global, name: &str, line: usize) -> Result<Node>
     ensures { Gives (λ node. node ≡ substitution_definition_node name.now line) result }
 {
-    let attrs = Attrs::lone(alloc, Key::OwnName, said(alloc, name)?)?;
+    let attrs = Attrs::lone(alloc, Key::OwnName, text_value(alloc, name)?)?;
     Ok(element_of(Tag::SubstitutionDefinition, attrs, Vec::new(alloc), line))
 }
 

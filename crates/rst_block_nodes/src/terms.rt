@@ -4,7 +4,7 @@ ghost use Rattle.rst_tree.specs.Faults.{Gives};
 ghost use Rattle.rst_tree.specs.Sends.{counted_on};
 ghost use Rattle.rst_block_nodes.specs.Readings.{termed};
 ghost use Rattle.rst_block_nodes.specs.Results.{HeadsText};
-ghost use Rattle.rst_block_nodes.specs.Terms.{IsPut, groups_of, heads_behind, heads_of, texts_of, letters_from, parts_of, is_bare, is_delimiter, dark_len, spelled};
+ghost use Rattle.rst_block_nodes.specs.Terms.{IsPut, groups_of, heads_after, heads_of, piece_texts, letters_from, term_parts, is_bare, is_delimiter, dark_len, letter_bytes};
 
 use super::nodes::element_of;
 use super::numbers::Numbers;
@@ -58,7 +58,7 @@ struct Letter {
 
 /// The parts of those pieces without markup of which something is left when escapes are gone, piece after piece.
 fn plain_parts(alloc: Global, text: &[char], pieces: &[Piece]) -> Result<Vec<Vec<Text>>>
-    ensures { Gives (λ parts. map (λ texts. texts.items) parts.items ≡ texts_of text.now pieces.now) result }
+    ensures { Gives (λ parts. map (λ texts. texts.items) parts.items ≡ piece_texts text.now pieces.now) result }
 {
     let mut parts = Vec::new(alloc);
     for piece in pieces {
@@ -67,7 +67,7 @@ fn plain_parts(alloc: Global, text: &[char], pieces: &[Piece]) -> Result<Vec<Vec
         }
         let letters = letters_of(alloc, part(text, piece.from, piece.to))?;
         if !letters.is_empty() {
-            parts.push(parts_of(alloc, &letters)?)?;
+            parts.push(term_parts(alloc, &letters)?)?;
         }
     }
     Ok(parts)
@@ -98,8 +98,8 @@ fn letters_of(alloc: Global, text: &[char]) -> Result<Vec<Letter>, AllocError>
 }
 
 /// The texts before, between and after the colons with spaces on both sides, without these spaces.
-fn parts_of(alloc: Global, letters: &[Letter]) -> Result<Vec<Text>>
-    ensures { Gives (λ parts. parts.items ≡ parts_of letters.now) result }
+fn term_parts(alloc: Global, letters: &[Letter]) -> Result<Vec<Text>>
+    ensures { Gives (λ parts. parts.items ≡ term_parts letters.now) result }
 {
     let mut parts = Vec::new(alloc);
     let mut part = Vec::new(alloc);
@@ -111,13 +111,13 @@ fn parts_of(alloc: Global, letters: &[Letter]) -> Result<Vec<Text>>
         }
         skipping = is_delimiter(&part, letter, &letters[place + 1..]);
         if skipping {
-            parts.push(spelled(alloc, &part[..dark_len(&part)])?)?;
+            parts.push(letter_bytes(alloc, &part[..dark_len(&part)])?)?;
             part = Vec::new(alloc);
             continue;
         }
         part.push(letter)?;
     }
-    parts.push(spelled(alloc, &part)?)?;
+    parts.push(letter_bytes(alloc, &part)?)?;
     Ok(parts)
 }
 
@@ -130,14 +130,14 @@ fn is_bare(letter: Letter, c: char) -> bool
 
 /// Whether a letter after some and before others is a colon with a space on both sides.
 #[tactic(auto, using(crate::proofs::TermLemmas::ends_in_space_append))]
-fn is_delimiter(before: &[Letter], letter: Letter, behind: &[Letter]) -> bool
-    ensures { result ≡ is_delimiter before.now letter behind.now }
+fn is_delimiter(before: &[Letter], letter: Letter, following: &[Letter]) -> bool
+    ensures { result ≡ is_delimiter before.now letter following.now }
 {
     is_bare(letter, ':')
         && (before
             .split_last()
             .is_some_and(|(last, _)| is_bare(*last, ' '))
-            && behind.first().is_some_and(|first| is_bare(*first, ' ')))
+            && following.first().is_some_and(|first| is_bare(*first, ' ')))
 }
 
 /// How many letters come before the spaces at the end.
@@ -155,8 +155,8 @@ fn dark_len(letters: &[Letter]) -> usize
 }
 
 /// The text that letters spell.
-fn spelled(alloc: Global, letters: &[Letter]) -> Result<Text, AllocError>
-    ensures { IfOk result (λ text. text ≡ spelled letters.now) }
+fn letter_bytes(alloc: Global, letters: &[Letter]) -> Result<Text, AllocError>
+    ensures { IfOk result (λ text. text ≡ letter_bytes letters.now) }
 {
     let mut text = String::new(alloc);
     for letter in letters {
@@ -196,7 +196,7 @@ fn heads_of(
             element => heads.nodes.push(element)?,
         }
     }
-    let heads = closed(alloc, heads, notes, line)?;
+    let heads = closed_head(alloc, heads, notes, line)?;
     Ok(heads.done)
 }
 
@@ -214,7 +214,7 @@ fn with_parts(
     let mut is_first = true;
     for part in parts {
         if !is_first {
-            heads = closed(alloc, heads, notes, line)?;
+            heads = closed_head(alloc, heads, notes, line)?;
         }
         is_first = false;
         if !part.as_str().is_empty() {
@@ -226,9 +226,9 @@ fn with_parts(
 
 /// The nodes made an element: the first is the term, the others are classifiers.
 #[tactic(auto, using(crate::proofs::HeadLemmas::first_head, crate::proofs::HeadLemmas::further_head))]
-fn closed(alloc: Global, heads: Unfinished, notes: usize, line: usize) -> Result<Unfinished>
-    ensures done { Gives (λ closed. closed.done.items ≡ heads_behind notes line heads.done.items (heads.nodes.items ∷ [])) result }
-    ensures nodes { Gives (λ closed. closed.nodes.items ≡ []) result }
+fn closed_head(alloc: Global, heads: Unfinished, notes: usize, line: usize) -> Result<Unfinished>
+    ensures done { Gives (λ closed_head. closed_head.done.items ≡ heads_after notes line heads.done.items (heads.nodes.items ∷ [])) result }
+    ensures nodes { Gives (λ closed_head. closed_head.nodes.items ≡ []) result }
 {
     let Unfinished { mut done, nodes } = heads;
     if done.is_empty() {

@@ -55,7 +55,7 @@ pub fn with_text(
 }
 
 /// The messages of a text as nodes, numbered from the first on.
-#[tactic(auto, using(crate::proofs::MessageLemmas::messages_from_append, crate::proofs::MessageLemmas::number_behind_append))]
+#[tactic(auto, using(crate::proofs::MessageLemmas::messages_from_append, crate::proofs::MessageLemmas::number_after_append))]
 pub(crate) fn messages_of(alloc: Global, notes: Vec<Note>, first: u64) -> Result<Vec<Node>>
     ensures { Gives (λ messages. messages.items ≡ messages_from first notes.items) result }
 {

@@ -2,8 +2,8 @@
 ghost use Rattle.std.specs.Prelude.{◌≡◌, string_bytes};
 ghost use Rattle.std.specs.Cow.{cow_str_bytes};
 ghost use Rattle.rst_tree.specs.Faults.{Gives};
-ghost use Rattle.rst_tree.specs.declared.attrs.Value.TheVariants.{Text as Said};
-ghost use Rattle.rst_block_nodes.specs.Values.{name_in, normalized, unescaped, listed};
+ghost use Rattle.rst_tree.specs.declared.attrs.Value.TheVariants.{Text as TextValue};
+ghost use Rattle.rst_block_nodes.specs.Values.{name_in, normalized, unescaped, list_of_texts};
 
 use rst_inline::unescape;
 use rst_text::{name_of, normalized_white};
@@ -12,8 +12,8 @@ use std::alloc::Global;
 use std::borrow::CowStr;
 
 /// A value that is a text.
-pub(crate) fn said(alloc: Global, text: &str) -> Result<Value>
-    ensures { Gives (λ value. value ≡ Said text.now) result }
+pub(crate) fn text_value(alloc: Global, text: &str) -> Result<Value>
+    ensures { Gives (λ value. value ≡ TextValue text.now) result }
 {
     let text = Text::from_str(alloc, text)?;
     Ok(Value::Text(text))
@@ -21,8 +21,8 @@ pub(crate) fn said(alloc: Global, text: &str) -> Result<Value>
 
 /// A value that is the name that a text gives.
 #[tactic(auto, using(rst_text::proofs::TextLemmas::bytes_of_chars))]
-pub(crate) fn name_said(alloc: Global, text: &str) -> Result<Value>
-    ensures { Gives (λ value. value ≡ Said (name_in text.now)) result }
+pub(crate) fn name_value(alloc: Global, text: &str) -> Result<Value>
+    ensures { Gives (λ value. value ≡ TextValue (name_in text.now)) result }
 {
     let name = name_of(alloc, text).map_err(|_| TreeFault::NoMemory)?;
     Ok(Value::Text(Text::new(name)))
@@ -31,7 +31,7 @@ pub(crate) fn name_said(alloc: Global, text: &str) -> Result<Value>
 /// A text with each run of white characters as one space, and none at its ends.
 #[tactic(auto, using(rst_text::proofs::TextLemmas::bytes_of_chars))]
 pub(crate) fn normalized(alloc: Global, text: &str) -> Result<String>
-    ensures { Gives (λ shown. string_bytes shown ≡ normalized text.now) result }
+    ensures { Gives (λ plain. string_bytes plain ≡ normalized text.now) result }
 {
     normalized_white(alloc, text).map_err(|_| TreeFault::NoMemory)
 }
@@ -39,18 +39,18 @@ pub(crate) fn normalized(alloc: Global, text: &str) -> Result<String>
 /// A text without its escapes. Most texts have none, and aren't copied for them.
 #[tactic(auto, using(rst_text::proofs::TextLemmas::bytes_of_chars))]
 pub(crate) fn unescaped(alloc: Global, text: &str) -> Result<CowStr<'_, Global>>
-    ensures { Gives (λ shown. cow_str_bytes shown ≡ unescaped text.now) result }
+    ensures { Gives (λ plain. cow_str_bytes plain ≡ unescaped text.now) result }
 {
     if !text.as_bytes().contains(&b'\\') {
         return Ok(CowStr::Borrowed(text));
     }
-    let shown = unescape(alloc, text).map_err(|_| TreeFault::NoMemory)?;
-    Ok(CowStr::Owned(shown))
+    let plain = unescape(alloc, text).map_err(|_| TreeFault::NoMemory)?;
+    Ok(CowStr::Owned(plain))
 }
 
 /// A value that lists texts.
-pub(crate) fn listed(alloc: Global, texts: &[String]) -> Result<Value>
-    ensures { Gives (λ value. value ≡ listed texts.now) result }
+pub(crate) fn list_of_texts(alloc: Global, texts: &[String]) -> Result<Value>
+    ensures { Gives (λ value. value ≡ list_of_texts texts.now) result }
 {
     let mut list = Texts::new(alloc);
     for text in texts {

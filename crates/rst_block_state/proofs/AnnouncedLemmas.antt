@@ -58,12 +58,12 @@ ends_as s good h =
     sym (encodes-chars s good) ∙ ap encodes (two_last (chars s) h) ∙ encodes-append (before_colons (chars s)) (58 ∷ 58 ∷ []) ∙ ap (λ x. encodes (before_colons (chars s)) ++ x) two_bytes
 
 -- a suffix is cut off
-pub cut_off : (s front suffix : List ℕ) (r : Option (Bor (List ℕ))) (d b : Bor (List ℕ)) → s ≡ front ++ suffix
-    → MatchOption r (FindsTextSuffix suffix s None) (λ x. StripsSuffix (FindsTextSuffix suffix) s x.now) → b ≡ unwrap_or r d → b.now ≡ front
-cut_off s front suffix None d b e h is = absurd (h front e)
-cut_off s front suffix (Some x) d b e h is =
+pub cut_off : (s prefix suffix : List ℕ) (r : Option (Bor (List ℕ))) (d b : Bor (List ℕ)) → s ≡ prefix ++ suffix
+    → MatchOption r (FindsTextSuffix suffix s None) (λ x. StripsSuffix (FindsTextSuffix suffix) s x.now) → b ≡ unwrap_or r d → b.now ≡ prefix
+cut_off s prefix suffix None d b e h is = absurd (h prefix e)
+cut_off s prefix suffix (Some x) d b e h is =
     let whole : s ≡ x.now ++ suffix = h.1.1 ∙ ap (λ y. y ++ suffix) (sym h.2) in
-    ap (λ y. y.now) is ∙ append_cancel_right x.now front suffix (sym whole ∙ e)
+    ap (λ y. y.now) is ∙ append_cancel_right x.now prefix suffix (sym whole ∙ e)
 
 -- the text before both colons
 pub both_off : (s : List ℕ) (r : Option (Bor (List ℕ))) (d b : Bor (List ℕ)) → IsUtf8 s → ends_in_colons (chars s) ≡ true
@@ -78,9 +78,9 @@ pub one_off : (s : List ℕ) (r : Option (Bor (List ℕ))) (d b : Bor (List ℕ)
     → chars b.now ≡ before_colons (chars s) ++ 58 ∷ []
 one_off s r d b good e h is u =
     let t : List ℕ = before_colons (chars s) in
-    let front : s ≡ (encodes (before_colons (chars s)) ++ 58 ∷ []) ++ 58 ∷ [] = ends_as s good e ∙ sym (append_assoc (encodes t) (58 ∷ []) (58 ∷ [])) in
+    let prefix : s ≡ (encodes (before_colons (chars s)) ++ 58 ∷ []) ++ 58 ∷ [] = ends_as s good e ∙ sym (append_assoc (encodes t) (58 ∷ []) (58 ∷ [])) in
     let one : encodes (before_colons (chars s) ++ 58 ∷ []) ≡ encodes (before_colons (chars s)) ++ 58 ∷ [] = encodes-append t (58 ∷ []) ∙ ap (λ x. encodes t ++ (x ++ [])) (encode_ascii 58 (omega arith)) in
-    sym (chars_from_encodes (t ++ 58 ∷ []) b.now u (one ∙ sym (cut_off s (encodes t ++ 58 ∷ []) (58 ∷ []) r d b front h is)))
+    sym (chars_from_encodes (t ++ 58 ∷ []) b.now u (one ∙ sym (cut_off s (encodes t ++ 58 ∷ []) (58 ∷ []) r d b prefix h is)))
 
 -- ---- the white space before them
 
@@ -142,9 +142,9 @@ announced_bare s before bare e b h (inr none) =
     by false = refl
 
 -- one colon goes
-pub announced_one : (s before bare shown : List ℕ) → ends_in_colons (chars s) ≡ true → chars before ≡ before_colons (chars s) → IsBare before bare
-    → length before ≤ length bare → is_blank (chars bare) ≡ false → chars shown ≡ before_colons (chars s) ++ 58 ∷ [] → chars shown ≡ announced (chars s)
-announced_one s before bare shown e b h more some is =
+pub announced_one : (s before bare displayed : List ℕ) → ends_in_colons (chars s) ≡ true → chars before ≡ before_colons (chars s) → IsBare before bare
+    → length before ≤ length bare → is_blank (chars bare) ≡ false → chars displayed ≡ before_colons (chars s) ++ 58 ∷ [] → chars displayed ≡ announced (chars s)
+announced_one s before bare displayed e b h more some is =
     let t : List ℕ = chars before in
     let d : List ℕ = drop_trailing_whitespace (chars before) in
     let rest = trailing (chars before) in

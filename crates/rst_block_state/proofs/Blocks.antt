@@ -43,9 +43,9 @@ item_block B i end m h bare is =
     }
 
 -- the first lines of a block
-pub front_block : (B : Block) (p : Part) (k : ℕ) → IsBlock B p → p.from + k ≤ p.to
+pub first_lines_block : (B : Block) (p : Part) (k : ℕ) → IsBlock B p → p.from + k ≤ p.to
     → let q : Part = record { from = p.from; to = p.from + k; first_cut = p.first_cut; rest_cut = p.rest_cut } in IsBlock B q
-front_block B p k b h = record {
+first_lines_block B p k b h = record {
   ordered = omega arith;
   within = omega (arith, b.within);
   indented =

@@ -1,8 +1,8 @@
 -- Answers of calls: what holds of what they give, and what a fault leaves to the caller.
 use Rattle.std.proofs.Common.{◌≡◌, ℕ, List, Result, Ok, Err, IfOk, sym, ◌∙◌, subst}
-use Rattle.rst_block_state.specs.Meanings.{Keeps}
-use Rattle.rst_block_state.specs.OpenBlocks.{Closes, Gives}
-use Rattle.rst_block_state.specs.Rest.{no_run}
+use Rattle.rst_block_state.specs.machine.Meanings.{Keeps}
+use Rattle.rst_block_state.specs.machine.OpenBlocks.{Closes, Gives}
+use Rattle.rst_block_state.specs.machine.Rest.{no_run}
 use Rattle.rst_block_state.specs.Titles.{Item}
 use Rattle.rst_block_state.specs.declared.fault.BlockFault.{BlockFault}
 use Rattle.rst_block_state.specs.declared.fault.BlockFault.TheVariants.{TooDeep, NoMemory}

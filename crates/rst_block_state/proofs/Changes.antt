@@ -5,10 +5,10 @@ use Rattle.rst_text.specs.Block.{Block}
 use Rattle.rst_tree.specs.declared.node.Node.{Node}
 use Rattle.rst_block_nodes.specs.Sections.{items_of, title_of}
 use Rattle.rst_block_nodes.specs.declared.heading.Heading.{Heading}
-use Rattle.rst_block_state.specs.Meanings.{open_of, within_at, done_of, reads, reads_from, with_item}
+use Rattle.rst_block_state.specs.machine.Meanings.{open_run_of, within_at, done_of, reads, reads_from, with_item}
 use Rattle.rst_block_state.specs.Numbered.{before}
-use Rattle.rst_block_state.specs.OpenBlocks.{IsMoved, HasRun, HasMoreAt, HasMore, IsClosed, HasItemIn, HasItem, HasTitle}
-use Rattle.rst_block_state.specs.Rest.{OpenRun, no_run, open_list, open_lines, open_markup, rest}
+use Rattle.rst_block_state.specs.machine.OpenBlocks.{IsMoved, HasRun, HasMoreAt, HasMore, IsClosed, HasItemIn, HasItem, HasTitle}
+use Rattle.rst_block_state.specs.machine.Rest.{OpenRun, no_run, open_list, open_lines, open_markup, rest}
 use Rattle.rst_block_state.specs.Titles.{Item, plain, titled}
 use Rattle.rst_block_state.specs.declared.open_block.OpenBlock.{OpenBlock}
 
@@ -108,39 +108,39 @@ item_depth_in (open_list l) old new item h = h.depth
 item_depth_in _ old new item h = h.depth
 
 pub item_depth : (old new : OpenBlock) (item : Node) → HasItem old new item → new.depth ≡ old.depth
-item_depth old new item h = item_depth_in (open_of old.run) old new item h
+item_depth old new item h = item_depth_in (open_run_of old.run) old new item h
 
 -- ---- what the block gives
 
 -- a block with these items so far, which is read from a place on, and whose open run is this
-pub reads_is : (new : OpenBlock) (B : Block) {done : List Item} {depth at : ℕ} {o : OpenRun} → done_of new ≡ done → new.depth ≡ depth → new.at ≡ at → open_of new.run ≡ o
+pub reads_is : (new : OpenBlock) (B : Block) {done : List Item} {depth at : ℕ} {o : OpenRun} → done_of new ≡ done → new.depth ≡ depth → new.at ≡ at → open_run_of new.run ≡ o
     → reads new B ≡ before done (rest (within_at depth) B at o)
 reads_is new B {done} {depth} {at} {o} d e a r =
-    ap (λ items. before items (rest (within_at new.depth) B new.at (open_of new.run))) d
-    ∙ ap (λ k. before done (rest (within_at k) B new.at (open_of new.run))) e
-    ∙ ap (λ i. before done (rest (within_at depth) B i (open_of new.run))) a
+    ap (λ items. before items (rest (within_at new.depth) B new.at (open_run_of new.run))) d
+    ∙ ap (λ k. before done (rest (within_at k) B new.at (open_run_of new.run))) e
+    ∙ ap (λ i. before done (rest (within_at depth) B i (open_run_of new.run))) a
     ∙ ap (λ p. before done (rest (within_at depth) B at p)) r
 
 -- the same with more nodes, from another place on
-pub reads_from_is : (new : OpenBlock) (B : Block) (more : List Node) (at : ℕ) {done : List Item} {depth : ℕ} {o : OpenRun} → done_of new ++ map plain more ≡ done → new.depth ≡ depth → open_of new.run ≡ o
+pub reads_from_is : (new : OpenBlock) (B : Block) (more : List Node) (at : ℕ) {done : List Item} {depth : ℕ} {o : OpenRun} → done_of new ++ map plain more ≡ done → new.depth ≡ depth → open_run_of new.run ≡ o
     → reads_from new B more at ≡ before done (rest (within_at depth) B at o)
 reads_from_is new B more at {done} {depth} {o} d e r =
-    ap (λ items. before items (rest (within_at new.depth) B at (open_of new.run))) d
-    ∙ ap (λ k. before done (rest (within_at k) B at (open_of new.run))) e
+    ap (λ items. before items (rest (within_at new.depth) B at (open_run_of new.run))) d
+    ∙ ap (λ k. before done (rest (within_at k) B at (open_run_of new.run))) e
     ∙ ap (λ p. before done (rest (within_at depth) B at p)) r
 
 -- what the block gives from a place on depends on the place where it goes on no more
 pub moved_reads_from : {old new : OpenBlock} (B : Block) (more : List Node) (at : ℕ) → IsMoved old new → reads_from new B more at ≡ reads_from old B more at
-moved_reads_from {old} {new} B more at m = reads_from_is new B more at (ap (λ items. items ++ map plain more) (done_moved m)) m.depth (ap open_of m.run)
+moved_reads_from {old} {new} B more at m = reads_from_is new B more at (ap (λ items. items ++ map plain more) (done_moved m)) m.depth (ap open_run_of m.run)
 
 -- after more nodes the block gives them too
 pub more_is_read : {old new : OpenBlock} {more : List Node} {at : ℕ} (B : Block) → HasMoreAt old new more at → reads new B ≡ reads_from old B more at
-more_is_read {new = new} B m = reads_is new B (done_more m) m.depth m.at (ap open_of m.run)
+more_is_read {new = new} B m = reads_is new B (done_more m) m.depth m.at (ap open_run_of m.run)
 
-item_at : (o : OpenRun) (old new : OpenBlock) (B : Block) (item : Node) → open_of old.run ≡ o → HasItemIn o old new item → reads new B ≡ with_item old B item o
+item_at : (o : OpenRun) (old new : OpenBlock) (B : Block) (item : Node) → open_run_of old.run ≡ o → HasItemIn o old new item → reads new B ≡ with_item old B item o
 item_at (open_list l) old new B item e m = reads_is new B (done_same old new m.nodes m.headings) m.depth m.at m.run
-item_at _ old new B item e m = reads_is new B (done_more m) m.depth m.at (ap open_of m.run ∙ e)
+item_at _ old new B item e m = reads_is new B (done_more m) m.depth m.at (ap open_run_of m.run ∙ e)
 
 -- after an item the block gives it in its list
-pub item_is_read : (old new : OpenBlock) (B : Block) (item : Node) → HasItem old new item → reads new B ≡ with_item old B item (open_of old.run)
-item_is_read old new B item m = item_at (open_of old.run) old new B item refl m
+pub item_is_read : (old new : OpenBlock) (B : Block) (item : Node) → HasItem old new item → reads new B ≡ with_item old B item (open_run_of old.run)
+item_is_read old new B item m = item_at (open_run_of old.run) old new B item refl m

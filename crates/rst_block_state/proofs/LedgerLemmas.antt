@@ -11,13 +11,13 @@ use Rattle.rst_markup_blocks.specs.declared.kind.Kind.{Kind}
 use Rattle.rst_markup_blocks.specs.declared.kind.Kind.TheVariants.{Grid, Simple}
 use Rattle.rst_markup_blocks.specs.declared.part.Part.{Part}
 use Rattle.rst_markup_blocks.proofs.PartitionLemmas.{end_inside}
-use Rattle.rst_block_state.specs.Budget.{sum_of, total}
+use Rattle.rst_block_state.specs.looks.Budget.{sum_of, total}
 use Rattle.rst_block_state.specs.Inside.{opened_of, cells_with, inside_from, cells_from}
-use Rattle.rst_block_state.specs.Ledger.{unread_at, total_at, totals, still_inside, most_from, least_from, run_looks, end_looks, next_blocks, next_cells, place_after, most_after, least_after, most_in, least_in, most_left, least_left, GoesOn, IsPaid, Takes}
-use Rattle.rst_block_state.specs.LedgerLaws.{IsBegun, IsCounted}
-use Rattle.rst_block_state.specs.Meanings.{deepest}
-use Rattle.rst_block_state.specs.Reaches.{unpaid, reach_at}
-use Rattle.rst_block_state.specs.Rest.{found_in}
+use Rattle.rst_block_state.specs.looks.Ledger.{unread_at, total_at, totals, still_inside, most_from, least_from, run_looks, end_looks, next_blocks, next_cells, place_after, most_after, least_after, most_in, least_in, most_left, least_left, GoesOn, IsPaid, Takes}
+use Rattle.rst_block_state.specs.looks.LedgerLaws.{HasInitialBudget, IsCounted}
+use Rattle.rst_block_state.specs.machine.Meanings.{deepest}
+use Rattle.rst_block_state.specs.looks.Reaches.{unpaid, reach_at}
+use Rattle.rst_block_state.specs.machine.Rest.{found_in}
 use Rattle.rst_block_state.specs.Texts.{lines_in}
 use Rattle.rst_block_state.specs.Within.{Within}
 use Rattle.rst_block_state.specs.declared.frame.Frame.{Frame}
@@ -73,7 +73,7 @@ total_is depth B h =
     let e : suc deepest - depth ≡ suc (deepest - depth) = omega (arith, h) in
     ap (λ n. total true n (depth == 0) B) e
 
-pub begun : (depth : ℕ) (B : Block) → depth ≤ deepest → IsBegun depth B
+pub begun : (depth : ℕ) (B : Block) → depth ≤ deepest → HasInitialBudget depth B
 begun depth B h = record {
   most = omega (arith, total_is depth B h, begin B);
   least = omega (arith, total_is depth B h);

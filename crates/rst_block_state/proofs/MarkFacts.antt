@@ -6,11 +6,11 @@ use Rattle.std.specs.Option.{option_and_then}
 use Rattle.std.proofs.lemmas.List.{drop-drop}
 use Rattle.rst_text.specs.Block.{is_blank, indentation}
 use Rattle.rst_markup_lines.specs.Enumerator.{written_at, framed, between_parentheses, before_one, enumerator_of}
-use Rattle.rst_markup_lines.specs.ExplicitMarks.{label_kind, labelled, label_by, label_of, colons, directive_by, directive_of}
+use Rattle.rst_markup_lines.specs.ExplicitMarks.{label_kind, labelled, label_by, label_of, colons, directive_mark_by, directive_mark_of}
 use Rattle.rst_markup_lines.specs.Field.{field_with, is_no_name, field_if, field_of}
-use Rattle.rst_markup_lines.specs.Front.{begins_with, first}
+use Rattle.rst_markup_lines.specs.TextStart.{begins_with, first}
 use Rattle.rst_markup_lines.specs.Marker.{marker_of, is_bullet, bullet_by, bullet}
-use Rattle.rst_markup_lines.specs.OptionMarker.{PlacedOption, moved, with_next, options_from, option_at, tail_at, tail_behind, option_tail, last_if, argument_width, marker_by, option_marker}
+use Rattle.rst_markup_lines.specs.OptionMarker.{PlacedOption, moved, with_next, options_from, option_at, tail_at, tail_after, option_tail, last_if, argument_width, marker_by, option_marker}
 use Rattle.rst_markup_lines.specs.declared.enumerator.Enumerator.{Enumerator}
 use Rattle.rst_markup_lines.specs.declared.enumerator.Format.{Format}
 use Rattle.rst_markup_lines.specs.declared.enumerator.Format.TheVariants.{Parentheses, Parenthesis, Period}
@@ -125,7 +125,7 @@ next_tells : (u : List ℕ) (next : ℕ → List PlacedOption) → ((n : ℕ) �
 unfolding option_tail tail_at
 next_tells u next k = by (option_at u)
   where
-    by : (o : _) → TailsTell u (with_next o (tail_behind o u) next)
+    by : (o : _) → TailsTell u (with_next o (tail_after o u) next)
     by None = tt
     by (Some o) = let n : ℕ = o.string + argument_width o.argument in
         chosen (λ tail. TailsTell u (with_next (Some o) tail next)) (begins_with 44 (drop n u) && begins_with 32 (drop 1 (drop n u))) _ _ (λ f t e. tt, k (n + 2))
@@ -181,11 +181,11 @@ colons_tell len n t =
     by None h = tt
     by (Some m) h = h
 
-pub directive_tells : (spaced : Bool) (t : List ℕ) → IfSome (directive_of spaced t) (λ d. Tells t d.marker)
-unfolding directive_of
+pub directive_tells : (spaced : Bool) (t : List ℕ) → IfSome (directive_mark_of spaced t) (λ d. Tells t d.marker)
+unfolding directive_mark_of
 directive_tells spaced t = all _
   where
-    all : (n : ℕ) → IfSome (directive_by spaced n t) (InDirective t)
+    all : (n : ℕ) → IfSome (directive_mark_by spaced n t) (InDirective t)
     all n =
         unless_some (InDirective t) (n == 0) (cond (spaced && begins_with 32 (drop n t)) (colons n (n + 1) t) (colons n n t))
         (either_some (InDirective t) (spaced && begins_with 32 (drop n t)) (colons n (n + 1) t) (colons n n t) (colons_tell n (n + 1) t) (colons_tell n n t))

@@ -2,17 +2,17 @@
 use Rattle.std.proofs.Common.{◌≡◌, ℕ, suc, ◌-◌, ◌≤◌, Bool, true, false, List, [], ◌∷◌, ◌++◌, None, Err, arith, refl, sym, ◌∙◌, ap, ne_eqb}
 use Rattle.std.specs.Prelude.{◌==◌}
 use Rattle.rst_text.specs.Block.{Block}
-use Rattle.rst_text.specs.Shown.{placement_block}
+use Rattle.rst_text.specs.ViewBlock.{placement_block}
 use Rattle.rst_tree.specs.declared.node.Node.{Node}
 use Rattle.rst_tree.specs.declared.tag.Tag.{Tag}
 use Rattle.rst_tree.specs.declared.tag.Tag.TheVariants.{ListItem}
 use Rattle.rst_markup_blocks.specs.declared.part.Part.{Part}
 use Rattle.rst_block_nodes.specs.Elements.{element_of}
 use Rattle.rst_block_state.specs.Lists.{item_with, list_item}
-use Rattle.rst_block_state.specs.Meanings.{IsNew, open_of, deepest, within_at, done_of, reads, with_item, resumed, after, plug, comes}
+use Rattle.rst_block_state.specs.machine.Meanings.{IsNew, open_run_of, deepest, within_at, done_of, reads, with_item, resumed, after, plug, comes}
 use Rattle.rst_block_state.specs.Nodes.{block_items, inner_nodes, nodes_among}
 use Rattle.rst_block_state.specs.Numbered.{Numbered, then_read, ◌>>=◌, just, before}
-use Rattle.rst_block_state.specs.Rest.{ListSoFar, open_list, with_items, rest}
+use Rattle.rst_block_state.specs.machine.Rest.{ListSoFar, open_list, with_items, rest}
 use Rattle.rst_block_state.specs.Texts.{lines_in}
 use Rattle.rst_block_state.specs.Titles.{Item}
 use Rattle.rst_block_state.specs.Within.{Within}
@@ -57,9 +57,9 @@ plug_refused S (f ∷ fs) r n line h =
 pub reads_all : (l : OpenBlock) (B : Block) (n : ℕ) → IsNew l → reads l B n ≡ block_items (within_at l.depth) B n
 reads_all l B n new =
     let c : Within = within_at l.depth in
-    ap (λ done. before done (rest c B l.at (open_of l.run)) n) new.done
-    ∙ before_nil (rest c B l.at (open_of l.run)) n
-    ∙ ap (λ at. rest c B at (open_of l.run) n) new.at
+    ap (λ done. before done (rest c B l.at (open_run_of l.run)) n) new.done
+    ∙ before_nil (rest c B l.at (open_run_of l.run)) n
+    ∙ ap (λ at. rest c B at (open_run_of l.run) n) new.at
     ∙ ap (λ o. rest c B 0 o n) new.run
     ∙ rest_is_all c B n
 
@@ -110,7 +110,7 @@ done_means S fs f items n =
 -- ---- items of lists
 
 -- a block whose list waits for the nodes of an item
-pub item_means : (l : OpenBlock) (B : Block) (line : ℕ) (part : Part) (r : ListSoFar) (n : ℕ) → open_of l.run ≡ open_list r
+pub item_means : (l : OpenBlock) (B : Block) (line : ℕ) (part : Part) (r : ListSoFar) (n : ℕ) → open_run_of l.run ≡ open_list r
     → comes l B (Open (InItem line) part None) n
     ≡ before (done_of l) (list_item (within_at l.depth) B line part >>= λ ns. rest (within_at l.depth) B l.at (with_items ns (open_list r))) n
 item_means l B line part r n h =
@@ -123,15 +123,15 @@ item_means l B line part r n h =
     ∙ after_after (c.inner (lines_in B part) n) (λ ns. just (E ns)) (λ ns. before (done_of l) (R ns)))
 
 -- the same, where the item ends with a body
-pub body_means : (l : OpenBlock) (B : Block) (line : ℕ) (item body : Tag) (heads notes : List Node) (w : Waits) (part : Part) (r : ListSoFar) (n : ℕ) → open_of l.run ≡ open_list r
-    → ((ns : List Node) → resumed l B w ns ≡ with_item l B (element_of item [] (heads ++ element_of body [] (notes ++ ns) line ∷ []) line) (open_of l.run))
+pub body_means : (l : OpenBlock) (B : Block) (line : ℕ) (item body : Tag) (heads notes : List Node) (w : Waits) (part : Part) (r : ListSoFar) (n : ℕ) → open_run_of l.run ≡ open_list r
+    → ((ns : List Node) → resumed l B w ns ≡ with_item l B (element_of item [] (heads ++ element_of body [] (notes ++ ns) line ∷ []) line) (open_run_of l.run))
     → comes l B (Open w part None) n
     ≡ before (done_of l) (item_with (within_at l.depth) B item body line part heads notes >>= λ ns. rest (within_at l.depth) B l.at (with_items ns (open_list r))) n
 body_means l B line item body heads notes w part r n h waits =
     let c : Within = within_at l.depth in
     let R : List Node → Numbered (List Item) = λ ns. rest c B l.at (with_items ns (open_list r)) in
     let E : List Node → Node = λ ns. element_of item [] (heads ++ element_of body [] (notes ++ ns) line ∷ []) line in
-    same_after (c.inner (lines_in B part) n) (λ ns. resumed l B w ns) (λ ns. with_item l B (E ns) (open_of l.run)) (λ ns k. at_number k (waits ns))
+    same_after (c.inner (lines_in B part) n) (λ ns. resumed l B w ns) (λ ns. with_item l B (E ns) (open_run_of l.run)) (λ ns k. at_number k (waits ns))
     ∙ ap (λ o. then_read (λ ns. with_item l B (E ns) o) (c.inner (lines_in B part) n)) h
     ∙ sym (
     before_then (done_of l) (item_with c B item body line part heads notes) R n

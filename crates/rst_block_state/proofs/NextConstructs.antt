@@ -2,7 +2,7 @@
 use Rattle.std.proofs.Common.{◌≡◌, ℕ, zero, suc, ◌+◌, ◌-◌, ◌^◌, ◌<◌, ◌≤◌, min, Bool, true, false, cond, List, [], ◌∷◌, ◌++◌, length, drop, map, Ok, Err, arith, refl, sym, ◌∙◌, ap}
 use Rattle.std.specs.Prelude.{◌==◌}
 use Rattle.std.proofs.lemmas.List.{drop-drop, map-append}
-use Rattle.rst_text.specs.Block.{Block, is_blank, front_text, first_number}
+use Rattle.rst_text.specs.Block.{Block, is_blank, first_text, first_number}
 use Rattle.rst_tree.specs.declared.node.Node.{Node}
 use Rattle.rst_tree.specs.declared.note.Level.{Level}
 use Rattle.rst_markup_blocks.specs.Begun.{IsBegun, kind_in}
@@ -22,17 +22,17 @@ use Rattle.rst_markup_blocks.proofs.PartitionLemmas.{end_inside}
 use Rattle.rst_markup_blocks.proofs.RowLemmas.{row_at}
 use Rattle.rst_block_nodes.specs.Sections.{title_of}
 use Rattle.rst_block_nodes.specs.declared.heading.Heading.{Heading}
-use Rattle.rst_block_state.specs.Begins.{construct_with}
+use Rattle.rst_block_state.specs.machine.Begins.{construct_with}
 use Rattle.rst_block_state.specs.Constructs.{Construct, Found, text_by}
 use Rattle.rst_block_state.specs.Joins.{alone_ending}
-use Rattle.rst_block_state.specs.Meanings.{deepest, open_of, within_at, done_of, reads, comes}
-use Rattle.rst_block_state.specs.NextLine.{IsText, IsNextConstruct}
+use Rattle.rst_block_state.specs.machine.Meanings.{deepest, open_run_of, within_at, done_of, reads, comes}
+use Rattle.rst_block_state.specs.machine.NextLine.{IsText, IsNextConstruct}
 use Rattle.rst_block_state.specs.Nodes.{piece_of, ending_notes}
 use Rattle.rst_block_state.specs.Numbered.{Numbered, then_read, ◌>>=◌, just, before}
-use Rattle.rst_block_state.specs.OpenBlocks.{IsMoved, HasMoreAt, HasTitle, IsClosed}
-use Rattle.rst_block_state.specs.Rest.{OpenRun, no_run, closed_run, rest, rest_with}
-use Rattle.rst_block_state.specs.RestLaws.{found_as, IsAlone}
-use Rattle.rst_block_state.specs.Texts.{shown, source_of}
+use Rattle.rst_block_state.specs.machine.OpenBlocks.{IsMoved, HasMoreAt, HasTitle, IsClosed}
+use Rattle.rst_block_state.specs.machine.Rest.{OpenRun, no_run, closed_run, rest, rest_with}
+use Rattle.rst_block_state.specs.machine.RestLaws.{found_as, IsAlone}
+use Rattle.rst_block_state.specs.Texts.{message_with_lines, span_source}
 use Rattle.rst_block_state.specs.Titles.{Item, plain, titled}
 use Rattle.rst_block_state.specs.declared.open_block.OpenBlock.{OpenBlock}
 use Rattle.rst_block_state.specs.declared.step.Step.TheVariants.{Done}
@@ -49,7 +49,7 @@ abbrev pub IsFilled : Begun → Type 0
 IsFilled Blank = ⊥
 IsFilled begun = Unit {0}
 
-blank_kind : (X : Block) → is_blank (front_text X) ≡ true → kind_at X ≡ kinds.Blank
+blank_kind : (X : Block) → is_blank (first_text X) ≡ true → kind_at X ≡ kinds.Blank
 unfolding kind_at first_kind
 blank_kind X h = rw h refl
 
@@ -59,9 +59,9 @@ not_blank _ e f = cc
 
 -- where something begins the line isn't blank
 filled_at : (begun : Begun) (B : Block) (i : ℕ) → IsBegun (drop i B) begun → IsFilled begun → IsTextAt B i
-filled_at begun B i h f = by (is_blank (front_text (drop i B))) refl
+filled_at begun B i h f = by (is_blank (first_text (drop i B))) refl
   where
-    by : (b : Bool) → is_blank (front_text (drop i B)) ≡ b → IsTextAt B i
+    by : (b : Bool) → is_blank (first_text (drop i B)) ≡ b → IsTextAt B i
     by false e = e
     by true e = absurd (not_blank begun (h.kind ∙ blank_kind (drop i B) e) f)
 
@@ -76,7 +76,7 @@ next_of begun l B h f = record {
 }
 
 -- the construct of a text of a form
-pub next_of_form : {l : OpenBlock} {B : Block} {form : TextForm} (infos : List Node) → IsText l B infos → text_form (front_text (drop l.at B)) (next_text (drop l.at B)) ≡ form
+pub next_of_form : {l : OpenBlock} {B : Block} {form : TextForm} (infos : List Node) → IsText l B infos → text_form (first_text (drop l.at B)) (next_text (drop l.at B)) ≡ form
     → IsNextConstruct l B (text_by form (l.depth == 0) infos (drop l.at B)) (form_size form (drop l.at B))
 unfolding text_size
 next_of_form {l} {B} infos h e = record {
@@ -93,13 +93,13 @@ pub next_within : {l : OpenBlock} {B : Block} {what : Construct} {lines : ℕ} �
 next_within {l} {B} h inside = omega (arith, h.size, (end_inside (l.depth == 0) B l.at inside).1)
 
 -- the place after its lines
-pub end_behind : (old mid end lines length : ℕ) → mid ≡ old → end ≡ min (mid + lines) 18446744073709551615 → old + lines ≤ length → length < 2 ^ 64 → end ≡ old + lines
-end_behind old mid end lines length e h within few = omega (arith, e, h, within, few)
+pub end_after_lines : (old mid end lines length : ℕ) → mid ≡ old → end ≡ min (mid + lines) 18446744073709551615 → old + lines ≤ length → length < 2 ^ 64 → end ≡ old + lines
+end_after_lines old mid end lines length e h within few = omega (arith, e, h, within, few)
 
 -- the block goes on there
-pub goes_behind : (old mid moved end lines length : ℕ) → mid ≡ old → end ≡ min (mid + lines) 18446744073709551615 → old < old + lines → old + lines ≤ length → length < 2 ^ 64 → (mid < end → moved ≡ end)
+pub goes_after_lines : (old mid moved end lines length : ℕ) → mid ≡ old → end ≡ min (mid + lines) 18446744073709551615 → old < old + lines → old + lines ≤ length → length < 2 ^ 64 → (mid < end → moved ≡ end)
     → moved ≡ old + lines
-goes_behind old mid moved end lines length e h some within few there = let at : moved ≡ end = there (omega (arith, e, h, some, within, few)) in omega (arith, at, e, h, within, few)
+goes_after_lines old mid moved end lines length e h some within few there = let at : moved ≡ end = there (omega (arith, e, h, some, within, few)) in omega (arith, at, e, h, within, few)
 
 -- the next construct with its lines
 abbrev pub next_found : OpenBlock → Construct → ℕ → Found
@@ -107,10 +107,10 @@ next_found l what lines = found_as what (span_to l.at (l.at + lines))
 
 -- what the block gives by its next construct
 pub next_reads : {l : OpenBlock} {B : Block} {what : Construct} {lines : ℕ} (n : ℕ) → IsNextConstruct l B what lines
-    → reads l B n ≡ before (done_of l) (rest_with (within_at l.depth) B (open_of l.run) (next_found l what lines)) n
+    → reads l B n ≡ before (done_of l) (rest_with (within_at l.depth) B (open_run_of l.run) (next_found l what lines)) n
 next_reads {l} {B} {what} n h =
-    let R : Construct → ℕ → _ = λ k size. before (done_of l) (rest_with (within_at l.depth) B (open_of l.run) (next_found l k size)) n in
-    ap (λ (r : Numbered (List Item)). before (done_of l) r n) (rest_text (within_at l.depth) B l.at (open_of l.run) h.filled)
+    let R : Construct → ℕ → _ = λ k size. before (done_of l) (rest_with (within_at l.depth) B (open_run_of l.run) (next_found l k size)) n in
+    ap (λ (r : Numbered (List Item)). before (done_of l) r n) (rest_text (within_at l.depth) B l.at (open_run_of l.run) h.filled)
     ∙ ap (λ k. R k (construct_size (l.depth == 0) (drop l.at B))) h.construct
     ∙ ap (λ size. R what size) h.size
 
@@ -118,7 +118,7 @@ next_reads {l} {B} {what} n h =
 
 -- what the open run of a block gives at its end
 abbrev pub run_of : OpenBlock → Block → Numbered (List Item)
-run_of l B = closed_run (suc deepest - l.depth) B (open_of l.run)
+run_of l B = closed_run (suc deepest - l.depth) B (open_run_of l.run)
 
 -- it has ended: mid is the block after its end, and m the number of the next message
 pub record HasEnded (old mid : OpenBlock) (B : Block) (n m : ℕ) : Type 0 where
@@ -168,7 +168,7 @@ unfolding after_run
 run_then_alone {l} {B} {what} {lines} n h a =
     let f : Found = next_found l what lines in
     next_reads n h
-    ∙ same_before (done_of l) (rest_with (within_at l.depth) B (open_of l.run) f) (run_of l B >>= after_run l.depth B f) n (alone_begins (within_at l.depth) B (open_of l.run) f n a)
+    ∙ same_before (done_of l) (rest_with (within_at l.depth) B (open_run_of l.run) f) (run_of l B >>= after_run l.depth B f) n (alone_begins (within_at l.depth) B (open_run_of l.run) f n a)
 
 -- what the block gives once the open run has ended
 pub next_alone : {old mid : OpenBlock} {B : Block} {what : Construct} {lines n m : ℕ} → IsNextConstruct old B what lines → IsAlone what → HasEnded old mid B n m
@@ -190,7 +190,7 @@ next_items {old} {mid} {B} {what} {lines} {n} {m} {k} new items h a e p done dep
     let stop : ℕ = old.at + lines in
     let E : List Item = map plain (ending_notes (alone_ending what) (drop stop B)) in
     let R : Numbered (List Item) = rest (within_at old.depth) B stop no_run in
-    at_number k (reads_is new B done (depth ∙ e.closed.depth) at (ap open_of run ∙ e.closed.run))
+    at_number k (reads_is new B done (depth ∙ e.closed.depth) at (ap open_run_of run ∙ e.closed.run))
     ∙ sym (before_before (done_of mid) (items ++ E) R k)
     ∙ ap (λ r. then_read (λ others. just (done_of mid ++ others)) (then_read (λ some. before (some ++ E) R) r)) (sym p)
     ∙ sym (next_alone h a e)
@@ -218,13 +218,13 @@ next_title {old} {mid} {moved} {new} {B} {what} {heading} {lines} h a e p none g
 -- ---- lines without a construct
 
 -- the lines that pass as blank are blank
-all_blank : (X : Block) (n : ℕ) → n < lines_while BlankTest X → is_blank (front_text (drop n X)) ≡ true
+all_blank : (X : Block) (n : ℕ) → n < lines_while BlankTest X → is_blank (first_text (drop n X)) ≡ true
 unfolding lines_while
 all_blank [] n h = absurd (omega arith)
 all_blank (l ∷ ls) n h = by (is_blank l.text) refl n h (all_blank ls)
   where
-    by : (b : Bool) → is_blank l.text ≡ b → (n : ℕ) → n < cond b (suc (lines_while BlankTest ls)) 0 → ((m : ℕ) → m < lines_while BlankTest ls → is_blank (front_text (drop m ls)) ≡ true)
-        → is_blank (front_text (drop n (l ∷ ls))) ≡ true
+    by : (b : Bool) → is_blank l.text ≡ b → (n : ℕ) → n < cond b (suc (lines_while BlankTest ls)) 0 → ((m : ℕ) → m < lines_while BlankTest ls → is_blank (first_text (drop m ls)) ≡ true)
+        → is_blank (first_text (drop n (l ∷ ls))) ≡ true
     by true e zero h more = e
     by true e (suc n) h more = more n (omega arith)
     by false e n h more = absurd (omega arith)
@@ -233,18 +233,18 @@ pub are_blank : (B : Block) (i : ℕ) → AreBlank B i (i + lines_while BlankTes
 are_blank B i = λ k low high.
     let place : i + (k - i) ≡ k = omega arith in
     let same : drop (k - i) (drop i B) ≡ drop k B = drop-drop (k - i) i B ∙ ap (λ n. drop n B) place in
-    ap (λ (X : Block). is_blank (front_text X)) (sym same) ∙ all_blank (drop i B) (k - i) (omega arith)
+    ap (λ (X : Block). is_blank (first_text X)) (sym same) ∙ all_blank (drop i B) (k - i) (omega arith)
 
 -- blank lines give nothing
 pub blank_reads : {old new : OpenBlock} (B : Block) (n : ℕ) → IsMoved old new → old.at ≤ new.at → new.at ≡ old.at + lines_while BlankTest (drop old.at B) → reads new B n ≡ reads old B n
 blank_reads {old} {new} B n m later e =
     let blank : AreBlank B old.at new.at = rw e (are_blank B old.at) in
-    at_number n (reads_is new B (done_moved m) m.depth refl (ap open_of m.run))
-    ∙ ap (λ (r : Numbered (List Item)). before (done_of old) r n) (sym (rest_blanks (within_at old.depth) B old.at new.at (open_of old.run) later blank))
+    at_number n (reads_is new B (done_moved m) m.depth refl (ap open_run_of m.run))
+    ∙ ap (λ (r : Numbered (List Item)). before (done_of old) r n) (sym (rest_blanks (within_at old.depth) B old.at new.at (open_run_of old.run) later blank))
 
 -- after the last line only what the open run gives is to come
 over_is : (l : OpenBlock) (B : Block) (n : ℕ) → length B ≤ l.at → reads l B n ≡ before (done_of l) (run_of l B) n
-over_is l B n h = ap (λ (r : Numbered (List Item)). before (done_of l) r n) (rest_over (within_at l.depth) B l.at (open_of l.run) h)
+over_is l B n h = ap (λ (r : Numbered (List Item)). before (done_of l) r n) (rest_over (within_at l.depth) B l.at (open_run_of l.run) h)
 
 -- once it has ended there, the block is read
 pub over_reads : {old new : OpenBlock} {B : Block} {n m : ℕ} → HasEnded old new B n m → length B ≤ old.at → comes new B Done m ≡ reads old B n
@@ -258,9 +258,9 @@ over_refused l B n line h k = over_is l B n h ∙ ap (then_read (λ others. just
 -- ---- messages
 
 -- a message that shows the construct's lines
-pub message_is : (B : Block) (level : Level) (text bytes : List ℕ) (node : Node) (at mid number end stop : ℕ) → mid ≡ at → node ≡ shown level number text bytes → number ≡ first_number (drop mid B)
-    → bytes ≡ source_of B (span_to mid end) → end ≡ stop → node ≡ shown level (first_number (drop at B)) text (source_of B (span_to at stop))
+pub message_is : (B : Block) (level : Level) (text bytes : List ℕ) (node : Node) (at mid number end stop : ℕ) → mid ≡ at → node ≡ message_with_lines level number text bytes → number ≡ first_number (drop mid B)
+    → bytes ≡ span_source B (span_to mid end) → end ≡ stop → node ≡ message_with_lines level (first_number (drop at B)) text (span_source B (span_to at stop))
 message_is B level text bytes node at mid number end stop m h n b e =
     h
-    ∙ ap (λ i. shown level i text bytes) (n ∙ ap (λ i. first_number (drop i B)) m)
-    ∙ ap (shown level (first_number (drop at B)) text) (b ∙ ap (λ i. source_of B (span_to i end)) m ∙ ap (λ i. source_of B (span_to at i)) e)
+    ∙ ap (λ i. message_with_lines level i text bytes) (n ∙ ap (λ i. first_number (drop i B)) m)
+    ∙ ap (message_with_lines level (first_number (drop at B)) text) (b ∙ ap (λ i. span_source B (span_to i end)) m ∙ ap (λ i. span_source B (span_to at i)) e)

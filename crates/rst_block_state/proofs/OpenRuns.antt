@@ -20,8 +20,8 @@ use Rattle.rst_block_state.specs.LineRuns.{indented_line, indented_lines, indent
 use Rattle.rst_block_state.specs.Lists.{empty_list, infos_of, list_notes}
 use Rattle.rst_block_state.specs.Nodes.{node_if, nodes_among, infos_among, piece_of, ending_notes, ended, run_items, block_items}
 use Rattle.rst_block_state.specs.Numbered.{Numbered, then_read, ◌>>=◌, just, flat_each, before}
-use Rattle.rst_block_state.specs.Rest.{OpenRun, no_run, open_list, open_lines, open_markup, joining_of_run, closed_run, last_indent, joined_run, begun_run, run_after, with_items, closed_before, at_once, given_at_once, walk, rest}
-use Rattle.rst_block_state.specs.Runs.{Run, alone, joined_by, members, last_of, runs}
+use Rattle.rst_block_state.specs.machine.Rest.{OpenRun, no_run, open_list, open_lines, open_markup, joining_of_run, closed_run, last_indent, joined_run, begun_run, run_after, with_items, closed_before, at_once, given_at_once, walk, rest}
+use Rattle.rst_block_state.specs.Runs.{Run, alone, joined_by, run_members, last_of, runs}
 use Rattle.rst_block_state.specs.Titles.{Item, plain}
 use Rattle.rst_block_state.specs.Within.{Within}
 use Rattle.rst_block_state.proofs.NumberedLemmas.{same_after, after_after, before_before, before_then, flat_each-push}
@@ -41,7 +41,7 @@ stop_of run = (last_of run.first run.others).span.stop
 abbrev pub open_with : Construct → Block → Joining → Run Found → List Item → OpenRun
 open_with (item_of_list mark) B j run items =
     open_list (record { joining = j; end = stop_of run; notes_before = infos_among run; element = empty_list mark (drop run.first.span.start B); items = nodes_among items; notes_after = list_notes mark (drop run.first.span.start B) })
-open_with (bar_line m) B j run items = open_lines (stop_of run) (indented_lines B 0 (members run))
+open_with (bar_line m) B j run items = open_lines (stop_of run) (indented_lines B 0 (run_members run))
 open_with explicit_markup B j run items = open_markup (stop_of run)
 open_with _ B j run items = no_run
 
@@ -188,7 +188,7 @@ list_with j end notes element items after =
 
 infos_push : (run : Run Found) (x : Found) → infos_among (joined_by run x) ≡ infos_among run ++ infos_of x.what
 infos_push run x =
-    flat_map-append (λ (f : Found). infos_of f.what) (members run) (x ∷ [])
+    flat_map-append (λ (f : Found). infos_of f.what) (run_members run) (x ∷ [])
     ∙ ap (λ (infos : List Node). infos_among run ++ infos) (append-nil (infos_of x.what))
 
 open_joined : (what : Construct) (s : Span) (fs : List Found) (B : Block) (j : Joining) (items more : List Item) (x : Found) (next : Joining) → Fits what (stop_of (run_with what s fs)) j
@@ -203,8 +203,8 @@ open_joined (item_of_list mark) s fs B j items more x next h e =
     ∙ ap (λ notes. list_with next x.span.stop notes element (nodes_among (items ++ more)) after) (infos_push run x)
     ∙ ap (λ nodes. list_with next x.span.stop (infos_among run ++ infos_of x.what) element nodes after) (flat_map-append node_if items more)
 open_joined (bar_line m) s fs B j items more x next h e =
-    ap (λ end. open_lines end (indented_lines B 0 (members (run_with (bar_line m) s (fs ++ x ∷ []))))) (stop_push (bar_line m) s fs x)
-    ∙ ap (open_lines x.span.stop) (lines_push B 0 (members (run_with (bar_line m) s fs)) x)
+    ap (λ end. open_lines end (indented_lines B 0 (run_members (run_with (bar_line m) s (fs ++ x ∷ []))))) (stop_push (bar_line m) s fs x)
+    ∙ ap (open_lines x.span.stop) (lines_push B 0 (run_members (run_with (bar_line m) s fs)) x)
 open_joined explicit_markup s fs B j items more x next h e = ap open_markup (stop_push explicit_markup s fs x)
 open_joined _ s fs B j items more x next h e = refl
 
@@ -261,7 +261,7 @@ ended_is (item_of_list mark) s fs c B j items n h =
     ap (λ (made : List Item). Ok (made, n))
     (sym (map-append plain nodes (ending_notes (joined_ending (list_joining mark)) (drop (stop_of run) B)))
     ∙ ap (λ t. map plain (nodes ++ ending_notes t (drop (stop_of run) B))) (sym h.1))
-ended_is (bar_line m) s fs c B j items n h = ended_lines (line_block c.levels (indented_lines B 0 (members run)) n) (ending_notes (joined_ending (lines_from s.stop)) (drop (stop_of run) B))
+ended_is (bar_line m) s fs c B j items n h = ended_lines (line_block c.levels (indented_lines B 0 (run_members run)) n) (ending_notes (joined_ending (lines_from s.stop)) (drop (stop_of run) B))
   where
     run : Run Found
     run = run_with (bar_line m) s fs

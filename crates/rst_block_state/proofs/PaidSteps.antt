@@ -7,15 +7,15 @@ use Rattle.rst_tree.specs.declared.node.Node.{Node}
 use Rattle.rst_markup_blocks.specs.Begun.{IsBegun, kind_in}
 use Rattle.rst_markup_blocks.specs.Ends.{row_size, row_reach}
 use Rattle.rst_markup_blocks.specs.declared.begun.Begun.{Begun}
-use Rattle.rst_block_state.specs.Begins.{construct_with}
+use Rattle.rst_block_state.specs.machine.Begins.{construct_with}
 use Rattle.rst_block_state.specs.Constructs.{Construct}
 use Rattle.rst_block_state.specs.Inside.{opened_by, cells_by}
-use Rattle.rst_block_state.specs.Ledger.{unread_at, totals, place_after, next_blocks, next_cells, run_looks, end_looks, GoesOn, IsPaid, Opens}
-use Rattle.rst_block_state.specs.Meanings.{open_of}
-use Rattle.rst_block_state.specs.NextLine.{IsNextConstruct}
-use Rattle.rst_block_state.specs.OpenBlocks.{IsMoved, HasMoreAt, IsClosed}
-use Rattle.rst_block_state.specs.Reaches.{reach_at}
-use Rattle.rst_block_state.specs.Rest.{no_run}
+use Rattle.rst_block_state.specs.looks.Ledger.{unread_at, totals, place_after, next_blocks, next_cells, run_looks, end_looks, GoesOn, IsPaid, Opens}
+use Rattle.rst_block_state.specs.machine.Meanings.{open_run_of}
+use Rattle.rst_block_state.specs.machine.NextLine.{IsNextConstruct}
+use Rattle.rst_block_state.specs.machine.OpenBlocks.{IsMoved, HasMoreAt, IsClosed}
+use Rattle.rst_block_state.specs.looks.Reaches.{reach_at}
+use Rattle.rst_block_state.specs.machine.Rest.{no_run}
 use Rattle.rst_block_state.specs.Titles.{Item}
 use Rattle.rst_block_state.specs.declared.fault.BlockFault.{BlockFault}
 use Rattle.rst_block_state.specs.declared.open_block.OpenBlock.{OpenBlock}
@@ -63,7 +63,7 @@ paid_begun each begun l new B s before after h f goes depth place blocks cells m
 -- ---- constructs that open no block
 
 -- a run that has ended takes no more looks
-pub ended_looks : (r : Run) → open_of r ≡ no_run → run_looks r ≡ 0
+pub ended_looks : (r : Run) → open_run_of r ≡ no_run → run_looks r ≡ 0
 ended_looks NoRun h = refl
 ended_looks _ h = cc
 

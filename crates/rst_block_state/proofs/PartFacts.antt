@@ -4,7 +4,7 @@ use Rattle.std.specs.Char.{is_whitespace}
 use Rattle.std.proofs.lemmas.Bool.{eqb-true, leb-true, and_parts, or_parts, not-true, not_from_false}
 use Rattle.std.proofs.lemmas.List.{drop-drop, length-map}
 use Rattle.rst_markup_directives.proofs.Parts.{length-shorten_all}
-use Rattle.rst_text.specs.Block.{Line, Block, front_text, is_blank, indentation, shorten, shorten_all, cut}
+use Rattle.rst_text.specs.Block.{Line, Block, first_text, is_blank, indentation, shorten, shorten_all, cut}
 use Rattle.rst_text.specs.Extent.{extent}
 use Rattle.rst_text.specs.Lines.{ends_white}
 use Rattle.rst_text.specs.MayCut.{is_indented}
@@ -16,7 +16,7 @@ use Rattle.rst_markup_blocks.specs.Sizes.{hanging_size, item_size, least_below}
 use Rattle.rst_markup_blocks.specs.declared.lines.LineTest.TheVariants.{Blank}
 use Rattle.rst_markup_blocks.specs.declared.part.Part.{Part}
 use Rattle.rst_markup_blocks.proofs.PartLemmas.{hanging_is}
-use Rattle.rst_block_state.specs.BudgetLaws.{is_trimmed, IsFronted}
+use Rattle.rst_block_state.specs.looks.BudgetLaws.{is_trimmed, IsFronted}
 use Rattle.rst_block_state.specs.Texts.{lines_in}
 use Rattle.rst_block_state.specs.Within.{hanging, indented_part, item_part}
 use Rattle.rst_block_state.proofs.MarkFacts.{Tells}
@@ -67,9 +67,9 @@ trimmed_all f r (l ∷ ls) h = let t = and_parts (not (ends_white l.text)) (is_t
 trimmed_in : (B : Block) (p : Part) → is_trimmed B ≡ true → is_trimmed (lines_in B p) ≡ true
 trimmed_in B p h = trimmed_all p.first_cut p.rest_cut (take (p.to - p.from) (drop p.from B)) (trimmed_take (p.to - p.from) (drop p.from B) (trimmed_drop p.from B h))
 
-white_front : (B : Block) → is_trimmed B ≡ true → ends_white (front_text B) ≡ false
-white_front [] h = refl
-white_front (l ∷ ls) h = not-true (ends_white l.text) (and_parts (not (ends_white l.text)) (is_trimmed ls) h).0
+first_trimmed : (B : Block) → is_trimmed B ≡ true → ends_white (first_text B) ≡ false
+first_trimmed [] h = refl
+first_trimmed (l ∷ ls) h = not-true (ends_white l.text) (and_parts (not (ends_white l.text)) (is_trimmed ls) h).0
 
 -- ---- lines of a part
 
@@ -83,25 +83,25 @@ part_le B p =
     let t = take_le (p.to - p.from) X in
     (omega (arith, length-shorten_all p.first_cut p.rest_cut (take (p.to - p.from) X), t.0), omega (arith, length-shorten_all p.first_cut p.rest_cut (take (p.to - p.from) X), t.1, length-drop p.from B))
 
-front_all : (f r n : ℕ) (X : Block) → 1 ≤ length (shorten_all f r (take n X)) → front_text (shorten_all f r (take n X)) ≡ drop f (front_text X)
-front_all f r zero X h = absurd (omega (arith, h))
-front_all f r (suc n) [] h = absurd (omega (arith, h))
-front_all f r (suc n) (l ∷ ls) h = refl
+first_shortened : (f r n : ℕ) (X : Block) → 1 ≤ length (shorten_all f r (take n X)) → first_text (shorten_all f r (take n X)) ≡ drop f (first_text X)
+first_shortened f r zero X h = absurd (omega (arith, h))
+first_shortened f r (suc n) [] h = absurd (omega (arith, h))
+first_shortened f r (suc n) (l ∷ ls) h = refl
 
 -- a part whose first line isn't blank without what it loses
-pub part_fronted : (B : Block) (p : Part) → is_trimmed B ≡ true → (p.from < p.to → p.from < length B → is_blank (drop p.first_cut (front_text (drop p.from B))) ≡ false) → IsFronted (lines_in B p)
+pub part_fronted : (B : Block) (p : Part) → is_trimmed B ≡ true → (p.from < p.to → p.from < length B → is_blank (drop p.first_cut (first_text (drop p.from B))) ≡ false) → IsFronted (lines_in B p)
 part_fronted B p h some = record {
   trimmed = trimmed_in B p h;
-  front = λ there.
+  first_not_blank = λ there.
       let few = part_le B p in
-      ap is_blank (front_all p.first_cut p.rest_cut (p.to - p.from) (drop p.from B) there) ∙ some (omega (arith, there, few.0)) (omega (arith, there, few.1));
+      ap is_blank (first_shortened p.first_cut p.rest_cut (p.to - p.from) (drop p.from B) there) ∙ some (omega (arith, there, few.0)) (omega (arith, there, few.1));
 }
 
 -- ---- indented blocks
 
-indented_at : (r k n : ℕ) (Y : Block) → is_indented r (take n Y) ≡ true → k < n → is_blank (front_text (drop k Y)) ≡ false → r ≤ indentation (front_text (drop k Y))
+indented_at : (r k n : ℕ) (Y : Block) → is_indented r (take n Y) ≡ true → k < n → is_blank (first_text (drop k Y)) ≡ false → r ≤ indentation (first_text (drop k Y))
 indented_at r k zero Y h less some = absurd (omega (arith, less))
-indented_at r k (suc n) [] h less some = absurd (let no : true ≡ false = sym (ap (λ (X : Block). is_blank (front_text X)) (empty k)) ∙ some in cc)
+indented_at r k (suc n) [] h less some = absurd (let no : true ≡ false = sym (ap (λ (X : Block). is_blank (first_text X)) (empty k)) ∙ some in cc)
   where
     empty : (k : ℕ) → drop {A = Line} k [] ≡ []
     empty zero = refl
@@ -116,40 +116,40 @@ indented_at r zero (suc n) (l ∷ ls) h less some =
 indented_at r (suc k) (suc n) (l ∷ ls) h less some = indented_at r k n ls (and_parts (is_blank l.text || leb r (indentation l.text)) (is_indented r (take n ls)) h).1 (omega (arith, less)) some
 
 -- a line of an indented block without the least indentation
-without_least : (k : ℕ) (Y : Block) → is_trimmed Y ≡ true → k < extent 1 Y → is_blank (front_text (drop k Y)) ≡ false → is_blank (drop (least_of Y) (front_text (drop k Y))) ≡ false
+without_least : (k : ℕ) (Y : Block) → is_trimmed Y ≡ true → k < extent 1 Y → is_blank (first_text (drop k Y)) ≡ false → is_blank (drop (least_of Y) (first_text (drop k Y))) ≡ false
 without_least k Y h less some =
-    stays (least_of Y) (front_text (drop k Y)) (white_front (drop k Y) (trimmed_drop k Y h)) some
+    stays (least_of Y) (first_text (drop k Y)) (first_trimmed (drop k Y) (trimmed_drop k Y h)) some
     (indented_at (least_of Y) k (extent 1 Y) Y (is_indented-least (take (extent 1 Y) Y)) less some)
 
 -- an indented block that begins with a line that isn't blank
-pub indented_fronted : (B Y : Block) (i : ℕ) → is_trimmed B ≡ true → drop i B ≡ Y → is_blank (front_text Y) ≡ false → IsFronted (lines_in B (indented_part i Y))
+pub indented_fronted : (B Y : Block) (i : ℕ) → is_trimmed B ≡ true → drop i B ≡ Y → is_blank (first_text Y) ≡ false → IsFronted (lines_in B (indented_part i Y))
 indented_fronted B Y i h e some =
     part_fronted B (indented_part i Y) h (λ less there.
     let t : is_trimmed Y ≡ true = ap is_trimmed (sym e) ∙ trimmed_drop i B h in
-    ap (λ (X : Block). is_blank (drop (least_of Y) (front_text X))) e ∙ without_least 0 Y t (omega (arith, less)) some)
+    ap (λ (X : Block). is_blank (drop (least_of Y) (first_text X))) e ∙ without_least 0 Y t (omega (arith, less)) some)
 
 -- after the blank lines comes one that isn't
-pub past_blanks : (Y : Block) → lines_while Blank Y < length Y → is_blank (front_text (drop (lines_while Blank Y) Y)) ≡ false
+pub past_blanks : (Y : Block) → lines_while Blank Y < length Y → is_blank (first_text (drop (lines_while Blank Y) Y)) ≡ false
 unfolding lines_while
 past_blanks [] h = absurd (omega (arith, h))
 past_blanks (l ∷ ls) h = by (is_blank l.text) refl h (past_blanks ls)
   where
     by : (b : Bool) → is_blank l.text ≡ b → cond b (suc (lines_while Blank ls)) 0 < suc (length ls)
-        → (lines_while Blank ls < length ls → is_blank (front_text (drop (lines_while Blank ls) ls)) ≡ false)
-        → is_blank (front_text (drop (cond b (suc (lines_while Blank ls)) 0) (l ∷ ls))) ≡ false
+        → (lines_while Blank ls < length ls → is_blank (first_text (drop (lines_while Blank ls) ls)) ≡ false)
+        → is_blank (first_text (drop (cond b (suc (lines_while Blank ls)) 0) (l ∷ ls))) ≡ false
     by true e h others = others (omega (arith, h))
     by false e h others = e
 
 pub blanks_fronted : (Y : Block) → is_trimmed Y ≡ true → IsFronted (drop (lines_while Blank Y) Y)
 blanks_fronted Y h = record {
   trimmed = trimmed_drop (lines_while Blank Y) Y h;
-  front = λ some. past_blanks Y (omega (arith, some, length-drop (lines_while Blank Y) Y));
+  first_not_blank = λ some. past_blanks Y (omega (arith, some, length-drop (lines_while Blank Y) Y));
 }
 
 pub take_fronted : (k : ℕ) (Q : Block) → IsFronted Q → IsFronted (take k Q)
-take_fronted k Q h = record { trimmed = trimmed_take k Q h.trimmed; front = by k Q h.front }
+take_fronted k Q h = record { trimmed = trimmed_take k Q h.trimmed; first_not_blank = by k Q h.first_not_blank }
   where
-    by : (k : ℕ) (Q : Block) → (1 ≤ length Q → is_blank (front_text Q) ≡ false) → 1 ≤ length (take k Q) → is_blank (front_text (take k Q)) ≡ false
+    by : (k : ℕ) (Q : Block) → (1 ≤ length Q → is_blank (first_text Q) ≡ false) → 1 ≤ length (take k Q) → is_blank (first_text (take k Q)) ≡ false
     by zero Q f some = absurd (omega (arith, some))
     by (suc k) [] f some = absurd (omega (arith, some))
     by (suc k) (l ∷ ls) f some = f (omega arith)
@@ -160,7 +160,7 @@ below : (i : ℕ) (B : Block) → drop 1 (drop i B) ≡ drop (i + 1) B
 below i B = drop-drop 1 i B
 
 -- a hanging block whose marker shows whether anything comes after it
-pub hanging_fronted : (B : Block) (i cut : ℕ) (bare : Bool) → is_trimmed B ≡ true → bare ≡ is_blank (drop cut (front_text (drop i B))) → IsFronted (lines_in B (hanging_part i cut bare (drop i B)))
+pub hanging_fronted : (B : Block) (i cut : ℕ) (bare : Bool) → is_trimmed B ≡ true → bare ≡ is_blank (drop cut (first_text (drop i B))) → IsFronted (lines_in B (hanging_part i cut bare (drop i B)))
 unfolding hanging_part
 hanging_fronted B i n false h tells = part_fronted B (hanging_part i n false (drop i B)) h (λ less there. sym tells)
 hanging_fronted B i n true h tells =
@@ -171,9 +171,9 @@ hanging_fronted B i n true h tells =
     let short : b < extent 1 Y = omega (arith, less, hanging_is (drop i B)) in
     let same : k ≡ b = omega (arith, short) in
     let place : drop (i + 1 + k) B ≡ drop b Y = ap (λ j. drop (i + 1 + j) B) same ∙ sym (drop-drop b (i + 1) B) ∙ ap (drop b) (sym (below i B)) in
-    let text : is_blank (front_text (drop b Y)) ≡ false = past_blanks Y (omega (arith, there, same, length-drop 1 (drop i B), length-drop i B)) in
+    let text : is_blank (first_text (drop b Y)) ≡ false = past_blanks Y (omega (arith, there, same, length-drop 1 (drop i B), length-drop i B)) in
     let trimmed : is_trimmed Y ≡ true = trimmed_drop 1 (drop i B) (trimmed_drop i B h) in
-    ap (λ (X : Block). is_blank (drop (least_of Y) (front_text X))) place ∙ without_least b Y trimmed short text)
+    ap (λ (X : Block). is_blank (drop (least_of Y) (first_text X))) place ∙ without_least b Y trimmed short text)
 
 pub hanging_from : (i cut : ℕ) (bare : Bool) (X : Block) → (i ≤ (hanging_part i cut bare X).from) × ((hanging_part i cut bare X).to ≡ i + hanging_size X)
 unfolding hanging_part
@@ -185,7 +185,7 @@ hanging_le B X i cut bare = let h = hanging_from i cut bare X in omega (arith, (
 
 -- ---- items
 
-pub item_fronted : (B : Block) (i : ℕ) (m : Marker) → is_trimmed B ≡ true → Tells (front_text (drop i B)) m → IsFronted (lines_in B (item_part i m (drop i B)))
+pub item_fronted : (B : Block) (i : ℕ) (m : Marker) → is_trimmed B ≡ true → Tells (first_text (drop i B)) m → IsFronted (lines_in B (item_part i m (drop i B)))
 item_fronted B i m h tells = by m.bare refl
   where
     X : Block

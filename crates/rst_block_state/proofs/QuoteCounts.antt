@@ -2,13 +2,13 @@
 use Rattle.std.proofs.Common.{◌≡◌, ℕ, zero, suc, ◌+◌, ◌-◌, ◌<◌, ◌≤◌, List, [], ◌∷◌, ◌++◌, length, length-drop, drop, take, Option, Some, None, arith, refl, ap, option_map, option_and_then, is_some}
 use Rattle.std.specs.Option.{option_map_or}
 use Rattle.rst_text.proofs.Choices.{chosen, none_is}
-use Rattle.rst_text.specs.Block.{Block, front_text, is_blank, first_number, indentation}
+use Rattle.rst_text.specs.Block.{Block, first_text, is_blank, first_number, indentation}
 use Rattle.rst_text.specs.Places.{first_from, IsFirst}
 use Rattle.rst_text.proofs.PlacesLemmas.{first_from-IsFirst}
 use Rattle.rst_tree.specs.declared.node.Node.{Node}
 use Rattle.rst_tree.specs.declared.tag.Tag.TheVariants.{Attribution as AttributionTag}
 use Rattle.rst_markup_lines.specs.Attribution.{attribution_of}
-use Rattle.rst_markup_blocks.specs.Attributions.{level_lines, attribution_with, attribution_behind, attribution_by, attribution_at, attribution_part}
+use Rattle.rst_markup_blocks.specs.Attributions.{level_lines, attribution_with, attribution_after, attribution_by, attribution_at, attribution_part}
 use Rattle.rst_markup_blocks.specs.Conditions.{text_at, next_text}
 use Rattle.rst_markup_blocks.specs.Lines.{lines_while}
 use Rattle.rst_markup_blocks.specs.declared.lines.LineTest.TheVariants.{Blank}
@@ -32,13 +32,13 @@ inside_with k marker indent (Some n) X a some h e =
     (omega (arith, f), omega (arith, f, some, level_lines-le indent n (drop 1 X) h, length-drop 1 X))
 
 inside_by : (o : Option ℕ) (k : ℕ) (X : Block) (a : Attribution) → 1 ≤ length X → attribution_by o k X ≡ Some a → IsInside k (length X) a
-unfolding attribution_behind
+unfolding attribution_after
 inside_by None k X a some e = absurd (none_is e)
 inside_by (Some marker) k X a some e = inside_with k marker (indentation (next_text X)) (level_lines (indentation (next_text X)) (drop 1 X)) X a some refl e
 
 inside_at : (k : ℕ) (X : Block) (a : Attribution) → 1 ≤ length X → attribution_at k X ≡ Some a → IsInside k (length X) a
 unfolding attribution_at
-inside_at k X a some e = inside_by (attribution_of (front_text X)) k X a some e
+inside_at k X a some e = inside_by (attribution_of (first_text X)) k X a some e
 
 inside_in : (Q : Block) (o : Option Attribution) (i k : ℕ) (a : Attribution) → i < length Q → attribution_in Q i ≡ o → option_map {U = ℕ × Attribution} (λ b. (i, b)) o ≡ Some (k, a)
     → (k < a.end) × (a.end ≤ length Q)

@@ -3,7 +3,7 @@ use Rattle.std.proofs.Common.{◌≡◌, ℕ, zero, suc, ◌+◌, ◌-◌, ◌<�
 use Rattle.std.specs.Prelude.{◌==◌, if◌then◌else◌}
 use Rattle.std.proofs.lemmas.List.{drop_all, drop-drop}
 use Rattle.std.proofs.lemmas.Bool.{cases_lt}
-use Rattle.rst_text.specs.Block.{Block, is_blank, front_text}
+use Rattle.rst_text.specs.Block.{Block, is_blank, first_text}
 use Rattle.rst_tree.specs.declared.node.Node.{Node}
 use Rattle.rst_markup_blocks.specs.Partition.{Span, spans_from, construct_size, construct_end, AreBlank, IsBlankAt, IsTextAt}
 use Rattle.rst_markup_blocks.proofs.PartitionLemmas.{past, construct_at, over_blanks, none_past}
@@ -16,8 +16,8 @@ use Rattle.rst_block_state.specs.Lists.{item_by}
 use Rattle.rst_block_state.specs.Markup.{markup_nodes}
 use Rattle.rst_block_state.specs.Nodes.{nodes_among, piece_of, plainly, ending_notes}
 use Rattle.rst_block_state.specs.Numbered.{Numbered, ◌>>=◌, just, before}
-use Rattle.rst_block_state.specs.Rest.{OpenRun, no_run, open_lines, open_markup, joining_of_run, closed_run, joining_with, last_indent, joined_run, begun_run, run_after, with_items, closed_before, given_at_once, walk, found_from, rest, found_in, rest_with}
-use Rattle.rst_block_state.specs.RestLaws.{found_as, IsAlone}
+use Rattle.rst_block_state.specs.machine.Rest.{OpenRun, no_run, open_lines, open_markup, joining_of_run, closed_run, joining_with, last_indent, joined_run, begun_run, run_after, with_items, closed_before, given_at_once, walk, found_from, rest, found_in, rest_with}
+use Rattle.rst_block_state.specs.machine.RestLaws.{found_as, IsAlone}
 use Rattle.rst_block_state.specs.Titles.{Item, plain}
 use Rattle.rst_block_state.specs.Within.{Within}
 use Rattle.rst_block_state.proofs.NumberedLemmas.{same_after, after_after, before_nil}

@@ -8,7 +8,7 @@ use Rattle.std.specs.declared.string.String.{String}
 use Rattle.std.proofs.lemmas.Str.{encodes-append, encode_ascii, chars_past_char, chars_from_encodes, IsUtf8-string_bytes}
 use Rattle.std.proofs.lemmas.Bool.{cases_lt}
 use Rattle.std.proofs.lemmas.List.{take_all, drop_all, take-map}
-use Rattle.rst_text.specs.Block.{Line, Block, front_text, shorten, shorten_all}
+use Rattle.rst_text.specs.Block.{Line, Block, first_text, shorten, shorten_all}
 use Rattle.rst_text.specs.Text.{chars_of}
 use Rattle.rst_text.proofs.Indenting.{no_chars}
 use Rattle.rst_text.proofs.Scanning.{past_char}
@@ -26,10 +26,10 @@ pub Copies-step : (from count left next c : ℕ) (text part rest after more : Li
     → Copies from count text more after next
 Copies-step from count left next c text part rest after more s e one is = record {
   value =
-      let front : take left (chars rest) ≡ c ∷ take next (chars after) = rw (chars_past_char rest after c s.utf8 e, one) refl in
+      let prefix : take left (chars rest) ≡ c ∷ take next (chars after) = rw (chars_past_char rest after c s.utf8 e, one) refl in
       ap (λ p. p ++ encode_utf8_all (take next (chars after))) is
       ∙ append_assoc part (encode c) (encode_utf8_all (take next (chars after)))
-      ∙ ap (λ t. part ++ encode_utf8_all t) (sym front)
+      ∙ ap (λ t. part ++ encode_utf8_all t) (sym prefix)
       ∙ s.value;
   utf8 = (past_char rest after c s.utf8 e).1;
 }
@@ -45,7 +45,7 @@ Copies-end from count left text part rest s none =
 -- ---- lines
 
 -- one more line
-take_one_more : (i : ℕ) (B : Block) → i < length B → take (suc i) (map (λ (l : Line). l.text) B) ≡ take i (map (λ (l : Line). l.text) B) ++ front_text (drop i B) ∷ []
+take_one_more : (i : ℕ) (B : Block) → i < length B → take (suc i) (map (λ (l : Line). l.text) B) ≡ take i (map (λ (l : Line). l.text) B) ++ first_text (drop i B) ∷ []
 take_one_more i [] h = absurd (omega arith)
 take_one_more zero (l ∷ ls) h = refl
 take_one_more (suc i) (l ∷ ls) h = ap (λ ts. l.text ∷ ts) (take_one_more i ls (omega arith))
@@ -55,38 +55,38 @@ join_more c t [] u = refl
 join_more c t (s ∷ ts) u = ap (λ x. t ++ c ∷ x) (join_more c s ts u) ∙ sym (append_assoc t (c ∷ join_with_byte c (s ∷ ts)) (c ∷ u))
 
 -- the texts of the first lines, joined
-joined_front : (i : ℕ) (B : Block) → joined (take i B) ≡ join_with_byte 10 (take i (map (λ (l : Line). l.text) B))
-joined_front i B = ap (join_with_byte 10) (sym (take-map (λ (l : Line). l.text) i B))
+joined_taken : (i : ℕ) (B : Block) → joined (take i B) ≡ join_with_byte 10 (take i (map (λ (l : Line). l.text) B))
+joined_taken i B = ap (join_with_byte 10) (sym (take-map (λ (l : Line). l.text) i B))
 
-spelled_first : (B : Block) → 0 < length B → spelled (take 1 B) ≡ encode_utf8_all (front_text (drop 0 B))
+spelled_first : (B : Block) → 0 < length B → spelled (take 1 B) ≡ encode_utf8_all (first_text (drop 0 B))
 spelled_first [] h = absurd (omega arith)
 spelled_first (l ∷ ls) h = refl
 
-joined_more : (i : ℕ) (B : Block) → 0 < i → i < length B → joined (take (suc i) B) ≡ joined (take i B) ++ 10 ∷ front_text (drop i B)
+joined_more : (i : ℕ) (B : Block) → 0 < i → i < length B → joined (take (suc i) B) ≡ joined (take i B) ++ 10 ∷ first_text (drop i B)
 joined_more i [] z h = absurd (omega arith)
 joined_more zero (l ∷ ls) z h = absurd (omega arith)
 joined_more (suc i) (l ∷ ls) z h =
-    joined_front (suc (suc i)) (l ∷ ls)
+    joined_taken (suc (suc i)) (l ∷ ls)
     ∙ ap (λ ts. join_with_byte 10 (l.text ∷ ts)) (take_one_more i ls (omega arith))
-    ∙ join_more 10 l.text (take i (map (λ (m : Line). m.text) ls)) (front_text (drop i ls))
-    ∙ ap (λ t. t ++ 10 ∷ front_text (drop i ls)) (sym (joined_front (suc i) (l ∷ ls)))
+    ∙ join_more 10 l.text (take i (map (λ (m : Line). m.text) ls)) (first_text (drop i ls))
+    ∙ ap (λ t. t ++ 10 ∷ first_text (drop i ls)) (sym (joined_taken (suc i) (l ∷ ls)))
 
-spelled_more : (i : ℕ) (B : Block) → 0 < i → i < length B → spelled (take (suc i) B) ≡ (spelled (take i B) ++ 10 ∷ []) ++ encode_utf8_all (front_text (drop i B))
+spelled_more : (i : ℕ) (B : Block) → 0 < i → i < length B → spelled (take (suc i) B) ≡ (spelled (take i B) ++ 10 ∷ []) ++ encode_utf8_all (first_text (drop i B))
 spelled_more i B z h =
-    let more : List ℕ = encodes (front_text (drop i B)) in
+    let more : List ℕ = encodes (first_text (drop i B)) in
     ap encodes (joined_more i B z h)
-    ∙ encodes-append (joined (take i B)) (10 ∷ front_text (drop i B))
+    ∙ encodes-append (joined (take i B)) (10 ∷ first_text (drop i B))
     ∙ ap (λ x. encodes (joined (take i B)) ++ (x ++ more)) (encode_ascii 10 (omega arith))
     ∙ sym (append_assoc (encodes (joined (take i B))) (10 ∷ []) more)
 
 -- The texts of the first lines with one more, whose text is put after a line feed unless it is the first.
-pub spelled_step : (i : ℕ) (B : Block) (front between after line : List ℕ) → i < length B → front ≡ spelled (take i B) → line ≡ encode_utf8_all (front_text (drop i B))
-    → (((0 < i) × (between ≡ front ++ 10 ∷ [])) ⊎ ((i ≡ 0) × (between ≡ front))) → after ≡ between ++ line → after ≡ spelled (take (i + 1) B)
-spelled_step i B front between after line h f l (inl b) a =
+pub spelled_step : (i : ℕ) (B : Block) (prefix between after line : List ℕ) → i < length B → prefix ≡ spelled (take i B) → line ≡ encode_utf8_all (first_text (drop i B))
+    → (((0 < i) × (between ≡ prefix ++ 10 ∷ [])) ⊎ ((i ≡ 0) × (between ≡ prefix))) → after ≡ between ++ line → after ≡ spelled (take (i + 1) B)
+spelled_step i B prefix between after line h f l (inl b) a =
     a ∙ ap (λ x. x ++ line) (b.1 ∙ ap (λ x. x ++ 10 ∷ []) f) ∙ ap (λ x. (spelled (take i B) ++ 10 ∷ []) ++ x) l ∙ rw add-one (sym (spelled_more i B b.0 h))
-spelled_step i B front between after line h f l (inr b) a =
+spelled_step i B prefix between after line h f l (inr b) a =
     let none : between ≡ [] = b.1 ∙ f ∙ ap (λ n. spelled (take n B)) b.0 in
-    a ∙ ap (λ x. x ++ line) none ∙ l ∙ ap (λ n. encode_utf8_all (front_text (drop n B))) b.0 ∙ sym (spelled_first B (omega arith)) ∙ ap (λ n. spelled (take (n + 1) B)) (sym b.0)
+    a ∙ ap (λ x. x ++ line) none ∙ l ∙ ap (λ n. encode_utf8_all (first_text (drop n B))) b.0 ∙ sym (spelled_first B (omega arith)) ∙ ap (λ n. spelled (take (n + 1) B)) (sym b.0)
 
 -- the characters of a text that spells lines
 pub chars_spelled : {A : Type 0} (s : String A) (B : Block) → string_bytes s ≡ spelled B → chars_of s ≡ joined B

@@ -30,10 +30,10 @@ title_reads style t line warning lines number next element notes e =
     ap (then_read (λ (made : Node × List Node). just (titled (record { style = style; element = made.0; notes = made.1; warning = warning; line = line; source = lines }) ∷ []))) e
 
 -- a directive's element with a title and the messages on its text, where that begins in the title's own line
-pub titled_reads : (name : Name) (element : Node) (line at : ℕ) (t u : List ℕ) (number next : ℕ) (title : Node) (notes held : List Node) (made whole : Node) → line ≡ at → t ≡ u
-    → texted TitleTag line t line number ≡ Ok ((title, notes), next) → made ≡ titled_element name element title → held ≡ title ∷ notes → whole ≡ filled made held
+pub titled_reads : (name : Name) (element : Node) (line at : ℕ) (t u : List ℕ) (number next : ℕ) (title : Node) (notes title_nodes : List Node) (made whole : Node) → line ≡ at → t ≡ u
+    → texted TitleTag line t line number ≡ Ok ((title, notes), next) → made ≡ titled_element name element title → title_nodes ≡ title ∷ notes → whole ≡ filled made title_nodes
     → then_read (λ (read : Node × List Node). just (filled (titled_element name element read.0) (read.0 ∷ read.1))) (texted TitleTag at u at number) ≡ Ok (whole, next)
-titled_reads name element line at t u number next title notes held made whole l e r m h w =
+titled_reads name element line at t u number next title notes title_nodes made whole l e r m h w =
     let read : texted TitleTag at u at number ≡ Ok ((title, notes), next) = sym (ap (λ x. texted TitleTag line x line number) e ∙ ap (λ x. texted TitleTag x u x number) l) ∙ r in
     let node : whole ≡ filled (titled_element name element title) (title ∷ notes) = w ∙ ap (filled made) h ∙ ap (λ (n : Node). filled n (title ∷ notes)) m in
     ap (then_read (λ (read : Node × List Node). just (filled (titled_element name element read.0) (read.0 ∷ read.1)))) read ∙ ap (λ (n : Node). Ok (n, next)) (sym node)

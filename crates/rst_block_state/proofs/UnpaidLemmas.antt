@@ -4,9 +4,9 @@ use Rattle.std.proofs.Math.Nat.{max-le}
 use Rattle.std.specs.List.{list_all, prefix_len}
 use Rattle.std.proofs.lemmas.Bool.{and_parts}
 use Rattle.std.proofs.lemmas.List.{drop-drop}
-use Rattle.rst_text.specs.Block.{Line, Block, front_text, is_blank}
+use Rattle.rst_text.specs.Block.{Line, Block, first_text, is_blank}
 use Rattle.rst_text.specs.Reach.{reach, through_text}
-use Rattle.rst_markup_lines.specs.Front.{begins_with}
+use Rattle.rst_markup_lines.specs.TextStart.{begins_with}
 use Rattle.rst_markup_lines.specs.Class.{is_in, run}
 use Rattle.rst_markup_lines.specs.declared.class.Class.TheVariants.{Either}
 use Rattle.rst_markup_lines.specs.Border.{is_grid_border, is_simple_border}
@@ -25,7 +25,7 @@ use Rattle.rst_markup_blocks.specs.declared.kind.Kind.TheVariants.{Blank, Quote,
 use Rattle.rst_markup_blocks.proofs.RowLemmas.{row_of_kind}
 use Rattle.rst_markup_blocks.proofs.PartitionLemmas.{end_inside}
 use Rattle.rst_markup_tables.proofs.ScanLemmas.{no_grid, no_simple}
-use Rattle.rst_block_state.specs.Reaches.{through, behind, is_behind_grid, is_behind_simple, unpaid}
+use Rattle.rst_block_state.specs.looks.Reaches.{through, lines_beyond, is_after_grid, is_after_simple, unpaid}
 
 through_le : (p : List ℕ → Bool) (X : Block) → through p X ≤ length X
 unfolding through
@@ -44,16 +44,16 @@ one_less p l ls = by (p l.text)
     by true = omega arith
     by false = omega arith
 
-behind_drop : (p : List ℕ → Bool) (n : ℕ) (X : Block) → behind p (drop n X) ≤ behind p X
-behind_drop p zero X = omega arith
-behind_drop p (suc n) [] = omega arith
-behind_drop p (suc n) (l ∷ ls) = omega (arith, behind_drop p n ls, one_less p l ls, through_le p ls)
+lines_beyond_drop : (p : List ℕ → Bool) (n : ℕ) (X : Block) → lines_beyond p (drop n X) ≤ lines_beyond p X
+lines_beyond_drop p zero X = omega arith
+lines_beyond_drop p (suc n) [] = omega arith
+lines_beyond_drop p (suc n) (l ∷ ls) = omega (arith, lines_beyond_drop p n ls, one_less p l ls, through_le p ls)
 
 -- where the first line fails the test, all lines after it come after the first that fails
-behind_step : (p : List ℕ → Bool) (n : ℕ) (X : Block) → 1 ≤ n → n ≤ length X → through p X ≤ 1 → behind p (drop n X) + through p (drop n X) ≤ behind p X
-behind_step p n X some fits one = omega (arith, through_le p (drop n X), length-drop n X)
+lines_beyond_step : (p : List ℕ → Bool) (n : ℕ) (X : Block) → 1 ≤ n → n ≤ length X → through p X ≤ 1 → lines_beyond p (drop n X) + through p (drop n X) ≤ lines_beyond p X
+lines_beyond_step p n X some fits one = omega (arith, through_le p (drop n X), length-drop n X)
 
-stops : (p : List ℕ → Bool) (X : Block) → p (front_text X) ≡ false → through p X ≤ 1
+stops : (p : List ℕ → Bool) (X : Block) → p (first_text X) ≡ false → through p X ≤ 1
 unfolding through
 stops p [] h = omega arith
 stops p (l ∷ ls) h = rw h (omega arith)
@@ -69,7 +69,7 @@ text_is (l ∷ ls) = by (is_blank l.text) (text_is ls)
     by false h = refl
 
 -- n lines that pass, and the one after them, if there is one
-passing : (p : List ℕ → Bool) (n : ℕ) (Y : Block) → ((k : ℕ) → k < n → p (front_text (drop k Y)) ≡ true) → min (suc n) (length Y) ≤ through p Y
+passing : (p : List ℕ → Bool) (n : ℕ) (Y : Block) → ((k : ℕ) → k < n → p (first_text (drop k Y)) ≡ true) → min (suc n) (length Y) ≤ through p Y
 unfolding through
 passing p n [] h = omega arith
 passing p zero (l ∷ ls) h = by (p l.text)
@@ -79,13 +79,13 @@ passing p zero (l ∷ ls) h = by (p l.text)
     by false = omega arith
 passing p (suc n) (l ∷ ls) h = let here : p l.text ≡ true = h 0 (omega arith) in rw here (omega (arith, passing p n ls (λ k small. h (suc k) (omega (arith, small)))))
 
-while_pass : (X : Block) (k : ℕ) → k < lines_while Drawn X → is_drawn (front_text (drop k X)) ≡ true
+while_pass : (X : Block) (k : ℕ) → k < lines_while Drawn X → is_drawn (first_text (drop k X)) ≡ true
 unfolding lines_while
 while_pass [] k h = absurd (omega arith)
 while_pass (l ∷ ls) k h = by (is_drawn l.text) refl k h (while_pass ls)
   where
     by : (b : Bool) → is_drawn l.text ≡ b → (k : ℕ) → k < cond b (suc (lines_while Drawn ls)) 0
-        → ((j : ℕ) → j < lines_while Drawn ls → is_drawn (front_text (drop j ls)) ≡ true) → is_drawn (front_text (drop k (l ∷ ls))) ≡ true
+        → ((j : ℕ) → j < lines_while Drawn ls → is_drawn (first_text (drop j ls)) ≡ true) → is_drawn (first_text (drop k (l ∷ ls))) ≡ true
     by true e zero h others = e
     by true e (suc j) h others = others j (omega (arith, h))
     by false e k h others = absurd (omega (arith, h))
@@ -94,35 +94,35 @@ shift : (n k : ℕ) (X : Block) → drop k (drop n X) ≡ drop (n + k) X
 shift n k X = drop-drop k n X
 
 -- what a scan for a grid table goes over
-grid_over : (X : Block) → grid_size X ≤ lines_while Drawn X → grid_scan X ≤ grid_size X + through is_behind_grid (drop (grid_size X) X)
+grid_over : (X : Block) → grid_size X ≤ lines_while Drawn X → grid_scan X ≤ grid_size X + through is_after_grid (drop (grid_size X) X)
 unfolding grid_scan
 grid_over X fits =
     let g : ℕ = grid_size X in
     let m : ℕ = lines_while Drawn X in
     let Y : Block = drop g X in
-    let each : (k : ℕ) → k < m - g → is_behind_grid (front_text (drop k Y)) ≡ true =
+    let each : (k : ℕ) → k < m - g → is_after_grid (first_text (drop k Y)) ≡ true =
     λ k small.
     let place : drop k Y ≡ drop (g + k) X = shift g k X in
-    let drawn : is_drawn (front_text (drop (g + k) X)) ≡ true = while_pass X (g + k) (omega (arith, small)) in
+    let drawn : is_drawn (first_text (drop (g + k) X)) ≡ true = while_pass X (g + k) (omega (arith, small)) in
     let inside : g + k < grid_scan X = omega (arith, small, while_le Drawn X) in
-    let none : is_grid_border (front_text (drop (g + k) X)) ≡ false = no_grid X (g + k) (omega arith) inside in
+    let none : is_grid_border (first_text (drop (g + k) X)) ≡ false = no_grid X (g + k) (omega arith) inside in
     rw place (rw (drawn, none) refl)
     in
-    omega (arith, passing is_behind_grid (m - g) Y each, length-drop g X, fits, while_le Drawn X)
+    omega (arith, passing is_after_grid (m - g) Y each, length-drop g X, fits, while_le Drawn X)
 
 -- what a scan for a simple table goes over
-simple_over : (X : Block) → simple_size X ≤ length X → simple_scan X ≤ simple_size X + through is_behind_simple (drop (simple_size X) X)
+simple_over : (X : Block) → simple_size X ≤ length X → simple_scan X ≤ simple_size X + through is_after_simple (drop (simple_size X) X)
 simple_over X fits =
     let g : ℕ = simple_size X in
     let m : ℕ = simple_scan X in
     let Y : Block = drop g X in
-    let each : (k : ℕ) → k < m - g → is_behind_simple (front_text (drop k Y)) ≡ true =
+    let each : (k : ℕ) → k < m - g → is_after_simple (first_text (drop k Y)) ≡ true =
     λ k small.
     let place : drop k Y ≡ drop (g + k) X = shift g k X in
-    let none : is_lower_border (front_text (drop (g + k) X)) ≡ false = no_simple X (g + k) (omega arith) (omega (arith, small)) in
+    let none : is_lower_border (first_text (drop (g + k) X)) ≡ false = no_simple X (g + k) (omega arith) (omega (arith, small)) in
     rw place (rw none refl)
     in
-    omega (arith, passing is_behind_simple (m - g) Y each, length-drop g X, simple_scan_le X)
+    omega (arith, passing is_after_simple (m - g) Y each, length-drop g X, simple_scan_le X)
 
 all_run : (p : ℕ → Bool) (t : List ℕ) → list_all p t ≡ true → drop (prefix_len p t) t ≡ []
 all_run p [] h = refl
@@ -144,37 +144,37 @@ top_is_border t h =
 pub begin : (X : Block) → unpaid X ≤ 4 * length X
 begin X = omega arith
 
-ordinary : (n : ℕ) (X : Block) → 1 ≤ n → n ≤ length X → is_blank (front_text X) ≡ false → reach n X + unpaid (drop n X) ≤ unpaid X
+ordinary : (n : ℕ) (X : Block) → 1 ≤ n → n ≤ length X → is_blank (first_text X) ≡ false → reach n X + unpaid (drop n X) ≤ unpaid X
 ordinary n X some fits text =
-    omega (arith, length-drop n X, text_is (drop n X), behind_step is_blank n X some fits (stops is_blank X text), behind_drop is_behind_grid n X, behind_drop is_behind_simple n X)
+    omega (arith, length-drop n X, text_is (drop n X), lines_beyond_step is_blank n X some fits (stops is_blank X text), lines_beyond_drop is_after_grid n X, lines_beyond_drop is_after_simple n X)
 
-grid : (X : Block) → 1 ≤ grid_size X → grid_size X ≤ length X → is_blank (front_text X) ≡ false → is_grid_border (front_text X) ≡ true → grid_reach X + unpaid (drop (grid_size X) X) ≤ unpaid X
+grid : (X : Block) → 1 ≤ grid_size X → grid_size X ≤ length X → is_blank (first_text X) ≡ false → is_grid_border (first_text X) ≡ true → grid_reach X + unpaid (drop (grid_size X) X) ≤ unpaid X
 grid X some fits text border =
     let n : ℕ = grid_size X in
-    let stop : is_behind_grid (front_text X) ≡ false = rw border (last (is_drawn (front_text X))) in
-    let b = behind_step is_blank n X some fits (stops is_blank X text) in
-    let g = behind_step is_behind_grid n X some fits (stops is_behind_grid X stop) in
-    let s = behind_drop is_behind_simple n X in
-    let one : reach n X ≤ n + (through is_blank (drop n X) + through is_behind_grid (drop n X)) = omega (arith, text_is (drop n X)) in
-    let two : grid_scan X ≤ n + (through is_blank (drop n X) + through is_behind_grid (drop n X)) = omega (arith, grid_over X (grid_size_le X)) in
+    let stop : is_after_grid (first_text X) ≡ false = rw border (last (is_drawn (first_text X))) in
+    let b = lines_beyond_step is_blank n X some fits (stops is_blank X text) in
+    let g = lines_beyond_step is_after_grid n X some fits (stops is_after_grid X stop) in
+    let s = lines_beyond_drop is_after_simple n X in
+    let one : reach n X ≤ n + (through is_blank (drop n X) + through is_after_grid (drop n X)) = omega (arith, text_is (drop n X)) in
+    let two : grid_scan X ≤ n + (through is_blank (drop n X) + through is_after_grid (drop n X)) = omega (arith, grid_over X (grid_size_le X)) in
     omega (arith, length-drop n X, b, g, s, max-le one two)
   where
     last : (b : Bool) → (b && not true) ≡ false
     last true = refl
     last false = refl
 
-simple : (X : Block) → 1 ≤ simple_size X → simple_size X ≤ length X → is_blank (front_text X) ≡ false → is_simple_border (front_text X) ≡ true → simple_reach X + unpaid (drop (simple_size X) X) ≤ unpaid X
+simple : (X : Block) → 1 ≤ simple_size X → simple_size X ≤ length X → is_blank (first_text X) ≡ false → is_simple_border (first_text X) ≡ true → simple_reach X + unpaid (drop (simple_size X) X) ≤ unpaid X
 simple X some fits text border =
     let n : ℕ = simple_size X in
-    let stop : is_behind_simple (front_text X) ≡ false = rw (top_is_border (front_text X) border) refl in
-    let b = behind_step is_blank n X some fits (stops is_blank X text) in
-    let g = behind_drop is_behind_grid n X in
-    let s = behind_step is_behind_simple n X some fits (stops is_behind_simple X stop) in
-    let one : reach n X ≤ n + (through is_blank (drop n X) + through is_behind_simple (drop n X)) = omega (arith, text_is (drop n X)) in
-    let two : simple_scan X ≤ n + (through is_blank (drop n X) + through is_behind_simple (drop n X)) = omega (arith, simple_over X fits) in
+    let stop : is_after_simple (first_text X) ≡ false = rw (top_is_border (first_text X) border) refl in
+    let b = lines_beyond_step is_blank n X some fits (stops is_blank X text) in
+    let g = lines_beyond_drop is_after_grid n X in
+    let s = lines_beyond_step is_after_simple n X some fits (stops is_after_simple X stop) in
+    let one : reach n X ≤ n + (through is_blank (drop n X) + through is_after_simple (drop n X)) = omega (arith, text_is (drop n X)) in
+    let two : simple_scan X ≤ n + (through is_blank (drop n X) + through is_after_simple (drop n X)) = omega (arith, simple_over X fits) in
     omega (arith, length-drop n X, b, g, s, max-le one two)
 
-pub paid : (titles : Bool) (X : Block) → is_blank (front_text X) ≡ false → row_reach (kind_at X) titles X + unpaid (drop (construct_size titles X) X) ≤ unpaid X
+pub paid : (titles : Bool) (X : Block) → is_blank (first_text X) ≡ false → row_reach (kind_at X) titles X + unpaid (drop (construct_size titles X) X) ≤ unpaid X
 unfolding construct_size
 paid titles [] text = absurd cc
 paid titles (l ∷ ls) text =
@@ -201,4 +201,4 @@ paid titles (l ∷ ls) text =
 
 -- one line less is one line less that is unpaid
 pub passed : (X : Block) → 1 ≤ length X → unpaid (drop 1 X) + 1 ≤ unpaid X
-passed X some = omega (arith, some, length-drop 1 X, behind_drop is_blank 1 X, behind_drop is_behind_grid 1 X, behind_drop is_behind_simple 1 X)
+passed X some = omega (arith, some, length-drop 1 X, lines_beyond_drop is_blank 1 X, lines_beyond_drop is_after_grid 1 X, lines_beyond_drop is_after_simple 1 X)

@@ -16,13 +16,13 @@ use Rattle.rst_markup_tables.specs.declared.results.Cell.{Cell}
 use Rattle.rst_markup_tables.specs.declared.results.TableResult.{TableResult}
 use Rattle.rst_markup_tables.specs.declared.results.TableResult.TheVariants.{Table}
 use Rattle.rst_block_nodes.specs.declared.texted.Texted.{Texted}
-use Rattle.rst_block_state.specs.Budget.{sum_of, total}
+use Rattle.rst_block_state.specs.looks.Budget.{sum_of, total}
 use Rattle.rst_block_state.specs.Inside.{quoted_by, quoted, quoted_blocks, cell_blocks}
-use Rattle.rst_block_state.specs.Ledger.{total_at, totals, most_from, least_from, goes_on_at, part_blocks, quotes_left, run_looks, waiting_looks, end_looks, next_blocks, next_cells, place_after, most_after, least_after, most_left, least_left, GoesOn, WaitsForOne, AreQuotesPaid, Takes}
-use Rattle.rst_block_state.specs.MeaningLaws.{front_of}
-use Rattle.rst_block_state.specs.Meanings.{deepest}
+use Rattle.rst_block_state.specs.looks.Ledger.{total_at, totals, most_from, least_from, goes_on_at, part_blocks, quotes_left, run_looks, waiting_looks, end_looks, next_blocks, next_cells, place_after, most_after, least_after, most_left, least_left, GoesOn, WaitsForOne, AreQuotesPaid, Takes}
+use Rattle.rst_block_state.specs.machine.MeaningLaws.{first_lines_of}
+use Rattle.rst_block_state.specs.machine.Meanings.{deepest}
 use Rattle.rst_block_state.specs.Quotes.{first_attribution, quote_after}
-use Rattle.rst_block_state.specs.Steps.{rest_of}
+use Rattle.rst_block_state.specs.machine.Steps.{rest_of}
 use Rattle.rst_block_state.specs.Texts.{lines_in}
 use Rattle.rst_block_state.specs.declared.open_block.OpenBlock.{OpenBlock}
 use Rattle.rst_block_state.specs.declared.waits.Waits.{Waits}
@@ -67,17 +67,17 @@ one_quote B p line e some = quoted_first (lines_in B p) None some e
 
 pub split_quotes : (B : Block) (p : Part) (k next line : ℕ) (a : Attribution) (made : Option (Box Texted Global)) → first_attribution (lines_in B p) ≡ Some (k, a)
     → next ≡ a.end + lines_while Blank (drop a.end (lines_in B p)) → p.to ≤ length B
-    → quoted_blocks (lines_in B p) ≡ lines_in B (front_of p k) ∷ quotes_left B (Quote line made (rest_of p next) p.to)
-split_quotes B p k next line a made e behind within =
+    → quoted_blocks (lines_in B p) ≡ lines_in B (first_lines_of p k) ∷ quotes_left B (Quote line made (rest_of p next) p.to)
+split_quotes B p k next line a made e after_blanks within =
     let Q : Block = lines_in B p in
     let w = attribution_within Q k a e in
     let count : length Q ≡ p.to - p.from = length-cut B p.from p.to p.first_cut p.rest_cut within in
-    let front : take k Q ≡ lines_in B (front_of p k) = take-cut B p.from p.to p.first_cut p.rest_cut k (omega (arith, w.0, w.1, count)) in
-    let place : drop next Q ≡ quote_after Q a = ap (λ n. drop n Q) behind ∙ sym (drop-drop (lines_while Blank (drop a.end Q)) a.end Q) in
+    let first_lines : take k Q ≡ lines_in B (first_lines_of p k) = take-cut B p.from p.to p.first_cut p.rest_cut k (omega (arith, w.0, w.1, count)) in
+    let place : drop next Q ≡ quote_after Q a = ap (λ n. drop n Q) after_blanks ∙ sym (drop-drop (lines_while Blank (drop a.end Q)) a.end Q) in
     quoted_first Q (Some (k, a)) (omega (arith, w.0, w.1)) e
-    ∙ ap (λ (C : Block). C ∷ quoted_blocks (quote_after Q a)) front
-    ∙ ap (λ (X : Block). lines_in B (front_of p k) ∷ quoted_blocks X) (sym place)
-    ∙ ap (λ (Cs : List Block). lines_in B (front_of p k) ∷ Cs) (rest Q (omega (arith, behind, w.0)) count refl)
+    ∙ ap (λ (C : Block). C ∷ quoted_blocks (quote_after Q a)) first_lines
+    ∙ ap (λ (X : Block). lines_in B (first_lines_of p k) ∷ quoted_blocks X) (sym place)
+    ∙ ap (λ (Cs : List Block). lines_in B (first_lines_of p k) ∷ Cs) (rest Q (omega (arith, after_blanks, w.0)) count refl)
   where
     left_of : Part
     left_of = record { from = p.from + next; to = p.to; first_cut = p.rest_cut; rest_cut = p.rest_cut }

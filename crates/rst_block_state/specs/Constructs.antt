@@ -2,13 +2,13 @@
 -- 'Transitions').
 use Rattle.std.specs.Prelude.{ℕ, Bool, List, [], ◌∷◌, ◌++◌, drop, codes, if◌then◌else◌}
 use Rattle.std.specs.Option.{option_map_or}
-use Rattle.rst_text.specs.Block.{Block, front_text, first_number}
+use Rattle.rst_text.specs.Block.{Block, first_text, first_number}
 use Rattle.rst_tree.specs.declared.node.Node.{Node}
 use Rattle.rst_tree.specs.declared.note.Level.{Level}
 use Rattle.rst_tree.specs.declared.note.Level.TheVariants.{Info, Error, Severe}
 use Rattle.rst_markup_lines.specs.Adornment.{adornment_of}
 use Rattle.rst_markup_lines.specs.Field.{field_of}
-use Rattle.rst_markup_lines.specs.Front.{first}
+use Rattle.rst_markup_lines.specs.TextStart.{first}
 use Rattle.rst_markup_lines.specs.Marker.{bullet, line_bar}
 use Rattle.rst_markup_lines.specs.declared.adornment.Adornment.{Adornment}
 use Rattle.rst_markup_lines.specs.declared.enumerator.Enumerator.{Enumerator}
@@ -25,7 +25,7 @@ use Rattle.rst_markup_blocks.specs.declared.form.TextForm.{TextForm}
 use Rattle.rst_markup_blocks.specs.declared.form.TextForm.TheVariants.{Paragraph, ShortUnderline, Definition, Title}
 use Rattle.rst_markup_blocks.specs.declared.kind.Kind.{Kind}
 use Rattle.rst_markup_blocks.specs.declared.kind.Kind.TheVariants.{Blank, Quote, Bullet, Enumerator as EnumeratorKind, Field, OptionItem, Doctest, Line, Grid, Simple, Explicit, Anonymous, Adornment as AdornmentKind, Text}
-use Rattle.rst_block_state.specs.Texts.{said}
+use Rattle.rst_block_state.specs.Texts.{system_message}
 
 -- An item of a list, by its mark: a bullet's character with its marker, an enumerator, a field's name with its marker, or the marker of options. An
 -- item of a definition list has no mark but its term, the text of its line, and the messages that explain why the line is a text.
@@ -59,7 +59,7 @@ pub data Construct : Type 0 where
 -- title is recognized.
 abbrev pub short_underline : Bool → Block → List Node
 short_underline titles X =
-    if titles then said Info (first_number (drop 1 X))
+    if titles then system_message Info (first_number (drop 1 X))
     (codes "Possible title underline, too short for the title.\nTreating it as ordinary text because it's so short.") ∷ []
     else []
 
@@ -72,7 +72,7 @@ text_by (Title short) titles infos X = underlined_title infos short
 
 -- the construct of the text in the first line, after messages that explain why the line is a text
 abbrev pub text_after : Bool → List Node → Block → Construct
-text_after titles infos X = text_by (text_form (front_text X) (next_text X)) titles infos X
+text_after titles infos X = text_by (text_form (first_text X) (next_text X)) titles infos X
 
 -- the construct of the text in the first line
 abbrev pub plain_text : Bool → Block → Construct
@@ -83,12 +83,12 @@ plain_text titles X = text_after titles [] X
 -- the INFO at an overline that is too short to be one
 abbrev pub short_overline : Block → Node
 short_overline X =
-    said Info (first_number X) (codes "Possible incomplete section title.\nTreating the overline as ordinary text because it's so short.")
+    system_message Info (first_number X) (codes "Possible incomplete section title.\nTreating the overline as ordinary text because it's so short.")
 
 -- the INFO at a line that is too short to be an overline or a transition, where neither is recognized
 abbrev pub short_adornment : Block → Node
 short_adornment X =
-    said Info (first_number X) (codes "Unexpected possible title overline or transition.\nTreating it as ordinary text because it's so short.")
+    system_message Info (first_number X) (codes "Unexpected possible title overline or transition.\nTreating it as ordinary text because it's so short.")
 
 -- the construct of a line of one punctuation character, by its form
 abbrev pub adorned_by : Adorned → Bool → Adornment → Block → Construct
@@ -111,26 +111,26 @@ adorned titles X mark = adorned_by (adorned_form titles mark (next_text X) (thir
 
 -- an item of a bullet list, where the first line begins with this character
 abbrev pub bullet_with : Bool → Block → ℕ → Construct
-bullet_with titles X c = option_map_or (λ m. item_of_list (bullet_item c m)) (bullet (front_text X)) (plain_text titles X)
+bullet_with titles X c = option_map_or (λ m. item_of_list (bullet_item c m)) (bullet (first_text X)) (plain_text titles X)
 
 -- The construct of the first line's kind, of which the line has the mark; a line without the mark would be a text. Anonymous targets are explicit
 -- markup.
 abbrev pub construct_by : Kind → Bool → Block → Construct
 construct_by Blank titles X = nothing
 construct_by Quote titles X = block_quote
-construct_by Bullet titles X = option_map_or (bullet_with titles X) (first (front_text X)) (plain_text titles X)
+construct_by Bullet titles X = option_map_or (bullet_with titles X) (first (first_text X)) (plain_text titles X)
 construct_by EnumeratorKind titles X =
-    option_map_or (λ e. item_of_list (enumerated_item e)) (item_enumerator (front_text X) (next_text X)) (plain_text titles X)
-construct_by Field titles X = option_map_or (λ m. item_of_list (field_item m)) (field_of (front_text X)) (plain_text titles X)
+    option_map_or (λ e. item_of_list (enumerated_item e)) (item_enumerator (first_text X) (next_text X)) (plain_text titles X)
+construct_by Field titles X = option_map_or (λ m. item_of_list (field_item m)) (field_of (first_text X)) (plain_text titles X)
 construct_by OptionItem titles X =
-    option_map_or (λ m. item_of_list (option_item m)) (item_option (front_text X) (next_text X) (after_text X)) (plain_text titles X)
+    option_map_or (λ m. item_of_list (option_item m)) (item_option (first_text X) (next_text X) (after_text X)) (plain_text titles X)
 construct_by Doctest titles X = doctest_block
-construct_by Line titles X = option_map_or bar_line (line_bar (front_text X)) (plain_text titles X)
+construct_by Line titles X = option_map_or bar_line (line_bar (first_text X)) (plain_text titles X)
 construct_by Grid titles X = grid
 construct_by Simple titles X = simple
 construct_by Explicit titles X = explicit_markup
 construct_by Anonymous titles X = explicit_markup
-construct_by AdornmentKind titles X = option_map_or (adorned titles X) (adornment_of (front_text X)) (plain_text titles X)
+construct_by AdornmentKind titles X = option_map_or (adorned titles X) (adornment_of (first_text X)) (plain_text titles X)
 construct_by Text titles X = plain_text titles X
 
 -- the construct that a block begins with, where titles are recognized in it or not; it is nothing only where the first line is blank or missing

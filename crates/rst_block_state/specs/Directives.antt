@@ -1,7 +1,7 @@
 -- Directives, and substitution definitions, which hold directives (Markup Specification, 'Directives', 'Substitution Definitions'; Directives,
 -- 'Admonitions', 'Images', 'Topic', 'Code', 'Replacement Text').
 use Rattle.std.specs.Prelude.{ℕ, true, false, List, [], ◌∷◌, ◌++◌, drop, codes, Option, Some, None, encode_utf8_all, if◌then◌else◌}
-use Rattle.rst_text.specs.Block.{Block, front_text, first_number}
+use Rattle.rst_text.specs.Block.{Block, first_text, first_number}
 use Rattle.rst_tree.specs.Forest.{Forest}
 use Rattle.rst_tree.specs.Nodes.{nodes_of}
 use Rattle.rst_tree.specs.declared.node.Node.{Node}
@@ -11,7 +11,7 @@ use Rattle.rst_tree.specs.declared.tag.Tag.{Tag}
 use Rattle.rst_tree.specs.declared.tag.Tag.TheVariants.{Paragraph, Title as TitleTag}
 use Rattle.rst_markup_blocks.specs.Partition.{Span}
 use Rattle.rst_markup_blocks.specs.declared.forms.Invocation.{Invocation}
-use Rattle.rst_markup_directives.specs.Argument.{Given, nothing, title, uri, language}
+use Rattle.rst_markup_directives.specs.Argument.{ArgumentMeaning, nothing, title, uri, language}
 use Rattle.rst_markup_directives.specs.Directive.{Read, Outcome, found, wrong, directive_at}
 use Rattle.rst_markup_directives.specs.Message.{fault_text}
 use Rattle.rst_markup_directives.specs.Wrong.{Fault, not_in_substitution}
@@ -30,7 +30,7 @@ use Rattle.rst_block_state.specs.Figures.{caption_error, figure_nodes}
 use Rattle.rst_block_state.specs.LineRuns.{number_or}
 use Rattle.rst_block_state.specs.Numbered.{Numbered, ◌>>=◌, just}
 use Rattle.rst_block_state.specs.Paragraphs.{is_single_paragraph}
-use Rattle.rst_block_state.specs.Texts.{excerpt, joined, lines_in, shown, source_of, spelled, texted}
+use Rattle.rst_block_state.specs.Texts.{excerpt, joined, lines_in, message_with_lines, span_source, spelled, texted}
 use Rattle.rst_block_state.specs.Within.{Within}
 
 -- The nodes of a content, which may be two blocks of one level: the lines before the options, and those after them. The content of a figure or of a
@@ -77,7 +77,7 @@ abbrev pub code_nodes : Block → ℕ → Read → Option (List ℕ) → List No
 code_nodes B line read word = code_element word read.options (spelled (lines_in B read.content.second)) line ∷ []
 
 -- a directive by its argument and its name: images and figures have a URI, program code may have a language
-abbrev pub right_by : Given → Name → Within → Block → ℕ → Read → List ℕ → Numbered (List Node)
+abbrev pub right_by : ArgumentMeaning → Name → Within → Block → ℕ → Read → List ℕ → Numbered (List Node)
 right_by nothing Code c B line read lines = just (code_nodes B line read None)
 right_by nothing name c B line read lines = plain_nodes c B line read
 right_by (title part) name c B line read lines = titled_nodes c B line read (lines_in B part)
@@ -87,13 +87,13 @@ right_by (language word) name c B line read lines = just (code_nodes B line read
 
 -- a directive, or the ERROR on one that is wrong, which shows its lines; no block of a wrong directive is read
 abbrev pub directive_by : Outcome → Within → Block → Span → List ℕ → Numbered (List Node)
-directive_by (found read) c B s name = right_by read.argument read.name c B (first_number (drop s.start B)) read (source_of B s)
-directive_by (wrong fault part) c B s name = just (shown Error (first_number (drop s.start B)) (fault_text fault name) (source_of B s) ∷ [])
+directive_by (found read) c B s name = right_by read.argument read.name c B (first_number (drop s.start B)) read (span_source B s)
+directive_by (wrong fault part) c B s name = just (message_with_lines Error (first_number (drop s.start B)) (fault_text fault name) (span_source B s) ∷ [])
 
 -- the directive that is called in the first of some lines; its place is the document itself where titles are recognized, else a body
 abbrev pub directive_nodes : Within → Block → Span → Invocation → Numbered (List Node)
 directive_nodes c B s call =
-    directive_by (called c B s.start call (if c.titles then Top else Body)) c B s (excerpt (front_text (drop s.start B)) call.name)
+    directive_by (called c B s.start call (if c.titles then Top else Body)) c B s (excerpt (first_text (drop s.start B)) call.name)
 
 -- ---- substitution definitions
 
@@ -116,7 +116,7 @@ first_paragraph (Text t ∷ ns) = first_paragraph ns
 abbrev pub replacement : List ℕ → ℕ → List ℕ → List Node → Node
 replacement name line lines children =
     if may_replace children then filled (substitution_definition_node name line) children
-    else shown Error line (about name (codes " contains an illegal element.")) lines
+    else message_with_lines Error line (about name (codes " contains an illegal element.")) lines
 
 -- the name in the message on a wrong directive in a definition: the definition's where it may not hold the directive, else that of the directive
 abbrev pub faulty_name : Fault → List ℕ → List ℕ → List ℕ
@@ -126,7 +126,7 @@ faulty_name _ name written = written
 -- A substitution definition by the argument of its directive: an image has a URI, and the definition's name in place of a missing `alt`. A
 -- replacement text has no argument: the children of its one paragraph replace a reference, and the messages that its block gives beside the
 -- paragraph are dropped.
-abbrev pub definition_by : Given → Within → Block → ℕ → List ℕ → Read → List ℕ → Numbered (List Node)
+abbrev pub definition_by : ArgumentMeaning → Within → Block → ℕ → List ℕ → Read → List ℕ → Numbered (List Node)
 definition_by (uri address) c B line name read lines =
     just (filled (substitution_definition_node name line)
     (image_element (encode_utf8_all address) read.options line false (Some name) ∷ []) ∷ [])
@@ -135,18 +135,18 @@ definition_by _ c B line name read lines = do
   just (replacement name line lines (first_paragraph nodes) ∷ [])
 
 -- a substitution definition with its directive, or the ERROR on a wrong one, which shows the definition's lines and leaves no definition
-abbrev pub holding : Outcome → Within → Block → Span → List ℕ → List ℕ → Numbered (List Node)
-holding (found read) c B s name written = definition_by read.argument c B (first_number (drop s.start B)) name read (source_of B s)
-holding (wrong fault part) c B s name written =
-    just (shown Error (first_number (drop s.start B)) (fault_text fault (faulty_name fault name written)) (source_of B s) ∷ [])
+abbrev pub definition_or_error : Outcome → Within → Block → Span → List ℕ → List ℕ → Numbered (List Node)
+definition_or_error (found read) c B s name written = definition_by read.argument c B (first_number (drop s.start B)) name read (span_source B s)
+definition_or_error (wrong fault part) c B s name written =
+    just (message_with_lines Error (first_number (drop s.start B)) (fault_text fault (faulty_name fault name written)) (span_source B s) ∷ [])
 
 -- a substitution definition by the directive that it holds, or the WARNING where it holds none, which leaves no definition
 abbrev pub substitution_by : Option Invocation → Within → Block → Span → List ℕ → Numbered (List Node)
 substitution_by None c B s name =
-    just (shown Warning (first_number (drop s.start B)) (about name (codes " empty or invalid.")) (source_of B s) ∷ [])
+    just (message_with_lines Warning (first_number (drop s.start B)) (about name (codes " empty or invalid.")) (span_source B s) ∷ [])
 substitution_by (Some call) c B s name =
-    holding (called c B s.start call Substitution) c B s name (excerpt (front_text (drop s.start B)) call.name)
+    definition_or_error (called c B s.start call Substitution) c B s name (excerpt (first_text (drop s.start B)) call.name)
 
 -- a substitution definition, by its name as it is written: without escapes, each run of whitespace is one space
 abbrev pub substitution_nodes : Within → Block → Span → List ℕ → Option Invocation → Numbered (List Node)
-substitution_nodes c B s written held = substitution_by held c B s (normalized (unescaped written))
+substitution_nodes c B s written embedded = substitution_by embedded c B s (normalized (unescaped written))

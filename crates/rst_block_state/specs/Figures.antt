@@ -1,6 +1,6 @@
 -- Figures with their captions and legends (Directives, 'Figure'; Document Tree, 'figure').
 use Rattle.std.specs.Prelude.{ℕ, List, [], ◌∷◌, drop, take, codes, unwrap_or}
-use Rattle.rst_tree.specs.Attributes.{said_number, value_of}
+use Rattle.rst_tree.specs.Attributes.{as_number, value_of}
 use Rattle.rst_tree.specs.Forest.{Forest, bare}
 use Rattle.rst_tree.specs.declared.attrs.Attr.{Attr}
 use Rattle.rst_tree.specs.declared.key.Key.TheVariants.{TextMessages}
@@ -11,7 +11,7 @@ use Rattle.rst_tree.specs.declared.tag.Tag.{Tag}
 use Rattle.rst_tree.specs.declared.tag.Tag.TheVariants.{Caption, Comment, Legend, Paragraph}
 use Rattle.rst_block_nodes.specs.Elements.{element_of}
 use Rattle.rst_block_nodes.specs.Sections.{filled}
-use Rattle.rst_block_state.specs.Texts.{shown}
+use Rattle.rst_block_state.specs.Texts.{message_with_lines}
 
 -- What the content of a figure begins with: a caption, and the number of the messages on its text, which follow it; an empty comment in place of a
 -- caption; or something else.
@@ -22,7 +22,7 @@ pub data Beginning : Type 0 where
 
 -- the number of messages on its text that an element has as an attribute
 abbrev pub message_count : List Attr → ℕ
-message_count a = unwrap_or (said_number (value_of TextMessages a)) 0
+message_count a = unwrap_or (as_number (value_of TextMessages a)) 0
 
 -- a comment is in place of a caption if it is empty
 abbrev pub comment_beginning : Forest → Beginning
@@ -60,4 +60,4 @@ figure_nodes figure error (n ∷ ns) = figure_by figure error (beginning_of n) n
 
 -- the ERROR on a figure whose content begins with neither a paragraph nor an empty comment
 abbrev pub caption_error : ℕ → List ℕ → Node
-caption_error line lines = shown Error line (codes "Figure caption must be a paragraph or empty comment.") lines
+caption_error line lines = message_with_lines Error line (codes "Figure caption must be a paragraph or empty comment.") lines

@@ -7,7 +7,7 @@ use Rattle.rst_markup_blocks.specs.declared.forms.Explicit.{Explicit}
 use Rattle.rst_markup_blocks.specs.declared.forms.Explicit.TheVariants.{Footnote, Citation, Substitution, Directive}
 use Rattle.rst_markup_blocks.specs.declared.forms.Invocation.{Invocation}
 use Rattle.rst_markup_blocks.specs.declared.part.Part.{Part}
-use Rattle.rst_markup_directives.specs.Argument.{Given, nothing, title, uri, language}
+use Rattle.rst_markup_directives.specs.Argument.{ArgumentMeaning, nothing, title, uri, language}
 use Rattle.rst_markup_directives.specs.Directive.{Outcome, found, wrong}
 use Rattle.rst_markup_directives.specs.declared.found.Content.{Content}
 use Rattle.rst_markup_directives.specs.declared.found.Place.TheVariants.{Top, Body, Substitution as InDefinition}
@@ -19,7 +19,7 @@ use Rattle.rst_markup_tables.specs.Tiling.{grid_table}
 use Rattle.rst_block_state.specs.Constructs.{ItemMark, bullet_item, enumerated_item, definition_item, field_item, option_item, Construct, block_quote, item_of_list, grid, simple, explicit_markup, Found}
 use Rattle.rst_block_state.specs.Directives.{called}
 use Rattle.rst_block_state.specs.Quotes.{first_attribution, quote_after}
-use Rattle.rst_block_state.specs.Rest.{found_from}
+use Rattle.rst_block_state.specs.machine.Rest.{found_from}
 use Rattle.rst_block_state.specs.Texts.{lines_in}
 use Rattle.rst_block_state.specs.Within.{Within, hanging, indented_part, item_part}
 
@@ -57,7 +57,7 @@ abbrev pub content_blocks : Block → Content → List Block
 content_blocks B content = lines_in B content.first ∷ lines_in B content.second ∷ []
 
 -- the content of a directive, by its argument and its name; an image has none, and program code is no block
-abbrev pub directive_content : Given → Name → Block → Content → List Block
+abbrev pub directive_content : ArgumentMeaning → Name → Block → Content → List Block
 directive_content nothing Code B content = []
 directive_content nothing name B content = content_blocks B content
 directive_content (title part) name B content = content_blocks B content
@@ -71,7 +71,7 @@ directive_blocks (found read) B = directive_content read.argument read.name B re
 directive_blocks (wrong fault part) B = []
 
 -- the content of a substitution definition, by the argument of its directive: an image, which has a URI, has none
-abbrev pub definition_content : Given → Block → Content → List Block
+abbrev pub definition_content : ArgumentMeaning → Block → Content → List Block
 definition_content (uri address) B content = []
 definition_content _ B content = content_blocks B content
 
@@ -88,7 +88,7 @@ substitution_blocks (Some call) c B i = definition_blocks (called c B i call InD
 abbrev pub markup_blocks : Explicit → Within → Block → ℕ → List Block
 markup_blocks (Footnote label body) c B i = lines_in B body ∷ []
 markup_blocks (Citation label body) c B i = lines_in B body ∷ []
-markup_blocks (Substitution name held end) c B i = substitution_blocks held c B i
+markup_blocks (Substitution name embedded end) c B i = substitution_blocks embedded c B i
 markup_blocks (Directive call) c B i = directive_blocks (called c B i call (if c.titles then Top else Body)) B
 markup_blocks _ c B i = []
 

@@ -1,6 +1,4 @@
-pub mod Frames
 pub mod Paragraphs
-pub mod Steps
 pub mod Numbered
 pub mod Runs
 pub mod Texts
@@ -17,17 +15,7 @@ pub mod Directives
 pub mod Markup
 pub mod Titles
 pub mod Nodes
-pub mod Begins
-pub mod Rest
-pub mod RestLaws
-pub mod Meanings
-pub mod OpenBlocks
-pub mod NextLine
-pub mod MeaningLaws
 pub mod Inside
-pub mod Budget
-pub mod BudgetLaws
-pub mod Reaches
-pub mod Ledger
-pub mod LedgerLaws
 pub mod Reads
+pub mod machine
+pub mod looks

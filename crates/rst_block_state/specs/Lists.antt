@@ -1,6 +1,6 @@
 -- Lists and their items (Markup Specification, 'Bullet Lists', 'Enumerated Lists', 'Definition Lists', 'Field Lists', 'Option Lists').
 use Rattle.std.specs.Prelude.{ℕ, ◌+◌, ◌==◌, List, [], ◌∷◌, ◌++◌, drop, map, slice_range, option_map, if◌then◌else◌}
-use Rattle.rst_text.specs.Block.{Block, front_text, first_number}
+use Rattle.rst_text.specs.Block.{Block, first_text, first_number}
 use Rattle.rst_tree.specs.Forest.{bare}
 use Rattle.rst_tree.specs.declared.node.Node.{Node}
 use Rattle.rst_tree.specs.declared.node.Node.TheVariants.{Element}
@@ -24,7 +24,7 @@ use Rattle.rst_block_nodes.specs.Elements.{element_of, bullet_list_node, enumera
 use Rattle.rst_block_nodes.specs.Sections.{filled}
 use Rattle.rst_block_state.specs.Constructs.{ItemMark, bullet_item, enumerated_item, definition_item, field_item, option_item, Construct, item_of_list}
 use Rattle.rst_block_state.specs.Numbered.{Numbered, ◌>>=◌, just}
-use Rattle.rst_block_state.specs.Texts.{excerpt, lines_in, said, termed, texted}
+use Rattle.rst_block_state.specs.Texts.{excerpt, lines_in, system_message, termed, texted}
 use Rattle.rst_block_state.specs.Within.{Within, hanging, indented_part, item_part}
 
 -- ---- items
@@ -43,29 +43,29 @@ list_item c B line part = do
   just (element_of ListItem [] nodes line ∷ [])
 
 -- an option with its argument, if it has one, by their places in a text
-abbrev pub option_in : List ℕ → ℕ → ListedOption → Node
-option_in t line o = option_node (excerpt t o.string) (option_map (λ (a : ListedArgument). (a.delimiter, excerpt t a.text)) o.argument) line
+abbrev pub option_element : List ℕ → ℕ → ListedOption → Node
+option_element t line o = option_node (excerpt t o.string) (option_map (λ (a : ListedArgument). (a.delimiter, excerpt t a.text)) o.argument) line
 
 -- the options of a line
 abbrev pub option_group : List ℕ → ℕ → Node
-option_group t line = element_of OptionGroup [] (map (option_in t line) (options_in t)) line
+option_group t line = element_of OptionGroup [] (map (option_element t line) (options_in t)) line
 
 -- an item of a definition list: the term and the classifiers in line i, with which X begins, and the indented block below it
 abbrev pub definition : Within → Block → ℕ → Block → Numbered (List Node)
 definition c B i X = do
-  made ← termed (front_text X) (first_number X)
+  made ← termed (first_text X) (first_number X)
   item_with c B DefinitionListItem Definition (first_number X) (indented_part (i + 1) (drop 1 X)) made.0 made.1
 
 -- a field: its name, and the hanging block of its marker
 abbrev pub field : Within → Block → ℕ → FieldMark → Block → Numbered (List Node)
 field c B i m X = do
-  made ← texted FieldName (first_number X) (slice_range (front_text X) m.name.from m.name.to) (first_number X)
+  made ← texted FieldName (first_number X) (slice_range (first_text X) m.name.from m.name.to) (first_number X)
   item_with c B Field FieldBody (first_number X) (hanging i m.marker X) (made.0 ∷ []) made.1
 
 -- an item of an option list: its options, and the hanging block of their marker
 abbrev pub option : Within → Block → ℕ → Marker → Block → Numbered (List Node)
 option c B i m X =
-    item_with c B OptionListItem Description (first_number X) (hanging i m X) (option_group (front_text X) (first_number X) ∷ []) []
+    item_with c B OptionListItem Description (first_number X) (hanging i m X) (option_group (first_text X) (first_number X) ∷ []) []
 
 -- the item of a list that has this mark in line i, with which X begins
 abbrev pub item_by : Within → Block → ℕ → ItemMark → Block → Numbered (List Node)
@@ -95,7 +95,7 @@ ordinal_place e = place_of (ordinal_from e.format) e.written.len
 abbrev pub start_note : Enumerator → Reading → Block → List Node
 start_note e reading X =
     if reading.ordinal == 1 then []
-    else said Info (first_number X) (start_text (excerpt (front_text X) (ordinal_place e)) reading.ordinal) ∷ []
+    else system_message Info (first_number X) (start_text (excerpt (first_text X) (ordinal_place e)) reading.ordinal) ∷ []
 
 -- a list whose element has no attributes
 abbrev pub bare_list : Tag → Block → Node

@@ -2,21 +2,21 @@
 -- Blocks').
 use Rattle.std.specs.Prelude.{ℕ, ◌-◌, ◌||◌, ◌==◌, nat_lt, List, [], ◌∷◌, ◌++◌, drop, take, length, codes, Option, Some, None, if◌then◌else◌}
 use Rattle.std.specs.Str.{drop_trailing_whitespace}
-use Rattle.rst_text.specs.Block.{Block, front_text, first_number, is_blank}
+use Rattle.rst_text.specs.Block.{Block, first_text, first_number, is_blank}
 use Rattle.rst_text.specs.Extent.{extent}
 use Rattle.rst_tree.specs.declared.node.Node.{Node}
 use Rattle.rst_tree.specs.declared.note.Level.TheVariants.{Warning, Error}
 use Rattle.rst_tree.specs.declared.tag.Tag.TheVariants.{Paragraph, LiteralBlock, DoctestBlock}
 use Rattle.rst_markup_lines.specs.Adornment.{is_punctuation}
 use Rattle.rst_markup_lines.specs.Closing.{ends_in_colons}
-use Rattle.rst_markup_lines.specs.Front.{first, begins_with}
+use Rattle.rst_markup_lines.specs.TextStart.{first, begins_with}
 use Rattle.rst_markup_blocks.specs.Lines.{lines_while}
 use Rattle.rst_markup_blocks.specs.Partition.{Span}
 use Rattle.rst_markup_blocks.specs.Sizes.{paragraph_len}
 use Rattle.rst_markup_blocks.specs.declared.lines.LineTest.TheVariants.{Blank, Begins}
 use Rattle.rst_block_nodes.specs.Elements.{preserved_node}
 use Rattle.rst_block_state.specs.Numbered.{Numbered, ◌>>=◌, just}
-use Rattle.rst_block_state.specs.Texts.{joined, lines_in, said, source_of, spelled, texted, unless_blank, warned}
+use Rattle.rst_block_state.specs.Texts.{joined, lines_in, system_message, span_source, spelled, texted, unless_blank, warned}
 use Rattle.rst_block_state.specs.Within.{indented_part}
 
 -- ---- literal blocks
@@ -37,12 +37,12 @@ quoting_text t = if begins_with 32 t then codes "Unexpected indentation." else c
 
 -- a quoted literal block: the n lines with which Z begins, and the ERROR where no blank line follows them
 abbrev pub quoted_literal : ℕ → Block → List Node
-quoted_literal n Z = literal_node (take n Z) ∷ unless_blank Error (quoting_text (front_text (drop n Z))) (drop n Z)
+quoted_literal n Z = literal_node (take n Z) ∷ unless_blank Error (quoting_text (first_text (drop n Z))) (drop n Z)
 
 -- the WARNING where there is no literal block: at the next line that isn't blank, with which Z begins, or else at the paragraph's last line
 abbrev pub no_literal : ℕ → Block → List Node
-no_literal last [] = said Warning last (codes "Literal block expected; none found.") ∷ []
-no_literal last (l ∷ ls) = said Warning l.number (codes "Literal block expected; none found.") ∷ []
+no_literal last [] = system_message Warning last (codes "Literal block expected; none found.") ∷ []
+no_literal last (l ∷ ls) = system_message Warning l.number (codes "Literal block expected; none found.") ∷ []
 
 -- The literal block with which Z begins, by the first character of Z: an indented block, or the lines that begin with that character if it is
 -- punctuation.
@@ -55,7 +55,7 @@ literal_by (Some c) last Z =
 
 -- the literal block after a paragraph whose last line has this number; blank lines may come before it
 abbrev pub literal_nodes : ℕ → Block → List Node
-literal_nodes last Y = let Z = drop (lines_while Blank Y) Y in literal_by (first (front_text Z)) last Z
+literal_nodes last Y = let Z = drop (lines_while Blank Y) Y in literal_by (first (first_text Z)) last Z
 
 -- ---- paragraphs
 
@@ -93,4 +93,4 @@ paragraph_nodes infos X = do
 
 -- a doctest block: its lines as they are
 abbrev pub doctest_node : Block → Span → Node
-doctest_node B s = preserved_node DoctestBlock (first_number (drop s.start B)) (source_of B s)
+doctest_node B s = preserved_node DoctestBlock (first_number (drop s.start B)) (span_source B s)

@@ -14,9 +14,9 @@ use Rattle.rst_block_state.specs.Literals.{doctest_node, paragraph_nodes}
 use Rattle.rst_block_state.specs.Markup.{markup_nodes}
 use Rattle.rst_block_state.specs.Numbered.{Numbered, ◌>>=◌, just, flat_each}
 use Rattle.rst_block_state.specs.Quotes.{quote_nodes}
-use Rattle.rst_block_state.specs.Runs.{Run, members, last_of}
+use Rattle.rst_block_state.specs.Runs.{Run, run_members, last_of}
 use Rattle.rst_block_state.specs.Tables.{table_nodes}
-use Rattle.rst_block_state.specs.Texts.{lines_in, shown, source_of, warned}
+use Rattle.rst_block_state.specs.Texts.{lines_in, message_with_lines, span_source, warned}
 use Rattle.rst_block_state.specs.Titles.{Item, plain, titled, overlined_nodes, transition_node, underlined_nodes}
 use Rattle.rst_block_state.specs.Within.{Within, indented_part}
 
@@ -49,9 +49,9 @@ piece_by grid c B s X = plainly (table_nodes c B s (grid_table B s.start))
 piece_by simple c B s X = plainly (table_nodes c B s (simple_table B s.start))
 piece_by explicit_markup c B s X = plainly (markup_nodes c B s)
 piece_by transition c B s X = just (plain (transition_node (first_number X)) ∷ [])
-piece_by (overlined_title mark short) c B s X = overlined_nodes mark short (source_of B s) X
-piece_by (misplaced_lines level text) c B s X = just (plain (shown level (first_number X) text (source_of B s)) ∷ [])
-piece_by (underlined_title infos short) c B s X = underlined_nodes c.titles infos short (source_of B s) X
+piece_by (overlined_title mark short) c B s X = overlined_nodes mark short (span_source B s) X
+piece_by (misplaced_lines level text) c B s X = just (plain (message_with_lines level (first_number X) text (span_source B s)) ∷ [])
+piece_by (underlined_title infos short) c B s X = underlined_nodes c.titles infos short (span_source B s) X
 piece_by (paragraph infos) c B s X = plainly (paragraph_nodes infos X)
 
 -- what a construct of a block gives by itself
@@ -60,14 +60,14 @@ piece_of c B f = piece_by f.what c B f.span (drop f.span.start B)
 
 -- the messages that explain why the lines of a run's terms are texts
 abbrev pub infos_among : Run Found → List Node
-infos_among run = flat_map (λ (f : Found). infos_of f.what) (members run)
+infos_among run = flat_map (λ (f : Found). infos_of f.what) (run_members run)
 
 -- What a run is, by its first construct and by what all its constructs gave: a list of these items, the line block of its lines, or just what they
 -- gave.
 abbrev pub whole_by : Construct → Within → Block → Run Found → List Item → Numbered (List Item)
 whole_by (item_of_list mark) c B run items =
     just (map plain (list_by mark (drop run.first.span.start B) (infos_among run) (nodes_among items)))
-whole_by (bar_line m) c B run items = plainly (line_nodes c B (members run))
+whole_by (bar_line m) c B run items = plainly (line_nodes c B (run_members run))
 whole_by _ c B run items = just items
 
 -- the WARNING with this text at the line that follows directly, with which X begins; where there is no text, none
@@ -84,7 +84,7 @@ ended c B run items = do
 -- what a run gives: its constructs are read in order, and then it is what they are together
 abbrev pub run_items : Within → Block → Run Found → Numbered (List Item)
 run_items c B run = do
-  items ← flat_each (piece_of c B) (members run)
+  items ← flat_each (piece_of c B) (run_members run)
   ended c B run items
 
 -- the nodes and titles of a block: those of its runs, in order

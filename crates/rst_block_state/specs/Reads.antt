@@ -10,8 +10,8 @@ use Rattle.rst_block_state.specs.Nodes.{document_items}
 use Rattle.rst_block_state.specs.Numbered.{◌>>=◌, just}
 
 -- the document of some lines, where blocks may be nested this deep, and how many messages on texts were counted
-abbrev pub read_in : ℕ → List String → Result (Node × ℕ) ℕ
-read_in levels text = (do
+abbrev pub document_of_lines : ℕ → List String → Result (Node × ℕ) ℕ
+document_of_lines levels text = (do
   items ← document_items (record { nesting = levels; line_limit = 1000; code = true; docinfo = true }) (block text)
   just (document_of items)) 0
 
@@ -22,11 +22,11 @@ print_if (Err line) = Err line
 
 -- of these lines this tree is printed
 abbrev pub Reads : List String → List String → Type 0
-Reads text tree = print_if (read_in 9 text) ≡ Ok (encode_utf8_all (written tree))
+Reads text tree = print_if (document_of_lines 9 text) ≡ Ok (encode_utf8_all (written tree))
 
 -- these lines begin a block that is nested too deeply at a line, where blocks may be nested this deep
 abbrev pub IsTooDeep : ℕ → List String → ℕ → Type 0
-IsTooDeep levels text line = read_in levels text ≡ Err line
+IsTooDeep levels text line = document_of_lines levels text ≡ Err line
 
 -- all that a document contains that was read, and how many messages on texts were counted
 abbrev pub whole_if : Result (Node × ℕ) ℕ → Result (List ℕ × ℕ) ℕ
@@ -36,4 +36,4 @@ whole_if (Err line) = Err line
 -- These lines mean a document whose whole content is this tree, and this many messages on texts are counted. A message is counted also where the
 -- text is dropped.
 abbrev pub Means : List String → ℕ → List String → Type 0
-Means text count tree = whole_if (read_in 9 text) ≡ Ok (encode_utf8_all (written tree), count)
+Means text count tree = whole_if (document_of_lines 9 text) ≡ Ok (encode_utf8_all (written tree), count)

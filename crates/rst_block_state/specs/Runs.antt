@@ -17,8 +17,8 @@ abbrev pub joined_by : {A : Type 0} → Run A → A → Run A
 joined_by run x = record { first = run.first; others = run.others ++ x ∷ [] }
 
 -- all members of a run, in order
-abbrev pub members : {A : Type 0} → Run A → List A
-members run = run.first ∷ run.others
+abbrev pub run_members : {A : Type 0} → Run A → List A
+run_members run = run.first ∷ run.others
 
 -- the last of one and those after it
 abbrev pub last_of : {A : Type 0} → A → List A → A

@@ -12,7 +12,7 @@ use Rattle.rst_markup_tables.specs.declared.results.TableResult.TheVariants.{Tab
 use Rattle.rst_block_nodes.specs.Elements.{element_of, tgroup_node, entry_node}
 use Rattle.rst_block_nodes.specs.Sections.{filled}
 use Rattle.rst_block_state.specs.Numbered.{Numbered, ◌>>=◌, just, each}
-use Rattle.rst_block_state.specs.Texts.{shown, source_of}
+use Rattle.rst_block_state.specs.Texts.{message_with_lines, span_source}
 use Rattle.rst_block_state.specs.Within.{Within}
 
 -- the entry of a cell, whose lines are a block inside; it has the numbers of further rows and columns that it spans
@@ -43,4 +43,4 @@ table_nodes c B s (Table widths n rows end) = do
   made ← each (row_of c) rows
   just (table_node widths n made (first_number (drop s.start B)) ∷ [])
 table_nodes c B s (Malformed end fault) =
-    just (shown Error (first_number (drop s.start B)) (malformed_text fault.detail) (source_of B s) ∷ [])
+    just (message_with_lines Error (first_number (drop s.start B)) (malformed_text fault.detail) (span_source B s) ∷ [])

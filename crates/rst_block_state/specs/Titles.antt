@@ -1,23 +1,23 @@
 -- Titles of sections, and transitions (Markup Specification, 'Sections', 'Transitions').
 use Rattle.std.specs.Prelude.{ℕ, Bool, true, false, List, [], ◌∷◌, ◌++◌, drop, codes, map, Option, Some, None, unwrap_or}
 use Rattle.std.specs.Option.{option_to_list}
-use Rattle.rst_text.specs.Block.{Block, front_text, first_number}
+use Rattle.rst_text.specs.Block.{Block, first_text, first_number}
 use Rattle.rst_tree.specs.Forest.{bare}
 use Rattle.rst_tree.specs.declared.node.Node.{Node}
 use Rattle.rst_tree.specs.declared.node.Node.TheVariants.{Element}
 use Rattle.rst_tree.specs.declared.note.Level.TheVariants.{Warning, Severe}
 use Rattle.rst_tree.specs.declared.tag.Tag.TheVariants.{Title as TitleTag, Transition as TransitionTag}
-use Rattle.rst_markup_lines.specs.Front.{first, unindented}
+use Rattle.rst_markup_lines.specs.TextStart.{first, unindented}
 use Rattle.rst_markup_lines.specs.declared.adornment.Adornment.{Adornment}
 use Rattle.rst_markup_blocks.specs.Conditions.{next_text}
 pub use Rattle.rst_block_nodes.specs.Sections.{Title, Item, plain, titled}
 use Rattle.rst_block_nodes.specs.declared.heading.Style.{Style}
 use Rattle.rst_block_state.specs.Numbered.{Numbered, ◌>>=◌, just}
-use Rattle.rst_block_state.specs.Texts.{shown, texted}
+use Rattle.rst_block_state.specs.Texts.{message_with_lines, texted}
 
 -- the WARNING on an adornment that is shorter than its title
 abbrev pub short_warning : Bool → ℕ → List ℕ → List ℕ → Option Node
-short_warning true line text lines = Some (shown Warning line text lines)
+short_warning true line text lines = Some (message_with_lines Warning line text lines)
 short_warning false line text lines = None
 
 -- a title of a style, with the text of a line
@@ -40,11 +40,11 @@ underline_warning short lines X = short_warning short (first_number (drop 1 X)) 
 -- WARNING on the underline.
 abbrev pub underline_item : Bool → Bool → List ℕ → Block → Numbered (List Item)
 underline_item true short lines X =
-    title_item (record { character = unwrap_or (first (next_text X)) 32; overlined = false }) (front_text X) (first_number X)
+    title_item (record { character = unwrap_or (first (next_text X)) 32; overlined = false }) (first_text X) (first_number X)
     (underline_warning short lines X) lines
 underline_item false short lines X =
     just (map plain (option_to_list (underline_warning short lines X)
-    ++ shown Severe (first_number (drop 1 X)) (codes "Unexpected section title.") lines ∷ []))
+    ++ message_with_lines Severe (first_number (drop 1 X)) (codes "Unexpected section title.") lines ∷ []))
 
 -- the same, after messages that explain why the line of its text is a text
 abbrev pub underlined_nodes : Bool → List Node → Bool → List ℕ → Block → Numbered (List Item)

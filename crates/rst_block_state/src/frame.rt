@@ -1,9 +1,9 @@
 //! Blocks that wait for one inside them.
 ghost use Rattle.std.specs.Prelude.{◌≡◌, ◌-◌, ◌<◌, []};
-ghost use Rattle.rst_text.specs.Shown.{block_of, source_of, placement_block};
-ghost use Rattle.rst_block_state.specs.Steps as spec;
-ghost use Rattle.rst_block_state.specs.Frames as frames;
-ghost use Rattle.rst_block_state.specs.Meanings.{IsNew};
+ghost use Rattle.rst_text.specs.ViewBlock.{block_of, source_of, placement_block};
+ghost use Rattle.rst_block_state.specs.machine.Steps as spec;
+ghost use Rattle.rst_block_state.specs.machine.Frames as frames;
+ghost use Rattle.rst_block_state.specs.machine.Meanings.{IsNew};
 
 use super::open_block::OpenBlock;
 use super::step::Step;

@@ -32,11 +32,11 @@ pub struct OpenBlock {
 impl OpenBlock {
     ghost use Rattle.std.specs.Prelude.{ℕ, suc, ◌+◌, ◌-◌, ◌^◌, ◌≤◌, ◌==◌, ◌∷◌, drop};
     ghost use Rattle.rst_text.specs.Looked.{capped};
-    ghost use Rattle.rst_text.specs.Shown.{block_of};
-    ghost use Rattle.rst_block_state.specs.Meanings.{IsNew, deepest, joining_in, open_of};
-    ghost use Rattle.rst_block_state.specs.Ledger.{run_looks};
-    ghost use Rattle.rst_block_state.specs.OpenBlocks as spec;
-    ghost use Rattle.rst_block_state.specs.Rest.{closed_run, no_run};
+    ghost use Rattle.rst_text.specs.ViewBlock.{block_of};
+    ghost use Rattle.rst_block_state.specs.machine.Meanings.{IsNew, deepest, joining_in, open_run_of};
+    ghost use Rattle.rst_block_state.specs.looks.Ledger.{run_looks};
+    ghost use Rattle.rst_block_state.specs.machine.OpenBlocks as spec;
+    ghost use Rattle.rst_block_state.specs.machine.Rest.{closed_run, no_run};
     ghost use Rattle.rst_block_state.specs.Texts.{warned};
 
     /// A block of which nothing was read.
@@ -121,7 +121,7 @@ impl OpenBlock {
         ensures low { capped pass.old.looks ≤ pass.new.looks }
         ensures run { pass.new.looks ≤ pass.old.looks + run_looks self.old.run }
         ensures closed { let levels = suc deepest - self.old.depth in
-            let closed = closed_run levels (block_of view.now) (open_of self.old.run) pass.old.numbers in
+            let closed = closed_run levels (block_of view.now) (open_run_of self.old.run) pass.old.numbers in
             spec.Closes closed self.old self.new pass.new.numbers no_run result }
         ensures looks { pass.new.looks ≤ pass.old.looks + 1 }
     {
@@ -140,7 +140,7 @@ impl OpenBlock {
     /// Announces an item that ends at `end`: it joins the list that is open, which goes on as `kind`.
     pub fn join(&mut self, kind: ListKind, end: usize)
         ensures at { self.new.at ≡ self.old.at }
-        ensures run { spec.HasRun self.old self.new (spec.joined_at (joining_in kind) end (open_of self.old.run)) }
+        ensures run { spec.HasRun self.old self.new (spec.joined_at (joining_in kind) end (open_run_of self.old.run)) }
     {
         if let Run::List(open) = &mut self.run {
             open.kind = kind;
@@ -159,7 +159,7 @@ impl OpenBlock {
             before: Vec::new(alloc),
             list,
             items: MarkedNodes::none(alloc),
-            behind: Vec::new(alloc),
+            messages_after: Vec::new(alloc),
         };
         self.run = Run::List(Box::new(alloc, open)?);
         Ok(())

@@ -6,9 +6,9 @@ ghost use Rattle.rst_block_nodes.specs.Sections.{filled};
 ghost use Rattle.rst_block_state.specs.Constructs.{enumerated_item};
 ghost use Rattle.rst_block_state.specs.Joins as joins;
 ghost use Rattle.rst_block_state.specs.Joins.{enumerators, enumerators_by, joined_ending, list_joining, list_joining_after};
-ghost use Rattle.rst_block_state.specs.Meanings.{deepest, joining_in, list_kind_in, open_of};
-ghost use Rattle.rst_block_state.specs.OpenBlocks.{Adds};
-ghost use Rattle.rst_block_state.specs.Rest.{end_of_run, joining_of_run, open_lines, run_nodes};
+ghost use Rattle.rst_block_state.specs.machine.Meanings.{deepest, joining_in, list_kind_in, open_run_of};
+ghost use Rattle.rst_block_state.specs.machine.OpenBlocks.{Adds};
+ghost use Rattle.rst_block_state.specs.machine.Rest.{end_of_run, joining_of_run, open_lines, run_nodes};
 
 use super::fault::{BlockFault, Result};
 use super::texts::Pass;
@@ -54,7 +54,7 @@ pub struct OpenList {
     pub list: Node,
     pub items: MarkedNodes,
     /// Messages that come after the list.
-    pub behind: Vec<Node>,
+    pub messages_after: Vec<Node>,
 }
 
 /// Neighbouring constructs that may go on.
@@ -152,9 +152,9 @@ impl Sequel {
 impl Run {
     /// The place after the run, and the text of the warning where no blank line follows it.
     pub fn ending(&self) -> Option<(usize, &'static str)>
-        ensures none { IfNone result (joined_ending (joining_of_run (open_of self.now)) ≡ None) }
-        ensures end { IfSome result (λ ending. ending.0 ≡ end_of_run (open_of self.now)) }
-        ensures text { IfSome result (λ ending. joined_ending (joining_of_run (open_of self.now)) ≡ Some ending.1.now) }
+        ensures none { IfNone result (joined_ending (joining_of_run (open_run_of self.now)) ≡ None) }
+        ensures end { IfSome result (λ ending. ending.0 ≡ end_of_run (open_run_of self.now)) }
+        ensures text { IfSome result (λ ending. joined_ending (joining_of_run (open_run_of self.now)) ≡ Some ending.1.now) }
     {
         match self {
             Run::None => None,
@@ -179,7 +179,7 @@ impl Run {
 
     /// Puts the nodes of the run after others, in a block of this depth.
     pub fn put(self, nodes: &mut MarkedNodes, depth: usize, pass: &mut Pass) -> Result<()>
-        ensures nodes { Adds (run_nodes (suc deepest - depth) (open_of self) pass.old.numbers)
+        ensures nodes { Adds (run_nodes (suc deepest - depth) (open_run_of self) pass.old.numbers)
             nodes.old nodes.new pass.new.numbers result }
         ensures looks { pass.new.looks ≡ pass.old.looks }
     {
@@ -194,18 +194,18 @@ impl Run {
 /// Puts a list between its messages after other nodes.
 fn put_list(alloc: Global, nodes: &mut MarkedNodes, open: OpenList) -> Result<(), TreeFault>
     ensures { Gives (λ _. nodes.new
-        ≡ nodes.old ++ open.before.items ++ filled open.list open.items ∷ open.behind.items) result }
+        ≡ nodes.old ++ open.before.items ++ filled open.list open.items ∷ open.messages_after.items) result }
 {
     let OpenList {
         before,
         list,
         items,
-        behind,
+        messages_after,
         ..
     } = open;
     nodes.append_new(before)?;
     nodes.push(completed(alloc, list, items)?)?;
-    nodes.append_new(behind)
+    nodes.append_new(messages_after)
 }
 
 /// Puts a line block and the messages of its texts after other nodes.

@@ -98,7 +98,7 @@ pub fn source(
     to: usize,
     looks: &mut Looks,
 ) -> Result<String, AllocError>
-    ensures bytes { IfOk result (λ text. string_bytes text ≡ spec.source_of (block_of view.now) (record { start = from; stop = to })) }
+    ensures bytes { IfOk result (λ text. string_bytes text ≡ spec.span_source (block_of view.now) (record { start = from; stop = to })) }
     ensures text { IfOk result (λ text. chars_of text ≡ spec.joined (slice_range (block_of view.now) from to)) }
     ensures each { IfOk result (λ _. capped (looks.old + length (slice_range (block_of view.now) from to)) ≤ looks.new) }
     ensures most { looks.new ≤ looks.old + (to - from) }
@@ -140,7 +140,7 @@ pub fn first_line_or(lines: &View<'_>, line: usize) -> usize
 
 /// The message on a construct that isn't followed by a blank line.
 pub(crate) fn unindent(alloc: Global, line: usize, text: &str) -> Result<Node, TreeFault>
-    ensures { Gives (λ node. node ≡ spec.said Warning line text.now) result }
+    ensures { Gives (λ node. node ≡ spec.system_message Warning line text.now) result }
 {
     message(alloc, Level::Warning, line, text, None)
 }
@@ -155,7 +155,7 @@ pub fn alone<N: Drop>(alloc: Global, node: N) -> Result<Vec<N>, AllocError>
 }
 
 /// Some nodes in two parts: the first ones, up to a number of them, and those after them.
-pub fn parted(
+pub fn split_nodes(
     alloc: Global,
     mut nodes: MarkedIter,
     count: u64,

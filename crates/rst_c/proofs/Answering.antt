@@ -5,7 +5,7 @@ use Rattle.std.proofs.lemmas.Str.{IsUtf8-from_is_utf8, is_utf8-from_IsUtf8}
 use Rattle.std.specs.Prelude.{nat_lt, if◌then◌else◌}
 use Rattle.std.specs.Result.{IsErrAnd}
 use Rattle.std.specs.Str.{IsUtf8, is_utf8}
-use Rattle.rst_c.specs.Answers.{left_of, left_of_read, left_of_text, made_by, made_of, needs_memory, print_wanted, shown_of, Finds, Makes}
+use Rattle.rst_c.specs.Answers.{left_of, left_of_read, left_of_text, made_by, made_of, needs_memory, print_wanted, wanted_of, Finds, MakesWanted}
 use Rattle.rst_c.specs.declared.answer.Made.{Made}
 use Rattle.rst_c.specs.declared.answer.Refusal.{Refusal}
 use Rattle.rst_c.specs.declared.answer.Refusal.TheVariants.{Source, Text}
@@ -16,7 +16,7 @@ use Rattle.rst_text.specs.Text.{text_of}
 use Rattle.rst_tree.specs.declared.node.Node.{Node}
 use Rattle.rst_tree.specs.declared.note.Note.{Note}
 use Rattle.rst2pseudoxml_run.specs.Reading.{read_of}
-use Rattle.rst2pseudoxml_run.specs.Shown.{Parts, parts_of, result_of, result_of_read, result_of_text}
+use Rattle.rst2pseudoxml_run.specs.RunResult.{Parts, parts_of, result_of, result_of_read, result_of_text}
 use Rattle.rst2pseudoxml_run.specs.declared.end.End.{End}
 use Rattle.rst2pseudoxml_run.specs.declared.end.End.TheVariants.{Done, Read, TooLong, NotUtf8, TooDeep, NoMemory, WriteErr, WriteOut}
 
@@ -34,7 +34,7 @@ module _ (makes : Node × List Note → Parts) (settings : Settings) (bytes : Li
   short_needs short = rw (le-ltb 16777216 (length bytes) short) (text_needs (text_of bytes))
 
   -- a call makes nothing of a text of which no document was found
-  pub nothing_made : (end : End) → Finds settings bytes (Err end) → Makes (made_by makes (left_of settings bytes)) (Err (Text end))
+  pub nothing_made : (end : End) → Finds settings bytes (Err end) → MakesWanted (made_by makes (left_of settings bytes)) (Err (Text end))
   nothing_made NoMemory short = inr (refl, short_needs short)
   nothing_made TooLong is = inl (sym (ap (made_by makes) is))
   nothing_made (NotUtf8 at) is = inl (sym (ap (made_by makes) is))
@@ -49,28 +49,28 @@ module _ (settings : Settings) (source bytes : List ℕ) where
   abbrev pub shows : Node × List Note → Parts
   shows left = parts_of settings source left.0 left.1
 
-  read_shown : (read : Result (Node × ℕ) ℕ) → shown_of (result_of_read (profile_of settings) settings source read) ≡ made_by shows (left_of_read settings read)
-  read_shown (Ok read) = refl
-  read_shown (Err line) = refl
+  read_wanted : (read : Result (Node × ℕ) ℕ) → wanted_of (result_of_read (profile_of settings) settings source read) ≡ made_by shows (left_of_read settings read)
+  read_wanted (Ok read) = refl
+  read_wanted (Err line) = refl
 
-  text_shown : (text : Option (List ℕ)) → shown_of (result_of_text (profile_of settings) settings source bytes text) ≡ made_by shows (left_of_text settings bytes text)
-  text_shown None = refl
-  text_shown (Some text) = read_shown (read_of (profile_of settings) (lines_of settings.tab text))
+  text_wanted : (text : Option (List ℕ)) → wanted_of (result_of_text (profile_of settings) settings source bytes text) ≡ made_by shows (left_of_text settings bytes text)
+  text_wanted None = refl
+  text_wanted (Some text) = read_wanted (read_of (profile_of settings) (lines_of settings.tab text))
 
-  left_shown : shown_of (result_of (profile_of settings) settings source bytes) ≡ made_by shows (left_of settings bytes)
-  left_shown =
-      elim (nat_lt 16777216 (length bytes)) as (λ b. shown_of (if b then Err TooLong else result_of_text (profile_of settings) settings source bytes (text_of bytes))
-      ≡ made_by shows (if b then Err TooLong else left_of_text settings bytes (text_of bytes))) [ true ↦ refl | false ↦ text_shown (text_of bytes) ]
+  left_wanted : wanted_of (result_of (profile_of settings) settings source bytes) ≡ made_by shows (left_of settings bytes)
+  left_wanted =
+      elim (nat_lt 16777216 (length bytes)) as (λ b. wanted_of (if b then Err TooLong else result_of_text (profile_of settings) settings source bytes (text_of bytes))
+      ≡ made_by shows (if b then Err TooLong else left_of_text settings bytes (text_of bytes))) [ true ↦ refl | false ↦ text_wanted (text_of bytes) ]
 
   -- what is wanted of a print, where the source is UTF-8 and where it isn't
   wanted_of_text : IsUtf8 source → print_wanted (Some settings) source bytes ≡ made_by shows (left_of settings bytes)
-  wanted_of_text utf8 = rw (is_utf8-from_IsUtf8 source utf8) left_shown
+  wanted_of_text utf8 = rw (is_utf8-from_IsUtf8 source utf8) left_wanted
 
-  pub source_refused : (IsUtf8 source → ⊥) → Makes (print_wanted (Some settings) source bytes) (Err Source)
+  pub source_refused : (IsUtf8 source → ⊥) → MakesWanted (print_wanted (Some settings) source bytes) (Err Source)
   source_refused refuted = inl (rw (false_from_ne_true (is_utf8 source) (λ is. refuted (IsUtf8-from_is_utf8 source is))) refl)
 
-  pub text_refused : (end : End) → IsUtf8 source → Finds settings bytes (Err end) → Makes (print_wanted (Some settings) source bytes) (Err (Text end))
-  text_refused end utf8 finds = subst (λ w. Makes w (Err (Text end))) (sym (wanted_of_text utf8)) (nothing_made shows settings bytes end finds)
+  pub text_refused : (end : End) → IsUtf8 source → Finds settings bytes (Err end) → MakesWanted (print_wanted (Some settings) source bytes) (Err (Text end))
+  text_refused end utf8 finds = subst (λ w. MakesWanted w (Err (Text end))) (sym (wanted_of_text utf8)) (nothing_made shows settings bytes end finds)
 
   made_of_left : (document : Node) (notes : List Note) → IsUtf8 source → left_of settings bytes ≡ Ok (document, notes) → print_wanted (Some settings) source bytes ≡ Ok (parts_of settings source document notes)
   made_of_left document notes utf8 left = wanted_of_text utf8 ∙ ap (made_by shows) left
@@ -78,11 +78,11 @@ module _ (settings : Settings) (source bytes : List ℕ) where
   pub text_printed : (document : Node) (notes : List Note) (same_source old_out old_err out err : List ℕ) (status : ℕ) → IsUtf8 source → left_of settings bytes ≡ Ok (document, notes)
       → same_source ≡ source → old_out ≡ [] → old_err ≡ []
       → out ≡ old_out ++ (parts_of settings same_source document notes).out → err ≡ old_err ++ (parts_of settings same_source document notes).err
-      → status ≡ (parts_of settings same_source document notes).status → Makes (print_wanted (Some settings) source bytes) (Ok (record { out = out; err = err; status = status }))
+      → status ≡ (parts_of settings same_source document notes).status → MakesWanted (print_wanted (Some settings) source bytes) (Ok (record { out = out; err = err; status = status }))
   text_printed document notes same_source old_out old_err out err status utf8 left same no_out no_err out_is err_is status_is =
       inl (sym (made_of_left document notes utf8 left ∙ rw (out_is, err_is, status_is, no_out, no_err, same) refl))
 
-  pub memory_gone : (document : Node) (notes : List Note) → IsUtf8 source → left_of settings bytes ≡ Ok (document, notes) → Makes (print_wanted (Some settings) source bytes) (Err (Text NoMemory))
+  pub memory_gone : (document : Node) (notes : List Note) → IsUtf8 source → left_of settings bytes ≡ Ok (document, notes) → MakesWanted (print_wanted (Some settings) source bytes) (Err (Text NoMemory))
   memory_gone document notes utf8 left = inr (refl, ap needs_memory (made_of_left document notes utf8 left))
 
 -- what a fault that is passed on makes

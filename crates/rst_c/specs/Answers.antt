@@ -24,7 +24,7 @@ use Rattle.rst_tree.specs.PrintedAttributes.{with_printed_attrs}
 use Rattle.rst_tree.specs.declared.node.Node.{Node}
 use Rattle.rst_tree.specs.declared.note.Note.{Note}
 use Rattle.rst2pseudoxml_run.specs.Reading.{read_of}
-use Rattle.rst2pseudoxml_run.specs.Shown.{Parts, ended_by, halting, is_reported, result_of}
+use Rattle.rst2pseudoxml_run.specs.RunResult.{Parts, ended_by, halting, is_reported, result_of}
 use Rattle.rst2pseudoxml_run.specs.declared.end.End.{End}
 use Rattle.rst2pseudoxml_run.specs.declared.end.End.TheVariants.{TooLong, NotUtf8, TooDeep, NoMemory}
 
@@ -71,14 +71,14 @@ abbrev pub form_wanted : Form → Option Settings → List ℕ → Wanted
 form_wanted form None text = Err Options
 form_wanted form (Some settings) text = made_by (parts_as form settings) (left_of settings text)
 
-abbrev pub shown_of : Result Parts End → Wanted
-shown_of (Ok parts) = Ok parts
-shown_of (Err end) = Err (Text end)
+abbrev pub wanted_of : Result Parts End → Wanted
+wanted_of (Ok parts) = Ok parts
+wanted_of (Err end) = Err (Text end)
 
 -- what the program prints for a text
 abbrev pub print_wanted : Option Settings → List ℕ → List ℕ → Wanted
 print_wanted None source text = Err Options
-print_wanted (Some settings) source text = if is_utf8 source then shown_of (result_of (profile_of settings) settings source text) else Err Source
+print_wanted (Some settings) source text = if is_utf8 source then wanted_of (result_of (profile_of settings) settings source text) else Err Source
 
 -- ---- what is reported to the caller
 
@@ -95,22 +95,22 @@ failed_by (Text (TooDeep line)) = failed 5 line
 failed_by (Text end) = failed 6 0
 
 -- the result of a call
-abbrev pub answer_of : Wanted → RstResult
-answer_of (Ok parts) = record { end = 0; status = parts.status; at = 0; length = length parts.out; messages = length parts.err }
-answer_of (Err refusal) = failed_by refusal
+abbrev pub c_result_of : Wanted → RstResult
+c_result_of (Ok parts) = record { end = 0; status = parts.status; at = 0; length = length parts.out; messages = length parts.err }
+c_result_of (Err refusal) = failed_by refusal
 
 -- a room after a text was to be put at its start: it is as it was where the text doesn't fit
-abbrev pub filled : List ℕ → List ℕ → List ℕ
-filled text room = if nat_le (length text) (length room) then text ++ drop (length text) room else room
+abbrev pub filled_room : List ℕ → List ℕ → List ℕ
+filled_room text room = if nat_le (length text) (length room) then text ++ drop (length text) room else room
 
 -- the room for the tree, for JSON or for records, after a call
 abbrev pub tree_after : Wanted → List ℕ → List ℕ
-tree_after (Ok parts) room = filled parts.out room
+tree_after (Ok parts) room = filled_room parts.out room
 tree_after (Err refusal) room = room
 
 -- the room for the messages after a call
 abbrev pub messages_after : Wanted → List ℕ → List ℕ
-messages_after (Ok parts) room = filled parts.err room
+messages_after (Ok parts) room = filled_room parts.err room
 messages_after (Err refusal) room = room
 
 -- memory is needed
@@ -121,12 +121,12 @@ needs_memory (Err (Text TooLong)) = false
 needs_memory _ = true
 
 -- a call made what was wanted of it, or memory ran out
-abbrev pub Makes : Wanted → Wanted → Type 0
-Makes wanted made = (made ≡ wanted) ⊎ ((made ≡ Err (Text NoMemory)) × (needs_memory wanted ≡ true))
+abbrev pub MakesWanted : Wanted → Wanted → Type 0
+MakesWanted wanted made = (made ≡ wanted) ⊎ ((made ≡ Err (Text NoMemory)) × (needs_memory wanted ≡ true))
 
 -- By options: they choose settings or none, and a call that made what is wanted under these, or ran out of memory, leaves this.
 abbrev pub Answers : RstOptions → (Option Settings → Wanted) → (Wanted → Type 0) → Type 0
-Answers options wanted Leaves = (settings : Option Settings) × SetsIf options settings × ((made : Wanted) × Makes (wanted settings) made × Leaves made)
+Answers options wanted Leaves = (settings : Option Settings) × SetsIf options settings × ((made : Wanted) × MakesWanted (wanted settings) made × Leaves made)
 
 -- ---- on the way
 

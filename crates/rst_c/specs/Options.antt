@@ -17,7 +17,7 @@ are_in_range options =
     && (slice_index options.unused 0 == 0) && (slice_index options.unused 1 == 0)
 
 -- options that are in their ranges choose these settings; thresholds go by their numbers
-pub record Sets (options : RstOptions) (settings : Settings) : Type 0 where
+pub record SetsOptions (options : RstOptions) (settings : Settings) : Type 0 where
   pub in_range : are_in_range options ≡ true
   pub report : threshold_number settings.report ≡ options.report
   pub halt : threshold_number settings.halt ≡ options.halt
@@ -30,4 +30,4 @@ pub record Sets (options : RstOptions) (settings : Settings) : Type 0 where
 -- the settings that options choose, or none where one isn't in its range
 abbrev pub SetsIf : RstOptions → Option Settings → Type 0
 SetsIf options None = are_in_range options ≡ false
-SetsIf options (Some settings) = Sets options settings
+SetsIf options (Some settings) = SetsOptions options settings

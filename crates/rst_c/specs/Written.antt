@@ -19,5 +19,5 @@ usual_options = record {
 }
 
 -- a tree, JSON or records, and messages were made, with this exit status
-abbrev pub made : String → String → ℕ → Wanted
-made tree messages status = Ok (record { out = codes tree; err = codes messages; status = status })
+abbrev pub made_wanted : String → String → ℕ → Wanted
+made_wanted tree messages status = Ok (record { out = codes tree; err = codes messages; status = status })

@@ -1,6 +1,6 @@
 //! What a call reports to its caller.
 ghost use Rattle.std.specs.Prelude.{◌≡◌, length};
-ghost use Rattle.rst_c.specs.Answers.{answer_of, failed, failed_by, filled, made_of, messages_after, tree_after};
+ghost use Rattle.rst_c.specs.Answers.{c_result_of, failed, failed_by, filled_room, made_of, messages_after, tree_after};
 ghost use Rattle.rst_c.specs.declared.answer.Refusal.TheVariants.{Text};
 
 use rst_text::Counted;
@@ -52,7 +52,7 @@ impl From<End> for Refusal {
 
 /// Puts each text that was made into its room, if it fits, and gives the result of the call.
 pub fn tell(made: &Result<Made, Refusal>, tree: &mut [u8], messages: &mut [u8]) -> RstResult
-    ensures answer { result ≡ answer_of (made_of made.now) }
+    ensures answer { result ≡ c_result_of (made_of made.now) }
     ensures tree { tree.new ≡ tree_after (made_of made.now) tree.old }
     ensures messages { messages.new ≡ messages_after (made_of made.now) messages.old }
 {
@@ -70,7 +70,7 @@ pub fn tell(made: &Result<Made, Refusal>, tree: &mut [u8], messages: &mut [u8]) 
 
 /// Puts a text at the start of a room, if it fits, and returns its length.
 fn fill(room: &mut [u8], text: &[u8]) -> u64
-    ensures room { room.new ≡ filled text.now room.old }
+    ensures room { room.new ≡ filled_room text.now room.old }
     ensures length { result ≡ length text.now }
 {
     if text.len() <= room.len() {

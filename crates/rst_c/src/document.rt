@@ -1,9 +1,9 @@
 //! The document of a text, and what is made of it.
 ghost use Rattle.std.specs.Prelude.{◌≡◌, ◌≤◌, IfOk, filter, map};
-ghost use Rattle.rst_c.specs.Answers.{bytes_as, form_wanted, made_of, print_wanted, Finds, Makes};
+ghost use Rattle.rst_c.specs.Answers.{bytes_as, form_wanted, made_of, print_wanted, Finds, MakesWanted};
 ghost use Rattle.rst_json.specs.Json.{json_array, json_note};
 ghost use Rattle.rst_transform_messages.specs.Messages.{highest_level};
-ghost use Rattle.rst2pseudoxml_run.specs.Shown as shown;
+ghost use Rattle.rst2pseudoxml_run.specs.RunResult as run_result;
 
 use crate::answer::{Made, Refusal};
 use rst_json::{enclose, put_node, put_note, put_record};
@@ -21,7 +21,7 @@ pub fn printed(
     source: &[u8],
     settings: Option<Settings>,
 ) -> Result<Made, Refusal>
-    ensures { Makes (print_wanted settings source.now text.now) (made_of result) }
+    ensures { MakesWanted (print_wanted settings source.now text.now) (made_of result) }
 {
     let Some(settings) = settings else {
         return Err(Refusal::Options);
@@ -67,7 +67,7 @@ pub fn formed(
     settings: Option<Settings>,
     form: Form,
 ) -> Result<Made, Refusal>
-    ensures { Makes (form_wanted form settings text.now) (made_of result) }
+    ensures { MakesWanted (form_wanted form settings text.now) (made_of result) }
 {
     let Some(settings) = settings else {
         return Err(Refusal::Options);
@@ -118,7 +118,7 @@ fn finished_of(alloc: Global, text: &[u8], settings: &Settings) -> Result<Finish
 
 /// The messages that are reported as an array.
 fn notes_json(alloc: Global, notes: &[Note], settings: &Settings) -> Result<Vec<u8>, TreeFault>
-    ensures { IfOk result (λ json. json.items ≡ json_array (map json_note (filter (shown.is_reported settings.now) notes.now))) }
+    ensures { IfOk result (λ json. json.items ≡ json_array (map json_note (filter (run_result.is_reported settings.now) notes.now))) }
 {
     let mut json = Vec::new(alloc);
     for note in notes {
@@ -135,7 +135,7 @@ fn notes_json(alloc: Global, notes: &[Note], settings: &Settings) -> Result<Vec<
 fn ended_by(finished: &Finished, settings: &Settings) -> u8
     requires highest { finished.now.highest ≡ highest_level finished.now.notes.items }
     requires few { finished.now.highest ≤ 4 }
-    ensures { let notes = finished.now.notes.items in result ≡ shown.ended_by settings.now notes (shown.halting settings.now notes) }
+    ensures { let notes = finished.now.notes.items in result ≡ run_result.ended_by settings.now notes (run_result.halting settings.now notes) }
 {
     if halting(finished.notes.as_slice(), settings).is_some() {
         1

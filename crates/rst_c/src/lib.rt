@@ -2,7 +2,7 @@
 #![tactic(auto)]
 
 ghost use Rattle.std.specs.Prelude.{◌≡◌};
-ghost use Rattle.rst_c.specs.Answers.{answer_of, form_wanted, messages_after, print_wanted, tree_after, Answers};
+ghost use Rattle.rst_c.specs.Answers.{c_result_of, form_wanted, messages_after, print_wanted, tree_after, Answers};
 ghost use Rattle.rst_c.specs.declared.document.Form.TheVariants.{DocumentJson, DocumentRecords, MessagesJson};
 
 mod answer;
@@ -35,7 +35,7 @@ pub extern "C" fn rst_print(
     answer: &mut RstResult,
 )
     ensures { Answers options.now (λ settings. print_wanted settings source.now text.now)
-        (λ made. (answer.new ≡ answer_of made) × (tree.new ≡ tree_after made tree.old) × (messages.new ≡ messages_after made messages.old)) }
+        (λ made. (answer.new ≡ c_result_of made) × (tree.new ≡ tree_after made tree.old) × (messages.new ≡ messages_after made messages.old)) }
 {
     let made = printed(alloc, text, source, options.settings());
     *answer = tell(&made, tree, messages);
@@ -51,7 +51,7 @@ pub extern "C" fn rst_json(
     answer: &mut RstResult,
 )
     ensures { Answers options.now (λ settings. form_wanted DocumentJson settings text.now)
-        (λ made. (answer.new ≡ answer_of made) × (json.new ≡ tree_after made json.old)) }
+        (λ made. (answer.new ≡ c_result_of made) × (json.new ≡ tree_after made json.old)) }
 {
     let made = formed(alloc, text, options.settings(), Form::DocumentJson);
     *answer = tell(&made, json, &mut []);
@@ -67,7 +67,7 @@ pub extern "C" fn rst_records(
     answer: &mut RstResult,
 )
     ensures { Answers options.now (λ settings. form_wanted DocumentRecords settings text.now)
-        (λ made. (answer.new ≡ answer_of made) × (records.new ≡ tree_after made records.old)) }
+        (λ made. (answer.new ≡ c_result_of made) × (records.new ≡ tree_after made records.old)) }
 {
     let made = formed(alloc, text, options.settings(), Form::DocumentRecords);
     *answer = tell(&made, records, &mut []);
@@ -83,7 +83,7 @@ pub extern "C" fn rst_messages(
     answer: &mut RstResult,
 )
     ensures { Answers options.now (λ settings. form_wanted MessagesJson settings text.now)
-        (λ made. (answer.new ≡ answer_of made) × (json.new ≡ tree_after made json.old)) }
+        (λ made. (answer.new ≡ c_result_of made) × (json.new ≡ tree_after made json.old)) }
 {
     let made = formed(alloc, text, options.settings(), Form::MessagesJson);
     *answer = tell(&made, json, &mut []);

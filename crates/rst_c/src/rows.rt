@@ -2,9 +2,9 @@
 #![tactic(auto, unfolding(crate::proofs::Computing::rst_c))]
 
 ghost use Rattle.std.specs.Prelude.{◌≡◌, ◌++◌, None, Some, Ok, Err, true, false, codes, map, [], ◌∷◌};
-ghost use Rattle.rst_c.specs.Answers.{answer_of, filled, form_wanted, messages_after, needs_memory, parts_as, print_wanted, tree_after};
-ghost use Rattle.rst_c.specs.Options.{are_in_range, Sets};
-ghost use Rattle.rst_c.specs.Written.{made, usual_options};
+ghost use Rattle.rst_c.specs.Answers.{c_result_of, filled_room, form_wanted, messages_after, needs_memory, parts_as, print_wanted, tree_after};
+ghost use Rattle.rst_c.specs.Options.{are_in_range, SetsOptions};
+ghost use Rattle.rst_c.specs.Written.{made_wanted, usual_options};
 ghost use Rattle.rst_c.specs.declared.answer.Refusal.TheVariants.{Options, Source, Text};
 ghost use Rattle.rst_c.specs.declared.document.Form.TheVariants.{DocumentJson, DocumentRecords, MessagesJson};
 ghost use Rattle.rst_settings.specs.declared.Threshold.TheVariants as threshold;
@@ -34,40 +34,40 @@ pub fn options()
 
 /// The settings that options choose (Header, 'rst_options').
 pub fn settings()
-    ensures usual { Sets usual_options usual }
-    ensures levels { Sets (record usual_options { report = 1; halt = 2; exit_status = 3 })
+    ensures usual { SetsOptions usual_options usual }
+    ensures levels { SetsOptions (record usual_options { report = 1; halt = 2; exit_status = 3 })
         (record usual { report = threshold.Info; halt = threshold.Warning; exit = threshold.Error }) }
-    ensures higher_levels { Sets (record usual_options { report = 4; halt = 5; exit_status = 1 })
+    ensures higher_levels { SetsOptions (record usual_options { report = 4; halt = 5; exit_status = 1 })
         (record usual { report = threshold.Severe; halt = threshold.Never; exit = threshold.Info }) }
-    ensures no_doc_title { Sets (record usual_options { no_doc_title = 1 }) (record usual { title = false }) }
-    ensures no_doc_info { Sets (record usual_options { no_doc_info = 1 }) (record usual { info = false }) }
+    ensures no_doc_title { SetsOptions (record usual_options { no_doc_title = 1 }) (record usual { title = false }) }
+    ensures no_doc_info { SetsOptions (record usual_options { no_doc_info = 1 }) (record usual { info = false }) }
 {}
 
 /// The result of each end (Header, 'rst_end').
 pub fn ends()
-    ensures done { answer_of (made "abc" "de" 12) ≡ record { end = 0; status = 12; at = 0; length = 3; messages = 2 } }
-    ensures halted { answer_of (made "" "a" 1) ≡ record { end = 0; status = 1; at = 0; length = 0; messages = 1 } }
-    ensures bad_options { answer_of (Err Options) ≡ record { end = 1; status = 0; at = 0; length = 0; messages = 0 } }
-    ensures bad_source { answer_of (Err Source) ≡ record { end = 2; status = 0; at = 0; length = 0; messages = 0 } }
-    ensures too_long { answer_of (Err (Text TooLong)) ≡ record { end = 3; status = 0; at = 0; length = 0; messages = 0 } }
-    ensures not_utf8 { answer_of (Err (Text (NotUtf8 7))) ≡ record { end = 4; status = 0; at = 7; length = 0; messages = 0 } }
-    ensures too_deep { answer_of (Err (Text (TooDeep 9))) ≡ record { end = 5; status = 0; at = 9; length = 0; messages = 0 } }
-    ensures no_memory { answer_of (Err (Text NoMemory)) ≡ record { end = 6; status = 0; at = 0; length = 0; messages = 0 } }
-    ensures no_memory_in_place_of { map needs_memory (Err (Text (NotUtf8 0)) ∷ Err (Text (TooDeep 1)) ∷ made "" "" 0 ∷ []) ≡ true ∷ true ∷ true ∷ [] }
+    ensures done { c_result_of (made_wanted "abc" "de" 12) ≡ record { end = 0; status = 12; at = 0; length = 3; messages = 2 } }
+    ensures halted { c_result_of (made_wanted "" "a" 1) ≡ record { end = 0; status = 1; at = 0; length = 0; messages = 1 } }
+    ensures bad_options { c_result_of (Err Options) ≡ record { end = 1; status = 0; at = 0; length = 0; messages = 0 } }
+    ensures bad_source { c_result_of (Err Source) ≡ record { end = 2; status = 0; at = 0; length = 0; messages = 0 } }
+    ensures too_long { c_result_of (Err (Text TooLong)) ≡ record { end = 3; status = 0; at = 0; length = 0; messages = 0 } }
+    ensures not_utf8 { c_result_of (Err (Text (NotUtf8 7))) ≡ record { end = 4; status = 0; at = 7; length = 0; messages = 0 } }
+    ensures too_deep { c_result_of (Err (Text (TooDeep 9))) ≡ record { end = 5; status = 0; at = 9; length = 0; messages = 0 } }
+    ensures no_memory { c_result_of (Err (Text NoMemory)) ≡ record { end = 6; status = 0; at = 0; length = 0; messages = 0 } }
+    ensures no_memory_in_place_of { map needs_memory (Err (Text (NotUtf8 0)) ∷ Err (Text (TooDeep 1)) ∷ made_wanted "" "" 0 ∷ []) ≡ true ∷ true ∷ true ∷ [] }
     ensures never_in_place_of { map needs_memory (Err Options ∷ Err Source ∷ Err (Text TooLong) ∷ []) ≡ false ∷ false ∷ false ∷ [] }
 {}
 
 /// The rooms after a call: a text is put at the start of its room if it fits (Header, 'rst_print').
 pub fn rooms()
-    ensures larger { filled (codes "abc") (1 ∷ 2 ∷ 3 ∷ 4 ∷ 5 ∷ []) ≡ codes "abc" ++ (4 ∷ 5 ∷ []) }
-    ensures exact { filled (codes "abc") (1 ∷ 2 ∷ 3 ∷ []) ≡ codes "abc" }
-    ensures too_small { filled (codes "abc") (1 ∷ 2 ∷ []) ≡ 1 ∷ 2 ∷ [] }
-    ensures none { filled (codes "abc") [] ≡ [] }
-    ensures nothing_to_put { filled [] (1 ∷ 2 ∷ []) ≡ 1 ∷ 2 ∷ [] }
-    ensures tree { tree_after (made "ab" "c" 0) (1 ∷ 2 ∷ 3 ∷ []) ≡ codes "ab" ++ (3 ∷ []) }
-    ensures messages { messages_after (made "ab" "c" 0) (1 ∷ 2 ∷ 3 ∷ []) ≡ codes "c" ++ (2 ∷ 3 ∷ []) }
-    ensures tree_too_large { tree_after (made "abcd" "c" 0) (1 ∷ 2 ∷ 3 ∷ []) ≡ 1 ∷ 2 ∷ 3 ∷ [] }
-    ensures messages_beside_it { messages_after (made "abcd" "c" 0) (1 ∷ 2 ∷ 3 ∷ []) ≡ codes "c" ++ (2 ∷ 3 ∷ []) }
+    ensures larger { filled_room (codes "abc") (1 ∷ 2 ∷ 3 ∷ 4 ∷ 5 ∷ []) ≡ codes "abc" ++ (4 ∷ 5 ∷ []) }
+    ensures exact { filled_room (codes "abc") (1 ∷ 2 ∷ 3 ∷ []) ≡ codes "abc" }
+    ensures too_small { filled_room (codes "abc") (1 ∷ 2 ∷ []) ≡ 1 ∷ 2 ∷ [] }
+    ensures none { filled_room (codes "abc") [] ≡ [] }
+    ensures nothing_to_put { filled_room [] (1 ∷ 2 ∷ []) ≡ 1 ∷ 2 ∷ [] }
+    ensures tree { tree_after (made_wanted "ab" "c" 0) (1 ∷ 2 ∷ 3 ∷ []) ≡ codes "ab" ++ (3 ∷ []) }
+    ensures messages { messages_after (made_wanted "ab" "c" 0) (1 ∷ 2 ∷ 3 ∷ []) ≡ codes "c" ++ (2 ∷ 3 ∷ []) }
+    ensures tree_too_large { tree_after (made_wanted "abcd" "c" 0) (1 ∷ 2 ∷ 3 ∷ []) ≡ 1 ∷ 2 ∷ 3 ∷ [] }
+    ensures messages_beside_it { messages_after (made_wanted "abcd" "c" 0) (1 ∷ 2 ∷ 3 ∷ []) ≡ codes "c" ++ (2 ∷ 3 ∷ []) }
     ensures refused { tree_after (Err (Text (NotUtf8 7))) (1 ∷ 2 ∷ []) ≡ 1 ∷ 2 ∷ [] }
     ensures refused_messages { messages_after (Err (Text (NotUtf8 7))) (1 ∷ 2 ∷ []) ≡ 1 ∷ 2 ∷ [] }
 {}
@@ -120,14 +120,14 @@ pub fn messages()
 
 /// What is printed of a text, and what is where a message halts the run (Header, 'rst_print').
 pub fn prints()
-    ensures tree { print_wanted (Some usual) (codes "x") (codes "a\n") ≡ made "<document source=\"x\">\n    <paragraph>\n        a\n" "" 0 }
+    ensures tree { print_wanted (Some usual) (codes "x") (codes "a\n") ≡ made_wanted "<document source=\"x\">\n    <paragraph>\n        a\n" "" 0 }
     ensures halted { print_wanted (Some (record usual { halt = threshold.Warning })) (codes "x") (codes "*a")
-        ≡ made "" "x:1: (WARNING/2) Inline emphasis start-string without end-string.\nExiting due to level-2 (WARNING) system message.\n" 1 }
+        ≡ made_wanted "" "x:1: (WARNING/2) Inline emphasis start-string without end-string.\nExiting due to level-2 (WARNING) system message.\n" 1 }
 {}
 
 /// What each form gives for a text (Header, 'rst_json').
 pub fn texts()
-    ensures json { form_wanted DocumentJson (Some usual) (codes "a\n") ≡ made "[\"document\",0,{},[\"paragraph\",1,{},\"a\"]]" "" 0 }
+    ensures json { form_wanted DocumentJson (Some usual) (codes "a\n") ≡ made_wanted "[\"document\",0,{},[\"paragraph\",1,{},\"a\"]]" "" 0 }
     ensures messages { form_wanted MessagesJson (Some usual) (codes "*a")
-        ≡ made "[{\"line\":1,\"level\":2,\"type\":\"WARNING\",\"text\":\"Inline emphasis start-string without end-string.\"}]" "" 0 }
+        ≡ made_wanted "[{\"line\":1,\"level\":2,\"type\":\"WARNING\",\"text\":\"Inline emphasis start-string without end-string.\"}]" "" 0 }
 {}

@@ -61,7 +61,7 @@ fn before() -> RstResult {
 }
 
 /// The start of a room.
-fn front(room: &[u8], length: u64) -> Result<&str, Fail> {
+fn text_in(room: &[u8], length: u64) -> Result<&str, Fail> {
     Ok(str::from_utf8(&room[..(length as usize).min(room.len())])?)
 }
 
@@ -84,8 +84,8 @@ fn prints(rt: HostRuntime) -> Result<(), Fail> {
     );
     assert_eq!(rt; answer.end, 0);
     assert_eq!(rt; answer.status, 12);
-    assert_eq!(rt; front(&tree, answer.length)?, TREE);
-    assert_eq!(rt; front(&messages, answer.messages)?, MESSAGES);
+    assert_eq!(rt; text_in(&tree, answer.length)?, TREE);
+    assert_eq!(rt; text_in(&messages, answer.messages)?, MESSAGES);
     Ok(())
 }
 
@@ -93,7 +93,7 @@ fn prints(rt: HostRuntime) -> Result<(), Fail> {
 fn gives_json(rt: HostRuntime) -> Result<(), Fail> {
     let (mut json, mut answer) = ([7u8; 600], before());
     rst_json(rt.alloc(), TEXT, &OPTIONS, &mut json, &mut answer);
-    assert_eq!(rt; front(&json, answer.length)?, JSON);
+    assert_eq!(rt; text_in(&json, answer.length)?, JSON);
     assert_eq!(rt; answer.status, 12);
     Ok(())
 }
@@ -102,7 +102,7 @@ fn gives_json(rt: HostRuntime) -> Result<(), Fail> {
 fn gives_records(rt: HostRuntime) -> Result<(), Fail> {
     let (mut records, mut answer) = ([7u8; 100], before());
     rst_records(rt.alloc(), b"a\n", &OPTIONS, &mut records, &mut answer);
-    assert_eq!(rt; front(&records, answer.length)?, RECORDS);
+    assert_eq!(rt; text_in(&records, answer.length)?, RECORDS);
     Ok(())
 }
 
@@ -110,7 +110,7 @@ fn gives_records(rt: HostRuntime) -> Result<(), Fail> {
 fn gives_messages(rt: HostRuntime) -> Result<(), Fail> {
     let (mut json, mut answer) = ([7u8; 600], before());
     rst_messages(rt.alloc(), TEXT, &OPTIONS, &mut json, &mut answer);
-    assert_eq!(rt; front(&json, answer.length)?, NOTES);
+    assert_eq!(rt; text_in(&json, answer.length)?, NOTES);
     assert_eq!(rt; answer.messages, 0);
     Ok(())
 }

@@ -8,7 +8,7 @@ use Rattle.rst_text.specs.Places.{last_from, IsLast}
 use Rattle.rst_text.proofs.PlacesLemmas.{last_from-is}
 use Rattle.rst_text.specs.Escapes.{is_escaped, unescaped}
 use Rattle.rst_text.proofs.EscapeLemmas.{unescaped_from, unescaped-read}
-use Rattle.rst_inline.specs.Embedded.{opens_angle, ends_with, last_angle, fits_angle, embedded_at, dark_end, enclosed, is_alias, meant, shown_by}
+use Rattle.rst_inline.specs.Embedded.{opens_angle, ends_with, last_angle, fits_angle, embedded_at, dark_end, enclosed, is_alias, meant, phrase_display_text}
 use Rattle.rst_inline.specs.Readings.{embedded_reading, phrase_reading_at, phrase_reading}
 use Rattle.rst_inline_scan.specs.declared.piece.Suffix.{Suffix}
 use Rattle.rst_inline.specs.Parts.{part, content}
@@ -93,7 +93,7 @@ alias-part t low high within some =
 pub enclosed-part : (t : Text) (p : Piece) (place : ℕ) → IsWithin t p → place + 2 < length (content t p)
     → part t (p.content_from + place + 1) (p.content_to - 1) ≡ enclosed (content t p) place
 enclosed-part t p place within h =
-    let ends : p.content_to ≤ length t = omega (arith, within.behind, within.within) in
+    let ends : p.content_to ≤ length t = omega (arith, within.limit, within.within) in
     let long = length-part t p.content_from p.content_to ends in
     let from : p.content_from + (place + 1) ≡ p.content_from + place + 1 = omega arith in
     let to : p.content_from + (length (content t p) - 1) ≡ p.content_to - 1 = omega (arith, long) in
@@ -102,12 +102,12 @@ enclosed-part t p place within h =
 -- what precedes them
 pub before-part : (t : Text) (p : Piece) (end : ℕ) → IsWithin t p → end ≤ length (content t p) → part t p.content_from (p.content_from + end) ≡ part (content t p) 0 end
 before-part t p end within h =
-    let ends : p.content_to ≤ length t = omega (arith, within.behind, within.within) in
+    let ends : p.content_to ≤ length t = omega (arith, within.limit, within.within) in
     let from : p.content_from + 0 ≡ p.content_from = omega arith in
     sym (part-part t p.content_from p.content_to 0 end (omega (arith, length-part t p.content_from p.content_to ends)) ∙ ap (λ from. part t from (p.content_from + end)) from)
 
-pub phrase-embedded : (suffix : Suffix) (from phrase source shown meaning : Text) (place line : ℕ) (alias : Bool) → source ≡ from → shown ≡ shown_by phrase place
+pub phrase-embedded : (suffix : Suffix) (from phrase source display_text meaning : Text) (place line : ℕ) (alias : Bool) → source ≡ from → display_text ≡ phrase_display_text phrase place
     → meaning ≡ meant (enclosed phrase place) → alias ≡ is_alias (enclosed phrase place) → Some place ≡ embedded_at phrase
-    → embedded_reading suffix source shown meaning alias line ≡ phrase_reading suffix from phrase line
-phrase-embedded suffix from phrase source shown meaning place line alias first second third fourth at =
+    → embedded_reading suffix source display_text meaning alias line ≡ phrase_reading suffix from phrase line
+phrase-embedded suffix from phrase source display_text meaning place line alias first second third fourth at =
     rw (first, second, third, fourth) (ap (λ place. phrase_reading_at suffix from phrase place line) at)

@@ -13,7 +13,7 @@ use Rattle.rst_inline.specs.declared.nodes.Pieces.{Pieces}
 use Rattle.rst_inline.specs.Elements.{text_children}
 use Rattle.rst_inline.specs.Parts.{source}
 use Rattle.rst_inline.specs.Readings.{plain_reading, reading}
-use Rattle.rst_inline.specs.Results.{nodes_by, notes_by, notes_of, nodes_behind, IsRead}
+use Rattle.rst_inline.specs.Results.{nodes_by, notes_by, notes_of, nodes_from, IsRead}
 
 -- the piece that is all of a text
 abbrev all_of : Text → Piece
@@ -26,7 +26,7 @@ reading-all t line h =
     let written : source t (all_of t) ≡ t = take_all (length t) t (omega arith) in
     ap plain_reading (ap unescaped written ∙ unescaped-plain t (quiet-plain t h))
 
-pub quiet-nodes : (t : Text) (line first : ℕ) → quiet t ≡ true → nodes_of (text_children t) ≡ nodes_behind t line first (whole t)
+pub quiet-nodes : (t : Text) (line first : ℕ) → quiet t ≡ true → nodes_of (text_children t) ≡ nodes_from t line first (whole t)
 quiet-nodes [] line first h = refl
 quiet-nodes (c ∷ cs) line first h = sym (ap (λ m. nodes_by m first (source (c ∷ cs) (all_of (c ∷ cs))) line ++ []) (reading-all (c ∷ cs) line h))
 

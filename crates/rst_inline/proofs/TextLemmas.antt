@@ -12,7 +12,7 @@ use Rattle.rst_tree.specs.declared.node.Node.TheVariants.{Text as Words}
 use Rattle.rst_text.specs.Characters.{Text}
 use Rattle.rst_inline.specs.declared.reading.Meaning.TheVariants.{Nothing, One}
 use Rattle.rst_inline.specs.Elements.{text_children}
-use Rattle.rst_inline.specs.Parts.{part, spelled}
+use Rattle.rst_inline.specs.Parts.{part, text_bytes}
 use Rattle.rst_inline.specs.Readings.{plain_reading}
 
 -- a part that ends within the text and begins before its end is the same
@@ -27,11 +27,11 @@ part_is t low high h l top bottom =
     sym (drop-take l (h - l) t) ∙ ap (λ n. drop l (take n t)) e ∙ part-within t low high h l top bottom
 
 -- the characters of a text that some characters spell
-pub chars-spelled : {A : Type 0} (s : String A) (cs : Text) → string_bytes s ≡ spelled cs → chars (string_bytes s) ≡ cs
-chars-spelled s cs e = sym (chars_from_encodes cs (string_bytes s) (IsUtf8-string_bytes s) (sym e))
+pub chars-text_bytes : {A : Type 0} (s : String A) (cs : Text) → string_bytes s ≡ text_bytes cs → chars (string_bytes s) ≡ cs
+chars-text_bytes s cs e = sym (chars_from_encodes cs (string_bytes s) (IsUtf8-string_bytes s) (sym e))
 
 -- what is written when no character is left is all
-pub all-written : (out : List ℕ) (cs : Text) (i : ℕ) → length cs ≤ i → out ++ encode_utf8_all (drop i cs) ≡ spelled cs → out ≡ spelled cs
+pub all-written : (out : List ℕ) (cs : Text) (i : ℕ) → length cs ≤ i → out ++ encode_utf8_all (drop i cs) ≡ text_bytes cs → out ≡ text_bytes cs
 all-written out cs i past e = sym (append-nil out) ∙ ap (λ t. out ++ encode_utf8_all t) (sym (drop_all i cs past)) ∙ e
 
 -- a star has one character
@@ -40,12 +40,12 @@ unfolding chars
 chars_of_star = refl
 
 -- the bytes of a text are those that its characters spell
-pub spelled_again : (bs : List ℕ) → IsUtf8 bs → bs ≡ spelled (chars bs)
+pub spelled_again : (bs : List ℕ) → IsUtf8 bs → bs ≡ text_bytes (chars bs)
 spelled_again bs utf8 = sym (encodes-chars bs utf8)
 
 -- ---- what is in an element that holds a text
 
-some-words : (cs : Text) (bs : List ℕ) → bs ≡ spelled cs → (length bs == 0) ≡ false → words bs bare ≡ text_children cs
+some-words : (cs : Text) (bs : List ℕ) → bs ≡ text_bytes cs → (length bs == 0) ≡ false → words bs bare ≡ text_children cs
 some-words [] bs e h = let none = ap (λ (x : List ℕ). length x == 0) e in absurd (cc)
 some-words (c ∷ cs) bs e h = ap (λ s. words s bare) e
 
@@ -58,7 +58,7 @@ no-children bs h = sym (ap (λ (x : List ℕ). text_children (chars x)) (nil_fro
 
 -- ---- what a plain text means
 
-pub some_plain : (cs : Text) (bs : List ℕ) → bs ≡ spelled cs → (length bs == 0) ≡ false → One (Words bs) ≡ plain_reading cs
+pub some_plain : (cs : Text) (bs : List ℕ) → bs ≡ text_bytes cs → (length bs == 0) ≡ false → One (Words bs) ≡ plain_reading cs
 some_plain [] bs e h = let none = ap (λ (x : List ℕ). length x == 0) e in absurd (cc)
 some_plain (c ∷ cs) bs e h = ap (λ s. One (Words s)) e
 

@@ -91,13 +91,13 @@ split t i = ap encodes (sym (take-append-drop i t)) ∙ encodes-append (take i t
 
 drop-bytes : (t : Text) (i : ℕ) → drop (Byte t i) (encodes t) ≡ encodes (drop i t)
 drop-bytes t i =
-    let front = encodes (take i t) in
-    ap (drop (Byte t i)) (split t i) ∙ drop-append-le (Byte t i) front (encodes (drop i t)) (omega arith) ∙ ap (λ bs. bs ++ encodes (drop i t)) (drop_all (Byte t i) front (omega arith))
+    let prefix = encodes (take i t) in
+    ap (drop (Byte t i)) (split t i) ∙ drop-append-le (Byte t i) prefix (encodes (drop i t)) (omega arith) ∙ ap (λ bs. bs ++ encodes (drop i t)) (drop_all (Byte t i) prefix (omega arith))
 
 take-bytes : (t : Text) (i : ℕ) → take (Byte t i) (encodes t) ≡ encodes (take i t)
 take-bytes t i =
-    let front = encodes (take i t) in
-    ap (take (Byte t i)) (split t i) ∙ take-append-le (Byte t i) front (encodes (drop i t)) (omega arith) ∙ take_all (Byte t i) front (omega arith)
+    let prefix = encodes (take i t) in
+    ap (take (Byte t i)) (split t i) ∙ take-append-le (Byte t i) prefix (encodes (drop i t)) (omega arith) ∙ take_all (Byte t i) prefix (omega arith)
 
 -- the first characters of the first characters
 byte-take : (t : Text) (low high : ℕ) → low ≤ high → Byte (take high t) low ≡ Byte t low

@@ -7,7 +7,7 @@ use Rattle.rst_tree.specs.Forest.{Forest, bare, words}
 use Rattle.rst_tree.specs.Nodes.{forest_of}
 use Rattle.rst_tree.specs.declared.attrs.Attr.{Attr}
 use Rattle.rst_tree.specs.declared.attrs.Value.{Value}
-use Rattle.rst_tree.specs.declared.attrs.Value.TheVariants.{Text as Said, Number}
+use Rattle.rst_tree.specs.declared.attrs.Value.TheVariants.{Text as TextValue, Number}
 use Rattle.rst_tree.specs.declared.key.Key.TheVariants.{Anonymous, Auto, Inline, Message, Name, OwnName, Rawsource, Refname, Refuri}
 use Rattle.rst_tree.specs.declared.node.Node.{Node}
 use Rattle.rst_tree.specs.declared.node.Node.TheVariants.{Element}
@@ -16,16 +16,16 @@ use Rattle.rst_tree.specs.declared.tag.Tag.TheVariants.{Target, Reference, Subst
 use Rattle.rst_text.specs.Characters.{Text}
 use Rattle.rst_inline_scan.specs.declared.piece.Suffix.{Suffix}
 use Rattle.rst_inline_scan.specs.declared.piece.Suffix.TheVariants.{Anonymous as Nameless}
-use Rattle.rst_inline.specs.Parts.{spelled}
+use Rattle.rst_inline.specs.Parts.{text_bytes}
 
 -- an attribute whose value is a text
-abbrev pub said : Text → Value
-said cs = Said (spelled cs)
+abbrev pub text_value : Text → Value
+text_value cs = TextValue (text_bytes cs)
 
 -- what is in an element that holds a text: the text, and nothing where it is empty
 abbrev pub text_children : Text → Forest
 text_children [] = bare
-text_children (c ∷ cs) = words (spelled (c ∷ cs)) bare
+text_children (c ∷ cs) = words (text_bytes (c ∷ cs)) bare
 
 -- an element that holds a text
 abbrev pub text_element : Tag → List Attr → Text → ℕ → Node
@@ -36,48 +36,48 @@ text_element tag attrs cs line = Element tag attrs (text_children cs) line
 -- A reference has the name by which it is known to its reader, its source, and the name that it refers to, unless it is
 -- anonymous.
 abbrev pub reference_attrs : Suffix → Text → Text → Text → List Attr
-reference_attrs Nameless source shown name = attr Anonymous (Number 1) ∷ attr Name (said (normalized_white shown)) ∷ attr Rawsource (said source) ∷ []
-reference_attrs _ source shown name = attr Name (said (normalized_white shown)) ∷ attr Rawsource (said source) ∷ attr Refname (said (name_of name)) ∷ []
+reference_attrs Nameless source display_text name = attr Anonymous (Number 1) ∷ attr Name (text_value (normalized_white display_text)) ∷ attr Rawsource (text_value source) ∷ []
+reference_attrs _ source display_text name = attr Name (text_value (normalized_white display_text)) ∷ attr Rawsource (text_value source) ∷ attr Refname (text_value (name_of name)) ∷ []
 
 -- a reference by a name: that which it shows, or an embedded alias
 abbrev pub reference_node : Suffix → Text → Text → Text → ℕ → Node
-reference_node suffix source shown name line = text_element Reference (reference_attrs suffix source shown name) shown line
+reference_node suffix source display_text name line = text_element Reference (reference_attrs suffix source display_text name) display_text line
 
 -- a standalone URI
 abbrev pub uri_node : Text → ℕ → Node
-uri_node source line = text_element Reference (attr Rawsource (said source) ∷ attr Refuri (said source) ∷ []) source line
+uri_node source line = text_element Reference (attr Rawsource (text_value source) ∷ attr Refuri (text_value source) ∷ []) source line
 
 -- a phrase with an embedded URI
 abbrev pub embedded_node : Text → Text → Text → ℕ → Node
-embedded_node source shown uri line =
-    text_element Reference (attr Name (said (normalized_white shown)) ∷ attr Rawsource (said source) ∷ attr Refuri (said uri) ∷ []) shown line
+embedded_node source display_text uri line =
+    text_element Reference (attr Name (text_value (normalized_white display_text)) ∷ attr Rawsource (text_value source) ∷ attr Refuri (text_value uri) ∷ []) display_text line
 
 -- ---- targets
 
 -- an inline target, named by its text
 abbrev pub inline_target_node : Text → ℕ → Node
-inline_target_node shown line = text_element Target (attr Inline (Number 1) ∷ attr OwnName (said (name_of shown)) ∷ []) shown line
+inline_target_node display_text line = text_element Target (attr Inline (Number 1) ∷ attr OwnName (text_value (name_of display_text)) ∷ []) display_text line
 
 -- the target that an embedded URI leaves, named by its phrase
 abbrev pub uri_target_node : Text → Text → ℕ → Node
-uri_target_node shown uri line = Element Target (attr Inline (Number 1) ∷ attr OwnName (said (name_of shown)) ∷ attr Refuri (said uri) ∷ []) bare line
+uri_target_node display_text uri line = Element Target (attr Inline (Number 1) ∷ attr OwnName (text_value (name_of display_text)) ∷ attr Refuri (text_value uri) ∷ []) bare line
 
 -- ---- substitutions
 
 -- a substitution reference, which refers to a definition by the name that is displayed
 abbrev pub substitution_node : Text → Text → ℕ → Node
-substitution_node source shown line =
-    text_element SubstitutionReference (attr Rawsource (said source) ∷ attr Refname (said (normalized_white shown)) ∷ []) shown line
+substitution_node source display_text line =
+    text_element SubstitutionReference (attr Rawsource (text_value source) ∷ attr Refname (text_value (normalized_white display_text)) ∷ []) display_text line
 
 -- The reference round a substitution reference has its source and the name that it refers to, unless it is anonymous, but no
 -- name of its own.
 abbrev pub outer_attrs : Suffix → Text → Text → List Attr
-outer_attrs Nameless source shown = attr Anonymous (Number 1) ∷ attr Rawsource (said source) ∷ []
-outer_attrs _ source shown = attr Rawsource (said source) ∷ attr Refname (said (name_of shown)) ∷ []
+outer_attrs Nameless source display_text = attr Anonymous (Number 1) ∷ attr Rawsource (text_value source) ∷ []
+outer_attrs _ source display_text = attr Rawsource (text_value source) ∷ attr Refname (text_value (name_of display_text)) ∷ []
 
 -- a substitution that is a reference, too: the reference encloses it
 abbrev pub outer_node : Suffix → Text → Text → Node → ℕ → Node
-outer_node suffix source shown inner line = Element Reference (outer_attrs suffix source shown) (forest_of (inner ∷ [])) line
+outer_node suffix source display_text inner line = Element Reference (outer_attrs suffix source display_text) (forest_of (inner ∷ [])) line
 
 -- ---- footnotes and citations
 
@@ -91,16 +91,16 @@ label_tag label = if list_all is_digit label then FootnoteReference else Citatio
 
 -- a reference whose label itself names what it refers to: to a manually numbered footnote, or to a citation
 abbrev pub manual_reference_node : Text → Text → ℕ → Node
-manual_reference_node source label line = text_element (label_tag label) (attr Rawsource (said source) ∷ attr Refname (said (name_of label)) ∷ []) label line
+manual_reference_node source label line = text_element (label_tag label) (attr Rawsource (text_value source) ∷ attr Refname (text_value (name_of label)) ∷ []) label line
 
 -- a reference to an autonumbered footnote: `#` alone, or with the name that is after it
 abbrev pub autonumbered_reference_node : Text → Text → ℕ → Node
-autonumbered_reference_node source [] line = Element FootnoteReference (attr Auto (Number 1) ∷ attr Rawsource (said source) ∷ []) bare line
-autonumbered_reference_node source (c ∷ cs) line = Element FootnoteReference (attr Auto (Number 1) ∷ attr Rawsource (said source) ∷ attr Refname (said (name_of (c ∷ cs))) ∷ []) bare line
+autonumbered_reference_node source [] line = Element FootnoteReference (attr Auto (Number 1) ∷ attr Rawsource (text_value source) ∷ []) bare line
+autonumbered_reference_node source (c ∷ cs) line = Element FootnoteReference (attr Auto (Number 1) ∷ attr Rawsource (text_value source) ∷ attr Refname (text_value (name_of (c ∷ cs))) ∷ []) bare line
 
 -- a reference to an auto-symbol footnote: `*`
 abbrev pub autosymbol_reference_node : Text → ℕ → Node
-autosymbol_reference_node source line = Element FootnoteReference (attr Auto (said (42 ∷ [])) ∷ attr Rawsource (said source) ∷ []) bare line
+autosymbol_reference_node source line = Element FootnoteReference (attr Auto (text_value (42 ∷ [])) ∷ attr Rawsource (text_value source) ∷ []) bare line
 
 -- a reference to a footnote or a citation by the label in its brackets, which `#` or `*` may begin
 abbrev pub label_reference_node : Text → Text → ℕ → Node

@@ -51,5 +51,5 @@ meant u = if is_alias u then unescaped (part u 0 (length u - 1)) else without_wh
 
 -- what is displayed of the phrase: without white before the `<` and without escapes, or, where nothing comes before it, what it
 -- refers to
-abbrev pub shown_by : Text → ℕ → Text
-shown_by t k = if k == 0 then meant (enclosed t k) else unescaped (part t 0 (dark_end t k))
+abbrev pub phrase_display_text : Text → ℕ → Text
+phrase_display_text t k = if k == 0 then meant (enclosed t k) else unescaped (part t 0 (dark_end t k))

@@ -16,8 +16,8 @@ abbrev pub content : Text → Piece → Text
 content t p = part t p.content_from p.content_to
 
 -- the bytes of a text
-abbrev pub spelled : Text → List ℕ
-spelled cs = encode_utf8_all cs
+abbrev pub text_bytes : Text → List ℕ
+text_bytes cs = encode_utf8_all cs
 
 -- the byte at which each character begins, counted from a byte on, and after them the end; no rule of markup: a text is cut by its bytes
 abbrev pub starts_of : ℕ → Text → List ℕ

@@ -20,9 +20,9 @@ use Rattle.rst_inline_scan.specs.declared.piece.Suffix.{Suffix}
 use Rattle.rst_inline_scan.specs.declared.piece.Suffix.TheVariants.{Bare, Role, Named, Anonymous}
 use Rattle.rst_inline.specs.declared.reading.Meaning.{Meaning}
 use Rattle.rst_inline.specs.declared.reading.Meaning.TheVariants.{Nothing, One, Two, Wrong}
-use Rattle.rst_inline.specs.Parts.{part, source, content, spelled}
+use Rattle.rst_inline.specs.Parts.{part, source, content, text_bytes}
 use Rattle.rst_inline.specs.Roles.{role_tag}
-use Rattle.rst_inline.specs.Embedded.{embedded_at, enclosed, is_alias, meant, shown_by}
+use Rattle.rst_inline.specs.Embedded.{embedded_at, enclosed, is_alias, meant, phrase_display_text}
 use Rattle.rst_inline.specs.Elements.{text_element, reference_node, uri_node, embedded_node, inline_target_node, uri_target_node, substitution_node, outer_node, label_reference_node}
 
 -- ---- messages
@@ -45,8 +45,8 @@ abbrev pub two_roles : Meaning
 two_roles = Wrong Warning (codes "Multiple roles in interpreted text (both prefix and suffix present; only one allowed).")
 
 -- a role before and underscores after, which give a warning
-abbrev pub mismatch : Meaning
-mismatch = Wrong Warning (codes "Mismatch: both interpreted text role and reference suffix.")
+abbrev pub role_mismatch : Meaning
+role_mismatch = Wrong Warning (codes "Mismatch: both interpreted text role and reference suffix.")
 
 -- ---- kinds of pieces
 
@@ -58,22 +58,22 @@ plain_meaning (Some text) = One (Words text)
 -- plain text without its escapes, which gives no node where nothing is left of it
 abbrev pub plain_reading : Text → Meaning
 plain_reading [] = Nothing
-plain_reading (c ∷ cs) = One (Words (spelled (c ∷ cs)))
+plain_reading (c ∷ cs) = One (Words (text_bytes (c ∷ cs)))
 
 -- a substitution reference, alone or, where underscores follow it, with a reference around it
 abbrev pub substitution_reading : Suffix → Text → Text → Text → ℕ → Meaning
-substitution_reading Bare inner outer shown line = One (substitution_node inner shown line)
-substitution_reading suffix inner outer shown line = One (outer_node suffix outer shown (substitution_node inner shown line) line)
+substitution_reading Bare inner outer display_text line = One (substitution_node inner display_text line)
+substitution_reading suffix inner outer display_text line = One (outer_node suffix outer display_text (substitution_node inner display_text line) line)
 
 -- A phrase with an embedded alias refers to a name; one with an embedded URI leaves a target, too, unless it is anonymous.
 abbrev pub embedded_reading : Suffix → Text → Text → Text → Bool → ℕ → Meaning
-embedded_reading suffix source shown meaning true line = One (reference_node Named source shown meaning line)
-embedded_reading Named source shown meaning false line = Two (forest_of (embedded_node source shown meaning line ∷ uri_target_node shown meaning line ∷ []))
-embedded_reading suffix source shown meaning false line = One (embedded_node source shown meaning line)
+embedded_reading suffix source display_text meaning true line = One (reference_node Named source display_text meaning line)
+embedded_reading Named source display_text meaning false line = Two (forest_of (embedded_node source display_text meaning line ∷ uri_target_node display_text meaning line ∷ []))
+embedded_reading suffix source display_text meaning false line = One (embedded_node source display_text meaning line)
 
 -- a phrase that is a reference, with the place of what is embedded in it, if there is something
 abbrev pub phrase_reading_at : Suffix → Text → Text → Option ℕ → ℕ → Meaning
-phrase_reading_at suffix source phrase (Some k) line = embedded_reading suffix source (shown_by phrase k) (meant (enclosed phrase k)) (is_alias (enclosed phrase k)) line
+phrase_reading_at suffix source phrase (Some k) line = embedded_reading suffix source (phrase_display_text phrase k) (meant (enclosed phrase k)) (is_alias (enclosed phrase k)) line
 phrase_reading_at suffix source phrase None line = One (reference_node suffix source (unescaped phrase) (unescaped phrase) line)
 
 -- a phrase that is a reference
@@ -82,12 +82,12 @@ phrase_reading suffix source phrase line = phrase_reading_at suffix source phras
 
 -- interpreted text, with the element of its role, or with none where the role is unknown
 abbrev pub role_reading_by : Option Tag → List ℕ → Text → ℕ → Meaning
-role_reading_by (Some element) name shown line = One (text_element element [] shown line)
-role_reading_by None name shown line = unknown_role name
+role_reading_by (Some element) name display_text line = One (text_element element [] display_text line)
+role_reading_by None name display_text line = unknown_role name
 
 -- interpreted text with a role
 abbrev pub role_reading : Text → Text → ℕ → Meaning
-role_reading role shown line = role_reading_by (role_tag (spelled role)) (spelled role) shown line
+role_reading role display_text line = role_reading_by (role_tag (text_bytes role)) (text_bytes role) display_text line
 
 -- A role comes before interpreted text: the content begins further from the piece's place than one backquote.
 abbrev pub has_prefix_role : Piece → Bool
@@ -105,8 +105,8 @@ suffix_role t p = part t (p.content_to + 2) (p.to - 1)
 abbrev pub interpreted_reading : Bool → Suffix → Text → Piece → ℕ → Meaning
 interpreted_reading true Bare t p line = role_reading (prefix_role t p) (unescaped (content t p)) line
 interpreted_reading true Role t p line = two_roles
-interpreted_reading true Named t p line = mismatch
-interpreted_reading true Anonymous t p line = mismatch
+interpreted_reading true Named t p line = role_mismatch
+interpreted_reading true Anonymous t p line = role_mismatch
 interpreted_reading false Bare t p line = One (text_element tag.TitleReference [] (unescaped (content t p)) line)
 interpreted_reading false Role t p line = role_reading (suffix_role t p) (unescaped (content t p)) line
 interpreted_reading false Named t p line = phrase_reading Named (source t p) (content t p) line

@@ -32,20 +32,20 @@ nodes_by (Two both) number source line = nodes_of both
 nodes_by (Wrong level text) number source line = problematic_node number source line ∷ []
 
 -- the number of the next message after a piece, where it was this before it
-abbrev pub number_behind : Meaning → ℕ → ℕ
-number_behind (Wrong level text) number = counted_on number 1
-number_behind _ number = number
+abbrev pub number_after : Meaning → ℕ → ℕ
+number_after (Wrong level text) number = counted_on number 1
+number_after _ number = number
 
 -- the nodes of pieces in order, where the next message has this number
-abbrev pub nodes_behind : Text → ℕ → ℕ → List Piece → List Node
-nodes_behind t line number [] = []
-nodes_behind t line number (p ∷ ps) = nodes_by (reading t line p) number (source t p) line ++ nodes_behind t line (number_behind (reading t line p) number) ps
+abbrev pub nodes_from : Text → ℕ → ℕ → List Piece → List Node
+nodes_from t line number [] = []
+nodes_from t line number (p ∷ ps) = nodes_by (reading t line p) number (source t p) line ++ nodes_from t line (number_after (reading t line p) number) ps
 
 -- the nodes and the messages are those of the pieces
-pub record Reads (t : Text) (line first : ℕ) (pieces : List Piece) (read : Pieces) : Type 0 where
-  pub nodes : read.nodes.items ≡ nodes_behind t line first pieces
+pub record AreReadFromPieces (t : Text) (line first : ℕ) (pieces : List Piece) (read : Pieces) : Type 0 where
+  pub nodes : read.nodes.items ≡ nodes_from t line first pieces
   pub notes : read.notes.items ≡ notes_of t line pieces
 
 -- They are those of the pieces of the text, of which there is exactly one list.
 abbrev pub IsRead : Text → ℕ → ℕ → Pieces → Type 0
-IsRead t line first read = (pieces : List Piece) × IsPieces t 0 pieces × Reads t line first pieces read
+IsRead t line first read = (pieces : List Piece) × IsPieces t 0 pieces × AreReadFromPieces t line first pieces read

@@ -1,6 +1,6 @@
 //! Elements of inline markup.
 ghost use Rattle.std.specs.Prelude.{◌≡◌, true, chars};
-ghost use Rattle.rst_tree.specs.Attributes.{in_order};
+ghost use Rattle.rst_tree.specs.Attributes.{are_keys_in_order};
 ghost use Rattle.rst_tree.specs.Forest.{bare};
 ghost use Rattle.rst_tree.specs.declared.node.Node.TheVariants.{Element};
 ghost use Rattle.rst_inline.specs.Elements.{text_children, text_element, problematic_node};
@@ -10,13 +10,13 @@ use rst_tree::{Attrs, Children, Entry, Key, Node, Result, Tag, Text, Value};
 use std::alloc::Global;
 
 /// The nodes of a text: none where it is empty.
-pub(crate) fn text_nodes(alloc: Global, shown: &str) -> Result<Children>
-    ensures { Gives (λ nodes. nodes ≡ text_children (chars shown.now)) result }
+pub(crate) fn text_nodes(alloc: Global, display_text: &str) -> Result<Children>
+    ensures { Gives (λ nodes. nodes ≡ text_children (chars display_text.now)) result }
 {
-    if shown.is_empty() {
+    if display_text.is_empty() {
         return Ok(Children::new(alloc));
     }
-    let text = Text::from_str(alloc, shown)?;
+    let text = Text::from_str(alloc, display_text)?;
     let nodes = Children::lone(alloc, Node::Text(text))?;
     Ok(nodes)
 }
@@ -26,13 +26,13 @@ pub(crate) fn element(
     alloc: Global,
     tag: Tag,
     attrs: Vec<Entry>,
-    shown: &str,
+    display_text: &str,
     line: usize,
 ) -> Result<Node>
-    requires { in_order attrs.items ≡ true }
-    ensures { Gives (λ node. node ≡ text_element tag attrs.items (chars shown.now) line) result }
+    requires { are_keys_in_order attrs.items ≡ true }
+    ensures { Gives (λ node. node ≡ text_element tag attrs.items (chars display_text.now) line) result }
 {
-    let children = text_nodes(alloc, shown)?;
+    let children = text_nodes(alloc, display_text)?;
     Ok(Node::Element {
         tag,
         attrs: Attrs::of(attrs),
@@ -43,7 +43,7 @@ pub(crate) fn element(
 
 /// An element with attributes, whose names rise, that holds nothing.
 pub(crate) fn bare_element(alloc: Global, tag: Tag, attrs: Vec<Entry>, line: usize) -> Node
-    requires { in_order attrs.items ≡ true }
+    requires { are_keys_in_order attrs.items ≡ true }
     ensures { result ≡ Element tag attrs.items bare line }
 {
     Node::Element {

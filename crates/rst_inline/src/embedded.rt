@@ -65,10 +65,10 @@ pub(crate) fn embedded_at(phrase: &[char]) -> Option<usize>
 
 /// Whether what the angle brackets hold is an alias.
 #[tactic(auto, unfolding(crate::specs::Embedded::is_alias))]
-pub(crate) fn is_alias(held: &[char]) -> bool
-    ensures { result ≡ is_alias held.now }
+pub(crate) fn is_alias(enclosed: &[char]) -> bool
+    ensures { result ≡ is_alias enclosed.now }
 {
-    1 < held.len() && ends_with(held, '_')
+    1 < enclosed.len() && ends_with(enclosed, '_')
 }
 
 /// Whether there is a white character among these.

@@ -5,7 +5,7 @@ ghost use Rattle.rst_inline.specs.Elements.{is_digit, autonumbered_reference_nod
 ghost use Rattle.rst_tree.specs.Faults.{Gives};
 
 use super::elements::bare_element;
-use super::texts::{name_said, said, spell};
+use super::texts::{name_value, spell, text_value};
 use rst_tree::{Entry, Key, Node, Result, Tag, Value};
 use std::alloc::Global;
 
@@ -17,10 +17,15 @@ pub(crate) fn are_digits(label: &[char]) -> bool
 }
 
 /// A footnote that is numbered, alone or with a name.
-pub(crate) fn numbered(alloc: Global, source: &str, name: &[char], line: usize) -> Result<Node>
+pub(crate) fn numbered_footnote(
+    alloc: Global,
+    source: &str,
+    name: &[char],
+    line: usize,
+) -> Result<Node>
     ensures { Gives (λ node. node ≡ autonumbered_reference_node (chars source.now) name.now line) result }
 {
-    let written = said(alloc, source)?;
+    let written = text_value(alloc, source)?;
     match name {
         [] => {
             let attrs = vec![in alloc;
@@ -31,7 +36,7 @@ pub(crate) fn numbered(alloc: Global, source: &str, name: &[char], line: usize) 
         }
         _ => {
             let name = spell(alloc, name)?;
-            let refname = name_said(alloc, name.as_str())?;
+            let refname = name_value(alloc, name.as_str())?;
             let attrs = vec![in alloc;
                 Entry::new(Key::Auto, Value::Number(1)),
                 Entry::new(Key::Rawsource, written),

@@ -2,7 +2,7 @@
 ghost use Rattle.std.specs.Prelude.{All, chars};
 ghost use Rattle.rst_tree.specs.Faults.{Gives};
 ghost use Rattle.rst_inline_scan.specs.Pieces.{IsWithin};
-ghost use Rattle.rst_inline.specs.Results.{Reads, IsRead};
+ghost use Rattle.rst_inline.specs.Results.{AreReadFromPieces, IsRead};
 
 use super::elements::{problematic, text_nodes};
 use super::reading::Meaning;
@@ -55,7 +55,7 @@ impl Written<'_> {
     #[inline(never)]
     fn read(&self, pieces: &[Piece], first: u64) -> Result<Pieces>
         requires { All (IsWithin self.now.characters.items) pieces.now }
-        ensures { Gives (Reads self.now.characters.items self.now.line first pieces.now) result }
+        ensures { Gives (AreReadFromPieces self.now.characters.items self.now.line first pieces.now) result }
     {
         // A phrase reference may give two nodes, the second a target.
         let phrases = pieces

@@ -7,16 +7,16 @@ ghost use Rattle.rst_text.specs.Escapes.{unescaped};
 ghost use Rattle.rst_inline_scan.specs.Pieces.{IsWithin};
 ghost use Rattle.rst_inline.specs.declared.reading.Meaning.TheVariants.{One, Wrong};
 ghost use Rattle.rst_inline.specs.Elements.{text_element, inline_target_node, label_reference_node, reference_node, uri_node};
-ghost use Rattle.rst_inline.specs.Embedded.{meant, shown_by};
+ghost use Rattle.rst_inline.specs.Embedded.{meant, phrase_display_text};
 ghost use Rattle.rst_inline.specs.Parts.{part, source, content};
 ghost use Rattle.rst_inline.specs.Readings.{plain_meaning, plain_reading, substitution_reading, embedded_reading, phrase_reading, role_reading, has_prefix_role, interpreted_reading, reading};
 
 use super::elements::{bare_element, element, text_nodes};
 use super::embedded::{dark_end, embedded_at, has_white, is_alias};
-use super::labels::{are_digits, numbered};
+use super::labels::{are_digits, numbered_footnote};
 use super::references::{embedded_reference, named_attrs, outer_reference, reference};
 use super::roles::role_tag;
-use super::texts::{name_said, normalized_said, part, said, spell};
+use super::texts::{name_value, normalized_value, part, spell, text_value};
 use super::written::Written;
 use rst_inline_scan::{Kind, Markup, Piece, Suffix};
 use rst_text::{unescaped, without_white};
@@ -40,22 +40,22 @@ impl Written<'_> {
     pub(crate) fn plain(&self, piece: Piece) -> Result<Option<Text>>
         ensures { Gives (λ text. plain_meaning text ≡ plain_reading (unescaped (source self.now.characters.items piece))) result }
     {
-        let shown = self.unescaped(piece.from, piece.to)?;
-        let shown = shown.as_str();
-        if shown.is_empty() {
+        let display_text = self.unescaped(piece.from, piece.to)?;
+        let display_text = display_text.as_str();
+        if display_text.is_empty() {
             return Ok(None);
         }
-        let text = Text::from_str(self.alloc, shown)?;
+        let text = Text::from_str(self.alloc, display_text)?;
         Ok(Some(text))
     }
 
     /// An element that holds what the markup of a piece encloses, without its escapes.
     #[inline(never)]
-    fn shown_in(&self, tag: Tag, piece: Piece) -> Result<Meaning>
+    fn text_element_of(&self, tag: Tag, piece: Piece) -> Result<Meaning>
         ensures { Gives (λ reading. reading ≡ One (text_element tag [] (unescaped (content self.now.characters.items piece)) self.now.line)) result }
     {
-        let shown = self.unescaped(piece.content_from, piece.content_to)?;
-        let children = text_nodes(self.alloc, shown.as_str())?;
+        let display_text = self.unescaped(piece.content_from, piece.content_to)?;
+        let children = text_nodes(self.alloc, display_text.as_str())?;
         Ok(Meaning::One(Node::Element {
             tag,
             attrs: Attrs::new(self.alloc),
@@ -68,9 +68,9 @@ impl Written<'_> {
     fn literal(&self, piece: Piece) -> Result<Meaning>
         ensures { Gives (λ reading. reading ≡ One (text_element Literal [] (content self.now.characters.items piece) self.now.line)) result }
     {
-        let shown = self.part(piece.content_from, piece.content_to);
+        let display_text = self.part(piece.content_from, piece.content_to);
         let attrs = Vec::new(self.alloc);
-        let node = element(self.alloc, Tag::Literal, attrs, shown, self.line)?;
+        let node = element(self.alloc, Tag::Literal, attrs, display_text, self.line)?;
         Ok(Meaning::One(node))
     }
 
@@ -78,13 +78,13 @@ impl Written<'_> {
     fn inline_target(&self, piece: Piece) -> Result<Meaning>
         ensures { Gives (λ reading. reading ≡ One (inline_target_node (unescaped (content self.now.characters.items piece)) self.now.line)) result }
     {
-        let shown = self.unescaped(piece.content_from, piece.content_to)?;
-        let shown = shown.as_str();
+        let display_text = self.unescaped(piece.content_from, piece.content_to)?;
+        let display_text = display_text.as_str();
         let attrs = vec![in self.alloc;
             Entry::new(Key::Inline, Value::Number(1)),
-            Entry::new(Key::OwnName, name_said(self.alloc, shown)?),
+            Entry::new(Key::OwnName, name_value(self.alloc, display_text)?),
         ]?;
-        let node = element(self.alloc, Tag::Target, attrs, shown, self.line)?;
+        let node = element(self.alloc, Tag::Target, attrs, display_text, self.line)?;
         Ok(Meaning::One(node))
     }
 
@@ -93,22 +93,29 @@ impl Written<'_> {
         requires { IsWithin self.now.characters.items piece }
         ensures { Gives (λ reading. reading ≡ substitution_reading suffix (part self.now.characters.items piece.from (piece.content_to + 1)) (source self.now.characters.items piece) (unescaped (content self.now.characters.items piece)) self.now.line) result }
     {
-        let shown = self.unescaped(piece.content_from, piece.content_to)?;
-        let shown = shown.as_str();
+        let display_text = self.unescaped(piece.content_from, piece.content_to)?;
+        let display_text = display_text.as_str();
         let inner = self.part(piece.from, piece.content_to + 1);
-        let written = said(self.alloc, inner)?;
-        let name = normalized_said(self.alloc, shown)?;
+        let written = text_value(self.alloc, inner)?;
+        let name = normalized_value(self.alloc, display_text)?;
         let attrs = vec![in self.alloc;
             Entry::new(Key::Rawsource, written),
             Entry::new(Key::Refname, name),
         ]?;
         let tag = Tag::SubstitutionReference;
-        let node = element(self.alloc, tag, attrs, shown, self.line)?;
+        let node = element(self.alloc, tag, attrs, display_text, self.line)?;
         match suffix {
             Suffix::Bare => Ok(Meaning::One(node)),
             _ => {
                 let outer = self.part(piece.from, piece.to);
-                let node = outer_reference(self.alloc, suffix, outer, shown, node, self.line)?;
+                let node = outer_reference(
+                    self.alloc,
+                    suffix,
+                    outer,
+                    display_text,
+                    node,
+                    self.line,
+                )?;
                 Ok(Meaning::One(node))
             }
         }
@@ -119,20 +126,20 @@ impl Written<'_> {
         requires { high ≤ length self.now.characters.items }
         ensures { IfOk result (λ meaning. chars (cow_str_bytes meaning) ≡ meant (part self.now.characters.items low high)) }
     {
-        let held = part(&self.characters, low, high);
-        if is_alias(held) {
+        let enclosed = part(&self.characters, low, high);
+        if is_alias(enclosed) {
             return self.unescaped(low, high - 1);
         }
-        if !has_white(held) {
+        if !has_white(enclosed) {
             return self.unescaped(low, high);
         }
-        let plain = unescaped(self.alloc, held)?;
+        let plain = unescaped(self.alloc, enclosed)?;
         let dark = without_white(self.alloc, &plain)?;
         Ok(CowStr::Owned(spell(self.alloc, &dark)?))
     }
 
     /// What is displayed of a phrase whose angle brackets begin at a place.
-    fn shown_by(
+    fn phrase_display_text(
         &self,
         piece: Piece,
         phrase: &[char],
@@ -141,7 +148,7 @@ impl Written<'_> {
         requires within { IsWithin self.now.characters.items piece }
         requires phrase { phrase.now ≡ content self.now.characters.items piece }
         requires place { place + 2 < length phrase.now }
-        ensures { IfOk result (λ shown. chars (cow_str_bytes shown) ≡ shown_by phrase.now place) }
+        ensures { IfOk result (λ display_text. chars (cow_str_bytes display_text) ≡ phrase_display_text phrase.now place) }
     {
         if place == 0 {
             return self.meant(piece.content_from + 1, piece.content_to - 1);
@@ -155,26 +162,26 @@ impl Written<'_> {
         &self,
         suffix: Suffix,
         source: &str,
-        shown: &str,
+        display_text: &str,
         meaning: &str,
         is_alias: bool,
     ) -> Result<Meaning>
-        ensures { Gives (λ reading. reading ≡ embedded_reading suffix (chars source.now) (chars shown.now) (chars meaning.now) is_alias self.now.line) result }
+        ensures { Gives (λ reading. reading ≡ embedded_reading suffix (chars source.now) (chars display_text.now) (chars meaning.now) is_alias self.now.line) result }
     {
         if is_alias {
-            let own = normalized_said(self.alloc, shown)?;
-            let written = said(self.alloc, source)?;
-            let refname = name_said(self.alloc, meaning)?;
+            let own = normalized_value(self.alloc, display_text)?;
+            let written = text_value(self.alloc, source)?;
+            let refname = name_value(self.alloc, meaning)?;
             let attrs = named_attrs(self.alloc, own, written, refname)?;
-            let node = element(self.alloc, Tag::Reference, attrs, shown, self.line)?;
+            let node = element(self.alloc, Tag::Reference, attrs, display_text, self.line)?;
             return Ok(Meaning::One(node));
         }
-        let node = embedded_reference(self.alloc, source, shown, meaning, self.line)?;
+        let node = embedded_reference(self.alloc, source, display_text, meaning, self.line)?;
         match suffix {
             Suffix::Named => {
                 // The target that it leaves, named by the phrase.
-                let name = name_said(self.alloc, shown)?;
-                let uri = said(self.alloc, meaning)?;
+                let name = name_value(self.alloc, display_text)?;
+                let uri = text_value(self.alloc, meaning)?;
                 let attrs = vec![in self.alloc;
                     Entry::new(Key::Inline, Value::Number(1)),
                     Entry::new(Key::OwnName, name),
@@ -196,14 +203,20 @@ impl Written<'_> {
         let source = self.part(piece.from, piece.to);
         let phrase = part(&self.characters, piece.content_from, piece.content_to);
         if let Some(place) = embedded_at(phrase) {
-            let shown = self.shown_by(piece, phrase, place)?;
+            let display_text = self.phrase_display_text(piece, phrase, place)?;
             let meaning = self.meant(piece.content_from + place + 1, piece.content_to - 1)?;
             let alias = is_alias(part(phrase, place + 1, phrase.len() - 1));
-            return self.embedded(suffix, source, shown.as_str(), meaning.as_str(), alias);
+            return self.embedded(
+                suffix,
+                source,
+                display_text.as_str(),
+                meaning.as_str(),
+                alias,
+            );
         }
-        let shown = self.unescaped(piece.content_from, piece.content_to)?;
-        let shown = shown.as_str();
-        let node = reference(self.alloc, suffix, source, shown, self.line)?;
+        let display_text = self.unescaped(piece.content_from, piece.content_to)?;
+        let display_text = display_text.as_str();
+        let node = reference(self.alloc, suffix, source, display_text, self.line)?;
         Ok(Meaning::One(node))
     }
 
@@ -213,7 +226,7 @@ impl Written<'_> {
         ensures { Gives (λ reading. reading ≡ role_reading (chars role.now) (unescaped (content self.now.characters.items piece)) self.now.line) result }
     {
         match role_tag(role) {
-            Some(tag) => self.shown_in(tag, piece),
+            Some(tag) => self.text_element_of(tag, piece),
             None => {
                 let text = format!(in self.alloc; "Unknown interpreted text role \"{role}\".")?;
                 Ok(Meaning::Wrong(Level::Error, Text::new(text)))
@@ -245,7 +258,7 @@ impl Written<'_> {
             return Ok(Meaning::Wrong(Level::Warning, text));
         }
         match suffix {
-            Suffix::Bare => self.shown_in(Tag::TitleReference, piece),
+            Suffix::Bare => self.text_element_of(Tag::TitleReference, piece),
             Suffix::Role => { self.with_role(self.part(piece.content_to + 2, piece.to - 1), piece) }
             Suffix::Named | Suffix::Anonymous => self.phrase(suffix, piece),
         }
@@ -261,13 +274,13 @@ impl Written<'_> {
         let label = part(&self.characters, piece.content_from, piece.content_to);
         match label {
             ['#', name @ ..] => {
-                let node = numbered(self.alloc, source, name, self.line)?;
+                let node = numbered_footnote(self.alloc, source, name, self.line)?;
                 Ok(Meaning::One(node))
             }
             // A footnote with a symbol.
             ['*', ..] => {
-                let written = said(self.alloc, source)?;
-                let auto = said(self.alloc, "*")?;
+                let written = text_value(self.alloc, source)?;
+                let auto = text_value(self.alloc, "*")?;
                 let attrs = vec![in self.alloc;
                     Entry::new(Key::Auto, auto),
                     Entry::new(Key::Rawsource, written),
@@ -276,9 +289,9 @@ impl Written<'_> {
                 Ok(Meaning::One(node))
             }
             _ => {
-                let written = said(self.alloc, source)?;
-                let shown = spell(self.alloc, label)?;
-                let name = name_said(self.alloc, shown.as_str())?;
+                let written = text_value(self.alloc, source)?;
+                let display_text = spell(self.alloc, label)?;
+                let name = name_value(self.alloc, display_text.as_str())?;
                 let attrs = vec![in self.alloc;
                     Entry::new(Key::Rawsource, written),
                     Entry::new(Key::Refname, name),
@@ -288,7 +301,7 @@ impl Written<'_> {
                 } else {
                     Tag::CitationReference
                 };
-                let node = element(self.alloc, tag, attrs, shown.as_str(), self.line)?;
+                let node = element(self.alloc, tag, attrs, display_text.as_str(), self.line)?;
                 Ok(Meaning::One(node))
             }
         }
@@ -297,7 +310,7 @@ impl Written<'_> {
     /// A reference by a simple name.
     #[inline(never)]
     fn named(&self, suffix: Suffix, piece: Piece) -> Result<Meaning>
-        ensures { Gives (λ reading. let shown = content self.now.characters.items piece in reading ≡ One (reference_node suffix (source self.now.characters.items piece) shown shown self.now.line)) result }
+        ensures { Gives (λ reading. let display_text = content self.now.characters.items piece in reading ≡ One (reference_node suffix (source self.now.characters.items piece) display_text display_text self.now.line)) result }
     {
         let source = self.part(piece.from, piece.to);
         let name = self.part(piece.content_from, piece.content_to);
@@ -312,8 +325,8 @@ impl Written<'_> {
     {
         let source = self.part(piece.from, piece.to);
         let attrs = vec![in self.alloc;
-            Entry::new(Key::Rawsource, said(self.alloc, source)?),
-            Entry::new(Key::Refuri, said(self.alloc, source)?),
+            Entry::new(Key::Rawsource, text_value(self.alloc, source)?),
+            Entry::new(Key::Refuri, text_value(self.alloc, source)?),
         ]?;
         let node = element(self.alloc, Tag::Reference, attrs, source, self.line)?;
         Ok(Meaning::One(node))
@@ -331,8 +344,8 @@ impl Written<'_> {
                 Some(text) => Ok(Meaning::One(Node::Text(text))),
                 None => Ok(Meaning::Nothing),
             },
-            Kind::Marked(Markup::Strong, _) => self.shown_in(Tag::Strong, piece),
-            Kind::Marked(Markup::Emphasis, _) => self.shown_in(Tag::Emphasis, piece),
+            Kind::Marked(Markup::Strong, _) => self.text_element_of(Tag::Strong, piece),
+            Kind::Marked(Markup::Emphasis, _) => self.text_element_of(Tag::Emphasis, piece),
             Kind::Marked(Markup::Literal, _) => self.literal(piece),
             Kind::Marked(Markup::Target, _) => self.inline_target(piece),
             Kind::Marked(Markup::Substitution, suffix) => self.substituted(suffix, piece),

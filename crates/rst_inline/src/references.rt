@@ -6,7 +6,7 @@ ghost use Rattle.rst_tree.specs.Faults.{Gives};
 ghost use Rattle.rst_tree.specs.declared.key.Key.TheVariants.{Name, Rawsource, Refname};
 
 use super::elements::element;
-use super::texts::{name_said, normalized_said, said};
+use super::texts::{name_value, normalized_value, text_value};
 use rst_inline_scan::Suffix;
 use rst_text::both_borrowed;
 use rst_tree::{Attrs, Children, Entry, Key, Node, Result, Tag, TreeFault, Value};
@@ -36,49 +36,51 @@ pub(crate) fn reference(
     alloc: Global,
     suffix: Suffix,
     source: &str,
-    shown: &str,
+    display_text: &str,
     line: usize,
 ) -> Result<Node>
-    ensures { Gives (λ node. node ≡ reference_node suffix (chars source.now) (chars shown.now) (chars shown.now) line) result }
+    ensures { Gives (λ node. node ≡ reference_node suffix (chars source.now) (chars display_text.now) (chars display_text.now) line) result }
 {
-    let written = said(alloc, source)?;
+    let written = text_value(alloc, source)?;
     let attrs = match suffix {
         Suffix::Anonymous => {
             let mut attrs = Vec::with_capacity(alloc, 4)?;
             attrs.push_reserved(Entry::new(Key::Anonymous, Value::Number(1)));
-            attrs.push_reserved(Entry::new(Key::Name, normalized_said(alloc, shown)?));
+            attrs.push_reserved(Entry::new(Key::Name, normalized_value(alloc, display_text)?));
             attrs.push_reserved(Entry::new(Key::Rawsource, written));
             attrs
         }
         _ => {
-            let (normalized, name) = both_borrowed(alloc, shown).map_err(|_| TreeFault::NoMemory)?;
-            let own = said(alloc, normalized.as_str())?;
-            let refname = said(alloc, name.as_str())?;
+            let (normalized, name) = both_borrowed(alloc, display_text).map_err(
+                |_| TreeFault::NoMemory,
+            )?;
+            let own = text_value(alloc, normalized.as_str())?;
+            let refname = text_value(alloc, name.as_str())?;
             named_attrs(alloc, own, written, refname)?
         }
     };
-    element(alloc, Tag::Reference, attrs, shown, line)
+    element(alloc, Tag::Reference, attrs, display_text, line)
 }
 
 /// A phrase with an embedded URI.
 pub(crate) fn embedded_reference(
     alloc: Global,
     source: &str,
-    shown: &str,
+    display_text: &str,
     uri: &str,
     line: usize,
 ) -> Result<Node>
-    ensures { Gives (λ node. node ≡ embedded_node (chars source.now) (chars shown.now) (chars uri.now) line) result }
+    ensures { Gives (λ node. node ≡ embedded_node (chars source.now) (chars display_text.now) (chars uri.now) line) result }
 {
-    let name = normalized_said(alloc, shown)?;
-    let written = said(alloc, source)?;
-    let refuri = said(alloc, uri)?;
+    let name = normalized_value(alloc, display_text)?;
+    let written = text_value(alloc, source)?;
+    let refuri = text_value(alloc, uri)?;
     let attrs = vec![in alloc;
         Entry::new(Key::Name, name),
         Entry::new(Key::Rawsource, written),
         Entry::new(Key::Refuri, refuri),
     ]?;
-    element(alloc, Tag::Reference, attrs, shown, line)
+    element(alloc, Tag::Reference, attrs, display_text, line)
 }
 
 /// The reference that encloses a substitution.
@@ -87,20 +89,20 @@ pub(crate) fn outer_reference(
     alloc: Global,
     suffix: Suffix,
     source: &str,
-    shown: &str,
+    display_text: &str,
     inner: Node,
     line: usize,
 ) -> Result<Node>
-    ensures { Gives (λ node. node ≡ outer_node suffix (chars source.now) (chars shown.now) inner line) result }
+    ensures { Gives (λ node. node ≡ outer_node suffix (chars source.now) (chars display_text.now) inner line) result }
 {
-    let written = said(alloc, source)?;
+    let written = text_value(alloc, source)?;
     let attrs = match suffix {
         Suffix::Anonymous => vec![in alloc;
             Entry::new(Key::Anonymous, Value::Number(1)),
             Entry::new(Key::Rawsource, written),
         ]?,
         _ => {
-            let refname = name_said(alloc, shown)?;
+            let refname = name_value(alloc, display_text)?;
             vec![in alloc;
                 Entry::new(Key::Rawsource, written),
                 Entry::new(Key::Refname, refname),

@@ -4,7 +4,7 @@
 
 ghost use Rattle.std.specs.Prelude.{◌≡◌, Some, None, codes, map, [], ◌∷◌};
 ghost use Rattle.rst_inline.specs.Reads.{Shows};
-ghost use Rattle.rst_inline.specs.Results.{nodes_behind, notes_of};
+ghost use Rattle.rst_inline.specs.Results.{nodes_from, notes_of};
 ghost use Rattle.rst_inline.specs.Roles.{role_tag};
 ghost use Rattle.rst_inline_scan.specs.Reading.{pieces_of};
 ghost use Rattle.rst_tree.specs.Forest.{bare, words};
@@ -21,8 +21,8 @@ pub fn roles()
     ensures exactly { map role_tag (codes "Sub" ∷ codes "title_reference" ∷ []) ≡ None ∷ None ∷ [] }
     ensures others { map role_tag (codes "code" ∷ codes "math" ∷ codes "raw" ∷ codes "pep" ∷ codes "rfc" ∷ [])
         ≡ None ∷ None ∷ None ∷ None ∷ None ∷ [] }
-    ensures in_front { Shows ":sub:`a`" ("<subscript>" ∷ "    a" ∷ []) }
-    ensures behind { Shows "`a`:sub:" ("<subscript>" ∷ "    a" ∷ []) }
+    ensures role_before { Shows ":sub:`a`" ("<subscript>" ∷ "    a" ∷ []) }
+    ensures role_after { Shows "`a`:sub:" ("<subscript>" ∷ "    a" ∷ []) }
     ensures by_default { Shows "`a`" ("<title_reference>" ∷ "    a" ∷ []) }
 {}
 
@@ -37,7 +37,7 @@ pub fn markup()
     ensures backslash_alone { Shows "\\" [] }
     ensures two_lines { Shows "*a\nb* c\nd" ("<emphasis>" ∷ "    a" ∷ "    b" ∷ " c" ∷ "d" ∷ []) }
     ensures target { Shows "_`A  b\\_`" ("<target inline=\"1\" own_name=\"a b_\">" ∷ "    A  b_" ∷ []) }
-    ensures line { nodes_behind (codes "*a*") 7 0 (pieces_of (codes "*a*")) ≡ Element Emphasis [] (words (codes "a") bare) 7 ∷ [] }
+    ensures line { nodes_from (codes "*a*") 7 0 (pieces_of (codes "*a*")) ≡ Element Emphasis [] (words (codes "a") bare) 7 ∷ [] }
 {}
 
 /// References by a name and by a phrase (Markup Specification, 'Hyperlink References').
@@ -86,10 +86,10 @@ pub fn embedded()
 /// Phrases with angle brackets in which nothing is embedded (Markup Specification, 'Embedded URIs and Aliases').
 pub fn plain_angles()
     ensures no_white { Shows "`x<u>`_" ("<reference name=\"x<u>\" rawsource=\"`x<u>`_\" refname=\"x<u>\">" ∷ "    x<u>" ∷ []) }
-    ensures white_in_front { Shows "`a < u>`_" ("<reference name=\"a < u>\" rawsource=\"`a < u>`_\" refname=\"a < u>\">" ∷ "    a < u>" ∷ []) }
+    ensures leading_white { Shows "`a < u>`_" ("<reference name=\"a < u>\" rawsource=\"`a < u>`_\" refname=\"a < u>\">" ∷ "    a < u>" ∷ []) }
     ensures white_at_the_end { Shows "`a <u >`_" ("<reference name=\"a <u >\" rawsource=\"`a <u >`_\" refname=\"a <u >\">" ∷ "    a <u >" ∷ []) }
     ensures nothing { Shows "`a <>`_" ("<reference name=\"a <>\" rawsource=\"`a <>`_\" refname=\"a <>\">" ∷ "    a <>" ∷ []) }
-    ensures text_behind { Shows "`a <u> b`_" ("<reference name=\"a <u> b\" rawsource=\"`a <u> b`_\" refname=\"a <u> b\">" ∷ "    a <u> b" ∷ []) }
+    ensures text_after { Shows "`a <u> b`_" ("<reference name=\"a <u> b\" rawsource=\"`a <u> b`_\" refname=\"a <u> b\">" ∷ "    a <u> b" ∷ []) }
     ensures escaped_opening { Shows "`a \\<u>`_" ("<reference name=\"a <u>\" rawsource=\"`a \\<u>`_\" refname=\"a <u>\">" ∷ "    a <u>" ∷ []) }
     ensures escaped_closing { Shows "`a <u\\>`_" ("<reference name=\"a <u>\" rawsource=\"`a <u\\>`_\" refname=\"a <u>\">" ∷ "    a <u>" ∷ []) }
     ensures no_reference { Shows "`a <u>`" ("<title_reference>" ∷ "    a <u>" ∷ []) }

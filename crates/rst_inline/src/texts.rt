@@ -3,8 +3,8 @@ ghost use Rattle.std.specs.Prelude.{◌≡◌, string_bytes, IfOk, chars};
 ghost use Rattle.rst_text.specs.Names as names;
 ghost use Rattle.rst_text.specs.Text.{chars_of};
 ghost use Rattle.rst_text.specs.Escapes.{unescaped};
-ghost use Rattle.rst_inline.specs.Parts.{part, spelled};
-ghost use Rattle.rst_inline.specs.Elements.{said};
+ghost use Rattle.rst_inline.specs.Parts.{part, text_bytes};
+ghost use Rattle.rst_inline.specs.Elements.{text_value};
 ghost use Rattle.rst_tree.specs.Faults.{Gives};
 
 use rst_text::{characters_of, name_borrowed, normalized_borrowed, unescaped};
@@ -26,7 +26,7 @@ pub fn unescape(alloc: Global, text: &str) -> Result<String>
 
 /// The text that characters spell.
 pub(crate) fn spell(alloc: Global, characters: &[char]) -> Result<String, AllocError>
-    ensures bytes { IfOk result (λ out. string_bytes out ≡ spelled characters.now) }
+    ensures bytes { IfOk result (λ out. string_bytes out ≡ text_bytes characters.now) }
     ensures same { IfOk result (λ out. chars_of out ≡ characters.now) }
 {
     let mut out = String::with_capacity(alloc, characters.len())?;
@@ -38,27 +38,27 @@ pub(crate) fn spell(alloc: Global, characters: &[char]) -> Result<String, AllocE
 
 /// A value that is a text.
 #[tactic(auto, using(crate::proofs::TextLemmas::spelled_again))]
-pub(crate) fn said(alloc: Global, text: &str) -> Result<Value>
-    ensures { Gives (λ value. value ≡ said (chars text.now)) result }
+pub(crate) fn text_value(alloc: Global, text: &str) -> Result<Value>
+    ensures { Gives (λ value. value ≡ text_value (chars text.now)) result }
 {
     let text = Text::from_str(alloc, text)?;
     Ok(Value::Text(text))
 }
 
 /// A value that is the name that a text gives.
-pub(crate) fn name_said(alloc: Global, text: &str) -> Result<Value>
-    ensures { Gives (λ value. value ≡ said (names.name_of (chars text.now))) result }
+pub(crate) fn name_value(alloc: Global, text: &str) -> Result<Value>
+    ensures { Gives (λ value. value ≡ text_value (names.name_of (chars text.now))) result }
 {
     let name = name_borrowed(alloc, text).map_err(|_| TreeFault::NoMemory)?;
-    said(alloc, name.as_str())
+    text_value(alloc, name.as_str())
 }
 
 /// A value that is a text with each run of white characters as one space, and none at the ends.
-pub(crate) fn normalized_said(alloc: Global, text: &str) -> Result<Value>
-    ensures { Gives (λ value. value ≡ said (names.normalized_white (chars text.now))) result }
+pub(crate) fn normalized_value(alloc: Global, text: &str) -> Result<Value>
+    ensures { Gives (λ value. value ≡ text_value (names.normalized_white (chars text.now))) result }
 {
     let name = normalized_borrowed(alloc, text).map_err(|_| TreeFault::NoMemory)?;
-    said(alloc, name.as_str())
+    text_value(alloc, name.as_str())
 }
 
 /// The characters from a place on, up to another place.

@@ -4,7 +4,7 @@ ghost use Rattle.std.specs.Str.{all_scalars, chars, IsAscii};
 ghost use Rattle.std.specs.Cow.{cow_str_bytes};
 ghost use Rattle.rst_text.specs.Escapes.{has_backslash, unescaped};
 ghost use Rattle.rst_inline_scan.specs.Pieces.{IsPieces};
-ghost use Rattle.rst_inline.specs.Parts.{part, spelled, starts_of};
+ghost use Rattle.rst_inline.specs.Parts.{part, text_bytes, starts_of};
 
 use super::texts::{part, spell};
 use rst_inline_scan::{Piece, pieces_of, pieces_of_ascii};
@@ -23,7 +23,7 @@ pub(crate) struct Written<'a> {
     starts: Vec<usize>,
     /// Whether there is a backslash in it.
     escapes: bool,
-    ghost spelled: { text.now ≡ spelled characters.items },
+    ghost text_bytes: { text.now ≡ text_bytes characters.items },
     ghost scalars: { all_scalars characters.items ≡ true },
     ghost ascii: { vec_len starts ≡ 0 → IsAscii characters.items },
     ghost begun: { 0 < vec_len starts → starts.items ≡ starts_of 0 characters.items },
@@ -83,7 +83,7 @@ impl<'a> Written<'a> {
     /// The byte at which the character at a place begins.
     fn byte_at(&self, place: usize) -> usize
         requires { place ≤ length self.now.characters.items }
-        ensures { result ≡ length (spelled (take place self.now.characters.items)) }
+        ensures { result ≡ length (text_bytes (take place self.now.characters.items)) }
     {
         if self.starts.is_empty() {
             place
@@ -107,7 +107,7 @@ impl<'a> Written<'a> {
         low: usize,
         high: usize,
     ) -> Result<CowStr<'_, Global>, AllocError>
-        ensures { IfOk result (λ shown. chars (cow_str_bytes shown) ≡ unescaped (part self.now.characters.items low high)) }
+        ensures { IfOk result (λ display_text. chars (cow_str_bytes display_text) ≡ unescaped (part self.now.characters.items low high)) }
     {
         if !self.escapes {
             return Ok(CowStr::Borrowed(self.part(low, high)));

@@ -9,15 +9,15 @@ use Rattle.std.proofs.Math.Bool.{and-true, and-false}
 use Rattle.rst_text.specs.Runs.{PassBetween}
 use Rattle.rst_text.proofs.PlacesLemmas.{cases_bool, lt_eq_gt}
 use Rattle.rst_text.specs.Characters.{Text, has}
-use Rattle.rst_inline_scan.specs.Characters.{is_free_behind}
+use Rattle.rst_inline_scan.specs.Characters.{is_free_after}
 use Rattle.rst_text.specs.Escapes.{is_escaped}
 use Rattle.rst_text.specs.SimpleNames.{is_joint, is_name_at}
 use Rattle.rst_inline_scan.specs.Names.{ends_name}
 use Rattle.rst_inline_scan.specs.Tails.{name_tail}
-use Rattle.rst_inline_scan.specs.Calm.{AreBytesOf, byte_of, is_calm, is_calm_at, AreCalm, is_of_name, IsStep}
+use Rattle.rst_inline_scan.specs.Calm.{AreBytesOf, byte_of, is_calm, is_calm_at, AreCalm, is_of_name, IsCalmStep}
 use Rattle.rst_inline_scan.specs.Pieces.{piece_at, HasNoStart}
 use Rattle.rst_text.proofs.EscapeLemmas.{other-bare, is_escaped-bare}
-use Rattle.rst_inline_scan.proofs.WordLemmas.{letter-low, differs, absent, letter-behind, unmarked, no-label, no-letter-at, IsBarred, no-piece-barred}
+use Rattle.rst_inline_scan.proofs.WordLemmas.{letter-low, differs, absent, letter-may_not_follow, unmarked, no-label, no-letter-at, IsBarred, no-piece-barred}
 use Rattle.rst_inline_scan.proofs.NameLemmas.{no-underscore}
 
 -- from one place up to another all are calm, and the last is none of a name, or the other is the text's end
@@ -63,8 +63,8 @@ unfolding ends_name name_tail
 letter-unended t k letter =
     let within = letter-within t (k + 1) letter in
     let second = absent is_ascii_alphanumeric t (k + 1) 95 letter refl in
-    let behind : is_free_behind t (k + 1) ≡ false = rw (letter-behind (get_or t (k + 1) 0) letter, lt-ltb (k + 1) (length t) within) refl in
-    rw (second, behind) (grind (arith, nat_tests))
+    let following : is_free_after t (k + 1) ≡ false = rw (letter-may_not_follow (get_or t (k + 1) 0) letter, lt-ltb (k + 1) (length t) within) refl in
+    rw (second, following) (grind (arith, nat_tests))
 
 calm-unended : (t : Text) (k : ℕ) → is_calm_at t k ≡ true → ends_name t k ≡ false
 calm-unended t k h = ⊎_elim
@@ -106,7 +106,7 @@ no-name-at t i here = rw (no-letter-at t i (get_or t i 0) refl here.low here.let
 AreCalm-past : (t : Text) (from to : ℕ) → AreCalm t from to → length t ≤ to → AreCalm t from (to + 1)
 AreCalm-past t from to calm past k above less = ⊎_elim
     (λ inside. calm k above inside)
-    (λ behind. ap (λ c. is_calm c || (c == 95 && is_ascii_alphanumeric (get_or t (k + 1) 0))) (get_or_past t k 0 (omega arith)))
+    (λ following. ap (λ c. is_calm c || (c == 95 && is_ascii_alphanumeric (get_or t (k + 1) 0))) (get_or_past t k 0 (omega arith)))
     (cases_lt k to)
 
 bars-calm : (t : Text) (i e : ℕ) → i ≤ e → AreCalm t i (e + 1) → (e < length t → IsOther (get_or t e 0)) → IsBarred t i e
@@ -131,7 +131,7 @@ none-calm t begin from to i run above less =
     (cases_lt to (length t))
 
 -- so they are stepped over
-pub calm-step : (t : Text) (from to : ℕ) → IsCalm t from to → IsStep t from to
+pub calm-step : (t : Text) (from to : ℕ) → IsCalm t from to → IsCalmStep t from to
 calm-step t from to run = record {
   above = run.above;
   within = run.within;
@@ -172,8 +172,8 @@ calm-at_same t bytes k of h = ⊎_elim
     ⊎_elim
     (λ calm. ap (λ b. b || (get_or t k 0 == 95 && is_ascii_alphanumeric (get_or t (k + 1) 0))) (ap is_calm here ∙ calm))
     (λ inner.
-    let behind = of.ascii (k + 1) (letter-low (get_or bytes (k + 1) 0) inner.1) in
-    rw (here ∙ eqb-true (get_or bytes k 0) 95 inner.0, ap is_ascii_alphanumeric behind ∙ inner.1) refl)
+    let following = of.ascii (k + 1) (letter-low (get_or bytes (k + 1) 0) inner.1) in
+    rw (here ∙ eqb-true (get_or bytes k 0) 95 inner.0, ap is_ascii_alphanumeric following ∙ inner.1) refl)
     (either bytes k h))
     (λ high. ap (λ b. b || (get_or t k 0 == 95 && is_ascii_alphanumeric (get_or t (k + 1) 0))) (past-calm (get_or t k 0) (of.past k high)))
     (cases_lt (get_or bytes k 0) 128)
@@ -190,23 +190,23 @@ calm-same t bytes from to of run = record {
 
 -- ---- steps
 
-HasNoStart-step : (t : Text) (from place start : ℕ) → HasNoStart t from from place → IsStep t place start → HasNoStart t from from start
+HasNoStart-step : (t : Text) (from place start : ℕ) → HasNoStart t from from place → IsCalmStep t place start → HasNoStart t from from start
 HasNoStart-step t from place start none over i low less = ⊎_elim (none i low) (λ past. over.none from i past less) (cases_lt i place)
 
 -- what precedes a step's end escapes nothing
-escaped-step : (t : Text) (from place start : ℕ) (escaped : Bool) → from ≤ place → IsStep t place start → escaped ≡ is_escaped t from place → (escaped && start == place) ≡ is_escaped t from start
+escaped-step : (t : Text) (from place start : ℕ) (escaped : Bool) → from ≤ place → IsCalmStep t place start → escaped ≡ is_escaped t from place → (escaped && start == place) ≡ is_escaped t from start
 escaped-step t from place start escaped order over known = ⊎_elim
     (λ same. let e : start ≡ place = eqb-true start place same in rw same (and-true escaped ∙ known ∙ ap (is_escaped t from) (sym e)))
     (λ other.
     let above = over.above in
-    let less : place < start = behind above other in
+    let less : place < start = following above other in
     let back : start - 1 + 1 ≡ start = omega arith in
     let bare = other-bare t (start - 1) (ne_eqb _ 92 (over.bare less)) in
     rw other (and-false escaped ∙ sym (ap (is_escaped t from) (sym back) ∙ is_escaped-bare t from (start - 1) (omega arith) bare)))
     (cases_bool (start == place))
   where
-    behind : place ≤ start → (start == place) ≡ false → place < start
-    behind above differ = grind (arith, nat_tests)
+    following : place ≤ start → (start == place) ≡ false → place < start
+    following above differ = grind (arith, nat_tests)
 
 -- what is known where the step ends
 pub record Stepped (t : Text) (from place start : ℕ) (after : Bool) : Type 0 where
@@ -216,7 +216,7 @@ pub record Stepped (t : Text) (from place start : ℕ) (after : Bool) : Type 0 w
   pub escaped : after ≡ is_escaped t from start
 
 pub stepped : (t : Text) (from place start : ℕ) (escaped after : Bool) → from ≤ place → HasNoStart t from from place → escaped ≡ is_escaped t from place
-    → IsStep t place start → after ≡ (escaped && start == place) → Stepped t from place start after
+    → IsCalmStep t place start → after ≡ (escaped && start == place) → Stepped t from place start after
 stepped t from place start escaped after order none known step is =
     record {
       above = step.above;

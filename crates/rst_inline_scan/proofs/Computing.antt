@@ -3,7 +3,7 @@
 unfoldable pub rst_inline_scan : Unit {0}
 unfolding
     lib.Utf8.encode Rattle.std.specs.Fmt.digits Rattle.rst_text.proofs.Computing.rst_text Rattle.ucd_category.proofs.Computing.ucd_category
-    Rattle.rst_inline_scan.specs.Characters.may_precede Rattle.rst_inline_scan.specs.Characters.may_follow
+    Rattle.rst_inline_scan.specs.Characters.may_precede_start Rattle.rst_inline_scan.specs.Characters.may_follow
     Rattle.rst_inline_scan.specs.Characters.is_pair Rattle.rst_inline_scan.specs.Footnotes.label_stop Rattle.rst_inline_scan.specs.Footnotes.label
     Rattle.rst_inline_scan.specs.Marked.markup_of Rattle.rst_inline_scan.specs.Marked.start_of Rattle.rst_inline_scan.specs.Marked.starts
     Rattle.rst_inline_scan.specs.Marked.tail_of Rattle.rst_inline_scan.specs.Marked.ends Rattle.rst_inline_scan.specs.Marked.markup_end

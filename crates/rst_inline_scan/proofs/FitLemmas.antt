@@ -4,7 +4,7 @@ use Rattle.std.specs.Option.{option_or}
 use Rattle.std.proofs.lemmas.Bool.{ltb-true, and_parts}
 use Rattle.rst_text.specs.Characters.{Text, has}
 use Rattle.rst_text.proofs.Choices.{either, none_is, some_is}
-use Rattle.rst_inline_scan.specs.Characters.{is_free_behind}
+use Rattle.rst_inline_scan.specs.Characters.{is_free_after}
 use Rattle.rst_inline_scan.specs.Tails.{anonymous_tail, named_tail, name_tail, role_tail, bare_tail}
 use Rattle.rst_inline_scan.specs.declared.piece.Piece.{Piece}
 use Rattle.rst_inline_scan.specs.declared.piece.Tail.{Tail}
@@ -16,7 +16,7 @@ pub record Fits (t : Text) (i : ℕ) (p : Piece) : Type 0 where
   pub within : p.to ≤ length t
   pub above : i ≤ p.content_from
   pub order : p.content_from ≤ p.content_to
-  pub behind : p.content_to ≤ p.to
+  pub limit : p.content_to ≤ p.to
 
 -- each piece that there may be fits
 abbrev pub Fit : Text → ℕ → Option Piece → Type 0
@@ -52,17 +52,17 @@ TailFits-or t e (Some q) s first second tail h = first tail h
 TailFits-or t e None s first second tail h = second tail h
 
 pub bare_tail-fits : (t : Text) (e : ℕ) → e ≤ length t → TailFits t e (bare_tail t e)
-bare_tail-fits t e h = tail_if t e (is_free_behind t e) (record { suffix = Bare; to = e }) (λ free. (omega arith, h))
+bare_tail-fits t e h = tail_if t e (is_free_after t e) (record { suffix = Bare; to = e }) (λ free. (omega arith, h))
 
 named_tail-fits : (t : Text) (e : ℕ) → TailFits t e (named_tail t e)
-named_tail-fits t e = tail_if t e (has t e 95 && is_free_behind t (e + 1)) (record { suffix = Named; to = e + 1 })
-    (λ fits. let l : e < length t = has-lt t e 95 (and_parts (has t e 95) (is_free_behind t (e + 1)) fits).0 in (omega arith, omega arith))
+named_tail-fits t e = tail_if t e (has t e 95 && is_free_after t (e + 1)) (record { suffix = Named; to = e + 1 })
+    (λ fits. let l : e < length t = has-lt t e 95 (and_parts (has t e 95) (is_free_after t (e + 1)) fits).0 in (omega arith, omega arith))
 
 anonymous_tail-fits : (t : Text) (e : ℕ) → TailFits t e (anonymous_tail t e)
-anonymous_tail-fits t e = tail_if t e (has t e 95 && (has t (e + 1) 95 && is_free_behind t (e + 2))) (record { suffix = Anonymous; to = e + 2 })
+anonymous_tail-fits t e = tail_if t e (has t e 95 && (has t (e + 1) 95 && is_free_after t (e + 2))) (record { suffix = Anonymous; to = e + 2 })
     (λ fits.
-    let second = (and_parts (has t e 95) (has t (e + 1) 95 && is_free_behind t (e + 2)) fits).1 in
-    let l : e + 1 < length t = has-lt t (e + 1) 95 (and_parts (has t (e + 1) 95) (is_free_behind t (e + 2)) second).0 in
+    let second = (and_parts (has t e 95) (has t (e + 1) 95 && is_free_after t (e + 2)) fits).1 in
+    let l : e + 1 < length t = has-lt t (e + 1) 95 (and_parts (has t (e + 1) 95) (is_free_after t (e + 2)) second).0 in
     (omega arith, omega arith))
 
 pub name_tail-fits : (t : Text) (e : ℕ) → TailFits t e (name_tail t e)
@@ -70,5 +70,5 @@ unfolding name_tail
 name_tail-fits t e = TailFits-or t e (anonymous_tail t e) (named_tail t e) (anonymous_tail-fits t e) (named_tail-fits t e)
 
 pub role_tail-fits : (t : Text) (e : ℕ) (r : Option ℕ) → ((k : ℕ) → r ≡ Some k → (e < k) × (k ≤ length t)) → TailFits t e (role_tail t r)
-role_tail-fits t e (Some k) h = tail_if t e (is_free_behind t k) (record { suffix = Role; to = k }) (λ free. let above : e < k = (h k refl).0 in (omega arith, (h k refl).1))
+role_tail-fits t e (Some k) h = tail_if t e (is_free_after t k) (record { suffix = Role; to = k }) (λ free. let above : e < k = (h k refl).0 in (omega arith, (h k refl).1))
 role_tail-fits t e None h = no_tail t e

@@ -67,9 +67,9 @@ ends-end : (markup : Markup) (t : Text) (i k : ℕ) → ends markup t i k ≡ tr
 unfolding ends
 ends-end markup t i k h = (and_parts (has_end markup t k) _ h).0
 
-behind_or : (r : Option ℕ) (i : ℕ) → ((e : ℕ) → r ≡ Some e → i < e) → i ≤ unwrap_or r i
-behind_or (Some e) i h = let less : i < e = h e refl in omega arith
-behind_or None i h = omega arith
+at_or_after : (r : Option ℕ) (i : ℕ) → ((e : ℕ) → r ≡ Some e → i < e) → i ≤ unwrap_or r i
+at_or_after (Some e) i h = let less : i < e = h e refl in omega arith
+at_or_after None i h = omega arith
 
 start_of-above : (markup : Markup) (t : Text) (i : ℕ) → i ≤ start_of markup t i
 unfolding start_of
@@ -78,7 +78,7 @@ start_of-above Emphasis t i = omega arith
 start_of-above Literal t i = omega arith
 start_of-above Target t i = omega arith
 start_of-above Substitution t i = omega arith
-start_of-above Interpreted t i = behind_or (role_end t i) i (λ e h. (role_end-fits t i e h).0)
+start_of-above Interpreted t i = at_or_after (role_end t i) i (λ e h. (role_end-fits t i e h).0)
 
 -- ---- the piece
 
@@ -101,13 +101,13 @@ tail-fits Interpreted t k h =
     (bare_tail-fits t (k + 1) (end-fits Interpreted t k h))))
 
 unended-fits : (markup : Markup) (t : Text) (i q : ℕ) → i ≤ q → q + start_len markup ≤ length t → Fits t i (unended_piece markup i q)
-unended-fits markup t i q order within = let some : 0 < start_len markup = start-some markup in record { begins = refl; some = omega arith; within = within; above = omega arith; order = omega arith; behind = omega arith }
+unended-fits markup t i q order within = let some : 0 < start_len markup = start-some markup in record { begins = refl; some = omega arith; within = within; above = omega arith; order = omega arith; limit = omega arith }
 
 ended-fits : (markup : Markup) (t : Text) (i q k : ℕ) (r : Option Tail) → i ≤ q → q + start_len markup ≤ length t → q + start_len markup < k → TailFits t k r → Fits t i (unwrap_or (option_map (ended_piece markup i q k) r) (unended_piece markup i q))
 ended-fits markup t i q k (Some tail) order within above fits =
     let found = fits tail refl in
     let past : k ≤ tail.to = found.0 in
-    record { begins = refl; some = omega arith; within = found.1; above = omega arith; order = omega arith; behind = past }
+    record { begins = refl; some = omega arith; within = found.1; above = omega arith; order = omega arith; limit = past }
 ended-fits markup t i q k None order within above fits = unended-fits markup t i q order within
 
 piece-fits : (markup : Markup) (t : Text) (i q high : ℕ) (r : Option ℕ) → i ≤ q → q + start_len markup ≤ length t → IsFirst (ends markup t i) (q + start_len markup + 1) high r → Fits t i (marked_piece markup t i q r)

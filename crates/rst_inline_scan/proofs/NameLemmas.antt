@@ -9,7 +9,7 @@ use Rattle.rst_text.proofs.PlacesLemmas.{first_from-is, first_from-IsFirst, last
 use Rattle.rst_text.specs.Characters.{Text, has, is_alnum_at}
 use Rattle.rst_inline_scan.specs.Tails.{name_tail}
 use Rattle.rst_text.specs.SimpleNames.{is_name_at, name_stop}
-use Rattle.rst_inline_scan.specs.Names.{behind_colon, role_end, ends_name, is_reference, name_end, reference_piece, reference_to, reference}
+use Rattle.rst_inline_scan.specs.Names.{after_colon, role_end, ends_name, is_reference, name_end, reference_piece, reference_to, reference}
 use Rattle.rst_inline_scan.specs.declared.piece.Tail.{Tail}
 use Rattle.rst_inline_scan.proofs.FitLemmas.{Fit, Fit-none, Fit-some, has-lt, TailFits, name_tail-fits}
 use Rattle.rst_text.proofs.Choices.{some_is, none_is, either, chosen}
@@ -27,18 +27,18 @@ name_stop-fits t i = either (is_alnum_at t i) (first_from (λ k. not (is_name_at
 
 -- ---- roles
 
-behind_colon-fits : (t : Text) (i : ℕ) (r : Option ℕ) (e : ℕ) → IfSome r (λ s. i ≤ s) → option_and_then (behind_colon t) r ≡ Some e → (i < e) × (e ≤ length t)
-behind_colon-fits t i (Some s) e h k =
+after_colon-fits : (t : Text) (i : ℕ) (r : Option ℕ) (e : ℕ) → IfSome r (λ s. i ≤ s) → option_and_then (after_colon t) r ≡ Some e → (i < e) × (e ≤ length t)
+after_colon-fits t i (Some s) e h k =
     let found = chosen (has t s 58) (Some (s + 1)) e k in
     let less : s < length t = has-lt t s 58 found.0 in
     let same : s + 1 ≡ e = some_is found.1 in
     (omega arith, omega arith)
-behind_colon-fits t i None e h k = absurd (none_is k)
+after_colon-fits t i None e h k = absurd (none_is k)
 
 pub role_end-fits : (t : Text) (i e : ℕ) → role_end t i ≡ Some e → (i < e) × (e ≤ length t)
 unfolding role_end
 role_end-fits t i e h =
-    let found = behind_colon-fits t (i + 1) (name_stop t (i + 1)) e (name_stop-fits t (i + 1)) (chosen (has t i 58) (option_and_then (behind_colon t) (name_stop t (i + 1))) e h).1 in
+    let found = after_colon-fits t (i + 1) (name_stop t (i + 1)) e (name_stop-fits t (i + 1)) (chosen (has t i 58) (option_and_then (after_colon t) (name_stop t (i + 1))) e h).1 in
     (omega (arith, found.0), found.1)
 
 -- ---- references
@@ -93,7 +93,7 @@ reference_piece-fits : (t : Text) (i j : ℕ) (r : Option Tail) → i < j → Ta
 reference_piece-fits t i j (Some tail) some fits =
     let within = fits tail refl in
     let above : j ≤ tail.to = within.0 in
-    Fit-some t i _ (record { begins = refl; some = omega arith; within = within.1; above = omega arith; order = omega arith; behind = above })
+    Fit-some t i _ (record { begins = refl; some = omega arith; within = within.1; above = omega arith; order = omega arith; limit = above })
 reference_piece-fits t i j None some fits = Fit-none t i
 
 reference_to-fits : (t : Text) (i high : ℕ) (r : Option ℕ) → IsLast (is_reference t i) (i + 1) high r → Fit t i (option_and_then (reference_to t i) r)

@@ -5,7 +5,7 @@ use Rattle.std.proofs.lemmas.List.Elements.{All-nil, All-cons}
 use Rattle.std.specs.Prelude.{All}
 use Rattle.rst_text.proofs.PlacesLemmas.{lt_eq_gt}
 use Rattle.rst_text.specs.Characters.{Text, has, is_alnum_at}
-use Rattle.rst_inline_scan.specs.Characters.{is_free_behind}
+use Rattle.rst_inline_scan.specs.Characters.{is_free_after}
 use Rattle.rst_text.specs.SimpleNames.{name_stop}
 use Rattle.rst_inline_scan.specs.Footnotes.{label_stop, closes_label, label_piece, label}
 use Rattle.rst_inline_scan.specs.Pieces.{markup_at, is_free, piece_at, HasNoStart, plain_from, IsPlain, IsWithin, IsPieces, nothing, last, other, plain}
@@ -35,9 +35,9 @@ label_stop-fits t i =
 label_piece-fits : (t : Text) (i : ℕ) (r : Option ℕ) → IfSome r (λ e. i + 1 ≤ e) → Fit t i (option_and_then (label_piece t i) r)
 label_piece-fits t i (Some e) h = either (closes_label t e) (Some _) None (Fit t i)
     (λ closes.
-    let second = (and_parts (has t e 93) (has t (e + 1) 95 && is_free_behind t (e + 2)) closes).1 in
-    let less : e + 1 < length t = has-lt t (e + 1) 95 (and_parts (has t (e + 1) 95) (is_free_behind t (e + 2)) second).0 in
-    Fit-some t i _ (record { begins = refl; some = omega (arith, h); within = omega arith; above = omega arith; order = h; behind = omega arith }))
+    let second = (and_parts (has t e 93) (has t (e + 1) 95 && is_free_after t (e + 2)) closes).1 in
+    let less : e + 1 < length t = has-lt t (e + 1) 95 (and_parts (has t (e + 1) 95) (is_free_after t (e + 2)) second).0 in
+    Fit-some t i _ (record { begins = refl; some = omega (arith, h); within = omega arith; above = omega arith; order = h; limit = omega arith }))
     (Fit-none t i)
 label_piece-fits t i None h = Fit-none t i
 
@@ -60,27 +60,27 @@ piece_at-fits t from i p within h = markup_at-fits t i within p (chosen (is_free
 -- ---- the pieces so far
 
 -- whatever completes the rest completes the whole
-abbrev pub Told : Text → ℕ → List Piece → Type 0
-Told t from items = (ps : List Piece) → IsPieces t from ps → IsPieces t 0 (items ++ ps)
+abbrev pub Gathered : Text → ℕ → List Piece → Type 0
+Gathered t from items = (ps : List Piece) → IsPieces t from ps → IsPieces t 0 (items ++ ps)
 
-pub told-start : (t : Text) (items : List Piece) → items ≡ [] → Told t 0 items
-told-start t items e ps h = rw e h
+pub gathered-start : (t : Text) (items : List Piece) → items ≡ [] → Gathered t 0 items
+gathered-start t items e ps h = rw e h
 
-pub told-other : (t : Text) (from : ℕ) (items : List Piece) (p : Piece) → Told t from items → piece_at t from from ≡ Some p → Told t p.to (items ++ p ∷ [])
-told-other t from items p told begins ps h = rw append_assoc (told (p ∷ ps) (other p ps begins h))
+pub gathered-other : (t : Text) (from : ℕ) (items : List Piece) (p : Piece) → Gathered t from items → piece_at t from from ≡ Some p → Gathered t p.to (items ++ p ∷ [])
+gathered-other t from items p gathered begins ps h = rw append_assoc (gathered (p ∷ ps) (other p ps begins h))
 
 pub is-plain : (t : Text) (from at : ℕ) → from < at → at ≤ length t → HasNoStart t from from at → IsPlain t from (plain_from from at)
 is-plain t from at some within none = record { is_plain = refl; some = some; within = within; none = none }
 
-pub told-plain : (t : Text) (from at : ℕ) (items : List Piece) (p : Piece) → Told t from items → from < at → at ≤ length t → HasNoStart t from from at → piece_at t from at ≡ Some p → Told t p.to ((items ++ plain_from from at ∷ []) ++ p ∷ [])
-told-plain t from at items p told some within none begins ps h =
-    rw (append_assoc, append_assoc) (told (plain_from from at ∷ p ∷ ps) (plain (plain_from from at) p ps (is-plain t from at some within none) begins h))
+pub gathered-plain : (t : Text) (from at : ℕ) (items : List Piece) (p : Piece) → Gathered t from items → from < at → at ≤ length t → HasNoStart t from from at → piece_at t from at ≡ Some p → Gathered t p.to ((items ++ plain_from from at ∷ []) ++ p ∷ [])
+gathered-plain t from at items p gathered some within none begins ps h =
+    rw (append_assoc, append_assoc) (gathered (plain_from from at ∷ p ∷ ps) (plain (plain_from from at) p ps (is-plain t from at some within none) begins h))
 
-pub told-last : (t : Text) (from at : ℕ) (items : List Piece) → Told t from items → from < at → at ≡ length t → HasNoStart t from from at → IsPieces t 0 (items ++ plain_from from at ∷ [])
-told-last t from at items told some end none = told _ (last (plain_from from at) (is-plain t from at some (omega arith) none) end)
+pub gathered-last : (t : Text) (from at : ℕ) (items : List Piece) → Gathered t from items → from < at → at ≡ length t → HasNoStart t from from at → IsPieces t 0 (items ++ plain_from from at ∷ [])
+gathered-last t from at items gathered some end none = gathered _ (last (plain_from from at) (is-plain t from at some (omega arith) none) end)
 
-pub told-end : (t : Text) (from : ℕ) (items : List Piece) → Told t from items → from ≡ length t → IsPieces t 0 items
-told-end t from items told end = subst (IsPieces t 0) (append-nil items) (told [] (nothing end))
+pub gathered-end : (t : Text) (from : ℕ) (items : List Piece) → Gathered t from items → from ≡ length t → IsPieces t 0 items
+gathered-end t from items gathered end = subst (IsPieces t 0) (append-nil items) (gathered [] (nothing end))
 
 -- ---- at most one list
 
@@ -153,13 +153,13 @@ fits-within t i p fits =
     let begins = fits.begins in
     let some = fits.some in
     let above = fits.above in
-    record { some = omega arith; begins = omega arith; ends = fits.order; behind = fits.behind; within = fits.within }
+    record { some = omega arith; begins = omega arith; ends = fits.order; limit = fits.limit; within = fits.within }
 
 plain-within : (t : Text) (from : ℕ) (p : Piece) → IsPlain t from p → IsWithin t p
 plain-within t from p a =
     let within = a.within in
     let some = a.some in
-    subst (IsWithin t) (sym a.is_plain) (record { some = some; begins = omega arith; ends = omega arith; behind = omega arith; within = within })
+    subst (IsWithin t) (sym a.is_plain) (record { some = some; begins = omega arith; ends = omega arith; limit = omega arith; within = within })
 
 pub IsPieces-within : (t : Text) (from : ℕ) (ps : List Piece) → from ≤ length t → IsPieces t from ps → All (IsWithin t) ps
 IsPieces-within t from _ h (nothing e) = All-nil (IsWithin t)

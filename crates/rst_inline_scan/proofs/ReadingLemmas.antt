@@ -19,8 +19,8 @@ no_piece (Some q) h = absurd (true≢false h)
 no_piece None h = refl
 
 -- all pieces after a place later than this one are found so
-abbrev FindsBehind : Text → ℕ → ℕ → Type 0
-FindsBehind t n from = (k : ℕ) → from < k → k ≤ length t → IsPieces t k (pieces_from t n k)
+abbrev FindsAfter : Text → ℕ → ℕ → Type 0
+FindsAfter t n from = (k : ℕ) → from < k → k ≤ length t → IsPieces t k (pieces_from t n k)
 
 -- no start is left
 at_end : (t : Text) (from : ℕ) → from ≤ length t → HasNoStart t from from (length t) → IsPieces t from (plain_if from (length t))
@@ -30,7 +30,7 @@ at_end t from within h = elim (cases_lt from (length t)) [
 ]
 
 -- a piece begins at i, and none before
-at_start : (t : Text) (n from i : ℕ) (q : Piece) → from ≤ i → i < length t → HasNoStart t from from i → piece_at t from i ≡ Some q → FindsBehind t n from
+at_start : (t : Text) (n from i : ℕ) (q : Piece) → from ≤ i → i < length t → HasNoStart t from from i → piece_at t from i ≡ Some q → FindsAfter t n from
     → IsPieces t from (plain_if from i ++ q ∷ pieces_from t n q.to)
 at_start t n from i q above within h e finds =
     let fits = piece_at-fits t from i q (omega arith) e in
@@ -45,8 +45,8 @@ at_start t n from i q above within h e finds =
     ]
 
 -- by the next start
-by_start : (t : Text) (n from : ℕ) → from ≤ length t → FindsBehind t n from → (r : Option ℕ) → IsFirst (λ i. is_some (piece_at t from i)) from (length t) r
-    → IsPieces t from (pieces_by t from r (λ behind. pieces_from t n behind))
+by_start : (t : Text) (n from : ℕ) → from ≤ length t → FindsAfter t n from → (r : Option ℕ) → IsFirst (λ i. is_some (piece_at t from i)) from (length t) r
+    → IsPieces t from (pieces_by t from r (λ following. pieces_from t n following))
 by_start t n from within finds None h = at_end t from within (λ i low high. no_piece (piece_at t from i) (h i low high))
 by_start t n from within finds (Some i) h =
     let q = some_piece (piece_at t from i) h.2 in

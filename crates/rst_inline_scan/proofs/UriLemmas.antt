@@ -13,8 +13,8 @@ use Rattle.std.proofs.lemmas.Bool.Decides.{nat_tests}
 use Rattle.rst_text.specs.Places.{first_from, last_from, NoneFrom, IsFirst, IsLast}
 use Rattle.rst_text.proofs.PlacesLemmas.{cases_bool, lt_eq_gt, first_from-is, first_from-IsFirst, last_from-is, last_from-last, NoneFrom-within}
 use Rattle.rst_text.specs.Characters.{Text}
-use Rattle.rst_inline_scan.specs.Characters.{is_free_behind}
-use Rattle.rst_inline_scan.specs.Uri.{has_letter, has_any_case, schemes, scheme_end, is_uri_char, is_uri_trail, uri_stop, uri_close, uri_behind, if_free, uri_end, uri_piece, uri, IsUri}
+use Rattle.rst_inline_scan.specs.Characters.{is_free_after}
+use Rattle.rst_inline_scan.specs.Uri.{has_letter, has_any_case, schemes, scheme_end, is_uri_char, is_uri_trail, uri_stop, uri_close, uri_after_scheme, if_free, uri_end, uri_piece, uri, IsUri}
 use Rattle.rst_inline_scan.proofs.FitLemmas.{Fit, Fit-none, Fit-some}
 use Rattle.rst_text.proofs.Choices.{some_is, none_is, chosen}
 
@@ -67,33 +67,33 @@ scheme-fits t i (c ∷ cs) h within =
     omega arith
 
 -- the characters of a scheme are some of a URI
-pub record Begins (t : Text) (i behind : ℕ) : Type 0 where
-  pub above : i ≤ behind
-  pub within : i ≤ length t → behind ≤ length t
-  pub chars : (k : ℕ) → i ≤ k → k < behind → is_uri_char (get_or t k 0) ≡ true
+pub record Begins (t : Text) (i limit : ℕ) : Type 0 where
+  pub above : i ≤ limit
+  pub within : i ≤ length t → limit ≤ length t
+  pub chars : (k : ℕ) → i ≤ k → k < limit → is_uri_char (get_or t k 0) ≡ true
 
 -- the place after the first of the words that is at the place
 abbrev scheme_of : Text → ℕ → List Text → Option ℕ
 scheme_of t i words = option_map (λ scheme. i + length scheme) (find (has_any_case t i) words)
 
-first-begins : (t : Text) (i : ℕ) (words : List Text) (behind : ℕ) → list_all (λ word. list_all is_uri_char word) words ≡ true → scheme_of t i words ≡ Some behind → Begins t i behind
-first-begins t i [] behind all h = absurd (none_is h)
-first-begins t i (word ∷ words) behind all h =
+first-begins : (t : Text) (i : ℕ) (words : List Text) (limit : ℕ) → list_all (λ word. list_all is_uri_char word) words ≡ true → scheme_of t i words ≡ Some limit → Begins t i limit
+first-begins t i [] limit all h = absurd (none_is h)
+first-begins t i (word ∷ words) limit all h =
     let fits = and_parts (list_all is_uri_char word) (list_all (λ word. list_all is_uri_char word) words) all in
     elim (cases_bool (has_any_case t i word)) [
       | inl stands ↦
-          (let same : Some (i + length word) ≡ Some behind = rw stands at h in
+          (let same : Some (i + length word) ≡ Some limit = rw stands at h in
           subst (Begins t i) (some_is same) (record { above = omega arith; within = λ within. scheme-fits t i word stands within; chars = scheme-uri t i word stands fits.0 }))
-      | inr other ↦ first-begins t i words behind fits.1 (rw other at h)
+      | inr other ↦ first-begins t i words limit fits.1 (rw other at h)
     ]
 
 schemes-uri : list_all (λ word. list_all is_uri_char word) schemes ≡ true
 unfolding is_uri_char
 schemes-uri = refl
 
-pub scheme_end-begins : (t : Text) (i behind : ℕ) → scheme_end t i ≡ Some behind → Begins t i behind
+pub scheme_end-begins : (t : Text) (i limit : ℕ) → scheme_end t i ≡ Some limit → Begins t i limit
 unfolding scheme_end
-scheme_end-begins t i behind h = first-begins t i schemes behind schemes-uri h
+scheme_end-begins t i limit h = first-begins t i schemes limit schemes-uri h
 
 -- ---- the run after it
 
@@ -154,22 +154,22 @@ uri_close-last t i stop e h = ⊎_elim
 
 pub uri_end-none : (t : Text) (i : ℕ) → scheme_end t i ≡ None → uri_end t i ≡ None
 unfolding uri_end
-uri_end-none t i h = ap (λ r. option_and_then (if_free t) (option_and_then (uri_behind t) r)) h
+uri_end-none t i h = ap (λ r. option_and_then (if_free t) (option_and_then (uri_after_scheme t) r)) h
 
 pub uri_end-empty : (t : Text) (i m : ℕ) → scheme_end t i ≡ Some m → uri_close t m (uri_stop t m) ≡ None → uri_end t i ≡ None
 unfolding uri_end
-uri_end-empty t i m h k = ap (λ r. option_and_then (if_free t) (option_and_then (uri_behind t) r)) h ∙ ap (option_and_then (if_free t)) k
+uri_end-empty t i m h k = ap (λ r. option_and_then (if_free t) (option_and_then (uri_after_scheme t) r)) h ∙ ap (option_and_then (if_free t)) k
 
-pub uri_end-found : (t : Text) (i m e : ℕ) → scheme_end t i ≡ Some m → uri_close t m (uri_stop t m) ≡ Some e → is_free_behind t e ≡ true → uri_end t i ≡ Some e
+pub uri_end-found : (t : Text) (i m e : ℕ) → scheme_end t i ≡ Some m → uri_close t m (uri_stop t m) ≡ Some e → is_free_after t e ≡ true → uri_end t i ≡ Some e
 unfolding uri_end
-uri_end-found t i m e h k free = ap (λ r. option_and_then (if_free t) (option_and_then (uri_behind t) r)) h ∙ ap (option_and_then (if_free t)) k ∙ ap (λ b. cond b (Some e) None) free
+uri_end-found t i m e h k free = ap (λ r. option_and_then (if_free t) (option_and_then (uri_after_scheme t) r)) h ∙ ap (option_and_then (if_free t)) k ∙ ap (λ b. cond b (Some e) None) free
 
-pub uri_end-stuck : (t : Text) (i m e : ℕ) → scheme_end t i ≡ Some m → uri_close t m (uri_stop t m) ≡ Some e → is_free_behind t e ≡ false → uri_end t i ≡ None
+pub uri_end-stuck : (t : Text) (i m e : ℕ) → scheme_end t i ≡ Some m → uri_close t m (uri_stop t m) ≡ Some e → is_free_after t e ≡ false → uri_end t i ≡ None
 unfolding uri_end
-uri_end-stuck t i m e h k stuck = ap (λ r. option_and_then (if_free t) (option_and_then (uri_behind t) r)) h ∙ ap (option_and_then (if_free t)) k ∙ ap (λ b. cond b (Some e) None) stuck
+uri_end-stuck t i m e h k stuck = ap (λ r. option_and_then (if_free t) (option_and_then (uri_after_scheme t) r)) h ∙ ap (option_and_then (if_free t)) k ∙ ap (λ b. cond b (Some e) None) stuck
 
 -- where what follows a URI doesn't fit, none begins in it
-inside : (t : Text) (start m e i : ℕ) (r : Option ℕ) → start ≤ length t → scheme_end t start ≡ Some m → uri_close t m (uri_stop t m) ≡ Some e → is_free_behind t e ≡ false → start ≤ i → i < e → scheme_end t i ≡ r → uri_end t i ≡ None
+inside : (t : Text) (start m e i : ℕ) (r : Option ℕ) → start ≤ length t → scheme_end t start ≡ Some m → uri_close t m (uri_stop t m) ≡ Some e → is_free_after t e ≡ false → start ≤ i → i < e → scheme_end t i ≡ r → uri_end t i ≡ None
 inside t start m e i None within h k stuck above below r = uri_end-none t i r
 inside t start m e i (Some n) within h k stuck above below r =
     let first = scheme_end-begins t start m h in
@@ -182,7 +182,7 @@ inside t start m e i (Some n) within h k stuck above below r =
     let past : i ≤ n = later.above in
     let bound : n ≤ length t = later.within (omega arith) in
     let all : NoneFrom (StopTest t) start stop = λ j low high. ⊎_elim
-    (λ scheme. ap not (first.chars j low scheme)) (λ behind. run.none j behind high) (cases_lt j m) in
+    (λ scheme. ap not (first.chars j low scheme)) (λ limit. run.none j limit high) (cases_lt j m) in
     let order : n ≤ stop = ⊎_elim
     (λ over. absurd (true≢false (sym (run.stops (omega arith)) ∙ ap not (later.chars stop (omega arith) over)))) (λ good. good) (cases_lt stop n) in
     let same : uri_stop t n ≡ stop = stops-later t n stop order upto (NoneFrom-within (StopTest t) start stop n stop (omega arith) (omega arith) all) run.stops in
@@ -191,17 +191,17 @@ inside t start m e i (Some n) within h k stuck above below r =
     (λ after. uri_end-empty t i n r (ap (uri_close t n) same ∙ sym (uri_close-is t n stop None (NoneFrom-within (CloseTest t) (e + 1) (stop + 1) (n + 1) (stop + 1) (omega arith) (omega arith) close.3))))
     (cases_lt n e)
 
-pub none-inside : (t : Text) (start m e : ℕ) → start ≤ length t → scheme_end t start ≡ Some m → uri_close t m (uri_stop t m) ≡ Some e → is_free_behind t e ≡ false → (i : ℕ) → start ≤ i → i < e → uri_end t i ≡ None
+pub none-inside : (t : Text) (start m e : ℕ) → start ≤ length t → scheme_end t start ≡ Some m → uri_close t m (uri_stop t m) ≡ Some e → is_free_after t e ≡ false → (i : ℕ) → start ≤ i → i < e → uri_end t i ≡ None
 none-inside t start m e within h k stuck i above below = inside t start m e i (scheme_end t i) within h k stuck above below refl
 
 -- ---- the piece
 
 if_free-some : (t : Text) (r : Option ℕ) (e : ℕ) → option_and_then (if_free t) r ≡ Some e → r ≡ Some e
-if_free-some t (Some f) e h = (chosen (is_free_behind t f) (Some f) e h).1
+if_free-some t (Some f) e h = (chosen (is_free_after t f) (Some f) e h).1
 if_free-some t None e h = absurd (none_is h)
 
-behind-fits : (t : Text) (i : ℕ) (r : Option ℕ) (e : ℕ) → i ≤ length t → scheme_end t i ≡ r → option_and_then (uri_behind t) r ≡ Some e → (i < e) × (e ≤ length t)
-behind-fits t i (Some m) e within h k =
+after_scheme-fits : (t : Text) (i : ℕ) (r : Option ℕ) (e : ℕ) → i ≤ length t → scheme_end t i ≡ r → option_and_then (uri_after_scheme t) r ≡ Some e → (i < e) × (e ≤ length t)
+after_scheme-fits t i (Some m) e within h k =
     let begins = scheme_end-begins t i m h in
     let above : i ≤ m = begins.above in
     let run = uri_stop-stops t m (begins.within within) in
@@ -210,14 +210,14 @@ behind-fits t i (Some m) e within h k =
     let from : m + 1 ≤ e = close.0 in
     let less = close.1 in
     (omega arith, omega arith)
-behind-fits t i None e within h k = absurd (none_is k)
+after_scheme-fits t i None e within h k = absurd (none_is k)
 
 pub uri_end-fits : (t : Text) (i e : ℕ) → i ≤ length t → uri_end t i ≡ Some e → (i < e) × (e ≤ length t)
 unfolding uri_end
-uri_end-fits t i e within h = behind-fits t i (scheme_end t i) e within refl (if_free-some t (option_and_then (uri_behind t) (scheme_end t i)) e h)
+uri_end-fits t i e within h = after_scheme-fits t i (scheme_end t i) e within refl (if_free-some t (option_and_then (uri_after_scheme t) (scheme_end t i)) e h)
 
 uri_piece-fits : (t : Text) (i : ℕ) (r : Option ℕ) → ((e : ℕ) → r ≡ Some e → (i < e) × (e ≤ length t)) → Fit t i (option_map (uri_piece i) r)
-uri_piece-fits t i (Some e) h = let found = h e refl in Fit-some t i _ (record { begins = refl; some = found.0; within = found.1; above = omega arith; order = (let less = found.0 in omega arith); behind = omega arith })
+uri_piece-fits t i (Some e) h = let found = h e refl in Fit-some t i _ (record { begins = refl; some = found.0; within = found.1; above = omega arith; order = (let less = found.0 in omega arith); limit = omega arith })
 uri_piece-fits t i None h = Fit-none t i
 
 pub uri-fits : (t : Text) (i : ℕ) → i ≤ length t → Fit t i (uri t i)
@@ -247,7 +247,7 @@ bytes-chars bytes good h = chars_from_encodes bytes bytes good (encodes-uri byte
 chars-bytes : (bytes : List ℕ) → IsUtf8 bytes → AllUri (chars bytes) → chars bytes ≡ bytes
 chars-bytes bytes good h = sym (encodes-uri (chars bytes) h) ∙ encodes-chars bytes good
 
-free-at-end : (t : Text) → is_free_behind t (length t) ≡ true
+free-at-end : (t : Text) → is_free_after t (length t) ≡ true
 free-at-end t = grind (arith, nat_tests)
 
 -- the bytes are a URI with its scheme's end at the place: more follows that, each is a character of a URI, and the last
@@ -271,23 +271,23 @@ IsUri-from t (Some m) scheme h =
     uri_end-found t 0 m (length t) scheme close (free-at-end t)
 IsUri-from t None scheme h = absurd (cc)
 
-behind-uri : (t : Text) (r : Option ℕ) → scheme_end t 0 ≡ r → option_and_then (uri_behind t) r ≡ Some (length t) → is_ascii_uri_from t r ≡ true
-behind-uri t (Some m) scheme h =
+after_scheme-uri : (t : Text) (r : Option ℕ) → scheme_end t 0 ≡ r → option_and_then (uri_after_scheme t) r ≡ Some (length t) → is_ascii_uri_from t r ≡ true
+after_scheme-uri t (Some m) scheme h =
     let begins = scheme_end-begins t 0 m scheme in
     let run = uri_stop-stops t m (begins.within (omega arith)) in
     let close = uri_close-last t m (uri_stop t m) (length t) h in
     let above : m + 1 ≤ length t = close.0 in
     let below : length t < uri_stop t m + 1 = close.1 in
     let all : AllUri t = list_all-from_AllPass is_uri_char t (All-from_get_or (λ c. is_uri_char c ≡ true) t 0 (λ k less. ⊎_elim
-    (λ front. begins.chars k (omega arith) front)
+    (λ in_scheme. begins.chars k (omega arith) in_scheme)
     (λ back. not-false (is_uri_char (get_or t k 0)) (run.none k back (omega arith)))
     (cases_lt k m))) in
     rw (lt-ltb m (length t) (omega arith), all) close.2
-behind-uri t None scheme h = absurd (none_is h)
+after_scheme-uri t None scheme h = absurd (none_is h)
 
 from-IsUri : (t : Text) → IsUri t → is_ascii_uri t ≡ true
 unfolding uri_end
-from-IsUri t h = behind-uri t (scheme_end t 0) refl (if_free-some t (option_and_then (uri_behind t) (scheme_end t 0)) (length t) h)
+from-IsUri t h = after_scheme-uri t (scheme_end t 0) refl (if_free-some t (option_and_then (uri_after_scheme t) (scheme_end t 0)) (length t) h)
 
 all-of-uri : (t : Text) (r : Option ℕ) → is_ascii_uri_from t r ≡ true → AllUri t
 all-of-uri t (Some m) h =

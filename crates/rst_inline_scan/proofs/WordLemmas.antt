@@ -12,7 +12,7 @@ use Rattle.rst_text.specs.Characters.{is_white, Text, has, is_alnum_at}
 use Rattle.rst_text.specs.Places.{all_from}
 use Rattle.rst_text.proofs.CharacterLemmas.{is_alphanumeric-ascii}
 use Rattle.rst_text.proofs.PlacesLemmas.{cases_bool, lt_eq_gt, all_from-at, all_from-stop, last_from-is}
-use Rattle.rst_inline_scan.specs.Characters.{may_precede, may_follow}
+use Rattle.rst_inline_scan.specs.Characters.{may_precede_start, may_follow}
 use Rattle.rst_text.specs.Escapes.{is_escaped}
 use Rattle.rst_text.specs.SimpleNames.{is_joint, is_name_at}
 use Rattle.rst_inline_scan.specs.Names.{role_end, ends_name, is_reference, name_end, reference_to, reference}
@@ -47,14 +47,14 @@ unless-so true b h k = h
 unless-so false b h k = absurd (cc)
 
 -- none comes before a start
-pub letter-before : (c : ℕ) → IsLetter c → may_precede c ≡ false
-unfolding may_precede is_white
-letter-before c h = not-true _ (unless-so _ _ (below (λ c. unless (is_ascii_alphanumeric c) (not (may_precede c))) refl c (letter-low c h)) h)
+pub letter-before : (c : ℕ) → IsLetter c → may_precede_start c ≡ false
+unfolding may_precede_start is_white
+letter-before c h = not-true _ (unless-so _ _ (below (λ c. unless (is_ascii_alphanumeric c) (not (may_precede_start c))) refl c (letter-low c h)) h)
 
 -- nor after an end
-pub letter-behind : (c : ℕ) → IsLetter c → may_follow c ≡ false
+pub letter-may_not_follow : (c : ℕ) → IsLetter c → may_follow c ≡ false
 unfolding may_follow is_white
-letter-behind c h = not-true _ (unless-so _ _ (below (λ c. unless (is_ascii_alphanumeric c) (not (may_follow c))) refl c (letter-low c h)) h)
+letter-may_not_follow c h = not-true _ (unless-so _ _ (below (λ c. unless (is_ascii_alphanumeric c) (not (may_follow c))) refl c (letter-low c h)) h)
 
 -- a character that passes a test is none that fails it
 pub differs : (p : ℕ → Bool) (c d : ℕ) → p c ≡ true → p d ≡ false → (c == d) ≡ false
@@ -141,8 +141,8 @@ no-scheme t i e (c ∷ cs) bar n h =
     ⊎_elim
     (λ is_colon.
     let stands : get_or t i 0 ≡ 58 = lower-colon (get_or t i 0) (same ∙ eqb-true c 58 is_colon) in
-    let shown : has t i 58 ≡ true = rw (stands, lt-ltb i (length t) within) refl in
-    true≢false (sym shown ∙ bar.colon i (omega arith) order))
+    let colon_here : has t i 58 ≡ true = rw (stands, lt-ltb i (length t) within) refl in
+    true≢false (sym colon_here ∙ bar.colon i (omega arith) order))
     (λ other.
     let rest = and_parts (is_ascii_alphanumeric c) (named cs) (subst (λ b. (b || (is_ascii_alphanumeric c && named cs)) ≡ true) other n) in
     ⊎_elim
@@ -243,7 +243,7 @@ no-piece t from i to run some h =
 inside-word : (t : Text) (from i to k : ℕ) → IsWord t i to → i < k → k ≤ to → piece_at t from k ≡ None
 unfolding piece_at is_free
 inside-word t from i to k run above upto =
-    let before : may_precede (get_or t (k - 1) 0) ≡ false = letter-before _ (run.letters (k - 1) (omega arith) (omega arith)) in
+    let before : may_precede_start (get_or t (k - 1) 0) ≡ false = letter-before _ (run.letters (k - 1) (omega arith) (omega arith)) in
     rw before (grind (arith, nat_tests))
 
 pub HasNoStart-word : (t : Text) (from i to : ℕ) → IsWord t i to → HasNoStart t from from i → piece_at t from i ≡ None → HasNoStart t from from (to + 1)
@@ -266,8 +266,8 @@ unescaped-word t from i to order some run =
     sym (ap (is_escaped t from) (sym e) ∙ is_escaped-bare t from (to - 1) (omega arith) (letter-bare t (to - 1) (run.letters (to - 1) (omega arith) (omega arith))))
 
 -- whether what follows a word is escaped
-pub unescaped-behind : (t : Text) (from i to : ℕ) (escaped : Bool) → from ≤ i → IsWord t i to → escaped ≡ is_escaped t from i → (escaped && i == to) ≡ is_escaped t from to
-unescaped-behind t from i to escaped order run known = ⊎_elim
+pub unescaped-after : (t : Text) (from i to : ℕ) (escaped : Bool) → from ≤ i → IsWord t i to → escaped ≡ is_escaped t from i → (escaped && i == to) ≡ is_escaped t from to
+unescaped-after t from i to escaped order run known = ⊎_elim
     (λ same. let e : i ≡ to = eqb-true i to same in rw same (and-true escaped ∙ known ∙ ap (is_escaped t from) e))
     (λ other. rw other (and-false escaped ∙ unescaped-word t from i to order (some_of (run.above) other) run))
     (cases_bool (i == to))

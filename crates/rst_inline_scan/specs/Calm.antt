@@ -33,7 +33,7 @@ is_of_name c = not (nat_lt c 128) || (is_ascii_alphanumeric c || is_joint c)
 
 -- From one place up to another, which may be the same, there is no start, wherever plain text before them begins. No backslash
 -- comes before the other.
-pub record IsStep (t : Text) (from to : ℕ) : Type 0 where
+pub record IsCalmStep (t : Text) (from to : ℕ) : Type 0 where
   pub above : from ≤ to
   pub within : to ≤ length t
   pub none : (begin : ℕ) → HasNoStart t begin from to

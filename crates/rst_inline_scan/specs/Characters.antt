@@ -25,8 +25,8 @@ may_follow_by _ = false
 
 -- The character may occur before a start: one of -:/'"<([{, white, or past ASCII punctuation of the categories Ps, Pi, Pf,
 -- Pd and Po.
-unfoldable pub may_precede : ℕ → Bool
-may_precede c = is_among (45 ∷ 58 ∷ 47 ∷ 39 ∷ 34 ∷ 60 ∷ 40 ∷ 91 ∷ 123 ∷ []) c || (is_white c || (not (nat_lt c 128) && may_precede_by (general_category c)))
+unfoldable pub may_precede_start : ℕ → Bool
+may_precede_start c = is_among (45 ∷ 58 ∷ 47 ∷ 39 ∷ 34 ∷ 60 ∷ 40 ∷ 91 ∷ 123 ∷ []) c || (is_white c || (not (nat_lt c 128) && may_precede_by (general_category c)))
 
 -- The character may follow an end: one of '")]}>-/\:.,;!?, white, or past ASCII punctuation of the categories Pe, Pi,
 -- Pf, Pd and Po.
@@ -43,5 +43,5 @@ has_string t i [] = true
 has_string t i (c ∷ cs) = has t i c && has_string t (i + 1) cs
 
 -- nothing is at the place, or what may follow an end
-abbrev pub is_free_behind : Text → ℕ → Bool
-is_free_behind t i = not (nat_lt i (length t)) || may_follow (slice_index t i)
+abbrev pub is_free_after : Text → ℕ → Bool
+is_free_after t i = not (nat_lt i (length t)) || may_follow (slice_index t i)

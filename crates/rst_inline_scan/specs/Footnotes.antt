@@ -1,7 +1,7 @@
 -- References to footnotes and citations (Markup Specification, 'Footnote References', 'Citation References').
 use Rattle.std.specs.Prelude.{ℕ, ◌+◌, Bool, ◌&&◌, Option, None, Some, option_and_then, if◌then◌else◌}
 use Rattle.rst_text.specs.Characters.{Text, has, is_alnum_at}
-use Rattle.rst_inline_scan.specs.Characters.{is_free_behind}
+use Rattle.rst_inline_scan.specs.Characters.{is_free_after}
 use Rattle.rst_text.specs.SimpleNames.{name_stop}
 use Rattle.rst_inline_scan.specs.declared.piece.Kind.TheVariants.{Label}
 use Rattle.rst_inline_scan.specs.declared.piece.Piece.{Piece}
@@ -16,7 +16,7 @@ label_stop t i =
 
 -- what follows the label closes it, and fits
 abbrev pub closes_label : Text → ℕ → Bool
-closes_label t e = has t e 93 && (has t (e + 1) 95 && is_free_behind t (e + 2))
+closes_label t e = has t e 93 && (has t (e + 1) 95 && is_free_after t (e + 2))
 
 -- the reference whose label has this end, if the label is closed there and what follows fits
 abbrev pub label_piece : Text → ℕ → ℕ → Option Piece

@@ -110,12 +110,12 @@ abbrev pub ended_piece : Markup → ℕ → ℕ → ℕ → Tail → Piece
 ended_piece markup i q k tail = record { kind = Marked markup tail.suffix; from = i; content_from = q + start_len markup; content_to = k; to = tail.to }
 
 -- the same with what follows the end-string at k
-abbrev pub ended : Markup → Text → ℕ → ℕ → ℕ → Option Piece
-ended markup t i q k = option_map (ended_piece markup i q k) (tail_of markup t k)
+abbrev pub piece_ended_at : Markup → Text → ℕ → ℕ → ℕ → Option Piece
+piece_ended_at markup t i q k = option_map (ended_piece markup i q k) (tail_of markup t k)
 
 -- markup up to its end, or, where it has none, a start without an end
 abbrev pub marked_piece : Markup → Text → ℕ → ℕ → Option ℕ → Piece
-marked_piece markup t i q end = unwrap_or (option_and_then (ended markup t i q) end) (unended_piece markup i q)
+marked_piece markup t i q end = unwrap_or (option_and_then (piece_ended_at markup t i q) end) (unended_piece markup i q)
 
 -- the piece of markup that begins at i with its start-string at q, if it may begin so
 abbrev pub marked_from : Markup → Text → ℕ → ℕ → Option Piece

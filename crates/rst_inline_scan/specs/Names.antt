@@ -12,12 +12,12 @@ use Rattle.rst_inline_scan.specs.declared.piece.Piece.{Piece}
 -- ---- roles
 
 -- the place after the colon that closes a role, if one is at the end of its name
-abbrev pub behind_colon : Text → ℕ → Option ℕ
-behind_colon t e = if has t e 58 then Some (e + 1) else None
+abbrev pub after_colon : Text → ℕ → Option ℕ
+after_colon t e = if has t e 58 then Some (e + 1) else None
 
 -- the place after a role, a simple name between colons, that begins at the place
 unfoldable pub role_end : Text → ℕ → Option ℕ
-role_end t i = if has t i 58 then option_and_then (behind_colon t) (name_stop t (i + 1)) else None
+role_end t i = if has t i 58 then option_and_then (after_colon t) (name_stop t (i + 1)) else None
 
 -- ---- references: the longest simple name that fits, and one underscore or two
 

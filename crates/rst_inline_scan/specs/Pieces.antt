@@ -2,7 +2,7 @@
 use Rattle.std.specs.Prelude.{◌≡◌, ℕ, ◌-◌, ◌<◌, ◌≤◌, Bool, not, ◌&&◌, ◌||◌, ◌==◌, List, [], ◌∷◌, Option, None, Some, slice_index, length, if◌then◌else◌}
 use Rattle.std.specs.Option.{option_or}
 use Rattle.rst_text.specs.Characters.{Text}
-use Rattle.rst_inline_scan.specs.Characters.{may_precede}
+use Rattle.rst_inline_scan.specs.Characters.{may_precede_start}
 use Rattle.rst_text.specs.Escapes.{is_escaped}
 use Rattle.rst_inline_scan.specs.Marked.{marked}
 use Rattle.rst_inline_scan.specs.Names.{reference}
@@ -21,7 +21,7 @@ markup_at t i =
 -- A start may occur at i: it is not escaped, and what precedes it fits. Plain text before i begins at `from`: no backslash
 -- before that counts.
 unfoldable pub is_free : Text → ℕ → ℕ → Bool
-is_free t from i = not (is_escaped t from i) && (i == 0 || may_precede (slice_index t (i - 1)))
+is_free t from i = not (is_escaped t from i) && (i == 0 || may_precede_start (slice_index t (i - 1)))
 
 -- the piece that begins at i, if a start may occur there and markup begins
 unfoldable pub piece_at : Text → ℕ → ℕ → Option Piece
@@ -55,5 +55,5 @@ pub record IsWithin (t : Text) (p : Piece) : Type 0 where
   pub some : p.from < p.to
   pub begins : p.from ≤ p.content_from
   pub ends : p.content_from ≤ p.content_to
-  pub behind : p.content_to ≤ p.to
+  pub limit : p.content_to ≤ p.to
   pub within : p.to ≤ length t

@@ -7,8 +7,8 @@ use Rattle.rst_inline_scan.specs.declared.piece.Kind.{Kind}
 use Rattle.rst_inline_scan.specs.declared.piece.Piece.{Piece}
 
 -- the kind of a piece, and the piece as it is written
-abbrev pub cut : Text → Piece → Kind × Text
-cut t p = (p.kind, drop p.from (take p.to t))
+abbrev pub kind_and_source : Text → Piece → Kind × Text
+kind_and_source t p = (p.kind, drop p.from (take p.to t))
 
 -- a kind and a text that is written out
 abbrev pub spelled_cut : Kind × String → Kind × Text
@@ -16,7 +16,7 @@ spelled_cut (kind, text) = (kind, codes text)
 
 -- the text falls into these pieces
 abbrev pub Cuts : String → List (Kind × String) → Type 0
-Cuts text cuts = map (cut (codes text)) (pieces_of (codes text)) ≡ map spelled_cut cuts
+Cuts text cuts = map (kind_and_source (codes text)) (pieces_of (codes text)) ≡ map spelled_cut cuts
 
 -- what the markup of each piece encloses
 abbrev pub contents : String → List Text

@@ -2,7 +2,7 @@
 use Rattle.std.specs.Prelude.{◌≡◌, ℕ, ◌+◌, ◌-◌, Bool, true, not, ◌&&◌, ◌||◌, ◌==◌, nat_lt, List, [], ◌∷◌, Option, None, Some, slice_index, length, find, unwrap_or, option_map, option_and_then, codes, if◌then◌else◌}
 use Rattle.std.specs.Char.{to_ascii_lowercase, is_ascii_alphanumeric}
 use Rattle.rst_text.specs.Characters.{Text, is_among}
-use Rattle.rst_inline_scan.specs.Characters.{is_free_behind}
+use Rattle.rst_inline_scan.specs.Characters.{is_free_after}
 use Rattle.rst_text.specs.Places.{first_from, last_from}
 use Rattle.rst_inline_scan.specs.declared.piece.Kind.TheVariants.{Uri}
 use Rattle.rst_inline_scan.specs.declared.piece.Piece.{Piece}
@@ -42,16 +42,16 @@ unfoldable pub uri_close : Text → ℕ → ℕ → Option ℕ
 uri_close t i stop = last_from (λ e. not (is_uri_trail (slice_index t (e - 1)))) (i + 1) (stop - i)
 
 -- the end of a URI by the place after its scheme, if it has one
-abbrev pub uri_behind : Text → ℕ → Option ℕ
-uri_behind t i = uri_close t i (uri_stop t i)
+abbrev pub uri_after_scheme : Text → ℕ → Option ℕ
+uri_after_scheme t i = uri_close t i (uri_stop t i)
 
 -- the end, if what follows it fits
 abbrev pub if_free : Text → ℕ → Option ℕ
-if_free t e = if is_free_behind t e then Some e else None
+if_free t e = if is_free_after t e then Some e else None
 
 -- the end of the URI that begins at the place, where what follows it fits
 unfoldable pub uri_end : Text → ℕ → Option ℕ
-uri_end t i = option_and_then (if_free t) (option_and_then (uri_behind t) (scheme_end t i))
+uri_end t i = option_and_then (if_free t) (option_and_then (uri_after_scheme t) (scheme_end t i))
 
 -- the standalone hyperlink from one place up to another
 abbrev pub uri_piece : ℕ → ℕ → Piece

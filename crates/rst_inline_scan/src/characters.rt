@@ -1,14 +1,14 @@
 //! The characters that decide where inline markup may occur.
 ghost use Rattle.std.specs.Prelude.{◌≡◌};
-ghost use Rattle.rst_inline_scan.specs.Characters.{may_precede, is_free_behind};
+ghost use Rattle.rst_inline_scan.specs.Characters.{may_precede_start, is_free_after};
 
 use rst_text::is_white;
 use unicode::properties::GeneralCategory;
 
 /// Whether the character may occur before a start.
-#[tactic(auto, unfolding(crate::specs::Characters::may_precede))]
-pub(crate) fn may_precede(c: char) -> bool
-    ensures { result ≡ may_precede c }
+#[tactic(auto, unfolding(crate::specs::Characters::may_precede_start))]
+pub(crate) fn may_precede_start(c: char) -> bool
+    ensures { result ≡ may_precede_start c }
 {
     match c {
         '-' | ':' | '/' | '\'' | '"' | '<' | '(' | '[' | '{' => true,
@@ -27,8 +27,8 @@ pub(crate) fn may_precede(c: char) -> bool
 
 /// Whether an end may occur before the place: at the text's end, or before a character that may follow an end.
 #[tactic(auto, unfolding(crate::specs::Characters::may_follow))]
-pub(crate) fn is_free_behind(text: &[char], place: usize) -> bool
-    ensures { result ≡ is_free_behind text.now place }
+pub(crate) fn is_free_after(text: &[char], place: usize) -> bool
+    ensures { result ≡ is_free_after text.now place }
 {
     if text.len() <= place {
         return true;

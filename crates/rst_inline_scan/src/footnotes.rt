@@ -2,7 +2,7 @@
 ghost use Rattle.std.specs.Prelude.{◌≡◌, ◌<◌, length};
 ghost use Rattle.rst_inline_scan.specs.Footnotes.{label};
 
-use super::characters::is_free_behind;
+use super::characters::is_free_after;
 use super::piece::{Kind, Piece};
 use rst_text::{has, is_alnum_at, name_stop};
 
@@ -25,7 +25,7 @@ pub(crate) fn label(text: &[char], place: usize) -> Option<Piece>
     } else {
         begin + 1
     };
-    if has(text, stop, ']') && has(text, stop + 1, '_') && is_free_behind(text, stop + 2) {
+    if has(text, stop, ']') && has(text, stop + 1, '_') && is_free_after(text, stop + 2) {
         Some(Piece {
             kind: Kind::Label,
             from: place,

@@ -5,7 +5,7 @@ ghost use Rattle.rst_inline_scan.specs.Marked.{start_len, end_len, mark, has_sta
 ghost use Rattle.rst_text.specs.Escapes.{is_escaped};
 ghost use Rattle.rst_inline_scan.specs.Missing.{IsMissing};
 
-use super::characters::is_free_behind;
+use super::characters::is_free_after;
 use super::missing::Missing;
 use super::names::role_end;
 use super::piece::{Kind, Markup, Piece, Suffix, Tail};
@@ -83,12 +83,12 @@ impl Markup {
         requires below { start ≤ length text.now }
         ensures { result ≡ starts self text.now place start }
     {
-        let behind = start + self.start_len();
+        let after_start = start + self.start_len();
         self.has_start(text, start)
-            && is_dark(text, behind)
+            && is_dark(text, after_start)
             && (place == 0
                 || !matches!(
-                    (text[place - 1], text[behind]),
+                    (text[place - 1], text[after_start]),
                     ('\'', '\'') | ('"', '"') | ('<', '>') | ('(', ')') | ('[', ']') | ('{', '}')
                 ))
     }
@@ -106,7 +106,7 @@ impl Markup {
         }
         if let Markup::Interpreted = self {
             if let Some(end) = role_end(text, place + 1) {
-                if is_free_behind(text, end) {
+                if is_free_after(text, end) {
                     return Some(Tail {
                         suffix: Suffix::Role,
                         to: end,
@@ -115,7 +115,7 @@ impl Markup {
             }
         }
         let to = place + self.end_len();
-        if is_free_behind(text, to) {
+        if is_free_after(text, to) {
             Some(Tail {
                 suffix: Suffix::Bare,
                 to,

@@ -3,7 +3,7 @@
 #![tactic(auto, unfolding(crate::proofs::Computing::rst_inline_scan))]
 
 ghost use Rattle.std.specs.Prelude.{◌≡◌, codes, filter, [], ◌∷◌};
-ghost use Rattle.rst_inline_scan.specs.Characters.{may_follow, may_precede};
+ghost use Rattle.rst_inline_scan.specs.Characters.{may_follow, may_precede_start};
 ghost use Rattle.rst_inline_scan.specs.Reads.{Cuts, contents};
 ghost use Rattle.rst_inline_scan.specs.Uri.{is_uri_char, is_uri_trail};
 ghost use Rattle.rst_inline_scan.specs.declared.piece.Kind.TheVariants.{Plain, Marked, Unended, Label, Reference, Uri};
@@ -12,9 +12,9 @@ ghost use Rattle.rst_inline_scan.specs.declared.piece.Suffix.TheVariants.{Bare, 
 
 /// The characters that may occur before a start and after an end (Markup Specification, 'Inline markup recognition rules').
 pub fn characters()
-    ensures before { filter may_precede (codes "!\"#$%&'()*+,-./:;<=>?@[\\]^_`{|}~ aZ09") ≡ codes "\"'(-/:<[{ " }
+    ensures before { filter may_precede_start (codes "!\"#$%&'()*+,-./:;<=>?@[\\]^_`{|}~ aZ09") ≡ codes "\"'(-/:<[{ " }
     ensures after { filter may_follow (codes "!\"#$%&'()*+,-./:;<=>?@[\\]^_`{|}~ aZ09") ≡ codes "!\"'),-./:;>?\\]} " }
-    ensures before_past_ascii { filter may_precede (codes "«»“”‘’「」¡–€‿ä") ≡ codes "«»“”‘’「¡–" }
+    ensures before_past_ascii { filter may_precede_start (codes "«»“”‘’「」¡–€‿ä") ≡ codes "«»“”‘’「¡–" }
     ensures after_past_ascii { filter may_follow (codes "«»“”‘’「」¡–€‿ä") ≡ codes "«»“”‘’」¡–" }
 {}
 
@@ -74,7 +74,7 @@ pub fn tails()
     ensures substitution_before_a_letter { Cuts "|a|_b" ((Unended Substitution, "|") ∷ (Plain, "a|_b") ∷ []) }
     ensures three_underscores { Cuts "`a`___" ((Unended Interpreted, "`") ∷ (Plain, "a`___") ∷ []) }
     ensures phrase_of_white { Cuts "`a ` b`_" ((Marked Interpreted Named, "`a ` b`_") ∷ []) }
-    ensures role_behind { Cuts "`a`:sub:" ((Marked Interpreted Role, "`a`:sub:") ∷ []) }
+    ensures role_after { Cuts "`a`:sub:" ((Marked Interpreted Role, "`a`:sub:") ∷ []) }
     ensures role_before_a_letter { Cuts "`a`:sub:b" ((Marked Interpreted Bare, "`a`") ∷ (Plain, ":sub:b") ∷ []) }
     ensures role_before_an_underscore { Cuts "`a`:sub:_" ((Marked Interpreted Bare, "`a`") ∷ (Plain, ":sub:_") ∷ []) }
     ensures role_between { Cuts "`a`:sub:`b`" ((Marked Interpreted Bare, "`a`") ∷ (Plain, ":sub:") ∷ (Marked Interpreted Bare, "`b`") ∷ []) }

@@ -8,7 +8,7 @@ ghost use Rattle.rst_inline_scan.specs.Missing.{IsMissing};
 ghost use Rattle.rst_inline_scan.specs.Words.{IsWord};
 
 use super::calm::{bytes_of, step};
-use super::characters::may_precede;
+use super::characters::may_precede_start;
 use super::footnotes::label;
 use super::missing::Missing;
 use super::names::reference;
@@ -76,7 +76,7 @@ fn piece_at(
     if place < end && !goes_on(text, end) {
         return None;
     }
-    if !escaped && (place == 0 || may_precede(text[place - 1])) {
+    if !escaped && (place == 0 || may_precede_start(text[place - 1])) {
         markup_at(text, place, missing)
     } else {
         None

@@ -2,7 +2,7 @@
 ghost use Rattle.std.specs.Prelude.{◌≡◌, ◌≤◌, length};
 ghost use Rattle.rst_inline_scan.specs.Tails.{name_tail};
 
-use super::characters::is_free_behind;
+use super::characters::is_free_after;
 use super::piece::{Suffix, Tail};
 use rst_text::has;
 
@@ -15,13 +15,13 @@ pub(crate) fn name_tail(text: &[char], place: usize) -> Option<Tail>
     if !has(text, place, '_') {
         return None;
     }
-    if has(text, place + 1, '_') && is_free_behind(text, place + 2) {
+    if has(text, place + 1, '_') && is_free_after(text, place + 2) {
         return Some(Tail {
             suffix: Suffix::Anonymous,
             to: place + 2,
         });
     }
-    if is_free_behind(text, place + 1) {
+    if is_free_after(text, place + 1) {
         Some(Tail {
             suffix: Suffix::Named,
             to: place + 1,

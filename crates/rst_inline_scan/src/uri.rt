@@ -5,7 +5,7 @@ ghost use Rattle.std.specs.List.{list_all};
 ghost use Rattle.rst_inline_scan.specs.Uri.{has_letter, has_any_case, scheme_end, is_uri_char, is_uri_trail, uri_stop, uri_close, uri_end, uri, IsUri};
 ghost use Rattle.rst_inline_scan.specs.Missing.{IsMissing};
 
-use super::characters::is_free_behind;
+use super::characters::is_free_after;
 use super::missing::Missing;
 use super::piece::{Kind, Piece};
 
@@ -141,9 +141,9 @@ pub(crate) fn uri_end(text: &[char], start: usize) -> (Option<usize>, usize)
 {
     match scheme_end(text, start) {
         None => (None, start),
-        Some(behind) => match uri_close(text, behind, uri_stop(text, behind)) {
+        Some(after_scheme) => match uri_close(text, after_scheme, uri_stop(text, after_scheme)) {
             None => (None, start),
-            Some(end) => if is_free_behind(text, end) {
+            Some(end) => if is_free_after(text, end) {
                 (Some(end), end)
             } else {
                 (None, end)
@@ -178,7 +178,7 @@ pub fn plain_uri(text: &str) -> bool
     // Each character of a URI is one byte.
     let bytes = text.as_bytes();
     match ascii_scheme_end(bytes) {
-        Some(behind) => behind < bytes.len()
+        Some(after_scheme) => after_scheme < bytes.len()
             && are_uri_chars(bytes)
             && !is_uri_trail(char::from(bytes[bytes.len() - 1])),
         None => false,
@@ -196,32 +196,32 @@ fn are_uri_chars(bytes: &[u8]) -> bool
 fn ascii_scheme_end(bytes: &[u8]) -> Option<usize>
     ensures { result ≡ scheme_end bytes.now 0 }
 {
-    if begins_with(bytes, b"file://") {
+    if begins_with_ignoring_case(bytes, b"file://") {
         return Some(7);
     }
-    if begins_with(bytes, b"ftp://") {
+    if begins_with_ignoring_case(bytes, b"ftp://") {
         return Some(6);
     }
-    if begins_with(bytes, b"http://") {
+    if begins_with_ignoring_case(bytes, b"http://") {
         return Some(7);
     }
-    if begins_with(bytes, b"https://") {
+    if begins_with_ignoring_case(bytes, b"https://") {
         return Some(8);
     }
-    if begins_with(bytes, b"irc://") {
+    if begins_with_ignoring_case(bytes, b"irc://") {
         return Some(6);
     }
-    if begins_with(bytes, b"mailto:") {
+    if begins_with_ignoring_case(bytes, b"mailto:") {
         return Some(7);
     }
-    if begins_with(bytes, b"news:") {
+    if begins_with_ignoring_case(bytes, b"news:") {
         return Some(5);
     }
     None
 }
 
 /// Whether the bytes begin with the word, which is in lower case, in any case.
-fn begins_with(bytes: &[u8], word: &[u8]) -> bool
+fn begins_with_ignoring_case(bytes: &[u8], word: &[u8]) -> bool
     ensures { result ≡ has_any_case bytes.now 0 word.now }
 {
     let mut at = 0;

@@ -16,8 +16,8 @@ use Rattle.rst_tree.specs.Print.{is_left_out}
 use Rattle.rst_tree.specs.TagNames.{tag_name}
 
 -- a byte of a string that doesn't represent itself: the quote, the backslash, a control character
-abbrev pub is_escaped : ℕ → Bool
-is_escaped b = nat_lt b 32 || b == 34 || b == 92
+abbrev pub needs_json_escape : ℕ → Bool
+needs_json_escape b = nat_lt b 32 || b == 34 || b == 92
 
 -- the digit of a number below 16
 abbrev pub hex : ℕ → ℕ
@@ -27,27 +27,27 @@ abbrev pub control : ℕ → List ℕ
 control b = if b == 10 then codes "\\n" else codes "\\u00" ++ (hex (b / 16) ∷ hex (b % 16) ∷ [])
 
 -- a byte of a string
-abbrev pub escaped_byte : ℕ → List ℕ
-escaped_byte b = if b == 34 then 92 ∷ 34 ∷ [] else (if b == 92 then 92 ∷ 92 ∷ [] else (if nat_lt b 32 then control b else b ∷ []))
+abbrev pub json_byte : ℕ → List ℕ
+json_byte b = if b == 34 then 92 ∷ 34 ∷ [] else (if b == 92 then 92 ∷ 92 ∷ [] else (if nat_lt b 32 then control b else b ∷ []))
 
 -- a text between quotes
 abbrev pub json_string : List ℕ → List ℕ
-json_string text = 34 ∷ (flat_map escaped_byte text ++ 34 ∷ [])
+json_string text = 34 ∷ (flat_map json_byte text ++ 34 ∷ [])
 
 -- an item after a comma
-abbrev pub behind_comma : List ℕ → List ℕ
-behind_comma item = 44 ∷ item
+abbrev pub after_comma : List ℕ → List ℕ
+after_comma item = 44 ∷ item
 
 -- items, a comma between two
-abbrev pub parted : List (List ℕ) → List ℕ
-parted [] = []
-parted (item ∷ items) = item ++ flat_map behind_comma items
+abbrev pub comma_separated : List (List ℕ) → List ℕ
+comma_separated [] = []
+comma_separated (item ∷ items) = item ++ flat_map after_comma items
 
 abbrev pub json_array : List (List ℕ) → List ℕ
-json_array items = 91 ∷ (parted items ++ 93 ∷ [])
+json_array items = 91 ∷ (comma_separated items ++ 93 ∷ [])
 
 abbrev pub json_object : List (List ℕ) → List ℕ
-json_object members = 123 ∷ (parted members ++ 125 ∷ [])
+json_object members = 123 ∷ (comma_separated members ++ 125 ∷ [])
 
 abbrev pub json_member : List ℕ → List ℕ → List ℕ
 json_member name value = json_string name ++ 58 ∷ value
@@ -70,8 +70,8 @@ json_element tag attrs line nodes =
 -- nodes, each after a comma
 abbrev pub json_nodes : Forest → List ℕ
 json_nodes bare = []
-json_nodes (element tag attrs inside line rest) = behind_comma (json_element tag attrs line (json_nodes inside)) ++ json_nodes rest
-json_nodes (words text rest) = behind_comma (json_string text) ++ json_nodes rest
+json_nodes (element tag attrs inside line rest) = after_comma (json_element tag attrs line (json_nodes inside)) ++ json_nodes rest
+json_nodes (words text rest) = after_comma (json_string text) ++ json_nodes rest
 
 -- a node
 abbrev pub json_node : Node → List ℕ

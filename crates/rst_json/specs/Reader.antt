@@ -34,59 +34,59 @@ pub data Items : Type 0 where
   object : Items → Items → Items
 
 -- what is in brackets, with a comma before the first item too
-abbrev pub led : Items → Items
-led array_end = array_end
-led object_end = object_end
-led items = comma items
+abbrev pub led_by_comma : Items → Items
+led_by_comma array_end = array_end
+led_by_comma object_end = object_end
+led_by_comma items = comma items
 
 -- Lists of items: what is in the innermost brackets from a place on, in those around them from their ends on, and so forth.
 
 -- an item before the rest
-abbrev pub in_front : (Items → Items) → List Items → List Items
-in_front item [] = item broken ∷ []
-in_front item (inner ∷ outer) = item inner ∷ outer
+abbrev pub prepended : (Items → Items) → List Items → List Items
+prepended item [] = item broken ∷ []
+prepended item (inner ∷ outer) = item inner ∷ outer
 
 -- an opening bracket before the rest
-abbrev pub opened : (Items → Items → Items) → List Items → List Items
-opened item [] = broken ∷ []
-opened item (inner ∷ outer) = in_front (item (led inner)) outer
+abbrev pub with_opening_bracket : (Items → Items → Items) → List Items → List Items
+with_opening_bracket item [] = broken ∷ []
+with_opening_bracket item (inner ∷ outer) = prepended (item (led_by_comma inner)) outer
 
-abbrev pub is_space : ℕ → Bool
-is_space b = b == 32 || b == 9 || b == 10 || b == 13
+abbrev pub is_json_space : ℕ → Bool
+is_json_space b = b == 32 || b == 9 || b == 10 || b == 13
 
 -- a byte before the rest that is in no string and no number
-abbrev pub marked : ℕ → List Items → List Items
-marked b items =
-    if b == 44 then in_front comma items else (if b == 58 then in_front colon items else (
-    if b == 91 then opened array items else (if b == 93 then array_end ∷ items else (
-    if b == 123 then opened object items else (if b == 125 then object_end ∷ items else (
-    if is_space b then items else broken ∷ []))))))
+abbrev pub with_punctuation : ℕ → List Items → List Items
+with_punctuation b items =
+    if b == 44 then prepended comma items else (if b == 58 then prepended colon items else (
+    if b == 91 then with_opening_bracket array items else (if b == 93 then array_end ∷ items else (
+    if b == 123 then with_opening_bracket object items else (if b == 125 then object_end ∷ items else (
+    if is_json_space b then items else broken ∷ []))))))
 
 -- Where a place is: between strings and numbers; after digits of a number; in a string, after some bytes of it, or there after a backslash;
 -- or there after `\u` and digits, with their number and how many follow the next digit.
-pub data Place : Type 0 where
-  between : Place
-  digits : ℕ → Place
-  quoted : List ℕ → Place
-  escape : List ℕ → Place
-  code : List ℕ → ℕ → ℕ → Place
+pub data ReaderState : Type 0 where
+  between : ReaderState
+  digits : ℕ → ReaderState
+  quoted : List ℕ → ReaderState
+  escape : List ℕ → ReaderState
+  code : List ℕ → ℕ → ℕ → ReaderState
 
 -- what a byte after a backslash represents: `b`, `f`, `n`, `r`, `t`, or else itself
-abbrev pub escaped : ℕ → ℕ
-escaped b = if b == 98 then 8 else (if b == 102 then 12 else (if b == 110 then 10 else (if b == 114 then 13 else (if b == 116 then 9 else b))))
+abbrev pub byte_of_escape : ℕ → ℕ
+byte_of_escape b = if b == 98 then 8 else (if b == 102 then 12 else (if b == 110 then 10 else (if b == 114 then 13 else (if b == 116 then 9 else b))))
 
 -- the items from a place of a text on
-abbrev pub items_of : Place → List ℕ → List Items
-items_of between [] = []
-items_of place [] = broken ∷ []
-items_of between (b ∷ bs) =
-    if b == 34 then items_of (quoted []) bs else (if is_digit b 10 then items_of (digits (digit_value b)) bs else marked b (items_of between bs))
-items_of (digits n) (b ∷ bs) = if is_digit b 10 then items_of (digits (n * 10 + digit_value b)) bs else in_front (number n) (marked b (items_of between bs))
-items_of (quoted s) (b ∷ bs) =
-    if b == 34 then in_front (string s) (items_of between bs) else (if b == 92 then items_of (escape s) bs else items_of (quoted (s ++ b ∷ [])) bs)
-items_of (escape s) (b ∷ bs) = if b == 117 then items_of (code s 0 3) bs else items_of (quoted (s ++ escaped b ∷ [])) bs
-items_of (code s n zero) (b ∷ bs) = items_of (quoted (s ++ (n * 16 + digit_value b) ∷ [])) bs
-items_of (code s n (suc more)) (b ∷ bs) = items_of (code s (n * 16 + digit_value b) more) bs
+abbrev pub json_items : ReaderState → List ℕ → List Items
+json_items between [] = []
+json_items place [] = broken ∷ []
+json_items between (b ∷ bs) =
+    if b == 34 then json_items (quoted []) bs else (if is_digit b 10 then json_items (digits (digit_value b)) bs else with_punctuation b (json_items between bs))
+json_items (digits n) (b ∷ bs) = if is_digit b 10 then json_items (digits (n * 10 + digit_value b)) bs else prepended (number n) (with_punctuation b (json_items between bs))
+json_items (quoted s) (b ∷ bs) =
+    if b == 34 then prepended (string s) (json_items between bs) else (if b == 92 then json_items (escape s) bs else json_items (quoted (s ++ b ∷ [])) bs)
+json_items (escape s) (b ∷ bs) = if b == 117 then json_items (code s 0 3) bs else json_items (quoted (s ++ byte_of_escape b ∷ [])) bs
+json_items (code s n zero) (b ∷ bs) = json_items (quoted (s ++ (n * 16 + digit_value b) ∷ [])) bs
+json_items (code s n (suc more)) (b ∷ bs) = json_items (code s (n * 16 + digit_value b) more) bs
 
 -- ---- from items to the tree
 
@@ -145,50 +145,50 @@ nodes_read (comma (array (comma (string name (comma (number line (comma (object 
 nodes_read other = None
 
 -- a node alone
-abbrev pub lone : Option Forest → Option Node
-lone (Some (element t attrs inside line bare)) = Some (Element t attrs inside line)
-lone (Some (words text bare)) = Some (Words text)
-lone other = None
+abbrev pub lone_node : Option Forest → Option Node
+lone_node (Some (element t attrs inside line bare)) = Some (Element t attrs inside line)
+lone_node (Some (words text bare)) = Some (Words text)
+lone_node other = None
 
 abbrev pub node_read : List Items → Option Node
-node_read (items ∷ []) = lone (nodes_read (led items))
+node_read (items ∷ []) = lone_node (nodes_read (led_by_comma items))
 node_read other = None
 
 -- the tree of a text: it is read as the one item of an array
-abbrev pub reads : List ℕ → Option Node
-reads text = node_read (items_of between (text ++ codes "]"))
+abbrev pub json_tree : List ℕ → Option Node
+json_tree text = node_read (json_items between (text ++ codes "]"))
 
 -- ---- what the JSON has of a tree: all but the attributes that are left out
 
-abbrev pub shown_attrs : List Attr → List Attr
-shown_attrs = filter (λ a. not (is_left_out a))
+abbrev pub included_attrs : List Attr → List Attr
+included_attrs = filter (λ a. not (is_left_out a))
 
-abbrev pub all_shown : Forest → Forest
-all_shown bare = bare
-all_shown (element t attrs inside line more) = element t (shown_attrs attrs) (all_shown inside) line (all_shown more)
-all_shown (words text more) = words text (all_shown more)
+abbrev pub all_with_included_attrs : Forest → Forest
+all_with_included_attrs bare = bare
+all_with_included_attrs (element t attrs inside line more) = element t (included_attrs attrs) (all_with_included_attrs inside) line (all_with_included_attrs more)
+all_with_included_attrs (words text more) = words text (all_with_included_attrs more)
 
-abbrev pub shown : Node → Node
-shown (Element t attrs inside line) = Element t (shown_attrs attrs) (all_shown inside) line
-shown (Words text) = Words text
+abbrev pub with_included_attrs : Node → Node
+with_included_attrs (Element t attrs inside line) = Element t (included_attrs attrs) (all_with_included_attrs inside) line
+with_included_attrs (Words text) = Words text
 
 -- numbers are of 64 bits, as all in the program are
-abbrev pub IsWithin : Value → Type 0
-IsWithin (Number n) = n < 2 ^ 64
-IsWithin other = Unit {0}
+abbrev pub HasNumbersOf64Bits : Value → Type 0
+HasNumbersOf64Bits (Number n) = n < 2 ^ 64
+HasNumbersOf64Bits other = Unit {0}
 
-abbrev pub AreWithin : Forest → Type 0
-AreWithin bare = Unit {0}
-AreWithin (element t attrs inside line more) = (line < 2 ^ 64) × All (λ a. IsWithin a.value) attrs × AreWithin inside × AreWithin more
-AreWithin (words text more) = AreWithin more
+abbrev pub HaveNumbersOf64Bits : Forest → Type 0
+HaveNumbersOf64Bits bare = Unit {0}
+HaveNumbersOf64Bits (element t attrs inside line more) = (line < 2 ^ 64) × All (λ a. HasNumbersOf64Bits a.value) attrs × HaveNumbersOf64Bits inside × HaveNumbersOf64Bits more
+HaveNumbersOf64Bits (words text more) = HaveNumbersOf64Bits more
 
 -- ---- laws
 
 -- the JSON of a tree is read back: the tree without the attributes that are left out
 abbrev pub ReadsBack : Type 0
-ReadsBack = (node : Node) → AreWithin (join_node node bare) → reads (json_node node) ≡ Some (shown node)
+ReadsBack = (node : Node) → HaveNumbersOf64Bits (join_node node bare) → json_tree (json_node node) ≡ Some (with_included_attrs node)
 
 -- trees with the same JSON differ only in attributes that aren't printed
 abbrev pub ShowsOneTree : Type 0
 ShowsOneTree =
-    (node other : Node) → AreWithin (join_node node bare) → AreWithin (join_node other bare) → json_node node ≡ json_node other → shown node ≡ shown other
+    (node other : Node) → HaveNumbersOf64Bits (join_node node bare) → HaveNumbersOf64Bits (join_node other bare) → json_node node ≡ json_node other → with_included_attrs node ≡ with_included_attrs other

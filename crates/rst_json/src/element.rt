@@ -1,7 +1,7 @@
 //! Elements with their attributes, and texts.
 
 ghost use Rattle.std.specs.Prelude.{◌≡◌, map, None, Some, flat_map};
-ghost use Rattle.rst_json.specs.Json.{Adds, behind_comma, json_array, json_attr, json_node, json_object, json_string};
+ghost use Rattle.rst_json.specs.Json.{Adds, after_comma, json_array, json_attr, json_node, json_object, json_string};
 ghost use Rattle.rst_tree.specs.Faults.{Gives};
 ghost use Rattle.rst_tree.specs.KeyNames.{key_name};
 ghost use Rattle.rst_tree.specs.PrintedAttributes.{printed_attrs, with_printed_attrs};
@@ -9,7 +9,7 @@ ghost use Rattle.rst_tree.specs.declared.tag.Tag.TheVariants.{SystemMessage};
 
 use crate::list::enclose;
 use crate::string::{put_number, put_string};
-use rst_tree::{Attrs, Entry, Key, Level, Node, Result, Said, Tag, Text, Value};
+use rst_tree::{Attrs, Entry, Key, Level, Node, Result, Tag, Text, Value, ValueRef};
 use std::alloc::Global;
 
 /// Puts a node: a text as a string, an element as an array of its tag, its line, an object of the attributes that it is printed with, and
@@ -83,23 +83,23 @@ fn put_attrs(attrs: &[Entry], out: &mut Vec<u8>) -> Result<()>
 
 /// Puts an attribute after a comma, unless it isn't printed.
 fn put_attr(attr: &Entry, out: &mut Vec<u8>) -> Result<()>
-    ensures { Adds out.old.items out.new.items (flat_map behind_comma (json_attr attr.now)) result }
+    ensures { Adds out.old.items out.new.items (flat_map after_comma (json_attr attr.now)) result }
 {
     if attr.is_left_out() {
         return Ok(());
     }
     out.push(b',')?;
-    put_string(name_of(attr.key()), out)?;
+    put_string(attribute_name(attr.key()), out)?;
     out.push(b':')?;
-    match attr.said() {
-        Said::Text(text) => put_string(text.as_bytes(), out),
-        Said::Number(number) => put_number(number, out),
-        Said::List(texts) => put_texts(texts, out),
+    match attr.as_value() {
+        ValueRef::Text(text) => put_string(text.as_bytes(), out),
+        ValueRef::Number(number) => put_number(number, out),
+        ValueRef::List(texts) => put_texts(texts, out),
     }
 }
 
 /// The name of an attribute, which is between a space and two bytes more where it is printed.
-pub fn name_of(key: Key) -> &'static [u8]
+pub fn attribute_name(key: Key) -> &'static [u8]
     ensures { result.now ≡ key_name key }
 {
     let opening = key.opening().as_bytes();

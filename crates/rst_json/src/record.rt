@@ -3,11 +3,11 @@
 ghost use Rattle.std.specs.Prelude.{◌≡◌, ◌≤◌, ◌+◌, ◌++◌, length, None, take, drop, flat_map};
 ghost use Rattle.rst_json.specs.Json.{Adds};
 ghost use Rattle.rst_json.specs.Records.{attr_record, node_record, sized, value_record, word};
-ghost use Rattle.rst_tree.specs.Entries.{said};
+ghost use Rattle.rst_tree.specs.Entries.{as_value};
 ghost use Rattle.rst_tree.specs.PrintedAttributes.{printed_attrs, with_printed_attrs};
 
-use crate::element::{message_attrs, name_of};
-use rst_tree::{Attrs, Entry, Node, Result, Said, Tag};
+use crate::element::{attribute_name, message_attrs};
+use rst_tree::{Attrs, Entry, Node, Result, Tag, ValueRef};
 use std::alloc::Global;
 
 /// Puts a node after its length: a text; or an element with its line, its tag, the attributes that it is printed with, and its nodes.
@@ -80,27 +80,27 @@ fn put_attr(attr: &Entry, out: &mut Vec<u8>) -> Result<()>
     }
     let start = out.len();
     put_word(0, out)?;
-    put_sized(name_of(attr.key()), out)?;
-    put_said(attr.said(), out)?;
+    put_sized(attribute_name(attr.key()), out)?;
+    put_value(attr.as_value(), out)?;
     seal(start, out);
     Ok(())
 }
 
 /// Puts an attribute's value after its kind.
-fn put_said(meant: Said, out: &mut Vec<u8>) -> Result<()>
-    ensures { Adds out.old.items out.new.items (value_record (said meant.entry)) result }
+fn put_value(meant: ValueRef, out: &mut Vec<u8>) -> Result<()>
+    ensures { Adds out.old.items out.new.items (value_record (as_value meant.entry)) result }
 {
     match meant {
-        Said::Text(text) => {
+        ValueRef::Text(text) => {
             out.push(0)?;
             out.extend_from_slice(text.as_bytes())?;
             Ok(())
         }
-        Said::Number(number) => {
+        ValueRef::Number(number) => {
             out.push(1)?;
             put_word(number, out)
         }
-        Said::List(texts) => {
+        ValueRef::List(texts) => {
             out.push(2)?;
             for text in texts {
                 put_sized(text.as_bytes(), out)?;

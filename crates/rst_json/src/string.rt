@@ -2,7 +2,7 @@
 
 ghost use Rattle.std.specs.Prelude.{◌≡◌, ◌<◌, decimal};
 ghost use Rattle.std.specs.List.{list_any};
-ghost use Rattle.rst_json.specs.Json.{Adds, escaped_byte, hex, is_escaped, json_string};
+ghost use Rattle.rst_json.specs.Json.{Adds, json_byte, hex, needs_json_escape, json_string};
 
 use itoa::Buffer;
 use rst_tree::Result;
@@ -33,8 +33,8 @@ pub fn put_string(text: &[u8], out: &mut Vec<u8>) -> Result<()>
 }
 
 /// Whether a byte of a string is escaped: the quote, the backslash and control characters.
-fn is_escaped(byte: u8) -> bool
-    ensures { result ≡ is_escaped byte }
+fn needs_json_escape(byte: u8) -> bool
+    ensures { result ≡ needs_json_escape byte }
 {
     byte < 32 || byte == b'"' || byte == b'\\'
 }
@@ -42,18 +42,18 @@ fn is_escaped(byte: u8) -> bool
 /// Whether a text has a byte that is escaped. None is looked at by itself, so that many are at once.
 #[inline(never)]
 fn has_escaped(text: &[u8]) -> bool
-    ensures { result ≡ list_any is_escaped text.now }
+    ensures { result ≡ list_any needs_json_escape text.now }
 {
     let mut found = false;
     for byte in text {
-        found |= is_escaped(*byte);
+        found |= needs_json_escape(*byte);
     }
     found
 }
 
 /// Puts a byte of a string.
 fn put_escaped(byte: u8, out: &mut Vec<u8>) -> Result<()>
-    ensures { Adds out.old.items out.new.items (escaped_byte byte) result }
+    ensures { Adds out.old.items out.new.items (json_byte byte) result }
 {
     match byte {
         b'"' => out.extend_from_slice(b"\\\"")?,

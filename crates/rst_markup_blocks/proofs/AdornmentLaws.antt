@@ -2,7 +2,7 @@
 use Rattle.std.specs.Prelude.{◌≡◌, ℕ, ◌≤◌, Bool, true, false, is_some, IsTrue, List, ◌∷◌, length, refl, Option, None, Some, unwrap_or}
 use Rattle.std.specs.Option.{option_map_or}
 use Rattle.std.proofs.Common.{arith}
-use Rattle.rst_text.specs.Block.{Block, front_text, is_blank}
+use Rattle.rst_text.specs.Block.{Block, first_text, is_blank}
 use Rattle.rst_markup_lines.specs.Adornment.{adornment_of}
 use Rattle.rst_markup_lines.specs.declared.adornment.Adornment.{Adornment}
 use Rattle.rst_markup_blocks.specs.Conditions.{next_text}
@@ -35,7 +35,7 @@ pub form_sizes : (titles : Bool) (mark : Adornment) (X : Block) → 1 ≤ length
 form_sizes titles mark X some = sizes titles mark (next_text X) (third_text X) (length X) some (next_there X) (third_there X)
 
 -- a line of one punctuation character has the size of its form
-pub adornment_is : (titles : Bool) (X : Block) (mark : Adornment) → adornment_of (front_text X) ≡ Some mark → adornment_size titles X ≡ unwrap_or (fixed_size (adorned_form titles mark (next_text X) (third_text X))) (text_size X)
+pub adornment_is : (titles : Bool) (X : Block) (mark : Adornment) → adornment_of (first_text X) ≡ Some mark → adornment_size titles X ≡ unwrap_or (fixed_size (adorned_form titles mark (next_text X) (third_text X))) (text_size X)
 unfolding adornment_size
 adornment_is titles X mark e = rw e refl
 
@@ -47,7 +47,7 @@ or_within (Some n) X some s = s
 -- The construct that a line of one punctuation character begins has a line or more, and ends within the block.
 pub adornment_within : (titles : Bool) (X : Block) → 1 ≤ length X → IsTrue (is_adornment_row X) → (1 ≤ adornment_size titles X) × (adornment_size titles X ≤ length X)
 unfolding adornment_size
-adornment_within titles X some h = by (adornment_of (front_text X))
+adornment_within titles X some h = by (adornment_of (first_text X))
   where
     by : (o : Option Adornment) → (1 ≤ option_map_or (λ mark. adorned_size (adorned_form titles mark (next_text X) (third_text X)) X) o (text_size X))
         × (option_map_or (λ mark. adorned_size (adorned_form titles mark (next_text X) (third_text X)) X) o (text_size X) ≤ length X)

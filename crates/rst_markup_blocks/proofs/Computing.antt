@@ -3,10 +3,10 @@
 unfoldable pub rst_markup_blocks : Unit {0}
 unfolding
     lib.Utf8.encode Rattle.std.specs.Fmt.digits Rattle.rst_markup_lines.proofs.Computing.rst_markup_lines Rattle.rst_text.proofs.Computing.rst_text
-    Rattle.rst_markup_blocks.specs.Attributions.level_lines Rattle.rst_markup_blocks.specs.Attributions.attribution_behind
+    Rattle.rst_markup_blocks.specs.Attributions.level_lines Rattle.rst_markup_blocks.specs.Attributions.attribution_after
     Rattle.rst_markup_blocks.specs.Attributions.attribution_at Rattle.rst_markup_blocks.specs.Conditions.item_enumerator
-    Rattle.rst_markup_blocks.specs.Conditions.item_option Rattle.rst_markup_blocks.specs.Explicit.held_of
-    Rattle.rst_markup_blocks.specs.Explicit.behind_dots Rattle.rst_markup_blocks.specs.Explicit.anonymous_of
+    Rattle.rst_markup_blocks.specs.Conditions.item_option Rattle.rst_markup_blocks.specs.Explicit.embedded_directive
+    Rattle.rst_markup_blocks.specs.Explicit.after_dots Rattle.rst_markup_blocks.specs.Explicit.anonymous_of
     Rattle.rst_markup_blocks.specs.Explicit.explicit_of Rattle.rst_markup_blocks.specs.Explicit.explicit_size
     Rattle.rst_markup_blocks.specs.ExplicitMarkup.comment_cause Rattle.rst_markup_blocks.specs.ExplicitMarkup.explicit_form
     Rattle.rst_markup_blocks.specs.ExplicitMarkup.hanging_part Rattle.rst_markup_blocks.specs.Forms.underlined

@@ -1,11 +1,11 @@
 -- Where literal blocks and paragraphs end, and what is looked at for that.
 use Rattle.std.proofs.Common.{Option, ◌-◌, ◌≡◌, ℕ, ◌+◌, ◌*◌, ◌<◌, ◌≤◌, ◌⊎◌, inl, inr, true, false, None, Some, List, ◌∷◌, drop, refl, sym, ap, ◌∙◌, arith}
 use Rattle.std.proofs.lemmas.Bool.{lt-ltb}
-use Rattle.rst_text.specs.Block.{Block, front_text}
+use Rattle.rst_text.specs.Block.{Block, first_text}
 use Rattle.rst_text.specs.Extent.{extent}
 use Rattle.rst_text.specs.Reach.{reach, through_text, looked}
 use Rattle.rst_text.proofs.Reaches.{looked_is}
-use Rattle.rst_markup_lines.specs.Front.{first}
+use Rattle.rst_markup_lines.specs.TextStart.{first}
 use Rattle.rst_markup_lines.specs.Adornment.{is_punctuation}
 use Rattle.rst_markup_blocks.specs.declared.lines.LineTest.TheVariants.{Blank, Begins, Plain}
 use Rattle.rst_markup_blocks.specs.Lines.{lines_while}
@@ -19,9 +19,9 @@ use Rattle.rst_markup_blocks.specs.Forms.{text_form}
 use Rattle.rst_markup_blocks.specs.Conditions.{next_text}
 use Rattle.rst_markup_blocks.specs.declared.form.TextForm.TheVariants.{Paragraph, ShortUnderline, Definition}
 use Rattle.rst_markup_lines.specs.Closing.{ends_in_colons}
-use Rattle.rst_markup_lines.specs.Front.{begins_with}
-use Rattle.rst_markup_blocks.proofs.LineLemmas.{blanks_through, filled_through, begins_while, reach_behind}
-use Rattle.rst_markup_blocks.specs.Sizes.{form_size, quoted_by}
+use Rattle.rst_markup_lines.specs.TextStart.{begins_with}
+use Rattle.rst_markup_blocks.proofs.LineLemmas.{blanks_through, filled_through, begins_while, reach_after}
+use Rattle.rst_markup_blocks.specs.Sizes.{form_size, quoted_len}
 
 -- an indented literal block
 pub literal_indented : (Y : Block) → 0 < extent 1 Y → literal_size Y ≡ extent 1 Y
@@ -32,7 +32,7 @@ pub literal_other : (Y : Block) → extent 1 Y ≡ 0 → literal_size Y ≡ quot
 unfolding literal_size
 literal_other Y h = rw h refl
 
-pub quoted_is : (b : ℕ) (o : Option ℕ) (Y : Block) → first (front_text (drop b Y)) ≡ o → quoted_size b Y ≡ quoted_by o b Y
+pub quoted_is : (b : ℕ) (o : Option ℕ) (Y : Block) → first (first_text (drop b Y)) ≡ o → quoted_size b Y ≡ quoted_len o b Y
 unfolding quoted_size
 quoted_is b o Y e = rw e refl
 
@@ -48,21 +48,21 @@ pub reach_none : (Y : Block) → literal_size Y ≡ 0 → reach (literal_size Y)
 reach_none Y h = ap (λ n. reach n Y) h ∙ (let z : 0 + through_text Y ≡ through_text Y = omega arith in z)
 
 -- a quoted one
-pub looked_quoted : (c : ℕ) (Y : Block) → extent 1 Y ≡ 0 → first (front_text (drop (lines_while Blank Y) Y)) ≡ Some c → is_punctuation c ≡ true
+pub looked_quoted : (c : ℕ) (Y : Block) → extent 1 Y ≡ 0 → first (first_text (drop (lines_while Blank Y) Y)) ≡ Some c → is_punctuation c ≡ true
     → (a b d : ℕ) → a ≤ through_text Y → b ≤ 1 → d ≤ reach (lines_while (Begins c) (drop (lines_while Blank Y) Y)) (drop (lines_while Blank Y) Y)
     → looked 1 Y + a + b + d ≤ 4 * reach (literal_size Y) Y
 looked_quoted c Y none e p a b d ha hb hd =
     let Z : Block = drop (lines_while Blank Y) Y in
     let size : literal_size Y ≡ lines_while Blank Y + lines_while (Begins c) Z = literal_other Y none ∙ quoted_is (lines_while Blank Y) (Some c) Y e ∙ rw p refl in
-    let whole : reach (literal_size Y) Y ≡ lines_while Blank Y + reach (lines_while (Begins c) Z) Z = ap (λ n. reach n Y) size ∙ reach_behind (lines_while Blank Y) (lines_while (Begins c) Z) Y in
+    let whole : reach (literal_size Y) Y ≡ lines_while Blank Y + reach (lines_while (Begins c) Z) Z = ap (λ n. reach n Y) size ∙ reach_after (lines_while Blank Y) (lines_while (Begins c) Z) Y in
     omega (arith, whole, looked_none Y none, blanks_through Y, filled_through Z c e, begins_while Z c e)
 
 -- Paragraphs.
-pub paragraph_more : (X : Block) → ends_in_colons (front_text (drop (run_size Plain X - 1) X)) ≡ true → paragraph_size X ≡ run_size Plain X + literal_size (drop (run_size Plain X) X)
+pub paragraph_more : (X : Block) → ends_in_colons (first_text (drop (run_size Plain X - 1) X)) ≡ true → paragraph_size X ≡ run_size Plain X + literal_size (drop (run_size Plain X) X)
 unfolding paragraph_size paragraph_len
 paragraph_more X h = rw h refl
 
-pub paragraph_only : (X : Block) → ends_in_colons (front_text (drop (run_size Plain X - 1) X)) ≡ false → paragraph_size X ≡ run_size Plain X
+pub paragraph_only : (X : Block) → ends_in_colons (first_text (drop (run_size Plain X - 1) X)) ≡ false → paragraph_size X ≡ run_size Plain X
 unfolding paragraph_size paragraph_len
 paragraph_only X h = rw h (omega arith)
 
@@ -75,14 +75,14 @@ unfolding run_size
 run_size_some X = omega arith
 
 pub reach_more : (n : ℕ) (X : Block) → paragraph_size X ≡ n + literal_size (drop n X) → reach (paragraph_size X) X ≡ n + reach (literal_size (drop n X)) (drop n X)
-reach_more n X e = ap (λ k. reach k X) e ∙ reach_behind n (literal_size (drop n X)) X
+reach_more n X e = ap (λ k. reach k X) e ∙ reach_after n (literal_size (drop n X)) X
 
 -- What a text begins.
-pub size_by : (X : Block) (f : TextForm) → text_form (front_text X) (next_text X) ≡ f → text_size X ≡ form_size f X
+pub size_by : (X : Block) (f : TextForm) → text_form (first_text X) (next_text X) ≡ f → text_size X ≡ form_size f X
 unfolding text_size
 size_by X f e = rw e refl
 
-pub size_definition : (X : Block) → text_form (front_text X) (next_text X) ≡ Definition → text_size X ≡ hanging_size X
+pub size_definition : (X : Block) → text_form (first_text X) (next_text X) ≡ Definition → text_size X ≡ hanging_size X
 size_definition X e = size_by X Definition e
 
 spaced : (t next : List ℕ) → begins_with 32 next ≡ true → text_form t next ≡ Definition
@@ -99,7 +99,7 @@ pub hanging_some : (X : Block) → 1 ≤ hanging_size X
 unfolding hanging_size
 hanging_some X = omega arith
 
-pub size_text : (X : Block) → (text_form (front_text X) (next_text X) ≡ Paragraph) ⊎ (text_form (front_text X) (next_text X) ≡ ShortUnderline) → text_size X ≡ paragraph_size X
+pub size_text : (X : Block) → (text_form (first_text X) (next_text X) ≡ Paragraph) ⊎ (text_form (first_text X) (next_text X) ≡ ShortUnderline) → text_size X ≡ paragraph_size X
 size_text X (inl e) = size_by X Paragraph e
 size_text X (inr e) = size_by X ShortUnderline e
 
@@ -108,14 +108,14 @@ text_isnt_definition f (inl e) d = cc
 text_isnt_definition f (inr e) d = cc
 
 -- Items.
-pub bullet_is : (X : Block) (m : Marker) → bullet (front_text X) ≡ Some m → bullet_size X ≡ item_size m X
+pub bullet_is : (X : Block) (m : Marker) → bullet (first_text X) ≡ Some m → bullet_size X ≡ item_size m X
 unfolding bullet_size
 bullet_is X m e = rw e refl
 
-pub enumerator_is : (X : Block) (e : Enumerator) → enumerator_of (front_text X) ≡ Some e → enumerator_size X ≡ item_size e.marker X
+pub enumerator_is : (X : Block) (e : Enumerator) → enumerator_of (first_text X) ≡ Some e → enumerator_size X ≡ item_size e.marker X
 unfolding enumerator_size
 enumerator_is X e h = rw h refl
 
-pub enumerator_none : (X : Block) → enumerator_of (front_text X) ≡ None → enumerator_size X ≡ 1
+pub enumerator_none : (X : Block) → enumerator_of (first_text X) ≡ None → enumerator_size X ≡ 1
 unfolding enumerator_size
 enumerator_none X h = rw h refl

@@ -5,8 +5,8 @@ use Rattle.std.specs.Char.{is_ascii_alphabetic}
 use Rattle.std.specs.List.{list_all}
 use Rattle.std.proofs.lemmas.Bool.Decides.{nat_tests}
 use Rattle.rst_markup_lines.proofs.EnumeratorLemmas.{letter_not}
-use Rattle.rst_text.specs.Block.{Block, front_text, is_blank}
-use Rattle.rst_markup_lines.specs.Front.{begins_by, begins_with, first}
+use Rattle.rst_text.specs.Block.{Block, first_text, is_blank}
+use Rattle.rst_markup_lines.specs.TextStart.{begins_by, begins_with, first}
 use Rattle.rst_markup_lines.specs.OptionMarker.{option_at, options_from}
 use Rattle.rst_markup_lines.specs.Marker.{bullet, bullet_by, doctest, line_bar}
 use Rattle.rst_markup_lines.specs.Enumerator.{enumerator_of}
@@ -37,11 +37,11 @@ kind_by t next after later =
     else later
 
 -- the kind of a block's first line, by the first rows of the table and those from the doctest block on
-pub kind_at_is : (X : Block) (t next after : List ℕ) → front_text X ≡ t → next_text X ≡ next → after_text X ≡ after → kind_at X ≡ kind_by t next after (first_kind later_kinds X)
+pub kind_at_is : (X : Block) (t next after : List ℕ) → first_text X ≡ t → next_text X ≡ next → after_text X ≡ after → kind_at X ≡ kind_by t next after (first_kind later_kinds X)
 unfolding kind_at first_kind
 kind_at_is X t next after a b d = rw (sym a, sym b, sym d) refl
 
-pub later_kind_is : (X : Block) (t : List ℕ) → front_text X ≡ t → first_kind later_kinds X ≡ (
+pub later_kind_is : (X : Block) (t : List ℕ) → first_text X ≡ t → first_kind later_kinds X ≡ (
     if is_some (doctest t) then Doctest
     else if is_some (line_bar t) then Line
     else if is_grid_border t then Grid
@@ -54,7 +54,7 @@ unfolding first_kind
 later_kind_is X t a = rw (sym a) refl
 
 -- what begins at a line before the next two begins at the front of a block that has these
-pub begun_of : (X : Block) (t next after : List ℕ) (begun : Begun) → front_text X ≡ t → next_text X ≡ next → after_text X ≡ after
+pub begun_of : (X : Block) (t next after : List ℕ) (begun : Begun) → first_text X ≡ t → next_text X ≡ next → after_text X ≡ after
     → kind_in begun ≡ kind_at X → IsMarked t next after begun → IsBegun X begun
 begun_of X t next after begun a b d kind mark = record {
   kind = kind;
@@ -62,7 +62,7 @@ begun_of X t next after begun a b d kind mark = record {
 }
 
 -- a blank line is blank, whatever is below it
-pub blank_at : (X : Block) (t : List ℕ) → front_text X ≡ t → is_blank t ≡ true → IsBegun X begun.Blank
+pub blank_at : (X : Block) (t : List ℕ) → first_text X ≡ t → is_blank t ≡ true → IsBegun X begun.Blank
 blank_at X [] e h = record { kind = sym (kind_at_is X [] (next_text X) (after_text X) e refl refl); mark = tt }
 blank_at X (c ∷ cs) e h = absurd (true≢false (sym h))
 
@@ -98,7 +98,7 @@ unfolding item_enumerator
 no-item t next none = rw none refl
 
 -- then what begins with no enumerator is a text
-pub letter_kind : (X : Block) (t : List ℕ) → begins_by is_ascii_alphabetic t ≡ true → enumerator_of t ≡ None → front_text X ≡ t → kind_at X ≡ Text
+pub letter_kind : (X : Block) (t : List ℕ) → begins_by is_ascii_alphabetic t ≡ true → enumerator_of t ≡ None → first_text X ≡ t → kind_at X ≡ Text
 letter_kind X [] h none a = absurd (true≢false (sym h))
 letter_kind X (c ∷ cs) h none a =
     let next = next_text X in

@@ -2,7 +2,7 @@
 use Rattle.std.proofs.Common.{◌≡◌, ℕ, zero, suc, ◌+◌, ◌-◌, ◌<◌, ◌≤◌, List, [], ◌∷◌, length, drop, length-drop, refl, sym, ◌∙◌, ap, subst, arith, Bool, true, false, inl, inr}
 use Rattle.std.proofs.lemmas.List.{drop_all, drop-drop}
 use Rattle.std.proofs.lemmas.Bool.{cases_lt}
-use Rattle.rst_text.specs.Block.{Block, is_blank, front_text}
+use Rattle.rst_text.specs.Block.{Block, is_blank, first_text}
 use Rattle.rst_text.proofs.PlacesLemmas.{cases_bool}
 use Rattle.rst_markup_blocks.specs.Kinds.{kind_at}
 use Rattle.rst_markup_blocks.specs.Partition.{Span, spans, spans_from, construct_size, construct_end, IsBlankAt, IsTextAt, AreBlank, PartitionFrom, IsPartition}
@@ -34,7 +34,7 @@ skipped titles i (suc n) (l ∷ ls) =
     skipped titles (suc i) n ls ∙ ap (λ j. spans_from titles j 0 (drop n ls)) e
 
 -- nor does a blank line
-blank_skipped : (titles : Bool) (i : ℕ) (X : Block) → is_blank (front_text X) ≡ true → spans_from titles i 0 X ≡ spans_from titles (suc i) 0 (drop 1 X)
+blank_skipped : (titles : Bool) (i : ℕ) (X : Block) → is_blank (first_text X) ≡ true → spans_from titles i 0 X ≡ spans_from titles (suc i) 0 (drop 1 X)
 unfolding spans_from
 blank_skipped titles i [] h = refl
 blank_skipped titles i (l ∷ ls) h = rw h refl
@@ -44,7 +44,7 @@ abbrev pub span_to : ℕ → ℕ → Span
 span_to i j = record { start = i; stop = j }
 
 -- a construct, and the spans after it
-begun : (titles : Bool) (i : ℕ) (X : Block) → is_blank (front_text X) ≡ false
+begun : (titles : Bool) (i : ℕ) (X : Block) → is_blank (first_text X) ≡ false
     → spans_from titles i 0 X ≡ span_to i (i + construct_size titles X) ∷ spans_from titles (i + construct_size titles X) 0 (drop (construct_size titles X) X)
 unfolding spans_from
 begun titles i [] h = let no : true ≡ false = h in cc
@@ -89,7 +89,7 @@ only titles [] i B h =
     elim (cases_lt i (length B)) [
       | inl below ↦ (let e : i + (length B - i) ≡ length B = omega (arith, below) in
           sym (over_blanks titles B (length B - i) i (λ k low high. h k low (omega (arith, high, e))) ∙ ap (λ j. spans_from titles j 0 (drop j B)) e ∙ none_past titles (length B) B (omega arith)))
-      | inr behind ↦ sym (none_past titles i B behind)
+      | inr beyond ↦ sym (none_past titles i B beyond)
     ]
 only titles (s ∷ S) i B (low, blanks, text, stop, inside, rest) =
     let e : i + (s.start - i) ≡ s.start = omega (arith, low) in
@@ -118,8 +118,8 @@ from_on : (titles : Bool) (fuel i : ℕ) (B : Block) → length B ≤ i + fuel �
 from_on titles zero i B h = ended titles i B (omega (arith, h))
 from_on titles (suc fuel) i B h =
     elim (cases_lt i (length B)) [
-      | inr behind ↦ ended titles i B behind
-      | inl inside ↦ elim (cases_bool (is_blank (front_text (drop i B)))) [
+      | inr beyond ↦ ended titles i B beyond
+      | inl inside ↦ elim (cases_bool (is_blank (first_text (drop i B)))) [
         | inl blank ↦ subst (PartitionFrom titles B i) (sym (past titles i B blank))
             (earlier titles B i (spans_from titles (suc i) 0 (drop (suc i) B)) blank (from_on titles fuel (suc i) B (omega (arith, h))))
         | inr text ↦ (let w : (i < construct_end titles B i) × (construct_end titles B i ≤ length B) = end_inside titles B i inside in

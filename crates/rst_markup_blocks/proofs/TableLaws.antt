@@ -2,7 +2,7 @@
 use Rattle.std.specs.Prelude.{◌≡◌, ℕ, ◌+◌, ◌-◌, ◌<◌, ◌≤◌, Bool, true, cond, IsTrue, List, [], ◌∷◌, length, Option, Some, None, IfSome, unwrap_or}
 use Rattle.std.specs.Option.{option_or, option_and_then}
 use Rattle.std.proofs.Common.{arith}
-use Rattle.rst_text.specs.Block.{Block, front_text}
+use Rattle.rst_text.specs.Block.{Block, first_text}
 use Rattle.rst_text.specs.Places.{IsFirst, IsLast}
 use Rattle.rst_text.proofs.PlacesLemmas.{first_from-IsFirst, last_from-IsLast}
 use Rattle.rst_markup_lines.specs.Border.{is_grid_border}
@@ -22,7 +22,7 @@ unfolding is_grid_border is_drawn
 grid_drawn t h = grind arith
 
 -- where the first line passes a test, one line or more does
-pub while_some : (test : LineTest) (X : Block) → 1 ≤ length X → passes test (front_text X) ≡ true → 1 ≤ lines_while test X
+pub while_some : (test : LineTest) (X : Block) → 1 ≤ length X → passes test (first_text X) ≡ true → 1 ≤ lines_while test X
 unfolding lines_while
 while_some test [] some h = absurd (omega arith)
 while_some test (l ∷ ls) some h = rw h (omega arith)
@@ -44,7 +44,7 @@ grid_size_le X = grind (arith, grid_bottom_within X)
 pub grid_within : (titles : Bool) (X : Block) → 1 ≤ length X → IsTrue (is_grid_row X) → (1 ≤ grid_size X) × (grid_size X ≤ length X)
 unfolding grid_size
 grid_within titles X some h =
-    let one : 1 ≤ lines_while Drawn X = while_some Drawn X some (grid_drawn (front_text X) h) in
+    let one : 1 ≤ lines_while Drawn X = while_some Drawn X some (grid_drawn (first_text X) h) in
     (grind (arith, one), omega (arith, grid_size_le X, while_le Drawn X))
 
 -- ---- simple tables

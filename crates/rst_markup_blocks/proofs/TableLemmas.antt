@@ -11,7 +11,7 @@ use Rattle.rst_markup_blocks.specs.declared.lines.LineTest.TheVariants.{Drawn}
 use Rattle.rst_markup_blocks.specs.Lines.{lines_while}
 use Rattle.rst_markup_blocks.proofs.RowLaws.{while_le}
 use Rattle.rst_markup_blocks.proofs.TableLaws.{grid_bottom_within, border_below_within, simple_border_within}
-use Rattle.rst_markup_blocks.specs.TableRows.{through, is_border_at, grid_bottom, grid_size, grid_scan, grid_reach, is_lower_border_at, border_below, closes_head, head_border, simple_bottom, simple_size, simple_scan, simple_reach}
+use Rattle.rst_markup_blocks.specs.TableRows.{lines_through, is_border_at, grid_bottom, grid_size, grid_scan, grid_reach, is_lower_border_at, border_below, closes_head, head_border, simple_bottom, simple_size, simple_scan, simple_reach}
 
 -- ---- grid tables
 
@@ -27,9 +27,9 @@ grid_bottom-below X all o is e = subst (λ r. IfSome r (λ k. k < all)) (sym e) 
     go (Some k) h = omega (arith, is, h.1)
     go None h = tt
 
-pub grid_size-is : (X : Block) (o : Option ℕ) → o ≡ grid_bottom X → grid_size X ≡ through (lines_while Drawn X) o
+pub grid_size-is : (X : Block) (o : Option ℕ) → o ≡ grid_bottom X → grid_size X ≡ lines_through (lines_while Drawn X) o
 unfolding grid_size
-grid_size-is X o e = ap (through (lines_while Drawn X)) (sym e)
+grid_size-is X o e = ap (lines_through (lines_while Drawn X)) (sym e)
 
 pub drawn_reach : (X : Block) → lines_while Drawn X ≤ grid_reach X
 unfolding grid_scan
@@ -73,14 +73,14 @@ pub bottom-second : (X : Block) (first : ℕ) → Some first ≡ border_below X 
 bottom-second X first e closes = sym (bottom-by X (Some first) (sym (head-first X first e closes)))
 
 -- the table ends with its last border
-pub simple_size-is : (X : Block) (head bottom : Option ℕ) → head ≡ head_border X → bottom ≡ simple_bottom X → through (length X) (option_or bottom head) ≡ simple_size X
+pub simple_size-is : (X : Block) (head bottom : Option ℕ) → head ≡ head_border X → bottom ≡ simple_bottom X → lines_through (length X) (option_or bottom head) ≡ simple_size X
 unfolding simple_size
 simple_size-is X head bottom h b = rw (h, b) refl
 
 -- the lines through the last border are no more than those of the scan for the bottom one
-pub last-through : (all first : ℕ) (o : Option ℕ) → first < all → through all (option_or o (Some first)) ≤ through all o
-last-through all first None inside = omega arith
-last-through all first (Some k) inside = omega arith
+pub last-lines_through : (all first : ℕ) (o : Option ℕ) → first < all → lines_through all (option_or o (Some first)) ≤ lines_through all o
+last-lines_through all first None inside = omega arith
+last-lines_through all first (Some k) inside = omega arith
 
 pub last-below : (X : Block) (head bottom : Option ℕ) → head ≡ head_border X → bottom ≡ simple_bottom X → IfSome (option_or bottom head) (λ k. k < length X)
 last-below X head bottom h b = rw (h, b) (simple_border_within X)
@@ -88,9 +88,9 @@ last-below X head bottom h b = rw (h, b) (simple_border_within X)
 pub border_below-below : (X : Block) (k j : ℕ) → Some j ≡ border_below X k → (k < j) × (j < length X)
 border_below-below X k j e = subst (λ r. IfSome r (λ j. (k < j) × (j < length X))) (sym e) (border_below_within X k)
 
-pub scan-is : (X : Block) (o : Option ℕ) → o ≡ simple_bottom X → simple_scan X ≡ through (length X) o
+pub scan-is : (X : Block) (o : Option ℕ) → o ≡ simple_bottom X → simple_scan X ≡ lines_through (length X) o
 unfolding simple_scan
-scan-is X o e = ap (through (length X)) (sym e)
+scan-is X o e = ap (lines_through (length X)) (sym e)
 
 pub scan_reach : (X : Block) → simple_scan X ≤ simple_reach X
 scan_reach X = le-max_right (reach (simple_size X) X) (simple_scan X)

@@ -1,9 +1,9 @@
 -- What begins at a line (Markup Specification, 'Body Elements').
 use Rattle.std.specs.Prelude.{◌≡◌, ℕ, List, Some}
-use Rattle.rst_text.specs.Block.{Block, front_text}
+use Rattle.rst_text.specs.Block.{Block, first_text}
 use Rattle.rst_markup_lines.specs.Adornment.{adornment_of}
 use Rattle.rst_markup_lines.specs.Field.{field_of}
-use Rattle.rst_markup_lines.specs.Front.{first}
+use Rattle.rst_markup_lines.specs.TextStart.{first}
 use Rattle.rst_markup_lines.specs.Marker.{bullet, line_bar}
 use Rattle.rst_markup_blocks.specs.Conditions.{next_text, after_text, item_enumerator, item_option}
 use Rattle.rst_markup_blocks.specs.Kinds.{kind_at}
@@ -42,4 +42,4 @@ IsMarked t next after begun = Unit {0}
 -- what begins at the first line of a block
 pub record IsBegun (X : Block) (begun : Begun) : Type 0 where
   pub kind : kind_in begun ≡ kind_at X
-  pub mark : IsMarked (front_text X) (next_text X) (after_text X) begun
+  pub mark : IsMarked (first_text X) (next_text X) (after_text X) begun

@@ -1,8 +1,8 @@
 -- Conditions of the table of constructs that look below the line (Markup Specification, 'Enumerated Lists', 'Option
 -- Lists'): at the two lines after it, of which one that is missing counts as empty.
 use Rattle.std.specs.Prelude.{ℕ, not, ◌&&◌, ◌||◌, List, drop, if◌then◌else◌, Option, None, Some}
-use Rattle.rst_text.specs.Block.{Block, front_text, is_blank}
-use Rattle.rst_markup_lines.specs.Front.{begins_with, is_loose}
+use Rattle.rst_text.specs.Block.{Block, first_text, is_blank}
+use Rattle.rst_markup_lines.specs.TextStart.{begins_with, is_loose}
 use Rattle.rst_markup_lines.specs.Enumerator.{enumerator_of, begins_next}
 use Rattle.rst_markup_lines.specs.OptionMarker.{option_marker}
 use Rattle.rst_markup_lines.specs.declared.enumerator.Enumerator.{Enumerator}
@@ -10,7 +10,7 @@ use Rattle.rst_markup_lines.specs.declared.marker.Marker.{Marker}
 
 -- the text of line k, counted from 0; past the end it is empty
 abbrev pub text_at : Block → ℕ → List ℕ
-text_at X k = front_text (drop k X)
+text_at X k = first_text (drop k X)
 
 -- the text of the line after the first
 abbrev pub next_text : Block → List ℕ

@@ -1,8 +1,8 @@
 -- Explicit markup with its extents, on a block whose first line it begins in; that line is at place i (Markup
 -- Specification, 'Explicit Markup Blocks').
 use Rattle.std.specs.Prelude.{ℕ, ◌+◌, ◌<◌, ◌^◌, Bool, true, false, drop, if◌then◌else◌, Option, None, Some}
-use Rattle.rst_text.specs.Block.{Block, front_text, is_blank}
-use Rattle.rst_markup_lines.specs.ExplicitMarks.{dots, underscores, directive_of}
+use Rattle.rst_text.specs.Block.{Block, first_text, is_blank}
+use Rattle.rst_markup_lines.specs.ExplicitMarks.{dots, underscores, directive_mark_of}
 use Rattle.rst_markup_lines.specs.Place.{place_of}
 use Rattle.rst_markup_lines.specs.declared.explicit_marks.DirectiveMark.{DirectiveMark}
 use Rattle.rst_markup_lines.specs.declared.explicit_marks.LabelKind.{LabelKind}
@@ -52,8 +52,8 @@ call_by None i n X = None
 call_by (Some d) i n X = Some (call_of i n d X)
 
 -- the directive after n characters, if there is one, with no space before its colons
-unfoldable pub held_of : ℕ → ℕ → Block → Option Invocation
-held_of i n X = call_by (directive_of false (drop n (front_text X))) i n X
+unfoldable pub embedded_directive : ℕ → ℕ → Block → Option Invocation
+embedded_directive i n X = call_by (directive_mark_of false (drop n (first_text X))) i n X
 
 -- a footnote or a citation, by its label
 abbrev pub label_with : LabelKind → Characters → Part → Explicit
@@ -67,7 +67,7 @@ target_with i n (AnonymousMark marker) X = Anonymous (target_part i (n + marker.
 
 -- n characters come before what the definition holds
 abbrev pub substitution_with : ℕ → Characters → ℕ → Block → Explicit
-substitution_with i name n X = Substitution name (held_of i n X) (i + hanging_size X)
+substitution_with i name n X = Substitution name (embedded_directive i n X) (i + hanging_size X)
 
 -- markup of a form, after its dots
 abbrev pub explicit_by : ExplicitForm → ℕ → Marker → Block → Explicit
@@ -82,8 +82,8 @@ abbrev pub dots_alone : ℕ → Marker → Block → Explicit
 dots_alone i m X = if is_blank (next_text X) then EmptyComment else Comment (hanging_part i m.cut true X) Plain
 
 -- what dots begin: a comment where nothing is after them, else what the text after them is
-unfoldable pub behind_dots : ℕ → Marker → Block → Explicit
-behind_dots i m X = if m.bare then dots_alone i m X else explicit_by (explicit_form (drop m.cut (front_text X))) i m X
+unfoldable pub after_dots : ℕ → Marker → Block → Explicit
+after_dots i m X = if m.bare then dots_alone i m X else explicit_by (explicit_form (drop m.cut (first_text X))) i m X
 
 -- how many characters a mark has with the spaces after it, 0 where there is none
 abbrev pub cut_of : Option Marker → ℕ
@@ -92,16 +92,16 @@ cut_of (Some m) = m.cut
 
 -- an anonymous target that begins with two underscores
 unfoldable pub anonymous_of : ℕ → Block → Explicit
-anonymous_of i X = Anonymous (target_part i (cut_of (underscores (front_text X))) X)
+anonymous_of i X = Anonymous (target_part i (cut_of (underscores (first_text X))) X)
 
 -- explicit markup after dots, or an anonymous target where there are no dots, one of which begins the line
 abbrev pub explicit_with : Option Marker → ℕ → Block → Explicit
 explicit_with None i X = anonymous_of i X
-explicit_with (Some m) i X = behind_dots i m X
+explicit_with (Some m) i X = after_dots i m X
 
 -- the explicit markup that begins in the line, which is of an explicit kind
 unfoldable pub explicit_of : ℕ → Block → Explicit
-explicit_of i X = explicit_with (dots (front_text X)) i X
+explicit_of i X = explicit_with (dots (first_text X)) i X
 
 -- ---- where it ends
 
@@ -111,7 +111,7 @@ explicit_end i (Footnote label body) = body.to
 explicit_end i (Citation label body) = body.to
 explicit_end i (Target name text) = text.to
 explicit_end i (Anonymous text) = text.to
-explicit_end i (Substitution name held end) = end
+explicit_end i (Substitution name embedded end) = end
 explicit_end i (Directive call) = call.block.to
 explicit_end i (Comment text cause) = text.to
 explicit_end i EmptyComment = i + 1
@@ -123,17 +123,17 @@ explicit_size X = explicit_end 0 (explicit_of 0 X)
 -- ---- where its parts are
 
 -- the directive that a substitution definition holds, if there is one, is called in line i
-abbrev pub IsHeld : Block → ℕ → Option Invocation → Type 0
-IsHeld B i None = Unit {0}
-IsHeld B i (Some call) = IsCall B i call
+abbrev pub IsEmbedded : Block → ℕ → Option Invocation → Type 0
+IsEmbedded B i None = Unit {0}
+IsEmbedded B i (Some call) = IsCall B i call
 
 -- the extents of explicit markup that begins in line i are parts of the block, and its labels and names are in the line
 abbrev pub IsExplicitIn : Block → ℕ → Explicit → Type 0
-IsExplicitIn B i (Footnote label body) = IsPlace (front_text (drop i B)) label × IsBlock B body
-IsExplicitIn B i (Citation label body) = IsPlace (front_text (drop i B)) label × IsBlock B body
-IsExplicitIn B i (Target name text) = IsPlace (front_text (drop i B)) name × IsBlock B text
+IsExplicitIn B i (Footnote label body) = IsPlace (first_text (drop i B)) label × IsBlock B body
+IsExplicitIn B i (Citation label body) = IsPlace (first_text (drop i B)) label × IsBlock B body
+IsExplicitIn B i (Target name text) = IsPlace (first_text (drop i B)) name × IsBlock B text
 IsExplicitIn B i (Anonymous text) = IsBlock B text
-IsExplicitIn B i (Substitution name held end) = IsPlace (front_text (drop i B)) name × IsHeld B i held
+IsExplicitIn B i (Substitution name embedded end) = IsPlace (first_text (drop i B)) name × IsEmbedded B i embedded
 IsExplicitIn B i (Directive call) = IsCall B i call
 IsExplicitIn B i (Comment text cause) = IsBlock B text
 IsExplicitIn B i EmptyComment = Unit {0}

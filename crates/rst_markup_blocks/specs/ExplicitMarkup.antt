@@ -3,8 +3,8 @@ use Rattle.std.specs.Prelude.{ℕ, ◌+◌, min, Bool, true, List, [], ◌∷◌
 use Rattle.std.specs.Option.{option_and_then}
 use Rattle.rst_text.specs.Block.{Block}
 use Rattle.rst_text.specs.Extent.{extent, least_indent}
-use Rattle.rst_markup_lines.specs.Front.{begins_with}
-use Rattle.rst_markup_lines.specs.ExplicitMarks.{label_of, target_of, substitution_of, directive_of}
+use Rattle.rst_markup_lines.specs.TextStart.{begins_with}
+use Rattle.rst_markup_lines.specs.ExplicitMarks.{label_of, target_of, substitution_of, directive_mark_of}
 use Rattle.rst_markup_lines.specs.declared.explicit_marks.SubstitutionMark.{SubstitutionMark}
 use Rattle.rst_markup_lines.specs.declared.explicit_marks.SubstitutionMark.TheVariants.{Named, Unclosed}
 use Rattle.rst_markup_blocks.specs.declared.forms.CommentCause.{CommentCause}
@@ -37,7 +37,7 @@ explicit_rows t =
     option_map (λ l. Label l) (label_of t)
     ∷ option_map (λ m. Target m) (target_of t)
     ∷ option_and_then substitution_form (substitution_of t)
-    ∷ option_map (λ d. Directive d) (directive_of true t)
+    ∷ option_map (λ d. Directive d) (directive_mark_of true t)
     ∷ []
 
 -- the first of some forms that is there, or another form where none is

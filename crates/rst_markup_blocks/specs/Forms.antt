@@ -5,7 +5,7 @@ use Rattle.std.specs.Borrow.{Bor}
 use Rattle.std.specs.Str.{chars}
 use Rattle.rst_text.specs.Block.{is_blank}
 use Rattle.rst_text.specs.Characters.{columns}
-use Rattle.rst_markup_lines.specs.Front.{begins_with}
+use Rattle.rst_markup_lines.specs.TextStart.{begins_with}
 use Rattle.rst_markup_lines.specs.Adornment.{adornment_of}
 use Rattle.rst_markup_lines.specs.declared.adornment.Adornment.{Adornment}
 use Rattle.rst_markup_blocks.specs.declared.form.TextForm.{TextForm}

@@ -1,7 +1,7 @@
 -- Lines at the front of a block that pass a test (Markup Specification, 'Indentation', 'Literal Blocks', 'Grid Tables').
 use Rattle.std.specs.Prelude.{ℕ, suc, Bool, not, List, [], ◌∷◌, if◌then◌else◌}
 use Rattle.rst_text.specs.Block.{Block, is_blank}
-use Rattle.rst_markup_lines.specs.Front.{begins_with, is_loose}
+use Rattle.rst_markup_lines.specs.TextStart.{begins_with, is_loose}
 use Rattle.rst_markup_blocks.specs.declared.lines.LineTest.{LineTest}
 use Rattle.rst_markup_blocks.specs.declared.lines.LineTest.TheVariants.{Blank, Filled, Indented, Plain, Begins, Drawn}
 use Rattle.rst_markup_blocks.specs.TableLines.{is_drawn}

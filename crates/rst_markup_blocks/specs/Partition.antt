@@ -1,6 +1,6 @@
 -- The constructs of a block, one after another (Markup Specification, 'Body Elements'): each line that isn't blank is in just one.
 use Rattle.std.specs.Prelude.{◌≡◌, ℕ, zero, suc, ◌+◌, ◌-◌, ◌<◌, ◌≤◌, Bool, true, false, List, [], ◌∷◌, length, drop, if◌then◌else◌}
-use Rattle.rst_text.specs.Block.{Block, front_text, is_blank}
+use Rattle.rst_text.specs.Block.{Block, first_text, is_blank}
 use Rattle.rst_markup_blocks.specs.Ends.{row_size}
 use Rattle.rst_markup_blocks.specs.Kinds.{kind_at}
 
@@ -19,11 +19,11 @@ pub record Span : Type 0 where
 
 -- line k is blank
 abbrev pub IsBlankAt : Block → ℕ → Type 0
-IsBlankAt B k = is_blank (front_text (drop k B)) ≡ true
+IsBlankAt B k = is_blank (first_text (drop k B)) ≡ true
 
 -- line k isn't blank, so there is one
 abbrev pub IsTextAt : Block → ℕ → Type 0
-IsTextAt B k = is_blank (front_text (drop k B)) ≡ false
+IsTextAt B k = is_blank (first_text (drop k B)) ≡ false
 
 -- the lines from i to j - 1 are blank
 abbrev pub AreBlank : Block → ℕ → ℕ → Type 0

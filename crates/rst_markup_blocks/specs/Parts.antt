@@ -1,6 +1,6 @@
 -- Parts of blocks, and places of characters in lines (Markup Specification, 'Indentation').
 use Rattle.std.specs.Prelude.{ℕ, ◌+◌, ◌-◌, ◌<◌, ◌≤◌, List, length, take, drop, IsTrue}
-use Rattle.rst_text.specs.Block.{Block, front_text}
+use Rattle.rst_text.specs.Block.{Block, first_text}
 use Rattle.rst_text.specs.MayCut.{is_indented}
 use Rattle.rst_markup_lines.specs.declared.place.Characters.{Characters}
 use Rattle.rst_markup_blocks.specs.declared.forms.Invocation.{Invocation}
@@ -21,5 +21,5 @@ pub record IsPlace (t : List ℕ) (place : Characters) : Type 0 where
 pub record IsCall (B : Block) (at : ℕ) (call : Invocation) : Type 0 where
   pub inside : at < length B
   pub ordered : call.name.from ≤ call.name.to
-  pub within : call.name.to ≤ length (front_text (drop at B))
+  pub within : call.name.to ≤ length (first_text (drop at B))
   pub block : IsBlock B call.block

@@ -2,9 +2,9 @@
 -- 'Quoted Literal Blocks', 'Sections', 'Transitions').
 use Rattle.std.specs.Prelude.{ℕ, suc, ◌+◌, ◌-◌, Bool, true, false, nat_lt, min, List, drop, length, if◌then◌else◌, Option, None, Some, unwrap_or}
 use Rattle.std.specs.Option.{option_map_or}
-use Rattle.rst_text.specs.Block.{Block, front_text}
+use Rattle.rst_text.specs.Block.{Block, first_text}
 use Rattle.rst_text.specs.Extent.{extent}
-use Rattle.rst_markup_lines.specs.Front.{first}
+use Rattle.rst_markup_lines.specs.TextStart.{first}
 use Rattle.rst_markup_lines.specs.Marker.{bullet}
 use Rattle.rst_markup_lines.specs.Enumerator.{enumerator_of}
 use Rattle.rst_markup_lines.specs.Closing.{ends_in_colons}
@@ -35,11 +35,11 @@ item_size m X = suc (extent (least_below m) (drop 1 X))
 
 -- an item of a bullet list, by its marker; a line without one would be alone
 unfoldable pub bullet_size : Block → ℕ
-bullet_size X = option_map_or (λ m. item_size m X) (bullet (front_text X)) 1
+bullet_size X = option_map_or (λ m. item_size m X) (bullet (first_text X)) 1
 
 -- an item of an enumerated list, by its enumerator's marker; a line without one would be alone
 unfoldable pub enumerator_size : Block → ℕ
-enumerator_size X = option_map_or (λ e. item_size e.marker X) (enumerator_of (front_text X)) 1
+enumerator_size X = option_map_or (λ e. item_size e.marker X) (enumerator_of (first_text X)) 1
 
 -- the line and the lines below it that pass a test
 unfoldable pub run_size : LineTest → Block → ℕ
@@ -58,13 +58,13 @@ unfoldable pub paragraph_len : Block → ℕ
 paragraph_len X = run_size Plain X
 
 -- blank lines and, after them, the lines that begin with this character, if it is punctuation
-abbrev pub quoted_by : Option ℕ → ℕ → Block → ℕ
-quoted_by None blanks Y = 0
-quoted_by (Some c) blanks Y = if is_punctuation c then blanks + lines_while (Begins c) (drop blanks Y) else 0
+abbrev pub quoted_len : Option ℕ → ℕ → Block → ℕ
+quoted_len None blanks Y = 0
+quoted_len (Some c) blanks Y = if is_punctuation c then blanks + lines_while (Begins c) (drop blanks Y) else 0
 
 -- lines that begin with the punctuation character that the first of them begins with
 unfoldable pub quoted_size : ℕ → Block → ℕ
-quoted_size blanks Y = quoted_by (first (front_text (drop blanks Y))) blanks Y
+quoted_size blanks Y = quoted_len (first (first_text (drop blanks Y))) blanks Y
 
 -- a literal block with the blank lines before it: an indented block, or a quoted one
 unfoldable pub literal_size : Block → ℕ
@@ -91,7 +91,7 @@ form_size (Title short) X = 2
 
 -- what a line of text begins: a paragraph, a definition or a title
 unfoldable pub text_size : Block → ℕ
-text_size X = form_size (text_form (front_text X) (next_text X)) X
+text_size X = form_size (text_form (first_text X) (next_text X)) X
 
 -- how many lines a form takes whatever follows; none for one that is a text
 abbrev pub fixed_size : Adorned → Option ℕ
@@ -117,4 +117,4 @@ third_text X = if nat_lt 2 (length X) then Some (after_text X) else None
 
 -- what a line of one punctuation character begins, a transition, a title or a text; a line that is no such one begins a text
 unfoldable pub adornment_size : Bool → Block → ℕ
-adornment_size titles X = option_map_or (λ mark. adorned_size (adorned_form titles mark (next_text X) (third_text X)) X) (adornment_of (front_text X)) (text_size X)
+adornment_size titles X = option_map_or (λ mark. adorned_size (adorned_form titles mark (next_text X) (third_text X)) X) (adornment_of (first_text X)) (text_size X)

@@ -1,7 +1,7 @@
 -- The lines that tables are recognized by (Markup Specification, 'Grid Tables', 'Simple Tables').
 use Rattle.std.specs.Prelude.{ℕ, Bool, ◌&&◌, ◌||◌, List, drop}
 use Rattle.rst_text.specs.Block.{is_blank}
-use Rattle.rst_markup_lines.specs.Front.{begins_with}
+use Rattle.rst_markup_lines.specs.TextStart.{begins_with}
 use Rattle.rst_markup_lines.specs.Class.{run}
 use Rattle.rst_markup_lines.specs.declared.class.Class.TheVariants.{Either}
 

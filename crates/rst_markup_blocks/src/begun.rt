@@ -1,6 +1,6 @@
 //! What begins at a line, with the data of its mark.
 ghost use Rattle.std.specs.Prelude.{◌≡◌, ℕ, List, ◌<◌, false, length, drop, chars};
-ghost use Rattle.rst_markup_blocks.specs.Prelude.{Block, front_text, is_blank, Looked, block_of};
+ghost use Rattle.rst_markup_blocks.specs.Prelude.{Block, first_text, is_blank, Looked, block_of};
 ghost use Rattle.rst_markup_blocks.specs.Conditions.{next_text, after_text};
 ghost use Rattle.rst_markup_blocks.specs.Kinds.{first_kind, kind_at, kind_of, later_kinds};
 ghost use Rattle.rst_markup_blocks.specs.Begun as spec;
@@ -10,7 +10,7 @@ use super::lines::below_text;
 use super::row::{item_enumerator, item_option};
 use rst_markup_lines::{
     Adornment, Enumerator, FieldMark, Marker, adornment_of, begins_with, bullet, doctest, dots,
-    enumerator_of, field_of, front, is_blank, is_grid_border, is_simple_border, line_bar,
+    enumerator_of, field_of, first_char, is_blank, is_grid_border, is_simple_border, line_bar,
     underscores,
 };
 use rst_text::{Looks, View};
@@ -80,7 +80,7 @@ pub fn begun_at(view: &View<'_>, at: usize, looks: &mut Looks) -> Begun
         return Begun::Blank;
     }
     // Most lines begin with a letter, at which only an enumerator or a text can begin.
-    if let Some(c) = front(text) {
+    if let Some(c) = first_char(text) {
         if c.is_ascii_alphabetic() && enumerator_of(text).is_none() {
             return Begun::Text;
         }
@@ -95,13 +95,13 @@ pub fn begun_at(view: &View<'_>, at: usize, looks: &mut Looks) -> Begun
 #[tactic(auto, using(crate::proofs::KindRows::bullet_is))]
 fn begun_by(text: &str, next: &str, after: &str) -> Begun
     requires { is_blank (chars text.now) ≡ false }
-    ensures kind { (X : Block) → front_text X ≡ chars text.now → next_text X ≡ chars next.now → after_text X ≡ chars after.now → spec.kind_in result ≡ kind_at X }
+    ensures kind { (X : Block) → first_text X ≡ chars text.now → next_text X ≡ chars next.now → after_text X ≡ chars after.now → spec.kind_in result ≡ kind_at X }
     ensures mark { spec.IsMarked (chars text.now) (chars next.now) (chars after.now) result }
 {
     if begins_with(' ', text) {
         return Begun::Quote;
     }
-    if let (Some(mark), Some(marker)) = (front(text), bullet(text)) {
+    if let (Some(mark), Some(marker)) = (first_char(text), bullet(text)) {
         return Begun::Bullet { mark, marker };
     }
     if let Some(enumerator) = item_enumerator(text, next) {
@@ -119,7 +119,7 @@ fn begun_by(text: &str, next: &str, after: &str) -> Begun
 /// The same by those rows whose conditions look at the line alone, from the doctest block on.
 #[tactic(auto, using(crate::proofs::KindRows::later_kind_is))]
 fn later_begun(text: &str) -> Begun
-    ensures kind { (X : Block) → front_text X ≡ chars text.now → spec.kind_in result ≡ first_kind later_kinds X }
+    ensures kind { (X : Block) → first_text X ≡ chars text.now → spec.kind_in result ≡ first_kind later_kinds X }
     ensures mark { (next after : List ℕ) → spec.IsMarked (chars text.now) next after result }
 {
     if doctest(text).is_some() {

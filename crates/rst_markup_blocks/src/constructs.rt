@@ -3,7 +3,7 @@
 use super::adornment_line::adornment_end;
 use super::construct::Construct;
 use super::ends::{hanging_end, indented_end, item_end, text_end};
-use super::extents::behind_dots;
+use super::extents::after_dots;
 use super::kind::Kind;
 use super::lines::{LineTest, below_text, lines_end};
 use super::row::{item_enumerator, item_option};
@@ -80,7 +80,7 @@ impl Construct for Kind {
                 let Some(marker) = dots(text) else {
                     unreachable!()
                 };
-                behind_dots(view, i, text, marker, looks).end(i)
+                after_dots(view, i, text, marker, looks).end(i)
             }
             Kind::Adornment => adornment_end(view, i, titles, looks),
             Kind::Text => {

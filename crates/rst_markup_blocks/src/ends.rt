@@ -1,12 +1,12 @@
 //! Where constructs end.
 ghost use Rattle.std.specs.Prelude.{◌≡◌, ◌+◌, ◌-◌, ◌*◌, ◌<◌, ◌≤◌, length, drop, chars};
-ghost use Rattle.rst_markup_blocks.specs.Prelude.{front_text, Looked, capped, reach, block_of};
+ghost use Rattle.rst_markup_blocks.specs.Prelude.{first_text, Looked, capped, reach, block_of};
 ghost use Rattle.rst_markup_blocks.specs.Conditions.{next_text};
 ghost use Rattle.rst_markup_blocks.specs.Sizes as spec;
 
 use super::form::{TextForm, text_form};
 use super::lines::{LineTest, below_end, lines_end, text_at};
-use rst_markup_lines::{Marker, ends_in_colons, front, is_punctuation};
+use rst_markup_lines::{Marker, ends_in_colons, first_char, is_punctuation};
 use rst_text::{Looks, View};
 
 /// The place after the line at place `i` and the indented block below it.
@@ -66,7 +66,7 @@ fn literal_end(view: &View<'_>, from: usize, looks: &mut Looks) -> usize
         return indented;
     }
     let start = lines_end(view, from, LineTest::Blank, looks);
-    match front(text_at(view, start, looks)) {
+    match first_char(text_at(view, start, looks)) {
         Some(c) if is_punctuation(c) => lines_end(view, start, LineTest::Begins(c), looks),
         _ => from,
     }
@@ -95,7 +95,7 @@ pub(crate) fn text_end(
     looks: &mut Looks,
 ) -> usize
     requires inside { i < length (block_of view.now) }
-    requires text { chars text.now ≡ front_text (drop i (block_of view.now)) }
+    requires text { chars text.now ≡ first_text (drop i (block_of view.now)) }
     requires next { chars next.now ≡ next_text (drop i (block_of view.now)) }
     ensures end { result ≡ i + spec.text_size (drop i (block_of view.now)) }
     ensures looks { looks.new + 2 + spec.overline_looks (next_text (drop i (block_of view.now))) ≤ looks.old + 4 * reach (spec.text_size (drop i (block_of view.now))) (drop i (block_of view.now)) }

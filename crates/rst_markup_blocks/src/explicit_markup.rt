@@ -8,7 +8,7 @@ use super::forms::CommentCause;
 use super::lines::{LineTest, lines_end};
 use super::part::Part;
 use rst_markup_lines::{
-    DirectiveMark, LabelMark, Marker, SubstitutionMark, TargetMark, begins_with, directive_of,
+    DirectiveMark, LabelMark, Marker, SubstitutionMark, TargetMark, begins_with, directive_mark_of,
     label_of, substitution_of, target_of,
 };
 use rst_text::{Looks, View};
@@ -37,7 +37,7 @@ pub fn explicit_form(text: &str) -> ExplicitForm
     if let Some(SubstitutionMark::Named { len, marker }) = substitution_of(text) {
         return ExplicitForm::Substitution { len, marker };
     }
-    if let Some(directive) = directive_of(true, text) {
+    if let Some(directive) = directive_mark_of(true, text) {
         return ExplicitForm::Directive(directive);
     }
     if begins_with('_', text) {

@@ -1,6 +1,6 @@
 //! Explicit markup with its extents.
 ghost use Rattle.std.specs.Prelude.{◌≡◌, ◌+◌, ◌-◌, ◌*◌, ◌^◌, ◌<◌, ◌≤◌, Some, IsTrue, length, drop, chars};
-ghost use Rattle.rst_markup_blocks.specs.Prelude.{front_text, Looked, reach, block_of};
+ghost use Rattle.rst_markup_blocks.specs.Prelude.{first_text, Looked, reach, block_of};
 ghost use Rattle.rst_markup_lines.specs.ExplicitMarks as marks;
 ghost use Rattle.rst_markup_lines.specs.Place as places;
 ghost use Rattle.rst_markup_blocks.specs.Explicit as spec;
@@ -14,7 +14,7 @@ use super::forms::{CommentCause, Explicit, Invocation};
 use super::lines::below_text;
 use super::part::Part;
 use rst_markup_lines::{
-    Characters, DirectiveMark, LabelKind, LabelMark, Marker, TargetMark, directive_of, dots,
+    Characters, DirectiveMark, LabelKind, LabelMark, Marker, TargetMark, directive_mark_of, dots,
     is_blank, underscores,
 };
 use rst_text::{Looks, View, skip};
@@ -101,7 +101,7 @@ fn target_with(view: &View<'_>, i: usize, n: usize, mark: TargetMark, looks: &mu
 }
 
 /// The substitution definition with this name; `n` characters of the line at place `i` are before what it holds.
-#[tactic(auto, unfolding(crate::specs::Explicit::held_of))]
+#[tactic(auto, unfolding(crate::specs::Explicit::embedded_directive))]
 fn substitution_with(
     view: &View<'_>,
     i: usize,
@@ -111,23 +111,23 @@ fn substitution_with(
     looks: &mut Looks,
 ) -> Explicit
     requires inside { i < length (block_of view.now) }
-    requires text { chars text.now ≡ front_text (drop i (block_of view.now)) }
-    requires behind { n ≤ length (chars text.now) }
+    requires text { chars text.now ≡ first_text (drop i (block_of view.now)) }
+    requires within_text { n ≤ length (chars text.now) }
     ensures explicit { result ≡ spec.substitution_with i name n (drop i (block_of view.now)) }
     ensures looked { Looked (hanging_size (drop i (block_of view.now)) - 1) (2 * reach (hanging_size (drop i (block_of view.now))) (drop i (block_of view.now)) - 1) looks.old looks.new }
 {
-    match directive_of(false, skip(text, n)) {
+    match directive_mark_of(false, skip(text, n)) {
         Some(mark) => {
             let call = call_of(view, i, n, mark, looks);
             Explicit::Substitution {
                 name,
-                held: Some(call),
+                embedded: Some(call),
                 end_: call.block.to,
             }
         }
         None => Explicit::Substitution {
             name,
-            held: None,
+            embedded: None,
             end_: hanging_end(view, i, looks),
         },
     }
@@ -143,7 +143,7 @@ fn explicit_by(
     looks: &mut Looks,
 ) -> Explicit
     requires inside { i < length (block_of view.now) }
-    requires text { chars text.now ≡ front_text (drop i (block_of view.now)) }
+    requires text { chars text.now ≡ first_text (drop i (block_of view.now)) }
     requires form { form ≡ explicit_form (drop marker.cut (chars text.now)) }
     requires marker { marker.cut ≤ length (chars text.now) }
     ensures explicit { result ≡ spec.explicit_by form i marker (drop i (block_of view.now)) }
@@ -165,8 +165,8 @@ fn explicit_by(
 }
 
 /// The explicit markup in the line at place `i`, after dots that make this marker.
-#[tactic(auto, unfolding(crate::specs::Explicit::behind_dots))]
-pub(crate) fn behind_dots(
+#[tactic(auto, unfolding(crate::specs::Explicit::after_dots))]
+pub(crate) fn after_dots(
     view: &View<'_>,
     i: usize,
     text: &str,
@@ -174,10 +174,10 @@ pub(crate) fn behind_dots(
     looks: &mut Looks,
 ) -> Explicit
     requires inside { i < length (block_of view.now) }
-    requires text { chars text.now ≡ front_text (drop i (block_of view.now)) }
+    requires text { chars text.now ≡ first_text (drop i (block_of view.now)) }
     requires marker { marker.cut ≤ length (chars text.now) }
-    ensures explicit { result ≡ spec.behind_dots i marker (drop i (block_of view.now)) }
-    ensures looked { Looked (spec.explicit_end 0 (spec.behind_dots 0 marker (drop i (block_of view.now))) - 1) (2 * reach (spec.explicit_end 0 (spec.behind_dots 0 marker (drop i (block_of view.now)))) (drop i (block_of view.now)) - 1) looks.old looks.new }
+    ensures explicit { result ≡ spec.after_dots i marker (drop i (block_of view.now)) }
+    ensures looked { Looked (spec.explicit_end 0 (spec.after_dots 0 marker (drop i (block_of view.now))) - 1) (2 * reach (spec.explicit_end 0 (spec.after_dots 0 marker (drop i (block_of view.now)))) (drop i (block_of view.now)) - 1) looks.old looks.new }
 {
     if marker.bare {
         if is_blank(below_text(view, i, 1, looks)) {
@@ -205,7 +205,7 @@ pub fn explicit(view: &View<'_>, i: usize, looks: &mut Looks) -> Explicit
 {
     let text = view.line(i, looks);
     match dots(text) {
-        Some(marker) => behind_dots(view, i, text, marker, looks),
+        Some(marker) => after_dots(view, i, text, marker, looks),
         // An anonymous target.
         None => {
             let Some(marker) = underscores(text) else {

@@ -51,7 +51,7 @@ pub enum Explicit {
     /// place after the markup.
     Substitution {
         name: Characters,
-        held: Option<Invocation>,
+        embedded: Option<Invocation>,
         end_: usize,
     },
     Directive(Invocation),

@@ -1,6 +1,6 @@
 //! Lines of a view that are looked at one after the other.
 ghost use Rattle.std.specs.Prelude.{◌≡◌, ◌+◌, ◌-◌, ◌<◌, ◌≤◌, suc, length, drop, chars};
-ghost use Rattle.rst_markup_blocks.specs.Prelude.{front_text, extent, Looked, reach, through_text, block_of};
+ghost use Rattle.rst_markup_blocks.specs.Prelude.{first_text, extent, Looked, reach, through_text, block_of};
 ghost use Rattle.rst_markup_blocks.specs.Lines.{passes, lines_while};
 
 use super::table_line::is_drawn;
@@ -40,7 +40,7 @@ fn passes(test: LineTest, text: &str) -> bool
 
 /// The text of the line at place `i`, at the price of one look; an empty text where there is no such line.
 pub fn text_at<'a>(view: &View<'a>, i: usize, looks: &mut Looks) -> &'a str
-    ensures text { chars result.now ≡ front_text (drop i (block_of view.now)) }
+    ensures text { chars result.now ≡ first_text (drop i (block_of view.now)) }
     ensures looked { Looked 0 1 looks.old looks.new }
     ensures looks { looks.new ≤ looks.old + through_text (drop i (block_of view.now)) }
 {
@@ -54,7 +54,7 @@ pub fn text_at<'a>(view: &View<'a>, i: usize, looks: &mut Looks) -> &'a str
 /// The text of the line `n` lines below place `i`, at the price of one look; an empty text where there is no such line.
 pub fn below_text<'a>(view: &View<'a>, i: usize, n: usize, looks: &mut Looks) -> &'a str
     requires inside { i < length (block_of view.now) }
-    ensures text { chars result.now ≡ front_text (drop n (drop i (block_of view.now))) }
+    ensures text { chars result.now ≡ first_text (drop n (drop i (block_of view.now))) }
     ensures looked { Looked 0 1 looks.old looks.new }
 {
     if n < view.len() - i {

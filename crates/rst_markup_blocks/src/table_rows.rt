@@ -35,8 +35,8 @@ fn border_below(view: &View<'_>, i: usize, k: usize, looks: &mut Looks) -> Optio
     requires inside { i < length (block_of view.now) }
     requires line { k < length (drop i (block_of view.now)) }
     ensures border { result ≡ spec.border_below (drop i (block_of view.now)) k }
-    ensures looks { looks.new + k + 1 ≤ looks.old + spec.through (length (drop i (block_of view.now))) result }
-    ensures low { capped (looks.old + (spec.through (length (drop i (block_of view.now))) result - (k + 1))) ≤ looks.new }
+    ensures looks { looks.new + k + 1 ≤ looks.old + spec.lines_through (length (drop i (block_of view.now))) result }
+    ensures low { capped (looks.old + (spec.lines_through (length (drop i (block_of view.now))) result - (k + 1))) ≤ looks.new }
 {
     let all = view.len() - i;
     for j in k + 1..all {
@@ -70,12 +70,12 @@ pub struct SimpleBorders {
 impl SimpleBorders {
     ghost use Rattle.std.specs.Prelude.{◌≡◌, ◌<◌, IfSome};
     ghost use Rattle.std.specs.Option.{option_or};
-    ghost use Rattle.rst_markup_blocks.specs.TableRows.{through};
+    ghost use Rattle.rst_markup_blocks.specs.TableRows.{lines_through};
 
     /// How many lines the table has, where the block has `all` from the top border on.
     pub fn size(self, all: usize) -> usize
         requires { IfSome (option_or self.bottom self.head) (λ k. k < all) }
-        ensures { result ≡ through all (option_or self.bottom self.head) }
+        ensures { result ≡ lines_through all (option_or self.bottom self.head) }
     {
         match self.bottom.or(self.head) {
             Some(k) => k + 1,

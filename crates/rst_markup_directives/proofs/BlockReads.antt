@@ -3,12 +3,12 @@ use Rattle.std.proofs.Common.{◌≡◌, ℕ, Bool, List, length}
 use Rattle.rst_text.specs.Block.{Block}
 use Rattle.rst_markup_blocks.specs.declared.part.Part.{Part}
 use Rattle.rst_markup_directives.specs.Characters.{Text}
-use Rattle.rst_markup_directives.specs.Directive.{run_in, read_by, read_block}
+use Rattle.rst_markup_directives.specs.Directive.{run_in, directive_by_layout, read_block}
 use Rattle.rst_markup_directives.specs.Layout.{layout_at}
-use Rattle.rst_markup_directives.specs.Lines.{behind_blank}
+use Rattle.rst_markup_directives.specs.Lines.{after_blank}
 use Rattle.rst_markup_directives.specs.declared.name.Name.{Name}
 
 pub read-is : (name : Name) (late : Bool) (block : Part) (H L : Block) (run : List Text) (all m rest : ℕ) → L ≡ H → length L ≡ all → run ≡ run_in name late L → m ≡ length run
-    → rest ≡ behind_blank L m → read_by name block all run (layout_at name run all rest) ≡ read_block name late block H
+    → rest ≡ after_blank L m → directive_by_layout name block all run (layout_at name run all rest) ≡ read_block name late block H
 unfolding read_block
 read-is name late block H L run all m rest same count texts len place = cc

@@ -12,15 +12,15 @@ use Rattle.rst_markup_blocks.specs.Parts.{IsBlock}
 use Rattle.rst_markup_blocks.specs.declared.part.Part.{Part}
 use Rattle.rst_markup_blocks.proofs.RowLaws.{while_le}
 use Rattle.rst_markup_blocks.specs.declared.lines.LineTest.TheVariants.{Blank}
-use Rattle.rst_markup_directives.specs.Argument.{Given, title, word_of, argument_by, argument_of}
+use Rattle.rst_markup_directives.specs.Argument.{ArgumentMeaning, title, word_of, argument_by, argument_of}
 use Rattle.rst_markup_directives.specs.Call.{part_of, content_of, is_empty, IsContentIn, IsDirectiveIn}
 use Rattle.rst_markup_directives.specs.Characters.{Text}
-use Rattle.rst_markup_directives.specs.Directive.{Read, Outcome, found, wrong, run_in, options_of, read_parts, read_by, read_block, outcome_at, of_block, judged, outcome_of}
+use Rattle.rst_markup_directives.specs.Directive.{Read, Outcome, found, wrong, run_in, directive_options, read_parts, directive_by_layout, read_block, directive_outcome_at, of_block, judged_directive, directive_outcome}
 use Rattle.rst_markup_directives.specs.Judgement.{content_fault}
 use Rattle.rst_markup_directives.specs.Layout.{begins_field, before_field, parts_with_argument, parts_without_argument, layout_by, layout_at, layout_of}
-use Rattle.rst_markup_directives.specs.Lines.{first_run, blank_len, behind_blank, joined}
+use Rattle.rst_markup_directives.specs.Lines.{first_run, blank_len, after_blank, joined_nonempty}
 use Rattle.rst_markup_directives.specs.Name.{takes, holds}
-use Rattle.rst_markup_directives.specs.Options.{Choice}
+use Rattle.rst_markup_directives.specs.Options.{OptionSetting}
 use Rattle.rst_markup_directives.specs.Wrong.{Wrong as WrongInside, and_then, unless, fault_in}
 use Rattle.rst_markup_directives.specs.declared.argument.Argument.TheVariants.{Absent}
 use Rattle.rst_markup_directives.specs.declared.fault.DirectiveFault.{DirectiveFault}
@@ -99,11 +99,11 @@ layout_within name run all rest h k = holds_within (holds name) (takes name) run
 
 -- ---- what is read
 
-abbrev IsGivenIn : Block → Given → Type 0
+abbrev IsGivenIn : Block → ArgumentMeaning → Type 0
 IsGivenIn B (title part) = IsBlock B part
 IsGivenIn B given = Unit {0}
 
-abbrev MayBeGivenIn : Block → Result Given WrongInside → Type 0
+abbrev MayBeGivenIn : Block → Result ArgumentMeaning WrongInside → Type 0
 MayBeGivenIn B (Ok given) = IsGivenIn B given
 MayBeGivenIn B (Err w) = Unit {0}
 
@@ -122,45 +122,45 @@ word_in B words = cond_both (is_among words 32) _ _ (MayBeGivenIn B) (λ _. tt) 
 argument_in : (B : Block) (t : Takes) (ts : List Text) (part : Part) → IsBlock B part → MayBeGivenIn B (argument_by t ts part)
 argument_in B TakesTitle (t ∷ ts) part b = b
 argument_in B TakesUri [] part b = tt
-argument_in B TakesLanguage (t ∷ ts) part b = word_in B (normalized_white (joined (t ∷ ts)))
+argument_in B TakesLanguage (t ∷ ts) part b = word_in B (normalized_white (joined_nonempty (t ∷ ts)))
 argument_in B _ _ part b = tt
 
-parts_in_block : (B : Block) (name : Name) (content : Content) (given : Result Given WrongInside) (choices : Result (List Choice) WrongInside)
+parts_in_block : (B : Block) (name : Name) (content : Content) (given : Result ArgumentMeaning WrongInside) (choices : Result (List OptionSetting) WrongInside)
     → IsContentIn B content → MayBeGivenIn B given → MayBeReadIn B (read_parts name content given choices)
 parts_in_block B name content (Ok value) (Ok choices) h k = (k, h)
 parts_in_block B name content (Err w) (Ok choices) h k = tt
 parts_in_block B name content given (Err w) h k = tt
 
 read_in_block : (B : Block) (name : Name) (late : Bool) (block : Part) (H : Block) → IsBlock B block → length H ≡ block.to - block.from → MayBeReadIn B (read_block name late block H)
-unfolding read_block read_by
+unfolding read_block directive_by_layout
 read_in_block B name late block H b count =
     let run : List Text = run_in name late H in
-    let rest : ℕ = behind_blank H (length run) in
+    let rest : ℕ = after_blank H (length run) in
     let within = layout_within name run (length H) rest (run_in-le name late H) (omega (arith, run_in-le name late H, blank_len-le (drop (length run) H), length-drop (length run) H)) in
     let layout : Layout = layout_of name run H in
     let inside : block.from + length H ≤ block.to = omega (arith, b.ordered, count) in
-    parts_in_block B name (content_of block layout (length H)) (argument_of name (take layout.argument run) (part_of block 0 layout.argument)) (options_of name (drop layout.options run))
+    parts_in_block B name (content_of block layout (length H)) (argument_of name (take layout.argument run) (part_of block 0 layout.argument)) (directive_options name (drop layout.options run))
     (content_block B block layout (length H) b within inside)
     (argument_in B (takes name) (take layout.argument run) (part_of block 0 layout.argument) (part_block B block 0 layout.argument b (omega arith) (omega (arith, within.argument, inside))))
 
 -- ---- what a directive is
 
-judged_in : (B : Block) (place : Place) (paragraph : Bool) (source : Part) (read : Result Read WrongInside) → MayBeReadIn B read → IsOutcomeIn B (outcome_at source (and_then (judged place paragraph) (of_block read)))
+judged_in : (B : Block) (place : Place) (paragraph : Bool) (source : Part) (read : Result Read WrongInside) → MayBeReadIn B read → IsOutcomeIn B (directive_outcome_at source (and_then (judged_directive place paragraph) (of_block read)))
 judged_in B place paragraph source (Err w) h = tt
 judged_in B place paragraph source (Ok read) h = by (content_fault read.name (is_empty read.content) place paragraph)
   where
-    by : (fault : Option DirectiveFault) → IsOutcomeIn B (outcome_at source (unless (option_map fault_in fault) (Ok read)))
+    by : (fault : Option DirectiveFault) → IsOutcomeIn B (directive_outcome_at source (unless (option_map fault_in fault) (Ok read)))
     by (Some fault) = tt
     by None = h
 
-kept_in : (B : Block) (directive : Directive) → IsOutcomeIn B (outcome_of directive) → IsDirectiveIn B directive
+kept_in : (B : Block) (directive : Directive) → IsOutcomeIn B (directive_outcome directive) → IsDirectiveIn B directive
 kept_in B (Wrong fault source) h = tt
 kept_in B (Found name Absent options content) h = h
 kept_in B _ h = h
 
 -- the parts of a directive whose block was read
 pub directive_in : (B : Block) (name : Name) (late : Bool) (block : Part) (place : Place) (paragraph : Bool) (source : Part) (read : Result Read WrongInside) (directive : Directive) → IsBlock B block
-    → read ≡ read_block name late block (cut B block.from block.to block.first_cut block.rest_cut) → outcome_of directive ≡ outcome_at source (and_then (judged place paragraph) (of_block read)) → IsDirectiveIn B directive
+    → read ≡ read_block name late block (cut B block.from block.to block.first_cut block.rest_cut) → directive_outcome directive ≡ directive_outcome_at source (and_then (judged_directive place paragraph) (of_block read)) → IsDirectiveIn B directive
 directive_in B name late block place paragraph source read directive b same kept =
     let H : Block = cut B block.from block.to block.first_cut block.rest_cut in
     let inside = read_in_block B name late block H b (length_cut B block.from block.to block.first_cut block.rest_cut b.ordered b.within) in

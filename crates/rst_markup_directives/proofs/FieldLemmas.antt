@@ -5,19 +5,19 @@ use Rattle.std.specs.Borrow.{Bor}
 use Rattle.std.specs.List.{prefix_len}
 use Rattle.std.specs.Prelude.{slice_index_or}
 use Rattle.std.specs.Str.{chars}
-use Rattle.rst_markup_lines.specs.Front.{begins_with}
+use Rattle.rst_markup_lines.specs.TextStart.{begins_with}
 use Rattle.rst_markup_directives.specs.Characters.{Text}
 use Rattle.rst_markup_directives.specs.Lines.{texts_of}
-use Rattle.rst_markup_directives.specs.Options.{FieldText, field_in, onto_groups, groups, onto_fields, fields_of, fields_in}
+use Rattle.rst_markup_directives.specs.Options.{FieldText, option_field, onto_groups, groups, onto_fields, fields_of, fields_in}
 
 -- how many lines at the front begin with a space
 abbrev pub deep_len : List Text → ℕ
 deep_len ts = prefix_len (begins_with 32) ts
 
 -- fields, and those that come after them if these are right
-abbrev pub behind_fields : List FieldText → Option (List FieldText) → Option (List FieldText)
-behind_fields done (Some more) = Some (done ++ more)
-behind_fields done None = None
+abbrev pub after_fields : List FieldText → Option (List FieldText) → Option (List FieldText)
+after_fields done (Some more) = Some (done ++ more)
+after_fields done None = None
 
 -- the first group of lines: the indented lines after the first belong to it
 first_group : (t : Text) (ts : List Text) → groups (t ∷ ts) ≡ (t, take (deep_len ts) ts) ∷ groups (drop (deep_len ts) ts)
@@ -29,25 +29,25 @@ first_group t (u ∷ us) = ap (onto_groups t) (first_group u us) ∙ by (deep_le
     by n true rest = let one : 1 + n ≡ suc n = omega arith in rw one refl
     by n false rest = ap (λ gs. (t, []) ∷ gs) (sym rest)
 
-first_field : (t : Text) (ts : List Text) → fields_in (t ∷ ts) ≡ onto_fields (field_in t (take (deep_len ts) ts)) (fields_in (drop (deep_len ts) ts))
+first_field : (t : Text) (ts : List Text) → fields_in (t ∷ ts) ≡ onto_fields (option_field t (take (deep_len ts) ts)) (fields_in (drop (deep_len ts) ts))
 first_field t ts = ap fields_of (first_group t ts)
 
-behind-onto : (done : List FieldText) (f : FieldText) (more : Option (List FieldText)) → behind_fields done (onto_fields (Some f) more) ≡ behind_fields (done ++ f ∷ []) more
-behind-onto done f None = refl
-behind-onto done f (Some more) = ap Some (sym (append_assoc done (f ∷ []) more))
+after_fields-onto : (done : List FieldText) (f : FieldText) (more : Option (List FieldText)) → after_fields done (onto_fields (Some f) more) ≡ after_fields (done ++ f ∷ []) more
+after_fields-onto done f None = refl
+after_fields-onto done f (Some more) = ap Some (sym (append_assoc done (f ∷ []) more))
 
 -- one field more
 pub fields-more : (X : List Text) (t : Text) (ts : List Text) (done : List FieldText) (f : FieldText) (whole : Option (List FieldText)) → X ≡ t ∷ ts
-    → Some f ≡ field_in t (take (deep_len ts) ts) → behind_fields done (fields_in X) ≡ whole → behind_fields (done ++ f ∷ []) (fields_in (drop (deep_len ts) ts)) ≡ whole
+    → Some f ≡ option_field t (take (deep_len ts) ts) → after_fields done (fields_in X) ≡ whole → after_fields (done ++ f ∷ []) (fields_in (drop (deep_len ts) ts)) ≡ whole
 fields-more X t ts done f whole e found h =
-    sym (behind-onto done f (fields_in (drop (deep_len ts) ts))) ∙ ap (λ field. behind_fields done (onto_fields field (fields_in (drop (deep_len ts) ts)))) found
-    ∙ ap (behind_fields done) (sym (ap fields_in e ∙ first_field t ts)) ∙ h
+    sym (after_fields-onto done f (fields_in (drop (deep_len ts) ts))) ∙ ap (λ field. after_fields done (onto_fields field (fields_in (drop (deep_len ts) ts)))) found
+    ∙ ap (after_fields done) (sym (ap fields_in e ∙ first_field t ts)) ∙ h
 
 -- a line that begins no field
 pub fields-stop : (X : List Text) (t : Text) (ts : List Text) (done : List FieldText) (whole : Option (List FieldText)) → X ≡ t ∷ ts
-    → None ≡ field_in t (take (deep_len ts) ts) → behind_fields done (fields_in X) ≡ whole → None ≡ whole
+    → None ≡ option_field t (take (deep_len ts) ts) → after_fields done (fields_in X) ≡ whole → None ≡ whole
 fields-stop X t ts done whole e none h =
-    ap (λ field. behind_fields done (onto_fields field (fields_in (drop (deep_len ts) ts)))) none ∙ ap (behind_fields done) (sym (ap fields_in e ∙ first_field t ts)) ∙ h
+    ap (λ field. after_fields done (onto_fields field (fields_in (drop (deep_len ts) ts)))) none ∙ ap (after_fields done) (sym (ap fields_in e ∙ first_field t ts)) ∙ h
 
 -- ---- lines as texts
 
@@ -70,18 +70,18 @@ texts-at (x ∷ xs) zero h = refl
 texts-at (x ∷ xs) (suc i) h = let s : suc i + 1 ≡ suc (i + 1) = omega arith in rw s (texts-at xs i (omega arith))
 
 -- where no line is left
-pub fields-end : (ts : List Text) (i : ℕ) (done : List FieldText) (whole : Option (List FieldText)) → length ts ≤ i → behind_fields done (fields_in (drop i ts)) ≡ whole → Some done ≡ whole
-fields-end ts i done whole h e = ap Some (sym (append-nil done)) ∙ ap (λ rest. behind_fields done (fields_in rest)) (sym (drop_all i ts h)) ∙ e
+pub fields-end : (ts : List Text) (i : ℕ) (done : List FieldText) (whole : Option (List FieldText)) → length ts ≤ i → after_fields done (fields_in (drop i ts)) ≡ whole → Some done ≡ whole
+fields-end ts i done whole h e = ap Some (sym (append-nil done)) ∙ ap (λ rest. after_fields done (fields_in rest)) (sym (drop_all i ts h)) ∙ e
 
 -- ---- slices
 
-pub texts_front : (run : List (Bor (List ℕ))) (n : ℕ) → texts_of (take n run) ≡ take n (texts_of run)
-texts_front run n = sym (take-map (λ line. chars line.now) n run)
+pub texts_take : (run : List (Bor (List ℕ))) (n : ℕ) → texts_of (take n run) ≡ take n (texts_of run)
+texts_take run n = sym (take-map (λ line. chars line.now) n run)
 
-pub texts_behind : (run : List (Bor (List ℕ))) (n : ℕ) → texts_of (take (length run - n) (drop n run)) ≡ drop n (texts_of run)
-texts_behind run n = ap texts_of (take_rest run n) ∙ texts-drop run n
+pub texts_after : (run : List (Bor (List ℕ))) (n : ℕ) → texts_of (take (length run - n) (drop n run)) ≡ drop n (texts_of run)
+texts_after run n = ap texts_of (take_rest run n) ∙ texts-drop run n
 
 -- the indented lines after a place
 pub below-texts : (run : List (Bor (List ℕ))) (a n : ℕ) → n ≡ deep_len (texts_of (take (length run - a) (drop a run)))
     → texts_of (take n (take (length run - a) (drop a run))) ≡ take (deep_len (drop a (texts_of run))) (drop a (texts_of run))
-below-texts run a n e = texts_front (take (length run - a) (drop a run)) n ∙ ap₂ take (e ∙ ap deep_len (texts_behind run a)) (texts_behind run a)
+below-texts run a n e = texts_take (take (length run - a) (drop a run)) n ∙ ap₂ take (e ∙ ap deep_len (texts_after run a)) (texts_after run a)

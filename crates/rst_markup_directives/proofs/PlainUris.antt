@@ -13,7 +13,7 @@ use Rattle.std.proofs.lemmas.Str.{chars-IsAscii}
 use Rattle.std.proofs.lemmas.Str.Ascii.{IsAscii-from_all}
 use Rattle.rst_text.specs.Characters.{is_white, has, without_white}
 use Rattle.rst_text.proofs.EscapeLemmas.{unescaped-plain}
-use Rattle.rst_markup_directives.specs.Lines.{joined}
+use Rattle.rst_markup_directives.specs.Lines.{joined_nonempty}
 use Rattle.rst_markup_directives.specs.Target.{located, located_if, is_simple_reference, is_phrase_reference, destination_in, target_text, target_value}
 
 -- ASCII that is neither white nor a backslash
@@ -30,7 +30,7 @@ other c h = (grind (arith, nat_tests), grind (arith, nat_tests), grind (arith, n
 -- ---- it is its own text as a target, of which nothing is left out
 
 target_text-plain : (t : List ℕ) → Plain t → target_text t ≡ t
-unfolding target_text joined
+unfolding target_text joined_nonempty
 target_text-plain [] h = refl
 target_text-plain (c ∷ cs) h =
     let one = slice_split_none (λ x. x == 10) (c ∷ cs) (All-weaker _ _ (λ x p. (other x p).0) (c ∷ cs) (AllPass-from_list_all is_plain (c ∷ cs) h)) in

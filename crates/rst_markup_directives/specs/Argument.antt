@@ -5,7 +5,7 @@ use Rattle.rst_text.specs.Text.{chars_of}
 use Rattle.rst_text.specs.Characters.{is_among, without_white}
 use Rattle.rst_markup_directives.specs.Characters.{Text}
 use Rattle.rst_markup_directives.specs.Name.{takes}
-use Rattle.rst_markup_directives.specs.Lines.{joined}
+use Rattle.rst_markup_directives.specs.Lines.{joined_nonempty}
 use Rattle.rst_markup_directives.specs.Wrong.{Wrong, no_argument, many_arguments, wrong_in}
 use Rattle.rst_markup_directives.specs.declared.argument.Argument.{Argument}
 use Rattle.rst_markup_directives.specs.declared.argument.Argument.TheVariants.{Absent, Title, Uri, Language}
@@ -16,52 +16,52 @@ use Rattle.rst_markup_directives.specs.declared.name.Takes.TheVariants.{Nothing 
 use Rattle.rst_markup_blocks.specs.declared.part.Part.{Part}
 
 -- what an argument means
-pub data Given : Type 0 where
-  nothing : Given
-  title : Part → Given
-  uri : Text → Given
-  language : Text → Given
+pub data ArgumentMeaning : Type 0 where
+  nothing : ArgumentMeaning
+  title : Part → ArgumentMeaning
+  uri : Text → ArgumentMeaning
+  language : Text → ArgumentMeaning
 
 -- a title, some lines
-abbrev pub title_of : List Text → Part → Result Given Wrong
-title_of [] part = Err no_argument
-title_of (t ∷ ts) part = Ok (title part)
+abbrev pub title_argument : List Text → Part → Result ArgumentMeaning Wrong
+title_argument [] part = Err no_argument
+title_argument (t ∷ ts) part = Ok (title part)
 
 -- a URI, without white characters
-abbrev pub uri_of : List Text → Result Given Wrong
+abbrev pub uri_of : List Text → Result ArgumentMeaning Wrong
 uri_of [] = Err no_argument
-uri_of (t ∷ ts) = Ok (uri (without_white (joined (t ∷ ts))))
+uri_of (t ∷ ts) = Ok (uri (without_white (joined_nonempty (t ∷ ts))))
 
 -- one word, of a text whose runs of white are one space each: a space in it parts two words
-unfoldable pub word_of : Text → Result Given Wrong
+unfoldable pub word_of : Text → Result ArgumentMeaning Wrong
 word_of words = if is_among words 32 then Err many_arguments else Ok (language words)
 
 -- a language, one word, or none
-abbrev pub language_of : List Text → Result Given Wrong
+abbrev pub language_of : List Text → Result ArgumentMeaning Wrong
 language_of [] = Ok nothing
-language_of (t ∷ ts) = word_of (normalized_white (joined (t ∷ ts)))
+language_of (t ∷ ts) = word_of (normalized_white (joined_nonempty (t ∷ ts)))
 
 -- the argument of a directive that takes nothing, a title, a URI or a language
-abbrev pub argument_by : Takes → List Text → Part → Result Given Wrong
+abbrev pub argument_by : Takes → List Text → Part → Result ArgumentMeaning Wrong
 argument_by TakesNothing ts part = Ok nothing
-argument_by TakesTitle ts part = title_of ts part
+argument_by TakesTitle ts part = title_argument ts part
 argument_by TakesUri ts part = uri_of ts
 argument_by TakesLanguage ts part = language_of ts
 
 -- the argument that the lines of a part of a view are
-abbrev pub argument_of : Name → List Text → Part → Result Given Wrong
+abbrev pub argument_of : Name → List Text → Part → Result ArgumentMeaning Wrong
 argument_of name ts part = argument_by (takes name) ts part
 
 -- ---- as it is kept
 
 -- the meaning of an argument
-abbrev pub given_in : Argument → Given
+abbrev pub given_in : Argument → ArgumentMeaning
 given_in Absent = nothing
 given_in (Title part) = title part
 given_in (Uri text) = uri (chars_of text)
 given_in (Language text) = language (chars_of text)
 
 -- the meaning of an argument, or what is wrong with it
-abbrev pub argument_in : Result Argument Detail → Result Given Wrong
+abbrev pub argument_in : Result Argument Detail → Result ArgumentMeaning Wrong
 argument_in (Ok argument) = Ok (given_in argument)
 argument_in (Err detail) = Err (wrong_in detail)

@@ -1,6 +1,6 @@
 -- Directives as they are called (Markup Specification, 'Directives').
 use Rattle.std.specs.Prelude.{ℕ, ◌+◌, Bool, ◌&&◌, ◌==◌, drop, slice_range, Option, if◌then◌else◌}
-use Rattle.rst_text.specs.Block.{Block, front_text}
+use Rattle.rst_text.specs.Block.{Block, first_text}
 use Rattle.rst_markup_directives.specs.Characters.{Text}
 use Rattle.rst_markup_directives.specs.Name.{directive_named}
 use Rattle.rst_markup_directives.specs.declared.argument.Argument.{Argument}
@@ -16,7 +16,7 @@ use Rattle.rst_markup_blocks.specs.declared.part.Part.{Part}
 
 -- the name that a directive is called by
 abbrev pub name_text : Block → ℕ → Invocation → Text
-name_text B at call = slice_range (front_text (drop at B)) call.name.from call.name.to
+name_text B at call = slice_range (first_text (drop at B)) call.name.from call.name.to
 
 -- the directive that is called; `code` is true if the one for program code is among them
 abbrev pub called_at : Bool → Block → ℕ → Invocation → Option Name

@@ -7,13 +7,13 @@ use Rattle.std.specs.Str.{bytes_eq}
 -- a text: the list of its characters
 pub use Rattle.rst_text.specs.Characters.{Text}
 -- a text without the spaces that it begins with
-pub use Rattle.rst_markup_lines.specs.Front.{unindented}
+pub use Rattle.rst_markup_lines.specs.TextStart.{unindented}
 use Rattle.rst_markup_lines.specs.Class.{run}
 use Rattle.rst_markup_lines.specs.declared.class.Class.TheVariants.{Digit}
 
 -- how many digits a text begins with
-abbrev pub digits : Text → ℕ
-digits t = run Digit t
+abbrev pub digit_count : Text → ℕ
+digit_count t = run Digit t
 
 -- A text is the word. What `bytes_eq` of the standard library compares here and below are lists of characters.
 unfoldable pub is_exactly : Text → List ℕ → Bool

@@ -13,9 +13,9 @@ use Rattle.rst_markup_directives.specs.declared.name.Holds.{Holds}
 use Rattle.rst_markup_directives.specs.declared.name.Holds.TheVariants.{Required, Nothing, Figure, Paragraph}
 
 -- the place is a substitution definition
-abbrev pub is_substitution : Place → Bool
-is_substitution Substitution = true
-is_substitution _ = false
+abbrev pub is_definition_place : Place → Bool
+is_definition_place Substitution = true
+is_definition_place _ = false
 
 -- the place is at the level of sections
 abbrev pub is_top : Place → Bool
@@ -40,7 +40,7 @@ permitted_by None substitution = if substitution then Err NotInSubstitution else
 
 -- the directive of a name, if there is one and it is allowed there; or the fault
 unfoldable pub permitted : Option Name → Place → Result Name DirectiveFault
-permitted name place = permitted_by name (is_substitution place)
+permitted name place = permitted_by name (is_definition_place place)
 
 -- The fault of a content by what the directive holds: a figure's is judged once its elements are read; where none is
 -- permitted it has to be empty, else not; a topic is allowed at the level of sections alone; a replacement text is a single
@@ -55,7 +55,7 @@ fault_by Required name empty place paragraph =
 fault_by Paragraph name empty place paragraph =
     if empty then Some NoContent
     else if not paragraph then Some (Inside NotOneParagraph)
-    else if is_substitution place then None
+    else if is_definition_place place then None
     else Some ReplaceNotHere
 
 -- the fault of a directive's content, which is empty or not, and maybe a single paragraph

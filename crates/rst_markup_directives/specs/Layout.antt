@@ -6,7 +6,7 @@ use Rattle.std.specs.Option.{is_some}
 use Rattle.rst_text.specs.Block.{Block}
 use Rattle.rst_markup_lines.specs.Field.{field_of}
 use Rattle.rst_markup_directives.specs.Characters.{Text}
-use Rattle.rst_markup_directives.specs.Lines.{behind_blank}
+use Rattle.rst_markup_directives.specs.Lines.{after_blank}
 use Rattle.rst_markup_directives.specs.Name.{takes, holds}
 use Rattle.rst_markup_directives.specs.declared.layout.Layout.{Layout}
 use Rattle.rst_markup_directives.specs.declared.name.Name.{Name}
@@ -53,4 +53,4 @@ layout_at name run all rest = layout_by (holds name) (takes name) run all rest
 -- The parts of a block that begins with this run of lines, which hold the argument and the options: the argument up to the
 -- first option, the options up to the end of the run, and the content after the blank lines after it.
 abbrev pub layout_of : Name → List Text → Block → Layout
-layout_of name run H = layout_at name run (length H) (behind_blank H (length run))
+layout_of name run H = layout_at name run (length H) (after_blank H (length run))

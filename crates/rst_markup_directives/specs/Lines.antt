@@ -21,12 +21,12 @@ abbrev pub blank_len : Block → ℕ
 blank_len X = lines_while Blank X
 
 -- the place of the first line from this one on that isn't blank
-abbrev pub behind_blank : Block → ℕ → ℕ
-behind_blank H from = from + blank_len (drop from H)
+abbrev pub after_blank : Block → ℕ → ℕ
+after_blank H from = from + blank_len (drop from H)
 
 -- Lines joined by line feeds, empty ones left out. What `join_with_byte` of the standard library joins here are lists of characters.
-unfoldable pub joined : List Text → Text
-joined ts = join_with_byte 10 (filter (λ t. not (is_blank t)) ts)
+unfoldable pub joined_nonempty : List Text → Text
+joined_nonempty ts = join_with_byte 10 (filter (λ t. not (is_blank t)) ts)
 
 -- a text with one line more, unless that is empty
 abbrev pub with_line : Text → Text → Text

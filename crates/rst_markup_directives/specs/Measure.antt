@@ -4,17 +4,17 @@ use Rattle.std.specs.List.{list_any}
 use Rattle.rst_text.specs.Block.{is_blank}
 use Rattle.rst_text.specs.Characters.{has}
 use Rattle.rst_markup_lines.specs.Decimal.{number_of}
-use Rattle.rst_markup_directives.specs.Characters.{Text, digits, unindented, is_exactly, lookup}
+use Rattle.rst_markup_directives.specs.Characters.{Text, digit_count, unindented, is_exactly, lookup}
 use Rattle.rst_markup_directives.specs.declared.measure.Alignment.{Alignment}
 use Rattle.rst_markup_directives.specs.declared.measure.Alignment.TheVariants.{Top, Middle, Bottom, Left, Center, Right}
 
 -- how many digits follow a point at the place, 0 where there is none
-abbrev pub digits_behind : Text → ℕ → ℕ
-digits_behind t i = if has t i 46 then digits (drop (i + 1) t) else 0
+abbrev pub digits_after_point : Text → ℕ → ℕ
+digits_after_point t i = if has t i 46 then digit_count (drop (i + 1) t) else 0
 
 -- how many characters the number at the front has: digits, and a point and digits where these follow; 0 where there is none
 unfoldable pub number_len : Text → ℕ
-number_len t = if digits t == 0 || digits_behind t (digits t) == 0 then digits t else digits t + 1 + digits_behind t (digits t)
+number_len t = if digit_count t == 0 || digits_after_point t (digit_count t) == 0 then digit_count t else digit_count t + 1 + digits_after_point t (digit_count t)
 
 -- the units of lengths
 abbrev pub length_units : List Text
@@ -45,9 +45,9 @@ measure_of t percent wanted =
 -- a scale: one to nine digits, maybe a percent sign with or without spaces before it
 unfoldable pub scale_of : Text → Option ℕ
 scale_of t =
-    if digits t == 0 || nat_lt 9 (digits t) then None
-    else if is_blank (drop (digits t) t) || is_exactly (unindented (drop (digits t) t)) (codes "%")
-    then Some (number_of (digits t) t)
+    if digit_count t == 0 || nat_lt 9 (digit_count t) then None
+    else if is_blank (drop (digit_count t) t) || is_exactly (unindented (drop (digit_count t) t)) (codes "%")
+    then Some (number_of (digit_count t) t)
     else None
 
 -- the horizontal alignments by their words

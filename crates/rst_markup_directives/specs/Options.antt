@@ -5,12 +5,12 @@ use Rattle.std.specs.Option.{option_or, option_map_or}
 use Rattle.std.specs.declared.vec.Vec.{Vec}
 use Rattle.rst_text.specs.Block.{indentation}
 use Rattle.rst_markup_lines.specs.Field.{field_of}
-use Rattle.rst_markup_lines.specs.Front.{begins_with}
+use Rattle.rst_markup_lines.specs.TextStart.{begins_with}
 use Rattle.rst_markup_directives.specs.Characters.{Text, is_same_word}
-use Rattle.rst_markup_directives.specs.Lines.{joined}
+use Rattle.rst_markup_directives.specs.Lines.{joined_nonempty}
 use Rattle.rst_markup_directives.specs.Name.{has_option}
 use Rattle.rst_markup_directives.specs.OptionName.{option_named}
-use Rattle.rst_markup_directives.specs.Value.{Meaning, meaning_of, value_of}
+use Rattle.rst_markup_directives.specs.Value.{Meaning, meaning_of, option_meaning}
 use Rattle.rst_markup_directives.specs.Wrong.{Wrong, and_then, unless, unknown, duplicate, invalid, wrong_in}
 use Rattle.rst_markup_directives.specs.declared.fault.Detail.{Detail}
 use Rattle.rst_markup_directives.specs.declared.name.Name.{Name}
@@ -30,8 +30,8 @@ FieldText = Text × Text
 
 -- the field that a line begins, with the indented lines below it: the name between its colons, and the text after its mark
 -- with these lines, their least indentation taken off
-unfoldable pub field_in : Text → List Text → Option FieldText
-field_in t below = option_map (λ mark. (slice_range t mark.name.from mark.name.to, joined (drop mark.marker.cut t ∷ map (drop (least_indentation below)) below))) (field_of t)
+unfoldable pub option_field : Text → List Text → Option FieldText
+option_field t below = option_map (λ mark. (slice_range t mark.name.from mark.name.to, joined_nonempty (drop mark.marker.cut t ∷ map (drop (least_indentation below)) below))) (field_of t)
 
 -- a line, and the indented lines directly below it
 abbrev pub Group : Type 0
@@ -54,7 +54,7 @@ onto_fields field fields = option_and_then (λ f. option_map (λ fs. f ∷ fs) f
 -- the fields that groups are, if each is one
 abbrev pub fields_of : List Group → Option (List FieldText)
 fields_of [] = Some []
-fields_of (g ∷ gs) = onto_fields (field_in g.0 g.1) (fields_of gs)
+fields_of (g ∷ gs) = onto_fields (option_field g.0 g.1) (fields_of gs)
 
 -- the fields of lines, if each of their groups is one
 abbrev pub fields_in : List Text → Option (List FieldText)
@@ -80,21 +80,21 @@ first_again before [] = None
 first_again before (f ∷ fs) = if is_field_name f.0 before then Some f.0 else first_again (before ++ f ∷ []) fs
 
 -- an option and the meaning of its value
-abbrev pub Choice : Type 0
-Choice = OptionName × Meaning
+abbrev pub OptionSetting : Type 0
+OptionSetting = OptionName × Meaning
 
 -- what a field chooses, if there is such an option, and it can have the value
-abbrev pub choice_of : Name → FieldText → Option Choice
-choice_of directive f = option_and_then (λ option. option_map (λ meaning. (option, meaning)) (value_of directive option f.1)) (option_named f.0)
+abbrev pub option_setting : Name → FieldText → Option OptionSetting
+option_setting directive f = option_and_then (λ option. option_map (λ meaning. (option, meaning)) (option_meaning directive option f.1)) (option_named f.0)
 
 -- a choice before others; without one the value of the option of this name is invalid
-abbrev pub onto_choices : Option Choice → Text → Result (List Choice) Wrong → Result (List Choice) Wrong
+abbrev pub onto_choices : Option OptionSetting → Text → Result (List OptionSetting) Wrong → Result (List OptionSetting) Wrong
 onto_choices choice name choices = and_then (λ first. and_then (λ others. Ok (first ∷ others)) choices) (ok_or choice (invalid name))
 
 -- what fields choose, or the first that can't have its value
-abbrev pub choices_of : Name → List FieldText → Result (List Choice) Wrong
+abbrev pub choices_of : Name → List FieldText → Result (List OptionSetting) Wrong
 choices_of directive [] = Ok []
-choices_of directive (f ∷ fs) = onto_choices (choice_of directive f) f.0 (choices_of directive fs)
+choices_of directive (f ∷ fs) = onto_choices (option_setting directive f) f.0 (choices_of directive fs)
 
 -- what is wrong with the names of fields: of all of them an unknown one, then a duplicate one
 abbrev pub wrong_name : Name → List FieldText → Option Wrong
@@ -102,7 +102,7 @@ wrong_name directive fs = option_or (option_map unknown (first_unknown directive
 
 -- What the fields of a directive choose, or what is wrong: of all fields an unknown option, then a duplicate one, then a
 -- value that an option can't have.
-unfoldable pub settings_in : Name → List FieldText → Result (List Choice) Wrong
+unfoldable pub settings_in : Name → List FieldText → Result (List OptionSetting) Wrong
 settings_in directive fs = unless (wrong_name directive fs) (choices_of directive fs)
 
 -- ---- as they are kept
@@ -116,14 +116,14 @@ abbrev pub field_texts : List Field → List FieldText
 field_texts fields = map field_text fields
 
 -- what a setting chooses
-abbrev pub choice_in : Setting → Choice
+abbrev pub choice_in : Setting → OptionSetting
 choice_in setting = (setting.option, meaning_of setting.value)
 
 -- what settings choose
-abbrev pub choices_in : List Setting → List Choice
+abbrev pub choices_in : List Setting → List OptionSetting
 choices_in settings = map choice_in settings
 
 -- what settings choose, or what is wrong with them
-abbrev pub settings_shown : {A : Type 0} → Result (Vec Setting A) Detail → Result (List Choice) Wrong
-settings_shown (Ok settings) = Ok (choices_in settings.items)
-settings_shown (Err detail) = Err (wrong_in detail)
+abbrev pub choices_or_fault : {A : Type 0} → Result (Vec Setting A) Detail → Result (List OptionSetting) Wrong
+choices_or_fault (Ok settings) = Ok (choices_in settings.items)
+choices_or_fault (Err detail) = Err (wrong_in detail)

@@ -8,7 +8,7 @@ use Rattle.rst_text.specs.Escapes.{unescaped}
 use Rattle.rst_text.specs.SimpleNames.{is_simple_name}
 use Rattle.rst_markup_directives.specs.Characters.{Text, unindented}
 use Rattle.rst_markup_directives.specs.Escapes.{ends_escaping, has_bare_backquote}
-use Rattle.rst_markup_directives.specs.Lines.{joined}
+use Rattle.rst_markup_directives.specs.Lines.{joined_nonempty}
 use Rattle.rst_markup_directives.specs.declared.target.Target.{Target}
 use Rattle.rst_markup_directives.specs.declared.target.Target.TheVariants.{Name, Uri}
 
@@ -16,7 +16,7 @@ use Rattle.rst_markup_directives.specs.declared.target.Target.TheVariants.{Name,
 
 -- the lines of a text without their indentation, joined by line feeds, empty ones left out
 unfoldable pub target_text : Text → Text
-target_text t = joined (map unindented (slice_split (λ c. c == 10) t))
+target_text t = joined_nonempty (map unindented (slice_split (λ c. c == 10) t))
 
 -- ---- references
 

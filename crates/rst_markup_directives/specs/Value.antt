@@ -44,23 +44,23 @@ abbrev pub called_by : Text → Meaning
 called_by t = called (name_of t)
 
 -- the meaning of an option's value, if the option can have it
-abbrev pub value_of : Name → OptionName → Text → Option Meaning
-value_of directive Alt t = Some (plain t)
-value_of directive Height t = option_map measured (measure_of t false false)
-value_of directive Width t = option_map measured (measure_of t true false)
-value_of directive Scale t = option_map numbered (scale_of t)
-value_of directive Align t = option_map placed (alignment_of t (has_vertical directive))
-value_of directive Target t = option_map (λ to. linked to t) (target_value t)
-value_of directive Class t = option_map classed (ids_of t)
-value_of directive NameOption t = Some (called_by t)
-value_of directive FigureWidth t = option_map measured (measure_of t true true)
-value_of directive FigureClass t = option_map classed (ids_of t)
+abbrev pub option_meaning : Name → OptionName → Text → Option Meaning
+option_meaning directive Alt t = Some (plain t)
+option_meaning directive Height t = option_map measured (measure_of t false false)
+option_meaning directive Width t = option_map measured (measure_of t true false)
+option_meaning directive Scale t = option_map numbered (scale_of t)
+option_meaning directive Align t = option_map placed (alignment_of t (has_vertical directive))
+option_meaning directive Target t = option_map (λ to. linked to t) (target_value t)
+option_meaning directive Class t = option_map classed (ids_of t)
+option_meaning directive NameOption t = Some (called_by t)
+option_meaning directive FigureWidth t = option_map measured (measure_of t true true)
+option_meaning directive FigureClass t = option_map classed (ids_of t)
 
 -- ---- as they are kept
 
 -- the characters of texts
-abbrev pub texts_in : {A : Type 0} → List (String A) → List Text
-texts_in texts = map chars_of texts
+abbrev pub chars_of_texts : {A : Type 0} → List (String A) → List Text
+chars_of_texts texts = map chars_of texts
 
 -- the meaning of an option's value
 abbrev pub meaning_of : OptionValue → Meaning
@@ -68,6 +68,6 @@ meaning_of (TextValue text) = plain (chars_of text)
 meaning_of (Measure text) = measured (chars_of text)
 meaning_of (Number number) = numbered number
 meaning_of (Place alignment) = placed alignment
-meaning_of (Classes ids) = classed (texts_in ids.items)
+meaning_of (Classes ids) = classed (chars_of_texts ids.items)
 meaning_of (Link to source) = linked (destination_of to) (chars_of source)
 meaning_of (NameValue name) = called (chars_of name)

@@ -4,12 +4,12 @@ ghost use Rattle.rst_text.specs.Characters.{without_white};
 ghost use Rattle.rst_text.specs.Names.{normalized_white};
 ghost use Rattle.rst_markup_directives.specs.Argument as spec;
 ghost use Rattle.rst_markup_directives.specs.Faults.{Gives};
-ghost use Rattle.rst_markup_directives.specs.Lines.{joined, texts_of};
+ghost use Rattle.rst_markup_directives.specs.Lines.{joined_nonempty, texts_of};
 
 use super::characters::{has_character, text_from};
 use super::fault::{Detail, MarkupFault};
 use super::name::{Name, Takes};
-use super::options::joined;
+use super::options::joined_nonempty;
 use rst_markup_blocks::Part;
 use rst_text::{characters_of, normalized_white, without_white};
 use std::alloc::Global;
@@ -48,9 +48,9 @@ pub(crate) fn argument_of(
 /// A URI, without white characters.
 #[tactic(auto, using(crate::proofs::Joins::joined_alone))]
 fn uri_of(alloc: Global, lines: &[&str]) -> Result<Result<Argument, Detail>, MarkupFault>
-    ensures { Gives (λ argument. spec.argument_in argument ≡ Ok (spec.uri (without_white (joined (texts_of lines.now))))) result }
+    ensures { Gives (λ argument. spec.argument_in argument ≡ Ok (spec.uri (without_white (joined_nonempty (texts_of lines.now))))) result }
 {
-    let text = joined(alloc, Vec::new(alloc), lines, 0)?;
+    let text = joined_nonempty(alloc, Vec::new(alloc), lines, 0)?;
     let uri = without_white(alloc, &text)?;
     let uri = text_from(alloc, &uri)?;
     Ok(Ok(Argument::Uri(uri)))
@@ -59,9 +59,9 @@ fn uri_of(alloc: Global, lines: &[&str]) -> Result<Result<Argument, Detail>, Mar
 /// A language, if the lines hold a single word: one space is left between two words.
 #[tactic(auto, using(crate::proofs::Joins::joined_alone), unfolding(crate::specs::Argument::word_of))]
 fn language_of(alloc: Global, lines: &[&str]) -> Result<Result<Argument, Detail>, MarkupFault>
-    ensures { Gives (λ argument. spec.argument_in argument ≡ spec.word_of (normalized_white (joined (texts_of lines.now)))) result }
+    ensures { Gives (λ argument. spec.argument_in argument ≡ spec.word_of (normalized_white (joined_nonempty (texts_of lines.now)))) result }
 {
-    let text = joined(alloc, Vec::new(alloc), lines, 0)?;
+    let text = joined_nonempty(alloc, Vec::new(alloc), lines, 0)?;
     let text = text_from(alloc, &text)?;
     let words = normalized_white(alloc, text.as_str())?;
     let characters = characters_of(alloc, words.as_str())?;

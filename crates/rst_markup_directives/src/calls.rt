@@ -56,7 +56,7 @@ pub fn directive(
     looks: &mut Looks,
 ) -> Result<Directive, MarkupFault>
     requires block { IsBlock (block_of view.now) block }
-    ensures outcome { Gives (λ found. directives.outcome_of found ≡ directives.directive_of name (block_of view.now) at block place paragraph) result }
+    ensures outcome { Gives (λ found. directives.directive_outcome found ≡ directives.directive_of name (block_of view.now) at block place paragraph) result }
     ensures parts { Gives (λ found. spec.IsDirectiveIn (block_of view.now) found) result }
     ensures looked { Looked 0 (1 + (block.to - block.from)) looks.old looks.new }
 {
@@ -71,7 +71,7 @@ pub fn directive(
             // The block begins after the line after the directive's.
             let late = 1 < block.from.saturating_sub(at);
             let reading = read(alloc, name, late, view, block, looks)?;
-            Ok(judged(reading, place, paragraph, source))
+            Ok(judged_directive(reading, place, paragraph, source))
         }
         Err(fault) => Ok(Directive::Wrong { fault, source }),
     }
@@ -112,7 +112,7 @@ fn read(
 }
 
 /// Reads a block by its first run of lines; `rest` is the place of the first line after it that isn't blank.
-#[tactic(auto, using(crate::proofs::FieldLemmas::texts_front, crate::proofs::FieldLemmas::texts_behind), unfolding(crate::specs::Directive::read_by))]
+#[tactic(auto, using(crate::proofs::FieldLemmas::texts_take, crate::proofs::FieldLemmas::texts_after), unfolding(crate::specs::Directive::directive_by_layout))]
 fn read_run(
     alloc: Global,
     name: Name,
@@ -123,7 +123,7 @@ fn read_run(
     requires ordered { block.from ≤ block.to }
     requires run { length run.now ≤ block.to - block.from }
     requires rest { rest ≤ block.to - block.from }
-    ensures { Gives (λ reading. directives.reading_in reading ≡ directives.read_by name block (block.to - block.from) (texts_of run.now) (layouts.layout_at name (texts_of run.now) (block.to - block.from) rest)) result }
+    ensures { Gives (λ reading. directives.reading_in reading ≡ directives.directive_by_layout name block (block.to - block.from) (texts_of run.now) (layouts.layout_at name (texts_of run.now) (block.to - block.from) rest)) result }
 {
     let all = block.to - block.from;
     let layout = layout_of(name, run, all, rest);
@@ -185,13 +185,13 @@ fn is_empty(content: Content) -> bool
 }
 
 /// What was read of a directive, judged by its content.
-fn judged(
+fn judged_directive(
     reading: Result<Reading, Detail>,
     place: Place,
     paragraph: bool,
     source: Part,
 ) -> Directive
-    ensures { directives.outcome_of result ≡ directives.outcome_at source (and_then (directives.judged place paragraph) (directives.of_block (directives.reading_in reading))) }
+    ensures { directives.directive_outcome result ≡ directives.directive_outcome_at source (and_then (directives.judged_directive place paragraph) (directives.of_block (directives.reading_in reading))) }
 {
     let Reading {
         name,

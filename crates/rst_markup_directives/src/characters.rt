@@ -9,8 +9,8 @@ use std::alloc::{AllocError, Global};
 
 /// How many digits a text begins with.
 #[tactic(auto, unfolding(rst_markup_lines::specs::Class::is_in, rst_markup_lines::specs::Class::run))]
-pub(crate) fn digits(text: &[char]) -> usize
-    ensures value { result ≡ spec.digits text.now }
+pub(crate) fn digit_count(text: &[char]) -> usize
+    ensures value { result ≡ spec.digit_count text.now }
     ensures within { result ≤ length text.now }
 {
     let mut n = 0;
@@ -40,7 +40,7 @@ pub(crate) fn spaces(text: &[char]) -> usize
 
 /// Whether a text is empty.
 #[tactic(auto, using(crate::proofs::Runs::length_blank))]
-pub(crate) fn is_blank(text: &[char]) -> bool
+pub(crate) fn is_empty_text(text: &[char]) -> bool
     ensures { result ≡ is_blank text.now }
 {
     text.is_empty()

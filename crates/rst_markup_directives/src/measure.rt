@@ -2,7 +2,7 @@
 ghost use Rattle.std.specs.Prelude.{◌≡◌, ◌≤◌, length, IfOk, option_map};
 ghost use Rattle.rst_markup_directives.specs.Measure as spec;
 
-use super::characters::{digits, is_blank, is_exactly, spaces, text_from};
+use super::characters::{digit_count, is_empty_text, is_exactly, spaces, text_from};
 use rst_markup_lines::number_of;
 use rst_text::has;
 use std::alloc::{AllocError, Global};
@@ -25,11 +25,11 @@ fn number_len(text: &[char]) -> usize
     ensures value { result ≡ spec.number_len text.now }
     ensures within { result ≤ length text.now }
 {
-    let whole = digits(text);
+    let whole = digit_count(text);
     if whole == 0 || !has(text, whole, '.') {
         return whole;
     }
-    let part = digits(&text[whole + 1..]);
+    let part = digit_count(&text[whole + 1..]);
     if part == 0 { whole } else { whole + 1 + part }
 }
 
@@ -61,13 +61,13 @@ pub(crate) fn measure_of(
     ensures { IfOk result (λ measure. option_map (λ v. v.items) measure ≡ spec.measure_of text.now percent wanted) }
 {
     let n = number_len(text);
-    let behind = &text[n..];
-    let unit = &behind[spaces(behind)..];
-    if n == 0 || !(is_blank(unit) || is_unit(unit, percent)) {
+    let after_number = &text[n..];
+    let unit = &after_number[spaces(after_number)..];
+    if n == 0 || !(is_empty_text(unit) || is_unit(unit, percent)) {
         return Ok(None);
     }
     let mut measure = Vec::from_slice(alloc, &text[..n])?;
-    if wanted && is_blank(unit) {
+    if wanted && is_empty_text(unit) {
         measure.extend_from_slice(&['p', 'x'])?;
     } else {
         measure.extend_from_slice(unit)?;
@@ -80,12 +80,12 @@ pub(crate) fn measure_of(
 pub(crate) fn scale_of(alloc: Global, text: &[char]) -> Result<Option<u64>, AllocError>
     ensures { IfOk result (λ number. number ≡ spec.scale_of text.now) }
 {
-    let n = digits(text);
+    let n = digit_count(text);
     if n == 0 || 9 < n {
         return Ok(None);
     }
-    let behind = &text[n..];
-    if !is_blank(behind) && !is_exactly(&behind[spaces(behind)..], "%") {
+    let after_number = &text[n..];
+    if !is_empty_text(after_number) && !is_exactly(&after_number[spaces(after_number)..], "%") {
         return Ok(None);
     }
     let text = text_from(alloc, text)?;

@@ -1,9 +1,9 @@
 //! The options of a directive's block.
 ghost use Rattle.std.specs.Prelude.{◌≡◌, ◌+◌, ◌≤◌, ◌<◌, ◌∷◌, length, map, drop, slice_range, IfOk, option_map, chars};
 ghost use Rattle.std.specs.List.{prefix_len};
-ghost use Rattle.rst_markup_lines.specs.Front as fronts;
+ghost use Rattle.rst_markup_lines.specs.TextStart as text_start;
 ghost use Rattle.rst_markup_directives.specs.Faults.{Gives};
-ghost use Rattle.rst_markup_directives.specs.Lines.{joined, texts_of};
+ghost use Rattle.rst_markup_directives.specs.Lines.{joined_nonempty, texts_of};
 ghost use Rattle.rst_markup_directives.specs.Options as spec;
 
 use super::characters::{is_same_word, text_from};
@@ -32,7 +32,7 @@ pub(crate) struct Field {
 
 /// How many of some lines at the front begin with a space.
 fn deep_len(run: &[&str]) -> usize
-    ensures value { result ≡ prefix_len (fronts.begins_with 32) (texts_of run.now) }
+    ensures value { result ≡ prefix_len (text_start.begins_with 32) (texts_of run.now) }
     ensures within { result ≤ length run.now }
 {
     for (i, line) in run.iter().enumerate() {
@@ -59,13 +59,13 @@ fn least_indentation(lines: &[&str]) -> usize
 
 /// A text and some lines without their first characters, as many as `cut`, joined by line feeds, empty ones left out.
 #[tactic(auto, using(crate::proofs::Joins::joined_onto))]
-pub(crate) fn joined(
+pub(crate) fn joined_nonempty(
     alloc: Global,
     first: Vec<char>,
     lines: &[&str],
     cut: usize,
 ) -> Result<Vec<char>, AllocError>
-    ensures { IfOk result (λ text. text.items ≡ joined (first.items ∷ map (drop cut) (texts_of lines.now))) }
+    ensures { IfOk result (λ text. text.items ≡ joined_nonempty (first.items ∷ map (drop cut) (texts_of lines.now))) }
 {
     let mut text = first;
     for line in lines {
@@ -96,15 +96,15 @@ pub(crate) fn fields_of(alloc: Global, run: &[&str]) -> Result<Option<Vec<Field>
     let mut fields = Vec::new(alloc);
     let mut i = 0;
     while i < run.len() {
-        let behind = &run[i + 1..];
-        let deep = deep_len(behind);
-        let below = &behind[..deep];
+        let following = &run[i + 1..];
+        let deep = deep_len(following);
+        let below = &following[..deep];
         let Some(mark) = field_of(run[i]) else {
             return Ok(None);
         };
         let name = excerpt(alloc, run[i], mark.name)?;
         let first = characters_of(alloc, skip(run[i], mark.marker.cut))?;
-        let value = joined(alloc, first, below, least_indentation(below))?;
+        let value = joined_nonempty(alloc, first, below, least_indentation(below))?;
         fields.push(Field { name, value })?;
         i += 1 + deep;
     }
@@ -119,7 +119,7 @@ pub(crate) fn settings_of(
     directive: Name,
     fields: &[Field],
 ) -> Result<Result<Vec<Setting>, Detail>, MarkupFault>
-    ensures { Gives (λ settings. spec.settings_shown settings ≡ spec.settings_in directive (spec.field_texts fields.now)) result }
+    ensures { Gives (λ settings. spec.choices_or_fault settings ≡ spec.settings_in directive (spec.field_texts fields.now)) result }
 {
     for field in fields {
         let option = OptionName::of(&field.name);

@@ -13,7 +13,7 @@ ghost use Rattle.rst_markup_directives.specs.Name.{directive_named, has_option};
 ghost use Rattle.rst_markup_directives.specs.OptionName.{option_named};
 ghost use Rattle.rst_markup_directives.specs.Options.{fields_in};
 ghost use Rattle.rst_markup_directives.specs.Target.{located, named, target_value};
-ghost use Rattle.rst_markup_directives.specs.Value.{called, classed, ids_of, linked, measured, numbered, placed, plain, value_of};
+ghost use Rattle.rst_markup_directives.specs.Value.{called, classed, ids_of, linked, measured, numbered, placed, plain, option_meaning};
 ghost use Rattle.rst_markup_directives.specs.Wrong.{duplicate, inside, invalid, many_arguments, no_argument, no_content, not_in_substitution, option_block, replace_not_here, topic_not_here, unknown, unknown_directive};
 ghost use Rattle.rst_markup_directives.specs.Wrong as faults;
 ghost use Rattle.rst_markup_directives.specs.declared.fault.Detail.TheVariants.{ContentNotPermitted, NotOneParagraph};
@@ -100,15 +100,15 @@ pub fn targets()
 pub fn values()
     ensures classes { ids_of (codes "Wide  my_table") ≡ Some (codes "wide" ∷ codes "my-table" ∷ []) }
     ensures no_classes { map (λ t. ids_of (codes t)) ("" ∷ "a 1" ∷ []) ≡ None ∷ None ∷ [] }
-    ensures empty_alt { value_of Image Alt (codes "") ≡ Some (plain []) }
-    ensures alt { value_of Image Alt (codes "A\\ b") ≡ Some (plain (codes "A\\ b")) }
-    ensures name { value_of Note NameOption (codes "A\n  b") ≡ Some (called (codes "a b")) }
-    ensures height { map (λ t. value_of Image Height (codes t)) ("50" ∷ "50%" ∷ []) ≡ Some (measured (codes "50")) ∷ None ∷ [] }
-    ensures width { map (λ t. value_of Figure Width (codes t)) ("50" ∷ "50%" ∷ [])
+    ensures empty_alt { option_meaning Image Alt (codes "") ≡ Some (plain []) }
+    ensures alt { option_meaning Image Alt (codes "A\\ b") ≡ Some (plain (codes "A\\ b")) }
+    ensures name { option_meaning Note NameOption (codes "A\n  b") ≡ Some (called (codes "a b")) }
+    ensures height { map (λ t. option_meaning Image Height (codes t)) ("50" ∷ "50%" ∷ []) ≡ Some (measured (codes "50")) ∷ None ∷ [] }
+    ensures width { map (λ t. option_meaning Figure Width (codes t)) ("50" ∷ "50%" ∷ [])
         ≡ Some (measured (codes "50")) ∷ Some (measured (codes "50%")) ∷ [] }
-    ensures figure_width { map (λ t. value_of Figure FigureWidth (codes t)) ("50" ∷ "image" ∷ []) ≡ Some (measured (codes "50px")) ∷ None ∷ [] }
-    ensures align { map (λ d. value_of d Align (codes "middle")) (Image ∷ Figure ∷ []) ≡ Some (placed Middle) ∷ None ∷ [] }
-    ensures target { map (λ t. value_of Image Target (codes t)) ("a_" ∷ "" ∷ []) ≡ Some (linked (named (codes "a")) (codes "a_")) ∷ None ∷ [] }
+    ensures figure_width { map (λ t. option_meaning Figure FigureWidth (codes t)) ("50" ∷ "image" ∷ []) ≡ Some (measured (codes "50px")) ∷ None ∷ [] }
+    ensures align { map (λ d. option_meaning d Align (codes "middle")) (Image ∷ Figure ∷ []) ≡ Some (placed Middle) ∷ None ∷ [] }
+    ensures target { map (λ t. option_meaning Image Target (codes t)) ("a_" ∷ "" ∷ []) ≡ Some (linked (named (codes "a")) (codes "a_")) ∷ None ∷ [] }
 {}
 
 /// The fields of an option block (Markup Specification, 'Directives').

@@ -6,7 +6,7 @@ ghost use Rattle.rst_text.specs.Escapes.{unescaped};
 ghost use Rattle.rst_markup_directives.specs.Escapes as escapes;
 ghost use Rattle.rst_markup_directives.specs.Target as spec;
 
-use super::characters::{is_blank, spaces, text_from};
+use super::characters::{is_empty_text, spaces, text_from};
 use super::fault::MarkupFault;
 use super::lines::add_line;
 use rst_text::{characters_of, escapes, has, is_dark, is_simple_name, unescaped, without_white};
@@ -74,7 +74,7 @@ fn destination_in(alloc: Global, text: &[char]) -> Result<Option<Target>, Markup
     }
     let bare = unescaped(alloc, text)?;
     let uri = without_white(alloc, &bare)?;
-    if is_blank(&uri) {
+    if is_empty_text(&uri) {
         return Ok(None);
     }
     let uri = text_from(alloc, &uri)?;

@@ -4,7 +4,7 @@ ghost use Rattle.rst_markup_directives.specs.Faults.{Gives};
 ghost use Rattle.rst_markup_directives.specs.Measure as measures;
 ghost use Rattle.rst_markup_directives.specs.Value as spec;
 
-use super::characters::{is_blank, text_from};
+use super::characters::{is_empty_text, text_from};
 use super::fault::MarkupFault;
 use super::measure::{Alignment, alignment_of, measure_of, scale_of};
 use super::name::Name;
@@ -40,7 +40,7 @@ pub(crate) fn option_value(
     option: OptionName,
     value: &[char],
 ) -> Result<Option<OptionValue>, MarkupFault>
-    ensures { Gives (λ shown. option_map spec.meaning_of shown ≡ spec.value_of directive option value.now) result }
+    ensures { Gives (λ meaning. option_map spec.meaning_of meaning ≡ spec.option_meaning directive option value.now) result }
 {
     match option {
         OptionName::Alt => Ok(Some(OptionValue::Text(text_from(alloc, value)?))),
@@ -73,7 +73,7 @@ fn measure(
     percent: bool,
     wanted: bool,
 ) -> Result<Option<OptionValue>, MarkupFault>
-    ensures { Gives (λ shown. option_map spec.meaning_of shown ≡ option_map spec.measured (measures.measure_of value.now percent wanted)) result }
+    ensures { Gives (λ meaning. option_map spec.meaning_of meaning ≡ option_map spec.measured (measures.measure_of value.now percent wanted)) result }
 {
     match measure_of(alloc, value, percent, wanted)? {
         Some(measure) => {
@@ -86,10 +86,13 @@ fn measure(
 
 /// The ids of the words of a text, where there are some and none of them is empty.
 fn ids_of(alloc: Global, text: &[char]) -> Result<Option<Vec<String>>, MarkupFault>
-    ensures { Gives (λ ids. option_map (λ v. spec.texts_in v.items) ids ≡ spec.ids_of text.now) result }
+    ensures { Gives (λ ids. option_map (λ v. spec.chars_of_texts v.items) ids ≡ spec.ids_of text.now) result }
 {
     let mut ids = Vec::new(alloc);
-    for word in text.split(|c| is_white(*c)).filter(|word| !is_blank(*word)) {
+    for word in text
+        .split(|c| is_white(*c))
+        .filter(|word| !is_empty_text(*word))
+    {
         let word = text_from(alloc, word)?;
         ids.push(id_of(alloc, word.as_str())?)?;
     }

@@ -5,7 +5,7 @@ use Rattle.std.proofs.lemmas.Bool.{eq-eqb}
 use Rattle.rst_text.specs.Block.{is_blank}
 use Rattle.rst_markup_lines.specs.Adornment.{is_punctuation, adornment_of}
 use Rattle.rst_markup_lines.specs.Class.{is_in, run}
-use Rattle.rst_markup_lines.specs.Front.{first}
+use Rattle.rst_markup_lines.specs.TextStart.{first}
 use Rattle.rst_markup_lines.specs.declared.class.Class.TheVariants.{Only}
 use Rattle.rst_markup_lines.specs.declared.adornment.Adornment.{Adornment}
 use Rattle.rst_markup_lines.proofs.Runs.{run_cons, whole_run, run_whole}

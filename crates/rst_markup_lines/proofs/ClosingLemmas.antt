@@ -10,31 +10,31 @@ use Rattle.rst_text.specs.Places.{first_from, IsFirst}
 use Rattle.rst_text.proofs.PlacesLemmas.{first_from-is, first_from-IsFirst}
 use Rattle.rst_text.specs.Escapes.{escapes, is_escaped}
 use Rattle.rst_text.proofs.EscapeLemmas.{is_escaped-more}
-use Rattle.rst_markup_lines.specs.Closing.{is_closing, is_behind_dark, closes, closed, ends_in_colons}
-use Rattle.rst_markup_lines.specs.Front.{begins_with, first}
+use Rattle.rst_markup_lines.specs.Closing.{is_closing, is_after_dark, closes, closed, ends_in_colons}
+use Rattle.rst_markup_lines.specs.TextStart.{begins_with, first}
 use Rattle.rst_markup_lines.specs.declared.closing.Closing.{Closing}
 use Rattle.rst_markup_lines.specs.declared.closing.Closing.TheVariants.{QuotedColon}
 use Rattle.rst_markup_lines.proofs.OptionLemmas.{there}
-use Rattle.rst_markup_lines.proofs.SimpleNames.{at-front, inside}
+use Rattle.rst_markup_lines.proofs.SimpleNames.{at-first, inside}
 
 -- ---- a step
 
 -- the character reached, by what precedes it
-pub closes-here : (closing : Closing) (t cs : List ℕ) (c n : ℕ) (escaped dark : Bool) → drop n t ≡ cs → first cs ≡ Some c → escaped ≡ is_escaped t 0 n → dark ≡ is_behind_dark t n
+pub closes-here : (closing : Closing) (t cs : List ℕ) (c n : ℕ) (escaped dark : Bool) → drop n t ≡ cs → first cs ≡ Some c → escaped ≡ is_escaped t 0 n → dark ≡ is_after_dark t n
     → closes closing t n ≡ (not escaped && is_closing closing dark c (drop 1 cs))
 unfolding closes
 closes-here closing t cs c n escaped dark e f g h =
-    let behind : drop (n + 1) t ≡ drop 1 cs = sym (drop-drop 1 n t) ∙ ap (drop 1) e in
-    rw (at-front t cs c n e f, behind, ← g, ← h) refl
+    let following : drop (n + 1) t ≡ drop 1 cs = sym (drop-drop 1 n t) ∙ ap (drop 1) e in
+    rw (at-first t cs c n e f, following, ← g, ← h) refl
 
 -- what precedes the character after it
 pub escaped-next : (t cs : List ℕ) (c n : ℕ) (escaped : Bool) → drop n t ≡ cs → first cs ≡ Some c → escaped ≡ is_escaped t 0 n → escapes c escaped ≡ is_escaped t 0 (n + 1)
-escaped-next t cs c n escaped e f g = ap (escapes c) g ∙ ap (λ d. escapes d (is_escaped t 0 n)) (sym (at-front t cs c n e f)) ∙ sym (is_escaped-more t 0 n (omega arith))
+escaped-next t cs c n escaped e f g = ap (escapes c) g ∙ ap (λ d. escapes d (is_escaped t 0 n)) (sym (at-first t cs c n e f)) ∙ sym (is_escaped-more t 0 n (omega arith))
 
-pub dark-next : (t cs : List ℕ) (c n : ℕ) → drop n t ≡ cs → first cs ≡ Some c → not (is_white c) ≡ is_behind_dark t (n + 1)
+pub dark-next : (t cs : List ℕ) (c n : ℕ) → drop n t ≡ cs → first cs ≡ Some c → not (is_white c) ≡ is_after_dark t (n + 1)
 dark-next t cs c n e f =
     let place : n + 1 - 1 ≡ n = omega arith in
-    rw (lt-ltb 0 (n + 1) (omega arith), place, lt-ltb n (length t) (inside t cs c n e f), at-front t cs c n e f) refl
+    rw (lt-ltb 0 (n + 1) (omega arith), place, lt-ltb n (length t) (inside t cs c n e f), at-first t cs c n e f) refl
 
 -- ---- the first that closes
 
@@ -42,7 +42,7 @@ pub closed-is : (closing : Closing) (t : List ℕ) (r : Option ℕ) → IsFirst 
 closed-is closing t r h = let all : length t - 0 ≡ length t = omega arith in first_from-is (closes closing t) 0 (length t) r h ∙ ap (first_from (closes closing t) 0) all
 
 pub past-end : (t cs : List ℕ) (n : ℕ) → drop n t ≡ cs → first cs ≡ None → length t ≤ n
-past-end t [] n e f = let behind : length t - n ≡ 0 = sym (length-drop n t) ∙ ap length e in omega arith
+past-end t [] n e f = let following : length t - n ≡ 0 = sym (length-drop n t) ∙ ap length e in omega arith
 past-end t (c ∷ cs) n e f = cc
 
 found : (closing : Closing) (t : List ℕ) (n : ℕ) → closed closing t ≡ Some n → (n < length t) × (closes closing t n ≡ true)
@@ -70,11 +70,11 @@ quoted_within t n e =
 -- where two characters are left, they are the colons or none are
 ends-pair : (t : List ℕ) (c d m : ℕ) (escaped : Bool) → drop m t ≡ c ∷ d ∷ [] → escaped ≡ is_escaped t 0 m → ends_in_colons t ≡ (not escaped && (c == 58 && d == 58))
 ends-pair t c d m escaped e g =
-    let behind : length t - m ≡ 2 = sym (length-drop m t) ∙ ap length e in
-    let front : length t - 2 ≡ m = omega arith in
+    let following : length t - m ≡ 2 = sym (length-drop m t) ∙ ap length e in
+    let second_last : length t - 2 ≡ m = omega arith in
     let last : length t - 1 ≡ m + 1 = omega arith in
     let next : drop (m + 1) t ≡ d ∷ [] = sym (drop-drop 1 m t) ∙ ap (drop 1) e in
-    rw (front, last, le-leb 2 (length t) (omega arith), lt-ltb m (length t) (omega arith), lt-ltb (m + 1) (length t) (omega arith), at-front t (c ∷ d ∷ []) c m e refl, at-front t (d ∷ []) d (m + 1) next refl, ← g)
+    rw (second_last, last, le-leb 2 (length t) (omega arith), lt-ltb m (length t) (omega arith), lt-ltb (m + 1) (length t) (omega arith), at-first t (c ∷ d ∷ []) c m e refl, at-first t (d ∷ []) d (m + 1) next refl, ← g)
     (turned (c == 58) (d == 58) escaped)
   where
     turned : (a b x : Bool) → (a && (b && not x)) ≡ (not x && (a && b))

@@ -14,10 +14,10 @@ unfolding
     Rattle.rst_markup_lines.specs.ExplicitMarks.quoted_target Rattle.rst_markup_lines.specs.ExplicitMarks.plain_target
     Rattle.rst_markup_lines.specs.ExplicitMarks.anonymous_target Rattle.rst_markup_lines.specs.ExplicitMarks.target_of
     Rattle.rst_markup_lines.specs.ExplicitMarks.substitution_of Rattle.rst_markup_lines.specs.ExplicitMarks.colons
-    Rattle.rst_markup_lines.specs.ExplicitMarks.directive_of Rattle.rst_markup_lines.specs.Field.field_of
+    Rattle.rst_markup_lines.specs.ExplicitMarks.directive_mark_of Rattle.rst_markup_lines.specs.Field.field_of
     Rattle.rst_markup_lines.specs.Marker.marker_of Rattle.rst_markup_lines.specs.Marker.bullet Rattle.rst_markup_lines.specs.Marker.doctest
     Rattle.rst_markup_lines.specs.Marker.line_bar Rattle.rst_markup_lines.specs.OptionMarker.argument_len
-    Rattle.rst_markup_lines.specs.OptionMarker.argument_behind Rattle.rst_markup_lines.specs.OptionMarker.short_argument
+    Rattle.rst_markup_lines.specs.OptionMarker.argument_after Rattle.rst_markup_lines.specs.OptionMarker.short_argument
     Rattle.rst_markup_lines.specs.OptionMarker.long_argument Rattle.rst_markup_lines.specs.OptionMarker.long_option
     Rattle.rst_markup_lines.specs.OptionMarker.short_option Rattle.rst_markup_lines.specs.OptionMarker.option_at
     Rattle.rst_markup_lines.specs.OptionMarker.tail_at Rattle.rst_markup_lines.specs.OptionMarker.option_tail

@@ -7,10 +7,10 @@ use Rattle.std.proofs.lemmas.Bool.{ne_eqb, lt-ltb, or_parts, not-true}
 use Rattle.std.proofs.lemmas.Bool.Decides.{nat_tests}
 use Rattle.std.proofs.Math.Dec.{eqb-suc-suc}
 use Rattle.std.specs.Option.{option_and_then}
-use Rattle.rst_markup_lines.specs.Front.{begins_with, first}
+use Rattle.rst_markup_lines.specs.TextStart.{begins_with, first}
 use Rattle.rst_markup_lines.specs.Class.{is_in, run}
 use Rattle.rst_markup_lines.specs.Roman.{roman, is_numeral_letter}
-use Rattle.rst_markup_lines.specs.Enumerator.{case_of, arabic_at, letters_at, letters_by, as_numeral, written_at, before_one, enumerator_of, is_no_ordinal, is_no_front}
+use Rattle.rst_markup_lines.specs.Enumerator.{case_of, arabic_at, letters_at, letters_by, as_numeral, written_at, before_one, enumerator_of, is_no_ordinal, begins_no_enumerator}
 use Rattle.rst_markup_lines.specs.declared.class.Class.TheVariants.{Digit, Letter}
 use Rattle.rst_markup_lines.specs.declared.enumerator.Written.{Written}
 use Rattle.rst_markup_lines.proofs.Runs.{run_cons}
@@ -101,10 +101,10 @@ pair_none c d ds h k other =
     by true false x h = refl
     by false b x h = refl
 
-behind_none : (c : ℕ) (cs : List ℕ) → is_ascii_alphabetic c ≡ true → is_no_ordinal c (first cs) ≡ true → option_and_then (before_one (c ∷ cs)) (letters_at (c ∷ cs)) ≡ None
+after_letter_none : (c : ℕ) (cs : List ℕ) → is_ascii_alphabetic c ≡ true → is_no_ordinal c (first cs) ≡ true → option_and_then (before_one (c ∷ cs)) (letters_at (c ∷ cs)) ≡ None
 unfolding run
-behind_none c [] h e = lone_none c [] h refl refl refl
-behind_none c (d ∷ ds) h e = by (is_ascii_alphabetic d) refl e
+after_letter_none c [] h e = lone_none c [] h refl refl refl
+after_letter_none c (d ∷ ds) h e = by (is_ascii_alphabetic d) refl e
   where
     by : (b : Bool) → is_ascii_alphabetic d ≡ b → cond b (not (is_numeral_letter c && is_numeral_letter d)) (not (d == 41 || d == 46)) ≡ true
         → option_and_then (before_one (c ∷ d ∷ ds)) (letters_at (c ∷ d ∷ ds)) ≡ None
@@ -116,11 +116,11 @@ unfolding letters_at
 no_word c cs h = ap (λ n. letters_by c n (c ∷ cs)) (no_letters c cs h)
 
 -- a text whose front is no enumerator's begins with none
-no_front : (c : ℕ) (cs : List ℕ) → is_no_front c (first cs) ≡ true → enumerator_of (c ∷ cs) ≡ None
-no_front c cs e = by (is_ascii_alphabetic c) refl e
+no_enumerator : (c : ℕ) (cs : List ℕ) → begins_no_enumerator c (first cs) ≡ true → enumerator_of (c ∷ cs) ≡ None
+no_enumerator c cs e = by (is_ascii_alphabetic c) refl e
   where
     by : (b : Bool) → is_ascii_alphabetic c ≡ b → cond b (is_no_ordinal c (first cs)) (not (is_ascii_digit c || (c == 35 || c == 40))) ≡ true → enumerator_of (c ∷ cs) ≡ None
-    by true h e = letters_left (c ∷ cs) (letter_not c 40 h refl) (letter_not c 35 h refl) (no_digits c cs (letter_digit c h)) (behind_none c cs h e)
+    by true h e = letters_left (c ∷ cs) (letter_not c 40 h refl) (letter_not c 35 h refl) (no_digits c cs (letter_digit c h)) (after_letter_none c cs h e)
     by false h e =
         let parts = neither (is_ascii_digit c) (c == 35 || c == 40) e in
         let marks = neither (c == 35) (c == 40) (ap not parts.1) in
@@ -128,9 +128,9 @@ no_front c cs e = by (is_ascii_alphabetic c) refl e
         (ap (option_and_then (before_one (c ∷ cs))) (no_word c cs h))
 
 -- the same, by the first two characters of a text
-pub word_none : (t : List ℕ) (c : ℕ) → Some c ≡ first t → is_no_front c (first (drop 1 t)) ≡ true → None ≡ enumerator_of t
+pub word_none : (t : List ℕ) (c : ℕ) → Some c ≡ first t → begins_no_enumerator c (first (drop 1 t)) ≡ true → None ≡ enumerator_of t
 word_none [] c e h = cc
-word_none (d ∷ ds) c e h = let same : c ≡ d = cc in sym (no_front d ds (ap (λ x. is_no_front x (first ds)) (sym same) ∙ h))
+word_none (d ∷ ds) c e h = let same : c ≡ d = cc in sym (no_enumerator d ds (ap (λ x. begins_no_enumerator x (first ds)) (sym same) ∙ h))
 
 pub empty_none : (t : List ℕ) → None ≡ first t → None ≡ enumerator_of t
 unfolding enumerator_of written_at arabic_at letters_at run

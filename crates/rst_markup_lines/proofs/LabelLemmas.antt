@@ -13,13 +13,13 @@ use Rattle.rst_text.proofs.CharacterLemmas.{is_alphanumeric-ascii}
 use Rattle.rst_text.proofs.PlacesLemmas.{first_from-IsFirst}
 use Rattle.rst_text.specs.SimpleNames.{is_joint, is_name_at, is_simple_name, name_stop, simple_name}
 use Rattle.rst_text.proofs.SimpleNameLemmas.{not_simple, simple-where, name_stop-is}
-use Rattle.rst_markup_lines.specs.Front.{begins_with, first}
+use Rattle.rst_markup_lines.specs.TextStart.{begins_with, first}
 use Rattle.rst_markup_lines.specs.Class.{is_in, run}
 use Rattle.rst_markup_lines.specs.ExplicitMarks.{label_kind}
 use Rattle.rst_markup_lines.specs.declared.class.Class.TheVariants.{Digit}
 use Rattle.rst_markup_lines.specs.declared.explicit_marks.LabelKind.{LabelKind}
 use Rattle.rst_markup_lines.specs.declared.explicit_marks.LabelKind.TheVariants.{Footnote, Citation}
-use Rattle.rst_markup_lines.proofs.SimpleNames.{at-front, inside}
+use Rattle.rst_markup_lines.proofs.SimpleNames.{at-first, inside}
 
 -- a closing bracket follows n characters
 abbrev Closed : ℕ → List ℕ → Type 0
@@ -27,18 +27,18 @@ Closed n t = begins_with 93 (drop n t) ≡ true
 
 -- ---- no name goes on over the bracket
 
-behind : (n : ℕ) (t : List ℕ) → Closed n t → first (drop n t) ≡ Some 93
-behind n t h = by (drop n t) h
+after_label : (n : ℕ) (t : List ℕ) → Closed n t → first (drop n t) ≡ Some 93
+after_label n t h = by (drop n t) h
   where
     by : (cs : List ℕ) → begins_with 93 cs ≡ true → first cs ≡ Some 93
     by [] h = cc
     by (c ∷ cs) h = ap Some (eqb-true c 93 h)
 
 bracket_at : (n : ℕ) (t : List ℕ) → Closed n t → get_or t n 0 ≡ 93
-bracket_at n t h = at-front t (drop n t) 93 n refl (behind n t h)
+bracket_at n t h = at-first t (drop n t) 93 n refl (after_label n t h)
 
 room : (n : ℕ) (t : List ℕ) → Closed n t → n < length t
-room n t h = inside t (drop n t) 93 n refl (behind n t h)
+room n t h = inside t (drop n t) 93 n refl (after_label n t h)
 
 size : (n : ℕ) (t : List ℕ) → Closed n t → length (take n t) ≡ n
 size n t h = let less = room n t h in length-take-le n t (omega arith)

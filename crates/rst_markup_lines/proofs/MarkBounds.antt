@@ -6,10 +6,10 @@ use Rattle.rst_text.specs.Block.{is_blank}
 use Rattle.rst_text.specs.SimpleNames.{simple_name}
 use Rattle.rst_text.proofs.Choices.{chosen}
 use Rattle.rst_markup_lines.specs.declared.explicit_marks.SubstitutionMark.{SubstitutionMark}
-use Rattle.rst_markup_lines.specs.Front.{begins_with}
+use Rattle.rst_markup_lines.specs.TextStart.{begins_with}
 use Rattle.rst_markup_lines.specs.Class.{run}
 use Rattle.rst_markup_lines.specs.Closing.{closed}
-use Rattle.rst_markup_lines.specs.ExplicitMarks.{dots, label_kind, label_of, label_by, labelled, begins_white, quoted_target, plain_target, anonymous_target, target_of, substitution_of, spaced_bar, closing_bar, colons, directive_of}
+use Rattle.rst_markup_lines.specs.ExplicitMarks.{dots, label_kind, label_of, label_by, labelled, begins_white, quoted_target, plain_target, anonymous_target, target_of, substitution_of, spaced_bar, closing_bar, colons, directive_mark_of}
 use Rattle.rst_markup_lines.specs.Marker.{marker_of}
 use Rattle.rst_markup_lines.specs.declared.class.Class.TheVariants.{Unbracketed}
 use Rattle.rst_markup_lines.specs.declared.closing.Closing.TheVariants.{Colon, QuotedColon, Bar, SpacedBar}
@@ -133,10 +133,10 @@ spaced_within t n m (Some k) e h =
 pub substitution_within : (t : List ℕ) (n : ℕ) (m : Marker) → substitution_of t ≡ Some (NamedSubstitution n m) → (1 + n ≤ length t) × (m.cut ≤ length t)
 unfolding substitution_of
 substitution_within t n m h =
-    let behind : Option SubstitutionMark = spaced_bar t (closed SpacedBar (drop 1 t)) in
+    let following : Option SubstitutionMark = spaced_bar t (closed SpacedBar (drop 1 t)) in
     let none : Bool = is_blank (drop 1 t) || begins_white (drop 1 t) in
-    let d = chosen (begins_with 124 t) (cond none None behind) (NamedSubstitution n m) h in
-    spaced_within t n m (closed SpacedBar (drop 1 t)) refl (unless none behind (NamedSubstitution n m) d.1).1
+    let d = chosen (begins_with 124 t) (cond none None following) (NamedSubstitution n m) h in
+    spaced_within t n m (closed SpacedBar (drop 1 t)) refl (unless none following (NamedSubstitution n m) d.1).1
 
 -- ---- directives
 abbrev directive_with : ℕ → Marker → Option DirectiveMark
@@ -163,13 +163,13 @@ colons_within len n t d s h =
     let cut : c.0.cut ≡ d.marker.cut = ap (λ o. directive_cut o) whole in
     (omega arith, omega (arith, marker_within (n + 2) t c.0 room c.1))
 
-pub directive_within : (spaced : Bool) (t : List ℕ) (d : DirectiveMark) → directive_of spaced t ≡ Some d → (d.len ≤ length t) × (d.marker.cut ≤ length t)
-unfolding directive_of
+pub directive_within : (spaced : Bool) (t : List ℕ) (d : DirectiveMark) → directive_mark_of spaced t ≡ Some d → (d.len ≤ length t) × (d.marker.cut ≤ length t)
+unfolding directive_mark_of
 directive_within spaced t d h =
     let n : ℕ = simple_name t in
     let space : Bool = spaced && begins_with 32 (drop n t) in
-    let behind = (unless (n == 0) (cond space (colons n (n + 1) t) (colons n n t)) d h).1 in
+    let following = (unless (n == 0) (cond space (colons n (n + 1) t) (colons n n t)) d h).1 in
     elim (cases_Bool space) [
-      | inl one ↦ colons_within n (n + 1) t d (omega arith) (rw one at behind)
-      | inr none ↦ colons_within n n t d (omega arith) (rw none at behind)
+      | inl one ↦ colons_within n (n + 1) t d (omega arith) (rw one at following)
+      | inr none ↦ colons_within n n t d (omega arith) (rw none at following)
     ]

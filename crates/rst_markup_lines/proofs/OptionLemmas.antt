@@ -3,7 +3,7 @@ use Rattle.std.proofs.Common.{◌≡◌, ℕ, ◌+◌, ◌<◌, ◌≤◌, ◌==
 use Rattle.std.proofs.lemmas.Bool.{cases_lt, cond_both, not-false, or_parts, true≢false}
 use Rattle.std.proofs.lemmas.List.{drop_all}
 use Rattle.std.proofs.lemmas.List.Sums.{prefix_len-le-length}
-use Rattle.rst_markup_lines.specs.Front.{begins_with}
+use Rattle.rst_markup_lines.specs.TextStart.{begins_with}
 use Rattle.rst_markup_lines.specs.Class.{run, is_in}
 use Rattle.rst_markup_lines.specs.declared.class.Class.{Class}
 use Rattle.rst_markup_lines.specs.declared.class.Class.TheVariants.{Option as OptionClass, Bracketed}
@@ -13,7 +13,7 @@ use Rattle.rst_markup_lines.specs.declared.option.Argument.{Argument}
 use Rattle.rst_markup_lines.specs.declared.option.OptionMark.{OptionMark}
 use Rattle.rst_markup_lines.specs.declared.option.OptionTail.TheVariants.{Last, Next, Wrong}
 use Rattle.rst_markup_lines.specs.declared.marker.Marker.{Marker}
-use Rattle.rst_markup_lines.specs.OptionMarker.{argument_len, bracketed_len, begins_letter, begins_ascii_alphanumeric, argument_behind, with_delimiter, width_with, argument_width, short_argument, long_argument, long_option, short_option, option_at, option_of, tail_at, option_tail, tail_behind, last_if}
+use Rattle.rst_markup_lines.specs.OptionMarker.{argument_len, bracketed_len, begins_letter, begins_ascii_alphanumeric, argument_after, with_delimiter, width_with, argument_width, short_argument, long_argument, long_option, short_option, option_at, option_of, tail_at, option_tail, tail_after, last_if}
 use Rattle.rst_markup_lines.specs.Marker.{marker_of}
 use Rattle.rst_text.specs.Block.{is_blank, indentation}
 use Rattle.rst_markup_lines.proofs.TextLemmas.{indent_within}
@@ -39,22 +39,22 @@ argument_le t = cond_both (begins_letter t) (run OptionClass t) (cond (begins_wi
 abbrev Fits : ℕ → Option Argument → Type 0
 Fits n a = argument_width a ≤ n
 
-behind_fits : (d : Delimiter) (n m : ℕ) → m ≤ n → width_with d m ≤ n → Fits n (with_delimiter d m)
-behind_fits d n m h w = cond_both (m == 0) None (Some (record { delimiter = d; len = m })) (Fits n) (λ e. omega arith) (λ e. w)
+argument_fits : (d : Delimiter) (n m : ℕ) → m ≤ n → width_with d m ≤ n → Fits n (with_delimiter d m)
+argument_fits d n m h w = cond_both (m == 0) None (Some (record { delimiter = d; len = m })) (Fits n) (λ e. omega arith) (λ e. w)
 
 -- after a delimiter of one character
 delimited : (c : ℕ) (d : Delimiter) (t : List ℕ) → width_with d (argument_len (drop 1 t)) ≤ argument_len (drop 1 t) + 1 → begins_with c t ≡ true → Fits (length t) (with_delimiter d (argument_len (drop 1 t)))
 delimited c d t w e =
     let h : argument_len (drop 1 t) + 1 ≤ length t = omega (arith, argument_le (drop 1 t), length-drop 1 t, there c 0 t e) in
-    behind_fits d (length t) (argument_len (drop 1 t)) (omega arith) (omega arith)
+    argument_fits d (length t) (argument_len (drop 1 t)) (omega arith) (omega arith)
 
 short_fits : (t : List ℕ) → Fits (length t) (short_argument t)
-unfolding short_argument argument_behind
+unfolding short_argument argument_after
 short_fits t = cond_both (begins_with 32 t) (with_delimiter Space (argument_len (drop 1 t))) (with_delimiter Nothing (argument_len t)) (Fits (length t))
-    (λ e. delimited 32 Space t (omega arith) e) (λ e. behind_fits Nothing (length t) (argument_len t) (argument_le t) (argument_le t))
+    (λ e. delimited 32 Space t (omega arith) e) (λ e. argument_fits Nothing (length t) (argument_len t) (argument_le t) (argument_le t))
 
 long_fits : (t : List ℕ) → Fits (length t) (long_argument t)
-unfolding long_argument argument_behind
+unfolding long_argument argument_after
 long_fits t =
     let equals : Option Argument = with_delimiter Equals (argument_len (drop 1 t)) in
     cond_both (begins_with 32 t) (with_delimiter Space (argument_len (drop 1 t))) (cond (begins_with 61 t) equals None) (Fits (length t))
@@ -133,7 +133,7 @@ pub next_within : (n : ℕ) (t : List ℕ) → option_tail t ≡ Next n → (1 �
 unfolding option_tail
 next_within n t h = by (option_at t) refl h
   where
-    by : (o : Option OptionMark) → option_at t ≡ o → tail_behind o t ≡ Next n → (1 ≤ n) × (n ≤ length t)
+    by : (o : Option OptionMark) → option_at t ≡ o → tail_after o t ≡ Next n → (1 ≤ n) × (n ≤ length t)
     by None e h = cc
     by (Some o) e h = tail_next (o.string + argument_width o.argument) n t (omega (arith, (width_within t o e).0)) h
 
@@ -166,6 +166,6 @@ pub last_within : (t : List ℕ) (m : Marker) → option_tail t ≡ Last m → m
 unfolding option_tail
 last_within t m h = by (option_at t) refl h
   where
-    by : (o : Option OptionMark) → option_at t ≡ o → tail_behind o t ≡ Last m → m.cut ≤ length t
+    by : (o : Option OptionMark) → option_at t ≡ o → tail_after o t ≡ Last m → m.cut ≤ length t
     by None e h = cc
     by (Some o) e h = tail_last (o.string + argument_width o.argument) t m (width_within t o e).1 h

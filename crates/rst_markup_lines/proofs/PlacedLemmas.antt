@@ -2,7 +2,7 @@
 use Rattle.std.proofs.Common.{◌≡◌, ℕ, zero, suc, ◌+◌, ◌-◌, ◌≤◌, List, [], ◌∷◌, length, drop, map, Option, None, Some, arith, sub-one, refl, sym, ap, ◌∙◌}
 use Rattle.std.specs.Prelude.{All}
 use Rattle.std.proofs.lemmas.List.Elements.{All-nil, All-cons, All-head, All-tail}
-use Rattle.rst_markup_lines.specs.OptionMarker.{option_at, option_tail, tail_behind, argument_width, PlacedOption, moved, with_next, options_from, shifted, marker_of_options}
+use Rattle.rst_markup_lines.specs.OptionMarker.{option_at, option_tail, tail_after, argument_width, PlacedOption, moved, with_next, options_from, shifted, marker_of_options}
 use Rattle.rst_markup_lines.specs.declared.marker.Marker.{Marker}
 use Rattle.rst_markup_lines.specs.declared.option.OptionMark.{OptionMark}
 use Rattle.rst_markup_lines.specs.declared.option.OptionTail.{OptionTail}
@@ -75,15 +75,15 @@ optioned : (t : List ℕ) (tail : OptionTail) → option_tail t ≡ tail → (ta
 unfolding option_tail
 optioned t tail e right = by (option_at t) refl e
   where
-    by : (o : Option OptionMark) → option_at t ≡ o → tail_behind o t ≡ tail → (m : OptionMark) × (option_at t ≡ Some m)
+    by : (o : Option OptionMark) → option_at t ≡ o → tail_after o t ≡ tail → (m : OptionMark) × (option_at t ≡ Some m)
     by None f e = absurd (right (sym e))
     by (Some m) f e = (m, f)
 
 -- ---- the marker that they make
 -- one that leads to a next makes no marker itself
-marker_behind : (o : PlacedOption) (n : ℕ) (os : List PlacedOption) → o.tail ≡ Next n → marker_of_options (o ∷ os) ≡ marker_of_options os
-marker_behind o n [] e = rw e refl
-marker_behind o n (p ∷ os) e = refl
+marker_after : (o : PlacedOption) (n : ℕ) (os : List PlacedOption) → o.tail ≡ Next n → marker_of_options (o ∷ os) ≡ marker_of_options os
+marker_after o n [] e = rw e refl
+marker_after o n (p ∷ os) e = refl
 
 pub marker_last : (before : ℕ) (t : List ℕ) (m : Marker) (total : Option Marker) → option_tail t ≡ Last m
     → marker_of_options (map (moved before) (options_from 0 t)) ≡ total → Some (shifted before m) ≡ total
@@ -104,7 +104,7 @@ pub marker_next : (before n : ℕ) (t : List ℕ) (total : Option Marker) → op
     → marker_of_options (map (moved before) (options_from 0 t)) ≡ total → marker_of_options (map (moved (before + n)) (options_from 0 (drop n t))) ≡ total
 marker_next before n t total e s h =
     let o = optioned t (Next n) e (λ no. cc) in
-    sym (marker_behind (placed (before + 0) o.0 (Next n)) n (map (moved (before + n)) (options_from 0 (drop n t))) refl)
+    sym (marker_after (placed (before + 0) o.0 (Next n)) n (map (moved (before + n)) (options_from 0 (drop n t))) refl)
     ∙ ap marker_of_options (sym (placed_next before n t o.0 o.1 e s)) ∙ h
 
 -- ---- within the line

@@ -13,7 +13,7 @@ use Rattle.rst_markup_lines.proofs.Runs.{run_cons}
 use Rattle.rst_markup_lines.proofs.OptionLemmas.{run_le}
 use Rattle.rst_text.proofs.LinesLemmas.{length-chars}
 use Rattle.rst_markup_lines.specs.Class.{is_in, run}
-use Rattle.rst_markup_lines.specs.Roman.{digits, digit_at, digit_to, letters_of, numeral_of, roman}
+use Rattle.rst_markup_lines.specs.Roman.{roman_digits, digit_at, digit_to, letters_of, numeral_of, roman}
 use Rattle.rst_markup_lines.specs.declared.class.Class.TheVariants.{Letter}
 use Rattle.rst_markup_lines.specs.declared.enumerator.Case.{Case}
 use Rattle.rst_markup_lines.specs.declared.enumerator.Case.TheVariants.{Lower, Upper}
@@ -22,10 +22,10 @@ use Rattle.rst_markup_lines.specs.declared.roman.RomanPlace.TheVariants.{Thousan
 -- the number that letters are read as, digit by digit, if nothing is left
 abbrev pub read_numeral : Case → List ℕ → Option ℕ
 read_numeral case t =
-    let m = digit_at (digits case Thousands) t in
-    let h = digit_at (digits case Hundreds) m.1 in
-    let x = digit_at (digits case Tens) h.1 in
-    let i = digit_at (digits case Ones) x.1 in
+    let m = digit_at (roman_digits case Thousands) t in
+    let h = digit_at (roman_digits case Hundreds) m.1 in
+    let x = digit_at (roman_digits case Tens) h.1 in
+    let i = digit_at (roman_digits case Ones) x.1 in
     cond (length i.1 == 0) (Some (m.0 * 1000 + h.0 * 100 + x.0 * 10 + i.0)) None
 
 pub same_bytes : (a b : List ℕ) → bytes_eq a b ≡ true → a ≡ b
@@ -60,13 +60,13 @@ unfolding digit_to
 digit_end ds zero t h = refl
 digit_end ds (suc d) t h = absurd (omega arith)
 
-few : (case : Case) → (length (digits case Thousands) ≡ 4) × (length (digits case Hundreds) ≡ 9) × (length (digits case Tens) ≡ 9) × (length (digits case Ones) ≡ 9)
+few : (case : Case) → (length (roman_digits case Thousands) ≡ 4) × (length (roman_digits case Hundreds) ≡ 9) × (length (roman_digits case Tens) ≡ 9) × (length (roman_digits case Ones) ≡ 9)
 few Lower = (refl, refl, refl, refl)
 few Upper = (refl, refl, refl, refl)
 
 written : (case : Case) (m h x i : ℕ) → m ≤ 4 → h ≤ 9 → x ≤ 9 → i ≤ 9
     → numeral_of case (m * 1000 + h * 100 + x * 10 + i)
-    ≡ letters_of (digits case Thousands) m ++ (letters_of (digits case Hundreds) h ++ (letters_of (digits case Tens) x ++ letters_of (digits case Ones) i))
+    ≡ letters_of (roman_digits case Thousands) m ++ (letters_of (roman_digits case Hundreds) h ++ (letters_of (roman_digits case Tens) x ++ letters_of (roman_digits case Ones) i))
 written case m h x i a b c d =
     let v : ℕ = m * 1000 + h * 100 + x * 10 + i in
     let thousands : v / 1000 ≡ m = omega arith in
@@ -78,28 +78,28 @@ read_sound : (case : Case) (v : ℕ) (t : List ℕ) → read_numeral case t ≡ 
 read_sound case v t e = by (length i.1 == 0) refl e
   where
     m : ℕ × List ℕ
-    m = digit_at (digits case Thousands) t
+    m = digit_at (roman_digits case Thousands) t
 
     h : ℕ × List ℕ
-    h = digit_at (digits case Hundreds) m.1
+    h = digit_at (roman_digits case Hundreds) m.1
 
     x : ℕ × List ℕ
-    x = digit_at (digits case Tens) h.1
+    x = digit_at (roman_digits case Tens) h.1
 
     i : ℕ × List ℕ
-    i = digit_at (digits case Ones) x.1
+    i = digit_at (roman_digits case Ones) x.1
 
     by : (b : Bool) → (length i.1 == 0) ≡ b → cond b (Some (m.0 * 1000 + h.0 * 100 + x.0 * 10 + i.0)) None ≡ Some v → (v < 5000) × (numeral_of case v ≡ t)
     by false none e = cc
     by true none e =
-        let a = found (digits case Thousands) (length (digits case Thousands)) t in
-        let b = found (digits case Hundreds) (length (digits case Hundreds)) m.1 in
-        let c = found (digits case Tens) (length (digits case Tens)) h.1 in
-        let d = found (digits case Ones) (length (digits case Ones)) x.1 in
+        let a = found (roman_digits case Thousands) (length (roman_digits case Thousands)) t in
+        let b = found (roman_digits case Hundreds) (length (roman_digits case Hundreds)) m.1 in
+        let c = found (roman_digits case Tens) (length (roman_digits case Tens)) h.1 in
+        let d = found (roman_digits case Ones) (length (roman_digits case Ones)) x.1 in
         let most = few case in
         let value : v ≡ m.0 * 1000 + h.0 * 100 + x.0 * 10 + i.0 = cc in
         let end : i.1 ≡ [] = nil_from_length i.1 (eqb-true (length i.1) 0 none) in
-        let last : letters_of (digits case Ones) i.0 ≡ x.1 = sym (append-nil _) ∙ ap (λ l. letters_of (digits case Ones) i.0 ++ l) (sym end) ∙ d.0 in (
+        let last : letters_of (roman_digits case Ones) i.0 ≡ x.1 = sym (append-nil _) ∙ ap (λ l. letters_of (roman_digits case Ones) i.0 ++ l) (sym end) ∙ d.0 in (
           omega (arith, value, a.1, b.1, c.1, d.1, most.0, most.1, most.2, most.3),
           ap (numeral_of case) value ∙ written case m.0 h.0 x.0 i.0 (omega (arith, a.1, most.0)) (omega (arith, b.1, most.1)) (omega (arith, c.1, most.2)) (omega (arith, d.1, most.3))
               ∙ rw (last, c.0, b.0) a.0,
@@ -164,8 +164,8 @@ letters_in s n u e = (
 )
 
 -- what is read of the letters of a text, by the digits that are found and what is after each
-pub read_by : (case : Case) (s bytes a b c d : List ℕ) (n m h x i : ℕ) → IsUtf8 s → n ≡ run Letter (chars s) → bytes ≡ s → (m, a) ≡ digit_at (digits case Thousands) (take n bytes)
-    → (h, b) ≡ digit_at (digits case Hundreds) a → (x, c) ≡ digit_at (digits case Tens) b → (i, d) ≡ digit_at (digits case Ones) c → (e : Bool) → (length d == 0) ≡ e
+pub read_by : (case : Case) (s bytes a b c d : List ℕ) (n m h x i : ℕ) → IsUtf8 s → n ≡ run Letter (chars s) → bytes ≡ s → (m, a) ≡ digit_at (roman_digits case Thousands) (take n bytes)
+    → (h, b) ≡ digit_at (roman_digits case Hundreds) a → (x, c) ≡ digit_at (roman_digits case Tens) b → (i, d) ≡ digit_at (roman_digits case Ones) c → (e : Bool) → (length d == 0) ≡ e
     → cond e (Some (m * 1000 + h * 100 + x * 10 + i)) None ≡ roman case (take n (chars s))
 read_by case s bytes a b c d n m h x i u size same p q r o e end =
     sym (ap (roman case) (sym (letters_in s n u size).0 ∙ ap (take n) (sym same)) ∙ roman_is case (take n bytes) ∙ rw (sym p) (rw (sym q) (rw (sym r) (rw (sym o) (rw end refl)))))

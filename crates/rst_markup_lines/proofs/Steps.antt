@@ -1,7 +1,7 @@
 -- Numbers that are read a digit at a time.
 use Rattle.std.proofs.Common.{◌≡◌, ℕ, zero, suc, ◌+◌, ◌-◌, ◌*◌, ◌^◌, ◌<◌, ◌≤◌, List, [], ◌∷◌, drop, take, length, None, Some, arith, refl, sym, ap, ◌∙◌}
 use Rattle.std.proofs.Math.Nat.{pow-suc}
-use Rattle.rst_markup_lines.specs.Front.{first}
+use Rattle.rst_markup_lines.specs.TextStart.{first}
 use Rattle.rst_markup_lines.specs.Decimal.{digit, decimal}
 
 -- digits read after a value
@@ -14,16 +14,16 @@ one_on : (v d p q s : ℕ) → q ≡ p * 10 → (v * 10 + d) * p + s ≡ v * q +
 one_on v d p q s e = rw e (omega arith)
 
 -- they spell what they do by themselves, and the value precedes them
-behind_value : (v n : ℕ) (t : List ℕ) → decimal_from v n t ≡ v * 10 ^ length (take n t) + decimal (take n t)
+after_value : (v n : ℕ) (t : List ℕ) → decimal_from v n t ≡ v * 10 ^ length (take n t) + decimal (take n t)
 unfolding decimal_from decimal
-behind_value v zero t = omega arith
-behind_value v (suc n) [] = omega arith
-behind_value v (suc n) (c ∷ cs) =
-    behind_value (v * 10 + digit c) n cs
+after_value v zero t = omega arith
+after_value v (suc n) [] = omega arith
+after_value v (suc n) (c ∷ cs) =
+    after_value (v * 10 + digit c) n cs
     ∙ one_on v (digit c) (10 ^ length (take n cs)) (10 ^ suc (length (take n cs))) (decimal (take n cs)) (pow-suc 10 (length (take n cs)))
 
 pub decimal_is : (n : ℕ) (t : List ℕ) → decimal_from 0 n t ≡ decimal (take n t)
-decimal_is n t = omega (arith, behind_value 0 n t)
+decimal_is n t = omega (arith, after_value 0 n t)
 
 step : (v m k : ℕ) (cs : List ℕ) (c total : ℕ) → first cs ≡ Some c → m ≡ suc k → decimal_from v m cs ≡ total → decimal_from (v * 10 + digit c) k (drop 1 cs) ≡ total
 unfolding decimal_from

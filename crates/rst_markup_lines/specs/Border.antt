@@ -1,7 +1,7 @@
 -- Borders of tables (Markup Specification, 'Grid Tables', 'Simple Tables').
 use Rattle.std.specs.Prelude.{ℕ, ◌-◌, Bool, ◌&&◌, ◌==◌, nat_le, List, drop, length}
 use Rattle.std.specs.List.{list_all, list_any}
-use Rattle.rst_markup_lines.specs.Front.{begins_with}
+use Rattle.rst_markup_lines.specs.TextStart.{begins_with}
 use Rattle.rst_markup_lines.specs.Class.{is_in}
 use Rattle.rst_markup_lines.specs.declared.class.Class.TheVariants.{Either}
 

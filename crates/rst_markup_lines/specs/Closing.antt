@@ -4,7 +4,7 @@ use Rattle.std.specs.Prelude.{ℕ, ◌+◌, ◌-◌, Bool, not, ◌&&◌, ◌==�
 use Rattle.rst_text.specs.Places.{first_from}
 use Rattle.rst_text.specs.Characters.{has, is_dark}
 use Rattle.rst_text.specs.Escapes.{is_escaped}
-use Rattle.rst_markup_lines.specs.Front.{begins_with, is_loose}
+use Rattle.rst_markup_lines.specs.TextStart.{begins_with, is_loose}
 use Rattle.rst_markup_lines.specs.declared.closing.Closing.{Closing}
 use Rattle.rst_markup_lines.specs.declared.closing.Closing.TheVariants.{Colon, QuotedColon, Bar, SpacedBar}
 
@@ -17,12 +17,12 @@ is_closing Bar dark c cs = c == 124 && dark
 is_closing SpacedBar dark c cs = c == 124 && (dark && begins_with 32 cs)
 
 -- a character that isn't white comes before the place
-abbrev pub is_behind_dark : List ℕ → ℕ → Bool
-is_behind_dark t i = nat_lt 0 i && is_dark t (i - 1)
+abbrev pub is_after_dark : List ℕ → ℕ → Bool
+is_after_dark t i = nat_lt 0 i && is_dark t (i - 1)
 
 -- the character at the place closes, and isn't escaped
 unfoldable pub closes : Closing → List ℕ → ℕ → Bool
-closes closing t i = not (is_escaped t 0 i) && is_closing closing (is_behind_dark t i) (slice_index t i) (drop (i + 1) t)
+closes closing t i = not (is_escaped t 0 i) && is_closing closing (is_after_dark t i) (slice_index t i) (drop (i + 1) t)
 
 -- how many characters come before the first that closes: its place, from 0
 abbrev pub closed : Closing → List ℕ → Option ℕ

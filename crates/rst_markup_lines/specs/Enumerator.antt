@@ -2,7 +2,7 @@
 use Rattle.std.specs.Prelude.{ℕ, suc, ◌+◌, ◌-◌, Bool, true, false, ◌&&◌, ◌||◌, ◌==◌, nat_lt, not, unwrap_or, List, take, drop, if◌then◌else◌, Option, None, Some}
 use Rattle.std.specs.Char.{is_ascii_lowercase, is_ascii_uppercase, is_ascii_digit, is_ascii_alphabetic}
 use Rattle.std.specs.Option.{option_and_then, option_map, option_or}
-use Rattle.rst_markup_lines.specs.Front.{first, begins_with}
+use Rattle.rst_markup_lines.specs.TextStart.{first, begins_with}
 use Rattle.rst_markup_lines.specs.Class.{run}
 use Rattle.rst_markup_lines.specs.Decimal.{number_of}
 use Rattle.rst_markup_lines.specs.Roman.{roman, is_numeral_letter}
@@ -64,8 +64,8 @@ is_no_ordinal letter None = true
 is_no_ordinal letter (Some c) = if is_ascii_alphabetic c then not (is_numeral_letter letter && is_numeral_letter c) else not (c == 41 || c == 46)
 
 -- such a letter, or what is neither a letter, a digit, `#` nor `(`
-abbrev pub is_no_front : ℕ → Option ℕ → Bool
-is_no_front c behind = if is_ascii_alphabetic c then is_no_ordinal c behind else not (is_ascii_digit c || (c == 35 || c == 40))
+abbrev pub begins_no_enumerator : ℕ → Option ℕ → Bool
+begins_no_enumerator c following = if is_ascii_alphabetic c then is_no_ordinal c following else not (is_ascii_digit c || (c == 35 || c == 40))
 
 -- an enumerator of this format with an ordinal that follows `from` characters and before one more, if spaces or the
 -- end are after it

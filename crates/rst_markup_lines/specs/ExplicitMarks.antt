@@ -6,7 +6,7 @@ use Rattle.std.specs.Option.{option_and_then}
 use Rattle.rst_text.specs.Block.{is_blank}
 use Rattle.rst_text.specs.Characters.{is_white}
 use Rattle.rst_text.specs.SimpleNames.{simple_name, is_simple_name}
-use Rattle.rst_markup_lines.specs.Front.{begins_by, begins_with}
+use Rattle.rst_markup_lines.specs.TextStart.{begins_by, begins_with}
 use Rattle.rst_markup_lines.specs.Class.{is_in, run}
 use Rattle.rst_markup_lines.specs.Closing.{closed}
 use Rattle.rst_markup_lines.specs.Marker.{marker_of}
@@ -106,13 +106,13 @@ colons len n t =
     else option_and_then (λ m. Some (record { len = len; marker = m })) (marker_of (n + 2) t)
 
 -- a simple name of n characters and two colons, between which one space may be there if `spaced` is true
-abbrev pub directive_by : Bool → ℕ → List ℕ → Option DirectiveMark
-directive_by spaced n t =
+abbrev pub directive_mark_by : Bool → ℕ → List ℕ → Option DirectiveMark
+directive_mark_by spaced n t =
     if n == 0 then None
     else if spaced && begins_with 32 (drop n t) then colons n (n + 1) t
     else colons n n t
 
 -- The mark of a directive: a simple name and `::` with spaces or the end after it. A space may be between the two if
 -- `spaced` is true, as it is except in substitution definitions.
-unfoldable pub directive_of : Bool → List ℕ → Option DirectiveMark
-directive_of spaced t = directive_by spaced (simple_name t) t
+unfoldable pub directive_mark_of : Bool → List ℕ → Option DirectiveMark
+directive_mark_of spaced t = directive_mark_by spaced (simple_name t) t

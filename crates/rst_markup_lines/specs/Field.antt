@@ -1,7 +1,7 @@
 -- Fields (Markup Specification, 'Field Lists').
 use Rattle.std.specs.Prelude.{ℕ, ◌+◌, ◌-◌, Bool, ◌||◌, ◌==◌, List, drop, if◌then◌else◌, Option, None, Some}
 use Rattle.std.specs.Option.{option_and_then}
-use Rattle.rst_markup_lines.specs.Front.{begins_with}
+use Rattle.rst_markup_lines.specs.TextStart.{begins_with}
 use Rattle.rst_markup_lines.specs.Closing.{closed}
 use Rattle.rst_markup_lines.specs.Marker.{marker_of}
 use Rattle.rst_markup_lines.specs.Place.{place_of}

@@ -1,4 +1,4 @@
-pub mod Front
+pub mod TextStart
 pub mod Class
 pub mod Marker
 pub mod Place

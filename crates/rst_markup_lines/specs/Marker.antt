@@ -1,7 +1,7 @@
 -- Markers (Markup Specification, 'Bullet Lists', 'Doctest Blocks', 'Line Blocks').
 use Rattle.std.specs.Prelude.{ℕ, ◌+◌, Bool, true, ◌&&◌, ◌||◌, ◌==◌, List, drop, if◌then◌else◌, Option, None, Some}
 use Rattle.rst_text.specs.Block.{indentation, is_blank}
-use Rattle.rst_markup_lines.specs.Front.{begins_with, first, unindented}
+use Rattle.rst_markup_lines.specs.TextStart.{begins_with, first, unindented}
 use Rattle.rst_markup_lines.specs.declared.marker.Marker.{Marker}
 
 -- the first n characters of a text with the spaces after them, if spaces or the end are after them

@@ -4,7 +4,7 @@ use Rattle.std.specs.Char.{is_ascii_alphanumeric}
 use Rattle.std.specs.List.{last_or}
 use Rattle.std.specs.Option.{option_and_then}
 use Rattle.rst_text.specs.Characters.{is_letter}
-use Rattle.rst_markup_lines.specs.Front.{begins_by, begins_with}
+use Rattle.rst_markup_lines.specs.TextStart.{begins_by, begins_with}
 use Rattle.rst_markup_lines.specs.Class.{run}
 use Rattle.rst_markup_lines.specs.declared.class.Class.TheVariants.{Option as OptionClass, Bracketed}
 use Rattle.rst_markup_lines.specs.declared.option.Delimiter.{Delimiter}
@@ -41,18 +41,18 @@ abbrev pub with_delimiter : Delimiter → ℕ → Option Argument
 with_delimiter d n = if n == 0 then None else Some (record { delimiter = d; len = n })
 
 -- the argument at the front of a text that this delimiter precedes
-unfoldable pub argument_behind : Delimiter → List ℕ → Option Argument
-argument_behind d t = with_delimiter d (argument_len t)
+unfoldable pub argument_after : Delimiter → List ℕ → Option Argument
+argument_after d t = with_delimiter d (argument_len t)
 
 -- with or without a space before it
 unfoldable pub short_argument : List ℕ → Option Argument
-short_argument t = if begins_with 32 t then argument_behind Space (drop 1 t) else argument_behind Nothing t
+short_argument t = if begins_with 32 t then argument_after Space (drop 1 t) else argument_after Nothing t
 
 -- with a space or `=` before it
 unfoldable pub long_argument : List ℕ → Option Argument
 long_argument t =
-    if begins_with 32 t then argument_behind Space (drop 1 t)
-    else if begins_with 61 t then argument_behind Equals (drop 1 t)
+    if begins_with 32 t then argument_after Space (drop 1 t)
+    else if begins_with 61 t then argument_after Equals (drop 1 t)
     else None
 
 -- an option of n characters with its argument, if it has one
@@ -101,13 +101,13 @@ tail_at n t =
     else last_if (marker_of n t)
 
 -- what follows an option at the front of a text; where there is none, the text is wrong
-abbrev pub tail_behind : Option OptionMark → List ℕ → OptionTail
-tail_behind None t = Wrong
-tail_behind (Some o) t = tail_at (o.string + argument_width o.argument) t
+abbrev pub tail_after : Option OptionMark → List ℕ → OptionTail
+tail_after None t = Wrong
+tail_after (Some o) t = tail_at (o.string + argument_width o.argument) t
 
 -- what follows the option at the front of a text
 unfoldable pub option_tail : List ℕ → OptionTail
-option_tail t = tail_behind (option_at t) t
+option_tail t = tail_after (option_at t) t
 
 -- an option of a text: how many characters come before it, the option, and what follows it
 pub record PlacedOption : Type 0 where

@@ -9,26 +9,26 @@ use Rattle.rst_markup_lines.specs.declared.roman.RomanPlace.{RomanPlace}
 use Rattle.rst_markup_lines.specs.declared.roman.RomanPlace.TheVariants.{Thousands, Hundreds, Tens, Ones}
 
 -- the letters of the digits from 1 on in a place: 9 is one before ten and 4 is one before five, else there is a five from 5 on, and ones
-abbrev pub digits : Case → RomanPlace → List (List ℕ)
-digits Lower Thousands = map codes ("m" ∷ "mm" ∷ "mmm" ∷ "mmmm" ∷ [])
-digits Lower Hundreds = map codes ("c" ∷ "cc" ∷ "ccc" ∷ "cd" ∷ "d" ∷ "dc" ∷ "dcc" ∷ "dccc" ∷ "cm" ∷ [])
-digits Lower Tens = map codes ("x" ∷ "xx" ∷ "xxx" ∷ "xl" ∷ "l" ∷ "lx" ∷ "lxx" ∷ "lxxx" ∷ "xc" ∷ [])
-digits Lower Ones = map codes ("i" ∷ "ii" ∷ "iii" ∷ "iv" ∷ "v" ∷ "vi" ∷ "vii" ∷ "viii" ∷ "ix" ∷ [])
-digits Upper Thousands = map codes ("M" ∷ "MM" ∷ "MMM" ∷ "MMMM" ∷ [])
-digits Upper Hundreds = map codes ("C" ∷ "CC" ∷ "CCC" ∷ "CD" ∷ "D" ∷ "DC" ∷ "DCC" ∷ "DCCC" ∷ "CM" ∷ [])
-digits Upper Tens = map codes ("X" ∷ "XX" ∷ "XXX" ∷ "XL" ∷ "L" ∷ "LX" ∷ "LXX" ∷ "LXXX" ∷ "XC" ∷ [])
-digits Upper Ones = map codes ("I" ∷ "II" ∷ "III" ∷ "IV" ∷ "V" ∷ "VI" ∷ "VII" ∷ "VIII" ∷ "IX" ∷ [])
+abbrev pub roman_digits : Case → RomanPlace → List (List ℕ)
+roman_digits Lower Thousands = map codes ("m" ∷ "mm" ∷ "mmm" ∷ "mmmm" ∷ [])
+roman_digits Lower Hundreds = map codes ("c" ∷ "cc" ∷ "ccc" ∷ "cd" ∷ "d" ∷ "dc" ∷ "dcc" ∷ "dccc" ∷ "cm" ∷ [])
+roman_digits Lower Tens = map codes ("x" ∷ "xx" ∷ "xxx" ∷ "xl" ∷ "l" ∷ "lx" ∷ "lxx" ∷ "lxxx" ∷ "xc" ∷ [])
+roman_digits Lower Ones = map codes ("i" ∷ "ii" ∷ "iii" ∷ "iv" ∷ "v" ∷ "vi" ∷ "vii" ∷ "viii" ∷ "ix" ∷ [])
+roman_digits Upper Thousands = map codes ("M" ∷ "MM" ∷ "MMM" ∷ "MMMM" ∷ [])
+roman_digits Upper Hundreds = map codes ("C" ∷ "CC" ∷ "CCC" ∷ "CD" ∷ "D" ∷ "DC" ∷ "DCC" ∷ "DCCC" ∷ "CM" ∷ [])
+roman_digits Upper Tens = map codes ("X" ∷ "XX" ∷ "XXX" ∷ "XL" ∷ "L" ∷ "LX" ∷ "LXX" ∷ "LXXX" ∷ "XC" ∷ [])
+roman_digits Upper Ones = map codes ("I" ∷ "II" ∷ "III" ∷ "IV" ∷ "V" ∷ "VI" ∷ "VII" ∷ "VIII" ∷ "IX" ∷ [])
 
 -- the letters of a digit, of these; 0 has none
 abbrev pub letters_of : List (List ℕ) → ℕ → List ℕ
-letters_of digits zero = []
-letters_of digits (suc d) = get_or digits d []
+letters_of roman_digits zero = []
+letters_of roman_digits (suc d) = get_or roman_digits d []
 
 -- the numeral of a number below 5000: the letters of its digits
 abbrev pub numeral_of : Case → ℕ → List ℕ
 numeral_of case n =
-    letters_of (digits case Thousands) (n / 1000) ++ (letters_of (digits case Hundreds) (n / 100 % 10)
-    ++ (letters_of (digits case Tens) (n / 10 % 10) ++ letters_of (digits case Ones) (n % 10)))
+    letters_of (roman_digits case Thousands) (n / 1000) ++ (letters_of (roman_digits case Hundreds) (n / 100 % 10)
+    ++ (letters_of (roman_digits case Tens) (n / 10 % 10) ++ letters_of (roman_digits case Ones) (n % 10)))
 
 -- the value of letters: the number of which they are the numeral, up to 4999, if there is one
 unfoldable pub roman : Case → List ℕ → Option ℕ
@@ -52,10 +52,10 @@ is_numeral_letter c = is_lower_numeral c || is_upper_numeral c
 
 -- the greatest digit up to one whose letters come first, and what is after them
 unfoldable pub digit_to : List (List ℕ) → ℕ → List ℕ → ℕ × List ℕ
-digit_to digits zero t = (0, t)
-digit_to digits (suc d) t =
-    let letters = letters_of digits (suc d) in
-    if bytes_eq (take (length letters) t) letters then (suc d, drop (length letters) t) else digit_to digits d t
+digit_to roman_digits zero t = (0, t)
+digit_to roman_digits (suc d) t =
+    let letters = letters_of roman_digits (suc d) in
+    if bytes_eq (take (length letters) t) letters then (suc d, drop (length letters) t) else digit_to roman_digits d t
 
 abbrev pub digit_at : List (List ℕ) → List ℕ → ℕ × List ℕ
-digit_at digits t = digit_to digits (length digits) t
+digit_at roman_digits t = digit_to roman_digits (length roman_digits) t

@@ -3,7 +3,7 @@ ghost use Rattle.std.specs.Prelude.{◌≡◌, chars};
 ghost use Rattle.rst_markup_lines.specs.Adornment as spec;
 
 use super::class::{Class, run};
-use super::text::{front, is_blank};
+use super::text::{first_char, is_blank};
 use rst_text::skip;
 
 /// A line of one punctuation character: the character and how often it occurs there.
@@ -25,7 +25,7 @@ pub fn is_punctuation(c: char) -> bool
 pub fn adornment_of(text: &str) -> Option<Adornment>
     ensures { result ≡ spec.adornment_of (chars text.now) }
 {
-    let c = front(text)?;
+    let c = first_char(text)?;
     if !is_punctuation(c) {
         return None;
     }

@@ -20,9 +20,9 @@ pub fn attribution_of(text: &str) -> Option<usize>
     } else {
         return None;
     };
-    let behind = skip(text, dash);
-    let spaces = indentation(behind);
-    if is_blank(skip(behind, spaces)) {
+    let following = skip(text, dash);
+    let spaces = indentation(following);
+    if is_blank(skip(following, spaces)) {
         return None;
     }
     Some(dash + spaces)

@@ -2,7 +2,7 @@
 ghost use Rattle.std.specs.Prelude.{◌≡◌, ◌≤◌, length, chars};
 ghost use Rattle.rst_markup_lines.specs.Class as spec;
 
-use super::text::{after_first, front};
+use super::text::{after_first, first_char};
 use rst_text::is_alphanumeric;
 
 /// A class of characters.
@@ -50,7 +50,7 @@ pub fn run(class: Class, text: &str) -> usize
 {
     let mut rest = text;
     let mut n = 0;
-    while let Some(c) = front(rest) {
+    while let Some(c) = first_char(rest) {
         if !is_in(class, c) {
             break;
         }

@@ -2,9 +2,9 @@
 ghost use Rattle.std.specs.Prelude.{◌≡◌, ◌<◌, ◌-◌, ◌&&◌, ◌==◌, not, drop, length, IfSome, chars};
 ghost use Rattle.rst_text.specs.Block as block;
 ghost use Rattle.rst_markup_lines.specs.Closing as spec;
-ghost use Rattle.rst_markup_lines.specs.Front as fronts;
+ghost use Rattle.rst_markup_lines.specs.TextStart as text_start;
 
-use super::text::{after_first, begins_with, front, is_blank, is_loose};
+use super::text::{after_first, begins_with, first_char, is_blank, is_loose};
 use rst_text::{escapes, is_white, skip};
 
 /// What closes.
@@ -22,19 +22,19 @@ pub(crate) enum Closing {
 
 /// Whether a character closes, by whether it is escaped, and whether one that isn't white comes before it.
 #[tactic(auto, unfolding(crate::specs::Closing::is_closing))]
-fn closes(closing: Closing, escaped: bool, dark: bool, c: char, behind: &str) -> bool
-    ensures { result ≡ (not escaped && spec.is_closing closing dark c (chars behind.now)) }
+fn closes(closing: Closing, escaped: bool, dark: bool, c: char, following: &str) -> bool
+    ensures { result ≡ (not escaped && spec.is_closing closing dark c (chars following.now)) }
 {
     if escaped {
         return false;
     }
     match closing {
-        Closing::Colon => c == ':' && is_loose(behind),
+        Closing::Colon => c == ':' && is_loose(following),
         Closing::QuotedColon => {
-            c == '`' && begins_with(':', behind) && is_loose(skip(behind, 1))
+            c == '`' && begins_with(':', following) && is_loose(skip(following, 1))
         }
         Closing::Bar => c == '|' && dark,
-        Closing::SpacedBar => c == '|' && dark && begins_with(' ', behind),
+        Closing::SpacedBar => c == '|' && dark && begins_with(' ', following),
     }
 }
 
@@ -47,15 +47,15 @@ pub(crate) fn closed(closing: Closing, text: &str) -> Option<usize>
     let mut n = 0;
     let mut escaped = false;
     let mut dark = false;
-    while let Some(letter) = front(rest) {
-        let behind = after_first(rest);
-        if closes(closing, escaped, dark, letter, behind) {
+    while let Some(letter) = first_char(rest) {
+        let following = after_first(rest);
+        if closes(closing, escaped, dark, letter, following) {
             return Some(n);
         }
         n += 1;
         escaped = escapes(letter, escaped);
         dark = !is_white(letter);
-        rest = behind;
+        rest = following;
     }
     None
 }
@@ -70,20 +70,20 @@ pub fn ends_in_colons(text: &str) -> bool
     }
     let mut rest = text;
     let mut escaped = false;
-    while let Some(c) = front(rest) {
-        let behind = after_first(rest);
-        if is_colon_pair(escaped, c, behind) {
+    while let Some(c) = first_char(rest) {
+        let following = after_first(rest);
+        if is_colon_pair(escaped, c, following) {
             return true;
         }
         escaped = escapes(c, escaped);
-        rest = behind;
+        rest = following;
     }
     false
 }
 
 /// Whether a character and what is after it are two colons.
-fn is_colon_pair(escaped: bool, c: char, behind: &str) -> bool
-    ensures { result ≡ (not escaped && (c == 58 && (fronts.begins_with 58 (chars behind.now) && block.is_blank (drop 1 (chars behind.now))))) }
+fn is_colon_pair(escaped: bool, c: char, following: &str) -> bool
+    ensures { result ≡ (not escaped && (c == 58 && (text_start.begins_with 58 (chars following.now) && block.is_blank (drop 1 (chars following.now))))) }
 {
-    !escaped && c == ':' && begins_with(':', behind) && is_blank(skip(behind, 1))
+    !escaped && c == ':' && begins_with(':', following) && is_blank(skip(following, 1))
 }

@@ -2,7 +2,7 @@
 ghost use Rattle.std.specs.Prelude.{◌≡◌, ◌≤◌, chars};
 ghost use Rattle.rst_markup_lines.specs.Decimal as spec;
 
-use super::text::{after_first, front};
+use super::text::{after_first, first_char};
 
 /// The value of an ASCII digit; of another character it is 0.
 #[tactic(auto, unfolding(crate::specs::Class::is_in))]
@@ -24,7 +24,7 @@ pub fn number_of(n: usize, text: &str) -> u64
     let mut rest = text;
     let mut value = 0;
     for k in 0..n {
-        let Some(c) = front(rest) else {
+        let Some(c) = first_char(rest) else {
             break;
         };
         value = value * 10 + digit(c);

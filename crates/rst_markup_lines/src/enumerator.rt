@@ -6,7 +6,7 @@ use super::class::{Class, run};
 use super::decimal::number_of;
 use super::marker::{Marker, marker_of};
 use super::roman::{is_numeral_letter, roman};
-use super::text::{after_first, begins_with, front};
+use super::text::{after_first, begins_with, first_char};
 use rst_text::skip;
 
 /// What encloses an enumerator's ordinal.
@@ -59,7 +59,7 @@ pub struct Enumerator {
 
 /// The ordinal that the digits at the front of a text spell: at most nine.
 #[tactic(auto, unfolding(crate::specs::Enumerator::arabic_at))]
-fn digits(text: &str) -> Option<Written>
+fn digit_ordinal(text: &str) -> Option<Written>
     ensures value { result ≡ spec.arabic_at (chars text.now) }
     ensures short { IfSome result (λ written. written.len < 2 ^ 63) }
 {
@@ -79,7 +79,7 @@ fn letters(text: &str) -> Option<Written>
     ensures value { result ≡ spec.letters_at (chars text.now) }
     ensures short { IfSome result (λ written. written.len < 2 ^ 63) }
 {
-    let first = front(text)?;
+    let first = first_char(text)?;
     let len = run(Class::Letter, text);
     if len == 0 {
         return None;
@@ -117,13 +117,13 @@ fn letters(text: &str) -> Option<Written>
 }
 
 /// Whether a character can't begin an enumerator, by the one after it.
-fn is_no_front(c: char, behind: Option<char>) -> bool
-    ensures { result ≡ spec.is_no_front c behind }
+fn begins_no_enumerator(c: char, following: Option<char>) -> bool
+    ensures { result ≡ spec.begins_no_enumerator c following }
 {
     if !c.is_ascii_alphabetic() {
         return !matches!(c, '0'..='9' | '#' | '(');
     }
-    match behind {
+    match following {
         None => true,
         Some(d) => {
             if d.is_ascii_alphabetic() {
@@ -141,8 +141,8 @@ pub fn enumerator_of(text: &str) -> Option<Enumerator>
     ensures { result ≡ spec.enumerator_of (chars text.now) }
 {
     // Most lines begin with a word, as its first two letters show.
-    match front(text) {
-        Some(c) if !is_no_front(c, front(after_first(text))) => read_enumerator(text),
+    match first_char(text) {
+        Some(c) if !begins_no_enumerator(c, first_char(after_first(text))) => read_enumerator(text),
         _ => None,
     }
 }
@@ -161,12 +161,12 @@ fn read_enumerator(text: &str) -> Option<Enumerator>
             ordinals: Ordinals::Auto,
             len: 1,
         }
-    } else if let Some(arabic) = digits(ordinal) {
+    } else if let Some(arabic) = digit_ordinal(ordinal) {
         arabic
     } else {
         letters(ordinal)?
     };
-    let format = match (from, front(skip(text, from + written.len))) {
+    let format = match (from, first_char(skip(text, from + written.len))) {
         (1, Some(')')) => Format::Parentheses,
         (0, Some(')')) => Format::Parenthesis,
         (0, Some('.')) => Format::Period,

@@ -4,12 +4,12 @@ ghost use Rattle.rst_text.specs.Characters as characters;
 ghost use Rattle.rst_text.specs.Characters.{is_alnum_at};
 ghost use Rattle.rst_text.specs.SimpleNames as names;
 ghost use Rattle.rst_markup_lines.specs.ExplicitMarks as spec;
-ghost use Rattle.rst_markup_lines.specs.Front.{begins_with};
+ghost use Rattle.rst_markup_lines.specs.TextStart.{begins_with};
 
 use super::class::{Class, run};
 use super::closing::{Closing, closed};
 use super::marker::{Marker, marker_of};
-use super::text::{after_first, begins_with, front, is_blank};
+use super::text::{after_first, begins_with, first_char, is_blank};
 use rst_text::{is_alphanumeric, is_joint, is_white, skip};
 
 /// The marker of explicit markup: `..`.
@@ -40,7 +40,7 @@ pub fn underscores(text: &str) -> Option<Marker>
 fn begins_alphanumeric(text: &str) -> bool
     ensures { result ≡ is_alnum_at (chars text.now) 0 }
 {
-    match front(text) {
+    match first_char(text) {
         Some(c) => is_alphanumeric(c),
         None => false,
     }
@@ -48,10 +48,10 @@ fn begins_alphanumeric(text: &str) -> bool
 
 /// Whether a character after those of a simple name goes on with it: a letter or a number does, and a joint with one
 /// of these after it.
-fn goes_on(c: char, behind: &str) -> bool
-    ensures { result ≡ (characters.is_alphanumeric c || (names.is_joint c && is_alnum_at (chars behind.now) 0)) }
+fn goes_on(c: char, following: &str) -> bool
+    ensures { result ≡ (characters.is_alphanumeric c || (names.is_joint c && is_alnum_at (chars following.now) 0)) }
 {
-    is_alphanumeric(c) || (is_joint(c) && begins_alphanumeric(behind))
+    is_alphanumeric(c) || (is_joint(c) && begins_alphanumeric(following))
 }
 
 /// How many characters the simple name at the front of a text has; 0 where there is none.
@@ -64,13 +64,13 @@ fn simple_name(text: &str) -> usize
     }
     let mut rest = text;
     let mut n = 0;
-    while let Some(c) = front(rest) {
-        let behind = after_first(rest);
-        if !goes_on(c, behind) {
+    while let Some(c) = first_char(rest) {
+        let following = after_first(rest);
+        if !goes_on(c, following) {
             break;
         }
         n += 1;
-        rest = behind;
+        rest = following;
     }
     n
 }
@@ -123,12 +123,12 @@ pub fn label_of(text: &str) -> Option<LabelMark>
     if !begins_with('[', text) {
         return None;
     }
-    let behind = skip(text, 1);
-    let len = run(Class::Unbracketed, behind);
-    if !begins_with(']', skip(behind, len)) {
+    let following = skip(text, 1);
+    let len = run(Class::Unbracketed, following);
+    if !begins_with(']', skip(following, len)) {
         return None;
     }
-    let kind = label_kind(len, behind)?;
+    let kind = label_kind(len, following)?;
     let marker = marker_of(len + 2, text)?;
     Some(LabelMark { kind, len, marker })
 }
@@ -148,7 +148,7 @@ pub enum TargetMark {
 fn begins_white(text: &str) -> bool
     ensures { result ≡ spec.begins_white (chars text.now) }
 {
-    match front(text) {
+    match first_char(text) {
         Some(c) => is_white(c),
         None => false,
     }
@@ -162,15 +162,15 @@ pub fn target_of(text: &str) -> Option<TargetMark>
     if !begins_with('_', text) {
         return None;
     }
-    let behind = skip(text, 1);
-    if begins_with('_', behind) {
+    let following = skip(text, 1);
+    if begins_with('_', following) {
         if !begins_with(':', skip(text, 2)) {
             return None;
         }
         let marker = marker_of(3, text)?;
         return Some(TargetMark::Anonymous(marker));
     }
-    if begins_with('`', behind) {
+    if begins_with('`', following) {
         let quoted = skip(text, 2);
         let len = closed(Closing::QuotedColon, quoted)?;
         if len == 0 || begins_white(quoted) || begins_with('`', quoted) {
@@ -183,8 +183,8 @@ pub fn target_of(text: &str) -> Option<TargetMark>
             marker,
         });
     }
-    let len = closed(Closing::Colon, behind)?;
-    if len == 0 || begins_white(behind) {
+    let len = closed(Closing::Colon, following)?;
+    if len == 0 || begins_white(following) {
         return None;
     }
     let marker = marker_of(len + 2, text)?;
@@ -215,15 +215,15 @@ pub fn substitution_of(text: &str) -> Option<SubstitutionMark>
     if !begins_with('|', text) {
         return None;
     }
-    let behind = skip(text, 1);
-    if is_blank(behind) || begins_white(behind) {
+    let following = skip(text, 1);
+    if is_blank(following) || begins_white(following) {
         return None;
     }
-    if let Some(len) = closed(Closing::SpacedBar, behind) {
+    if let Some(len) = closed(Closing::SpacedBar, following) {
         let marker = marker_of(len + 2, text)?;
         return Some(SubstitutionMark::Named { len, marker });
     }
-    match closed(Closing::Bar, behind) {
+    match closed(Closing::Bar, following) {
         Some(_) => Some(SubstitutionMark::Tight),
         None => Some(SubstitutionMark::Unclosed),
     }
@@ -238,9 +238,9 @@ pub struct DirectiveMark {
 
 /// The directive mark at the front of a text: a simple name and `::`, between which a space may be if `spaced`
 /// is true.
-#[tactic(auto, unfolding(crate::specs::ExplicitMarks::directive_of, crate::specs::ExplicitMarks::colons))]
-pub fn directive_of(spaced: bool, text: &str) -> Option<DirectiveMark>
-    ensures { result ≡ spec.directive_of spaced (chars text.now) }
+#[tactic(auto, unfolding(crate::specs::ExplicitMarks::directive_mark_of, crate::specs::ExplicitMarks::colons))]
+pub fn directive_mark_of(spaced: bool, text: &str) -> Option<DirectiveMark>
+    ensures { result ≡ spec.directive_mark_of spaced (chars text.now) }
 {
     let len = simple_name(text);
     if len == 0 {

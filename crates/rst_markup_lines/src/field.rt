@@ -24,12 +24,12 @@ pub fn field_of(text: &str) -> Option<FieldMark>
     if !begins_with(':', text) {
         return None;
     }
-    let behind = skip(text, 1);
-    let len = closed(Closing::Colon, behind)?;
+    let following = skip(text, 1);
+    let len = closed(Closing::Colon, following)?;
     if len == 0
-        || begins_with(' ', behind)
-        || begins_with(':', behind)
-        || begins_with(' ', skip(behind, len - 1))
+        || begins_with(' ', following)
+        || begins_with(':', following)
+        || begins_with(' ', skip(following, len - 1))
     {
         return None;
     }

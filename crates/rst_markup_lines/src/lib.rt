@@ -29,7 +29,7 @@ pub use enumerator::{
     first_reading, is_same_format, ordinal_in,
 };
 pub use explicit_marks::{
-    DirectiveMark, LabelKind, LabelMark, SubstitutionMark, TargetMark, directive_of, dots,
+    DirectiveMark, LabelKind, LabelMark, SubstitutionMark, TargetMark, directive_mark_of, dots,
     label_of, substitution_of, target_of, underscores,
 };
 pub use field::{FieldMark, field_of};
@@ -37,4 +37,4 @@ pub use marker::{Marker, bullet, doctest, line_bar, marker_of};
 pub use option::{Delimiter, option_marker};
 pub use options::{ListedArgument, ListedOption, listed_options};
 pub use place::Characters;
-pub use text::{begins_with, front, is_blank, is_loose};
+pub use text::{begins_with, first_char, is_blank, is_loose};

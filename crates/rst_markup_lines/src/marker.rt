@@ -2,7 +2,7 @@
 ghost use Rattle.std.specs.Prelude.{◌≡◌, chars};
 ghost use Rattle.rst_markup_lines.specs.Marker as spec;
 
-use super::text::{begins_with, front, is_blank};
+use super::text::{begins_with, first_char, is_blank};
 use rst_text::{indentation, skip};
 
 /// A mark at the front of a line: how many characters it has with the spaces after it, and whether nothing
@@ -18,17 +18,17 @@ pub struct Marker {
 pub fn marker_of(n: usize, text: &str) -> Option<Marker>
     ensures { result ≡ spec.marker_of n (chars text.now) }
 {
-    let behind = skip(text, n);
-    if is_blank(behind) {
+    let following = skip(text, n);
+    if is_blank(following) {
         return Some(Marker { cut: n, bare: true });
     }
-    if !begins_with(' ', behind) {
+    if !begins_with(' ', following) {
         return None;
     }
-    let spaces = indentation(behind);
+    let spaces = indentation(following);
     Some(Marker {
         cut: n + spaces,
-        bare: is_blank(skip(behind, spaces)),
+        bare: is_blank(skip(following, spaces)),
     })
 }
 
@@ -37,7 +37,7 @@ pub fn marker_of(n: usize, text: &str) -> Option<Marker>
 pub fn bullet(text: &str) -> Option<Marker>
     ensures { result ≡ spec.bullet (chars text.now) }
 {
-    match front(text) {
+    match first_char(text) {
         Some('*' | '+' | '-' | '\u{2022}' | '\u{2023}' | '\u{2043}') => marker_of(1, text),
         _ => None,
     }

@@ -4,7 +4,7 @@ ghost use Rattle.rst_markup_lines.specs.OptionMarker as spec;
 
 use super::class::{Class, run};
 use super::marker::{Marker, marker_of};
-use super::text::{begins_with, front};
+use super::text::{begins_with, first_char};
 use rst_text::{is_letter, skip};
 
 /// What is between an option and its argument.
@@ -34,7 +34,7 @@ pub(crate) struct Argument {
 fn begins_ascii_alphanumeric(text: &str) -> bool
     ensures { result ≡ spec.begins_ascii_alphanumeric (chars text.now) }
 {
-    match front(text) {
+    match first_char(text) {
         Some(c) => c.is_ascii_alphanumeric(),
         None => false,
     }
@@ -42,12 +42,12 @@ fn begins_ascii_alphanumeric(text: &str) -> bool
 
 /// The argument after a delimiter of a character, or of none. It is a letter and alphanumerics, `_` and `-` after it, or something
 /// in angle brackets.
-#[tactic(auto, unfolding(crate::specs::OptionMarker::argument_behind, crate::specs::OptionMarker::argument_len))]
-fn argument_behind(delimiter: Delimiter, text: &str) -> Option<Argument>
-    ensures value { result ≡ spec.argument_behind delimiter (chars text.now) }
+#[tactic(auto, unfolding(crate::specs::OptionMarker::argument_after, crate::specs::OptionMarker::argument_len))]
+fn argument_after(delimiter: Delimiter, text: &str) -> Option<Argument>
+    ensures value { result ≡ spec.argument_after delimiter (chars text.now) }
     ensures short { IfSome result (λ argument. argument.len < 2 ^ 63 + 2) }
 {
-    let len = match front(text) {
+    let len = match first_char(text) {
         Some(c) if is_letter(c) => run(Class::Option, text),
         Some('<') => {
             let inside = run(Class::Bracketed, skip(text, 1));
@@ -77,11 +77,11 @@ fn long_option(n: usize, text: &str) -> Option<OptionMark>
         return None;
     }
     let string = n + 1 + run(Class::Option, skip(name, 1));
-    let behind = skip(text, string);
-    let argument = if begins_with(' ', behind) {
-        argument_behind(Delimiter::Space, skip(behind, 1))
-    } else if begins_with('=', behind) {
-        argument_behind(Delimiter::Equals, skip(behind, 1))
+    let following = skip(text, string);
+    let argument = if begins_with(' ', following) {
+        argument_after(Delimiter::Space, skip(following, 1))
+    } else if begins_with('=', following) {
+        argument_after(Delimiter::Equals, skip(following, 1))
     } else {
         None
     };
@@ -105,11 +105,11 @@ pub(crate) fn option_at(text: &str) -> Option<OptionMark>
     {
         return None;
     }
-    let behind = skip(text, 2);
-    let argument = if begins_with(' ', behind) {
-        argument_behind(Delimiter::Space, skip(behind, 1))
+    let following = skip(text, 2);
+    let argument = if begins_with(' ', following) {
+        argument_after(Delimiter::Space, skip(following, 1))
     } else {
-        argument_behind(Delimiter::Nothing, behind)
+        argument_after(Delimiter::Nothing, following)
     };
     Some(OptionMark {
         string: 2,
@@ -155,12 +155,12 @@ pub(crate) fn option_tail(text: &str) -> OptionTail
         return OptionTail::Wrong;
     };
     let n = option.string + argument_width(option.argument);
-    let behind = skip(text, n);
-    let more = skip(behind, 1);
-    if begins_with(',', behind) && begins_with(' ', more) {
+    let following = skip(text, n);
+    let more = skip(following, 1);
+    if begins_with(',', following) && begins_with(' ', more) {
         return OptionTail::Next(n + 2);
     }
-    if begins_with(' ', behind) && !begins_with(' ', more) {
+    if begins_with(' ', following) && !begins_with(' ', more) {
         return OptionTail::Wrong;
     }
     match marker_of(n, text) {

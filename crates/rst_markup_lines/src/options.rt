@@ -38,7 +38,7 @@ fn place_of(from: usize, len: usize) -> Characters
 }
 
 /// An argument, after `before` characters and its delimiter.
-fn argument_behind(before: usize, argument: Argument) -> ListedArgument
+fn argument_after(before: usize, argument: Argument) -> ListedArgument
     requires { before + argument.len + 1 < 2 ^ 64 }
     ensures { result ≡ spec.argument_at before argument }
 {
@@ -59,7 +59,7 @@ fn option_in(before: usize, option: OptionMark) -> ListedOption
     ensures { result ≡ spec.option_in before option }
 {
     let argument = match option.argument {
-        Some(argument) => Some(argument_behind(before + option.string, argument)),
+        Some(argument) => Some(argument_after(before + option.string, argument)),
         None => None,
     };
     ListedOption {

@@ -33,8 +33,8 @@ const UPPER_TENS: [&str; 9] = ["X", "XX", "XXX", "XL", "L", "LX", "LXX", "LXXX",
 const UPPER_ONES: [&str; 9] = ["I", "II", "III", "IV", "V", "VI", "VII", "VIII", "IX"];
 
 /// The letters of the digits from 1 on in a place.
-fn digits(case: Case, place: RomanPlace) -> &'static [&'static str]
-    ensures letters { map (λ letters. letters.now) result.now ≡ spec.digits case place }
+fn roman_digits(case: Case, place: RomanPlace) -> &'static [&'static str]
+    ensures letters { map (λ letters. letters.now) result.now ≡ spec.roman_digits case place }
     ensures few { length result.now ≤ 9 }
 {
     match (case, place) {
@@ -61,13 +61,13 @@ pub(crate) fn is_numeral_letter(c: char) -> bool
 
 /// The greatest digit of a place whose letters come first, 0 where there is none, and the letters after it.
 fn digit_at<'a>(case: Case, place: RomanPlace, letters: &'a [u8]) -> (usize, &'a [u8])
-    ensures digit { (result.0, result.1.now) ≡ spec.digit_at (spec.digits case place) letters.now }
+    ensures digit { (result.0, result.1.now) ≡ spec.digit_at (spec.roman_digits case place) letters.now }
     ensures few { result.0 ≤ 9 }
 {
-    let digits = digits(case, place);
-    let mut digit = digits.len();
+    let roman_digits = roman_digits(case, place);
+    let mut digit = roman_digits.len();
     while 0 < digit {
-        if let Some(rest) = letters.strip_prefix(digits[digit - 1].as_bytes()) {
+        if let Some(rest) = letters.strip_prefix(roman_digits[digit - 1].as_bytes()) {
             return (digit, rest);
         }
         digit -= 1;

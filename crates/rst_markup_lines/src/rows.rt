@@ -7,7 +7,7 @@ ghost use Rattle.rst_markup_lines.specs.Attribution.{attribution_of};
 ghost use Rattle.rst_markup_lines.specs.Border.{is_grid_border, is_simple_border};
 ghost use Rattle.rst_markup_lines.specs.Closing.{ends_in_colons};
 ghost use Rattle.rst_markup_lines.specs.Enumerator.{begins_next, enumerator_of, first_reading, ordinal_in};
-ghost use Rattle.rst_markup_lines.specs.ExplicitMarks.{directive_of, dots, label_of, substitution_of, target_of, underscores};
+ghost use Rattle.rst_markup_lines.specs.ExplicitMarks.{directive_mark_of, dots, label_of, substitution_of, target_of, underscores};
 ghost use Rattle.rst_markup_lines.specs.Field.{field_of};
 ghost use Rattle.rst_markup_lines.specs.Marker.{bullet, doctest, line_bar};
 ghost use Rattle.rst_markup_lines.specs.OptionMarker.{option_marker};
@@ -186,11 +186,11 @@ pub fn explicit_marks()
     ensures two_underscores { underscores (codes "__ a") ≡ Some (record { cut = 3; bare = false }) }
     ensures other_underscores { map (λ t. underscores (codes t)) ("__" ∷ "__a" ∷ "_ a" ∷ "___ a" ∷ [])
         ≡ Some (record { cut = 2; bare = true }) ∷ None ∷ None ∷ None ∷ [] }
-    ensures directive { directive_of true (codes "note::  a") ≡ Some (record { len = 4; marker = record { cut = 8; bare = false } }) }
-    ensures spaced { directive_of true (codes "note ::") ≡ Some (record { len = 4; marker = record { cut = 7; bare = true } }) }
-    ensures not_spaced { directive_of false (codes "note :: a") ≡ None }
-    ensures joints { directive_of false (codes "a-b_c.d:e+f:: x") ≡ Some (record { len = 11; marker = record { cut = 14; bare = false } }) }
-    ensures no_directives { filter (λ t. is_some (directive_of true (codes t))) ("note: a" ∷ "note::a" ∷ "note  :: a" ∷ "note : : a" ∷ "a--b:: x"
+    ensures directive { directive_mark_of true (codes "note::  a") ≡ Some (record { len = 4; marker = record { cut = 8; bare = false } }) }
+    ensures spaced { directive_mark_of true (codes "note ::") ≡ Some (record { len = 4; marker = record { cut = 7; bare = true } }) }
+    ensures not_spaced { directive_mark_of false (codes "note :: a") ≡ None }
+    ensures joints { directive_mark_of false (codes "a-b_c.d:e+f:: x") ≡ Some (record { len = 11; marker = record { cut = 14; bare = false } }) }
+    ensures no_directives { filter (λ t. is_some (directive_mark_of true (codes t))) ("note: a" ∷ "note::a" ∷ "note  :: a" ∷ "note : : a" ∷ "a--b:: x"
         ∷ "a-:: x" ∷ "-a:: x" ∷ ":: x" ∷ "a b:: x" ∷ [])
         ≡ [] }
 {}
@@ -229,7 +229,7 @@ pub fn targets()
 pub fn substitutions()
     ensures named { substitution_of (codes "|a b|  image:: c") ≡ Some (Defined 3 (record { cut = 7; bare = false })) }
     ensures bar_inside { substitution_of (codes "|a|b| image:: c") ≡ Some (Defined 3 (record { cut = 6; bare = false })) }
-    ensures bar_behind_white { substitution_of (codes "|a | b| image:: c") ≡ Some (Defined 5 (record { cut = 8; bare = false })) }
+    ensures bar_after_white { substitution_of (codes "|a | b| image:: c") ≡ Some (Defined 5 (record { cut = 8; bare = false })) }
     ensures escaped { substitution_of (codes "|a\\| b| image:: c") ≡ Some (Defined 5 (record { cut = 8; bare = false })) }
     ensures without_space { map (λ t. substitution_of (codes t)) ("|a|" ∷ "|a|x" ∷ []) ≡ Some Tight ∷ Some Tight ∷ [] }
     ensures unclosed { map (λ t. substitution_of (codes t)) ("|a" ∷ "|a |" ∷ "|a\\|" ∷ "|| b" ∷ [])

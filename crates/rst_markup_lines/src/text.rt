@@ -1,10 +1,10 @@
 //! The first character of a text, and what follows it.
 ghost use Rattle.std.specs.Prelude.{◌≡◌, ◌<◌, drop, length, IsSome, chars};
 ghost use Rattle.rst_text.specs.Block.{is_blank};
-ghost use Rattle.rst_markup_lines.specs.Front.{first, begins_with, is_loose};
+ghost use Rattle.rst_markup_lines.specs.TextStart.{first, begins_with, is_loose};
 
 /// The first character of a text.
-pub fn front(text: &str) -> Option<char>
+pub fn first_char(text: &str) -> Option<char>
     ensures { result ≡ first (chars text.now) }
 {
     text.chars().next()
@@ -26,7 +26,7 @@ pub(crate) fn after_first(text: &str) -> &str
 pub fn is_blank(text: &str) -> bool
     ensures { result ≡ is_blank (chars text.now) }
 {
-    match front(text) {
+    match first_char(text) {
         Some(_) => false,
         None => true,
     }
@@ -36,14 +36,14 @@ pub fn is_blank(text: &str) -> bool
 pub fn begins_with(c: char, text: &str) -> bool
     ensures { result ≡ begins_with c (chars text.now) }
 {
-    front(text) == Some(c)
+    first_char(text) == Some(c)
 }
 
 /// Whether a text is empty or begins with a space.
 pub fn is_loose(text: &str) -> bool
     ensures { result ≡ is_loose (chars text.now) }
 {
-    match front(text) {
+    match first_char(text) {
         Some(c) => c == ' ',
         None => true,
     }

@@ -6,7 +6,7 @@ use Rattle.std.specs.Str.{drop_trailing_whitespace, all_scalars, IsAscii}
 use Rattle.std.proofs.lemmas.List.{append-nil, take_more}
 use Rattle.std.proofs.lemmas.Bool.{ne_eqb, and_right, cond_both}
 use Rattle.rst_markup_tables.specs.Places.{places_of, is_double}
-use Rattle.rst_markup_tables.specs.Cells.{characters, cut_places, is_white_place}
+use Rattle.rst_markup_tables.specs.Cells.{characters, cut_places, is_trimmable_place}
 use Rattle.rst_markup_tables.specs.declared.places.Place.{Place}
 use Rattle.rst_markup_tables.specs.declared.places.Place.TheVariants.{Character, Second}
 use Rattle.unicode_width.specs.Width.{char_width}
@@ -79,11 +79,11 @@ characters-drop (suc n) (Second ∷ ps) = characters-drop n ps
 -- what holds of each front and each rest of a text holds of the characters between two places
 pub cut-keeps : (P : List ℕ → Type 0) → ((n : ℕ) (cs : List ℕ) → P cs → P (take n cs)) → ((n : ℕ) (cs : List ℕ) → P cs → P (drop n cs))
     → (left : ℕ) (right : Option ℕ) (ps : List Place) → P (characters ps) → P (characters (cut_places left right ps))
-cut-keeps P fronts rests left (Some right) ps h =
-    let front = characters-take (right - left) (drop left ps) in
+cut-keeps P prefixes rests left (Some right) ps h =
+    let prefix = characters-take (right - left) (drop left ps) in
     let rest = characters-drop left ps in
-    subst P (sym front.1) (fronts front.0 (characters (drop left ps)) (subst P (sym rest.1) (rests rest.0 (characters ps) h)))
-cut-keeps P fronts rests left None ps h = let rest = characters-drop left ps in subst P (sym rest.1) (rests rest.0 (characters ps) h)
+    subst P (sym prefix.1) (prefixes prefix.0 (characters (drop left ps)) (subst P (sym rest.1) (rests rest.0 (characters ps) h)))
+cut-keeps P prefixes rests left None ps h = let rest = characters-drop left ps in subst P (sym rest.1) (rests rest.0 (characters ps) h)
 
 pub scalars-cut : (left : ℕ) (right : Option ℕ) (ps : List Place) → all_scalars (characters ps) ≡ true → all_scalars (characters (cut_places left right ps)) ≡ true
 scalars-cut left right ps h = cut-keeps (λ cs. all_scalars cs ≡ true) scalars-take scalars-drop left right ps h
@@ -106,19 +106,19 @@ ends_with ps n p some fits is =
     ap (λ m. characters (take m ps)) same ∙ ap characters (take_more ps (n - 1) (Character 0) (omega arith)) ∙ ap (λ q. characters (take (n - 1) ps ++ q ∷ [])) (sym is)
     ∙ characters-append (take (n - 1) ps) (p ∷ [])
 
-white_last : (xs : List ℕ) (p : Place) → is_white_place p ≡ true → drop_trailing_whitespace (xs ++ characters (p ∷ [])) ≡ drop_trailing_whitespace xs
+white_last : (xs : List ℕ) (p : Place) → is_trimmable_place p ≡ true → drop_trailing_whitespace (xs ++ characters (p ∷ [])) ≡ drop_trailing_whitespace xs
 white_last xs (Character c) e = dropped-white xs c e
 white_last xs Second e = ap drop_trailing_whitespace (append-nil xs)
 
-dark_last : (xs : List ℕ) (p : Place) → is_white_place p ≡ false → drop_trailing_whitespace (xs ++ characters (p ∷ [])) ≡ xs ++ characters (p ∷ [])
+dark_last : (xs : List ℕ) (p : Place) → is_trimmable_place p ≡ false → drop_trailing_whitespace (xs ++ characters (p ∷ [])) ≡ xs ++ characters (p ∷ [])
 dark_last xs (Character c) e = dropped-dark xs c e
 dark_last xs Second e = absurd (cc)
 
-pub trimmed-white : (ps : List Place) (n : ℕ) (p : Place) → 0 < n → n ≤ length ps → p ≡ get_or ps (n - 1) (Character 0) → is_white_place p ≡ true
+pub trimmed-white : (ps : List Place) (n : ℕ) (p : Place) → 0 < n → n ≤ length ps → p ≡ get_or ps (n - 1) (Character 0) → is_trimmable_place p ≡ true
     → drop_trailing_whitespace (characters (take n ps)) ≡ drop_trailing_whitespace (characters (take (n - 1) ps))
 trimmed-white ps n p some fits is e = ap drop_trailing_whitespace (ends_with ps n p some fits is) ∙ white_last (characters (take (n - 1) ps)) p e
 
-pub trimmed-dark : (ps : List Place) (n : ℕ) (p : Place) → 0 < n → n ≤ length ps → p ≡ get_or ps (n - 1) (Character 0) → is_white_place p ≡ false
+pub trimmed-dark : (ps : List Place) (n : ℕ) (p : Place) → 0 < n → n ≤ length ps → p ≡ get_or ps (n - 1) (Character 0) → is_trimmable_place p ≡ false
     → drop_trailing_whitespace (characters (take n ps)) ≡ characters (take n ps)
 trimmed-dark ps n p some fits is e =
     let split = ends_with ps n p some fits is in

@@ -4,9 +4,9 @@ use Rattle.std.proofs.lemmas.List.{length-map, take-map}
 use Rattle.rst_text.specs.Block.{Block}
 use Rattle.std.specs.Prelude.{unwrap_or, IfNone}
 use Rattle.std.specs.Option.{option_or}
-use Rattle.rst_markup_blocks.specs.TableRows.{through, head_border, simple_bottom, simple_size, simple_scan}
+use Rattle.rst_markup_blocks.specs.TableRows.{lines_through, head_border, simple_bottom, simple_size, simple_scan}
 use Rattle.rst_markup_blocks.proofs.TableLemmas.{border_below-below, scan-is, scan_some, simple_size-is}
-use Rattle.rst_markup_tables.specs.Places.{Grid, row_of, rows_of}
+use Rattle.rst_markup_tables.specs.Places.{Grid, row_of_line, rows_of}
 use Rattle.rst_markup_tables.specs.GridTable.{head_of, with_dashes, tiled, IsOfRows}
 use Rattle.rst_markup_tables.specs.Ends.{end_of}
 use Rattle.rst_markup_tables.specs.declared.drawn.Rectangle.{Rectangle}
@@ -30,15 +30,15 @@ simple_by_end line i head T None = refl
 
 -- how many rows the first n lines of a block are
 pub rows-size : (n : ℕ) (X : Block) → n ≤ length X → length (rows_of (take n X)) ≡ n
-rows-size n X h = omega (arith, length-map (take n X) row_of, length-take n X)
+rows-size n X h = omega (arith, length-map (take n X) row_of_line, length-take n X)
 
 -- the rows of a block's n lines from line i on
 pub rows-taken : (B : Block) (i n : ℕ) → take n (drop i (rows_of B)) ≡ rows_of (take n (drop i B))
-rows-taken B i n = ap (take n) (drop_rows B i) ∙ take-map row_of n (drop i B)
+rows-taken B i n = ap (take n) (drop_rows B i) ∙ take-map row_of_line n (drop i B)
 
 -- how many lines a simple table has, by its borders
-pub table-size : (X : Block) (n all : ℕ) (head bottom : Option ℕ) → n ≡ through all (option_or bottom head) → all ≡ length X → head ≡ head_border X → bottom ≡ simple_bottom X → n ≡ simple_size X
-table-size X n all head bottom is e h b = is ∙ ap (λ m. through m (option_or bottom head)) e ∙ simple_size-is X head bottom h b
+pub table-size : (X : Block) (n all : ℕ) (head bottom : Option ℕ) → n ≡ lines_through all (option_or bottom head) → all ≡ length X → head ≡ head_border X → bottom ≡ simple_bottom X → n ≡ simple_size X
+table-size X n all head bottom is e h b = is ∙ ap (λ m. lines_through m (option_or bottom head)) e ∙ simple_size-is X head bottom h b
 
 -- one whose borders have no fault has its bottom border below the top one
 bottom-there : (X : Block) (bottom : Option ℕ) → None ≡ border_fault X bottom → bottom ≡ simple_bottom X → (2 ≤ simple_scan X) × (simple_size X ≡ simple_scan X)
@@ -58,6 +58,6 @@ looks-borders X (Some k) l0 l1 l2 some b h m none =
     omega (arith, below.0, scan)
 
 -- looks at them and at the lines of the table
-pub looks-lines : (X : Block) (n all : ℕ) (head bottom : Option ℕ) → n ≡ through all (option_or bottom head) → all ≡ length X → head ≡ head_border X → bottom ≡ simple_bottom X → None ≡ border_fault X bottom
+pub looks-lines : (X : Block) (n all : ℕ) (head bottom : Option ℕ) → n ≡ lines_through all (option_or bottom head) → all ≡ length X → head ≡ head_border X → bottom ≡ simple_bottom X → None ≡ border_fault X bottom
     → 4 + simple_scan X + n ≤ 4 * simple_scan X
 looks-lines X n all head bottom is e h b sound = let there = bottom-there X bottom sound b in omega (arith, there.0, there.1, table-size X n all head bottom is e h b)

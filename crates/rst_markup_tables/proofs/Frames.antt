@@ -3,7 +3,7 @@ use Rattle.std.proofs.Common.{⊎_elim, ◌≡◌, ℕ, ◌+◌, ◌<◌, ◌≤
 use Rattle.std.proofs.lemmas.Bool.{and_parts, and_from, false≢true, cases_lt}
 use Rattle.rst_markup_tables.specs.Places.{Grid, place}
 use Rattle.rst_markup_tables.specs.Drawn.{is_across, is_upright}
-use Rattle.rst_markup_tables.specs.Search.{are_upright, IsBottom, IsClosed}
+use Rattle.rst_markup_tables.specs.Search.{are_upright, IsBottom, IsClosedRectangle}
 use Rattle.rst_markup_tables.proofs.Rectangles.{place_within}
 
 pub plus_across : (c : ℕ) → c ≡ 43 → is_across c ≡ true
@@ -30,17 +30,17 @@ upright_from G i l r a b = and_from _ _ a b
 pub one_more : (P : ℕ → Bool) (low n : ℕ) → ((k : ℕ) → low ≤ k → k < n → P k ≡ true) → P n ≡ true → (k : ℕ) → low ≤ k → k < n + 1 → P k ≡ true
 one_more P low n all here k above below = grind (arith, all k above)
 
-pub closed_within : (G : Grid) (t l r b : ℕ) → IsClosed G t l r b → b < length G
+pub closed_within : (G : Grid) (t l r b : ℕ) → IsClosedRectangle G t l r b → b < length G
 closed_within G t l r b c = (place_within G b l 43 c.side.0 (omega arith)).0
 
 -- no row at or below one where a side ends closes it
-pub not_closed : (G : Grid) (t l r n : ℕ) → t ≤ n → ((k : ℕ) → k < n → IsClosed G t l r k → ⊥) → are_upright G n l r ≡ false → (k : ℕ) → IsClosed G t l r k → ⊥
+pub not_closed : (G : Grid) (t l r n : ℕ) → t ≤ n → ((k : ℕ) → k < n → IsClosedRectangle G t l r k → ⊥) → are_upright G n l r ≡ false → (k : ℕ) → IsClosedRectangle G t l r k → ⊥
 not_closed G t l r n low none ends k c = ⊎_elim
     (λ less. none k less c)
     (λ more. false≢true (sym ends ∙ upright_from G n l r (c.left_side n low more) (c.right_side n low more)))
     (cases_lt k n)
 
-pub closed_now : (G : Grid) (t l r n : ℕ) → t < n → ((k : ℕ) → t ≤ k → k < n → are_upright G k l r ≡ true) → are_upright G n l r ≡ true → IsBottom G n l r → IsClosed G t l r n
+pub closed_now : (G : Grid) (t l r n : ℕ) → t < n → ((k : ℕ) → t ≤ k → k < n → are_upright G k l r ≡ true) → are_upright G n l r ≡ true → IsBottom G n l r → IsClosedRectangle G t l r n
 closed_now G t l r n low sides here side =
     let all = one_more (λ k. are_upright G k l r) t n sides here in
     record {
@@ -50,5 +50,5 @@ closed_now G t l r n low sides here side =
       right_side = λ k above below. (upright_parts G k l r (all k above (omega arith))).1;
     }
 
-pub least_now : (G : Grid) (t l r n : ℕ) → ((k : ℕ) → k < n → IsClosed G t l r k → ⊥) → (k : ℕ) → IsClosed G t l r k → n ≤ k
+pub least_now : (G : Grid) (t l r n : ℕ) → ((k : ℕ) → k < n → IsClosedRectangle G t l r k → ⊥) → (k : ℕ) → IsClosedRectangle G t l r k → n ≤ k
 least_now G t l r n none k c = ⊎_elim (λ less. absurd (none k less c)) (λ more. more) (cases_lt k n)

@@ -62,8 +62,8 @@ below_same p q (suc n) same =
     below_more p n ∙ ap₂ (λ a b. a + cond b 1 0) rest here ∙ sym (below_more q n)
 
 -- pushed onto what precedes
-pub onto : {X : Type 0} (front rest new all : List X) (x : X) → new ≡ front ++ x ∷ [] → front ++ (x ∷ rest) ≡ all → new ++ rest ≡ all
-onto front rest new all x is e = ap (λ l. l ++ rest) is ∙ append_assoc front (x ∷ []) rest ∙ e
+pub onto : {X : Type 0} (prefix rest new all : List X) (x : X) → new ≡ prefix ++ x ∷ [] → prefix ++ (x ∷ rest) ≡ all → new ++ rest ≡ all
+onto prefix rest new all x is e = ap (λ l. l ++ rest) is ∙ append_assoc prefix (x ∷ []) rest ∙ e
 
 -- what a `Vec` holds after a write to all of it
 pub whole : {X : Type 0} (n : ℕ) (xs ys : List X) → n ≡ length xs → take n (xs ++ ys) ≡ xs

@@ -10,5 +10,5 @@ pub numbered-take : (n : ℕ) (G : Grid) → AreNumbered G → AreNumbered (take
 numbered-take n G all k inside =
     let size = length-take n G in
     let here = ap (λ (r : Row). r.number) (get_or-take n G k no_row (omega (arith, inside, size))) in
-    let front = ap (λ (r : Row). r.number) (get_or-take n G 0 no_row (omega (arith, inside, size))) in
-    omega (arith, here, front, all k (omega (arith, inside, size)))
+    let number_taken = ap (λ (r : Row). r.number) (get_or-take n G 0 no_row (omega (arith, inside, size))) in
+    omega (arith, here, number_taken, all k (omega (arith, inside, size)))

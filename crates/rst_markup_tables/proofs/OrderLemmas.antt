@@ -7,7 +7,7 @@ use Rattle.std.proofs.lemmas.Bool.{and_from, eq-eqb, cond_both}
 use Rattle.rst_text.specs.Places.{first_from, IsFirst}
 use Rattle.rst_text.proofs.PlacesLemmas.{first_from-first}
 use Rattle.rst_markup_tables.specs.Places.{Grid, row_at}
-use Rattle.rst_markup_tables.specs.SimpleTable.{AreInOrder, is_space, begins_span, span_end, span_at, spans_of, columns_of, last_joined, joining, spread, rule_spans, row_spans, is_white_place, is_clear, are_clear, span_of}
+use Rattle.rst_markup_tables.specs.SimpleTable.{AreInOrder, is_space, begins_span, span_end, span_at, spans_of, columns_of, last_joined, joining, spans_with_columns, rule_spans, row_spans, is_white_place, is_clear, are_clear, span_of}
 use Rattle.rst_markup_tables.specs.declared.places.Place.{Place}
 use Rattle.rst_markup_tables.specs.declared.simple_rows.RowLines.{RowLines}
 use Rattle.rst_markup_tables.specs.declared.spans.RuleSpan.{RuleSpan}
@@ -30,22 +30,22 @@ spans-order row low (suc n) h =
     let rest = order-from low (low + 1) _ (omega arith) (spans-order row (low + 1) n (omega (arith, h))) in
     cond_both (begins_span row low) _ _ (λ l. AreInOrder low (map (span_at row) l)) (λ _. (omega arith, span_end-above row low (omega (arith, h)), rest)) (λ _. rest)
 
-spread-order : (columns : List RuleSpan) (low : ℕ) (ss : List RuleSpan) → AreInOrder low ss → IfSome (spread columns ss) (AreInOrder low)
-spread-order [] low [] h = tt
-spread-order (c ∷ cs) low [] h = tt
-spread-order columns low (s ∷ ss) h = by (last_joined columns s) (λ last. spread-order (drop (last + 1) columns) s.from ss h.2)
+spans_with_columns-order : (columns : List RuleSpan) (low : ℕ) (ss : List RuleSpan) → AreInOrder low ss → IfSome (spans_with_columns columns ss) (AreInOrder low)
+spans_with_columns-order [] low [] h = tt
+spans_with_columns-order (c ∷ cs) low [] h = tt
+spans_with_columns-order columns low (s ∷ ss) h = by (last_joined columns s) (λ last. spans_with_columns-order (drop (last + 1) columns) s.from ss h.2)
   where
     joined : (last : ℕ) (o : Option (List RuleSpan)) → IfSome o (AreInOrder s.from) → IfSome (option_map (λ others. joining s (last + 1) ∷ others) o) (AreInOrder low)
     joined last None i = tt
     joined last (Some wide) i = (h.0, h.1, i)
 
-    by : (o : Option ℕ) → ((last : ℕ) → IfSome (spread (drop (last + 1) columns) ss) (AreInOrder s.from))
-        → IfSome (option_and_then (λ last. option_map (λ others. joining s (last + 1) ∷ others) (spread (drop (last + 1) columns) ss)) o) (AreInOrder low)
+    by : (o : Option ℕ) → ((last : ℕ) → IfSome (spans_with_columns (drop (last + 1) columns) ss) (AreInOrder s.from))
+        → IfSome (option_and_then (λ last. option_map (λ others. joining s (last + 1) ∷ others) (spans_with_columns (drop (last + 1) columns) ss)) o) (AreInOrder low)
     by None rest = tt
-    by (Some last) rest = joined last (spread (drop (last + 1) columns) ss) (rest last)
+    by (Some last) rest = joined last (spans_with_columns (drop (last + 1) columns) ss) (rest last)
 
 pub row_spans-order : (T : Grid) (r : RowLines) → AreInOrder 0 (row_spans T r)
-row_spans-order T r = by (rule_spans T r.rule) (spread-order (columns_of T) 0 (spans_of (row_at T r.rule)) (spans-order (row_at T r.rule) 0 (length (row_at T r.rule)) (omega arith)))
+row_spans-order T r = by (rule_spans T r.rule) (spans_with_columns-order (columns_of T) 0 (spans_of (row_at T r.rule)) (spans-order (row_at T r.rule) 0 (length (row_at T r.rule)) (omega arith)))
   where
     by : (o : Option (List RuleSpan)) → IfSome o (AreInOrder 0) → AreInOrder 0 (unwrap_or o [])
     by None h = tt
@@ -57,16 +57,16 @@ last_joined-self s ss =
     ap (λ b. cond b (position (λ (d : RuleSpan). eqb d.to s.to) (s ∷ ss)) None) (eq-eqb s.from s.from refl)
     ∙ position_at (λ (d : RuleSpan). eqb d.to s.to) (s ∷ ss) 0 s (omega arith) (eq-eqb s.to s.to refl) (λ k less. absurd (omega (arith, less)))
 
-spread-self : (row : List Place) (ks : List ℕ) → spread (map (span_at row) ks) (map (span_at row) ks) ≡ Some (map (span_at row) ks)
-spread-self row [] = refl
-spread-self row (k ∷ ks) =
-    ap (λ o. option_and_then (λ last. option_map (λ others. joining (span_at row k) (last + 1) ∷ others) (spread (drop (last + 1) (span_at row k ∷ map (span_at row) ks)) (map (span_at row) ks))) o) (last_joined-self (span_at row k) (map (span_at row) ks))
-    ∙ ap (λ o. option_map (λ others. joining (span_at row k) 1 ∷ others) o) (spread-self row ks)
+spans_with_columns-self : (row : List Place) (ks : List ℕ) → spans_with_columns (map (span_at row) ks) (map (span_at row) ks) ≡ Some (map (span_at row) ks)
+spans_with_columns-self row [] = refl
+spans_with_columns-self row (k ∷ ks) =
+    ap (λ o. option_and_then (λ last. option_map (λ others. joining (span_at row k) (last + 1) ∷ others) (spans_with_columns (drop (last + 1) (span_at row k ∷ map (span_at row) ks)) (map (span_at row) ks))) o) (last_joined-self (span_at row k) (map (span_at row) ks))
+    ∙ ap (λ o. option_map (λ others. joining (span_at row k) 1 ∷ others) o) (spans_with_columns-self row ks)
 
 pub row_spans-columns : (T : Grid) (r : RowLines) → r.rule ≡ 0 → row_spans T r ≡ columns_of T
 row_spans-columns T r e =
     ap (λ n. unwrap_or (rule_spans T n) []) e
-    ∙ ap (λ o. unwrap_or o []) (spread-self (row_at T 0) (filter (begins_span (row_at T 0)) (range_with_len 0 (length (row_at T 0)))))
+    ∙ ap (λ o. unwrap_or o []) (spans_with_columns-self (row_at T 0) (filter (begins_span (row_at T 0)) (range_with_len 0 (length (row_at T 0)))))
 
 -- past its end a row is clear
 clear-past : (row : List Place) (from to : ℕ) → length row ≤ from → is_clear from to row ≡ true

@@ -5,7 +5,7 @@ use Rattle.rst_markup_tables.specs.declared.places.Place.TheVariants.{Second}
 use Rattle.std.proofs.lemmas.Bool.{le-leb, lt-ltb, and_from, cases_order}
 use Rattle.rst_markup_tables.specs.declared.drawn.Rectangle.{Rectangle}
 use Rattle.rst_markup_tables.specs.Places.{Grid, width, place, row_at, no_row}
-use Rattle.rst_markup_tables.specs.Drawn.{IsFrame, IsDrawn, covers, one_if, times, BeginsFrom, AreDrawn, IsTiling}
+use Rattle.rst_markup_tables.specs.Drawn.{IsDrawnRectangle, IsDrawn, covers, one_if, times, BeginsFrom, AreDrawn, IsTiling}
 
 -- ---- places
 
@@ -13,7 +13,7 @@ pub place_within : (G : Grid) (i j c : ℕ) → place G i j ≡ c → 0 < c → 
 place_within G i j c h some =
     let inside : j < length (row_at G i) = grind (arith, get_or_past (row_at G i) j Second) in (grind (arith, get_or_past G i no_row), inside)
 
-pub frame_within : (G : Grid) (r : Rectangle) → IsFrame G r → (r.bottom < length G) × (r.right < width G)
+pub frame_within : (G : Grid) (r : Rectangle) → IsDrawnRectangle G r → (r.bottom < length G) × (r.right < width G)
 frame_within G r f = ((place_within G r.bottom r.right 43 f.bottom_right (omega arith)).0, f.inside)
 
 -- ---- covering
@@ -83,15 +83,15 @@ same_lists G i j (r ∷ rs) (q ∷ qs) a b same =
     let not_before : r.top ≤ q.top → (r.top ≡ q.top → r.left < q.left) → ⊥ = λ up left.
     let none : times (q ∷ qs) r.top r.left ≡ 0 = times_before G q.top q.left r.top r.left (q ∷ qs) ((omega arith, λ x. omega arith), b.1, b.2) up left in
     omega arith in
-    let not_behind : q.top ≤ r.top → (q.top ≡ r.top → q.left < r.left) → ⊥ = λ up left.
+    let not_after : q.top ≤ r.top → (q.top ≡ r.top → q.left < r.left) → ⊥ = λ up left.
     let none : times (r ∷ rs) q.top q.left ≡ 0 = times_before G r.top r.left q.top q.left (r ∷ rs) ((omega arith, λ x. omega arith), a.1, a.2) up left in
     omega arith in
     let top : r.top ≡ q.top = ⊎_elim (λ h. h) (λ ne. ⊎_elim
     (λ less. absurd (not_before (omega arith) (λ x. absurd (omega arith))))
-    (λ more. absurd (not_behind (omega arith) (λ x. absurd (omega arith)))) ne) (cases_order r.top q.top) in
+    (λ more. absurd (not_after (omega arith) (λ x. absurd (omega arith)))) ne) (cases_order r.top q.top) in
     let left : r.left ≡ q.left = ⊎_elim (λ h. h) (λ ne. ⊎_elim
     (λ less. absurd (not_before (omega arith) (λ x. less)))
-    (λ more. absurd (not_behind (omega arith) (λ x. more))) ne) (cases_order r.left q.left) in
+    (λ more. absurd (not_after (omega arith) (λ x. more))) ne) (cases_order r.left q.left) in
     let one : r ≡ q = drawn_same G r q d e top left in
     let b2 : AreDrawn G r.top (r.left + 1) qs = subst (λ (z : Rectangle). AreDrawn G z.top (z.left + 1) qs) (sym one) b.2 in
     let rest : rs ≡ qs = same_lists G r.top (r.left + 1) rs qs a.2 b2

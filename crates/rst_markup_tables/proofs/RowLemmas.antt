@@ -8,7 +8,7 @@ use Rattle.std.specs.List.{range_with_len}
 use Rattle.std.specs.Option.{IfSome}
 use Rattle.rst_markup_tables.specs.Counts.{below}
 use Rattle.rst_markup_tables.specs.Marks.{AreMarked, AreRanks}
-use Rattle.rst_markup_tables.specs.Drawn.{IsFrame, IsDrawn, AreDrawn, IsTiling}
+use Rattle.rst_markup_tables.specs.Drawn.{IsDrawnRectangle, IsDrawn, AreDrawn, IsTiling}
 use Rattle.rst_markup_tables.specs.GridTable.{bounds_row, is_row, is_column, cell_of, row_cells, more_of, dashed, with_dashes, column_widths, gaps, head_size}
 use Rattle.rst_markup_tables.specs.declared.drawn.Rectangle.{Rectangle}
 use Rattle.rst_markup_tables.specs.declared.results.Cell.{Cell}
@@ -77,11 +77,11 @@ below-mono p a (suc b) h = ⊎_elim
     (λ more. let e : a ≡ suc b = omega arith in omega (arith, ap (below p) e))
     (cases_lt a (suc b))
 
-row-top : (G : Grid) (rs : List Rectangle) (k : ℕ) (d : Rectangle) → k < length rs → IsFrame G (get_or rs k d) → is_row G rs (get_or rs k d).top ≡ true
+row-top : (G : Grid) (rs : List Rectangle) (k : ℕ) (d : Rectangle) → k < length rs → IsDrawnRectangle G (get_or rs k d) → is_row G rs (get_or rs k d).top ≡ true
 unfolding bounds_row
 row-top G rs k d below f = list_any_at (bounds_row G (get_or rs k d).top) rs k d below (grind (arith, f.high, f.top_left))
 
-row-bottom : (G : Grid) (rs : List Rectangle) (k : ℕ) (d : Rectangle) → k < length rs → IsFrame G (get_or rs k d) → is_row G rs (get_or rs k d).bottom ≡ true
+row-bottom : (G : Grid) (rs : List Rectangle) (k : ℕ) (d : Rectangle) → k < length rs → IsDrawnRectangle G (get_or rs k d) → is_row G rs (get_or rs k d).bottom ≡ true
 unfolding bounds_row
 row-bottom G rs k d below f = list_any_at (bounds_row G (get_or rs k d).bottom) rs k d below (grind (arith, f.high, f.bottom_left))
 

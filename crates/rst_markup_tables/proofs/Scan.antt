@@ -131,7 +131,7 @@ skip G i j depths rs s high wide ne =
     record {
       size = s.size;
       above = λ k below within. ⊎_elim (λ less. s.above k less within) (λ more. let e : j ≡ k = omega arith in subst (λ k. i < get_or depths k 0) e deep) (cases_lt k j);
-      here = λ k behind within. s.here k (omega arith) within;
+      here = λ k beyond within. s.here k (omega arith) within;
       covered = s.covered;
       free = s.free;
       reached = passed G i j rs s.reached high (omega (arith, s.size)) (omega (arith, s.covered i j wide deep));
@@ -169,7 +169,7 @@ add G i j depths new rs r s high wide here drawn good =
     -- a column is one of the rectangle's or it isn't
     let cases : (k : ℕ) → ((r.left ≤ k) × (k < r.right)) ⊎ (r.left ≤ k → k < r.right → ⊥) = λ k. ⊎_elim
     (λ before. inr (λ a b. omega arith))
-    (λ behind. ⊎_elim (λ within. inl (behind, within)) (λ past. inr (λ a b. omega arith)) (cases_lt k r.right))
+    (λ beyond. ⊎_elim (λ within. inl (beyond, within)) (λ past. inr (λ a b. omega arith)) (cases_lt k r.right))
     (cases_lt k r.left) in
     record {
       size = same_size ∙ size;
@@ -177,7 +177,7 @@ add G i j depths new rs r s high wide here drawn good =
           (λ w. omega (arith, good.1 k w.0 w.1))
           (λ out. let before : k < j = ⊎_elim (λ less. less) (λ more. absurd (out (omega arith) (omega arith))) (cases_lt k j) in omega (arith, good.2 k out, s.above k before (omega arith)))
           (cases k);
-      here = λ k behind within. ⊎_elim
+      here = λ k beyond within. ⊎_elim
           (λ w. omega (arith, good.1 k w.0 w.1))
           (λ out. omega (arith, good.2 k out, s.here k (omega arith) (omega arith)))
           (cases k);
@@ -217,7 +217,7 @@ pub next_row : (G : Grid) (i j : ℕ) (depths : List ℕ) (rs : List Rectangle) 
 next_row G i j depths rs s all = record {
   size = s.size;
   above = λ k below within. absurd (omega arith);
-  here = λ k behind within. omega (arith, s.above k (omega arith) within);
+  here = λ k beyond within. omega (arith, s.above k (omega arith) within);
   covered = s.covered;
   free = s.free;
   reached = reached_row G i j rs s.reached (omega (arith, s.size));

@@ -8,7 +8,7 @@ use Rattle.rst_markup_tables.specs.Neighbours.{neighbours}
 use Rattle.rst_markup_tables.specs.declared.simple_rows.RowLines.{RowLines}
 use Rattle.rst_markup_tables.proofs.Lists.{left_more, all_from-take, all_from-more}
 use Rattle.rst_markup_tables.specs.Places.{Grid, Row}
-use Rattle.rst_markup_tables.specs.SimpleTable.{begins_row, row_lines, row_between, section, last_joined, joining, spread}
+use Rattle.rst_markup_tables.specs.SimpleTable.{begins_row, row_lines, row_between, section_rows, last_joined, joining, spans_with_columns}
 use Rattle.rst_markup_tables.specs.declared.spans.RuleSpan.{RuleSpan}
 
 -- ---- the place of the first item that passes
@@ -20,10 +20,10 @@ position_at p xs i d inside hit before =
 -- ---- the spans of a rule
 
 pub spread_more : (wide new left : List RuleSpan) (s : RuleSpan) (ss : List RuleSpan) (last : ℕ) → last_joined left s ≡ Some last → new ≡ wide ++ joining s (last + 1) ∷ []
-    → option_map (λ others. new ++ others) (spread (drop (last + 1) left) ss) ≡ option_map (λ others. wide ++ others) (spread left (s ∷ ss))
+    → option_map (λ others. new ++ others) (spans_with_columns (drop (last + 1) left) ss) ≡ option_map (λ others. wide ++ others) (spans_with_columns left (s ∷ ss))
 spread_more wide new left s ss last e is =
-    by (spread (drop (last + 1) left) ss)
-    ∙ sym (ap (λ o. option_map (λ others. wide ++ others) (option_and_then (λ k. option_map (λ others. joining s (k + 1) ∷ others) (spread (drop (k + 1) left) ss)) o)) e)
+    by (spans_with_columns (drop (last + 1) left) ss)
+    ∙ sym (ap (λ o. option_map (λ others. wide ++ others) (option_and_then (λ k. option_map (λ others. joining s (k + 1) ∷ others) (spans_with_columns (drop (k + 1) left) ss)) o)) e)
   where
     by : (o : Option (List RuleSpan)) → option_map (λ others. new ++ others) o ≡ option_map (λ others. wide ++ others) (option_map (λ others. joining s (last + 1) ∷ others) o)
     by None = refl
@@ -45,13 +45,13 @@ rows_left-more T from to rule h e = ap (λ l. map (row_between rule) (neighbours
 
 -- the rows of the lines from `low` on, cut at rules
 abbrev pub sections_left : Grid → ℕ → List ℕ → List RowLines
-sections_left T low rules = flat_map (λ (p : ℕ × ℕ). section T (p.0 + 1) p.1) (neighbours ((low - 1) ∷ rules))
+sections_left T low rules = flat_map (λ (p : ℕ × ℕ). section_rows T (p.0 + 1) p.1) (neighbours ((low - 1) ∷ rules))
 
-pub sections_left-more : (T : Grid) (low rule : ℕ) (rules : List ℕ) → 1 ≤ low → sections_left T low (rule ∷ rules) ≡ section T low rule ++ sections_left T (rule + 1) rules
+pub sections_left-more : (T : Grid) (low rule : ℕ) (rules : List ℕ) → 1 ≤ low → sections_left T low (rule ∷ rules) ≡ section_rows T low rule ++ sections_left T (rule + 1) rules
 sections_left-more T low rule rules h =
     let before : low - 1 + 1 ≡ low = omega arith in
-    let behind : rule ≡ rule + 1 - 1 = omega arith in
-    ap₂ (λ n m. section T n rule ++ flat_map (λ (p : ℕ × ℕ). section T (p.0 + 1) p.1) (neighbours (m ∷ rules))) before behind
+    let after_rule : rule ≡ rule + 1 - 1 = omega arith in
+    ap₂ (λ n m. section_rows T n rule ++ flat_map (λ (p : ℕ × ℕ). section_rows T (p.0 + 1) p.1) (neighbours (m ∷ rules))) before after_rule
 
 -- ---- lines that were read
 

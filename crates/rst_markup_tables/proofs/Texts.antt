@@ -10,7 +10,7 @@ use Rattle.rst_text.specs.Block.{Line, Block, is_blank, shorten}
 use Rattle.rst_text.specs.Extent.{indentations, least_indent}
 use Rattle.rst_text.specs.Lines.{is_line_text, are_lines}
 use Rattle.rst_text.proofs.LineTexts.{is_line_text-drop}
-use Rattle.rst_text.specs.Source.{text_at, spread, ArePlaced}
+use Rattle.rst_text.specs.Source.{placed_text, spread, ArePlaced}
 use Rattle.rst_markup_tables.specs.Cells.{as_lines, cell_block, cell_line, cell_text, characters, reaches, reaching, texts_among}
 use Rattle.rst_markup_tables.specs.Places.{Grid, AreNumbered, no_row, row_at}
 use Rattle.rst_markup_tables.specs.declared.places.Place.{Place}
@@ -35,15 +35,15 @@ texts-filter f p (j ∷ js) blank = grind (arith, texts-more f j (filter p js), 
 
 -- ---- the text at a place
 
-text_at-before : (f : ℕ → List ℕ) (low n k : ℕ) → k < low → text_at (texts_by f (range_with_len low n)) k ≡ []
-text_at-before f low zero k h = refl
-text_at-before f low (suc n) k h = grind (arith, texts-more f low (range_with_len (low + 1) n), text_at-before f (low + 1) n k (omega arith))
+placed_text-before : (f : ℕ → List ℕ) (low n k : ℕ) → k < low → placed_text (texts_by f (range_with_len low n)) k ≡ []
+placed_text-before f low zero k h = refl
+placed_text-before f low (suc n) k h = grind (arith, texts-more f low (range_with_len (low + 1) n), placed_text-before f (low + 1) n k (omega arith))
 
-text_at-is : (f : ℕ → List ℕ) (low n k : ℕ) → low ≤ k → k < low + n → text_at (texts_by f (range_with_len low n)) k ≡ f k
-text_at-is f low zero k above below = absurd (omega (arith, above, below))
-text_at-is f low (suc n) k above below =
-    let later = λ (a : low + 1 ≤ k). text_at-is f (low + 1) n k a (omega (arith, below)) in
-    grind (arith, texts-more f low (range_with_len (low + 1) n), later, text_at-before f (low + 1) n k)
+placed_text-is : (f : ℕ → List ℕ) (low n k : ℕ) → low ≤ k → k < low + n → placed_text (texts_by f (range_with_len low n)) k ≡ f k
+placed_text-is f low zero k above below = absurd (omega (arith, above, below))
+placed_text-is f low (suc n) k above below =
+    let later = λ (a : low + 1 ≤ k). placed_text-is f (low + 1) n k a (omega (arith, below)) in
+    grind (arith, texts-more f low (range_with_len (low + 1) n), later, placed_text-before f (low + 1) n k)
 
 -- a line for each text, numbered from `first` on
 abbrev pub line_at : (ℕ → List ℕ) → ℕ → ℕ → Line
@@ -55,8 +55,8 @@ HoldsTexts f first n B = (length B ≡ n) × ((k : ℕ) → k < n → get_or B k
 
 spread-is : (f : ℕ → List ℕ) (first n : ℕ) (B : Block) → HoldsTexts f first n B → spread first n (texts_by f (range_with_len 0 n)) ≡ B
 spread-is f first n B h =
-    sym (each_from-is (line_at (text_at (texts_by f (range_with_len 0 n))) first) (record { number = 0; text = [] }) n B h.0
-    (λ k below. h.1 k below ∙ ap (λ t. let l : Line = record { number = first + k; text = t } in l) (sym (text_at-is f 0 n k (omega arith) (omega (arith, below))))))
+    sym (each_from-is (line_at (placed_text (texts_by f (range_with_len 0 n))) first) (record { number = 0; text = [] }) n B h.0
+    (λ k below. h.1 k below ∙ ap (λ t. let l : Line = record { number = first + k; text = t } in l) (sym (placed_text-is f 0 n k (omega arith) (omega (arith, below))))))
 
 -- ---- their indentation
 
@@ -79,16 +79,16 @@ pub drop_each-none : (ts : List (ℕ × List ℕ)) → ts ≡ drop_each 0 ts
 drop_each-none [] = refl
 drop_each-none (t ∷ ts) = ap (λ us. t ∷ us) (drop_each-none ts)
 
-text_at-drop : (n : ℕ) (ts : List (ℕ × List ℕ)) (k : ℕ) → text_at (drop_each n ts) k ≡ drop n (text_at ts k)
-text_at-drop n [] k = sym (drop-nil n)
-text_at-drop n (t ∷ ts) k = grind (arith, text_at-drop n ts k)
+placed_text-drop : (n : ℕ) (ts : List (ℕ × List ℕ)) (k : ℕ) → placed_text (drop_each n ts) k ≡ drop n (placed_text ts k)
+placed_text-drop n [] k = sym (drop-nil n)
+placed_text-drop n (t ∷ ts) k = grind (arith, placed_text-drop n ts k)
 
 spread-drop : (first count n : ℕ) (ts : List (ℕ × List ℕ)) → spread first count (drop_each n ts) ≡ map (shorten n) (spread first count ts)
 spread-drop first count n ts = by (range_with_len 0 count)
   where
-    by : (ks : List ℕ) → map (λ k. let l : Line = record { number = first + k; text = text_at (drop_each n ts) k } in l) ks ≡ map (shorten n) (map (λ k. let l : Line = record { number = first + k; text = text_at ts k } in l) ks)
+    by : (ks : List ℕ) → map (λ k. let l : Line = record { number = first + k; text = placed_text (drop_each n ts) k } in l) ks ≡ map (shorten n) (map (λ k. let l : Line = record { number = first + k; text = placed_text ts k } in l) ks)
     by [] = refl
-    by (k ∷ ks) = ap₂ (λ t ls. (let l : Line = record { number = first + k; text = t } in l) ∷ ls) (text_at-drop n ts k) (by ks)
+    by (k ∷ ks) = ap₂ (λ t ls. (let l : Line = record { number = first + k; text = t } in l) ∷ ls) (placed_text-drop n ts k) (by ks)
 
 -- ---- texts that can occur in lines
 

@@ -4,7 +4,7 @@ use Rattle.std.specs.Prelude.{is_some, option_map, option_to_list}
 use Rattle.std.proofs.lemmas.Bool.{and_parts, and_from, cases_lt, cases_Bool}
 use Rattle.rst_text.specs.Places.{IsFirst, all_from}
 use Rattle.rst_text.proofs.PlacesLemmas.{all_from-at, all_from-all, first_from-IsFirst}
-use Rattle.rst_markup_tables.specs.Drawn.{is_across, is_upright, IsAcross, IsUpright, IsFrame, IsDrawn, times, AreDrawn, IsTiling, Tiles}
+use Rattle.rst_markup_tables.specs.Drawn.{is_across, is_upright, IsAcross, IsUpright, IsDrawnRectangle, IsDrawn, times, AreDrawn, IsTiling, Tiles}
 use Rattle.rst_markup_tables.specs.GridTable.{IsGridTable, IsOfRows, grid_fault, head_of, tiled, with_dashes}
 use Rattle.rst_markup_tables.specs.Places.{Grid, place, rows_of, width}
 use Rattle.rst_markup_tables.specs.Tiling.{goes_across, goes_down, is_side, is_frame, bottom_of, right_of, rectangle_at, drawn_by, drawn_at, with_square, with_squares, with_rows, cover_once, tiling_of, grid_by, grid_table}
@@ -43,7 +43,7 @@ side_is G row left right h =
 is_side_all : (G : Grid) (row left right : ℕ) → IsSide G row left right → is_side G row left right ≡ true
 is_side_all G row left right h = and_from _ _ (eq-eqb _ _ h.0) (and_from _ _ (eq-eqb _ _ h.1) (is_across_all G row left right h.2))
 
-frame_is : (G : Grid) (top left right bottom : ℕ) → top < bottom → left < right → right < width G → is_frame G top left right bottom ≡ true → IsFrame G (rectangle_at top left right bottom)
+frame_is : (G : Grid) (top left right bottom : ℕ) → top < bottom → left < right → right < width G → is_frame G top left right bottom ≡ true → IsDrawnRectangle G (rectangle_at top left right bottom)
 unfolding is_frame
 frame_is G top left right bottom high wide inside h =
     let a = and_parts (is_side G top left right) (is_side G bottom left right && (goes_down G left top bottom && goes_down G right top bottom)) h in
@@ -65,7 +65,7 @@ frame_is G top left right bottom high wide inside h =
       right_side = down_is G right top bottom c.1;
     }
 
-is_frame_all : (G : Grid) (q : Rectangle) → IsFrame G q → is_frame G q.top q.left q.right q.bottom ≡ true
+is_frame_all : (G : Grid) (q : Rectangle) → IsDrawnRectangle G q → is_frame G q.top q.left q.right q.bottom ≡ true
 unfolding is_frame
 is_frame_all G q f =
     and_from _ _ (is_side_all G q.top q.left q.right (f.top_left, f.top_right, f.top_side))
@@ -81,7 +81,7 @@ abbrev LeastRight : Grid → ℕ → ℕ → Option ℕ → Type 0
 LeastRight G top left o = IsFirst (λ right. is_some (bottom_of G top left right)) (left + 1) (left + 1 + (width G - (left + 1))) o
 
 -- a frame at a place that is in the grid is found, with a bottom side that is no lower
-finds_frame : (G : Grid) (q : Rectangle) → IsFrame G q → (o : Option ℕ) → LeastBottom G q.top q.left q.right o → (b : ℕ) × (o ≡ Some b) × (b ≤ q.bottom)
+finds_frame : (G : Grid) (q : Rectangle) → IsDrawnRectangle G q → (o : Option ℕ) → LeastBottom G q.top q.left q.right o → (b : ℕ) × (o ≡ Some b) × (b ≤ q.bottom)
 finds_frame G q f None none =
     let w = frame_within G q f in
     absurd (true≢false (sym (is_frame_all G q f) ∙ none q.bottom (let h = f.high in omega arith) (let below = w.0 in omega arith)))
@@ -98,7 +98,7 @@ least_right : (G : Grid) (top left : ℕ) → LeastRight G top left (right_of G 
 least_right G top left = first_from-IsFirst (λ right. is_some (bottom_of G top left right)) (left + 1) (width G - (left + 1))
 
 -- from the corner of a frame a bottom side is found
-bottom_here : (G : Grid) (top left : ℕ) (q : Rectangle) → IsFrame G q → q.top ≡ top → q.left ≡ left → is_some (bottom_of G top left q.right) ≡ true
+bottom_here : (G : Grid) (top left : ℕ) (q : Rectangle) → IsDrawnRectangle G q → q.top ≡ top → q.left ≡ left → is_some (bottom_of G top left q.right) ≡ true
 bottom_here G top left q f t l =
     let found = finds_frame G q f (bottom_of G q.top q.left q.right) (least_bottom G q.top q.left q.right) in
     subst (λ i. is_some (bottom_of G i left q.right) ≡ true) t (subst (λ j. is_some (bottom_of G q.top j q.right) ≡ true) l (ap is_some found.1))

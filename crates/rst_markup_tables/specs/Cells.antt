@@ -22,9 +22,9 @@ pub record AreOfLine (ps : List Place) : Type 0 where
   pub unended : list_any is_line_end (characters ps) ≡ false
 
 -- no character begins at a place, or a white one
-abbrev pub is_white_place : Place → Bool
-is_white_place (Character c) = is_whitespace c
-is_white_place Second = true
+abbrev pub is_trimmable_place : Place → Bool
+is_trimmable_place (Character c) = is_whitespace c
+is_trimmable_place Second = true
 
 -- the places from `left` on and before `right`, or all from `left` on
 abbrev pub cut_places : ℕ → Option ℕ → List Place → List Place

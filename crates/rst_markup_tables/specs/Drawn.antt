@@ -20,7 +20,7 @@ abbrev pub IsUpright : Grid → ℕ → ℕ → ℕ → Type 0
 IsUpright G column top bottom = (i : ℕ) → top ≤ i → i ≤ bottom → is_upright (place G i column) ≡ true
 
 -- the rectangle lies in the columns of the first row, and has a `+` at each corner and its sides
-pub record IsFrame (G : Grid) (r : Rectangle) : Type 0 where
+pub record IsDrawnRectangle (G : Grid) (r : Rectangle) : Type 0 where
   pub high : r.top < r.bottom
   pub wide : r.left < r.right
   pub inside : r.right < width G
@@ -35,9 +35,9 @@ pub record IsFrame (G : Grid) (r : Rectangle) : Type 0 where
 
 -- of the frames with its corner it has the least right edge and, among these, the least bottom edge
 pub record IsDrawn (G : Grid) (r : Rectangle) : Type 0 where
-  pub frame : IsFrame G r
-  pub least_right : (q : Rectangle) → IsFrame G q → q.top ≡ r.top → q.left ≡ r.left → r.right ≤ q.right
-  pub least_bottom : (q : Rectangle) → IsFrame G q → q.top ≡ r.top → q.left ≡ r.left → q.right ≡ r.right → r.bottom ≤ q.bottom
+  pub frame : IsDrawnRectangle G r
+  pub least_right : (q : Rectangle) → IsDrawnRectangle G q → q.top ≡ r.top → q.left ≡ r.left → r.right ≤ q.right
+  pub least_bottom : (q : Rectangle) → IsDrawnRectangle G q → q.top ≡ r.top → q.left ≡ r.left → q.right ≡ r.right → r.bottom ≤ q.bottom
 
 -- the unit square with the place at its top left corner lies in the rectangle
 unfoldable pub covers : Rectangle → ℕ → ℕ → Bool

@@ -13,12 +13,12 @@ abbrev pub HaveOneTiling : Type 0
 HaveOneTiling = (G : Grid) → OneTiling G
 
 -- No grid table begins at a line that a scan for a grid table goes over after the table.
-abbrev pub NoGridBehind : Type 0
-NoGridBehind = (X : Block) (k : ℕ) → grid_size X ≤ k → k < grid_scan X → is_grid_row (drop k X) ≡ false
+abbrev pub NoGridAfter : Type 0
+NoGridAfter = (X : Block) (k : ℕ) → grid_size X ≤ k → k < grid_scan X → is_grid_row (drop k X) ≡ false
 
 -- None of the lines that a scan for a simple table goes over after the table is a border.
-abbrev pub NoSimpleBehind : Type 0
-NoSimpleBehind = (X : Block) (k : ℕ) → simple_size X ≤ k → k < simple_scan X → is_lower_border_at X k ≡ false
+abbrev pub NoSimpleAfter : Type 0
+NoSimpleAfter = (X : Block) (k : ℕ) → simple_size X ≤ k → k < simple_scan X → is_lower_border_at X k ≡ false
 
 -- The tiling that is found in a grid is its tiling; where none is found, it has none.
 abbrev pub TilingIsFound : Type 0

@@ -34,12 +34,12 @@ abbrev pub Grid : Type 0
 Grid = List Row
 
 -- a line as a row of places
-abbrev pub row_of : Line → Row
-row_of l = record { number = l.number; places = places_of l.text }
+abbrev pub row_of_line : Line → Row
+row_of_line l = record { number = l.number; places = places_of l.text }
 
 -- the lines of a block as rows of places
 abbrev pub rows_of : Block → Grid
-rows_of B = map row_of B
+rows_of B = map row_of_line B
 
 -- a row without places
 abbrev pub no_row : Row

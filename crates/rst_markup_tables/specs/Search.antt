@@ -1,7 +1,7 @@
 -- How the rectangles of a grid table are found, and its tiling made of them. No rule of markup: what is found is what is drawn.
 use Rattle.std.specs.Prelude.{◌≡◌, ℕ, ◌+◌, ◌<◌, ◌≤◌, Bool, true, false, ◌&&◌, List, [], Option, Some, None, if◌then◌else◌, get_or, length, ◌≢◌, map, Vec}
 use Rattle.rst_markup_tables.specs.Places.{Grid, row_at, mark_at, place}
-use Rattle.rst_markup_tables.specs.Drawn.{is_across, is_upright, IsAcross, IsUpright, IsFrame, IsDrawn}
+use Rattle.rst_markup_tables.specs.Drawn.{is_across, is_upright, IsAcross, IsUpright, IsDrawnRectangle, IsDrawn}
 use Rattle.rst_markup_tables.specs.declared.drawn.Rectangle.{Rectangle}
 use Rattle.rst_markup_tables.specs.declared.places.Place.{Place}
 
@@ -21,21 +21,21 @@ abbrev pub IsBottom : Grid → ℕ → ℕ → ℕ → Type 0
 IsBottom G row left right = (place G row left ≡ 43) × (place G row right ≡ 43) × IsAcross G row left right
 
 -- from the top row the two sides go down to a bottom side
-pub record IsClosed (G : Grid) (top left right bottom : ℕ) : Type 0 where
+pub record IsClosedRectangle (G : Grid) (top left right bottom : ℕ) : Type 0 where
   pub high : top < bottom
   pub side : IsBottom G bottom left right
   pub left_side : IsUpright G left top bottom
   pub right_side : IsUpright G right top bottom
 
 -- the least bottom edge
-abbrev pub Closes : Grid → ℕ → ℕ → ℕ → Option ℕ → Type 0
-Closes G top left right (Some bottom) = IsClosed G top left right bottom × ((k : ℕ) → IsClosed G top left right k → bottom ≤ k)
-Closes G top left right None = (k : ℕ) → IsClosed G top left right k → ⊥
+abbrev pub IsLeastBottom : Grid → ℕ → ℕ → ℕ → Option ℕ → Type 0
+IsLeastBottom G top left right (Some bottom) = IsClosedRectangle G top left right bottom × ((k : ℕ) → IsClosedRectangle G top left right k → bottom ≤ k)
+IsLeastBottom G top left right None = (k : ℕ) → IsClosedRectangle G top left right k → ⊥
 
 -- the rectangle that is drawn from the place
 abbrev pub Draws : Grid → ℕ → ℕ → Option Rectangle → Type 0
 Draws G top left (Some r) = IsDrawn G r × (r.top ≡ top) × (r.left ≡ left)
-Draws G top left None = (r : Rectangle) → IsFrame G r → r.top ≡ top → r.left ≡ left → ⊥
+Draws G top left None = (r : Rectangle) → IsDrawnRectangle G r → r.top ≡ top → r.left ≡ left → ⊥
 
 -- ---- how far the columns of unit squares are covered
 
@@ -49,12 +49,12 @@ Fills r old new false = (k : ℕ) × (r.left ≤ k) × (k < r.right) × (get_or 
 -- ---- where the runs of `-` and `+` begin, which keeps the search's time low
 
 -- from `left` on and before `end` the row consists of `-` and `+`
-abbrev pub IsRun : List Place → ℕ → ℕ → Type 0
-IsRun row left end = (j : ℕ) → left ≤ j → j < end → is_across (mark_at row j) ≡ true
+abbrev pub IsBorderRun : List Place → ℕ → ℕ → Type 0
+IsBorderRun row left end = (j : ℕ) → left ≤ j → j < end → is_across (mark_at row j) ≡ true
 
 -- the places before `end` are a run exactly from `begin` on
 abbrev pub Begins : List Place → ℕ → ℕ → Type 0
-Begins row end begin = (left : ℕ) → (begin ≤ left → IsRun row left end) × (left < begin → IsRun row left end → ⊥)
+Begins row end begin = (left : ℕ) → (begin ≤ left → IsBorderRun row left end) × (left < begin → IsBorderRun row left end → ⊥)
 
 -- where the run of `-` and `+` through a column begins, if the one through the column before begins at `begin`; any
 -- other character ends the run, and the next may begin after it

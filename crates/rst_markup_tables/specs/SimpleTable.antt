@@ -84,13 +84,13 @@ no_more (c ∷ cs) = None
 
 -- Spans with how many columns each joins. They have to join all columns, each those after the ones that the span before
 -- it joins.
-abbrev pub spread : List RuleSpan → List RuleSpan → Option (List RuleSpan)
-spread columns [] = no_more columns
-spread columns (s ∷ ss) = option_and_then (λ last. option_map (λ others. joining s (last + 1) ∷ others) (spread (drop (last + 1) columns) ss)) (last_joined columns s)
+abbrev pub spans_with_columns : List RuleSpan → List RuleSpan → Option (List RuleSpan)
+spans_with_columns columns [] = no_more columns
+spans_with_columns columns (s ∷ ss) = option_and_then (λ last. option_map (λ others. joining s (last + 1) ∷ others) (spans_with_columns (drop (last + 1) columns) ss)) (last_joined columns s)
 
 -- the spans of a row that is a rule
 abbrev pub rule_spans : Grid → ℕ → Option (List RuleSpan)
-rule_spans T k = spread (columns_of T) (spans_of (row_at T k))
+rule_spans T k = spans_with_columns (columns_of T) (spans_of (row_at T k))
 
 -- the rules below the top border: span rules, the border that closes the head and the last border
 abbrev pub rules_of : Grid → List ℕ
@@ -139,12 +139,12 @@ rows_from T rule None = []
 rows_from T rule (Some start) = map (row_between rule) (neighbours (row_places T start rule ++ rule ∷ []))
 
 -- the rows of the lines from `low` on before a rule, blank lines at their front dropped
-abbrev pub section : Grid → ℕ → ℕ → List RowLines
-section T low rule = rows_from T rule (first_from (λ k. not (is_empty_row (row_at T k))) low (rule - low))
+abbrev pub section_rows : Grid → ℕ → ℕ → List RowLines
+section_rows T low rule = rows_from T rule (first_from (λ k. not (is_empty_row (row_at T k))) low (rule - low))
 
 -- the rows of the lines between the top border, line 0, and the first of some rules, and between each of these and the next
 abbrev pub sections : Grid → List ℕ → List RowLines
-sections T rules = flat_map (λ (p : ℕ × ℕ). section T (p.0 + 1) p.1) (neighbours (0 ∷ rules))
+sections T rules = flat_map (λ (p : ℕ × ℕ). section_rows T (p.0 + 1) p.1) (neighbours (0 ∷ rules))
 
 -- the rows of a table: its lines below the top border, cut at its rules
 abbrev pub simple_rows : Grid → List RowLines
@@ -174,12 +174,12 @@ abbrev pub lines_of_row : Grid → RowLines → Grid
 lines_of_row T r = slice_range T r.from r.to
 
 -- how many places the longest of some lines has, 0 where there are none
-abbrev pub longest : Grid → ℕ
-longest lines = fold max 0 (map (λ line. length line.places) lines)
+abbrev pub longest_line_len : Grid → ℕ
+longest_line_len lines = fold max 0 (map (λ line. length line.places) lines)
 
 -- how many places the longest line of the rows has
 abbrev pub longest_of : Grid → List RowLines → ℕ
-longest_of T rows = longest (flat_map (lines_of_row T) rows)
+longest_of T rows = longest_line_len (flat_map (lines_of_row T) rows)
 
 -- the k-th span
 abbrev pub span_of : List RuleSpan → ℕ → RuleSpan
@@ -195,12 +195,12 @@ abbrev pub simple_widths : Grid → List ℕ
 simple_widths T = map (width_of (columns_of T) (longest_of T (simple_rows T))) (range_with_len 0 (length (columns_of T)))
 
 -- where the k-th span of a row ends: the last has no end
-abbrev pub right_of : List RuleSpan → ℕ → Option ℕ
-right_of spans k = if k + 1 == length spans then None else Some (span_of spans k).to
+abbrev pub span_right : List RuleSpan → ℕ → Option ℕ
+span_right spans k = if k + 1 == length spans then None else Some (span_of spans k).to
 
 -- the cell of a row's lines in its k-th span
 abbrev pub entry : Grid → List RuleSpan → ℕ → Cell
-entry lines spans k = record { morerows = 0; morecols = (span_of spans k).columns - 1; lines = cell_block (span_of spans k).from (right_of spans k) lines }
+entry lines spans k = record { morerows = 0; morecols = (span_of spans k).columns - 1; lines = cell_block (span_of spans k).from (span_right spans k) lines }
 
 -- the cells of a row's lines, one in each span
 abbrev pub entries : Grid → List RuleSpan → List Cell

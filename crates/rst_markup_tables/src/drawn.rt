@@ -2,7 +2,7 @@
 ghost use Rattle.std.specs.Prelude.{◌≡◌, ◌<◌, IfOk, option_map, vec_items};
 ghost use Rattle.rst_markup_tables.specs.Places.{width, place};
 ghost use Rattle.rst_markup_tables.specs.Drawn.{is_across, is_upright, Tiles};
-ghost use Rattle.rst_markup_tables.specs.Search.{are_upright, lists_of, begin_at, IsBottom, Tells, Closes, AreBegins, HasBegins, Draws};
+ghost use Rattle.rst_markup_tables.specs.Search.{are_upright, lists_of, begin_at, IsBottom, Tells, IsLeastBottom, AreBegins, HasBegins, Draws};
 
 use super::Result;
 use super::places::{Place, TableLine, mark, mark_at, width};
@@ -87,7 +87,7 @@ impl Runs<'_> {
     fn bottom(&self, top: usize, left: usize, right: usize) -> Option<usize>
         requires top_left { place self.now.rows.now top left ≡ 43 }
         requires top_right { place self.now.rows.now top right ≡ 43 }
-        ensures { Closes self.now.rows.now top left right result }
+        ensures { IsLeastBottom self.now.rows.now top left right result }
     {
         let height = self.rows.len();
         for row in top + 1..height {

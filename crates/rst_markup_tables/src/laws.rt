@@ -1,5 +1,5 @@
 //! Laws on the definitions, each by a function that does nothing and whose contract is the law.
-ghost use Rattle.rst_markup_tables.specs.Laws.{HaveOneTiling, NoGridBehind, NoSimpleBehind, TilingIsFound, GridIsFound};
+ghost use Rattle.rst_markup_tables.specs.Laws.{HaveOneTiling, NoGridAfter, NoSimpleAfter, TilingIsFound, GridIsFound};
 
 /// A grid has at most one tiling by drawn rectangles.
 pub fn one_tiling()
@@ -7,13 +7,13 @@ pub fn one_tiling()
 {}
 
 /// No grid table begins at a line after a grid table that the scan for this table went over.
-pub fn no_grid_behind()
-    ensures { NoGridBehind }
+pub fn no_grid_after()
+    ensures { NoGridAfter }
 {}
 
 /// No simple table begins at a line after a simple table that the scan for the last border of this table went over.
-pub fn no_simple_behind()
-    ensures { NoSimpleBehind }
+pub fn no_simple_after()
+    ensures { NoSimpleAfter }
 {}
 
 /// The tiling that is found square by square is the tiling of a grid.

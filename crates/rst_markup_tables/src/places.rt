@@ -2,7 +2,7 @@
 ghost use Rattle.std.specs.Prelude.{◌≡◌, ◌+◌, ◌<◌, ◌∷◌, length, drop, IfOk, chars};
 ghost use Rattle.rst_markup_tables.specs.Cells.{AreOfLine};
 ghost use Rattle.rst_markup_tables.specs.Places.{consists_of, mark_of, places_of, mark_at, place, row_at, width, rows_of};
-ghost use Rattle.rst_markup_blocks.specs.Prelude.{first_number, front_text, block_of};
+ghost use Rattle.rst_markup_blocks.specs.Prelude.{first_number, first_text, block_of};
 
 use super::Result;
 use rst_text::{View, characters_of};
@@ -104,7 +104,7 @@ fn places_of(alloc: Global, text: &str) -> Result<Vec<Place>>
 /// The line at place `k` of a view, by its text.
 pub(crate) fn line_of(alloc: Global, view: &View<'_>, k: usize, text: &str) -> Result<TableLine>
     requires inside { k < length (block_of view.now) }
-    requires text { chars text.now ≡ front_text (drop k (block_of view.now)) }
+    requires text { chars text.now ≡ first_text (drop k (block_of view.now)) }
     ensures line { IfOk result (λ line. rows_of (drop k (block_of view.now)) ≡ line ∷ rows_of (drop (k + 1) (block_of view.now))) }
     ensures number { IfOk result (λ line. line.number ≡ first_number (block_of view.now) + k) }
 {

@@ -7,7 +7,7 @@ ghost use Rattle.rst_markup_tables.specs.SimpleTable as spec;
 
 use super::Result;
 use super::places::{Place, TableLine, consists_of, mark_at, row_at};
-use super::spans::{RuleSpan, behind, last_joined, span_of, spans_of};
+use super::spans::{RuleSpan, last_joined, span_of, spans_after, spans_of};
 use std::alloc::Global;
 
 /// The lines of a row: from place `from` of the table on, before place `to`. Its columns are those of the rule at place
@@ -98,7 +98,7 @@ impl SimpleLines<'_> {
             };
             let columns = last + 1;
             wide.push(RuleSpan { columns, ..*span })?;
-            left = behind(left, columns);
+            left = spans_after(left, columns);
         }
         if left.is_empty() {
             Ok(Some(wide))
@@ -129,7 +129,7 @@ impl SimpleLines<'_> {
 
     /// The rows with those of the lines from place `low` on before a rule.
     fn with_section(&self, rows: Vec<RowLines>, low: usize, rule: usize) -> Result<Vec<RowLines>>
-        ensures { IfOk result (λ all. all.items ≡ rows.items ++ spec.section self.now.lines.now low rule) }
+        ensures { IfOk result (λ all. all.items ≡ rows.items ++ spec.section_rows self.now.lines.now low rule) }
     {
         let mut rows = rows;
         let Some(begin) = self.text_start(low, rule) else {

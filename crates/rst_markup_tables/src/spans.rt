@@ -80,7 +80,7 @@ pub(crate) fn last_joined(columns: &[RuleSpan], span: RuleSpan) -> Option<usize>
 }
 
 /// The spans after the first `n`; of fewer nothing is left.
-pub(crate) fn behind(spans: &[RuleSpan], n: usize) -> &[RuleSpan]
+pub(crate) fn spans_after(spans: &[RuleSpan], n: usize) -> &[RuleSpan]
     ensures { result.now ≡ drop n spans.now }
 {
     &spans[n.min(spans.len())..]

@@ -10,7 +10,7 @@ unfolding
     Rattle.rst_text.specs.Names.normalized_white Rattle.rst_text.specs.Names.name_of Rattle.rst_text.specs.Names.is_id_char
     Rattle.rst_text.specs.Names.is_no_start Rattle.rst_text.specs.Names.identifier_of Rattle.rst_text.specs.Names.id_of
     Rattle.rst_text.specs.Reach.looked Rattle.rst_text.specs.Reach.blank_len Rattle.rst_text.specs.Reach.through_text
-    Rattle.rst_text.specs.Shown.block_of Rattle.rst_text.specs.Shown.placement_block Rattle.rst_text.specs.SimpleNames.is_joint
-    Rattle.rst_text.specs.SimpleNames.is_name_at Rattle.rst_text.specs.SimpleNames.is_simple_name Rattle.rst_text.specs.SimpleNames.name_stop
-    Rattle.rst_text.specs.SimpleNames.simple_name
+    Rattle.rst_text.specs.SimpleNames.is_joint Rattle.rst_text.specs.SimpleNames.is_name_at Rattle.rst_text.specs.SimpleNames.is_simple_name
+    Rattle.rst_text.specs.SimpleNames.name_stop Rattle.rst_text.specs.SimpleNames.simple_name Rattle.rst_text.specs.ViewBlock.block_of
+    Rattle.rst_text.specs.ViewBlock.placement_block
 rst_text = tt

@@ -4,7 +4,7 @@ use Rattle.std.specs.Str.{IsUtf8, chars}
 use Rattle.std.proofs.Math.Utf8.{encode, encodes}
 use Rattle.std.proofs.lemmas.Bool.{ne_eqb}
 use Rattle.std.proofs.lemmas.Str.{chars_from_encodes, encode_ascii}
-use Rattle.rst_text.specs.Lines.{shown, expanded}
+use Rattle.rst_text.specs.Lines.{line_character, expanded}
 use Rattle.rst_text.proofs.Tabs.{expanded_from, expanded_from-start}
 use Rattle.rst_text.proofs.Scanning.{Writes, Writes-char, Writes-one, Writes-end}
 
@@ -13,9 +13,9 @@ abbrev pub Expands : ℕ → ℕ → List ℕ → List ℕ → List ℕ → Type
 Expands tab column line rest piece = Writes (expanded_from tab column) (expanded_from tab 0 piece) line rest
 
 pub Expands-char : (tab column : ℕ) (line rest piece after : List ℕ) (c : ℕ) → Expands tab column line rest piece → rest ≡ encode c ++ after → (c ≡ 9 → ⊥)
-    → Expands tab (column + 1) (line ++ encode (shown c)) after piece
+    → Expands tab (column + 1) (line ++ encode (line_character c)) after piece
 Expands-char tab column line rest piece after c x e other =
-    Writes-one (expanded_from tab column) (expanded_from tab (column + 1)) _ line rest after c x e (shown c) (let t : (c == 9) ≡ false = ne_eqb c 9 other in rw t refl)
+    Writes-one (expanded_from tab column) (expanded_from tab (column + 1)) _ line rest after c x e (line_character c) (let t : (c == 9) ≡ false = ne_eqb c 9 other in rw t refl)
 
 encodes-spaces : (n : ℕ) → encodes (replicate n 32) ≡ replicate n 32
 encodes-spaces zero = refl

@@ -36,7 +36,7 @@ Counts-end text rest n s e =
 pub record Skips (text rest : List ℕ) (left all : ℕ) : Type 0 where
   pub value : drop left (chars rest) ≡ drop all (chars text)
   pub utf8 : IsUtf8 rest
-  pub suffix : (front : List ℕ) × (text ≡ front ++ rest)
+  pub suffix : (prefix : List ℕ) × (text ≡ prefix ++ rest)
 
 pub Skips-step : (text rest after : List ℕ) (left next n c : ℕ) → Skips text rest left n → rest ≡ encode c ++ after → left ≡ suc next → Skips text after next n
 Skips-step text rest after left next n c s e more =
@@ -44,11 +44,11 @@ Skips-step text rest after left next n c s e more =
     record { value = sym v ∙ s.value; utf8 = (past_char rest after c s.utf8 e).1; suffix = (s.suffix.0 ++ encode c, s.suffix.1 ∙ ap (λ l. s.suffix.0 ++ l) e ∙ sym (append_assoc s.suffix.0 (encode c) after)) }
 
 -- a text is empty just where it has no characters
-pub no_front : (text front : List ℕ) → chars text ≡ front → length text ≡ 0 → length front ≡ 0
-no_front text front e h = omega (arith, ap length (no_chars text h), ap length e)
+pub empty_chars : (text prefix : List ℕ) → chars text ≡ prefix → length text ≡ 0 → length prefix ≡ 0
+empty_chars text prefix e h = omega (arith, ap length (no_chars text h), ap length e)
 
-pub some_front : (text front : List ℕ) → IsUtf8 text → chars text ≡ front → 1 ≤ length text → 1 ≤ length front
-some_front text front good e h = elim (cases_lt 0 (length front)) [
+pub some_chars : (text prefix : List ℕ) → IsUtf8 text → chars text ≡ prefix → 1 ≤ length text → 1 ≤ length prefix
+some_chars text prefix good e h = elim (cases_lt 0 (length prefix)) [
   | inl some ↦ some
-  | inr none ↦ absurd (let empty : text ≡ [] = sym (encodes-chars text good) ∙ ap encodes (e ∙ nil_from_length front (omega arith)) in omega (arith, ap length empty))
+  | inr none ↦ absurd (let empty : text ≡ [] = sym (encodes-chars text good) ∙ ap encodes (e ∙ nil_from_length prefix (omega arith)) in omega (arith, ap length empty))
 ]

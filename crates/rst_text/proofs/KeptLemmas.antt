@@ -10,8 +10,8 @@ use Rattle.rst_text.specs.MayCut.{is_text}
 
 -- ---- more bytes after the others
 
-range-front : (xs ys : List ℕ) (a b : ℕ) → a ≤ b → b ≤ length xs → slice_range (xs ++ ys) a b ≡ slice_range xs a b
-range-front xs ys a b order within =
+range-prefix : (xs ys : List ℕ) (a b : ℕ) → a ≤ b → b ≤ length xs → slice_range (xs ++ ys) a b ≡ slice_range xs a b
+range-prefix xs ys a b order within =
     ap (take (b - a)) (drop-append-le a xs ys (omega arith)) ∙ take-append-le (b - a) (drop a xs) ys (omega (arith, length-drop a xs))
 
 -- the bytes that were added
@@ -53,7 +53,7 @@ starts-added xs ys (s ∷ e ∷ es) u w h = (h.0, boundary-more xs ys s u w h.1,
 pub texts-added : (xs ys ss : List ℕ) → AreStarts xs ss → texts_in (xs ++ ys) (ss ++ length (xs ++ ys) ∷ []) ≡ texts_in xs ss ++ chars ys ∷ []
 texts-added xs ys [] h = absurd h
 texts-added xs ys (s ∷ []) h = rw h (ap (λ t. chars t ∷ []) (range-added xs ys))
-texts-added xs ys (s ∷ e ∷ es) h = rw (range-front xs ys s e h.0 (start-boundary xs (e ∷ es) 0 h.2 (omega arith)).0, texts-added xs ys (e ∷ es) h.2) refl
+texts-added xs ys (s ∷ e ∷ es) h = rw (range-prefix xs ys s e h.0 (start-boundary xs (e ∷ es) 0 h.2 (omega arith)).0, texts-added xs ys (e ∷ es) h.2) refl
 
 -- ---- a text at a place
 
@@ -78,9 +78,9 @@ texts-of_starts bs [] u few h = absurd h
 texts-of_starts bs (s ∷ []) u few h = refl
 texts-of_starts bs (s ∷ e ∷ es) u few h =
     let part : List ℕ = slice_range bs s e in
-    let behind : IsCharBoundary bs e = start-boundary bs (e ∷ es) 0 h.2 (omega arith) in
-    let good : IsUtf8 part = IsUtf8-between bs s e u h.0 h.1 behind in
-    let short : length part ≤ length bs = omega (arith, h.0, behind.0, length-drop s bs, length-take-le (e - s) (drop s bs) (omega (arith, h.0, behind.0, length-drop s bs))) in
+    let end_boundary : IsCharBoundary bs e = start-boundary bs (e ∷ es) 0 h.2 (omega arith) in
+    let good : IsUtf8 part = IsUtf8-between bs s e u h.0 h.1 end_boundary in
+    let short : length part ≤ length bs = omega (arith, h.0, end_boundary.0, length-drop s bs, length-take-le (e - s) (drop s bs) (omega (arith, h.0, end_boundary.0, length-drop s bs))) in
     rw (is_text-chars part good (omega arith), texts-of_starts bs (e ∷ es) u few h.2) refl
 
 -- ---- empty texts

@@ -5,11 +5,11 @@ use Rattle.std.specs.Char.{is_whitespace}
 use Rattle.std.specs.List.{list_any}
 use Rattle.std.specs.Str.{drop_trailing_whitespace}
 use Rattle.std.proofs.lemmas.List.Folds.{list_any-append}
-use Rattle.rst_text.specs.Block.{Line, Block, front_text, is_blank}
+use Rattle.rst_text.specs.Block.{Line, Block, first_text, is_blank}
 use Rattle.std.specs.List.{onto_first}
-use Rattle.rst_text.proofs.Tabs.{expanded_from, expanded_from-start, shown-keeps}
+use Rattle.rst_text.proofs.Tabs.{expanded_from, expanded_from-start, line_character-keeps}
 use Rattle.rst_text.proofs.TextLemmas.{all-parts}
-use Rattle.rst_text.specs.Lines.{is_line_end, pieces, begins_with, shown, expanded, tidied, numbered_from, lines_of, ends_white, is_line_text, are_lines}
+use Rattle.rst_text.specs.Lines.{is_line_end, pieces, begins_with, line_character, expanded, tidied, numbered_from, lines_of, ends_white, is_line_text, are_lines}
 use Rattle.std.proofs.lemmas.Bool.{eqb-true, not-true, and_parts, and_from, or_parts, false_from_ne_true, cases_Bool, cond_both}
 use Rattle.std.proofs.lemmas.List.{take-append-drop}
 
@@ -84,9 +84,9 @@ unended-expanded tab column [] h = refl
 unended-expanded tab column (c ∷ cs) h =
     let t = or_parts (is_line_end c) (list_any is_line_end cs) h in
     let wide = tab - column % tab in
-    cond_both (c == 9) (replicate wide 32 ++ expanded_from tab (column + wide) cs) (shown c ∷ expanded_from tab (column + 1) cs) (λ (l : List ℕ). list_any is_line_end l ≡ false)
+    cond_both (c == 9) (replicate wide 32 ++ expanded_from tab (column + wide) cs) (line_character c ∷ expanded_from tab (column + 1) cs) (λ (l : List ℕ). list_any is_line_end l ≡ false)
     (λ e. unended-spaces wide (expanded_from tab (column + wide) cs) (unended-expanded tab (column + wide) cs t.1))
-    (λ e. rw (shown-keeps is_line_end c refl refl, t.0, unended-expanded tab (column + 1) cs t.1) refl)
+    (λ e. rw (line_character-keeps is_line_end c refl refl, t.0, unended-expanded tab (column + 1) cs t.1) refl)
 
 -- no piece holds a line end
 abbrev AreUnended : List (List ℕ) → Type 0
@@ -117,9 +117,9 @@ pub are_lines-lines_of : (tab : ℕ) (text : List ℕ) → 0 < tab → are_lines
 are_lines-lines_of tab text wide = are_lines-numbered tab 1 (pieces text) wide (AreUnended-pieces text)
 
 -- each line of lines
-pub is_line_text-front : (i : ℕ) (B : Block) → are_lines B ≡ true → is_line_text (front_text (drop i B)) ≡ true
-is_line_text-front i B h = front (drop i B) (all-parts (λ (l : Line). is_line_text l.text) i B h).1
+pub is_line_text-first : (i : ℕ) (B : Block) → are_lines B ≡ true → is_line_text (first_text (drop i B)) ≡ true
+is_line_text-first i B h = of_first (drop i B) (all-parts (λ (l : Line). is_line_text l.text) i B h).1
   where
-    front : (X : Block) → are_lines X ≡ true → is_line_text (front_text X) ≡ true
-    front [] h = is_line_text-nil
-    front (l ∷ ls) h = (and_parts (is_line_text l.text) (are_lines ls) h).0
+    of_first : (X : Block) → are_lines X ≡ true → is_line_text (first_text X) ≡ true
+    of_first [] h = is_line_text-nil
+    of_first (l ∷ ls) h = (and_parts (is_line_text l.text) (are_lines ls) h).0

@@ -7,10 +7,10 @@ use Rattle.std.proofs.Math.Utf8.{encode, encodes}
 use Rattle.std.proofs.lemmas.Bool.{and_right, cases_Bool, cases_lt, cond_both, ne_eqb}
 use Rattle.std.proofs.lemmas.List.{length-replicate, nil_from_length}
 use Rattle.std.proofs.lemmas.Str.{chars_from_encodes, chars_past_char, encodes-chars, length-le-encodes}
-use Rattle.rst_text.specs.Lines.{is_line_end, pieces, shown, expanded, tidied}
+use Rattle.rst_text.specs.Lines.{is_line_end, pieces, line_character, expanded, tidied}
 use Rattle.std.specs.List.{onto_first}
-use Rattle.rst_text.proofs.Indenting.{no_chars, some_front}
-use Rattle.rst_text.proofs.Tabs.{expanded_from, expanded_from-start, shown-keeps}
+use Rattle.rst_text.proofs.Indenting.{no_chars, some_chars}
+use Rattle.rst_text.proofs.Tabs.{expanded_from, expanded_from-start, line_character-keeps}
 use Rattle.rst_text.proofs.Scanning.{Scans, chars-scanned, take-scanned, length-scanned}
 
 -- ---- cutting a text
@@ -21,10 +21,10 @@ pieces-cons c cs inside =
     let e : (c == 13) ≡ false = ne_eqb c 13 (λ same. let f : true ≡ false = sym (ap is_line_end same) ∙ inside in cc) in rw (inside, e) refl
 
 -- the front of a line
-pieces-append : (front rest p : List ℕ) (ps : List (List ℕ)) → NonePass is_line_end front → pieces rest ≡ p ∷ ps → pieces (front ++ rest) ≡ (front ++ p) ∷ ps
+pieces-append : (prefix rest p : List ℕ) (ps : List (List ℕ)) → NonePass is_line_end prefix → pieces rest ≡ p ∷ ps → pieces (prefix ++ rest) ≡ (prefix ++ p) ∷ ps
 pieces-append [] rest p ps clear e = e
-pieces-append (c ∷ front) rest p ps clear e =
-    pieces-cons c (front ++ rest) clear.0 ∙ ap (onto_first c) (pieces-append front rest p ps clear.1 e)
+pieces-append (c ∷ prefix) rest p ps clear e =
+    pieces-cons c (prefix ++ rest) clear.0 ∙ ap (onto_first c) (pieces-append prefix rest p ps clear.1 e)
 
 -- a last line with no end
 pieces-unended : (cs : List ℕ) → NonePass is_line_end cs → 0 < length cs → pieces cs ≡ cs ∷ []
@@ -56,24 +56,24 @@ pieces-after_cr whole kept (Some rest) good found is =
     )
 
 -- the first piece of a text, and what follows its end
-pub pieces-scanned : (text front rest after kept : List ℕ) (c width : ℕ) → Scans text front rest → NonePass is_line_end front → rest ≡ encode c ++ after
+pub pieces-scanned : (text prefix rest after kept : List ℕ) (c width : ℕ) → Scans text prefix rest → NonePass is_line_end prefix → rest ≡ encode c ++ after
     → width ≡ length (encode c) → pieces (c ∷ chars after) ≡ [] ∷ pieces (chars kept)
     → pieces (chars text) ≡ chars (take (length text - length after - width) text) ∷ pieces (chars kept)
-pieces-scanned text front rest after kept c width s clear e wide ends =
-    let here : length text - length after - width ≡ length (encodes front) = omega (arith, wide, length-scanned text front rest after c s e) in
-    ap pieces (chars-scanned text front rest s ∙ ap (λ l. front ++ l) (chars_past_char rest after c s.utf8 e))
-    ∙ pieces-append front (c ∷ chars after) [] (pieces (chars kept)) clear ends
-    ∙ ap (λ l. l ∷ pieces (chars kept)) (append-nil front ∙ sym (take-scanned text front rest _ s here))
+pieces-scanned text prefix rest after kept c width s clear e wide ends =
+    let here : length text - length after - width ≡ length (encodes prefix) = omega (arith, wide, length-scanned text prefix rest after c s e) in
+    ap pieces (chars-scanned text prefix rest s ∙ ap (λ l. prefix ++ l) (chars_past_char rest after c s.utf8 e))
+    ∙ pieces-append prefix (c ∷ chars after) [] (pieces (chars kept)) clear ends
+    ∙ ap (λ l. l ∷ pieces (chars kept)) (append-nil prefix ∙ sym (take-scanned text prefix rest _ s here))
 
 -- a text that was read to its end with no line end
-pub pieces-whole : (text front rest : List ℕ) → Scans text front rest → NonePass is_line_end front → length rest ≡ 0 → 0 < length text
+pub pieces-whole : (text prefix rest : List ℕ) → Scans text prefix rest → NonePass is_line_end prefix → length rest ≡ 0 → 0 < length text
     → pieces (chars text) ≡ chars text ∷ pieces (chars [])
 unfolding chars
-pieces-whole text front [] s clear none some =
-    let whole : chars text ≡ front = chars-scanned text front [] s ∙ append-nil front in
-    let n : 0 < length front = some_front text front (front, (s.scalar, sym (s.bytes ∙ append-nil (encodes front)))) whole some in
-    ap pieces whole ∙ pieces-unended front clear n ∙ ap (λ l. l ∷ []) (sym whole)
-pieces-whole text front (x ∷ rest) s clear none some = absurd (omega arith)
+pieces-whole text prefix [] s clear none some =
+    let whole : chars text ≡ prefix = chars-scanned text prefix [] s ∙ append-nil prefix in
+    let n : 0 < length prefix = some_chars text prefix (prefix, (s.scalar, sym (s.bytes ∙ append-nil (encodes prefix)))) whole some in
+    ap pieces whole ∙ pieces-unended prefix clear n ∙ ap (λ l. l ∷ []) (sym whole)
+pieces-whole text prefix (x ∷ rest) s clear none some = absurd (omega arith)
 
 -- ---- trimming
 
@@ -104,7 +104,7 @@ expanded_some tab column [] wide some = absurd (omega arith)
 expanded_some tab column (d ∷ ds) wide some =
     let n : ℕ = tab - column % tab in
     let spaces : 0 < n = omega (arith, mod-lt column wide) in
-    cond_both (d == 9) (replicate n 32 ++ expanded_from tab (column + n) ds) (shown d ∷ expanded_from tab (column + 1) ds) (λ (l : List ℕ). 0 < length l)
+    cond_both (d == 9) (replicate n 32 ++ expanded_from tab (column + n) ds) (line_character d ∷ expanded_from tab (column + 1) ds) (λ (l : List ℕ). 0 < length l)
     (λ e. omega (arith, length-append (replicate n 32) (expanded_from tab (column + n) ds), length-replicate {A = ℕ} n 32)) (λ e. omega arith)
 
 -- one character, with what is kept of the rest
@@ -115,14 +115,14 @@ module _ (tab column c : ℕ) (cs : List ℕ) (wide : 0 < tab) (before : (k : �
   trim_dark : is_whitespace c ≡ false → Trims
   trim_dark dark =
       let other : (c == 9) ≡ false = ne_eqb c 9 (λ same. let f : true ≡ false = sym (ap is_whitespace same) ∙ dark in cc) in
-      rw (dark, other) (trim-dark (shown c) (expanded_from tab (column + 1) cs) (shown-keeps is_whitespace c refl refl ∙ dark) ∙ ap (λ l. shown c ∷ l) (before (column + 1)))
+      rw (dark, other) (trim-dark (line_character c) (expanded_from tab (column + 1) cs) (line_character-keeps is_whitespace c refl refl ∙ dark) ∙ ap (λ l. line_character c ∷ l) (before (column + 1)))
 
   trim_none : is_whitespace c ≡ true → drop_trailing_whitespace cs ≡ [] → Trims
   trim_none white none =
       let n : ℕ = tab - column % tab in
-      cond_both (c == 9) (replicate n 32 ++ expanded_from tab (column + n) cs) (shown c ∷ expanded_from tab (column + 1) cs) (λ (l : List ℕ). drop_trailing_whitespace l ≡ [])
+      cond_both (c == 9) (replicate n 32 ++ expanded_from tab (column + n) cs) (line_character c ∷ expanded_from tab (column + 1) cs) (λ (l : List ℕ). drop_trailing_whitespace l ≡ [])
       (λ e. trim-spaces_white n (expanded_from tab (column + n) cs) (before (column + n) ∙ ap (expanded_from tab (column + n)) none))
-      (λ e. trim-white (shown c) (expanded_from tab (column + 1) cs) (shown-keeps is_whitespace c refl refl ∙ white) (before (column + 1) ∙ ap (expanded_from tab (column + 1)) none))
+      (λ e. trim-white (line_character c) (expanded_from tab (column + 1) cs) (line_character-keeps is_whitespace c refl refl ∙ white) (before (column + 1) ∙ ap (expanded_from tab (column + 1)) none))
       ∙ sym (ap (expanded_from tab column) (trim-white c cs white none))
 
   trim_some : 0 < length (drop_trailing_whitespace cs) → Trims
@@ -131,7 +131,7 @@ module _ (tab column c : ℕ) (cs : List ℕ) (wide : 0 < tab) (before : (k : �
       let kept : (k : ℕ) → 0 < length (drop_trailing_whitespace (expanded_from tab k cs)) = λ k. omega (arith, ap length (before k), expanded_some tab k (drop_trailing_whitespace cs) wide some) in
       elim (cases_Bool (c == 9)) [
         | inl e ↦ rw (trim-kept c cs some, e) (trim-spaces_kept n (expanded_from tab (column + n) cs) (kept (column + n)) ∙ ap (λ l. replicate n 32 ++ l) (before (column + n)))
-        | inr e ↦ rw (trim-kept c cs some, e) (trim-kept (shown c) (expanded_from tab (column + 1) cs) (kept (column + 1)) ∙ ap (λ l. shown c ∷ l) (before (column + 1)))
+        | inr e ↦ rw (trim-kept c cs some, e) (trim-kept (line_character c) (expanded_from tab (column + 1) cs) (kept (column + 1)) ∙ ap (λ l. line_character c ∷ l) (before (column + 1)))
       ]
 
 -- Trimming a piece first gives the same line.

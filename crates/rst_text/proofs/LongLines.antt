@@ -9,7 +9,7 @@ use Rattle.std.proofs.lemmas.List.{length-replicate}
 use Rattle.std.proofs.lemmas.Nat.{mul-le}
 use Rattle.std.proofs.lemmas.Str.{chars_past_char}
 use Rattle.rst_text.specs.Block.{Line}
-use Rattle.rst_text.specs.Lines.{expanded, first_longer, numbered_from, pieces, shown, tidied}
+use Rattle.rst_text.specs.Lines.{expanded, first_longer, numbered_from, pieces, line_character, tidied}
 use Rattle.rst_text.proofs.Indenting.{no_chars}
 use Rattle.rst_text.proofs.LinesLemmas.{length-chars}
 use Rattle.rst_text.proofs.Scanning.{past_char}
@@ -28,7 +28,7 @@ width-other tab column c other = rw (false_from_ne_true (c == 9) (λ t. other (e
 expanded-width : (tab column c : ℕ) (cs : List ℕ) → length (expanded_from tab column (c ∷ cs)) ≡ width tab column c + length (expanded_from tab (column + width tab column c) cs)
 expanded-width tab column c cs = by (c == 9)
   where
-    by : (b : Bool) → length (cond b (replicate (tab - column % tab) 32 ++ expanded_from tab (column + (tab - column % tab)) cs) (shown c ∷ expanded_from tab (column + 1) cs))
+    by : (b : Bool) → length (cond b (replicate (tab - column % tab) 32 ++ expanded_from tab (column + (tab - column % tab)) cs) (line_character c ∷ expanded_from tab (column + 1) cs))
         ≡ cond b (tab - column % tab) 1 + length (expanded_from tab (column + cond b (tab - column % tab) 1) cs)
     by true =
         length-append (replicate (tab - column % tab) 32) (expanded_from tab (column + (tab - column % tab)) cs)
@@ -96,10 +96,10 @@ Measures-end limit tab column piece rest m none =
 -- ---- the first of some lines
 
 -- Where none is too long, the first is among those after it.
-longer-behind : (limit n : ℕ) (before after : List (List ℕ)) → first_longer limit (numbered_from n before) ≡ None
+longer-after : (limit n : ℕ) (before after : List (List ℕ)) → first_longer limit (numbered_from n before) ≡ None
     → first_longer limit (numbered_from n (before ++ after)) ≡ first_longer limit (numbered_from (n + length before) after)
-longer-behind limit n [] after none = let same : n ≡ n + 0 = omega arith in ap (λ k. first_longer limit (numbered_from k after)) same
-longer-behind limit n (text ∷ before) after none = by (nat_lt limit (length text)) (longer-behind limit (n + 1) before after) none
+longer-after limit n [] after none = let same : n ≡ n + 0 = omega arith in ap (λ k. first_longer limit (numbered_from k after)) same
+longer-after limit n (text ∷ before) after none = by (nat_lt limit (length text)) (longer-after limit (n + 1) before after) none
   where
     by : (b : Bool) → (first_longer limit (numbered_from (n + 1) before) ≡ None → first_longer limit (numbered_from (n + 1) (before ++ after)) ≡ first_longer limit (numbered_from ((n + 1) + length before) after))
         → option_map (λ (l : Line). l.number) (cond b (Some (record { number = n; text = text })) (find (λ (l : Line). nat_lt limit (length l.text)) (numbered_from (n + 1) before))) ≡ None
@@ -115,7 +115,7 @@ pub with_next : (limit tab : ℕ) (kept now all : List (List ℕ)) (rest piece a
     → (now ++ map (tidied tab) (pieces (chars after)) ≡ all) × (first_longer limit (numbered_from 1 now) ≡ None)
 with_next limit tab kept now all rest piece after line read none cut is short are = rw (are, is) (
   append_assoc kept (tidied tab piece ∷ []) (map (tidied tab) (pieces (chars after))) ∙ ap (λ l. kept ++ map (tidied tab) l) (sym cut) ∙ read,
-  longer-behind limit 1 kept (tidied tab piece ∷ []) none ∙ rw short refl,
+  longer-after limit 1 kept (tidied tab piece ∷ []) none ∙ rw short refl,
 )
 
 -- The next line is too long.
@@ -124,4 +124,4 @@ pub first_is : (limit tab : ℕ) (kept all : List (List ℕ)) (rest piece after 
     → nat_lt limit (length (tidied tab piece)) ≡ true → first_longer limit (numbered_from 1 all) ≡ Some (1 + length kept)
 first_is limit tab kept all rest piece after read none cut long =
     ap (λ l. first_longer limit (numbered_from 1 l)) (sym read ∙ ap (λ l. kept ++ map (tidied tab) l) cut)
-    ∙ longer-behind limit 1 kept (map (tidied tab) (piece ∷ pieces (chars after))) none ∙ rw long refl
+    ∙ longer-after limit 1 kept (map (tidied tab) (piece ∷ pieces (chars after))) none ∙ rw long refl

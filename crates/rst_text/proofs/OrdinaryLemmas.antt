@@ -6,7 +6,7 @@ use Rattle.std.proofs.lemmas.Bool.{cases_lt}
 use Rattle.std.proofs.lemmas.Bool.Decides.{nat_tests}
 use Rattle.std.proofs.lemmas.List.{get_or_append_left, get_or-append-add, take-append-drop, length-take-le}
 use Rattle.std.proofs.lemmas.Str.{encode_ascii, encodes-chars, scalars-chars, encodes-append, IsUtf8-take, IsUtf8-drop}
-use Rattle.rst_text.specs.Lines.{is_line_end, is_tab, pieces, shown, with_tabs, expanded, tidied}
+use Rattle.rst_text.specs.Lines.{is_line_end, is_tab, pieces, line_character, with_tabs, expanded, tidied}
 use Rattle.std.specs.List.{slice_split}
 use Rattle.rst_text.specs.Ordinary.{is_ordinary, AreOrdinary, IsOrdinaryTo}
 use Rattle.rst_text.proofs.Scanning.{Scans, Writes-read, scalars-append, NonePass-append, chars-scanned, length-scanned}
@@ -59,68 +59,68 @@ stops-high b h high = grind (arith, nat_tests)
 pub IsCharBoundary-ordinary : (text : List ℕ) (n : ℕ) → IsOrdinaryTo text n → IsCharBoundary text n
 IsCharBoundary-ordinary text n p = (p.within, λ inside high. stops-high (get_or text n 0) (p.stops inside) high)
 
-utf8-front : (text : List ℕ) (n : ℕ) → IsUtf8 text → IsOrdinaryTo text n → IsUtf8 (take n text)
-utf8-front text n good p = IsUtf8-take text n good (IsCharBoundary-ordinary text n p)
+utf8-prefix : (text : List ℕ) (n : ℕ) → IsUtf8 text → IsOrdinaryTo text n → IsUtf8 (take n text)
+utf8-prefix text n good p = IsUtf8-take text n good (IsCharBoundary-ordinary text n p)
 
-codes-front : (text : List ℕ) (n : ℕ) → IsUtf8 text → IsOrdinaryTo text n → encodes (chars (take n text)) ≡ take n text
-codes-front text n good p = encodes-chars (take n text) (utf8-front text n good p)
+codes-prefix : (text : List ℕ) (n : ℕ) → IsUtf8 text → IsOrdinaryTo text n → encodes (chars (take n text)) ≡ take n text
+codes-prefix text n good p = encodes-chars (take n text) (utf8-prefix text n good p)
 
 -- the characters of the front were read
-scans-front : (text : List ℕ) (n : ℕ) → IsUtf8 text → IsOrdinaryTo text n → Scans text (chars (take n text)) (drop n text)
-scans-front text n good p = record {
-  bytes = sym (take-append-drop n text) ∙ ap (λ l. l ++ drop n text) (sym (codes-front text n good p));
+scans-prefix : (text : List ℕ) (n : ℕ) → IsUtf8 text → IsOrdinaryTo text n → Scans text (chars (take n text)) (drop n text)
+scans-prefix text n good p = record {
+  bytes = sym (take-append-drop n text) ∙ ap (λ l. l ++ drop n text) (sym (codes-prefix text n good p));
   utf8 = IsUtf8-drop text n good (IsCharBoundary-ordinary text n p);
-  scalar = scalars-chars (take n text) (utf8-front text n good p);
+  scalar = scalars-chars (take n text) (utf8-prefix text n good p);
 }
 
-front-len : (text : List ℕ) (n : ℕ) → IsUtf8 text → IsOrdinaryTo text n → n ≡ length (encodes (chars (take n text)))
-front-len text n good p = sym (length-take-le n text p.within) ∙ ap length (sym (codes-front text n good p))
+prefix-len : (text : List ℕ) (n : ℕ) → IsUtf8 text → IsOrdinaryTo text n → n ≡ length (encodes (chars (take n text)))
+prefix-len text n good p = sym (length-take-le n text p.within) ∙ ap length (sym (codes-prefix text n good p))
 
-ordinary-front : (text : List ℕ) (n : ℕ) → IsOrdinaryTo text n → AreOrdinary (take n text)
-ordinary-front text n p i inside =
+ordinary-prefix : (text : List ℕ) (n : ℕ) → IsOrdinaryTo text n → AreOrdinary (take n text)
+ordinary-prefix text n p i inside =
     let long : length (take n text) ≡ n = length-take-le n text p.within in
     let here : get_or (take n text) i 0 ≡ get_or text i 0 = sym (get_or_append_left (take n text) (drop n text) 0 i inside) ∙ ap (λ l. get_or l i 0) (take-append-drop n text) in
     ap is_ordinary here ∙ p.pass i (omega arith) (omega arith)
 
-coded-front : (text : List ℕ) (n : ℕ) → IsUtf8 text → IsOrdinaryTo text n → AreOrdinary (encodes (chars (take n text)))
-coded-front text n good p = subst AreOrdinary (sym (codes-front text n good p)) (ordinary-front text n p)
+coded-prefix : (text : List ℕ) (n : ℕ) → IsUtf8 text → IsOrdinaryTo text n → AreOrdinary (encodes (chars (take n text)))
+coded-prefix text n good p = subst AreOrdinary (sym (codes-prefix text n good p)) (ordinary-prefix text n p)
 
-clear-front : (text : List ℕ) (n : ℕ) → IsUtf8 text → IsOrdinaryTo text n → NonePass is_line_end (chars (take n text))
-clear-front text n good p = clear-of (chars (take n text)) (coded-front text n good p)
+clear-prefix : (text : List ℕ) (n : ℕ) → IsUtf8 text → IsOrdinaryTo text n → NonePass is_line_end (chars (take n text))
+clear-prefix text n good p = clear-of (chars (take n text)) (coded-prefix text n good p)
 
 -- characters were read of which none ends a line
 abbrev pub ScansLine : List ℕ → List ℕ → Type 0
-ScansLine text rest = (front : List ℕ) × (Scans text front rest × NonePass is_line_end front)
+ScansLine text rest = (prefix : List ℕ) × (Scans text prefix rest × NonePass is_line_end prefix)
 
 -- and ordinary bytes more
 pub ScansLine-run : (text rest : List ℕ) (n : ℕ) → ScansLine text rest → IsOrdinaryTo rest n → ScansLine text (drop n rest)
-ScansLine-run text rest n (front, (s, clear)) p =
-    let run = scans-front rest n s.utf8 p in
+ScansLine-run text rest n (prefix, (s, clear)) p =
+    let run = scans-prefix rest n s.utf8 p in
     let more = chars (take n rest) in (
-      front ++ more,
+      prefix ++ more,
       (
         record {
-          bytes = s.bytes ∙ ap (λ l. encodes front ++ l) run.bytes ∙ sym (append_assoc (encodes front) (encodes more) (drop n rest)) ∙ ap (λ l. l ++ drop n rest) (sym (encodes-append front more));
+          bytes = s.bytes ∙ ap (λ l. encodes prefix ++ l) run.bytes ∙ sym (append_assoc (encodes prefix) (encodes more) (drop n rest)) ∙ ap (λ l. l ++ drop n rest) (sym (encodes-append prefix more));
           utf8 = run.utf8;
-          scalar = scalars-append front more s.scalar run.scalar;
+          scalar = scalars-append prefix more s.scalar run.scalar;
         },
-        NonePass-append is_line_end front more clear (clear-front rest n s.utf8 p),
+        NonePass-append is_line_end prefix more clear (clear-prefix rest n s.utf8 p),
       ),
     )
 
 -- a line feed after it ends the first piece
 pub pieces-ordinary : (text after : List ℕ) (n : ℕ) → IsUtf8 text → IsOrdinaryTo text n → drop n text ≡ encode 10 ++ after → pieces (chars text) ≡ chars (take n text) ∷ pieces (chars after)
 pieces-ordinary text after n good p e =
-    let s = scans-front text n good p in
+    let s = scans-prefix text n good p in
     let low : length (encode 10) ≡ 1 = ap length (encode_ascii 10 (omega arith)) in
     let len = length-scanned text (chars (take n text)) (drop n text) after 10 s e in
-    let here : length text - length after - 1 ≡ n = omega (arith, len, low, front-len text n good p) in
-    pieces-scanned text (chars (take n text)) (drop n text) after after 10 1 s (clear-front text n good p) e (sym low)
+    let here : length text - length after - 1 ≡ n = omega (arith, len, low, prefix-len text n good p) in
+    pieces-scanned text (chars (take n text)) (drop n text) after after 10 1 s (clear-prefix text n good p) e (sym low)
     (pieces-end 10 (chars after) refl (λ e. absurd (omega arith))) ∙ ap (λ k. chars (take k text) ∷ pieces (chars after)) here
 
 -- ---- the whole
 
-one-part : (cs : List ℕ) → AreOrdinary (encodes cs) → slice_split is_tab (map shown cs) ≡ cs ∷ []
+one-part : (cs : List ℕ) → AreOrdinary (encodes cs) → slice_split is_tab (map line_character cs) ≡ cs ∷ []
 one-part [] plain = refl
 one-part (c ∷ cs) plain =
     let p = plain-of c (above c (ordinary-left (encode c) (encodes cs) plain)) in
@@ -144,13 +144,13 @@ pub Expands-run : (tab column n count : ℕ) (line rest piece run made : List �
     → made ≡ line ++ run → Expands tab (column + count) made (drop n rest) piece
 Expands-run tab column n count line rest piece run made x p is counted longer =
     let cs : List ℕ = chars (take n rest) in
-    let front = scans-front rest n x.utf8 p in
+    let prefix = scans-prefix rest n x.utf8 p in
     rw (longer, counted, is)
-    (Writes-read (expanded_from tab column) (expanded_from tab (column + length cs)) _ line (line ++ take n rest) rest (drop n rest) cs cs x front.utf8 (chars-scanned rest cs (drop n rest) front)
-    (expanded-run tab column cs (chars (drop n rest)) (coded-front rest n x.utf8 p)) (ap (λ l. line ++ l) (sym (codes-front rest n x.utf8 p))))
+    (Writes-read (expanded_from tab column) (expanded_from tab (column + length cs)) _ line (line ++ take n rest) rest (drop n rest) cs cs x prefix.utf8 (chars-scanned rest cs (drop n rest) prefix)
+    (expanded-run tab column cs (chars (drop n rest)) (coded-prefix rest n x.utf8 p)) (ap (λ l. line ++ l) (sym (codes-prefix rest n x.utf8 p))))
 
 pub count-run : (n count : ℕ) (rest run : List ℕ) → IsUtf8 rest → IsOrdinaryTo rest n → run ≡ take n rest → count ≡ length (chars run) → count ≤ length run
-count-run n count rest run good p is counted = rw (counted, is) (length-chars (take n rest) (utf8-front rest n good p))
+count-run n count rest run good p is counted = rw (counted, is) (length-chars (take n rest) (utf8-prefix rest n good p))
 
 -- A text without white characters at its end is its line, whatever the width of tabs: there is none in it.
 pub trimmed-line : (text trimmed : List ℕ) → IsUtf8 text → IsUtf8 trimmed → AreOrdinary text → trimmed ≡ trim_end text → (tab : ℕ) → chars trimmed ≡ tidied tab (chars text)

@@ -45,16 +45,16 @@ module _ (separates : ℕ → Bool) (j : ℕ) where
   further (w ∷ ws) = j ∷ join_with_byte j (w ∷ ws)
 
   -- what follows a character: its part to the end, and the others
-  abbrev behind : List (List ℕ) → List ℕ
-  behind [] = []
-  behind (part ∷ parts) = part ++ further (some_parts parts)
+  abbrev after_character : List (List ℕ) → List ℕ
+  after_character [] = []
+  after_character (part ∷ parts) = part ++ further (some_parts parts)
 
   further-first : (w : List ℕ) (ws : List (List ℕ)) → join_with_byte j (w ∷ ws) ≡ w ++ further ws
   further-first w [] = sym (append-nil w)
   further-first w (v ∷ ws) = refl
 
-  onto : (c : ℕ) (parts : List (List ℕ)) → (behind (onto_first c parts) ≡ c ∷ behind parts) × (join_with_byte j (some_parts (onto_first c parts)) ≡ c ∷ behind parts)
-      × (further (some_parts (onto_first c parts)) ≡ j ∷ c ∷ behind parts)
+  onto : (c : ℕ) (parts : List (List ℕ)) → (after_character (onto_first c parts) ≡ c ∷ after_character parts) × (join_with_byte j (some_parts (onto_first c parts)) ≡ c ∷ after_character parts)
+      × (further (some_parts (onto_first c parts)) ≡ j ∷ c ∷ after_character parts)
   onto c [] = (refl, refl, refl)
   onto c (part ∷ parts) = let e = further-first (c ∷ part) (some_parts parts) in (refl, e, ap (λ l. j ∷ l) e)
 
@@ -64,15 +64,15 @@ module _ (separates : ℕ → Bool) (j : ℕ) where
     joined-due [] = refl
     joined-due (c ∷ cs) = elim (cases_bool (separates c)) [
       | inl h ↦ rw h (joined-due cs)
-      | inr h ↦ rw h (ap (λ l. j ∷ c ∷ l) (joined-behind cs) ∙ sym (onto c (slice_split separates cs)).2)
+      | inr h ↦ rw h (ap (λ l. j ∷ c ∷ l) (joined-after cs) ∙ sym (onto c (slice_split separates cs)).2)
     ]
 
     -- after a character of a part
-    joined-behind : (cs : List ℕ) → joined_from separates j true false cs ≡ behind (slice_split separates cs)
-    joined-behind [] = refl
-    joined-behind (c ∷ cs) = elim (cases_bool (separates c)) [
+    joined-after : (cs : List ℕ) → joined_from separates j true false cs ≡ after_character (slice_split separates cs)
+    joined-after [] = refl
+    joined-after (c ∷ cs) = elim (cases_bool (separates c)) [
       | inl h ↦ rw h (joined-due cs)
-      | inr h ↦ rw h (ap (λ l. c ∷ l) (joined-behind cs) ∙ sym (onto c (slice_split separates cs)).0)
+      | inr h ↦ rw h (ap (λ l. c ∷ l) (joined-after cs) ∙ sym (onto c (slice_split separates cs)).0)
     ]
 
   -- One pass over a text gives its parts, joined.
@@ -80,5 +80,5 @@ module _ (separates : ℕ → Bool) (j : ℕ) where
   joined_from-start [] = refl
   joined_from-start (c ∷ cs) = elim (cases_bool (separates c)) [
     | inl h ↦ rw h (joined_from-start cs)
-    | inr h ↦ rw h (ap (λ l. c ∷ l) (joined-behind cs) ∙ sym (onto c (slice_split separates cs)).1)
+    | inr h ↦ rw h (ap (λ l. c ∷ l) (joined-after cs) ∙ sym (onto c (slice_split separates cs)).1)
   ]

@@ -1,7 +1,7 @@
 -- How many lines an extent looks at, and what its lines are.
 use Rattle.std.proofs.Common.{◌≡◌, ◌∙◌, ℕ, zero, suc, ◌+◌, ◌<◌, ◌≤◌, Bool, true, false, cond, [], ◌∷◌, length, take, drop, refl, arith, leb}
 use Rattle.std.proofs.lemmas.List.{drop_all}
-use Rattle.rst_text.specs.Block.{Block, front_text, indentation, is_blank}
+use Rattle.rst_text.specs.Block.{Block, first_text, indentation, is_blank}
 use Rattle.rst_text.specs.Extent.{extent, past_blank}
 use Rattle.rst_text.specs.Kept.{IsEmptyRun}
 use Rattle.rst_text.specs.Reach.{blank_len, looked, through_text}
@@ -41,21 +41,21 @@ pub record Passed (B : Block) (i j : ℕ) : Type 0 where
   pub blank : i + blank_len (drop i B) ≡ j + blank_len (drop j B)
   pub through : i + through_text (drop i B) ≡ j + through_text (drop j B)
 
-one_passed : (B : Block) (i : ℕ) → i < length B → front_text (drop i B) ≡ [] → Passed B i (i + 1)
+one_passed : (B : Block) (i : ℕ) → i < length B → first_text (drop i B) ≡ [] → Passed B i (i + 1)
 unfolding blank_len through_text
 one_passed [] i below e = absurd (omega arith)
 one_passed (l ∷ ls) zero below e = record { blank = rw e (omega arith); through = rw e (omega arith) }
 one_passed (l ∷ ls) (suc i) below e = let h = one_passed ls i (omega arith) e in let same : suc i + 1 ≡ suc (i + 1) = omega arith in rw same (record { blank = omega (arith, h.blank); through = omega (arith, h.through) })
 
 -- an empty line, and those after it
-pub run_passed : (B : Block) (i next : ℕ) → i < length B → length (front_text (drop i B)) ≡ 0 → IsEmptyRun B (i + 1) (length B) next → Passed B i next
+pub run_passed : (B : Block) (i next : ℕ) → i < length B → length (first_text (drop i B)) ≡ 0 → IsEmptyRun B (i + 1) (length B) next → Passed B i next
 run_passed B i next below e run =
     past_run (Passed B i) B i next below e run
     (λ k low inside empty p. let one = one_passed B k inside empty in record { blank = p.blank ∙ one.blank; through = p.through ∙ one.through })
     (record { blank = refl; through = refl })
 
 -- no blank line is left
-pub blank_none : (X : Block) → 1 ≤ length (front_text X) → (blank_len X ≡ 0) × (through_text X ≡ 1)
+pub blank_none : (X : Block) → 1 ≤ length (first_text X) → (blank_len X ≡ 0) × (through_text X ≡ 1)
 unfolding blank_len through_text
 blank_none [] h = absurd (omega arith)
 blank_none (l ∷ ls) h = rw (text_is l.text h) (refl, refl)

@@ -9,9 +9,9 @@ use Rattle.std.proofs.lemmas.Simd.{none_from_empty_mask}
 use lib.Count.{count_trailing_zeros}
 use lib.Lanes.{mask_l, chunk}
 use Rattle.rst_text.proofs.LaneLemmas.{lowest_passes}
-use Rattle.rst_text.specs.Runs.{fails, PassBetween, IsRun}
+use Rattle.rst_text.specs.Runs.{fails_test, PassBetween, IsRun}
 
-pass-more : (p : ℕ → Bool) (t : List ℕ) (place at to : ℕ) → PassBetween p t place at → ((k : ℕ) → at ≤ k → k < to → fails p (get_or t k 0) ≡ false) → PassBetween p t place to
+pass-more : (p : ℕ → Bool) (t : List ℕ) (place at to : ℕ) → PassBetween p t place at → ((k : ℕ) → at ≤ k → k < to → fails_test p (get_or t k 0) ≡ false) → PassBetween p t place to
 pass-more p t place at to before none k low less = ⊎_elim (before k low) (λ past. not-false (p (get_or t k 0)) (none k past less)) (cases_lt k at)
 
 -- ---- the last sixteen bytes, without the first of them
@@ -35,14 +35,14 @@ last-lanes f t at mask above some below is =
     ∙ ap (map f) (ap (λ n. drop (at - start) (chunk start n t)) split ∙ drop-take (at - start) (length t - at) (drop start t) ∙ ap (take (length t - at)) (drop-drop (at - start) start t ∙ ap (λ n. drop n t) moved)))
 
 -- all lanes pass
-pub none-failing : (p : ℕ → Bool) (t : List ℕ) (place at n to mask : ℕ) → at + n ≡ to → to ≤ length t → PassBetween p t place at → mask ≡ mask_l (map (fails p) (chunk at n t)) → mask ≡ 0 → PassBetween p t place to
-none-failing p t place at n to mask end room before is none = pass-more p t place at to before (λ k low less. none_from_empty_mask (fails p) t at n 0 (omega arith) (sym is ∙ none) k low (omega arith))
+pub none-failing : (p : ℕ → Bool) (t : List ℕ) (place at n to mask : ℕ) → at + n ≡ to → to ≤ length t → PassBetween p t place at → mask ≡ mask_l (map (fails_test p) (chunk at n t)) → mask ≡ 0 → PassBetween p t place to
+none-failing p t place at n to mask end room before is none = pass-more p t place at to before (λ k low less. none_from_empty_mask (fails_test p) t at n 0 (omega arith) (sym is ∙ none) k low (omega arith))
 
 -- a lane fails
-pub first-failing : (p : ℕ → Bool) (t : List ℕ) (place at n mask : ℕ) → at + n ≤ length t → n ≤ 64 → place ≤ at → PassBetween p t place at → mask ≡ mask_l (map (fails p) (chunk at n t)) → 0 < mask
+pub first-failing : (p : ℕ → Bool) (t : List ℕ) (place at n mask : ℕ) → at + n ≤ length t → n ≤ 64 → place ≤ at → PassBetween p t place at → mask ≡ mask_l (map (fails_test p) (chunk at n t)) → 0 < mask
     → IsRun p t place (at + count_trailing_zeros 64 mask)
 first-failing p t place at n mask room short order before is some =
-    let first = lowest_passes (fails p) t at n mask room short is some in
+    let first = lowest_passes (fails_test p) t at n mask room short is some in
     let inside = first.inside in
     record {
       above = omega arith;

@@ -8,10 +8,10 @@ use Rattle.std.proofs.lemmas.Bool.{and_parts}
 use Rattle.std.proofs.lemmas.List.{nil_from_length}
 
 -- the characters that were read, and the bytes that are left, make the text
-pub record Scans (text front rest : List ℕ) : Type 0 where
-  pub bytes : text ≡ encodes front ++ rest
+pub record Scans (text prefix rest : List ℕ) : Type 0 where
+  pub bytes : text ≡ encodes prefix ++ rest
   pub utf8 : IsUtf8 rest
-  pub scalar : scalars front ≡ true
+  pub scalar : scalars prefix ≡ true
 
 -- what follows a character of a text, and the character itself
 pub past_char : (rest after : List ℕ) (c : ℕ) → IsUtf8 rest → rest ≡ encode c ++ after → (scalar c ≡ true) × IsUtf8 after
@@ -21,45 +21,45 @@ past_char rest after c good e =
     let t = and_parts (scalar c) (scalars f.0) s in
     (t.0, (f.0, (t.1, f.2)))
 
-pub scalars-append : (front more : List ℕ) → scalars front ≡ true → scalars more ≡ true → scalars (front ++ more) ≡ true
+pub scalars-append : (prefix more : List ℕ) → scalars prefix ≡ true → scalars more ≡ true → scalars (prefix ++ more) ≡ true
 scalars-append [] more s t = t
-scalars-append (d ∷ front) more s t =
-    let h = and_parts (scalar d) (scalars front) s in rw (h.0) (scalars-append front more h.1 t)
+scalars-append (d ∷ prefix) more s t =
+    let h = and_parts (scalar d) (scalars prefix) s in rw (h.0) (scalars-append prefix more h.1 t)
 
-pub Scans-step : (text front rest after : List ℕ) (c : ℕ) → Scans text front rest → rest ≡ encode c ++ after → Scans text (front ++ c ∷ []) after
-Scans-step text front rest after c s e =
+pub Scans-step : (text prefix rest after : List ℕ) (c : ℕ) → Scans text prefix rest → rest ≡ encode c ++ after → Scans text (prefix ++ c ∷ []) after
+Scans-step text prefix rest after c s e =
     let p = past_char rest after c s.utf8 e in
     record {
-      bytes = s.bytes ∙ ap (λ l. encodes front ++ l) e ∙ sym (append_assoc (encodes front) (encode c) after)
-          ∙ ap (λ l. (encodes front ++ l) ++ after) (sym (append-nil (encode c))) ∙ ap (λ l. l ++ after) (sym (encodes-append front (c ∷ [])));
+      bytes = s.bytes ∙ ap (λ l. encodes prefix ++ l) e ∙ sym (append_assoc (encodes prefix) (encode c) after)
+          ∙ ap (λ l. (encodes prefix ++ l) ++ after) (sym (append-nil (encode c))) ∙ ap (λ l. l ++ after) (sym (encodes-append prefix (c ∷ [])));
       utf8 = p.1;
-      scalar = scalars-append front (c ∷ []) s.scalar (rw (p.0) refl);
+      scalar = scalars-append prefix (c ∷ []) s.scalar (rw (p.0) refl);
     }
 
-pub NonePass-append : (p : ℕ → Bool) (front more : List ℕ) → NonePass p front → NonePass p more → NonePass p (front ++ more)
+pub NonePass-append : (p : ℕ → Bool) (prefix more : List ℕ) → NonePass p prefix → NonePass p more → NonePass p (prefix ++ more)
 NonePass-append p [] more clear next = next
-NonePass-append p (d ∷ front) more clear next = (clear.0, NonePass-append p front more clear.1 next)
+NonePass-append p (d ∷ prefix) more clear next = (clear.0, NonePass-append p prefix more clear.1 next)
 
 -- the characters of the text
-pub chars-scanned : (text front rest : List ℕ) → Scans text front rest → chars text ≡ front ++ chars rest
-chars-scanned text front rest s =
-    ap chars s.bytes ∙ chars-append (encodes front) rest (front, (s.scalar, refl)) ∙ ap (λ l. l ++ chars rest) (chars-encodes front s.scalar)
+pub chars-scanned : (text prefix rest : List ℕ) → Scans text prefix rest → chars text ≡ prefix ++ chars rest
+chars-scanned text prefix rest s =
+    ap chars s.bytes ∙ chars-append (encodes prefix) rest (prefix, (s.scalar, refl)) ∙ ap (λ l. l ++ chars rest) (chars-encodes prefix s.scalar)
 
 -- how long the parts are, with a character after the front
-pub length-scanned : (text front rest after : List ℕ) (c : ℕ) → Scans text front rest → rest ≡ encode c ++ after
-    → length text ≡ length (encodes front) + (length (encode c) + length after)
-length-scanned text front rest after c s e =
-    ap length (s.bytes ∙ ap (λ l. encodes front ++ l) e) ∙ length-append (encodes front) (encode c ++ after)
-    ∙ ap (λ n. length (encodes front) + n) (length-append (encode c) after)
+pub length-scanned : (text prefix rest after : List ℕ) (c : ℕ) → Scans text prefix rest → rest ≡ encode c ++ after
+    → length text ≡ length (encodes prefix) + (length (encode c) + length after)
+length-scanned text prefix rest after c s e =
+    ap length (s.bytes ∙ ap (λ l. encodes prefix ++ l) e) ∙ length-append (encodes prefix) (encode c ++ after)
+    ∙ ap (λ n. length (encodes prefix) + n) (length-append (encode c) after)
 
 -- the front is cut out by its length
-pub take-scanned : (text front rest : List ℕ) (n : ℕ) → Scans text front rest → n ≡ length (encodes front) → chars (take n text) ≡ front
-take-scanned text front rest n s e =
-    ap chars (ap (λ k. take k text) e ∙ ap (take (length (encodes front))) s.bytes ∙ take-append_seam (encodes front) rest) ∙ chars-encodes front s.scalar
+pub take-scanned : (text prefix rest : List ℕ) (n : ℕ) → Scans text prefix rest → n ≡ length (encodes prefix) → chars (take n text) ≡ prefix
+take-scanned text prefix rest n s e =
+    ap chars (ap (λ k. take k text) e ∙ ap (take (length (encodes prefix))) s.bytes ∙ take-append_seam (encodes prefix) rest) ∙ chars-encodes prefix s.scalar
 
 -- the text may be cut after the front
-pub IsCharBoundary-scanned : (text front rest : List ℕ) (n : ℕ) → Scans text front rest → n ≡ length (encodes front) → IsCharBoundary text n
-IsCharBoundary-scanned text front rest n s e = let P : ℕ → Type 0 = λ k. IsCharBoundary text k in subst P (sym e) (IsCharBoundary-at_seam text (encodes front) rest s.bytes s.utf8)
+pub IsCharBoundary-scanned : (text prefix rest : List ℕ) (n : ℕ) → Scans text prefix rest → n ≡ length (encodes prefix) → IsCharBoundary text n
+IsCharBoundary-scanned text prefix rest n s e = let P : ℕ → Type 0 = λ k. IsCharBoundary text k in subst P (sym e) (IsCharBoundary-at_seam text (encodes prefix) rest s.bytes s.utf8)
 
 -- ---- what is written of it
 

@@ -10,11 +10,11 @@ use Rattle.std.proofs.lemmas.Str.{IsUtf8-string_bytes}
 use Rattle.std.specs.List.{list_all, range_with_len, zip}
 use Rattle.std.specs.Str.{chars, is_utf8}
 use Rattle.std.specs.declared.vec.Vec.{Vec}
-use Rattle.rst_text.specs.Block.{Line, front_text, first_number}
+use Rattle.rst_text.specs.Block.{Line, first_text, first_number}
 use Rattle.rst_text.specs.Kept.{AreEmpty}
 use Rattle.rst_text.specs.Lines.{is_line_text, are_lines}
 use Rattle.rst_text.specs.MayCut.{is_text, are_texts}
-use Rattle.rst_text.specs.Source.{texts_with, text_at, spread, ArePlaced, kept_lines, AreKept}
+use Rattle.rst_text.specs.Source.{texts_with, placed_text, spread, ArePlaced, kept_lines, AreKept}
 use Rattle.rst_text.specs.Text.{chars_of}
 use Rattle.rst_text.proofs.LineTexts.{is_line_text-nil}
 use Rattle.rst_text.proofs.NumberedLemmas.{length-numbered, first_number-numbered}
@@ -31,8 +31,8 @@ all-made : (q : List ℕ → Bool) (f : ℕ → Line) (a n : ℕ) → ((k : ℕ)
 all-made q f a zero h = refl
 all-made q f a (suc n) h = rw (h a, all-made q f (a + 1) n h) refl
 
-pub front_text-spread : (first count i : ℕ) (texts : List (ℕ × List ℕ)) → i < count → front_text (drop i (spread first count texts)) ≡ text_at texts i
-front_text-spread first count i texts h = ap front_text (made-at _ count i h)
+pub first_text-spread : (first count i : ℕ) (texts : List (ℕ × List ℕ)) → i < count → first_text (drop i (spread first count texts)) ≡ placed_text texts i
+first_text-spread first count i texts h = ap first_text (made-at _ count i h)
 
 -- ---- the places rise
 
@@ -52,16 +52,16 @@ rises from to (suc i) (suc k) (p ∷ ps) (t ∷ ts) long h order within = rises 
 
 -- ---- the text at a place
 
-pub held-at : (from to r p : ℕ) (ps : List ℕ) (ts : List (List ℕ)) → length ts ≡ length ps → ArePlaced from to (zip ps ts) → r < length ps → get_or ps r 0 ≡ p → text_at (zip ps ts) p ≡ get_or ts r []
-held-at from to r p [] ts long h within at = absurd (omega arith)
-held-at from to r p (q ∷ ps) [] long h within at = absurd (omega arith)
-held-at from to zero p (q ∷ ps) (t ∷ ts) long h within at = let same : nat_eq q p ≡ true = eq-eqb q p at in rw same refl
-held-at from to (suc r) p (q ∷ ps) (t ∷ ts) long h within at =
+pub kept-at : (from to r p : ℕ) (ps : List ℕ) (ts : List (List ℕ)) → length ts ≡ length ps → ArePlaced from to (zip ps ts) → r < length ps → get_or ps r 0 ≡ p → placed_text (zip ps ts) p ≡ get_or ts r []
+kept-at from to r p [] ts long h within at = absurd (omega arith)
+kept-at from to r p (q ∷ ps) [] long h within at = absurd (omega arith)
+kept-at from to zero p (q ∷ ps) (t ∷ ts) long h within at = let same : nat_eq q p ≡ true = eq-eqb q p at in rw same refl
+kept-at from to (suc r) p (q ∷ ps) (t ∷ ts) long h within at =
     let low : q + 1 ≤ get_or ps r 0 = no_less (q + 1) to r ps ts (omega arith) h.2 (omega arith) in
     let other : nat_eq q p ≡ false = ne_eqb q p (λ y. omega arith) in
-    rw other (held-at (q + 1) to r p ps ts (omega arith) h.2 (omega arith) at)
+    rw other (kept-at (q + 1) to r p ps ts (omega arith) h.2 (omega arith) at)
 
-none-at : (p : ℕ) (ps : List ℕ) (ts : List (List ℕ)) → ((k : ℕ) → k < length ps → get_or ps k 0 ≡ p → ⊥) → text_at (zip ps ts) p ≡ []
+none-at : (p : ℕ) (ps : List ℕ) (ts : List (List ℕ)) → ((k : ℕ) → k < length ps → get_or ps k 0 ≡ p → ⊥) → placed_text (zip ps ts) p ≡ []
 none-at p [] ts h = refl
 none-at p (q ∷ ps) [] h = refl
 none-at p (q ∷ ps) (t ∷ ts) h =
@@ -76,12 +76,12 @@ searched-place to i ps ts r long h found = searched ps i r found (λ j k order w
 -- no place that is given is from one up to another
 pub gap : (first count i end : ℕ) (ps : List ℕ) (ts : List (List ℕ)) → end ≤ count → ((j : ℕ) → j < length ps → (get_or ps j 0 < i) ⊎ (end ≤ get_or ps j 0)) → AreEmpty (spread first count (zip ps ts)) i end
 gap first count i end ps ts within h = λ k low high.
-    front_text-spread first count k (zip ps ts) (omega arith)
+    first_text-spread first count k (zip ps ts) (omega arith)
     ∙ none-at k ps ts (λ j inside same. elim (h j inside) [ inl before ↦ absurd (omega arith) | inr after ↦ absurd (omega arith) ])
 
 -- ---- each text at a place passes a test that each given text passes, and the empty one
 
-passes-at : (q : List ℕ → Bool) (texts : List (ℕ × List ℕ)) (p : ℕ) → q [] ≡ true → list_all (λ (t : ℕ × List ℕ). q t.1) texts ≡ true → q (text_at texts p) ≡ true
+passes-at : (q : List ℕ → Bool) (texts : List (ℕ × List ℕ)) (p : ℕ) → q [] ≡ true → list_all (λ (t : ℕ × List ℕ). q t.1) texts ≡ true → q (placed_text texts p) ≡ true
 passes-at q [] p none all = none
 passes-at q (t ∷ ts) p none all =
     let h = and_parts (q t.1) (list_all (λ (u : ℕ × List ℕ). q u.1) ts) all in

@@ -11,9 +11,9 @@ abbrev pub Block : Type 0
 Block = List Line
 
 -- the text of a block's first line; past the end it is empty
-abbrev pub front_text : Block → List ℕ
-front_text [] = []
-front_text (l ∷ ls) = l.text
+abbrev pub first_text : Block → List ℕ
+first_text [] = []
+first_text (l ∷ ls) = l.text
 
 -- the number of a block's first line; past the end it is 0
 abbrev pub first_number : Block → ℕ

@@ -51,9 +51,9 @@ Writes writer None bytes = Untouched writer × (writer.failed ≡ true)
 Writes writer (Some n) bytes = (n ≤ length bytes) × (0 < length bytes → 0 < n) × Gains writer (take n bytes) × (writer.failed ≡ writer.had_failed)
 
 -- A write is reported as the one call answered it: as failed where the call failed, or took 0 of some bytes; else with its number.
-abbrev pub WriteIsToldBy : (Option ℕ → Type 0) → Option ℕ → List ℕ → Type 0
-WriteIsToldBy Answers None bytes = Answers None ⊎ (Answers (Some 0) × (0 < length bytes))
-WriteIsToldBy Answers (Some n) bytes = Answers (Some n)
+abbrev pub IsWriteResult : (Option ℕ → Type 0) → Option ℕ → List ℕ → Type 0
+IsWriteResult Answers None bytes = Answers None ⊎ (Answers (Some 0) × (0 < length bytes))
+IsWriteResult Answers (Some n) bytes = Answers (Some n)
 
 -- a write failed when the writer had taken the first `done` bytes of a text, not all of them
 abbrev pub IsCutShort : Stream → List ℕ → ℕ → Type 0
@@ -77,7 +77,7 @@ pub data Written {W : Type 0} (Takes : W → Option ℕ → List ℕ → W → T
   some : {w w' w'' : W} {piece : List ℕ} {pieces : List (List ℕ)} {n taken : ℕ}
       → 0 < n → n ≤ length piece → Takes w (Some n) piece w' → Written Takes w' (drop n piece ∷ pieces) w'' taken → Written Takes w (piece ∷ pieces) w'' (n + taken)
   last : {w w' : W} {piece : List ℕ} {pieces : List (List ℕ)}
-      → 0 < length piece → WriteIsToldBy (λ answer. Takes w answer piece w') None piece → Written Takes w (piece ∷ pieces) w' 0
+      → 0 < length piece → IsWriteResult (λ answer. Takes w answer piece w') None piece → Written Takes w (piece ∷ pieces) w' 0
 
 -- A text is written to a writer, as some pieces: all of the text, or its first bytes, up to a call that fails.
 pub record IsSent {W : Type 0} (Takes : W → Option ℕ → List ℕ → W → Type 0) (contents : W → Option (List ℕ)) (old new : Counted W) (text : List ℕ) : Type 0 where

@@ -1,7 +1,7 @@
 -- Runs of lines that are blank or indented (Markup Specification, 'Indentation').
 use Rattle.std.specs.Prelude.{ℕ, zero, suc, ◌+◌, not, min, List, [], ◌∷◌, take, drop, map, filter, nat_le, if◌then◌else◌, unwrap_or}
 use Rattle.std.specs.List.{reduce}
-use Rattle.rst_text.specs.Block.{Line, Block, indentation, is_blank, front_text}
+use Rattle.rst_text.specs.Block.{Line, Block, indentation, is_blank, first_text}
 use Rattle.rst_text.specs.declared.view.Extent.{Extent}
 
 -- one line more, unless nothing but blank lines is there
@@ -31,5 +31,5 @@ abbrev pub extent_of : ℕ → ℕ → Block → Extent
 extent_of from least X = record {
   end = from + extent least X;
   indent = least_indent (take (extent least X) X);
-  blank_finish = is_blank (front_text (drop (extent least X) X));
+  blank_finish = is_blank (first_text (drop (extent least X) X));
 }

@@ -1,7 +1,7 @@
 -- Texts as they are kept. No rule of markup: they are one after another, in UTF-8.
 use Rattle.std.specs.Prelude.{◌≡◌, ℕ, ◌<◌, ◌≤◌, List, [], ◌∷◌, drop, length, slice_range}
 use Rattle.std.specs.Str.{chars, IsCharBoundary}
-use Rattle.rst_text.specs.Block.{Block, front_text}
+use Rattle.rst_text.specs.Block.{Block, first_text}
 
 -- places in the bytes where characters begin, in order, the last of them the end
 abbrev pub AreStarts : List ℕ → List ℕ → Type 0
@@ -17,7 +17,7 @@ texts_in bytes (s ∷ e ∷ es) = chars (slice_range bytes s e) ∷ texts_in byt
 
 -- the lines from one place up to another are empty
 abbrev pub AreEmpty : Block → ℕ → ℕ → Type 0
-AreEmpty lines from to = (k : ℕ) → from ≤ k → k < to → front_text (drop k lines) ≡ []
+AreEmpty lines from to = (k : ℕ) → from ≤ k → k < to → first_text (drop k lines) ≡ []
 
 -- some empty lines from one place on, no further than to another
 pub record IsEmptyRun (lines : Block) (from to end : ℕ) : Type 0 where

@@ -3,7 +3,7 @@ pub mod Block
 pub mod Lines
 pub mod Kept
 pub mod Source
-pub mod Shown
+pub mod ViewBlock
 pub mod MayCut
 pub mod Extent
 pub mod Reach

@@ -21,8 +21,8 @@ pieces (c ∷ cs) = if c == 13 && begins_with 10 cs then pieces cs
     else (if is_line_end c then [] ∷ pieces cs else onto_first c (pieces cs))
 
 -- a character as it appears in a line: form feed and vertical tab are a space
-abbrev pub shown : ℕ → ℕ
-shown c = if c == 11 || c == 12 then 32 else c
+abbrev pub line_character : ℕ → ℕ
+line_character c = if c == 11 || c == 12 then 32 else c
 
 -- a tab
 abbrev pub is_tab : ℕ → Bool
@@ -40,7 +40,7 @@ with_tabs tab (part ∷ next ∷ parts) = padded tab part ++ with_tabs tab (next
 
 -- a piece with its tabs expanded
 unfoldable pub expanded : ℕ → List ℕ → List ℕ
-expanded tab piece = with_tabs tab (slice_split is_tab (map shown piece))
+expanded tab piece = with_tabs tab (slice_split is_tab (map line_character piece))
 
 -- a piece with its tabs expanded, and without white characters at its end
 abbrev pub tidied : ℕ → List ℕ → List ℕ

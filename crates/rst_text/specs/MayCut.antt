@@ -5,12 +5,12 @@ use Rattle.std.specs.Str.{is_utf8}
 use Rattle.rst_text.specs.Block.{Line, Block, each_cut, indentation, is_blank}
 
 -- the UTF-8 of a line without its first n bytes; a shorter line leaves nothing
-abbrev pub bytes_behind : ℕ → Line → List ℕ
-bytes_behind n l = drop n (encode_utf8_all l.text)
+abbrev pub bytes_after : ℕ → Line → List ℕ
+bytes_after n l = drop n (encode_utf8_all l.text)
 
 -- the first line may be cut by f bytes, each other by r: what is left of each is text
 abbrev pub may_cut_at : ℕ → ℕ → Block → Bool
-may_cut_at f r ls = list_all is_utf8 (each_cut bytes_behind f r ls)
+may_cut_at f r ls = list_all is_utf8 (each_cut bytes_after f r ls)
 
 -- a text has UTF-8, of fewer than 2^63 bytes
 abbrev pub is_text : List ℕ → Bool

@@ -2,8 +2,8 @@
 use Rattle.std.specs.Prelude.{◌≡◌, ℕ, ◌<◌, ◌≤◌, Bool, true, false, not, List, slice_index, length}
 
 -- the character doesn't pass
-abbrev pub fails : (ℕ → Bool) → ℕ → Bool
-fails p c = not (p c)
+abbrev pub fails_test : (ℕ → Bool) → ℕ → Bool
+fails_test p c = not (p c)
 
 -- from one place up to another each passes
 abbrev pub PassBetween : (ℕ → Bool) → List ℕ → ℕ → ℕ → Type 0

@@ -13,12 +13,12 @@ abbrev pub texts_with : {A : Type 0} → List (ℕ × String A) → List (ℕ ×
 texts_with texts = map (λ t. (t.0, chars_of t.1)) texts
 
 -- the text at a place, empty where none is given
-abbrev pub text_at : List (ℕ × List ℕ) → ℕ → List ℕ
-text_at texts place = unwrap_or (option_map (λ (t : ℕ × List ℕ). t.1) (find (λ (t : ℕ × List ℕ). t.0 == place) texts)) []
+abbrev pub placed_text : List (ℕ × List ℕ) → ℕ → List ℕ
+placed_text texts place = unwrap_or (option_map (λ (t : ℕ × List ℕ). t.1) (find (λ (t : ℕ × List ℕ). t.0 == place) texts)) []
 
 -- a number of lines, numbered from a given number on: empty but for the texts that are given, with their places from 0
 abbrev pub spread : ℕ → ℕ → List (ℕ × List ℕ) → Block
-spread first count texts = map (λ place. record { number = first + place; text = text_at texts place }) (range_with_len 0 count)
+spread first count texts = map (λ place. record { number = first + place; text = placed_text texts place }) (range_with_len 0 count)
 
 -- texts that can occur in lines, at places that rise: the first is no less than a place, and the last below another
 abbrev pub ArePlaced : ℕ → ℕ → List (ℕ × List ℕ) → Type 0

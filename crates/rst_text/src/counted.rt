@@ -3,7 +3,7 @@ ghost use Rattle.std.specs.Prelude.{◌≡◌, ◌∷◌, [], ℕ, List, Option,
 ghost use Rattle.std.specs.Result.{result_ok};
 ghost use Rattle.std.specs.Io.{ReadsAtMost, WritesAtMost};
 ghost use Rattle.std.specs.Io.KnownBytes.{ReadConsumes, WriteAppends};
-ghost use Rattle.rst_text.specs.Counted.{inner_of, has_failed, between, Reads, Writes, WriteIsToldBy, Puts, Written, taken_of};
+ghost use Rattle.rst_text.specs.Counted.{inner_of, has_failed, between, Reads, Writes, IsWriteResult, Puts, Written, taken_of};
 
 use std::io::{self, Read, Write};
 
@@ -100,7 +100,7 @@ impl<W: WriteCall> Counted<W> {
     /// One write: how many bytes of the front of `buf` it took, or `None` where it failed or took none of some.
     pub fn write(&mut self, buf: &[u8]) -> Option<usize>
         ensures bytes { Writes (between W.contents self.old self.new) result buf.now }
-        ensures call { WriteIsToldBy (λ answer. W.call_takes (inner_of self.old) answer buf.now (inner_of self.new)) result buf.now }
+        ensures call { IsWriteResult (λ answer. W.call_takes (inner_of self.old) answer buf.now (inner_of self.new)) result buf.now }
     {
         match self.inner.call_write(buf) {
             Ok(n) if n > 0 || buf.is_empty() => Some(n),

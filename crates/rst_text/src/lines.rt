@@ -1,10 +1,10 @@
 //! The lines of a text.
 ghost use Rattle.std.specs.Prelude.{◌≡◌, ◌+◌, ◌-◌, ◌/◌, ◌≤◌, ◌<◌, ◌^◌, ◌∷◌, ℕ, nat_lt, length, drop, IfOk, IsTrue};
 ghost use Rattle.std.specs.Str.{chars, IsUtf8};
-ghost use Rattle.rst_text.specs.Block.{front_text, first_number};
+ghost use Rattle.rst_text.specs.Block.{first_text, first_number};
 ghost use Rattle.rst_text.specs.Faults.{Gives, AreWithin};
 ghost use Rattle.rst_text.specs.Kept.{IsEmptyRun};
-ghost use Rattle.rst_text.specs.Lines.{is_line_end, pieces, shown, expanded, lines_of};
+ghost use Rattle.rst_text.specs.Lines.{is_line_end, pieces, line_character, expanded, lines_of};
 ghost use Rattle.rst_text.specs.Ordinary.{AreOrdinary};
 ghost use Rattle.rst_text.specs.Source.{texts_with, spread, ArePlaced};
 ghost use Rattle.rst_text.specs.Text.{chars_of};
@@ -134,12 +134,12 @@ impl Lines {
     /// The text of the line at place `i`, counted from 0.
     pub fn line(&self, i: usize) -> &str
         requires { i < length self.now }
-        ensures { chars result.now ≡ front_text (drop i self.now) }
+        ensures { chars result.now ≡ first_text (drop i self.now) }
     {
         match &self.places {
             None => self.kept.text(i),
             Some(places) => match places.as_slice().binary_search(&i) {
-                Ok(held) => self.kept.text(held),
+                Ok(index) => self.kept.text(index),
                 Err(_) => "",
             },
         }
@@ -267,7 +267,7 @@ fn expand(alloc: Global, piece: &str, tab: usize) -> Result<String, AllocError>
 
 /// A character as it appears in a line: form feed and vertical tab are a space.
 fn plain(c: char) -> char
-    ensures { result ≡ shown c }
+    ensures { result ≡ line_character c }
 {
     match c {
         '\u{B}' | '\u{C}' => ' ',

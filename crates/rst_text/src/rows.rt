@@ -50,7 +50,7 @@ pub fn simple_names()
     ensures joined { is_simple_name (codes "a-1_b") ≡ true }
     ensures each_joint { is_simple_name (codes "a-b_c.d:e+f") ≡ true }
     ensures two_joints { is_simple_name (codes "a..b") ≡ false }
-    ensures joint_in_front { is_simple_name (codes "-a") ≡ false }
+    ensures leading_joint { is_simple_name (codes "-a") ≡ false }
     ensures joint_at_the_end { is_simple_name (codes "a-") ≡ false }
     ensures empty { is_simple_name [] ≡ false }
 {}

@@ -1,7 +1,7 @@
 //! Runs of bytes that pass a test, stepped over sixteen at a time.
 ghost use Rattle.std.specs.Prelude.{◌≡◌, ℕ, Bool, ◌≤◌, length, map};
 ghost use Rattle.std.specs.Simd.Lanes.{mask_l};
-ghost use Rattle.rst_text.specs.Runs.{fails, IsRun};
+ghost use Rattle.rst_text.specs.Runs.{fails_test, IsRun};
 
 use std::simd::prelude::*;
 
@@ -19,7 +19,7 @@ pub trait ByteTest {
 
     /// A bit for each byte, the lowest for the first, that is set where the byte fails.
     fn failing(bytes: u8x16) -> u64
-        ensures { result ≡ mask_l (map (fails passes) bytes) };
+        ensures { result ≡ mask_l (map (fails_test passes) bytes) };
 }
 
 /// The place after the bytes from a place on that pass a test.

@@ -21,7 +21,7 @@ pub fn indentation(text: &str) -> usize
 /// A text without its first `n` characters; of a shorter one nothing is left.
 pub fn skip(text: &str, n: usize) -> &str
     ensures chars { chars result.now ≡ drop n (chars text.now) }
-    ensures suffix { (front : List ℕ) × (text.now ≡ front ++ result.now) }
+    ensures suffix { (prefix : List ℕ) × (text.now ≡ prefix ++ result.now) }
 {
     let mut rest = text.chars();
     for _ in 0..n {

@@ -45,8 +45,8 @@ pub struct Extent {
 }
 
 impl<'a> View<'a> {
-    ghost use Rattle.rst_text.specs.Block.{cut, front_text, first_number};
-    ghost use Rattle.rst_text.specs.Shown.{block_of, source_of, IsPlacement, placement_block};
+    ghost use Rattle.rst_text.specs.Block.{cut, first_text, first_number};
+    ghost use Rattle.rst_text.specs.ViewBlock.{block_of, source_of, IsPlacement, placement_block};
     ghost use Rattle.rst_text.specs.Extent.{extent_of};
     ghost use Rattle.rst_text.specs.Kept.{IsEmptyRun};
     ghost use Rattle.rst_text.specs.Looked.{capped};
@@ -103,7 +103,7 @@ impl<'a> View<'a> {
     /// The text of the line at place `i`, without a cut.
     fn uncut(&self, i: usize) -> &'a str
         requires { i < length (block_of self.now) }
-        ensures { result.now ≡ encode_utf8_all (front_text (drop (self.now.from + i) self.now.lines.now)) }
+        ensures { result.now ≡ encode_utf8_all (first_text (drop (self.now.from + i) self.now.lines.now)) }
     {
         self.lines.line(self.from + i)
     }
@@ -118,7 +118,7 @@ impl<'a> View<'a> {
     /// The text of a line, not charged.
     fn text(&self, i: usize) -> &'a str
         requires { i < length (block_of self.now) }
-        ensures { chars result.now ≡ front_text (drop i (block_of self.now)) }
+        ensures { chars result.now ≡ first_text (drop i (block_of self.now)) }
     {
         tail(self.uncut(i), self.cut_at(i))
     }
@@ -135,7 +135,7 @@ impl<'a> View<'a> {
     /// The text of the line at place `i`, counted from 0, at the price of one look.
     pub fn line(&self, i: usize, looks: &mut Looks) -> &'a str
         requires inside { i < length (block_of self.now) }
-        ensures text { chars result.now ≡ front_text (drop i (block_of self.now)) }
+        ensures text { chars result.now ≡ first_text (drop i (block_of self.now)) }
         ensures looks { looks.new ≡ capped (looks.old + 1) }
     {
         looks.look();

@@ -3,8 +3,8 @@ use Rattle.std.proofs.Common.{◌≡◌, ◌∙◌, ◌-◌, ◌||◌, Bool, tru
 use Rattle.std.specs.Prelude.{if◌then◌else◌}
 use Rattle.rst_settings.specs.declared.Threshold.{Threshold}
 use Rattle.rst_tree.specs.declared.note.Note.{Note}
-use Rattle.rst_transform_messages.specs.Messages.{halts, has_halt, is_number_shown, notes_of, until_halt, EndsAtHalt}
-use Rattle.rst_transform_messages.proofs.Showing.{filtered_shown}
+use Rattle.rst_transform_messages.specs.Messages.{halts, has_halt, is_number_reported, unnumbered_notes, until_halt, EndsAtHalt}
+use Rattle.rst_transform_messages.proofs.Showing.{filtered_reported}
 use Rattle.rst_transform_names.specs.Registering.{registration}
 use Rattle.rst_transform.specs.Finishing.{all_messages, sectioned}
 use Rattle.rst_transform.specs.Law.{ShowsWhatIsAsked}
@@ -25,9 +25,9 @@ ends_at_halt halt (note ∷ more) = by (halts halt note) refl (ends_at_halt halt
     by true is ends = refl
     by false is ends = one_more halt note (until_halt halt more) is ends
 
-pub shown : ShowsWhatIsAsked
-shown messages profile settings document =
+pub reported_messages : ShowsWhatIsAsked
+reported_messages messages profile settings document =
     let registered = registration messages document in
     let done = sectioned messages profile settings registered in
     let all = all_messages registered done.1.reports in
-    (filtered_shown settings.report (is_number_shown settings.report all) done.0.children, ends_at_halt settings.halt (notes_of all))
+    (filtered_reported settings.report (is_number_reported settings.report all) done.0.children, ends_at_halt settings.halt (unnumbered_notes all))

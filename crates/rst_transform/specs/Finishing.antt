@@ -20,8 +20,8 @@ use Rattle.rst_transform_structure.specs.Title.{with_title}
 use Rattle.rst_transform_structure.specs.Transitions.{with_transitions}
 use Rattle.rst_transform_docinfo.specs.Docinfo.{with_docinfo}
 use Rattle.rst_transform_messages.specs.Filtered.{with_filtered}
-use Rattle.rst_transform_messages.specs.Listed.{report_said}
-use Rattle.rst_transform_messages.specs.Messages.{is_number_shown, notes_of, until_halt, Numbered}
+use Rattle.rst_transform_messages.specs.Listed.{numbered_report}
+use Rattle.rst_transform_messages.specs.Messages.{is_number_reported, unnumbered_notes, until_halt, NumberedNote}
 use Rattle.rst_transform_messages.specs.MessagesIn.{messages_among}
 use Rattle.rst_transform.specs.declared.finishing.Finished.{Finished}
 use Rattle.rst_transform.specs.Linking.{with_links}
@@ -61,20 +61,20 @@ sectioned messages profile settings r =
     let done = transformed profile settings (document_in r.root) (known_at_first messages r) in with_last_section settings.report done.0 done.1
 
 -- the messages in a registered document, and then those of the transforms
-abbrev pub all_messages : Registration → List Report → List Numbered
-all_messages r reports = messages_among (document_in r.root).children ++ map report_said reports
+abbrev pub all_messages : Registration → List Report → List NumberedNote
+all_messages r reports = messages_among (document_in r.root).children ++ map numbered_report reports
 
 -- What is left of a parsed document whose messages were given `messages` numbers: the document as it is printed, and the list of
 -- messages, up to the first that halts the run.
-abbrev pub left_of : Settings → List Numbered → Document → Node × List Note
-left_of settings all document =
-    (document_node (with_filtered settings.report (is_number_shown settings.report all) document), until_halt settings.halt (notes_of all))
+abbrev pub left_of_document : Settings → List NumberedNote → Document → Node × List Note
+left_of_document settings all document =
+    (document_node (with_filtered settings.report (is_number_reported settings.report all) document), until_halt settings.halt (unnumbered_notes all))
 
 abbrev pub leaves : ℕ → Profile → Settings → Node → Node × List Note
 leaves messages profile settings document =
     let registered = registration messages document in
     let done = sectioned messages profile settings registered in
-    left_of settings (all_messages registered done.1.reports) done.0
+    left_of_document settings (all_messages registered done.1.reports) done.0
 
 -- what is left of it is given, or memory ran out
 abbrev pub Finishes : ℕ → Profile → Settings → Node → Result Finished TreeFault → Type 0

@@ -8,7 +8,7 @@ use Rattle.rst_settings.specs.declared.Threshold.TheVariants.{Never, Severe, War
 use Rattle.rst_tree.specs.declared.key.Key.TheVariants.{Anonymous, Auto, OwnName, Rawsource, Refname}
 use Rattle.rst_tree.specs.declared.node.Node.{Node}
 use Rattle.rst_tree.specs.declared.tag.Tag.TheVariants.{FootnoteReference, Paragraph, Reference, Section, SubstitutionDefinition, SubstitutionReference, Target, Title, Transition}
-use Rattle.rst_transform_names.specs.Trees.{counts, document, element, Prints, says, text}
+use Rattle.rst_transform_names.specs.Trees.{counts, document_element, element, IsPrintedIn, says, text}
 use Rattle.rst_transform.specs.Finishing.{leaves}
 
 -- the settings of a run without options
@@ -17,15 +17,15 @@ usual = record { report = Warning; halt = Severe; exit = Never; title = true; in
 
 -- of a document of these nodes, in which no number was given to a message, these lines are printed after all transforms, without a source
 abbrev pub Leaves : Settings → List Node → List String → Type 0
-Leaves settings nodes lines = Prints (leaves 0 (profile_of settings) settings (document nodes)).0 lines
+Leaves settings nodes lines = IsPrintedIn (leaves 0 (profile_of settings) settings (document_element nodes)).0 lines
 
 -- the list of its messages has these texts, in order
-abbrev pub Says : Settings → List Node → List String → Type 0
-Says settings nodes texts = map (λ note. note.text) (leaves 0 (profile_of settings) settings (document nodes)).1 ≡ map codes texts
+abbrev pub HasMessageTexts : Settings → List Node → List String → Type 0
+HasMessageTexts settings nodes texts = map (λ note. note.text) (leaves 0 (profile_of settings) settings (document_element nodes)).1 ≡ map codes texts
 
 -- a paragraph that is a reference to a name, and an anonymous reference; each with its text and its source text
-abbrev pub reference : String → String → Node
-reference name source = element Paragraph [] (element Reference (says Rawsource source ∷ says Refname name ∷ []) (text name ∷ []) ∷ [])
+abbrev pub reference_paragraph : String → String → Node
+reference_paragraph name source = element Paragraph [] (element Reference (says Rawsource source ∷ says Refname name ∷ []) (text name ∷ []) ∷ [])
 
 abbrev pub anonymous_reference : String → String → Node
 anonymous_reference words source = element Reference (counts Anonymous 1 ∷ says Rawsource source ∷ []) (text words ∷ [])
@@ -39,15 +39,15 @@ abbrev pub indirect_target : String → String → Node
 indirect_target name other = element Target (says OwnName name ∷ says Refname other ∷ []) []
 
 -- a section of a name, with its title and what follows it
-abbrev pub section : String → String → List Node → Node
-section name title nodes = element Section (says OwnName name ∷ []) (element Title [] (text title ∷ []) ∷ nodes)
+abbrev pub named_section : String → String → List Node → Node
+named_section name title nodes = element Section (says OwnName name ∷ []) (element Title [] (text title ∷ []) ∷ nodes)
 
 -- a substitution reference and a definition of its name
 abbrev pub substitution : String → String → Node
 substitution name source = element SubstitutionReference (says Rawsource source ∷ says Refname name ∷ []) []
 
-abbrev pub definition : String → List Node → Node
-definition name nodes = element SubstitutionDefinition (says OwnName name ∷ []) nodes
+abbrev pub definition_node : String → List Node → Node
+definition_node name nodes = element SubstitutionDefinition (says OwnName name ∷ []) nodes
 
 abbrev pub transition : Node
 transition = element Transition [] []

@@ -70,10 +70,10 @@ pub fn finish(alloc: Global, parsed: Parsed, settings: &Settings) -> Result<Fini
     let after = transformed(start, list.early, &mut context, settings)?;
     let sectioned = last_section(after, &mut context, settings.report)?;
     list.add_reports(context.reports)?;
-    let shown = filter(alloc, sectioned, settings.report, list.shown())?;
+    let filtered_document = filter(alloc, sectioned, settings.report, list.reported())?;
     let (notes, highest) = list.end();
     Ok(Finished {
-        tree: shown.into_node(),
+        tree: filtered_document.into_node(),
         notes,
         highest,
     })

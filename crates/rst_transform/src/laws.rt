@@ -2,6 +2,6 @@
 ghost use Rattle.rst_transform.specs.Law.{ShowsWhatIsAsked};
 
 /// No message in what is left of a document is below the report level, and no message but the last halts the run.
-pub fn shown()
+pub fn reported_messages()
     ensures { ShowsWhatIsAsked }
 {}

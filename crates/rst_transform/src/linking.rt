@@ -1,9 +1,9 @@
 //! The transforms of links, in order.
 ghost use Rattle.std.specs.Prelude.{◌<◌, ◌≤◌, length, map};
 ghost use Rattle.rst_tree.specs.Faults.{Gives};
-ghost use Rattle.rst_transform_references.specs.Linkings.{held};
+ghost use Rattle.rst_transform_references.specs.Linkings.{linked_element};
 ghost use Rattle.rst_transform_work.specs.Known.{Makes};
-ghost use Rattle.rst_transform.specs.Linking.{decision_of, first_changes, linked_by, with_links};
+ghost use Rattle.rst_transform.specs.Linking.{decision_of, first_changes, linked_in_turn, with_links};
 
 use rst_transform_references::{
     Changes, Linked, Outcome, anonymous_outcomes, footnote_outcomes, indirect_outcomes, linked_in,
@@ -46,7 +46,7 @@ fn resolve_by(
     context: &mut Context,
     transforms: &[LinkStep],
 ) -> Result<Document>
-    ensures { Gives (Makes (linked_by transforms.now document) context.old context.new) result }
+    ensures { Gives (Makes (linked_in_turn transforms.now document) context.old context.new) result }
 {
     if transforms.is_empty() {
         return Ok(document);
@@ -66,14 +66,14 @@ fn first_changes(
     linked: &[Linked<'_>],
     transforms: &[LinkStep],
 ) -> Result<(Changes, usize)>
-    ensures changes { Gives (λ done. Makes (first_changes transforms.now (map held linked.now)) context.old context.new (done.0, done.1)) result }
+    ensures changes { Gives (λ done. Makes (first_changes transforms.now (map linked_element linked.now)) context.old context.new (done.0, done.1)) result }
     ensures some { Gives (λ done. 0 < length transforms.now → 0 < done.1) result }
     ensures fits { Gives (λ done. done.1 ≤ length transforms.now) result }
 {
     let Some((first, more)) = transforms.split_first() else {
         return Ok((Changes::of(Vec::new(context.alloc)), 0));
     };
-    let outcomes = outcomes_by(context, linked, *first)?;
+    let outcomes = decided_outcomes(context, linked, *first)?;
     let changes = settle(context, linked, outcomes)?;
     if !changes.are_idle() {
         return Ok((changes, 1));
@@ -83,12 +83,12 @@ fn first_changes(
 }
 
 /// What happens to linked elements, as a transform decides.
-fn outcomes_by(
+fn decided_outcomes(
     context: &mut Context,
     linked: &[Linked<'_>],
     transform: LinkStep,
 ) -> Result<Vec<Outcome>>
-    ensures { Gives (λ outcomes. Makes (decision_of transform (map held linked.now)) context.old context.new outcomes.items) result }
+    ensures { Gives (λ outcomes. Makes (decision_of transform (map linked_element linked.now)) context.old context.new outcomes.items) result }
 {
     match transform {
         LinkStep::Anonymous => anonymous_outcomes(context, linked),

@@ -12,22 +12,22 @@ use Rattle.rst_tree.specs.declared.node.Node.TheVariants.{Element, Text}
 use Rattle.rst_tree.specs.Forest.{Forest}
 use Rattle.rst_tree.specs.Nodes.{forest_of, nodes_of}
 use Rattle.rst_transform_docinfo.specs.Authors.{all_paragraphs, and_author}
-use Rattle.rst_transform_docinfo.specs.Docinfo.{behind_titles, is_list, leading_list, list_place, nodes_with, replaced}
-use Rattle.rst_transform_docinfo.specs.Gathered.{Gathered, gathered, with_node}
-use Rattle.rst_transform_docinfo.specs.Fields.{field, field_of, lone, paragraph_in}
+use Rattle.rst_transform_docinfo.specs.Docinfo.{after_titles, is_list, leading_list, list_place, nodes_with_docinfo, replaced}
+use Rattle.rst_transform_docinfo.specs.Gathered.{Gathered, gathered, with_field_node}
+use Rattle.rst_transform_docinfo.specs.Fields.{field, docinfo_field, lone, paragraph_in}
 use Rattle.rst_transform_work.specs.Reading.{is_title}
 use Rattle.rst_transform_work.specs.declared.report.Report.{Report}
 
 -- two nodes are the name and the body of a field
 pub two_parts : (a : List Attr) (xs : List Node) (l : ℕ) (name body : Node) → length xs ≡ 2 → body ≡ slice_index_or xs 1 body → name ≡ slice_index_or (remove xs 1) 0 name
-    → field_of a xs l ≡ Some (field a name body l)
+    → docinfo_field a xs l ≡ Some (field a name body l)
 two_parts a [] l name body two b n = absurd (omega arith)
 two_parts a (x ∷ []) l name body two b n = absurd (omega arith)
 two_parts a (x ∷ y ∷ []) l name body two b n = rw (n, b) refl
 two_parts a (x ∷ y ∷ z ∷ zs) l name body two b n = absurd (omega arith)
 
 -- any other number of nodes is no field
-pub no_parts : (a : List Attr) (xs : List Node) (l : ℕ) → (length xs ≡ 2 → ⊥) → field_of a xs l ≡ None
+pub no_parts : (a : List Attr) (xs : List Node) (l : ℕ) → (length xs ≡ 2 → ⊥) → docinfo_field a xs l ≡ None
 no_parts a [] l other = refl
 no_parts a (x ∷ []) l other = refl
 no_parts a (x ∷ y ∷ []) l other = absurd (other refl)
@@ -68,9 +68,9 @@ item_refused line f xs nodes i n e fits at none h =
     ∙ ap (λ z. option_map (λ more. nodes ++ more) (and_author line z (all_paragraphs line (drop (suc i) xs)))) none
 
 -- one more node of the list
-pub gathered_more : (first : ℕ) (g : Gathered) (xs : List Node) (n : Node) → gathered first g (xs ++ n ∷ []) ≡ with_node first n (gathered first g xs)
+pub gathered_more : (first : ℕ) (g : Gathered) (xs : List Node) (n : Node) → gathered first g (xs ++ n ∷ []) ≡ with_field_node first n (gathered first g xs)
 gathered_more first g [] n = refl
-gathered_more first g (x ∷ xs) n = gathered_more first (with_node first x g) xs n
+gathered_more first g (x ∷ xs) n = gathered_more first (with_field_node first x g) xs n
 
 -- ---- the document
 
@@ -86,7 +86,7 @@ list_there nodes place n there is at =
 
 -- what it became comes after the titles
 pub list_replaced : (first : ℕ) (reports : List Report) (nodes rest made all : List Node) (place count : ℕ) (n : Node) → leading_list nodes ≡ Some n → place ≡ list_place nodes → rest ≡ remove nodes place
-    → made ≡ (replaced first reports n).0 → count ≡ prefix_len is_title rest → all ≡ take count rest ++ (made ++ drop count rest) → all ≡ (nodes_with first reports (leading_list nodes) nodes).0
+    → made ≡ (replaced first reports n).0 → count ≡ prefix_len is_title rest → all ≡ take count rest ++ (made ++ drop count rest) → all ≡ (nodes_with_docinfo first reports (leading_list nodes) nodes).0
 list_replaced first reports nodes rest made all place count n list there left is titles put =
-    put ∙ ap (λ k. take k rest ++ (made ++ drop k rest)) titles ∙ ap (λ m. behind_titles m rest) is ∙ ap (behind_titles (replaced first reports n).0) (left ∙ ap (remove nodes) there)
-    ∙ sym (ap (λ o. (nodes_with first reports o nodes).0) list)
+    put ∙ ap (λ k. take k rest ++ (made ++ drop k rest)) titles ∙ ap (λ m. after_titles m rest) is ∙ ap (after_titles (replaced first reports n).0) (left ∙ ap (remove nodes) there)
+    ∙ sym (ap (λ o. (nodes_with_docinfo first reports o nodes).0) list)

@@ -25,8 +25,8 @@ use Rattle.rst_transform_work.specs.Reading.{identifier}
 use Rattle.rst_transform_work.specs.Reports.{next_report, report_node}
 
 -- the row of the table that has a name
-unfoldable pub row_of : List ℕ → Row
-row_of name =
+unfoldable pub bibliography_row : List ℕ → Row
+bibliography_row name =
     if bytes_eq name (codes "author") then Simple Author
     else if bytes_eq name (codes "organization") then Simple Organization
     else if bytes_eq name (codes "contact") then Simple Contact
@@ -42,13 +42,13 @@ row_of name =
     else Generic
 
 -- an element of this kind with the field's ids and names, if there are nodes for it
-abbrev pub element_of : Tag → List Attr → ℕ → Option Forest → Option Node
-element_of t attrs line nodes = option_map (λ nodes. Element t attrs nodes line) nodes
+abbrev pub bibliographic_element : Tag → List Attr → ℕ → Option Forest → Option Node
+bibliographic_element t attrs line nodes = option_map (λ nodes. Element t attrs nodes line) nodes
 
 -- the attributes with one class, if it isn't empty
-abbrev pub with_class : List ℕ → List Attr → List Attr
-with_class [] attrs = attrs
-with_class (c ∷ cs) attrs = with_attr Classes (Listed ((c ∷ cs) ∷ [])) attrs
+abbrev pub with_nonempty_class : List ℕ → List Attr → List Attr
+with_nonempty_class [] attrs = attrs
+with_nonempty_class (c ∷ cs) attrs = with_attr Classes (Listed ((c ∷ cs) ∷ [])) attrs
 
 -- the title of a topic
 abbrev pub topic_title : TopicKind → List ℕ
@@ -59,22 +59,22 @@ abbrev pub title_node : List ℕ → ℕ → Node
 title_node text line = Element Title [] (words text bare) line
 
 -- nodes after a title, if there are some
-abbrev pub titled : Node → List Node → Option Forest
-titled title [] = None
-titled title (n ∷ ns) = Some (forest_of (title ∷ n ∷ ns))
+abbrev pub nodes_under_title : Node → List Node → Option Forest
+nodes_under_title title [] = None
+nodes_under_title title (n ∷ ns) = Some (forest_of (title ∷ n ∷ ns))
 
 -- What a field of a row with this name becomes, if it is in its form: a simple one an element with the nodes of its one paragraph, whose lines stay as
 -- they are in an address; a topic has a title before the nodes of the body.
 abbrev pub made : Row → List ℕ → Field → Option Node
-made (Simple t) name f = element_of t f.attrs f.line (paragraph_in f.body)
-made Address name f = element_of IsAddress (with_attr XmlSpace (Says (codes "preserve")) f.attrs) f.line (paragraph_in f.body)
-made Authors name f = element_of IsAuthors f.attrs f.line (option_map forest_of (authors_in f.line f.body))
-made (Topic k) name f = element_of IsTopic (with_class name f.attrs) f.line (titled (title_node (topic_title k) f.line) (nodes_of (nodes_in f.body)))
+made (Simple t) name f = bibliographic_element t f.attrs f.line (paragraph_in f.body)
+made Address name f = bibliographic_element IsAddress (with_attr XmlSpace (Says (codes "preserve")) f.attrs) f.line (paragraph_in f.body)
+made Authors name f = bibliographic_element IsAuthors f.attrs f.line (option_map forest_of (authors_in f.line f.body))
+made (Topic k) name f = bibliographic_element IsTopic (with_nonempty_class name f.attrs) f.line (nodes_under_title (title_node (topic_title k) f.line) (nodes_of (nodes_in f.body)))
 made Generic name f = None
 
 -- a field of this name that stays one, with a class by the name
-abbrev pub stays : List ℕ → Field → Node
-stays name f = Element IsField (with_class (identifier name) f.attrs) (forest_of (f.name ∷ f.body ∷ [])) f.line
+abbrev pub generic_field : List ℕ → Field → Node
+generic_field name f = Element IsField (with_nonempty_class (identifier name) f.attrs) (forest_of (f.name ∷ f.body ∷ [])) f.line
 
 -- the message on a field of this name and line that isn't in its form
 abbrev pub fault_report : ℕ → List Report → List ℕ → ℕ → Report
@@ -83,4 +83,4 @@ fault_report first reports name line =
 
 -- such a field: it stays, and the message is the last node in its body
 abbrev pub fault_node : List ℕ → Report → Field → Node
-fault_node name told f = stays name (record f { body = with_child (report_node told) f.body })
+fault_node name reported f = generic_field name (record f { body = with_child (report_node reported) f.body })

@@ -43,18 +43,18 @@ abbrev pub leading_list : List Node → Option Node
 leading_list nodes = let first = slice_get nodes (list_place nodes) in if is_list first then first else None
 
 -- nodes with others after the titles that come first
-abbrev pub behind_titles : List Node → List Node → List Node
-behind_titles more nodes = let titles = prefix_len is_title nodes in take titles nodes ++ (more ++ drop titles nodes)
+abbrev pub after_titles : List Node → List Node → List Node
+after_titles more nodes = let titles = prefix_len is_title nodes in take titles nodes ++ (more ++ drop titles nodes)
 
 -- the nodes of a document with this leading list, if there is one, and the messages then
-abbrev pub nodes_with : ℕ → List Report → Option Node → List Node → List Node × List Report
-nodes_with first reports None nodes = (nodes, reports)
-nodes_with first reports (Some list) nodes =
-    let made = replaced first reports list in (behind_titles made.0 (remove nodes (list_place nodes)), made.1)
+abbrev pub nodes_with_docinfo : ℕ → List Report → Option Node → List Node → List Node × List Report
+nodes_with_docinfo first reports None nodes = (nodes, reports)
+nodes_with_docinfo first reports (Some list) nodes =
+    let made = replaced first reports list in (after_titles made.0 (remove nodes (list_place nodes)), made.1)
 
 -- the document whose leading field list became its bibliography, and what is known then
 abbrev pub with_docinfo : Document → Known → Document × Known
 with_docinfo document known =
     let nodes = nodes_of document.children in
-    let made = nodes_with known.first_number known.reports (leading_list nodes) nodes in
+    let made = nodes_with_docinfo known.first_number known.reports (leading_list nodes) nodes in
     (record document { children = forest_of made.0 }, record known { reports = made.1 })

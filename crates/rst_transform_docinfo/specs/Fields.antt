@@ -15,18 +15,18 @@ abbrev pub field : List Attr → Node → Node → ℕ → Field
 field a name body l = record { attrs = a; name = name; body = body; line = l }
 
 -- the field with these attributes and nodes, if those are a name and a body
-abbrev pub field_of : List Attr → List Node → ℕ → Option Field
-field_of a (name ∷ body ∷ []) l = Some (field a name body l)
-field_of a _ l = None
+abbrev pub docinfo_field : List Attr → List Node → ℕ → Option Field
+docinfo_field a (name ∷ body ∷ []) l = Some (field a name body l)
+docinfo_field a _ l = None
 
 -- a node as a field, if it is one
 abbrev pub field_in : Node → Option Field
-field_in (Element IsField a c l) = field_of a (nodes_of c) l
+field_in (Element IsField a c l) = docinfo_field a (nodes_of c) l
 field_in _ = None
 
 -- the name of a field, which determines what it is for
-abbrev pub name_of : Field → List ℕ
-name_of f = name_in (text_in f.name)
+abbrev pub docinfo_field_name : Field → List ℕ
+docinfo_field_name f = name_in (text_in f.name)
 
 -- the nodes in a node; a text has none
 abbrev pub nodes_in : Node → Forest

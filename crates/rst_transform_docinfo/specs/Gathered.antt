@@ -12,8 +12,8 @@ use Rattle.rst_transform_docinfo.specs.declared.bibliography.Row.TheVariants.{Ge
 use Rattle.rst_transform_docinfo.specs.declared.bibliography.TopicKind.TheVariants.{Dedication, Abstract}
 use Rattle.rst_transform_docinfo.specs.declared.field.Field.{Field}
 use Rattle.rst_transform_work.specs.declared.report.Report.{Report}
-use Rattle.rst_transform_docinfo.specs.Bibliography.{fault_node, fault_report, made, row_of, stays}
-use Rattle.rst_transform_docinfo.specs.Fields.{field_in, name_of}
+use Rattle.rst_transform_docinfo.specs.Bibliography.{fault_node, fault_report, made, bibliography_row, generic_field}
+use Rattle.rst_transform_docinfo.specs.Fields.{field_in, docinfo_field_name}
 
 -- What the fields became so far: the elements of the `docinfo`, and the topics, and whether there was a field for each; and the messages so far.
 pub record Gathered : Type 0 where
@@ -49,40 +49,40 @@ abbrev pub with_info : Node → Gathered → Gathered
 with_info n g = record g { info = g.info ++ n ∷ [] }
 
 -- what a field of a row became, at its place
-abbrev pub with_element : Row → Node → Gathered → Gathered
-with_element (Topic Dedication) n g = record g { dedication = Some n }
-with_element (Topic Abstract) n g = record g { abstract = Some n }
-with_element _ n g = with_info n g
+abbrev pub with_docinfo_element : Row → Node → Gathered → Gathered
+with_docinfo_element (Topic Dedication) n g = record g { dedication = Some n }
+with_docinfo_element (Topic Abstract) n g = record g { abstract = Some n }
+with_docinfo_element _ n g = with_info n g
 
 -- a field that isn't in its form, with the next message on it
 abbrev pub with_fault : ℕ → List ℕ → Field → Gathered → Gathered
 with_fault first name f g =
     let next = fault_report first g.reports name f.line in record g { info = g.info ++ fault_node name next f ∷ []; reports = g.reports ++ next ∷ [] }
 
-abbrev pub by_form : ℕ → Row → List ℕ → Field → Option Node → Gathered → Gathered
-by_form first row name f (Some n) g = with_element row n g
-by_form first Generic name f None g = with_info (stays name f) g
-by_form first row name f None g = with_fault first name f g
+abbrev pub gathered_by_form : ℕ → Row → List ℕ → Field → Option Node → Gathered → Gathered
+gathered_by_form first row name f (Some n) g = with_docinfo_element row n g
+gathered_by_form first Generic name f None g = with_info (generic_field name f) g
+gathered_by_form first row name f None g = with_fault first name f g
 
 -- one more field, of a row with this name
 abbrev pub with_row : ℕ → Row → List ℕ → Field → Gathered → Gathered
-with_row first row name f g = by_form first row name f (if is_further row g then None else made row name f) (with_seen row g)
+with_row first row name f g = gathered_by_form first row name f (if is_further row g then None else made row name f) (with_seen row g)
 
 abbrev pub with_field : ℕ → Field → Gathered → Gathered
-with_field first f g = with_row first (row_of (name_of f)) (name_of f) f g
+with_field first f g = with_row first (bibliography_row (docinfo_field_name f)) (docinfo_field_name f) f g
 
 -- one more node of the field list, which is a field or stays as it is
 abbrev pub if_field : ℕ → Node → Option Field → Gathered → Gathered
 if_field first n (Some f) g = with_field first f g
 if_field first n None g = with_info n g
 
-abbrev pub with_node : ℕ → Node → Gathered → Gathered
-with_node first n g = if_field first n (field_in n) g
+abbrev pub with_field_node : ℕ → Node → Gathered → Gathered
+with_field_node first n g = if_field first n (field_in n) g
 
 -- all of them
 abbrev pub gathered : ℕ → Gathered → List Node → Gathered
 gathered first g [] = g
-gathered first g (n ∷ more) = gathered first (with_node first n g) more
+gathered first g (n ∷ more) = gathered first (with_field_node first n g) more
 
 -- the `docinfo`, if there are elements for it
 abbrev pub info_nodes : ℕ → List Node → List Node

@@ -4,8 +4,8 @@ ghost use Rattle.std.specs.Option.{option_to_list};
 ghost use Rattle.rst_tree.specs.Faults.{Gives};
 ghost use Rattle.rst_tree.specs.Nodes.{nodes_of};
 ghost use Rattle.rst_transform_work.specs.declared.report.Report.{Report};
-ghost use Rattle.rst_transform_docinfo.specs.Bibliography.{element_of, fault_node, fault_report, made, row_of, stays, title_node, titled, topic_title, with_class};
-ghost use Rattle.rst_transform_docinfo.specs.Gathered.{docinfo_nodes, is_further, none_yet, so_far, with_field, with_node, with_seen};
+ghost use Rattle.rst_transform_docinfo.specs.Bibliography.{bibliographic_element, fault_node, fault_report, made, bibliography_row, generic_field, title_node, nodes_under_title, topic_title, with_nonempty_class};
+ghost use Rattle.rst_transform_docinfo.specs.Gathered.{docinfo_nodes, is_further, none_yet, so_far, with_field, with_field_node, with_seen};
 ghost use Rattle.rst_transform_docinfo.specs.Fields.{nodes_in, paragraph_in};
 ghost use Rattle.rst_transform_work.specs.Reports.{IsReported, KeepsRest};
 
@@ -39,9 +39,9 @@ enum TopicKind {
 }
 
 /// The row of a field's name.
-#[tactic(auto, unfolding(crate::specs::Bibliography::row_of))]
-fn row_of(name: &str) -> Row
-    ensures { result ≡ row_of name.now }
+#[tactic(auto, unfolding(crate::specs::Bibliography::bibliography_row))]
+fn bibliography_row(name: &str) -> Row
+    ensures { result ≡ bibliography_row name.now }
 {
     match name {
         "author" => Row::Simple(Tag::Author),
@@ -66,32 +66,42 @@ fn made(alloc: Global, row: Row, name: &str, field: &Field) -> Result<Option<Nod
 {
     let mut attrs = field.attrs.copy(alloc)?;
     match row {
-        Row::Simple(tag) => Ok(element_of(tag, attrs, field.line, paragraph(alloc, field)?)),
+        Row::Simple(tag) => Ok(bibliographic_element(
+            tag,
+            attrs,
+            field.line,
+            paragraph(alloc, field)?,
+        )),
         Row::Address => {
             let preserve = Text::from_str(alloc, "preserve")?;
             attrs.set(Key::XmlSpace, Value::Text(preserve))?;
             let nodes = paragraph(alloc, field)?;
-            Ok(element_of(Tag::Address, attrs, field.line, nodes))
+            Ok(bibliographic_element(Tag::Address, attrs, field.line, nodes))
         }
         Row::Authors => match authors_in(alloc, &field.body, field.line)? {
             Some(nodes) => {
                 let nodes = Some(Children::of(nodes));
-                Ok(element_of(Tag::Authors, attrs, field.line, nodes))
+                Ok(bibliographic_element(Tag::Authors, attrs, field.line, nodes))
             }
             None => Ok(None),
         },
         Row::Topic(kind) => {
             set_class(alloc, &mut attrs, name)?;
             let nodes = topic(alloc, kind.title(), field)?;
-            Ok(element_of(Tag::Topic, attrs, field.line, nodes))
+            Ok(bibliographic_element(Tag::Topic, attrs, field.line, nodes))
         }
         Row::Generic => Ok(None),
     }
 }
 
 /// An element with these nodes, if there are such.
-fn element_of(tag: Tag, attrs: Attrs, line: usize, nodes: Option<Children>) -> Option<Node>
-    ensures { result ≡ element_of tag attrs line nodes }
+fn bibliographic_element(
+    tag: Tag,
+    attrs: Attrs,
+    line: usize,
+    nodes: Option<Children>,
+) -> Option<Node>
+    ensures { result ≡ bibliographic_element tag attrs line nodes }
 {
     nodes.map(|children| element(tag, attrs, children, line))
 }
@@ -106,7 +116,7 @@ fn paragraph(alloc: Global, field: &Field) -> Result<Option<Children>>
 
 /// A title, and after it the nodes of a field's body, if that isn't empty.
 fn topic(alloc: Global, title: &str, field: &Field) -> Result<Option<Children>>
-    ensures { Gives (λ nodes. nodes ≡ titled (title_node title.now field.now.line) (nodes_of (nodes_in field.now.body))) result }
+    ensures { Gives (λ nodes. nodes ≡ nodes_under_title (title_node title.now field.now.line) (nodes_of (nodes_in field.now.body))) result }
 {
     let Node::Element { children, .. } = &field.body else {
         return Ok(None);
@@ -135,7 +145,7 @@ impl TopicKind {
 
 /// Gives attributes one class, unless that is empty.
 fn set_class(alloc: Global, attrs: &mut Attrs, class: &str) -> Result<()>
-    ensures { Gives (λ _. attrs.new ≡ with_class class.now attrs.old) result }
+    ensures { Gives (λ _. attrs.new ≡ with_nonempty_class class.now attrs.old) result }
 {
     if class.is_empty() {
         return Ok(());
@@ -145,8 +155,8 @@ fn set_class(alloc: Global, attrs: &mut Attrs, class: &str) -> Result<()>
 }
 
 /// A field of this name that stays one, with a class by the name.
-fn stays(alloc: Global, name: &str, field: Field) -> Result<Node>
-    ensures { Gives (λ node. node ≡ stays name.now field) result }
+fn generic_field(alloc: Global, name: &str, field: Field) -> Result<Node>
+    ensures { Gives (λ node. node ≡ generic_field name.now field) result }
 {
     let mut attrs = field.attrs;
     let class = identified(alloc, name)?;
@@ -159,7 +169,7 @@ fn stays(alloc: Global, name: &str, field: Field) -> Result<Node>
 
 /// A field of the table that isn't in its form: it stays, and its body ends with a WARNING.
 fn out_of_form(name: &str, mut field: Field, context: &mut Context) -> Result<Node>
-    ensures node { let told = fault_report context.old.first_number context.old.reports.items name.now field.line in Gives (λ node. node ≡ fault_node name.now told field) result }
+    ensures node { let reported = fault_report context.old.first_number context.old.reports.items name.now field.line in Gives (λ node. node ≡ fault_node name.now reported field) result }
     ensures reports { Gives (λ _. IsReported (fault_report context.old.first_number context.old.reports.items name.now field.line) context.old context.new) result }
     ensures rest { Gives (λ _. KeepsRest context.old context.new) result }
 {
@@ -173,7 +183,7 @@ fn out_of_form(name: &str, mut field: Field, context: &mut Context) -> Result<No
     if let Node::Element { children, .. } = &mut field.body {
         children.push(message)?;
     }
-    let node = stays(context.alloc, name, field)?;
+    let node = generic_field(context.alloc, name, field)?;
     Ok(node)
 }
 
@@ -206,7 +216,7 @@ impl Bibliography {
 
     /// Takes in the next node of the field list. One that is no field stays as it is.
     pub fn add_node(&mut self, node: Node, context: &mut Context) -> Result<()>
-        ensures gathered { Gives (λ _. so_far self.new context.new.reports.items ≡ with_node context.old.first_number node (so_far self.old context.old.reports.items)) result }
+        ensures gathered { Gives (λ _. so_far self.new context.new.reports.items ≡ with_field_node context.old.first_number node (so_far self.old context.old.reports.items)) result }
         ensures rest { Gives (λ _. KeepsRest context.old context.new) result }
     {
         match Field::of(node) {
@@ -225,7 +235,7 @@ impl Bibliography {
     {
         let text = field.name.text_of(context.alloc)?;
         let name = folded(context.alloc, text.as_str())?;
-        let row = row_of(name.as_str());
+        let row = bibliography_row(name.as_str());
         let made = if self.see(row) {
             None
         } else {
@@ -241,7 +251,10 @@ impl Bibliography {
                 Ok(())
             }
             None => match row {
-                Row::Generic => Ok(self.info.push(stays(context.alloc, name.as_str(), field)?)?),
+                Row::Generic => Ok(
+                    self.info
+                        .push(generic_field(context.alloc, name.as_str(), field)?)?,
+                ),
                 _ => Ok(self.info.push(out_of_form(name.as_str(), field, context)?)?),
             },
         }

@@ -3,7 +3,7 @@ ghost use Rattle.std.specs.Prelude.{◌≡◌, slice_get};
 ghost use Rattle.std.specs.List.{prefix_len};
 ghost use Rattle.rst_tree.specs.Faults.{Gives};
 ghost use Rattle.rst_tree.specs.Nodes.{forest_of, nodes_of};
-ghost use Rattle.rst_transform_docinfo.specs.Docinfo.{first_named, is_list, leading_list, list_place, nodes_with, replaced, with_docinfo};
+ghost use Rattle.rst_transform_docinfo.specs.Docinfo.{first_named, is_list, leading_list, list_place, nodes_with_docinfo, replaced, with_docinfo};
 ghost use Rattle.rst_transform_work.specs.Known.{Makes};
 ghost use Rattle.rst_transform_work.specs.Reports.{KeepsRest};
 ghost use Rattle.rst_transform_work.specs.Reading.{is_title};
@@ -82,8 +82,8 @@ fn replaced(list: Node, context: &mut Context) -> Result<Vec<Node>>
 
 /// The document's nodes with the bibliography in the place of a leading field list.
 fn with_bibliography(children: Children, context: &mut Context) -> Result<Children>
-    ensures nodes { let list = leading_list (nodes_of children) in Gives (λ all. all ≡ forest_of (nodes_with context.old.first_number context.old.reports.items list (nodes_of children)).0) result }
-    ensures reports { let list = leading_list (nodes_of children) in Gives (λ _. context.new.reports.items ≡ (nodes_with context.old.first_number context.old.reports.items list (nodes_of children)).1) result }
+    ensures nodes { let list = leading_list (nodes_of children) in Gives (λ all. all ≡ forest_of (nodes_with_docinfo context.old.first_number context.old.reports.items list (nodes_of children)).0) result }
+    ensures reports { let list = leading_list (nodes_of children) in Gives (λ _. context.new.reports.items ≡ (nodes_with_docinfo context.old.first_number context.old.reports.items list (nodes_of children)).1) result }
     ensures rest { Gives (λ _. KeepsRest context.old context.new) result }
 {
     let mut nodes = children.into_list();

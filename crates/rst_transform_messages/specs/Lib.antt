@@ -3,5 +3,5 @@ pub mod Filtered
 pub mod Listed
 pub mod Messages
 pub mod MessagesIn
-pub mod Shown
+pub mod Reported
 pub mod Written

@@ -7,7 +7,7 @@ use Rattle.rst_settings.specs.Threshold.{is_reached}
 use Rattle.rst_tree.specs.declared.attrs.Attr.{Attr}
 use Rattle.rst_tree.specs.declared.key.Key.TheVariants.{Level}
 use Rattle.rst_tree.specs.declared.note.Note.{Note}
-use Rattle.rst_tree.specs.Attributes.{value_of, said_number}
+use Rattle.rst_tree.specs.Attributes.{value_of, as_number}
 use Rattle.rst_tree.specs.LevelNames.{level_number}
 
 -- whether a message halts a run
@@ -33,16 +33,16 @@ highest_level [] = 0
 highest_level (note ∷ more) = max (level_number note.level) (highest_level more)
 
 -- the number of the level of a `system_message` with these attributes, 0 where it has none
-abbrev pub level_said : List Attr → ℕ
-level_said attrs = unwrap_or (said_number (value_of Level attrs)) 0
+abbrev pub level_in : List Attr → ℕ
+level_in attrs = unwrap_or (as_number (value_of Level attrs)) 0
 
 -- a message, and the number that it carries, if it has one
-abbrev pub Numbered : Type 0
-Numbered = Note × Option ℕ
+abbrev pub NumberedNote : Type 0
+NumberedNote = Note × Option ℕ
 
 -- the notes of messages
-abbrev pub notes_of : List Numbered → List Note
-notes_of all = map (λ one. one.0) all
+abbrev pub unnumbered_notes : List NumberedNote → List Note
+unnumbered_notes all = map (λ one. one.0) all
 
 -- whether the number that a message carries is this one
 abbrev pub has_number : ℕ → Option ℕ → Bool
@@ -50,13 +50,13 @@ has_number n None = false
 has_number n (Some number) = n == number
 
 -- whether a message is printed, and carries this number
-abbrev pub is_shown_as : Threshold → ℕ → Numbered → Bool
-is_shown_as report n one = is_reached report (level_number one.0.level) && has_number n one.1
+abbrev pub is_reported_as : Threshold → ℕ → NumberedNote → Bool
+is_reported_as report n one = is_reached report (level_number one.0.level) && has_number n one.1
 
 -- whether one of the messages is printed and carries this number
-abbrev pub is_number_shown : Threshold → List Numbered → ℕ → Bool
-is_number_shown report all n = list_any (is_shown_as report n) all
+abbrev pub is_number_reported : Threshold → List NumberedNote → ℕ → Bool
+is_number_reported report all n = list_any (is_reported_as report n) all
 
 -- whether a number is marked in a list of marks; none is past its end
-abbrev pub marked : List Bool → ℕ → Bool
-marked marks n = slice_index_or marks n false
+abbrev pub is_number_marked : List Bool → ℕ → Bool
+is_number_marked marks n = slice_index_or marks n false

@@ -3,8 +3,8 @@ ghost use Rattle.std.specs.Prelude.{◌≡◌, true, filter};
 ghost use Rattle.rst_tree.specs.Faults.{Gives};
 ghost use Rattle.rst_tree.specs.Nodes.{forest_of, nodes_of};
 ghost use Rattle.rst_transform_messages.specs.Filtered.{filtered, is_unexplained, with_filtered};
-ghost use Rattle.rst_transform_messages.specs.Messages.{marked};
-ghost use Rattle.rst_transform_messages.specs.Shown.{may_stay, is_shown_in};
+ghost use Rattle.rst_transform_messages.specs.Messages.{is_number_marked};
+ghost use Rattle.rst_transform_messages.specs.Reported.{may_stay, are_all_reported_in};
 ghost use Rattle.rst_transform_work.specs.States.{document_node};
 
 use crate::messages::{level_number, reaches};
@@ -15,7 +15,7 @@ use std::alloc::Global;
 use std::mem;
 
 /// Takes the messages below the report level out of a document, and lets each problematic whose message is gone become its text
-/// (Configuration, `report_level`). `shown` has for each message's number whether the message stays.
+/// (Configuration, `report_level`). `reported` has for each message's number whether the message stays.
 ///
 /// Before, where WARNINGs aren't printed:
 ///
@@ -34,18 +34,18 @@ pub fn filter(
     alloc: Global,
     mut document: Document,
     report: Threshold,
-    shown: &[bool],
+    reported: &[bool],
 ) -> Result<Document>
-    ensures document { Gives (λ done. done ≡ with_filtered report (marked shown.now) document) result }
-    ensures shown { Gives (λ done. is_shown_in report (document_node done) ≡ true) result }
+    ensures document { Gives (λ done. done ≡ with_filtered report (is_number_marked reported.now) document) result }
+    ensures reported { Gives (λ done. are_all_reported_in report (document_node done) ≡ true) result }
 {
-    filter_in(alloc, &mut document.children, report, shown)?;
+    filter_in(alloc, &mut document.children, report, reported)?;
     Ok(document)
 }
 
 /// Whether a node is a problematic whose message isn't printed; where it has no number, there is none.
-fn is_unexplained(node: &Node, shown: &[bool]) -> bool
-    ensures { result ≡ is_unexplained (marked shown.now) node.now }
+fn is_unexplained(node: &Node, reported: &[bool]) -> bool
+    ensures { result ≡ is_unexplained (is_number_marked reported.now) node.now }
 {
     match node {
         Node::Element {
@@ -53,7 +53,7 @@ fn is_unexplained(node: &Node, shown: &[bool]) -> bool
             attrs,
             ..
         } => match attrs.number(Key::Message) {
-            Some(number) => !matches!(shown.get(number as usize), Some(true)),
+            Some(number) => !matches!(reported.get(number as usize), Some(true)),
             None => true,
         },
         _ => false,
@@ -83,8 +83,13 @@ fn may_stay(node: &Node, report: Threshold) -> bool
 }
 
 /// Takes what isn't printed out of nodes.
-fn filter_in(alloc: Global, nodes: &mut Children, report: Threshold, shown: &[bool]) -> Result<()>
-    ensures { Gives (λ _. nodes.new ≡ filtered report (marked shown.now) nodes.old) result }
+fn filter_in(
+    alloc: Global,
+    nodes: &mut Children,
+    report: Threshold,
+    reported: &[bool],
+) -> Result<()>
+    ensures { Gives (λ _. nodes.new ≡ filtered report (is_number_marked reported.now) nodes.old) result }
 {
     let mut leaves = false;
     for i in 0..nodes.len() {
@@ -94,7 +99,7 @@ fn filter_in(alloc: Global, nodes: &mut Children, report: Threshold, shown: &[bo
             leaves = true;
             continue;
         }
-        if is_unexplained(node, shown) {
+        if is_unexplained(node, reported) {
             let text = node.text_of(alloc)?;
             *node = Node::Text(text);
             continue;
@@ -105,7 +110,7 @@ fn filter_in(alloc: Global, nodes: &mut Children, report: Threshold, shown: &[bo
                 if children.are_plain() {
                     continue;
                 }
-                filter_in(alloc, children, report, shown)?;
+                filter_in(alloc, children, report, reported)?;
             }
         }
     }

@@ -7,8 +7,8 @@ ghost use Rattle.rst_tree.specs.Faults.{Gives};
 ghost use Rattle.rst_tree.specs.Tree.{text_in};
 ghost use Rattle.rst_tree.specs.Walk.{item, items};
 ghost use Rattle.rst_transform_messages.specs.Early.{is_early};
-ghost use Rattle.rst_transform_messages.specs.Messages.{has_halt, EndsAtHalt, highest_level, level_said, has_number, marked};
-ghost use Rattle.rst_transform_messages.specs.MessagesIn.{note_said};
+ghost use Rattle.rst_transform_messages.specs.Messages.{has_halt, EndsAtHalt, highest_level, level_in, has_number, is_number_marked};
+ghost use Rattle.rst_transform_messages.specs.MessagesIn.{note_in};
 
 use rst_settings::Threshold;
 use rst_transform_work::Report;
@@ -25,7 +25,7 @@ pub fn reaches(level: u64, threshold: Threshold) -> bool
 
 /// The level of a `system_message` by its number.
 pub fn level_number(attrs: &Attrs) -> u64
-    ensures { result ≡ level_said attrs.now }
+    ensures { result ≡ level_in attrs.now }
 {
     attrs.number(Key::Level).unwrap_or(0)
 }
@@ -42,7 +42,7 @@ pub struct Messages {
     /// From which level on a message is printed.
     report: Threshold,
     /// Whether the message of each number is printed.
-    shown: Vec<bool>,
+    reported: Vec<bool>,
     /// Whether the first transforms have something to act on among the nodes that were gone through.
     pub early: bool,
     pub ghost halted_is: { halted ≡ has_halt halt notes.items },
@@ -51,9 +51,9 @@ pub struct Messages {
 
 impl Messages {
     ghost use Rattle.std.specs.Prelude.{[], ◌∷◌, List, map};
-    ghost use Rattle.rst_transform_messages.specs.Messages.{until_halt, notes_of, is_number_shown, Numbered};
-    ghost use Rattle.rst_transform_messages.specs.MessagesIn.{message_said, messages_among};
-    ghost use Rattle.rst_transform_messages.specs.Listed.{report_said, Adds, Keeps, KeepsLevels, Lists};
+    ghost use Rattle.rst_transform_messages.specs.Messages.{until_halt, unnumbered_notes, is_number_reported, NumberedNote};
+    ghost use Rattle.rst_transform_messages.specs.MessagesIn.{message_in, messages_among};
+    ghost use Rattle.rst_transform_messages.specs.Listed.{numbered_report, Adds, KeepsMessages, KeepsLevels, Lists};
 
     /// The messages among nodes and in them, in preorder, in a list with room for `room` of them, of a run that halts at one threshold and prints
     /// messages from another one on. A message contains no other.
@@ -74,7 +74,7 @@ impl Messages {
             halt,
             halted: false,
             report,
-            shown: Vec::with_capacity(alloc, room as usize)?,
+            reported: Vec::with_capacity(alloc, room as usize)?,
             early: false,
         };
         read_elements(alloc, nodes, None, &mut messages)?;
@@ -83,11 +83,11 @@ impl Messages {
 
     /// Adds a message with a number, if it has one: to the list only if no earlier one halts the run.
     fn push(&mut self, note: Note, number: Option<u64>) -> Result<()>
-        ensures keeps { Keeps self.old self.new }
+        ensures keeps { KeepsMessages self.old self.new }
         ensures adds { Gives (λ _. Adds ((note, number) ∷ []) self.old self.new) result }
     {
         let level = note.level.number();
-        mark_shown(&mut self.shown, self.report.is_reached(level), number)?;
+        mark_reported(&mut self.reported, self.report.is_reached(level), number)?;
         if self.halted {
             return Ok(());
         }
@@ -100,15 +100,15 @@ impl Messages {
     /// Adds the message of a `system_message` with these attributes and nodes on a line.
     // What it keeps is off the stack while nodes are gone through.
     #[inline(never)]
-    fn push_said(
+    fn push_message(
         &mut self,
         alloc: Global,
         attrs: &Attrs,
         children: &Children,
         line: usize,
     ) -> Result<()>
-        ensures keeps { Keeps self.old self.new }
-        ensures adds { Gives (λ _. Adds (message_said attrs.now children.now line ∷ []) self.old self.new) result }
+        ensures keeps { KeepsMessages self.old self.new }
+        ensures adds { Gives (λ _. Adds (message_in attrs.now children.now line ∷ []) self.old self.new) result }
     {
         let note = note_of(alloc, attrs, children, line)?;
         self.push(note, attrs.number(Key::Message))
@@ -117,7 +117,7 @@ impl Messages {
     /// Adds the messages of the transforms, which are the last.
     pub fn add_reports(&mut self, reports: Vec<Report>) -> Result<()>
         ensures levels { KeepsLevels self.old self.new }
-        ensures adds { Gives (λ _. Adds (map report_said reports.items) self.old self.new) result }
+        ensures adds { Gives (λ _. Adds (map numbered_report reports.items) self.old self.new) result }
     {
         self.notes.reserve(reports.len())?;
         for report in reports {
@@ -129,15 +129,15 @@ impl Messages {
 
     /// Whether the message of each number is printed, once all messages were added. No transform takes a message out of a
     /// document, so those that are printed are in it.
-    pub fn shown(&self) -> &[bool]
-        ensures { (all : List Numbered) → Lists all self.now → (n : ℕ) → marked result.now n ≡ is_number_shown self.now.report all n }
+    pub fn reported(&self) -> &[bool]
+        ensures { (all : List NumberedNote) → Lists all self.now → (n : ℕ) → is_number_marked result.now n ≡ is_number_reported self.now.report all n }
     {
-        self.shown.as_slice()
+        self.reported.as_slice()
     }
 
     /// The messages, and the number of their highest level, 0 where there are none.
     pub fn end(self) -> (Vec<Note>, u8)
-        ensures notes { (all : List Numbered) → Lists all self → result.0.items ≡ until_halt self.halt (notes_of all) }
+        ensures notes { (all : List NumberedNote) → Lists all self → result.0.items ≡ until_halt self.halt (unnumbered_notes all) }
         ensures halt { EndsAtHalt self.halt result.0.items }
         ensures highest { result.1 ≡ highest_level result.0.items }
         ensures few { result.1 ≤ 4 }
@@ -179,7 +179,7 @@ impl<'a> Reader<'a> for Messages {
             return Ok(level);
         }
         if level.is_none() {
-            self.push_said(alloc, attrs, children, *line)?;
+            self.push_message(alloc, attrs, children, *line)?;
         }
         Ok(Some(0))
     }
@@ -201,18 +201,18 @@ fn is_message(tag: Tag) -> bool
 }
 
 /// Marks the number of a message that is printed, if it has one.
-fn mark_shown(marks: &mut Vec<bool>, is_shown: bool, number: Option<u64>) -> Result<()>
-    ensures { Gives (λ _. (n : ℕ) → marked marks.new.items n ≡ (marked marks.old.items n || (is_shown && has_number n number))) result }
+fn mark_reported(marks: &mut Vec<bool>, is_reported: bool, number: Option<u64>) -> Result<()>
+    ensures { Gives (λ _. (n : ℕ) → is_number_marked marks.new.items n ≡ (is_number_marked marks.old.items n || (is_reported && has_number n number))) result }
 {
     match number {
-        Some(number) if is_shown => mark(marks, number as usize),
+        Some(number) if is_reported => mark(marks, number as usize),
         _ => Ok(()),
     }
 }
 
 /// Marks a number among those up to it or more.
 fn mark(marks: &mut Vec<bool>, number: usize) -> Result<()>
-    ensures { Gives (λ _. (n : ℕ) → marked marks.new.items n ≡ (marked marks.old.items n || (n == number))) result }
+    ensures { Gives (λ _. (n : ℕ) → is_number_marked marks.new.items n ≡ (is_number_marked marks.old.items n || (n == number))) result }
 {
     for _ in marks.len()..number {
         marks.push(false)?;
@@ -227,7 +227,7 @@ fn mark(marks: &mut Vec<bool>, number: usize) -> Result<()>
 
 /// The message of a `system_message` with these attributes and nodes on a line.
 fn note_of(alloc: Global, attrs: &Attrs, children: &Children, line: usize) -> Result<Note>
-    ensures { Gives (λ note. note ≡ note_said attrs.now children.now line) result }
+    ensures { Gives (λ note. note ≡ note_in attrs.now children.now line) result }
 {
     let text = match children.get(0) {
         Some(paragraph) => words_of(alloc, paragraph)?,

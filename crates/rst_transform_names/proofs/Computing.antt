@@ -3,5 +3,5 @@
 unfoldable pub rst_transform_names : Unit {0}
 unfolding
     lib.Utf8.encode Rattle.std.specs.Fmt.digits Rattle.rst_text.proofs.Computing.rst_text Rattle.rst_tree.proofs.Computing.rst_tree
-    Rattle.rst_transform_names.specs.Rulings.held_ruling
+    Rattle.rst_transform_names.specs.Rulings.registered_ruling
 rst_transform_names = tt

@@ -12,7 +12,7 @@ use Rattle.std.proofs.lemmas.Fmt.{decimal_is_IsNumeral, first_decimal, decimal-d
 use Rattle.std.proofs.lemmas.Str.{digit_value_digit}
 use Rattle.std.proofs.lemmas.Str.Parse.{IsNumeralModel, numerals_by_value, tells_digits, parse_plain, digit_from_value, digits_value-take-le}
 use Rattle.std.specs.Cmp.Lexicographic.{bytes_decides}
-use Rattle.rst_transform_names.specs.Ids.{numbered, number_in, parts_from, parts_of, numbered_part, number_of}
+use Rattle.rst_transform_names.specs.Ids.{id_with_number, number_in, parts_from, id_parts, numbered_part, id_number}
 
 -- ---- an id with a number, and the number in it
 
@@ -26,21 +26,21 @@ lacks_hyphen (c ∷ cs) d zero l e = omega (arith, digit_from_value c d.0)
 lacks_hyphen (c ∷ cs) d (suc i) l e = lacks_hyphen cs d.1 i (omega arith) e
 
 -- where there is no hyphen, there are no parts
-no_parts : (text : List ℕ) → Lacks 45 text → parts_of text ≡ None
+no_parts : (text : List ℕ) → Lacks 45 text → id_parts text ≡ None
 no_parts [] lacks = refl
 no_parts (c ∷ cs) lacks = rw (no_parts cs (λ i l. lacks (suc i) (omega arith)), ne_eqb c 45 (lacks 0 (omega arith))) refl
 
 -- a text is cut at its last hyphen
-parts_at : (front back : List ℕ) → Lacks 45 back → parts_of (front ++ (45 ∷ back)) ≡ Some (front, back)
+parts_at : (prefix back : List ℕ) → Lacks 45 back → id_parts (prefix ++ (45 ∷ back)) ≡ Some (prefix, back)
 parts_at [] back lacks = ap (parts_from 45 back) (no_parts back lacks)
 parts_at (c ∷ cs) back lacks = ap (parts_from c (cs ++ (45 ∷ back))) (parts_at cs back lacks)
 
 abbrev AreParts : List ℕ → Option (List ℕ × List ℕ) → Type 0
 AreParts text r = MatchOption r (Unit {0}) (λ parts. text ≡ parts.0 ++ (45 ∷ parts.1))
 
-are_parts : (text : List ℕ) → AreParts text (parts_of text)
+are_parts : (text : List ℕ) → AreParts text (id_parts text)
 are_parts [] = tt
-are_parts (c ∷ cs) = from (parts_of cs) (are_parts cs)
+are_parts (c ∷ cs) = from (id_parts cs) (are_parts cs)
   where
     here : (b : Bool) → (c == 45) ≡ b → AreParts (c ∷ cs) (if b then Some ([], cs) else None)
     here true e = ap (λ x. x ∷ cs) (eqb-true c 45 e)
@@ -50,15 +50,15 @@ are_parts (c ∷ cs) = from (parts_of cs) (are_parts cs)
     from None h = here (c == 45) refl
     from (Some parts) h = ap (λ l. c ∷ l) h
 
-numbered_is : (base : List ℕ) (n : ℕ) → numbered base n ≡ base ++ (45 ∷ decimal n)
+numbered_is : (base : List ℕ) (n : ℕ) → id_with_number base n ≡ base ++ (45 ∷ decimal n)
 numbered_is base n = append_assoc base (codes "-") (decimal n)
 
 number_by : (digits : List ℕ) (n : ℕ) → digits_value 10 digits ≡ n → digits ≡ decimal n → 0 < n → n < 2 ^ 64 → number_in digits ≡ Some n
 number_by digits n value is some small = rw (value, (bytes_decides digits (decimal n)).1 is, lt-ltb 0 n some, lt-ltb n (2 ^ 64) small) refl
 
-pub number_of-numbered : (base : List ℕ) (n : ℕ) → 0 < n → n < 2 ^ 64 → number_of (numbered base n) ≡ Some (base, n)
-number_of-numbered base n some small =
-    ap (λ l. option_and_then numbered_part (parts_of l)) (numbered_is base n)
+pub id_number-id_with_number : (base : List ℕ) (n : ℕ) → 0 < n → n < 2 ^ 64 → id_number (id_with_number base n) ≡ Some (base, n)
+id_number-id_with_number base n some small =
+    ap (λ l. option_and_then numbered_part (id_parts l)) (numbered_is base n)
     ∙ ap (option_and_then numbered_part) (parts_at base (decimal n) (lacks_hyphen (decimal n) (decimal_is_IsNumeral n small).0.1))
     ∙ ap (option_map (λ k. (base, k))) (number_by (decimal n) n (decimal_is_IsNumeral n small).1 refl some small)
 
@@ -79,17 +79,17 @@ number_in-is d n h = number_cases d (λ o. o ≡ Some n → (d ≡ decimal n) ×
 pub some_same : (p q : List ℕ × ℕ) → ◌≡◌ {A = Option (List ℕ × ℕ)} (Some p) (Some q) → p ≡ q
 some_same p q e = ap (λ (o : Option (List ℕ × ℕ)). unwrap_or o p) e
 
-pub number_of-is : (id base : List ℕ) (n : ℕ) → number_of id ≡ Some (base, n) → (id ≡ numbered base n) × (0 < n) × (n < 2 ^ 64)
-number_of-is id base n h = from (parts_of id) (are_parts id) h
+pub id_number-is : (id base : List ℕ) (n : ℕ) → id_number id ≡ Some (base, n) → (id ≡ id_with_number base n) × (0 < n) × (n < 2 ^ 64)
+id_number-is id base n h = from (id_parts id) (are_parts id) h
   where
     Read : List ℕ × ℕ → Type 0
-    Read p = (id ≡ numbered p.0 p.1) × (0 < p.1) × (p.1 < 2 ^ 64)
+    Read p = (id ≡ id_with_number p.0 p.1) × (0 < p.1) × (p.1 < 2 ^ 64)
 
-    through : (front back : List ℕ) (o : Option ℕ) → id ≡ front ++ (45 ∷ back) → number_in back ≡ o → option_map {U = List ℕ × ℕ} (λ k. (front, k)) o ≡ Some (base, n) → Read (base, n)
-    through front back None is e h = absurd (cc)
-    through front back (Some k) is e h =
+    through : (prefix back : List ℕ) (o : Option ℕ) → id ≡ prefix ++ (45 ∷ back) → number_in back ≡ o → option_map {U = List ℕ × ℕ} (λ k. (prefix, k)) o ≡ Some (base, n) → Read (base, n)
+    through prefix back None is e h = absurd (cc)
+    through prefix back (Some k) is e h =
         let read = number_in-is back k e in
-        subst Read (some_same (front, k) (base, n) h) (is ∙ ap (λ l. front ++ (45 ∷ l)) read.0 ∙ sym (numbered_is front k), read.1, read.2)
+        subst Read (some_same (prefix, k) (base, n) h) (is ∙ ap (λ l. prefix ++ (45 ∷ l)) read.0 ∙ sym (numbered_is prefix k), read.1, read.2)
 
     from : (r : Option (List ℕ × List ℕ)) → AreParts id r → option_and_then numbered_part r ≡ Some (base, n) → Read (base, n)
     from None parts h = absurd (cc)
@@ -146,13 +146,13 @@ module _ (digits : List ℕ) where
         parsed (Err e) h (subst (AllDigits 10) (sym is) numeral.0.1, subst (λ l. 0 < length l) (sym is) numeral.0.0, subst (λ l. digits_value 10 l < 2 ^ 64) (sym is) (subst (λ m. m < 2 ^ 64) (sym numeral.1) small)))
 
 -- the parts of an id, as they are split
-pub number_of-split : (id : List ℕ) (r : Option (Bor (List ℕ) × Bor (List ℕ)))
+pub id_number-split : (id : List ℕ) (r : Option (Bor (List ℕ) × Bor (List ℕ)))
     → MatchOption r (RFindsChar 45 id None) (λ x. (i : ℕ) × (j : ℕ) × RFindsChar 45 id (Some (i, j)) × (x.0.now ≡ take i id) × (x.1.now ≡ drop j id) × (i ≤ j) × (length x.0.now ≡ i) × (length x.1.now + j ≡ length id))
-    → number_of id ≡ option_and_then numbered_part (option_map (λ x. (x.0.now, x.1.now)) r)
-number_of-split id None h = ap (option_and_then numbered_part) (no_parts id (λ i l e. NoCharPasses-char 45 id i h (omega arith) l e))
-number_of-split id (Some x) h =
+    → id_number id ≡ option_and_then numbered_part (option_map (λ x. (x.0.now, x.1.now)) r)
+id_number-split id None h = ap (option_and_then numbered_part) (no_parts id (λ i l e. NoCharPasses-char 45 id i h (omega arith) l e))
+id_number-split id (Some x) h =
     let i = h.0 in
     let j = h.1 in
     let whole : id ≡ x.0.now ++ (45 ∷ x.1.now) = sym (take-append-drop i id) ∙ ap₂ (λ l m. l ++ m) (sym h.3) (drop_at_char 45 id i j h.2.1 (omega arith) ∙ ap (λ l. 45 ∷ l) (sym h.4)) in
-    ap (λ l. option_and_then numbered_part (parts_of l)) whole
+    ap (λ l. option_and_then numbered_part (id_parts l)) whole
     ∙ ap (option_and_then numbered_part) (parts_at x.0.now x.1.now (λ k l e. NoCharPasses-char 45 x.1.now k (subst (NoCharPasses (λ d. d == 45)) (sym h.4) h.2.0) (omega arith) l e))

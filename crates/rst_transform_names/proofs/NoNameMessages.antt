@@ -15,7 +15,7 @@ use Rattle.rst_tree.specs.Forest.{Forest, bare, element, words}
 use Rattle.rst_tree.specs.Nodes.{nodes_of}
 use Rattle.rst_tree.proofs.Changes.{forest_of-nodes_of}
 use Rattle.rst_transform_names.specs.Gathered.{number_at}
-use Rattle.rst_transform_names.specs.NameMessages.{beginning, filled, given, goes_in, goes_out, message_on, no_texts, nodes_with, taken, takes_in, texts, then_texts, with_element, with_messages, with_name_messages, Filled, Placed, Texts}
+use Rattle.rst_transform_names.specs.NameMessages.{beginning, filled, given, goes_in, goes_out, message_on, no_texts, nodes_with, taken, takes_in, texts, then_texts, with_filled_element, with_messages, with_name_messages, Filled, Placed, Texts}
 use Rattle.rst_transform_names.proofs.MessageGaps.{woven-none}
 
 either_none : {X : Type 0} (b : Bool) → ◌≡◌ {A = List X} (if b then [] else []) []
@@ -44,7 +44,7 @@ then-none x y is is' = rw (is, is') refl
 abbrev none : List Attr → Placed
 none a = []
 
-element-none : (p t : Tag) (a : List Attr) (l : ℕ) (c : Forest) (nodes : List Node) (inside f : Filled) → Quiet (nodes_of c) inside → Quiet nodes f → Quiet (nodes ++ Element t a c l ∷ []) (with_element p t a l [] inside f)
+element-none : (p t : Tag) (a : List Attr) (l : ℕ) (c : Forest) (nodes : List Node) (inside f : Filled) → Quiet (nodes_of c) inside → Quiet nodes f → Quiet (nodes ++ Element t a c l ∷ []) (with_filled_element p t a l [] inside f)
 element-none p t a l c nodes inside f i q =
     let no_text = texts-none t a (nodes_of c) inside i in record {
       same = rw (q.same, nodes-none t a (nodes_of c) inside i, forest_of-nodes_of c) refl;
@@ -66,7 +66,7 @@ filled-none p nodes f (words t r) q =
 filled-none p nodes f (element t a c l r) q =
     let inside = filled-none t [] (beginning (given t f)) c (begun-none (given t f) (cond_both (takes_in t) f.waiting no_texts (λ x. x.placed ≡ []) (λ _. q.waiting) (λ _. refl))) in
     let left : Quiet nodes (taken t f) = record { same = q.same; inline = q.inline; before = q.before; after = q.after; texts_out = q.texts_out; waiting = cond_both (takes_in t) no_texts f.waiting (λ x. x.placed ≡ []) (λ _. refl) (λ _. q.waiting) } in
-    let rest = filled-none p (nodes ++ Element t a c l ∷ []) (with_element p t a l [] (filled none t (beginning (given t f)) c) (taken t f)) r (element-none p t a l c nodes (filled none t (beginning (given t f)) c) (taken t f) inside left) in
+    let rest = filled-none p (nodes ++ Element t a c l ∷ []) (with_filled_element p t a l [] (filled none t (beginning (given t f)) c) (taken t f)) r (element-none p t a l c nodes (filled none t (beginning (given t f)) c) (taken t f) inside left) in
     rw append_assoc at rest
 
 with_none : (document : Node) → with_messages none document ≡ document

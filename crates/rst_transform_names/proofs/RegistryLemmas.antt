@@ -22,10 +22,10 @@ changed_there change n [] d now l is = absurd (omega arith)
 changed_there change zero (x ∷ xs) d now l is = ap (λ y. y ∷ xs) is
 changed_there change (suc n) (x ∷ xs) d now l is = ap (λ t. x ∷ t) (changed_there change n xs d now (omega arith) is)
 
-pub changed_behind : {X : Type 0} (change : X → X) (n : ℕ) (xs : List X) → length xs ≤ n → xs ≡ map_at change n xs
-changed_behind change n [] l = refl
-changed_behind change zero (x ∷ xs) l = absurd (omega arith)
-changed_behind change (suc n) (x ∷ xs) l = ap (λ t. x ∷ t) (changed_behind change n xs (omega arith))
+pub changed_after : {X : Type 0} (change : X → X) (n : ℕ) (xs : List X) → length xs ≤ n → xs ≡ map_at change n xs
+changed_after change n [] l = refl
+changed_after change zero (x ∷ xs) l = absurd (omega arith)
+changed_after change (suc n) (x ∷ xs) l = ap (λ t. x ∷ t) (changed_after change n xs (omega arith))
 
 -- no item is lost on the way
 map_at-length : {X : Type 0} (change : X → X) (n : ℕ) (xs : List X) → length (map_at change n xs) ≡ length xs
@@ -48,5 +48,5 @@ pub entered : {X Y : Type 0} (old new : BTreeMap (String Y) X) (name : List ℕ)
 entered old new name w h other = btree_map_updates_text name old new w h other ∙ ap (λ b. if b then w else get_by_text old other) (nat_list_eq_equiv.symm name other)
 
 -- what the program writes at the elements
-pub written_as_held : (g : Registry) (r : Register) → Holds g r → given g.standings.items g.known_messages.numbers.items g.known_messages.messages.items ≡ given r.standings r.numbers r.messages
-written_as_held g r h = cc (h.standings, h.numbers, h.messages)
+pub given_same : (g : Registry) (r : Register) → Holds g r → given g.standings.items g.known_messages.numbers.items g.known_messages.messages.items ≡ given r.standings r.numbers r.messages
+given_same g r h = cc (h.standings, h.numbers, h.messages)

@@ -13,8 +13,8 @@ use Rattle.rst_tree.specs.declared.tag.Tag.{Tag}
 use Rattle.rst_transform_names.specs.declared.ids.Ids.{Ids}
 
 -- the id of a text and a number
-abbrev pub numbered : List ℕ → ℕ → List ℕ
-numbered base n = (base ++ codes "-") ++ decimal n
+abbrev pub id_with_number : List ℕ → ℕ → List ℕ
+id_with_number base n = (base ++ codes "-") ++ decimal n
 
 -- the number from 1 that digits write, if they are its decimal digits; the largest is that of 64 bits
 abbrev pub number_in : List ℕ → Option ℕ
@@ -25,54 +25,54 @@ abbrev pub parts_from : ℕ → List ℕ → Option (List ℕ × List ℕ) → O
 parts_from c cs None = if c == 45 then Some ([], cs) else None
 parts_from c cs (Some parts) = Some (c ∷ parts.0, parts.1)
 
-abbrev pub parts_of : List ℕ → Option (List ℕ × List ℕ)
-parts_of [] = None
-parts_of (c ∷ cs) = parts_from c cs (parts_of cs)
+abbrev pub id_parts : List ℕ → Option (List ℕ × List ℕ)
+id_parts [] = None
+id_parts (c ∷ cs) = parts_from c cs (id_parts cs)
 
 -- the same where a number comes after it
 abbrev pub numbered_part : List ℕ × List ℕ → Option (List ℕ × ℕ)
 numbered_part parts = option_map (λ n. (parts.0, n)) (number_in parts.1)
 
-abbrev pub number_of : List ℕ → Option (List ℕ × ℕ)
-number_of id = option_and_then numbered_part (parts_of id)
+abbrev pub id_number : List ℕ → Option (List ℕ × ℕ)
+id_number id = option_and_then numbered_part (id_parts id)
 
 -- the number up to which all ids of a text are taken; 0 where there is none
-abbrev pub last_of : Ids → List ℕ → ℕ
-last_of ids base = unwrap_or (get_by_text ids.last base) 0
+abbrev pub last_number : Ids → List ℕ → ℕ
+last_number ids base = unwrap_or (get_by_text ids.last base) 0
 
 -- an id with a number is taken where that is no more than the number of its text, and where it is kept by itself; any other where a name gave it
 abbrev pub taken_by : Ids → List ℕ → Option (List ℕ × ℕ) → Bool
 taken_by ids id None = contains_text ids.named id
-taken_by ids id (Some (base, n)) = nat_le n (last_of ids base) || contains_text ids.hindering id
+taken_by ids id (Some (base, n)) = nat_le n (last_number ids base) || contains_text ids.hindering id
 
 abbrev pub is_taken : Ids → List ℕ → Bool
-is_taken ids id = taken_by ids id (number_of id)
+is_taken ids id = taken_by ids id (id_number id)
 
 -- the least number from 1 with which the id of a text is free, by which ids are taken
 pub record IsLeastFree (taken : List ℕ → Bool) (base : List ℕ) (n : ℕ) : Type 0 where
   pub from_one : 0 < n
-  pub is_free : taken (numbered base n) ≡ false
-  pub is_least : (m : ℕ) → 0 < m → m < n → taken (numbered base m) ≡ true
+  pub is_free : taken (id_with_number base n) ≡ false
+  pub is_least : (m : ℕ) → 0 < m → m < n → taken (id_with_number base m) ≡ true
 
 -- what a name gives; the empty name gives the empty id, which is none
 abbrev pub wanted_id : List ℕ → List ℕ
 wanted_id name = encode_utf8_all (id_of (chars name))
 
 -- an id is among some
-abbrev pub is_among : List (List ℕ) → List ℕ → Bool
-is_among ids id = list_any (bytes_eq id) ids
+abbrev pub has_id : List (List ℕ) → List ℕ → Bool
+has_id ids id = list_any (bytes_eq id) ids
 
 -- the least number, from one on, that doesn't pass a test; at most a given number of them pass it
-abbrev pub least_from : (ℕ → Bool) → ℕ → ℕ → ℕ
-least_from test number zero = number
-least_from test number (suc more) = if test number then least_from test (number + 1) more else number
+abbrev pub least_failing_from : (ℕ → Bool) → ℕ → ℕ → ℕ
+least_failing_from test number zero = number
+least_failing_from test number (suc more) = if test number then least_failing_from test (number + 1) more else number
 
 -- where these ids are taken, the id of a text and the least number from 1 that makes it free: each taken id hinders one number at most
 abbrev pub least_free : List (List ℕ) → List ℕ → ℕ
-least_free taken base = least_from (λ number. is_among taken (numbered base number)) 1 (length taken)
+least_free taken base = least_failing_from (λ number. has_id taken (id_with_number base number)) 1 (length taken)
 
 abbrev pub numbered_id : List (List ℕ) → List ℕ → List ℕ
-numbered_id taken base = numbered base (least_free taken base)
+numbered_id taken base = id_with_number base (least_free taken base)
 
 -- the id of a new element of a kind without a name: the kind's name with a number
 abbrev pub kind_id : List (List ℕ) → Tag → List ℕ
@@ -81,25 +81,25 @@ kind_id taken tag = numbered_id taken (hyphenated (tag_name tag))
 -- the id of a new element of a kind by what its name gives: that, with a number if it is taken; where that is nothing, the kind's name with a number
 abbrev pub id_by : List (List ℕ) → Tag → List ℕ → List ℕ
 id_by taken tag [] = kind_id taken tag
-id_by taken tag (c ∷ cs) = if is_among taken (c ∷ cs) then numbered_id taken (c ∷ cs) else c ∷ cs
+id_by taken tag (c ∷ cs) = if has_id taken (c ∷ cs) then numbered_id taken (c ∷ cs) else c ∷ cs
 
 abbrev pub id_for : List (List ℕ) → Tag → List ℕ → List ℕ
 id_for taken tag name = id_by taken tag (wanted_id name)
 
 -- the ids that are taken are these
 abbrev pub AreTaken : Ids → List (List ℕ) → Type 0
-AreTaken ids taken = (id : List ℕ) → is_taken ids id ≡ is_among taken id
+AreTaken ids taken = (id : List ℕ) → is_taken ids id ≡ has_id taken id
 
 -- one more id is taken, or none
-abbrev pub Takes : List ℕ → Ids → Ids → Type 0
-Takes id old new = (other : List ℕ) → is_taken new other ≡ (if bytes_eq other id then true else is_taken old other)
+abbrev pub TakesId : List ℕ → Ids → Ids → Type 0
+TakesId id old new = (other : List ℕ) → is_taken new other ≡ (if bytes_eq other id then true else is_taken old other)
 
 abbrev pub TakesNone : Ids → Ids → Type 0
 TakesNone old new = (other : List ℕ) → is_taken new other ≡ is_taken old other
 
 -- an id that a name gave is taken, and the result is whether it was free; or memory ran out and none is
 abbrev pub Tries : List ℕ → Ids → Ids → Result Bool TreeFault → Type 0
-Tries id old new (Ok was_free) = (is_taken old id ≡ (if was_free then false else true)) × Takes id old new
+Tries id old new (Ok was_free) = (is_taken old id ≡ (if was_free then false else true)) × TakesId id old new
 Tries id old new (Err NoMemory) = TakesNone old new
 
 -- the element's id is given and taken, or memory ran out and none is
@@ -114,10 +114,10 @@ GivesNumbered base old new (Err NoMemory) = TakesNone old new
 
 abbrev pub GivesNumber : List ℕ → Ids → Ids → Result ℕ TreeFault → Type 0
 GivesNumber base old new (Ok number) =
-    (taken : List (List ℕ)) → AreTaken old taken → (number ≡ least_free taken base) × AreTaken new (numbered base number ∷ taken)
+    (taken : List (List ℕ)) → AreTaken old taken → (number ≡ least_free taken base) × AreTaken new (id_with_number base number ∷ taken)
 GivesNumber base old new (Err NoMemory) = TakesNone old new
 
 -- an id is taken, or memory ran out and none is
 abbrev pub TakesOrFails : {A : Type 0} → List ℕ → Ids → Ids → Result A TreeFault → Type 0
-TakesOrFails id old new (Ok done) = Takes id old new
+TakesOrFails id old new (Ok done) = TakesId id old new
 TakesOrFails id old new (Err NoMemory) = TakesNone old new

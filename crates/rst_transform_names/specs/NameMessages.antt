@@ -146,8 +146,8 @@ abbrev pub taken : Tag → Filled → Filled
 taken t f = record f { waiting = if takes_in t then no_texts else f.waiting }
 
 -- with one more node of an element of the first kind: an element, with the message on its name and what its own nodes are and give
-abbrev pub with_element : Tag → Tag → List Attr → ℕ → Placed → Filled → Filled → Filled
-with_element p t a l own inside f = record {
+abbrev pub with_filled_element : Tag → Tag → List Attr → ℕ → Placed → Filled → Filled → Filled
+with_filled_element p t a l own inside f = record {
   nodes = f.nodes ++ Element t a (forest_of (nodes_with t a own inside)) l ∷ [];
   inline = f.inline ++ (if is_inline a then own_outside t own else []);
   before = f.before ++ from (if is_passed_over p then 0 else length f.nodes) (ahead t inside ++ (if is_inline a then [] else own_outside t own));
@@ -162,7 +162,7 @@ module _ (own : List Attr → Placed) where
   abbrev pub filled : Tag → Filled → Forest → Filled
   filled p f bare = f
   filled p f (words t r) = filled p (record f { nodes = f.nodes ++ Text t ∷ [] }) r
-  filled p f (element t a c l r) = filled p (with_element p t a l (own a) (filled t (beginning (given t f)) c) (taken t f)) r
+  filled p f (element t a c l r) = filled p (with_filled_element p t a l (own a) (filled t (beginning (given t f)) c) (taken t f)) r
 
   -- the document with the messages on all names in it; those with a place outside of it are its last nodes
   abbrev pub with_messages : Node → Node

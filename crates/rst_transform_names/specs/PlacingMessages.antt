@@ -10,8 +10,8 @@ abbrev pub gap_nodes : {Z : Type 0} → List (Vec Node Z) → List (List Node)
 gap_nodes list = map (λ gap. gap.items) list
 
 -- the messages of texts
-abbrev pub texts_in : TextMessages → Texts
-texts_in texts = record { own = texts.own; placed = texts.placed.items }
+abbrev pub message_texts : TextMessages → Texts
+message_texts texts = record { own = texts.own; placed = texts.placed.items }
 
 -- some nodes, and what they give besides
 abbrev pub seen : List Node → Inside → Filled
@@ -20,6 +20,6 @@ seen nodes inside = record {
   inline = inside.inline.items;
   before = inside.before.items;
   after = inside.after.items;
-  texts_out = texts_in inside.texts_out;
-  waiting = texts_in inside.waiting;
+  texts_out = message_texts inside.texts_out;
+  waiting = message_texts inside.waiting;
 }

@@ -18,12 +18,12 @@ use Rattle.rst_transform_names.specs.declared.registration.Registered.{Registere
 use Rattle.rst_transform_names.specs.declared.registry.Registry.{Registry}
 use Rattle.rst_transform_names.specs.declared.registry.Standing.{Standing}
 use Rattle.rst_transform_names.specs.Gathered.{number_at, own_name}
-use Rattle.rst_transform_names.specs.Ids.{id_for, least_free, numbered, AreTaken}
+use Rattle.rst_transform_names.specs.Ids.{id_for, least_free, id_with_number, AreTaken}
 use Rattle.rst_transform_names.specs.DuplicateMessages.{duplicate_definition, duplicate_name}
 use Rattle.rst_transform_names.specs.NameMessages.{message_on, with_name_messages}
-use Rattle.rst_transform_names.specs.Names.{with_held, AreHeld}
+use Rattle.rst_transform_names.specs.Names.{with_entry, AreRegistered}
 use Rattle.rst_transform_names.specs.Registry.{definer, known_by, losing, rule_named, standing}
-use Rattle.rst_transform_names.specs.Written.{given, left_behind, problematic_id, with_given}
+use Rattle.rst_transform_names.specs.Written.{given, left_after, problematic_id, with_given}
 
 -- What is known after some elements: the ids that are taken, what is known of each name, and the number of the last substitution definition that
 -- has it; what each element got that may have a name; the numbers in the ids of messages and problematics, and what is known of each message;
@@ -60,12 +60,12 @@ with_message_changed None change messages = messages
 with_message_changed (Some message) change messages = map_at change message messages
 
 -- a message or a problematic gets an id with a number
-abbrev pub with_message : Item → Register → Register
-with_message new r =
+abbrev pub with_message_id : Item → Register → Register
+with_message_id new r =
     let base = hyphenated (tag_name new.tag) in
     let number = least_free r.ids base in
     record r {
-      ids = numbered base number ∷ r.ids;
+      ids = id_with_number base number ∷ r.ids;
       numbers = r.numbers ++ number ∷ [];
       messages = with_message_changed (number_at Message new.attrs) (with_member new.tag number) r.messages;
     }
@@ -86,19 +86,19 @@ abbrev pub with_named : Item → Register → Register
 with_named new r =
     let id = id_for r.ids new.tag (own_name new) in
     let number = length r.standings in
-    let held = r.names (own_name new) in
-    let rule = rule_named (own_name new) held new in
+    let entry = r.names (own_name new) in
+    let rule = rule_named (own_name new) entry new in
     record r {
       ids = id ∷ r.ids;
-      names = with_held (own_name new) (known_by rule.now number new id held) r.names;
+      names = with_entry (own_name new) (known_by rule.now number new id entry) r.names;
       standings = losing rule.loser r.standings ++ standing number (Some id) rule.new_loses ∷ [];
       name_messages = r.name_messages ++ option_map (λ message. duplicate_name message new id) rule.message ∷ [];
     }
 
 -- an element, by its kind
 abbrev pub with_kind : Tag → Item → Register → Register
-with_kind Problematic = with_message
-with_kind SystemMessage = with_message
+with_kind Problematic = with_message_id
+with_kind SystemMessage = with_message_id
 with_kind SubstitutionDefinition = with_definition
 with_kind _ = with_named
 
@@ -113,7 +113,7 @@ all_registered (new ∷ more) r = all_registered more (with_element new r)
 -- the document with what its elements got
 abbrev pub written : Register → Node → Node
 written r document =
-    walked_node (heeded_next is_registered left_behind) (heeded_out is_registered with_given) (given r.standings r.numbers r.messages) document
+    walked_node (heeded_next is_registered left_after) (heeded_out is_registered with_given) (given r.standings r.numbers r.messages) document
 
 -- what registration leaves: the document, the ids that are taken, what is known of each name, and how many elements have a number
 pub record Registration : Type 0 where
@@ -137,7 +137,7 @@ registration messages document =
 -- a registry holds what is known
 pub record Holds (registry : Registry) (r : Register) : Type 0 where
   pub ids : AreTaken registry.ids r.ids
-  pub names : AreHeld registry.names r.names
+  pub names : AreRegistered registry.names r.names
   pub definitions : (name : List ℕ) → get_by_text registry.definitions name ≡ r.definitions name
   pub standings : registry.standings.items ≡ r.standings
   pub numbers : registry.known_messages.numbers.items ≡ r.numbers
@@ -152,5 +152,5 @@ Makes made before after = (r : Register) → Holds before r → Holds after (mad
 pub record IsRegistered (left : Registration) (done : Registered) : Type 0 where
   pub root : done.root ≡ left.root
   pub ids : AreTaken done.ids left.ids
-  pub names : AreHeld done.names left.names
+  pub names : AreRegistered done.names left.names
   pub serials : done.serials ≡ left.serials

@@ -17,8 +17,8 @@ use Rattle.rst_transform_names.specs.declared.registry.Standing.{Standing}
 use Rattle.rst_transform_names.specs.declared.rulings.Now.{Now}
 use Rattle.rst_transform_names.specs.declared.rulings.Now.TheVariants.{Old, New, Nobody}
 use Rattle.rst_transform_names.specs.declared.rulings.Ruling.{Ruling}
-use Rattle.rst_transform_names.specs.Gathered.{text_at}
-use Rattle.rst_transform_names.specs.Names.{moved}
+use Rattle.rst_transform_names.specs.Gathered.{text_attribute}
+use Rattle.rst_transform_names.specs.Names.{with_holder}
 use Rattle.rst_transform_names.specs.Rulings.{ruling_for}
 
 -- how elements of a kind give their names
@@ -34,18 +34,18 @@ is_same_text (Some a) (Some b) = bytes_eq a b
 
 -- where a target leads that has a URI
 abbrev pub target_uri : Item → Option (List ℕ)
-target_uri x = if is_target x.tag then text_at Refuri x.attrs else None
+target_uri x = if is_target x.tag then text_attribute Refuri x.attrs else None
 
 -- the rule for the name of a new element, by what is known of the name; two targets may have one URI
 abbrev pub rule_by : Option NameEntry → Item → Ruling
 rule_by None new = ruling_for None (strength_of new.tag) false
-rule_by (Some held) new = ruling_for (Some (held.strength, held.holder)) (strength_of new.tag) (is_same_text held.uri (target_uri new))
+rule_by (Some entry) new = ruling_for (Some (entry.strength, entry.holder)) (strength_of new.tag) (is_same_text entry.uri (target_uri new))
 
 -- what is known of the name from now on; the element has a number and an id
 abbrev pub known_by : Now → ℕ → Item → List ℕ → Option NameEntry → Option NameEntry
-known_by Old number new id held = held
-known_by Nobody number new id held = moved Lost held
-known_by New number new id held = Some (record { holder = Element number; strength = strength_of new.tag; id = id; uri = target_uri new })
+known_by Old number new id entry = entry
+known_by Nobody number new id entry = with_holder Lost entry
+known_by New number new id entry = Some (record { holder = Element number; strength = strength_of new.tag; id = id; uri = target_uri new })
 
 -- what an element got that loses its name
 abbrev pub without_name : Standing → Standing
@@ -63,8 +63,8 @@ no_rule = record { now = Old; loser = Lost; new_loses = false; message = None }
 
 -- the rule for a new element by the name it was written with; the empty name is none
 abbrev pub rule_named : List ℕ → Option NameEntry → Item → Ruling
-rule_named [] held new = no_rule
-rule_named (c ∷ cs) held new = rule_by held new
+rule_named [] entry new = no_rule
+rule_named (c ∷ cs) entry new = rule_by entry new
 
 abbrev pub standing : ℕ → Option (List ℕ) → Bool → Standing
 standing number id lost = record { serial = number; id = id; lost = lost }

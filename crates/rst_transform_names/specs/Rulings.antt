@@ -33,15 +33,15 @@ abbrev pub nobody_has_it : Holder → Option DuplicateMessage → Ruling
 nobody_has_it loser message = record { now = Nobody; loser = loser; new_loses = true; message = message }
 
 -- by who holds the name and how it was given, and how it is given now; `same`: two targets with the same URI
-unfoldable pub held_ruling : Strength → Holder → Strength → Bool → Ruling
-held_ruling Implicit Lost Explicit same = new_has_it
-held_ruling Implicit holder Explicit same = new_takes_it holder
-held_ruling Explicit Lost Explicit same = nobody_has_it Lost warning
-held_ruling Explicit holder Explicit same = if same then old_keeps_it Explicit else nobody_has_it holder warning
-held_ruling Implicit holder Implicit same = nobody_has_it holder (info Implicit)
-held_ruling Explicit Lost Implicit same = nobody_has_it Lost (info Implicit)
-held_ruling Explicit holder Implicit same = old_keeps_it Implicit
+unfoldable pub registered_ruling : Strength → Holder → Strength → Bool → Ruling
+registered_ruling Implicit Lost Explicit same = new_has_it
+registered_ruling Implicit holder Explicit same = new_takes_it holder
+registered_ruling Explicit Lost Explicit same = nobody_has_it Lost warning
+registered_ruling Explicit holder Explicit same = if same then old_keeps_it Explicit else nobody_has_it holder warning
+registered_ruling Implicit holder Implicit same = nobody_has_it holder (info Implicit)
+registered_ruling Explicit Lost Implicit same = nobody_has_it Lost (info Implicit)
+registered_ruling Explicit holder Implicit same = old_keeps_it Implicit
 
 abbrev pub ruling_for : Option (Strength × Holder) → Strength → Bool → Ruling
 ruling_for None new same = new_has_it
-ruling_for (Some (old, holder)) new same = held_ruling old holder new same
+ruling_for (Some (old, holder)) new same = registered_ruling old holder new same

@@ -35,13 +35,13 @@ element tag attrs nodes = Element tag attrs (forest_of nodes) 1
 abbrev pub paragraph : String → Node
 paragraph words = element Paragraph [] (text words ∷ [])
 
-abbrev pub document : List Node → Node
-document nodes = element Document [] nodes
+abbrev pub document_element : List Node → Node
+document_element nodes = element Document [] nodes
 
 -- a node is printed in these lines, without a source
-abbrev pub Prints : Node → List String → Type 0
-Prints node lines = print_of (with_printed_attrs None node) ≡ written lines
+abbrev pub IsPrintedIn : Node → List String → Type 0
+IsPrintedIn node lines = print_of (with_printed_attrs None node) ≡ written lines
 
 -- a document with these nodes, whose messages were given `messages` numbers, is printed in these lines once it is registered
 abbrev pub PrintsRegistered : ℕ → List Node → List String → Type 0
-PrintsRegistered messages nodes lines = Prints (registration messages (document nodes)).root lines
+PrintsRegistered messages nodes lines = IsPrintedIn (registration messages (document_element nodes)).root lines

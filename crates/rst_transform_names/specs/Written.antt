@@ -9,7 +9,7 @@ use Rattle.rst_tree.specs.Attributes.{with_attr}
 use Rattle.rst_tree.specs.Walk.{Item, item}
 use Rattle.rst_transform_names.specs.declared.message_ids.MessageIds.{MessageIds}
 use Rattle.rst_transform_names.specs.declared.registry.Standing.{Standing}
-use Rattle.rst_transform_names.specs.Gathered.{number_at, text_at}
+use Rattle.rst_transform_names.specs.Gathered.{number_at, text_attribute}
 
 -- the attributes with an element's id, if it has one
 abbrev pub with_id : Option (List ℕ) → List Attr → List Attr
@@ -24,7 +24,7 @@ with_name lost (Some (c ∷ cs)) attrs = with_attr (if lost then Dupnames else N
 
 -- with all that registration gave an element that may have a name: its number, its name and its id
 abbrev pub with_standing : Standing → List Attr → List Attr
-with_standing standing attrs = with_id standing.id (with_name standing.lost (text_at OwnName attrs) (with_attr Serial (Number standing.serial) attrs))
+with_standing standing attrs = with_id standing.id (with_name standing.lost (text_attribute OwnName attrs) (with_attr Serial (Number standing.serial) attrs))
 
 -- the ids of problematics and of messages, by their numbers
 abbrev pub problematic_id : ℕ → List ℕ
@@ -34,8 +34,8 @@ abbrev pub message_id : ℕ → List ℕ
 message_id number = codes "system-message-" ++ decimal number
 
 -- what is known of the message whose number is in an element's attributes, if there is one
-abbrev pub message_of : List MessageIds → List Attr → Option MessageIds
-message_of messages attrs = option_and_then (slice_get messages) (number_at Message attrs)
+abbrev pub message_ids_of : List MessageIds → List Attr → Option MessageIds
+message_ids_of messages attrs = option_and_then (slice_get messages) (number_at Message attrs)
 
 -- the attributes of a problematic with the id of its message, if that is in the document
 abbrev pub with_refid : Option ℕ → List Attr → List Attr
@@ -49,12 +49,12 @@ with_backrefs (id ∷ more) attrs = with_attr Backrefs (Listed (id ∷ more)) at
 
 -- the attributes of a problematic with all that registration gave it: its message, and its id
 abbrev pub with_problematic : List MessageIds → ℕ → List Attr → List Attr
-with_problematic messages number attrs = with_id (Some (problematic_id number)) (with_refid (option_and_then (λ (m : MessageIds). m.id) (message_of messages attrs)) attrs)
+with_problematic messages number attrs = with_id (Some (problematic_id number)) (with_refid (option_and_then (λ (m : MessageIds). m.id) (message_ids_of messages attrs)) attrs)
 
 -- those of a message: its problematics, and its id
 abbrev pub with_message : List MessageIds → ℕ → List Attr → List Attr
 with_message messages number attrs =
-    with_id (Some (message_id number)) (with_backrefs (unwrap_or (option_map (λ (m : MessageIds). m.problematics) (message_of messages attrs)) []) attrs)
+    with_id (Some (message_id number)) (with_backrefs (unwrap_or (option_map (λ (m : MessageIds). m.problematics) (message_ids_of messages attrs)) []) attrs)
 
 -- what registration gives the elements from one on: those that may have names their standings; messages and problematics the
 -- numbers in their ids, and what is known of each message, by the number that it and its problematics carry
@@ -67,13 +67,13 @@ abbrev pub given : List Standing → List ℕ → List MessageIds → Given
 given standings numbers messages = record { standings = standings; numbers = numbers; messages = messages }
 
 -- what the elements after one of a kind get
-abbrev pub left_of : Tag → Given → Given
-left_of Problematic g = given g.standings (drop 1 g.numbers) g.messages
-left_of SystemMessage g = given g.standings (drop 1 g.numbers) g.messages
-left_of _ g = given (drop 1 g.standings) g.numbers g.messages
+abbrev pub left_of_registration : Tag → Given → Given
+left_of_registration Problematic g = given g.standings (drop 1 g.numbers) g.messages
+left_of_registration SystemMessage g = given g.standings (drop 1 g.numbers) g.messages
+left_of_registration _ g = given (drop 1 g.standings) g.numbers g.messages
 
-abbrev pub left_behind : Given → Item → Given
-left_behind g x = left_of x.tag g
+abbrev pub left_after : Given → Item → Given
+left_after g x = left_of_registration x.tag g
 
 -- attributes changed by the first of a list, if it has one
 abbrev pub with_first : {A : Type 0} → (A → List Attr → List Attr) → List A → List Attr → List Attr

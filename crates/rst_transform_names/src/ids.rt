@@ -2,7 +2,7 @@
 ghost use Rattle.std.specs.Prelude.{◌≡◌, ◌<◌, List, ℕ, false, MatchOption, None, Some, string_bytes, nat_le, slice_index, ◌&&◌};
 ghost use Rattle.rst_tree.specs.Faults.{Gives};
 ghost use Rattle.rst_tree.specs.TagNames.{hyphenated, tag_name};
-ghost use Rattle.rst_transform_names.specs.Ids.{is_taken, last_of, wanted_id, GivesId, GivesNumber, GivesNumbered, IsLeastFree, TakesOrFails, Tries};
+ghost use Rattle.rst_transform_names.specs.Ids.{is_taken, last_number, wanted_id, GivesId, GivesNumber, GivesNumbered, IsLeastFree, TakesOrFails, Tries};
 ghost use Rattle.rst_transform_names.specs.Ids as spec;
 ghost use Rattle.rst_transform_names.specs.Written as written;
 
@@ -81,10 +81,10 @@ impl Ids {
     fn take(&mut self, id: String) -> Result<bool>
         ensures { Tries (string_bytes id) self.old self.new result }
     {
-        match number_of(id.as_str()) {
+        match id_number(id.as_str()) {
             None => Ok(self.named.insert(id)?),
             Some((base, number)) => {
-                if number <= u64::from(self.last_of(base)) {
+                if number <= u64::from(self.last_number(base)) {
                     return Ok(false);
                 }
                 Ok(self.hindering.insert(id)?)
@@ -97,14 +97,14 @@ impl Ids {
         ensures { GivesNumbered base.now self.old self.new result }
     {
         let number = self.free_number(alloc, base)?;
-        let id = numbered(alloc, base, number)?;
+        let id = id_with_number(alloc, base, number)?;
         self.use_up(alloc, base, number)?;
         Ok(id)
     }
 
     /// The number up to which the ids of a text are taken; 0 where there is none.
-    fn last_of(&self, base: &str) -> u32
-        ensures { result ≡ last_of self.now base.now }
+    fn last_number(&self, base: &str) -> u32
+        ensures { result ≡ last_number self.now base.now }
     {
         self.last.get(base).copied().unwrap_or(0)
     }
@@ -116,24 +116,24 @@ impl Ids {
     fn free_number(&self, alloc: Global, base: &str) -> Result<u64>
         ensures { Gives (λ number. IsLeastFree (is_taken self.now) base.now number) result }
     {
-        let first = u64::from(self.last_of(base)) + 1;
-        let behind_all = first + self.hindering.len() as u64;
-        for number in first..behind_all {
-            let wanted = numbered(alloc, base, number)?;
+        let first = u64::from(self.last_number(base)) + 1;
+        let after_all = first + self.hindering.len() as u64;
+        for number in first..after_all {
+            let wanted = id_with_number(alloc, base, number)?;
             if !self.hindering.contains(wanted.as_str()) {
                 return Ok(number);
             }
         }
-        Ok(behind_all)
+        Ok(after_all)
     }
 
     /// Takes the id of a text and the least number that makes it free.
     fn use_up(&mut self, alloc: Global, base: &str, number: u64) -> Result<()>
         requires { IsLeastFree (is_taken self.now) base.now number }
-        ensures { TakesOrFails (spec.numbered base.now number) self.old self.new result }
+        ensures { TakesOrFails (spec.id_with_number base.now number) self.old self.new result }
     {
         let Ok(number) = u32::try_from(number) else {
-            let id = String::from_str(alloc, numbered(alloc, base, number)?.as_str())?;
+            let id = String::from_str(alloc, id_with_number(alloc, base, number)?.as_str())?;
             self.take(id)?;
             return Ok(());
         };
@@ -147,8 +147,8 @@ impl Ids {
 }
 
 /// What comes before the last hyphen of an id, and the number after it, if there is one: from 1, without a leading 0.
-fn number_of(id: &str) -> Option<(&str, u64)>
-    ensures { MatchOption result (spec.number_of id.now ≡ None) (λ parts. spec.number_of id.now ≡ Some (parts.0.now, parts.1)) }
+fn id_number(id: &str) -> Option<(&str, u64)>
+    ensures { MatchOption result (spec.id_number id.now ≡ None) (λ parts. spec.id_number id.now ≡ Some (parts.0.now, parts.1)) }
 {
     let (base, digits) = id.rsplit_once('-')?;
     Some((base, number_in(digits)?))
@@ -187,8 +187,8 @@ fn id_text(alloc: Global, name: &str) -> Result<String>
 }
 
 /// The id of a text and a number.
-fn numbered(alloc: Global, base: &str, number: u64) -> Result<Text>
-    ensures { Gives (λ id. id ≡ spec.numbered base.now number) result }
+fn id_with_number(alloc: Global, base: &str, number: u64) -> Result<Text>
+    ensures { Gives (λ id. id ≡ spec.id_with_number base.now number) result }
 {
     let mut buffer = itoa::Buffer::new();
     Text::of_three(alloc, base, "-", buffer.format(number))
@@ -198,12 +198,12 @@ fn numbered(alloc: Global, base: &str, number: u64) -> Result<Text>
 pub fn problematic_id(alloc: Global, number: u64) -> Result<Text>
     ensures { Gives (λ id. id ≡ written.problematic_id number) result }
 {
-    numbered(alloc, "problematic", number)
+    id_with_number(alloc, "problematic", number)
 }
 
 /// The id of a message by its number.
 pub fn message_id(alloc: Global, number: u64) -> Result<Text>
     ensures { Gives (λ id. id ≡ written.message_id number) result }
 {
-    numbered(alloc, "system-message", number)
+    id_with_number(alloc, "system-message", number)
 }

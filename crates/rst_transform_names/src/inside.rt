@@ -3,7 +3,7 @@ ghost use Rattle.std.specs.Prelude.{◌≡◌, ◌+◌, ◌<◌, ◌^◌, ◌||�
 ghost use Rattle.rst_tree.specs.Faults.{Gives};
 ghost use Rattle.rst_tree.specs.Nodes.{forest_of, nodes_of};
 ghost use Rattle.rst_transform_names.specs.NameMessages as spec;
-ghost use Rattle.rst_transform_names.specs.PlacingMessages.{seen, texts_in};
+ghost use Rattle.rst_transform_names.specs.PlacingMessages.{seen, message_texts};
 
 use super::weaving::{Placed, TextMessages, put_from, weave};
 use rst_tree::{Attrs, Children, Key, Result, Tag};
@@ -53,7 +53,7 @@ pub struct Outside {
 impl Inside {
     /// Those of no node, after those of the terms or the field name before the element.
     pub fn after(alloc: Global, given: TextMessages) -> Inside
-        ensures { seen [] result ≡ spec.beginning (texts_in given) }
+        ensures { seen [] result ≡ spec.beginning (message_texts given) }
     {
         Inside {
             inline: Vec::new(alloc),
@@ -66,9 +66,9 @@ impl Inside {
 
     /// Takes those out that an element has of the terms or the field name before it.
     pub fn given(&mut self, alloc: Global, tag: Tag) -> TextMessages
-        ensures given { texts_in result ≡ (if spec.takes_in tag then texts_in self.old.waiting else spec.no_texts) }
+        ensures given { message_texts result ≡ (if spec.takes_in tag then message_texts self.old.waiting else spec.no_texts) }
         ensures taken { self.new ≡ record self.old { waiting = self.new.waiting } }
-        ensures waiting { texts_in self.new.waiting ≡ (if spec.takes_in tag then spec.no_texts else texts_in self.old.waiting) }
+        ensures waiting { message_texts self.new.waiting ≡ (if spec.takes_in tag then spec.no_texts else message_texts self.old.waiting) }
     {
         let none = TextMessages::none(alloc);
         if matches!(tag, Tag::Definition | Tag::FieldBody) {
@@ -89,7 +89,7 @@ impl Inside {
         ensures nodes { Gives (λ _. nodes.new ≡ forest_of (spec.nodes_with tag attrs.now own.items (seen (nodes_of nodes.old) self))) result }
         ensures ahead { Gives (λ outside. outside.ahead.items ≡ (if spec.is_passed_over tag then self.before.items else [])) result }
         ensures own { Gives (λ outside. outside.own.items ≡ (if spec.is_section tag then [] else own.items)) result }
-        ensures texts { Gives (λ outside. texts_in outside.texts ≡ spec.texts tag attrs.now (seen [] self)) result }
+        ensures texts { Gives (λ outside. message_texts outside.texts ≡ spec.texts tag attrs.now (seen [] self)) result }
     {
         // How many nodes belong to the element's text, by its attributes: the text's messages, which follow it; in a section those between title
         // and content.
@@ -129,8 +129,8 @@ impl Inside {
         ensures inline { Gives (λ _. self.new.inline.items ≡ self.old.inline.items ++ (if spec.is_inline attrs.now then outside.own.items else [])) result }
         ensures before { Gives (λ _. self.new.before.items ≡ self.old.before.items ++ spec.from (if spec.is_passed_over parent then 0 else place) (outside.ahead.items ++ (if spec.is_inline attrs.now then [] else outside.own.items))) result }
         ensures after { Gives (λ _. self.new.after.items ≡ self.old.after.items ++ (if spec.goes_out parent tag || spec.goes_in tag then [] else spec.from (place + 1) outside.texts.placed.items)) result }
-        ensures texts_out { Gives (λ _. texts_in self.new.texts_out ≡ (if spec.goes_out parent tag then spec.then_texts (texts_in self.old.texts_out) (texts_in outside.texts) else texts_in self.old.texts_out)) result }
-        ensures waiting { Gives (λ _. texts_in self.new.waiting ≡ (if spec.goes_in tag && not (spec.goes_out parent tag) then spec.then_texts (texts_in self.old.waiting) (texts_in outside.texts) else texts_in self.old.waiting)) result }
+        ensures texts_out { Gives (λ _. message_texts self.new.texts_out ≡ (if spec.goes_out parent tag then spec.then_texts (message_texts self.old.texts_out) (message_texts outside.texts) else message_texts self.old.texts_out)) result }
+        ensures waiting { Gives (λ _. message_texts self.new.waiting ≡ (if spec.goes_in tag && not (spec.goes_out parent tag) then spec.then_texts (message_texts self.old.waiting) (message_texts outside.texts) else message_texts self.old.waiting)) result }
     {
         let mut ahead = outside.ahead;
         let mut own = outside.own;

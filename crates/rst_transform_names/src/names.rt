@@ -1,6 +1,6 @@
 //! Names and the elements that hold them.
 ghost use Rattle.std.specs.Prelude.{◌≡◌, ℕ, List, MatchOption, Some, None};
-ghost use Rattle.rst_transform_names.specs.Names.{held_by, moved, Knows, Holds};
+ghost use Rattle.rst_transform_names.specs.Names.{entry_named, with_holder, Knows, RemembersName};
 
 use rst_tree::{Result, Text};
 use std::alloc::Global;
@@ -40,43 +40,43 @@ pub struct NameEntry {
 /// The names of a document's elements.
 #[derive(Drop)]
 pub struct Names {
-    held: BTreeMap<String, NameEntry>,
+    registered: BTreeMap<String, NameEntry>,
 }
 
 impl Names {
     /// No name.
     pub fn new(alloc: Global) -> Names
-        ensures { (name : List ℕ) → held_by result name ≡ None }
+        ensures { (name : List ℕ) → entry_named result name ≡ None }
     {
         Names {
-            held: BTreeMap::new(alloc),
+            registered: BTreeMap::new(alloc),
         }
     }
 
     /// What is known of a name, if an element was written with it.
     pub fn get(&self, name: &str) -> Option<&NameEntry>
-        ensures { MatchOption result (held_by self.now name.now ≡ None) (λ h. held_by self.now name.now ≡ Some h.now) }
+        ensures { MatchOption result (entry_named self.now name.now ≡ None) (λ h. entry_named self.now name.now ≡ Some h.now) }
     {
-        self.held.get(name)
+        self.registered.get(name)
     }
 
     /// Lets an element, or none, hold a name that is known; the id and the URI stay those of the element that brought it.
     pub fn move_to(&mut self, name: &str, holder: Holder)
-        ensures { Knows name.now (moved holder (held_by self.old name.now)) self.old self.new }
+        ensures { Knows name.now (with_holder holder (entry_named self.old name.now)) self.old self.new }
     {
-        if let Some(held) = self.held.get_mut(name) {
-            held.holder = holder;
+        if let Some(registered) = self.registered.get_mut(name) {
+            registered.holder = holder;
         }
     }
 
     /// Sets what is known of a name, in place of what was known.
     ///
     /// Fails only if memory runs out; what is known is then as before.
-    pub fn hold(&mut self, alloc: Global, name: &str, held: NameEntry) -> Result<()>
-        ensures { Holds name.now held self.old self.new result }
+    pub fn hold(&mut self, alloc: Global, name: &str, registered: NameEntry) -> Result<()>
+        ensures { RemembersName name.now registered self.old self.new result }
     {
         let name = String::from_str(alloc, name)?;
-        self.held.insert(name, held)?;
+        self.registered.insert(name, registered)?;
         Ok(())
     }
 }

@@ -5,7 +5,7 @@ ghost use Rattle.rst_tree.specs.Faults.{Gives};
 ghost use Rattle.rst_tree.specs.Nodes.{nodes_of};
 ghost use Rattle.rst_transform_names.specs.NameMessages as spec;
 ghost use Rattle.rst_transform_names.specs.NameMessages.{message_on};
-ghost use Rattle.rst_transform_names.specs.PlacingMessages.{seen, texts_in};
+ghost use Rattle.rst_transform_names.specs.PlacingMessages.{seen, message_texts};
 
 use super::inside::Inside;
 use super::weaving::{Placed, TextMessages, put_from, weave};
@@ -41,7 +41,7 @@ fn fill(
     given: TextMessages,
     messages: &[Option<Node>],
 ) -> Result<Inside>
-    ensures { Gives (λ made. seen (nodes_of nodes.new) made ≡ spec.filled (spec.own_message (message_on messages.now)) tag (spec.beginning (texts_in given)) nodes.old) result }
+    ensures { Gives (λ made. seen (nodes_of nodes.new) made ≡ spec.filled (spec.own_message (message_on messages.now)) tag (spec.beginning (message_texts given)) nodes.old) result }
 {
     let parent = tag;
     let mut made = Inside::after(alloc, given);

@@ -1,11 +1,11 @@
 //! Names and ids, given one element after the other.
 ghost use Rattle.std.specs.Prelude.{◌≡◌, length, map};
 ghost use Rattle.rst_tree.specs.Faults.{Gives};
-ghost use Rattle.rst_tree.specs.PrintedAttributes.{given};
+ghost use Rattle.rst_tree.specs.PrintedAttributes.{given_source};
 ghost use Rattle.rst_tree_index.specs.Registered.{item_of};
 ghost use Rattle.rst_transform_names.specs.DuplicateMessages.{duplicate_definition, duplicate_name};
 ghost use Rattle.rst_transform_names.specs.Gathered as spec;
-ghost use Rattle.rst_transform_names.specs.Names.{held_by, Knows};
+ghost use Rattle.rst_transform_names.specs.Names.{entry_named, Knows};
 ghost use Rattle.rst_transform_names.specs.Registering.{all_registered, nothing_known, with_definition, with_element, with_named, Holds, Makes};
 ghost use Rattle.rst_transform_names.specs.Registry.{strength_of, target_uri, known_by, losing, rule_named, definer};
 
@@ -144,7 +144,7 @@ fn definer(before: Option<u64>) -> Holder
 
 /// The rule for a new element by the name it was written with; the empty name is none.
 fn ruling_on(names: &Names, name: &str, new: Element<'_>) -> Ruling
-    ensures { result ≡ rule_named name.now (held_by names.now name.now) (item_of new.entry) }
+    ensures { result ≡ rule_named name.now (entry_named names.now name.now) (item_of new.entry) }
 {
     if name.is_empty() {
         return NO_RULING;
@@ -152,12 +152,16 @@ fn ruling_on(names: &Names, name: &str, new: Element<'_>) -> Ruling
     let strength = strength_of(new.tag);
     match names.get(name) {
         None => ruling_for(None, strength, false),
-        Some(held) => {
-            let same = match (held.uri.as_ref(), target_uri(new)) {
+        Some(registered) => {
+            let same = match (registered.uri.as_ref(), target_uri(new)) {
                 (Some(old), Some(uri)) => old.as_str() == uri.as_str(),
                 _ => false,
             };
-            ruling_for(Some((held.strength, held.holder)), strength, same)
+            ruling_for(
+                Some((registered.strength, registered.holder)),
+                strength,
+                same,
+            )
         }
     }
 }
@@ -171,7 +175,7 @@ fn follow(
     serial: u64,
     id: &Text,
 ) -> Result<()>
-    ensures { Gives (λ _. Knows (spec.own_name (item_of new.entry)) (known_by now serial (item_of new.entry) id.now (held_by names.old (spec.own_name (item_of new.entry)))) names.old names.new) result }
+    ensures { Gives (λ _. Knows (spec.own_name (item_of new.entry)) (known_by now serial (item_of new.entry) id.now (entry_named names.old (spec.own_name (item_of new.entry)))) names.old names.new) result }
 {
     match now {
         Now::Old => Ok(()),
@@ -180,13 +184,13 @@ fn follow(
             Ok(())
         }
         Now::New => {
-            let held = NameEntry {
+            let registered = NameEntry {
                 holder: Holder::Element(serial),
                 strength: strength_of(new.tag),
                 id: id.copy()?,
-                uri: copied(target_uri(new))?,
+                uri: copied_text(target_uri(new))?,
             };
-            names.hold(alloc, own_name(new), held)
+            names.hold(alloc, own_name(new), registered)
         }
     }
 }
@@ -216,7 +220,7 @@ fn strength_of(tag: Tag) -> Strength
 
 /// Where a target leads that has a URI.
 fn target_uri<'a>(element: Element<'a>) -> Option<&'a Text>
-    ensures { given result ≡ target_uri (item_of element.entry) }
+    ensures { given_source result ≡ target_uri (item_of element.entry) }
 {
     match element.tag {
         Tag::Target => element.attrs.text(Key::Refuri),
@@ -225,8 +229,8 @@ fn target_uri<'a>(element: Element<'a>) -> Option<&'a Text>
 }
 
 /// A copy of a text, if there is one.
-pub fn copied(text: Option<&Text>) -> Result<Option<Text>>
-    ensures { Gives (λ copy. copy ≡ given text.entry) result }
+pub fn copied_text(text: Option<&Text>) -> Result<Option<Text>>
+    ensures { Gives (λ copy. copy ≡ given_source text.entry) result }
 {
     match text {
         Some(text) => Ok(Some(text.copy()?)),

@@ -13,25 +13,25 @@ ghost use Rattle.rst_transform_names.specs.declared.names.Holder.TheVariants.{No
 ghost use Rattle.rst_transform_names.specs.declared.names.Strength.TheVariants.{Implicit, Explicit};
 ghost use Rattle.rst_transform_names.specs.declared.rulings.Now.TheVariants.{Old, New, Nobody as NobodyNow};
 ghost use Rattle.rst_transform_names.specs.DuplicateMessages.{duplicate_definition, duplicate_name};
-ghost use Rattle.rst_transform_names.specs.Ids.{number_in, number_of, numbered, wanted_id};
+ghost use Rattle.rst_transform_names.specs.Ids.{number_in, id_number, id_with_number, wanted_id};
 ghost use Rattle.rst_transform_names.specs.NameMessages.{message_on, with_name_messages};
 ghost use Rattle.rst_transform_names.specs.Registering.{registration};
 ghost use Rattle.rst_transform_names.specs.Registry.{rule_by, standing};
 ghost use Rattle.rst_transform_names.specs.Rulings.{ruling_for};
-ghost use Rattle.rst_transform_names.specs.Trees.{counts, document, element, paragraph, says, text, Prints, PrintsRegistered};
-ghost use Rattle.rst_transform_names.specs.Written.{given, left_behind, with_given};
+ghost use Rattle.rst_transform_names.specs.Trees.{counts, document_element, element, paragraph, says, text, IsPrintedIn, PrintsRegistered};
+ghost use Rattle.rst_transform_names.specs.Written.{given, left_after, with_given};
 
 /// What a name gives as an id, and the numbers at the end of ids (Directives, 'Identifier Normalization').
 pub fn ids()
     ensures of_a_name { wanted_id (codes "1. To be") ≡ codes "to-be" }
     ensures of_no_name { wanted_id [] ≡ [] }
-    ensures with_a_number { numbered (codes "a") 12 ≡ codes "a-12" }
-    ensures behind_the_last_hyphen { number_of (codes "a-1-2") ≡ Some (codes "a-1", 2) }
-    ensures no_number { number_of (codes "a-b") ≡ None }
-    ensures without_a_hyphen { number_of (codes "a1") ≡ None }
-    ensures nothing_in_front { number_of (codes "-1") ≡ Some ([], 1) }
+    ensures with_a_number { id_with_number (codes "a") 12 ≡ codes "a-12" }
+    ensures after_the_last_hyphen { id_number (codes "a-1-2") ≡ Some (codes "a-1", 2) }
+    ensures no_number { id_number (codes "a-b") ≡ None }
+    ensures without_a_hyphen { id_number (codes "a1") ≡ None }
+    ensures nothing_before { id_number (codes "-1") ≡ Some ([], 1) }
     ensures from_one { number_in (codes "0") ≡ None }
-    ensures without_a_zero_in_front { number_in (codes "01") ≡ None }
+    ensures no_leading_zero { number_in (codes "01") ≡ None }
     ensures zero_at_the_end { number_in (codes "10") ≡ Some 10 }
     ensures no_digits { number_in [] ≡ None }
     ensures largest { number_in (codes "18446744073709551615") ≡ Some 18446744073709551615 }
@@ -119,84 +119,84 @@ pub fn names_of_elements()
 
 /// The texts of messages on equal names, and where they refer to (Markup Specification, 'Implicit Hyperlink Targets').
 pub fn messages()
-    ensures on_a_target { Prints (duplicate_name (record { level = Warning; strength = Explicit }) (item Target (says OwnName "a b"
+    ensures on_a_target { IsPrintedIn (duplicate_name (record { level = Warning; strength = Explicit }) (item Target (says OwnName "a b"
         ∷ []) 3) (codes "a-b-1"))
         ("<system_message backrefs=\"a-b-1\" level=\"2\" line=\"3\" type=\"WARNING\">" ∷ "    <paragraph>"
         ∷ "        Duplicate explicit target name: \"a b\"." ∷ []) }
-    ensures on_a_section { Prints (duplicate_name (record { level = Info; strength = Implicit }) (item Section (says OwnName "a"
+    ensures on_a_section { IsPrintedIn (duplicate_name (record { level = Info; strength = Implicit }) (item Section (says OwnName "a"
         ∷ []) 2) (codes "a-1"))
         ("<system_message backrefs=\"a-1\" level=\"1\" line=\"2\" type=\"INFO\">" ∷ "    <paragraph>"
         ∷ "        Duplicate implicit target name: \"a\"." ∷ []) }
-    ensures on_a_definition { Prints (duplicate_definition (item SubstitutionDefinition (says OwnName "a" ∷ []) 4))
+    ensures on_a_definition { IsPrintedIn (duplicate_definition (item SubstitutionDefinition (says OwnName "a" ∷ []) 4))
         ("<system_message level=\"3\" line=\"4\" type=\"ERROR\">" ∷ "    <paragraph>" ∷ "        Duplicate substitution definition name: \"a\"."
         ∷ []) }
 {}
 
 /// Where the message on an element's name comes (Markup Specification, 'Implicit Hyperlink Targets').
 pub fn places()
-    ensures in_a_section { Prints (with_name_messages (message_on (Some (text "here") ∷ [])) (document (element Section (counts Serial 0 ∷ []) (element Title [] []
+    ensures in_a_section { IsPrintedIn (with_name_messages (message_on (Some (text "here") ∷ [])) (document_element (element Section (counts Serial 0 ∷ []) (element Title [] []
         ∷ paragraph "b" ∷ []) ∷ [])))
         ("<document>" ∷ "    <section>" ∷ "        <title>" ∷ "        here" ∷ "        <paragraph>" ∷ "            b" ∷ []) }
-    ensures after_messages_of_a_title { Prints (with_name_messages (message_on (Some (text "here") ∷ [])) (document (element Section (counts Serial 0
+    ensures after_messages_of_a_title { IsPrintedIn (with_name_messages (message_on (Some (text "here") ∷ [])) (document_element (element Section (counts Serial 0
         ∷ counts TextMessages 1 ∷ []) (element Title [] [] ∷ element SystemMessage [] [] ∷ paragraph "b" ∷ []) ∷ [])))
         ("<document>" ∷ "    <section>" ∷ "        <title>" ∷ "        <system_message line=\"1\">" ∷ "        here" ∷ "        <paragraph>"
         ∷ "            b" ∷ []) }
-    ensures before_a_target { Prints (with_name_messages (message_on (Some (text "here") ∷ [])) (document (paragraph "a" ∷ element Target (counts Serial 0 ∷ []) []
+    ensures before_a_target { IsPrintedIn (with_name_messages (message_on (Some (text "here") ∷ [])) (document_element (paragraph "a" ∷ element Target (counts Serial 0 ∷ []) []
         ∷ [])))
         ("<document>" ∷ "    <paragraph>" ∷ "        a" ∷ "    here" ∷ "    <target>" ∷ []) }
-    ensures of_another_element { Prints (with_name_messages (message_on (None ∷ Some (text "here") ∷ [])) (document (element Target (counts Serial 0 ∷ []) [] ∷ [])))
+    ensures of_another_element { IsPrintedIn (with_name_messages (message_on (None ∷ Some (text "here") ∷ [])) (document_element (element Target (counts Serial 0 ∷ []) [] ∷ [])))
         ("<document>" ∷ "    <target>" ∷ []) }
-    ensures in_a_text { Prints (with_name_messages (message_on (Some (text "here") ∷ [])) (document (element Paragraph (counts TextMessages 1
+    ensures in_a_text { IsPrintedIn (with_name_messages (message_on (Some (text "here") ∷ [])) (document_element (element Paragraph (counts TextMessages 1
         ∷ []) (element Target (counts Inline 1 ∷ counts Serial 0 ∷ []) [] ∷ []) ∷ element SystemMessage [] [] ∷ paragraph "b" ∷ [])))
         ("<document>" ∷ "    <paragraph>" ∷ "        <target>" ∷ "    <system_message line=\"1\">" ∷ "    here" ∷ "    <paragraph>" ∷ "        b"
         ∷ []) }
-    ensures texts_before_elements { Prints (with_name_messages (message_on (Some (text "first") ∷ Some (text "second") ∷ [])) (document (element Paragraph [] (element Target (counts Inline 1 ∷ counts Serial 0 ∷ []) [] ∷ []) ∷ element Target (counts Serial 1
+    ensures texts_before_elements { IsPrintedIn (with_name_messages (message_on (Some (text "first") ∷ Some (text "second") ∷ [])) (document_element (element Paragraph [] (element Target (counts Inline 1 ∷ counts Serial 0 ∷ []) [] ∷ []) ∷ element Target (counts Serial 1
         ∷ []) [] ∷ [])))
         ("<document>" ∷ "    <paragraph>" ∷ "        <target>" ∷ "    first" ∷ "    second" ∷ "    <target>" ∷ []) }
-    ensures of_a_term { Prints (with_name_messages (message_on (Some (text "here") ∷ [])) (element DefinitionListItem [] (element Term [] (element Target (counts Inline 1 ∷ counts Serial 0 ∷ []) [] ∷ [])
+    ensures of_a_term { IsPrintedIn (with_name_messages (message_on (Some (text "here") ∷ [])) (element DefinitionListItem [] (element Term [] (element Target (counts Inline 1 ∷ counts Serial 0 ∷ []) [] ∷ [])
         ∷ element Definition [] (paragraph "d" ∷ []) ∷ [])))
         ("<definition_list_item>" ∷ "    <term>" ∷ "        <target>" ∷ "    <definition>" ∷ "        here" ∷ "        <paragraph>"
         ∷ "            d" ∷ []) }
-    ensures of_a_classifier { Prints (with_name_messages (message_on (Some (text "here") ∷ [])) (element DefinitionListItem [] (element Term (counts TextMessages 1
+    ensures of_a_classifier { IsPrintedIn (with_name_messages (message_on (Some (text "here") ∷ [])) (element DefinitionListItem [] (element Term (counts TextMessages 1
         ∷ []) [] ∷ element Classifier [] (element Target (counts Inline 1 ∷ counts Serial 0 ∷ []) [] ∷ [])
         ∷ element Definition [] (element SystemMessage [] [] ∷ paragraph "d" ∷ []) ∷ [])))
         ("<definition_list_item>" ∷ "    <term>" ∷ "    <classifier>" ∷ "        <target>" ∷ "    <definition>"
         ∷ "        <system_message line=\"1\">" ∷ "        here" ∷ "        <paragraph>" ∷ "            d" ∷ []) }
-    ensures of_a_field_name { Prints (with_name_messages (message_on (Some (text "here") ∷ [])) (element Field [] (element FieldName [] (element Target (counts Inline 1 ∷ counts Serial 0 ∷ []) [] ∷ []) ∷ element FieldBody [] []
+    ensures of_a_field_name { IsPrintedIn (with_name_messages (message_on (Some (text "here") ∷ [])) (element Field [] (element FieldName [] (element Target (counts Inline 1 ∷ counts Serial 0 ∷ []) [] ∷ []) ∷ element FieldBody [] []
         ∷ [])))
         ("<field>" ∷ "    <field_name>" ∷ "        <target>" ∷ "    <field_body>" ∷ "        here" ∷ []) }
-    ensures of_a_nested_line { Prints (with_name_messages (message_on (Some (text "here") ∷ [])) (document (element LineBlock [] (element LineBlock [] (element Line [] (element Target (counts Inline 1 ∷ counts Serial 0 ∷ []) []
+    ensures of_a_nested_line { IsPrintedIn (with_name_messages (message_on (Some (text "here") ∷ [])) (document_element (element LineBlock [] (element LineBlock [] (element Line [] (element Target (counts Inline 1 ∷ counts Serial 0 ∷ []) []
         ∷ []) ∷ []) ∷ []) ∷ paragraph "b" ∷ [])))
         ("<document>" ∷ "    <line_block>" ∷ "        <line_block>" ∷ "            <line>" ∷ "                <target>" ∷ "    here"
         ∷ "    <paragraph>" ∷ "        b" ∷ []) }
-    ensures of_an_attribution { Prints (with_name_messages (message_on (Some (text "here") ∷ [])) (document (element BlockQuote [] (element Attribution [] (element Target (counts Inline 1 ∷ counts Serial 0 ∷ []) [] ∷ []) ∷ [])
+    ensures of_an_attribution { IsPrintedIn (with_name_messages (message_on (Some (text "here") ∷ [])) (document_element (element BlockQuote [] (element Attribution [] (element Target (counts Inline 1 ∷ counts Serial 0 ∷ []) [] ∷ []) ∷ [])
         ∷ [])))
         ("<document>" ∷ "    <block_quote>" ∷ "        <attribution>" ∷ "            <target>" ∷ "    here" ∷ []) }
-    ensures of_a_caption { Prints (with_name_messages (message_on (Some (text "here") ∷ [])) (document (element Figure [] (element Caption [] (element Target (counts Inline 1 ∷ counts Serial 0 ∷ []) [] ∷ []) ∷ []) ∷ [])))
+    ensures of_a_caption { IsPrintedIn (with_name_messages (message_on (Some (text "here") ∷ [])) (document_element (element Figure [] (element Caption [] (element Target (counts Inline 1 ∷ counts Serial 0 ∷ []) [] ∷ []) ∷ []) ∷ [])))
         ("<document>" ∷ "    <figure>" ∷ "        <caption>" ∷ "            <target>" ∷ "    here" ∷ []) }
-    ensures of_an_image_in_a_reference { Prints (with_name_messages (message_on (Some (text "here") ∷ [])) (document (element Reference [] (element Image (counts Serial 0 ∷ []) [] ∷ []) ∷ [])))
+    ensures of_an_image_in_a_reference { IsPrintedIn (with_name_messages (message_on (Some (text "here") ∷ [])) (document_element (element Reference [] (element Image (counts Serial 0 ∷ []) [] ∷ []) ∷ [])))
         ("<document>" ∷ "    here" ∷ "    <reference>" ∷ "        <image>" ∷ []) }
-    ensures of_an_image_in_a_definition { Prints (with_name_messages (message_on (Some (text "here") ∷ [])) (document (element SubstitutionDefinition [] (element Reference [] (element Image (counts Serial 0 ∷ []) [] ∷ []) ∷ []) ∷ [])))
+    ensures of_an_image_in_a_definition { IsPrintedIn (with_name_messages (message_on (Some (text "here") ∷ [])) (document_element (element SubstitutionDefinition [] (element Reference [] (element Image (counts Serial 0 ∷ []) [] ∷ []) ∷ []) ∷ [])))
         ("<document>" ∷ "    here" ∷ "    <substitution_definition>" ∷ "        <reference>" ∷ "            <image>" ∷ []) }
-    ensures of_an_image_in_a_figure { Prints (with_name_messages (message_on (Some (text "here") ∷ [])) (document (element Figure [] (element Image (counts Serial 0 ∷ []) [] ∷ []) ∷ [])))
+    ensures of_an_image_in_a_figure { IsPrintedIn (with_name_messages (message_on (Some (text "here") ∷ [])) (document_element (element Figure [] (element Image (counts Serial 0 ∷ []) [] ∷ []) ∷ [])))
         ("<document>" ∷ "    <figure>" ∷ "        here" ∷ "        <image>" ∷ []) }
 {}
 
 /// What registration writes at the elements: ids, names and lost names, and what problematics and their messages have of one another (Document
 /// Tree, 'Attribute Reference').
 pub fn written()
-    ensures names { Prints (walked_node (heeded_next is_registered left_behind) (heeded_out is_registered with_given) (given (standing 0 (Some
+    ensures names { IsPrintedIn (walked_node (heeded_next is_registered left_after) (heeded_out is_registered with_given) (given (standing 0 (Some
         (codes "a")) true ∷ standing 1 (Some (codes "a-1")) false ∷ standing 2 (Some (codes "target-1")) false
-        ∷ []) [] []) (document (element Section (says OwnName "a" ∷ []) (paragraph "b" ∷ element Target (says OwnName "a" ∷ []) [] ∷ [])
+        ∷ []) [] []) (document_element (element Section (says OwnName "a" ∷ []) (paragraph "b" ∷ element Target (says OwnName "a" ∷ []) [] ∷ [])
         ∷ element Target [] [] ∷ [])))
         ("<document>" ∷ "    <section dupnames=\"a\" ids=\"a\">" ∷ "        <paragraph>" ∷ "            b"
         ∷ "        <target ids=\"a-1\" names=\"a\">" ∷ "    <target ids=\"target-1\">" ∷ []) }
-    ensures definition { Prints (walked_node (heeded_next is_registered left_behind) (heeded_out is_registered with_given) (given
-        (standing 0 None false ∷ []) [] []) (document (element SubstitutionDefinition (says OwnName "A" ∷ []) [] ∷ [])))
+    ensures definition { IsPrintedIn (walked_node (heeded_next is_registered left_after) (heeded_out is_registered with_given) (given
+        (standing 0 None false ∷ []) [] []) (document_element (element SubstitutionDefinition (says OwnName "A" ∷ []) [] ∷ [])))
         ("<document>" ∷ "    <substitution_definition names=\"A\">" ∷ []) }
-    ensures problematics { Prints (walked_node (heeded_next is_registered left_behind) (heeded_out is_registered with_given) (given [] (1 ∷ 2 ∷ 1
+    ensures problematics { IsPrintedIn (walked_node (heeded_next is_registered left_after) (heeded_out is_registered with_given) (given [] (1 ∷ 2 ∷ 1
         ∷ []) (record { id = Some 1; problematics = codes "problematic-1" ∷ codes "problematic-2" ∷ [] }
-        ∷ [])) (document (element Problematic (counts Message 0 ∷ []) [] ∷ element Problematic (counts Message 0 ∷ []) []
+        ∷ [])) (document_element (element Problematic (counts Message 0 ∷ []) [] ∷ element Problematic (counts Message 0 ∷ []) []
         ∷ element SystemMessage (counts Message 0 ∷ []) [] ∷ [])))
         ("<document>" ∷ "    <problematic ids=\"problematic-1\" refid=\"system-message-1\">"
         ∷ "    <problematic ids=\"problematic-2\" refid=\"system-message-1\">"
@@ -243,9 +243,9 @@ pub fn registered()
         ∷ "    <system_message backrefs=\"problematic-1 problematic-2\" ids=\"system-message-2\" line=\"1\">" ∷ []) }
     ensures problematic_without_its_message { PrintsRegistered 1 (element Problematic (counts Message 0 ∷ []) [] ∷ [])
         ("<document>" ∷ "    <problematic ids=\"problematic-1\">" ∷ []) }
-    ensures holder { (registration 0 (document (element Target [] [] ∷ element Footnote (says OwnName "a" ∷ []) [] ∷ []))).names (codes "a")
+    ensures holder { (registration 0 (document_element (element Target [] [] ∷ element Footnote (says OwnName "a" ∷ []) [] ∷ []))).names (codes "a")
         ≡ Some (record { holder = By 1; strength = Explicit; id = codes "a"; uri = None }) }
-    ensures holder_that_lost { (registration 0 (document (element Section (says OwnName "a" ∷ []) [] ∷ element Section (says OwnName "a" ∷ []) []
+    ensures holder_that_lost { (registration 0 (document_element (element Section (says OwnName "a" ∷ []) [] ∷ element Section (says OwnName "a" ∷ []) []
         ∷ []))).names (codes "a")
         ≡ Some (record { holder = Nobody; strength = Implicit; id = codes "a"; uri = None }) }
 {}
@@ -264,7 +264,7 @@ pub fn registered_ids()
         ∷ element Target (says OwnName "a+" ∷ []) [] ∷ element Target (says OwnName "a-" ∷ []) [] ∷ [])
         ("<document>" ∷ "    <target ids=\"a-1\" names=\"a\\ 1\">" ∷ "    <target ids=\"a\" names=\"a\">" ∷ "    <target ids=\"a-2\" names=\"a+\">"
         ∷ "    <target ids=\"a-3\" names=\"a-\">" ∷ []) }
-    ensures taken_ids { (registration 0 (document (element Target [] [] ∷ element Problematic [] [] ∷ []))).ids
+    ensures taken_ids { (registration 0 (document_element (element Target [] [] ∷ element Problematic [] [] ∷ []))).ids
         ≡ codes "problematic-1" ∷ codes "target-1" ∷ [] }
-    ensures elements_with_numbers { (registration 0 (document (element Target [] [] ∷ element Problematic [] [] ∷ paragraph "b" ∷ []))).serials ≡ 1 }
+    ensures elements_with_numbers { (registration 0 (document_element (element Target [] [] ∷ element Problematic [] [] ∷ paragraph "b" ∷ []))).serials ≡ 1 }
 {}

@@ -89,7 +89,7 @@ fn nobody_has_it(loser: Holder, message: Option<DuplicateMessage>) -> Ruling
 }
 
 /// The rule for a name, by how the element before had it and how the new one gives it.
-#[tactic(auto, unfolding(crate::specs::Rulings::held_ruling))]
+#[tactic(auto, unfolding(crate::specs::Rulings::registered_ruling))]
 pub fn ruling_for(old: Option<(Strength, Holder)>, new: Strength, same_uri: bool) -> Ruling
     ensures { result ≡ spec.ruling_for old new same_uri }
 {

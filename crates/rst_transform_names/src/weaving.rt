@@ -3,7 +3,7 @@ ghost use Rattle.std.specs.Prelude.{◌≡◌, ◌+◌, ◌++◌, [], replicate}
 ghost use Rattle.rst_tree.specs.Faults.{Gives};
 ghost use Rattle.rst_tree.specs.Nodes.{forest_of, nodes_of};
 ghost use Rattle.rst_transform_names.specs.NameMessages as spec;
-ghost use Rattle.rst_transform_names.specs.PlacingMessages.{gap_nodes, texts_in};
+ghost use Rattle.rst_transform_names.specs.PlacingMessages.{gap_nodes, message_texts};
 
 use rst_tree::{Children, Node, Result};
 use std::alloc::Global;
@@ -34,7 +34,7 @@ pub struct TextMessages {
 impl TextMessages {
     /// Those of no text.
     pub fn none(alloc: Global) -> TextMessages
-        ensures { texts_in result ≡ spec.no_texts }
+        ensures { message_texts result ≡ spec.no_texts }
     {
         TextMessages {
             own: 0,
@@ -44,7 +44,7 @@ impl TextMessages {
 
     /// Appends those of other texts.
     pub fn append(&mut self, more: TextMessages) -> Result<()>
-        ensures { Gives (λ _. texts_in self.new ≡ spec.then_texts (texts_in self.old) (texts_in more)) result }
+        ensures { Gives (λ _. message_texts self.new ≡ spec.then_texts (message_texts self.old) (message_texts more)) result }
     {
         put_from(&mut self.placed, self.own, more.placed)?;
         self.own = self.own.saturating_add(more.own);

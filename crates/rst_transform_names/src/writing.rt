@@ -1,11 +1,11 @@
 //! The attributes that registration gives, written at the elements.
 ghost use Rattle.std.specs.Prelude.{◌≡◌, MatchOption, None, Some};
 ghost use Rattle.rst_tree.specs.Faults.{Gives};
-ghost use Rattle.rst_transform_names.specs.Written.{given, with_id, with_name, with_standing, message_of, with_problematic, with_refid, with_message, with_backrefs, left_behind, with_given};
+ghost use Rattle.rst_transform_names.specs.Written.{given, with_id, with_name, with_standing, message_ids_of, with_problematic, with_refid, with_message, with_backrefs, left_after, with_given};
 
 use super::ids::{message_id, problematic_id};
 use super::message_ids::{KnownMessages, MessageIds};
-use super::registry::{Standing, copied};
+use super::registry::{Standing, copied_text};
 use rst_tree::{Attrs, Key, Result, Tag, Text, Texts, Value, Visitor};
 use std::alloc::Global;
 use std::collections::VecDeque;
@@ -38,7 +38,7 @@ fn write_name(alloc: Global, attrs: &mut Attrs, lost: bool, name: Option<Text>) 
 fn write(alloc: Global, attrs: &mut Attrs, standing: Standing) -> Result<()>
     ensures { Gives (λ _. attrs.new ≡ with_standing standing attrs.old) result }
 {
-    let name = copied(attrs.text(Key::OwnName))?;
+    let name = copied_text(attrs.text(Key::OwnName))?;
     attrs.reserve(if name.is_some() { 3 } else { 2 })?;
     let Standing { serial, id, lost } = standing;
     attrs.set(Key::Serial, Value::Number(serial))?;
@@ -47,8 +47,8 @@ fn write(alloc: Global, attrs: &mut Attrs, standing: Standing) -> Result<()>
 }
 
 /// What is known of the message whose number is in an element's attributes, if there is one.
-fn message_of<'a>(messages: &'a [MessageIds], attrs: &Attrs) -> Option<&'a MessageIds>
-    ensures { MatchOption result (message_of messages.now attrs.now ≡ None) (λ l. message_of messages.now attrs.now ≡ Some l.now) }
+fn message_ids_of<'a>(messages: &'a [MessageIds], attrs: &Attrs) -> Option<&'a MessageIds>
+    ensures { MatchOption result (message_ids_of messages.now attrs.now ≡ None) (λ l. message_ids_of messages.now attrs.now ≡ Some l.now) }
 {
     match attrs.number(Key::Message) {
         Some(number) => messages.get(number as usize),
@@ -115,7 +115,7 @@ impl Writing {
         ensures { Gives (λ _. attrs.new ≡ with_problematic self.now.messages number attrs.old) result }
     {
         attrs.reserve(2)?;
-        if let Some(message) = message_of(&self.messages, attrs) {
+        if let Some(message) = message_ids_of(&self.messages, attrs) {
             write_refid(self.alloc, attrs, message.id)?;
         }
         write_id(self.alloc, attrs, Some(problematic_id(self.alloc, number)?))
@@ -126,7 +126,7 @@ impl Writing {
         ensures { Gives (λ _. attrs.new ≡ with_message self.now.messages number attrs.old) result }
     {
         attrs.reserve(2)?;
-        if let Some(message) = message_of(&self.messages, attrs) {
+        if let Some(message) = message_ids_of(&self.messages, attrs) {
             write_backrefs(self.alloc, attrs, &message.problematics)?;
         }
         write_id(self.alloc, attrs, Some(message_id(self.alloc, number)?))
@@ -134,7 +134,7 @@ impl Writing {
 }
 
 impl Visitor for Writing {
-    ghost next = { left_behind };
+    ghost next = { left_after };
 
     ghost out = { with_given };
 

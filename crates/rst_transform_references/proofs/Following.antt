@@ -11,7 +11,7 @@ use Rattle.rst_transform_references.specs.declared.chains.Answer.{Answer}
 use Rattle.rst_transform_references.specs.declared.chains.Answer.TheVariants.{Circular}
 use Rattle.rst_transform_references.specs.declared.chains.Step.{Step}
 use Rattle.rst_transform_references.specs.declared.chains.Step.TheVariants.{To, Ends}
-use Rattle.rst_transform_references.specs.Chains.{answer_of, answers_of, at_once, comes_to, filled, next_of, next_on, step_at, IsKnown, KnownBelow}
+use Rattle.rst_transform_references.specs.Chains.{answer_of, answers_of, first_step_answer, comes_to, filled_answers, next_of, next_on, step_at, IsKnown, KnownBelow}
 use Rattle.rst_transform_work.specs.Lists.{at_place}
 
 -- ---- lists of answers
@@ -69,12 +69,12 @@ among_split (one ∷ more) place last (inl is) = inl (inl is)
 among_split (one ∷ more) place last (inr on) = elim (among_split more place last on) [ inl there ↦ inl (inr there) | inr is ↦ inr is ]
 
 -- some places get an answer, and the others stay as they are
-filled_all : (found : Answer) (chain : List ℕ) (answers : List (Option Answer)) → length (filled found chain answers) ≡ length answers
+filled_all : (found : Answer) (chain : List ℕ) (answers : List (Option Answer)) → length (filled_answers found chain answers) ≡ length answers
 filled_all found [] answers = refl
 filled_all found (one ∷ more) answers = filled_all found more (slice_set answers one (Some found)) ∙ length-set answers one (Some found)
 
 filled_at : (found : Answer) (chain : List ℕ) (answers : List (Option Answer)) (place : ℕ) → ((p : ℕ) → among p chain → p < length answers)
-    → (among place chain × (at_place (filled found chain answers) place ≡ Some found)) ⊎ ((among place chain → ⊥) × (at_place (filled found chain answers) place ≡ at_place answers place))
+    → (among place chain × (at_place (filled_answers found chain answers) place ≡ Some found)) ⊎ ((among place chain → ⊥) × (at_place (filled_answers found chain answers) place ≡ at_place answers place))
 filled_at found [] answers place within = inr (λ on. on, refl)
 filled_at found (one ∷ more) answers place within =
     elim (filled_at found more (slice_set answers one (Some found)) place (λ p on. subst (λ n. p < n) (sym (length-set answers one (Some found))) (within p (inr on)))) [
@@ -194,7 +194,7 @@ module _ (steps : List (Option Step)) where
   -- a chain from a start so far, to a place: those in it count as circular
   pub record Following (start : ℕ) (answers : List (Option Answer)) (chain : List ℕ) (place : ℕ) : Type 0 where
     pub all : length answers ≡ length steps
-    pub each : (p : ℕ) → (among p chain × (at_place answers p ≡ Some Circular)) ⊎ (IsKnown steps answers p ⊎ (at_place answers p ≡ at_once (at_place steps p)))
+    pub each : (p : ℕ) → (among p chain × (at_place answers p ≡ Some Circular)) ⊎ (IsKnown steps answers p ⊎ (at_place answers p ≡ first_step_answer (at_place steps p)))
     pub below : (p : ℕ) → p < start → IsKnown steps answers p
     pub goes : (p : ℕ) → among p chain → GoesOn chain place p
     pub begun : among start chain ⊎ (start ≡ place)
@@ -254,7 +254,7 @@ module _ (steps : List (Option Step)) where
     module _ (found : Answer) (stops : next_on steps answers place ≡ None) (is : found ≡ unwrap_or (at_place answers place) Circular) where
       -- what is known where a chain stops
       stopped : (answer : Option Answer) (step : Option Step) → at_place steps place ≡ step → (if is_some answer then None else next_of step) ≡ None
-          → (answer ≡ answer_of steps step) ⊎ (answer ≡ at_once step) → (unwrap_or answer Circular ≡ end place) × (answer ≡ answer_of steps step)
+          → (answer ≡ answer_of steps step) ⊎ (answer ≡ first_step_answer step) → (unwrap_or answer Circular ≡ end place) × (answer ≡ answer_of steps step)
       stopped answer None at h (inl known) = (ap (λ a. unwrap_or a Circular) known ∙ sym (at_none place at), known)
       stopped answer None at h (inr once) = (ap (λ a. unwrap_or a Circular) once ∙ sym (at_none place at), once)
       stopped answer (Some step) at h (inl known) =
@@ -272,19 +272,19 @@ module _ (steps : List (Option Step)) where
       ]
 
       -- all in the chain are set
-      after : (p : ℕ) → IsKnown steps (filled found chain answers) p ⊎ ((among p chain → ⊥) × (at_place (filled found chain answers) p ≡ at_place answers p))
+      after : (p : ℕ) → IsKnown steps (filled_answers found chain answers) p ⊎ ((among p chain → ⊥) × (at_place (filled_answers found chain answers) p ≡ at_place answers p))
       after p = elim (filled_at found chain answers p (λ q on. let go : GoesOn chain place q = f.goes q on in subst (λ n. q < n) (sym f.all) (has_within steps q (To go.0) go.1))) [
         | inl set ↦ let go : GoesOn chain place p = f.goes p set.0 in inl (set.1 ∙ ap Some (right.0 ∙ sym go.3) ∙ sym (at_step p (To go.0) go.1))
         | inr off ↦ inr off
       ]
 
-      known_after : (p : ℕ) → among p chain ⊎ IsKnown steps answers p → IsKnown steps (filled found chain answers) p
+      known_after : (p : ℕ) → among p chain ⊎ IsKnown steps answers p → IsKnown steps (filled_answers found chain answers) p
       known_after p known = elim (after p) [
         | inl set ↦ set
         | inr off ↦ elim known [ inl on ↦ absurd (off.0 on) | inr was ↦ off.1 ∙ was ]
       ]
 
-      pub Following-end : KnownBelow steps (start + 1) (filled found chain answers)
+      pub Following-end : KnownBelow steps (start + 1) (filled_answers found chain answers)
       Following-end = record {
         all = filled_all found chain answers ∙ f.all;
         each = λ p. elim (f.each p) [
@@ -303,8 +303,8 @@ module _ (steps : List (Option Step)) where
 
   -- ---- all chains
 
-  pub Known-init : KnownBelow steps 0 (map at_once steps)
-  Known-init = record { all = length-map steps at_once; each = λ p. inr (mapped_at at_once steps p refl); below = λ p low. absurd (omega (arith, low)) }
+  pub Known-init : KnownBelow steps 0 (map first_step_answer steps)
+  Known-init = record { all = length-map steps first_step_answer; each = λ p. inr (mapped_at first_step_answer steps p refl); below = λ p low. absurd (omega (arith, low)) }
 
   pub Known-end : (answers : List (Option Answer)) → KnownBelow steps (length steps) answers → answers ≡ answers_of steps
   Known-end answers k =

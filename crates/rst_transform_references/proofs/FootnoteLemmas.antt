@@ -4,13 +4,13 @@ use Rattle.std.specs.Prelude.{Option, Some, None, unwrap_or, false, []}
 use Rattle.std.specs.List.{enumerate_from, list_all}
 use Rattle.std.specs.Option.{option_or}
 use Rattle.rst_transform_names.specs.declared.names.Names.{Names}
-use Rattle.rst_transform_names.specs.Names.{held_by}
+use Rattle.rst_transform_names.specs.Names.{entry_named}
 use Rattle.rst_tree.specs.declared.note.Level.TheVariants.{Error}
 use Rattle.rst_transform_references.specs.declared.links.Outcome.{Outcome}
 use Rattle.rst_transform_references.specs.declared.footnote_orders.Order.{Order}
 use Rattle.rst_transform_references.specs.declared.footnote_orders.Order.TheVariants.{Numbers, Symbols}
 use Rattle.rst_transform_references.specs.FootnoteOrders.{found_by_order, in_order}
-use Rattle.rst_transform_references.specs.Linkings.{Held}
+use Rattle.rst_transform_references.specs.Linkings.{LinkedElement}
 use Rattle.rst_transform_work.specs.declared.context.Context.{Context}
 use Rattle.rst_transform_work.specs.Known.{Holds, Known, Makes}
 use Rattle.rst_transform_work.specs.Reports.{report_in, IsReported, KeepsRest}
@@ -28,12 +28,12 @@ left_over_of (Some first) order line footnotes counted place text before after i
     (ap Some (at ∙ ap length h.reports), holds_reported Error first (too_many order footnotes) true before after known h rest (rw (says, count, same) at reports))
 
 -- no element is a footnote or a reference to one
-pub none_decided : (linked : List Held) (context : Context) (outcomes : List Outcome) → list_all is_no_footnote linked ≡ true → outcomes ≡ [] → Makes (footnote_outcomes linked) context context outcomes
+pub none_decided : (linked : List LinkedElement) (context : Context) (outcomes : List Outcome) → list_all is_no_footnote linked ≡ true → outcomes ≡ [] → Makes (footnote_outcomes linked) context context outcomes
 none_decided linked context outcomes apart become known h = rw apart (become, h)
 
 -- the steps, by what was listed
-pub decided : (linked : List Held) (list : List (Option (List ℕ))) (found : List (Option ℕ)) (before between after : Context) (names : Names) (numbers symbols : Option ℕ) (outcomes : List Outcome)
-    → list_all is_no_footnote linked ≡ false → list ≡ labels linked → found ≡ found_by_order linked → ((name : List ℕ) → held_by names name ≡ with_numbers list linked (held_by before.names) name)
+pub decided : (linked : List LinkedElement) (list : List (Option (List ℕ))) (found : List (Option ℕ)) (before between after : Context) (names : Names) (numbers symbols : Option ℕ) (outcomes : List Outcome)
+    → list_all is_no_footnote linked ≡ false → list ≡ labels linked → found ≡ found_by_order linked → ((name : List ℕ) → entry_named names name ≡ with_numbers list linked (entry_named before.names) name)
     → Makes (leftover (first_left_over Numbers found linked) Numbers (length (in_order Numbers linked))) (record before { names = names }) between numbers
     → Makes (leftover (first_left_over Symbols found linked) Symbols (length (in_order Symbols linked))) between after symbols
     → outcomes ≡ outcomes_by linked list found numbers symbols → Makes (footnote_outcomes linked) before after outcomes

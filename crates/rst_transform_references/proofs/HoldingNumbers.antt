@@ -5,11 +5,11 @@ use Rattle.std.specs.List.{enumerate_from}
 use Rattle.std.specs.Option.{option_or}
 use Rattle.rst_transform_names.specs.declared.names.NameEntry.{NameEntry}
 use Rattle.rst_transform_names.specs.declared.names.Names.{Names}
-use Rattle.rst_transform_names.specs.Names.{held_by}
+use Rattle.rst_transform_names.specs.Names.{entry_named}
 use Rattle.rst_transform_references.specs.declared.links.Linked.{Linked}
-use Rattle.rst_transform_references.specs.Linkings.{held}
+use Rattle.rst_transform_references.specs.Linkings.{linked_element}
 use Rattle.rst_transform_references.specs.Footnotes.{numbered_entry}
 
 -- what is known of names, or else what the elements that are left make known of them
 abbrev pub known_with : List (Option (List ℕ)) → ℕ → List Linked → Names → List ℕ → Option NameEntry
-known_with labels place linked names name = option_or (held_by names name) (numbered_entry labels (enumerate_from place (map held (drop place linked))) name)
+known_with labels place linked names name = option_or (entry_named names name) (numbered_entry labels (enumerate_from place (map linked_element (drop place linked))) name)

@@ -32,13 +32,13 @@ idle_element false s t a l h = (refl, h)
 
 idle_nodes : (s : List Outcome) (f : Forest) → list_all is_idle s ≡ true → ((rewritten change_next change_of s f).0 ≡ f) × (list_all is_idle (rewritten change_next change_of s f).1 ≡ true)
 idle_nodes s bare h = (refl, h)
-idle_nodes s (words t r) h = let behind = idle_nodes s r h in (ap (words t) behind.0, behind.1)
+idle_nodes s (words t r) h = let following = idle_nodes s r h in (ap (words t) following.0, following.1)
 idle_nodes s (element t a c l r) h =
     let own = idle_element (is_linked_tag t) s t a l h in
     let s' : List Outcome = change_next s (Element t a c l) in
     let inside = idle_nodes s' c own.1 in
-    let behind = idle_nodes (rewritten change_next change_of s' c).1 r inside.1 in
-    rw (own.0) (rw (inside.0, behind.0) refl, behind.1)
+    let following = idle_nodes (rewritten change_next change_of s' c).1 r inside.1 in
+    rw (own.0) (rw (inside.0, following.0) refl, following.1)
 
 pub idle_document : (s : List Outcome) (document : Document) → list_all is_idle s ≡ true → changed_document s document ≡ document
 idle_document s document h = ap (λ f. record document { children = f }) (idle_nodes s document.children h).0

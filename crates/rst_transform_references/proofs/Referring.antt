@@ -10,11 +10,11 @@ use Rattle.rst_tree.specs.declared.key.Key.TheVariants.{Ids}
 use Rattle.rst_tree.specs.declared.node.Node.{Node}
 use Rattle.rst_transform_references.specs.declared.links.Linked.{Linked}
 use Rattle.rst_transform_references.specs.declared.links.Outcome.{Outcome}
-use Rattle.rst_transform_references.specs.Backrefs.{id_of_reference, ids_of_references, is_at, reference_ids, referent_at, referents_of, referred_to, with_backrefs, with_reference}
-use Rattle.rst_transform_references.specs.Linkings.{Held, held}
+use Rattle.rst_transform_references.specs.Backrefs.{id_of_reference, ids_of_references, is_this_place, reference_ids, referent_at, referents_of, referred_to, with_referring_ids, with_reference}
+use Rattle.rst_transform_references.specs.Linkings.{LinkedElement, linked_element}
 use Rattle.rst_transform_references.specs.Meanings.{refers_to_footnote_or_citation}
 use Rattle.rst_transform_references.specs.FootnoteOrders.{found_by_order}
-use Rattle.rst_transform_work.specs.Reading.{list_said}
+use Rattle.rst_transform_work.specs.Reading.{list_of_attribute}
 
 -- ---- one id more
 
@@ -52,24 +52,24 @@ pub refers_to_none : (node : Node) (lists : List (List (List ℕ))) → lists �
 refers_to_none node lists = none_gained (λ i. id_of_reference i None node) 0 lists (λ i low high. refl)
 
 -- it has no id
-pub refers_without_id : (referent : Option ℕ) (node : Node) (lists : List (List (List ℕ))) → slice_get (list_said Ids node) 0 ≡ None → lists ≡ with_reference referent node lists
-refers_without_id referent node lists none = none_gained (λ i. id_of_reference i referent node) 0 lists (λ i low high. rw none (either_way (is_at i referent) None))
+pub refers_without_id : (referent : Option ℕ) (node : Node) (lists : List (List (List ℕ))) → slice_get (list_of_attribute Ids node) 0 ≡ None → lists ≡ with_reference referent node lists
+refers_without_id referent node lists none = none_gained (λ i. id_of_reference i referent node) 0 lists (λ i low high. rw none (either_way (is_this_place i referent) None))
 
 -- it refers to a place without list
 pub refers_past : (place : ℕ) (node : Node) (lists : List (List (List ℕ))) → length lists ≤ place → lists ≡ with_reference (Some place) node lists
 refers_past place node lists past =
-    none_gained (λ i. id_of_reference i (Some place) node) 0 lists (λ i low high. elsewhere place i (slice_get (list_said Ids node) 0) (λ same. omega (arith, past, high, same)))
+    none_gained (λ i. id_of_reference i (Some place) node) 0 lists (λ i low high. elsewhere place i (slice_get (list_of_attribute Ids node) 0) (λ same. omega (arith, past, high, same)))
 
 -- it refers to a place with a list
-pub refers_within : (place : ℕ) (node : Node) (lists : List (List (List ℕ))) (d : List (List ℕ)) (id : List ℕ) → place < length lists → slice_get (list_said Ids node) 0 ≡ Some id
+pub refers_within : (place : ℕ) (node : Node) (lists : List (List (List ℕ))) (d : List (List ℕ)) (id : List ℕ) → place < length lists → slice_get (list_of_attribute Ids node) 0 ≡ Some id
     → slice_set lists place (slice_index_or lists place d ++ id ∷ []) ≡ with_reference (Some place) node lists
 refers_within place node lists d id within has =
     one_gained (λ i. id_of_reference i (Some place) node) place 0 lists d id within
-    (rw (sym (zero_behind place), eq-eqb place place refl) has)
-    (λ j differs. elsewhere place j (slice_get (list_said Ids node) 0) (λ same. differs (omega (arith, same))))
+    (rw (sym (zero_added place), eq-eqb place place refl) has)
+    (λ j differs. elsewhere place j (slice_get (list_of_attribute Ids node) 0) (λ same. differs (omega (arith, same))))
   where
-    zero_behind : (n : ℕ) → n ≡ 0 + n
-    zero_behind n = omega arith
+    zero_added : (n : ℕ) → n ≡ 0 + n
+    zero_added n = omega arith
 
 -- ---- all ids
 
@@ -78,22 +78,22 @@ abbrev completed_at : (ℕ → List (List ℕ)) → ℕ × List (List ℕ) → L
 completed_at left (place, ids) = ids ++ left place
 
 -- some lists, each with the ids of the references that are left
-abbrev pub completed : List (Option ℕ) → List Held → ℕ → List (List (List ℕ)) → List (List (List ℕ))
+abbrev pub completed : List (Option ℕ) → List LinkedElement → ℕ → List (List (List ℕ)) → List (List (List ℕ))
 completed referents linked place lists = map (completed_at (ids_of_references referents linked)) (enumerate_from place lists)
 
-none_so_far : (referents : List (Option ℕ)) (linked : List Held) (place count : ℕ) → completed referents linked place (replicate count []) ≡ map (ids_of_references referents linked) (range_with_len place count)
+none_so_far : (referents : List (Option ℕ)) (linked : List LinkedElement) (place count : ℕ) → completed referents linked place (replicate count []) ≡ map (ids_of_references referents linked) (range_with_len place count)
 none_so_far referents linked place zero = refl
 none_so_far referents linked place (suc count) = ap (λ rest. ids_of_references referents linked place ∷ rest) (none_so_far referents linked (place + 1) count)
 
 -- none is gathered yet
-pub gather_none : (referents : List (Option ℕ)) (linked : List Held) (count : ℕ) → completed referents linked 0 (replicate count []) ≡ reference_ids referents linked count
+pub gather_none : (referents : List (Option ℕ)) (linked : List LinkedElement) (count : ℕ) → completed referents linked 0 (replicate count []) ≡ reference_ids referents linked count
 gather_none referents linked count = none_so_far referents linked 0 count
 
 onto : (id : Option (List ℕ)) (more : List (List ℕ)) → cons_option id [] ++ more ≡ cons_option id more
 onto None more = refl
 onto (Some id) more = refl
 
-one_more : (referent : Option ℕ) (one : Held) (referents : List (Option ℕ)) (linked : List Held) (place : ℕ) (lists : List (List (List ℕ)))
+one_more : (referent : Option ℕ) (one : LinkedElement) (referents : List (Option ℕ)) (linked : List LinkedElement) (place : ℕ) (lists : List (List (List ℕ)))
     → completed referents linked place (gained (λ i. id_of_reference i referent one.0) place lists) ≡ completed (referent ∷ referents) (one ∷ linked) place lists
 one_more referent one referents linked place [] = refl
 one_more referent one referents linked place (list ∷ lists) =
@@ -104,9 +104,9 @@ one_more referent one referents linked place (list ∷ lists) =
 -- that of one element more
 pub gather_more : (referents : List (Option ℕ)) (linked : List Linked) (place : ℕ) (referent : Option ℕ) (one : Linked) (lists next all : List (List (List ℕ))) → place < length referents → referent ≡ get_or referents place referent
     → place < length linked → one ≡ get_or linked place one → next ≡ with_reference referent one.element.now lists
-    → completed (drop place referents) (map held (drop place linked)) 0 lists ≡ all → completed (drop (place + 1) referents) (map held (drop (place + 1) linked)) 0 next ≡ all
+    → completed (drop place referents) (map linked_element (drop place linked)) 0 lists ≡ all → completed (drop (place + 1) referents) (map linked_element (drop (place + 1) linked)) 0 next ≡ all
 gather_more referents linked place referent one lists next all low at within is gains before =
-    rw gains (one_more referent (held one) (drop (place + 1) referents) (map held (drop (place + 1) linked)) 0 lists)
+    rw gains (one_more referent (linked_element one) (drop (place + 1) referents) (map linked_element (drop (place + 1) linked)) 0 lists)
     ∙ (rw (drop_more referents place referent low, ← at, drop_more linked place one within, ← is) at before)
 
 complete : (left : ℕ → List (List ℕ)) (place : ℕ) (lists : List (List (List ℕ))) → ((i : ℕ) → left i ≡ []) → map (completed_at left) (enumerate_from place lists) ≡ lists
@@ -114,7 +114,7 @@ complete left place [] none = refl
 complete left place (list ∷ lists) none = rw (none place, append-nil list) (ap (λ rest. list ∷ rest) (complete left (place + 1) lists none))
 
 -- there is no further reference
-pub gather_end : (referents : List (Option ℕ)) (linked : List Held) (place : ℕ) (lists all : List (List (List ℕ))) → length referents ≤ place → completed (drop place referents) linked 0 lists ≡ all → lists ≡ all
+pub gather_end : (referents : List (Option ℕ)) (linked : List LinkedElement) (place : ℕ) (lists all : List (List (List ℕ))) → length referents ≤ place → completed (drop place referents) linked 0 lists ≡ all → lists ≡ all
 gather_end referents linked place lists all past before = sym (complete (ids_of_references [] linked) 0 lists (λ i. refl)) ∙ (rw (drop_all place referents past) at before)
 
 no_ids : (referents : List (Option ℕ)) (i : ℕ) → ids_of_references referents [] i ≡ []
@@ -122,12 +122,12 @@ no_ids [] i = refl
 no_ids (referent ∷ more) i = refl
 
 -- there is no further element
-pub gather_short : (referents : List (Option ℕ)) (linked : List Linked) (place : ℕ) (lists all : List (List (List ℕ))) → length linked ≤ place → completed (drop place referents) (map held (drop place linked)) 0 lists ≡ all → lists ≡ all
+pub gather_short : (referents : List (Option ℕ)) (linked : List Linked) (place : ℕ) (lists all : List (List (List ℕ))) → length linked ≤ place → completed (drop place referents) (map linked_element (drop place linked)) 0 lists ≡ all → lists ≡ all
 gather_short referents linked place lists all past before = sym (complete (ids_of_references (drop place referents) []) 0 lists (no_ids (drop place referents))) ∙ (rw (drop_all place linked past) at before)
 
 -- ---- where nothing refers to a footnote or a citation
 
-none_meant : (places : Holder → Option ℕ) (all : List Held) (names : List ℕ → Option NameEntry) (found : List (Option ℕ)) (i place : ℕ) (linked : List Held) → list_any (λ (one : Held). refers_to_footnote_or_citation one.0) linked ≡ false
+none_meant : (places : Holder → Option ℕ) (all : List LinkedElement) (names : List ℕ → Option NameEntry) (found : List (Option ℕ)) (i place : ℕ) (linked : List LinkedElement) → list_any (λ (one : LinkedElement). refers_to_footnote_or_citation one.0) linked ≡ false
     → ids_of_references (map (referent_at places all names found) (enumerate_from place linked)) linked i ≡ []
 none_meant places all names found i place [] none = refl
 none_meant places all names found i place (one ∷ more) none =
@@ -138,11 +138,11 @@ unreferred : (ids : ℕ → List (List ℕ)) (place : ℕ) (outcomes : List Outc
 unreferred ids place [] none = refl
 unreferred ids place (outcome ∷ more) none = rw (none place) (ap (λ rest. outcome ∷ rest) (unreferred ids (place + 1) more none))
 
-pub any_held : (p : Held → Bool) (linked : List Linked) → list_any p (map held linked) ≡ list_any (λ one. p (held one)) linked
-any_held p [] = refl
-any_held p (one ∷ more) = ap (λ others. p (held one) || others) (any_held p more)
+pub any_linked : (p : LinkedElement → Bool) (linked : List Linked) → list_any p (map linked_element linked) ≡ list_any (λ one. p (linked_element one)) linked
+any_linked p [] = refl
+any_linked p (one ∷ more) = ap (λ others. p (linked_element one) || others) (any_linked p more)
 
 -- no element lists something
-pub none_listed : (places : Holder → Option ℕ) (all : List Held) (names : List ℕ → Option NameEntry) (outcomes : List Outcome) → list_any (λ (one : Held). refers_to_footnote_or_citation one.0) all ≡ false → outcomes ≡ with_backrefs (referents_of places all names) all outcomes
+pub none_listed : (places : Holder → Option ℕ) (all : List LinkedElement) (names : List ℕ → Option NameEntry) (outcomes : List Outcome) → list_any (λ (one : LinkedElement). refers_to_footnote_or_citation one.0) all ≡ false → outcomes ≡ with_referring_ids (referents_of places all names) all outcomes
 none_listed places all names outcomes none =
     sym (unreferred (ids_of_references (referents_of places all names) all) 0 outcomes (λ i. none_meant places all names (found_by_order all) i 0 all none))

@@ -13,7 +13,7 @@ use Rattle.rst_transform_work.specs.Known.{Holds, Known, Makes}
 use Rattle.rst_transform_work.specs.Lists.{at_place}
 use Rattle.rst_transform_work.specs.Problematics.{problematic}
 use Rattle.rst_transform_references.specs.Law.{SettlesNothing}
-use Rattle.rst_transform_references.specs.Linkings.{Held}
+use Rattle.rst_transform_references.specs.Linkings.{LinkedElement}
 use Rattle.rst_transform_references.specs.Outcomes.{stays}
 use Rattle.rst_transform_references.specs.Settling.{by_message, earlier_at, first_in, firsts, left_at, remaining, settled, take_turns, turn_of, turns_of}
 use Rattle.rst_transform_references.proofs.TurnsInOrder.{none_left}
@@ -44,15 +44,15 @@ stays_if (Some outcome) = stays outcome
 
 pub stays_at : (outcomes : List Outcome) (i : ℕ) → list_all stays outcomes ≡ true → stays_if (slice_get outcomes i) ≡ true
 stays_at [] i h = refl
-stays_at (Stays attr shown ∷ more) zero h = refl
-stays_at (Stays attr shown ∷ more) (suc i) h = stays_at more i h
+stays_at (Stays attr new_text ∷ more) zero h = refl
+stays_at (Stays attr new_text ∷ more) (suc i) h = stays_at more i h
 stays_at (Fails r ∷ more) i h = absurd (cc)
 stays_at (Failed p ∷ more) i h = absurd (cc)
 
 none_earlier : (first : Option (Option ℕ)) (outcome : Option Outcome) → option_flatten first ≡ None → stays_if outcome ≡ true → earlier_at first outcome ≡ None
 none_earlier None outcome h k = refl
 none_earlier (Some None) None h k = refl
-none_earlier (Some None) (Some (Stays attr shown)) h k = refl
+none_earlier (Some None) (Some (Stays attr new_text)) h k = refl
 none_earlier (Some None) (Some (Fails r)) h k = absurd (cc)
 none_earlier (Some None) (Some (Failed p)) h k = absurd (cc)
 none_earlier (Some (Some n)) outcome h k = absurd (cc)
@@ -64,14 +64,14 @@ none_in before outcomes (Some outer) h k = none_earlier (slice_get before outer)
 one_more : (before : List (Option ℕ)) (first : Option ℕ) → list_all is_none before ≡ true → first ≡ None → list_all is_none (before ++ first ∷ []) ≡ true
 one_more before first h is = rw (list_all-append is_none before (first ∷ []), h, is) refl
 
-no_firsts : (before : List (Option ℕ)) (outcomes : List Outcome) (linked : List Held) → list_all is_none before ≡ true → list_all stays outcomes ≡ true → list_all is_none (firsts before outcomes linked) ≡ true
+no_firsts : (before : List (Option ℕ)) (outcomes : List Outcome) (linked : List LinkedElement) → list_all is_none before ≡ true → list_all stays outcomes ≡ true → list_all is_none (firsts before outcomes linked) ≡ true
 no_firsts before outcomes [] h k = h
 no_firsts before outcomes (one ∷ more) h k =
     no_firsts (before ++ first_in before outcomes one.1 ∷ []) outcomes more (one_more before (first_in before outcomes one.1) h (none_in before outcomes one.1 h k)) k
 
 no_turns : (reports : ℕ) (around : List (Option ℕ)) (place : ℕ) (outcomes : List Outcome) → list_all stays outcomes ≡ true → filter_map (turn_of reports around) (enumerate_from place outcomes) ≡ []
 no_turns reports around place [] h = refl
-no_turns reports around place (Stays attr shown ∷ more) h = no_turns reports around (place + 1) more h
+no_turns reports around place (Stays attr new_text ∷ more) h = no_turns reports around (place + 1) more h
 no_turns reports around place (Fails r ∷ more) h = absurd (cc)
 no_turns reports around place (Failed p ∷ more) h = absurd (cc)
 
@@ -82,7 +82,7 @@ settled_stay linked outcomes known h =
     rw (no_turns (length known.reports) around 0 outcomes h, none_left (length known.reports), all_remain_from around 0 outcomes (no_firsts [] outcomes linked refl h)) refl
 
 -- the turns by what the context holds are those by what is known
-pub settled_at : (linked : List Held) (outcomes : List Outcome) (before after : Context) (turns : List (ℕ × ℕ)) (done changes : List Outcome)
+pub settled_at : (linked : List LinkedElement) (outcomes : List Outcome) (before after : Context) (turns : List (ℕ × ℕ)) (done changes : List Outcome)
     → turns ≡ by_message (length before.reports.items) (turns_of (length before.reports.items) (firsts [] outcomes linked) outcomes)
     → Makes (take_turns turns outcomes) before after done → changes ≡ remaining (firsts [] outcomes linked) done → Makes (settled linked outcomes) before after changes
 settled_at linked outcomes before after turns done changes found takes changed known h =
@@ -92,6 +92,6 @@ settled_at linked outcomes before after turns done changes found takes changed k
     (changed ∙ ap (remaining around) took.0, took.1)
 
 -- where all stay, there is nothing to settle
-pub all_stay : (linked : List Held) (outcomes changes : List Outcome) (context : Context) → list_all stays outcomes ≡ true → changes ≡ outcomes → Makes (settled linked outcomes) context context changes
+pub all_stay : (linked : List LinkedElement) (outcomes changes : List Outcome) (context : Context) → list_all stays outcomes ≡ true → changes ≡ outcomes → Makes (settled linked outcomes) context context changes
 all_stay linked outcomes changes context stay is known h =
     subst (λ d. (changes ≡ d.0) × Holds context d.1) (sym (settled_stay linked outcomes known stay)) (is, h)

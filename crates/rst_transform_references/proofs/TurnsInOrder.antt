@@ -73,7 +73,7 @@ own_below reports report place stands false left h below k d within = below k d 
 
 found_below : (reports : ℕ) (around : List (Option ℕ)) (place : ℕ) (outcomes : List Outcome) → All (IsBelow reports) (filter_map (turn_of reports around) (enumerate_from place outcomes))
 found_below reports around place [] = λ k d within. absurd (omega (arith, within))
-found_below reports around place (Stays attr shown ∷ rest) = found_below reports around (place + 1) rest
+found_below reports around place (Stays attr new_text ∷ rest) = found_below reports around (place + 1) rest
 found_below reports around place (Failed attrs ∷ rest) = found_below reports around (place + 1) rest
 found_below reports around place (Fails report ∷ rest) = own_below reports report place (nat_lt report (unwrap_or (at_place around place) reports)) (nat_lt report reports) _ refl (found_below reports around (place + 1) rest)
 

@@ -13,9 +13,9 @@ use Rattle.rst_tree_index.specs.Kinds.{is_target}
 use Rattle.rst_tree.specs.declared.note.Level.TheVariants.{Error}
 use Rattle.rst_transform_references.specs.declared.links.Outcome.{Outcome}
 use Rattle.rst_transform_references.specs.declared.links.Outcome.TheVariants.{Fails}
-use Rattle.rst_transform_references.specs.Linkings.{Held}
+use Rattle.rst_transform_references.specs.Linkings.{LinkedElement}
 use Rattle.rst_transform_references.specs.Outcomes.{adds}
-use Rattle.rst_transform_work.specs.Reading.{line_of, list_said}
+use Rattle.rst_transform_work.specs.Reading.{line_of, list_of_attribute}
 use Rattle.rst_transform_work.specs.Known.{Known}
 use Rattle.rst_transform_work.specs.Reports.{reported}
 use Rattle.rst_transform_references.specs.Holders.{lead_of, lead_to_id}
@@ -31,53 +31,53 @@ is_anonymous_target (Text t) = false
 -- what a reference takes from its target: where that leads, or else its id, unless it is an indirect one
 abbrev pub lead_to : Node → Option Attr
 lead_to target =
-    option_or (lead_of target) (if is_some (node_value Refname target) then None else lead_to_id (slice_get (list_said Ids target) 0))
+    option_or (lead_of target) (if is_some (node_value Refname target) then None else lead_to_id (slice_get (list_of_attribute Ids target) 0))
 
 -- the lead to the first of some targets, if there is one
-abbrev pub first_lead : List Held → Option Attr
+abbrev pub first_lead : List LinkedElement → Option Attr
 first_lead [] = None
 first_lead (target ∷ more) = lead_to target.0
 
 -- each anonymous reference takes the next target; all others stay as they are
-abbrev pub paired : List Held → List Held → List Outcome
+abbrev pub paired : List LinkedElement → List LinkedElement → List Outcome
 paired [] targets = []
 paired (one ∷ more) targets =
     if is_anonymous_reference one.0 then adds (first_lead targets) ∷ paired more (drop 1 targets)
     else adds None ∷ paired more targets
 
 -- the anonymous references and targets among linked elements
-abbrev pub anonymous_references : List Held → List Held
+abbrev pub anonymous_references : List LinkedElement → List LinkedElement
 anonymous_references linked = filter (λ one. is_anonymous_reference one.0) linked
 
-abbrev pub anonymous_targets : List Held → List Held
+abbrev pub anonymous_targets : List LinkedElement → List LinkedElement
 anonymous_targets linked = filter (λ one. is_anonymous_target one.0) linked
 
 -- there are as many of the ones as of the others
-abbrev pub agree : List Held → Bool
+abbrev pub agree : List LinkedElement → Bool
 agree linked = nat_eq (length (anonymous_references linked)) (length (anonymous_targets linked))
 
 -- the line of the first reference, or else target
-abbrev pub first_line : List Held → List Held → ℕ
-first_line (one ∷ more) targets = line_of one.0
-first_line [] (one ∷ more) = line_of one.0
-first_line [] [] = 0
+abbrev pub first_anonymous_line : List LinkedElement → List LinkedElement → ℕ
+first_anonymous_line (one ∷ more) targets = line_of one.0
+first_anonymous_line [] (one ∷ more) = line_of one.0
+first_anonymous_line [] [] = 0
 
 -- the text of the message where there aren't
 abbrev pub mismatch : ℕ → ℕ → List ℕ
 mismatch references targets = codes "Anonymous hyperlink mismatch: " ++ (decimal references ++ (codes " references but " ++ (decimal targets ++ codes " targets.")))
 
 -- each anonymous reference fails for a message
-abbrev pub failing : ℕ → Node → Outcome
-failing report node = if is_anonymous_reference node then Fails report else adds None
+abbrev pub failing_anonymous : ℕ → Node → Outcome
+failing_anonymous report node = if is_anonymous_reference node then Fails report else adds None
 
 -- What happens to linked elements: nothing if none of them is an anonymous reference or target. Where there aren't as many of the ones as of the
 -- others, an ERROR comes after the other messages, and the references fail for it.
-abbrev pub anonymous_outcomes : List Held → Known → List Outcome × Known
+abbrev pub anonymous_outcomes : List LinkedElement → Known → List Outcome × Known
 anonymous_outcomes linked known =
-    let references : List Held = anonymous_references linked in
-    let targets : List Held = anonymous_targets linked in
+    let references : List LinkedElement = anonymous_references linked in
+    let targets : List LinkedElement = anonymous_targets linked in
     if agree linked then ((if nat_eq (length references) 0 then [] else paired linked targets), known)
     else (
-      map (λ one. failing (length known.reports) one.0) linked,
-      reported Error (first_line references targets) (mismatch (length references) (length targets)) true known,
+      map (λ one. failing_anonymous (length known.reports) one.0) linked,
+      reported Error (first_anonymous_line references targets) (mismatch (length references) (length targets)) true known,
     )

@@ -7,19 +7,19 @@ use Rattle.rst_tree.specs.declared.node.Node.{Node}
 use Rattle.rst_transform_names.specs.declared.names.Holder.{Holder}
 use Rattle.rst_transform_names.specs.declared.names.NameEntry.{NameEntry}
 use Rattle.rst_transform_references.specs.Holders.{element_at, is_nobody, is_target_node, name_lead}
-use Rattle.rst_transform_references.specs.Linkings.{Held}
+use Rattle.rst_transform_references.specs.Linkings.{LinkedElement}
 use Rattle.rst_transform_references.specs.declared.chains.Answer.{Answer}
 use Rattle.rst_transform_references.specs.declared.chains.Answer.TheVariants.{Leads, Missing, Circular}
 use Rattle.rst_transform_references.specs.declared.chains.Step.{Step}
 use Rattle.rst_transform_references.specs.declared.chains.Step.TheVariants.{To, Ends}
 use Rattle.rst_transform_work.specs.Lists.{at_place}
-use Rattle.rst_transform_work.specs.Reading.{text_said}
+use Rattle.rst_transform_work.specs.Reading.{text_of_attribute}
 
 -- ---- the step from each indirect target
 
 -- the name that an indirect target refers to
 abbrev pub indirect_name : Node → Option (List ℕ)
-indirect_name node = if is_target_node node then text_said Refname node else None
+indirect_name node = if is_target_node node then text_of_attribute Refname node else None
 
 -- on to another indirect target, if one holds the name, or else to where the name leads
 abbrev pub step_on : Bool → Option ℕ → Attr → Step
@@ -27,20 +27,20 @@ step_on true (Some place) lead = To place
 step_on _ _ lead = Ends (Leads lead)
 
 -- the step to a name, by the place of its holder and by what is known of it
-abbrev pub step_to : List Held → Option ℕ → NameEntry → Step
+abbrev pub step_to : List LinkedElement → Option ℕ → NameEntry → Step
 step_to linked place entry =
     let holder : Option Node = element_at linked place in step_on (is_some (option_and_then indirect_name holder)) place (name_lead holder entry.uri entry.id)
 
 -- the same by the places of the holders of names; nowhere, if no element holds the name
-abbrev pub step_by : List Held → (Holder → Option ℕ) → List ℕ → Option NameEntry → Step
+abbrev pub step_by : List LinkedElement → (Holder → Option ℕ) → List ℕ → Option NameEntry → Step
 step_by linked places name None = Ends (Missing name)
 step_by linked places name (Some entry) = if is_nobody entry.holder then Ends (Missing name) else step_to linked (places entry.holder) entry
 
 -- the first step from an element, if it is an indirect target
-abbrev pub own_step : (List ℕ → Option NameEntry) → (Holder → Option ℕ) → List Held → Node → Option Step
+abbrev pub own_step : (List ℕ → Option NameEntry) → (Holder → Option ℕ) → List LinkedElement → Node → Option Step
 own_step known places linked node = option_map (λ name. step_by linked places name (known name)) (indirect_name node)
 
-abbrev pub steps_of : (List ℕ → Option NameEntry) → (Holder → Option ℕ) → List Held → List (Option Step)
+abbrev pub steps_of : (List ℕ → Option NameEntry) → (Holder → Option ℕ) → List LinkedElement → List (Option Step)
 steps_of known places linked = map (λ one. own_step known places linked one.0) linked
 
 -- ---- what a chain comes to, step by step
@@ -65,9 +65,9 @@ answers_of steps = map (answer_of steps) steps
 -- ---- how that is found
 
 -- the end of a chain that ends with its first step
-abbrev pub at_once : Option Step → Option Answer
-at_once (Some (Ends answer)) = Some answer
-at_once _ = None
+abbrev pub first_step_answer : Option Step → Option Answer
+first_step_answer (Some (Ends answer)) = Some answer
+first_step_answer _ = None
 
 abbrev pub next_of : Option Step → Option ℕ
 next_of (Some (To next)) = Some next
@@ -78,9 +78,9 @@ abbrev pub next_on : List (Option Step) → List (Option Answer) → ℕ → Opt
 next_on steps answers place = if is_some (at_place answers place) then None else next_of (at_place steps place)
 
 -- the answers, with one for each of some places
-abbrev pub filled : Answer → List ℕ → List (Option Answer) → List (Option Answer)
-filled found [] answers = answers
-filled found (place ∷ more) answers = filled found more (slice_set answers place (Some found))
+abbrev pub filled_answers : Answer → List ℕ → List (Option Answer) → List (Option Answer)
+filled_answers found [] answers = answers
+filled_answers found (place ∷ more) answers = filled_answers found more (slice_set answers place (Some found))
 
 -- the answer of a place is known
 abbrev pub IsKnown : List (Option Step) → List (Option Answer) → ℕ → Type 0
@@ -89,5 +89,5 @@ IsKnown steps answers place = at_place answers place ≡ answer_of steps (at_pla
 -- of each place the answer is known, or only if the chain from there ends at once; those of the places below one are known
 pub record KnownBelow (steps : List (Option Step)) (start : ℕ) (answers : List (Option Answer)) : Type 0 where
   pub all : length answers ≡ length steps
-  pub each : (place : ℕ) → IsKnown steps answers place ⊎ (at_place answers place ≡ at_once (at_place steps place))
+  pub each : (place : ℕ) → IsKnown steps answers place ⊎ (at_place answers place ≡ first_step_answer (at_place steps place))
   pub below : (place : ℕ) → place < start → IsKnown steps answers place

@@ -4,7 +4,7 @@ use Rattle.std.specs.List.{enumerate_from, filter_map, list_all}
 use Rattle.std.specs.Option.{option_or}
 use Rattle.std.specs.Str.{bytes_eq}
 use Rattle.rst_transform_names.specs.declared.names.NameEntry.{NameEntry}
-use Rattle.rst_transform_names.specs.declared.names.Holder.TheVariants.{Element as HeldBy}
+use Rattle.rst_transform_names.specs.declared.names.Holder.TheVariants.{Element as ElementHolder}
 use Rattle.rst_transform_names.specs.declared.names.Strength.TheVariants.{Explicit}
 use Rattle.rst_tree.specs.declared.attrs.Attr.{Attr}
 use Rattle.rst_tree.specs.declared.attrs.Value.TheVariants.{List as Listed}
@@ -19,11 +19,11 @@ use Rattle.rst_transform_references.specs.declared.links.Outcome.TheVariants.{St
 use Rattle.rst_transform_references.specs.declared.footnote_orders.Order.{Order}
 use Rattle.rst_transform_references.specs.declared.footnote_orders.Order.TheVariants.{Numbers, Symbols}
 use Rattle.rst_transform_references.specs.Holders.{lead_to_id}
-use Rattle.rst_transform_references.specs.Linkings.{Held}
+use Rattle.rst_transform_references.specs.Linkings.{LinkedElement}
 use Rattle.rst_transform_references.specs.FootnoteLabels.{labels}
 use Rattle.rst_transform_references.specs.FootnoteOrders.{footnote_order, found_by_order, in_order, is_order, order_name, reference_order}
 use Rattle.rst_transform_references.specs.Outcomes.{adds}
-use Rattle.rst_transform_work.specs.Reading.{line_of, list_said, number_said}
+use Rattle.rst_transform_work.specs.Reading.{line_of, list_of_attribute, number_of_attribute}
 use Rattle.rst_transform_work.specs.Reports.{reported}
 use Rattle.rst_transform_work.specs.Known.{Known}
 use Rattle.rst_transform_work.specs.Lists.{at_place}
@@ -36,38 +36,38 @@ own_number node label = if is_order Numbers (footnote_order node) then label els
 
 -- what is known of a name that an element holds, by its serial number and its id; nothing where it has no such number or id
 abbrev pub entry_by : Option ℕ → Option (List ℕ) → Option NameEntry
-entry_by (Some serial) (Some id) = Some (record { holder = HeldBy serial; strength = Explicit; id = id; uri = None })
+entry_by (Some serial) (Some id) = Some (record { holder = ElementHolder serial; strength = Explicit; id = id; uri = None })
 entry_by _ _ = None
 
 -- what is known of a name, by an element that may get this number: that it holds it, if the name is that number
-abbrev pub entry_of : List ℕ → Option (List ℕ) → Node → Option NameEntry
-entry_of name (Some number) node = if bytes_eq name number then entry_by (number_said Serial node) (slice_get (list_said Ids node) 0) else None
-entry_of name None node = None
+abbrev pub footnote_name_entry : List ℕ → Option (List ℕ) → Node → Option NameEntry
+footnote_name_entry name (Some number) node = if bytes_eq name number then entry_by (number_of_attribute Serial node) (slice_get (list_of_attribute Ids node) 0) else None
+footnote_name_entry name None node = None
 
 -- the same of the element at a place, by the labels of all
-abbrev pub entry_at : List (Option (List ℕ)) → List ℕ → ℕ × Held → Option NameEntry
-entry_at labels name (place, one) = entry_of name (own_number one.0 (at_place labels place)) one.0
+abbrev pub entry_at : List (Option (List ℕ)) → List ℕ → ℕ × LinkedElement → Option NameEntry
+entry_at labels name (place, one) = footnote_name_entry name (own_number one.0 (at_place labels place)) one.0
 
 -- what is known of a name that elements, each at its place, have as their numbers: what the first of them has
-abbrev pub numbered_entry : List (Option (List ℕ)) → List (ℕ × Held) → List ℕ → Option NameEntry
+abbrev pub numbered_entry : List (Option (List ℕ)) → List (ℕ × LinkedElement) → List ℕ → Option NameEntry
 numbered_entry labels placed name = slice_get (filter_map (entry_at labels name) placed) 0
 
 -- what is known of names: what was known before, or else what those elements have
-abbrev pub with_numbers : List (Option (List ℕ)) → List Held → (List ℕ → Option NameEntry) → List ℕ → Option NameEntry
+abbrev pub with_numbers : List (Option (List ℕ)) → List LinkedElement → (List ℕ → Option NameEntry) → List ℕ → Option NameEntry
 with_numbers labels linked known name = option_or (known name) (numbered_entry labels (enumerate_from 0 linked) name)
 
 -- ---- the references that find no footnote
 
 -- the element at a place is a reference of an order, and finds none
-abbrev pub is_left_over : Order → List (Option ℕ) → ℕ × Held → Bool
+abbrev pub is_left_over : Order → List (Option ℕ) → ℕ × LinkedElement → Bool
 is_left_over order found (place, one) = is_order order (reference_order one.0) && is_none (at_place found place)
 
 -- the first such element
-abbrev pub left_over : Order → List (Option ℕ) → List (ℕ × Held) → Option (ℕ × Held)
+abbrev pub left_over : Order → List (Option ℕ) → List (ℕ × LinkedElement) → Option (ℕ × LinkedElement)
 left_over order found placed = find (is_left_over order found) placed
 
 -- the line of the first reference of an order that finds none
-abbrev pub first_left_over : Order → List (Option ℕ) → List Held → Option ℕ
+abbrev pub first_left_over : Order → List (Option ℕ) → List LinkedElement → Option ℕ
 first_left_over order found linked = option_map (λ p. line_of p.1.0) (left_over order found (enumerate_from 0 linked))
 
 -- the text of the message on them, by how many footnotes of the order there are
@@ -80,25 +80,25 @@ leftover None order footnotes known = (None, known)
 leftover (Some line) order footnotes known = (Some (length known.reports), reported Error line (too_many order footnotes) true known)
 
 -- the same of those of some elements
-abbrev pub leftover_of : Order → List Held → Known → Option ℕ × Known
+abbrev pub leftover_of : Order → List LinkedElement → Known → Option ℕ × Known
 leftover_of order linked = leftover (first_left_over order (found_by_order linked) linked) order (length (in_order order linked))
 
 -- the message on the references of an order, by those on the two
-abbrev pub report_of : Option Order → Option ℕ → Option ℕ → Option ℕ
-report_of (Some Numbers) numbers symbols = numbers
-report_of (Some Symbols) numbers symbols = symbols
-report_of None numbers symbols = None
+abbrev pub order_report : Option Order → Option ℕ → Option ℕ → Option ℕ
+order_report (Some Numbers) numbers symbols = numbers
+order_report (Some Symbols) numbers symbols = symbols
+order_report None numbers symbols = None
 
 -- ---- what happens to the elements
 
 -- a reference leads to the id of its footnote
-abbrev pub lead_to_footnote : Option Held → Option Attr
+abbrev pub lead_to_footnote : Option LinkedElement → Option Attr
 lead_to_footnote None = None
-lead_to_footnote (Some one) = lead_to_id (slice_get (list_said Ids one.0) 0)
+lead_to_footnote (Some one) = lead_to_id (slice_get (list_of_attribute Ids one.0) 0)
 
 -- and gets the label of the footnote at a place
-abbrev pub referring : List Held → List (Option (List ℕ)) → ℕ → Outcome
-referring linked labels footnote = Stays (lead_to_footnote (slice_get linked footnote)) (at_place labels footnote)
+abbrev pub referring_outcome : List LinkedElement → List (Option (List ℕ)) → ℕ → Outcome
+referring_outcome linked labels footnote = Stays (lead_to_footnote (slice_get linked footnote)) (at_place labels footnote)
 
 abbrev pub is_label : Node → Bool
 is_label (Element Label a c l) = true
@@ -111,26 +111,26 @@ label_in labels = option_and_then (at_place labels)
 -- the names of an element with its number
 abbrev pub with_number : Node → Option (List ℕ) → Option Attr
 with_number node None = None
-with_number node (Some number) = Some (attr Names (Listed (list_said Names node ++ number ∷ [])))
+with_number node (Some number) = Some (attr Names (Listed (list_of_attribute Names node ++ number ∷ [])))
 
 -- what happens to a label, a footnote and any other element, at a place, that is no reference by the order
-abbrev pub labelled : List (Option (List ℕ)) → ℕ → Held → Outcome
-labelled labels place one =
+abbrev pub labelled_outcome : List (Option (List ℕ)) → ℕ → LinkedElement → Outcome
+labelled_outcome labels place one =
     if is_label one.0 then Stays None (label_in labels one.1)
     else adds (with_number one.0 (own_number one.0 (at_place labels place)))
 
 -- what happens to an element, by the footnote that it finds and the message on it
-abbrev pub outcome_by : List Held → List (Option (List ℕ)) → ℕ → Held → Option ℕ → Option ℕ → Outcome
-outcome_by linked labels place one (Some footnote) report = referring linked labels footnote
+abbrev pub outcome_by : List LinkedElement → List (Option (List ℕ)) → ℕ → LinkedElement → Option ℕ → Option ℕ → Outcome
+outcome_by linked labels place one (Some footnote) report = referring_outcome linked labels footnote
 outcome_by linked labels place one None (Some report) = Fails report
-outcome_by linked labels place one None None = labelled labels place one
+outcome_by linked labels place one None None = labelled_outcome labels place one
 
 -- the same of the element at a place, by what all find and the messages on the two orders
-abbrev pub outcome_at : List Held → List (Option (List ℕ)) → List (Option ℕ) → Option ℕ → Option ℕ → ℕ × Held → Outcome
-outcome_at linked labels found numbers symbols (place, one) = outcome_by linked labels place one (at_place found place) (report_of (reference_order one.0) numbers symbols)
+abbrev pub outcome_at : List LinkedElement → List (Option (List ℕ)) → List (Option ℕ) → Option ℕ → Option ℕ → ℕ × LinkedElement → Outcome
+outcome_at linked labels found numbers symbols (place, one) = outcome_by linked labels place one (at_place found place) (order_report (reference_order one.0) numbers symbols)
 
 -- what happens to all
-abbrev pub outcomes_by : List Held → List (Option (List ℕ)) → List (Option ℕ) → Option ℕ → Option ℕ → List Outcome
+abbrev pub outcomes_by : List LinkedElement → List (Option (List ℕ)) → List (Option ℕ) → Option ℕ → Option ℕ → List Outcome
 outcomes_by linked labels found numbers symbols = map (outcome_at linked labels found numbers symbols) (enumerate_from 0 linked)
 
 abbrev pub is_of_footnotes : Node → Bool
@@ -139,12 +139,12 @@ is_of_footnotes (Element FootnoteReference a c l) = true
 is_of_footnotes _ = false
 
 -- an element is no footnote and no reference to one
-abbrev pub is_no_footnote : Held → Bool
+abbrev pub is_no_footnote : LinkedElement → Bool
 is_no_footnote one = not (is_of_footnotes one.0)
 
 -- What happens to linked elements: nothing if none of them is a footnote or a reference to one. The numbers are kept as names, and then come
 -- the messages on the references left over, those to numbered footnotes first.
-abbrev pub footnote_outcomes : List Held → Known → List Outcome × Known
+abbrev pub footnote_outcomes : List LinkedElement → Known → List Outcome × Known
 footnote_outcomes linked known =
     let numbers : Option ℕ × Known = leftover_of Numbers linked (record known { names = with_numbers (labels linked) linked known.names }) in
     let symbols : Option ℕ × Known = leftover_of Symbols linked numbers.1 in

@@ -11,8 +11,8 @@ use Rattle.rst_tree.specs.declared.node.Node.{Node}
 use Rattle.rst_tree.specs.declared.node.Node.TheVariants.{Element as Tagged, Text as Words}
 use Rattle.rst_tree.specs.Attributes.{attr}
 use Rattle.rst_tree_index.specs.Kinds.{is_target}
-use Rattle.rst_transform_references.specs.Linkings.{Held}
-use Rattle.rst_transform_work.specs.Reading.{number_said, text_said}
+use Rattle.rst_transform_references.specs.Linkings.{LinkedElement}
+use Rattle.rst_transform_work.specs.Reading.{number_of_attribute, text_of_attribute}
 
 -- to an id, if there is one
 abbrev pub lead_to_id : Option (List ℕ) → Option Attr
@@ -24,20 +24,20 @@ lead_by (Some uri) id = Some (attr Refuri (Text uri))
 lead_by None id = lead_to_id id
 
 abbrev pub lead_of : Node → Option Attr
-lead_of target = lead_by (text_said Refuri target) (text_said Refid target)
+lead_of target = lead_by (text_of_attribute Refuri target) (text_of_attribute Refid target)
 
 -- whether an element has this number
 abbrev pub is_it : ℕ → Option ℕ → Bool
 is_it serial None = false
-is_it serial (Some said) = nat_eq said serial
+is_it serial (Some number) = nat_eq number serial
 
 -- the place of the last element with a number, after a number of others, or else that among those
-abbrev pub last_numbered : ℕ → ℕ → Option ℕ → List Held → Option ℕ
+abbrev pub last_numbered : ℕ → ℕ → Option ℕ → List LinkedElement → Option ℕ
 last_numbered serial place before [] = before
-last_numbered serial place before (one ∷ more) = last_numbered serial (place + 1) (if is_it serial (number_said Serial one.0) then Some place else before) more
+last_numbered serial place before (one ∷ more) = last_numbered serial (place + 1) (if is_it serial (number_of_attribute Serial one.0) then Some place else before) more
 
 -- the place of a holder among linked elements, whose numbers are below a bound
-abbrev pub holder_place : ℕ → List Held → Holder → Option ℕ
+abbrev pub holder_place : ℕ → List LinkedElement → Holder → Option ℕ
 holder_place serials linked (Element serial) = if nat_lt serial serials then last_numbered serial 0 None linked else None
 holder_place serials linked _ = None
 
@@ -52,7 +52,7 @@ with_place place None places = places
 with_place place (Some serial) places = slice_set places serial (Some place)
 
 -- the linked element at a place, if there is one
-abbrev pub element_at : List Held → Option ℕ → Option Node
+abbrev pub element_at : List LinkedElement → Option ℕ → Option Node
 element_at linked None = None
 element_at linked (Some place) = option_map (λ one. one.0) (slice_get linked place)
 
@@ -62,8 +62,8 @@ is_nobody Nobody = true
 is_nobody _ = false
 
 -- the element that holds a name, if there is one
-abbrev pub holding : Option (Bor Node) → Option Node
-holding = option_map (λ node. node.now)
+abbrev pub name_holder : Option (Bor Node) → Option Node
+name_holder = option_map (λ node. node.now)
 
 abbrev pub is_target_node : Node → Bool
 is_target_node (Tagged t a c l) = is_target t

@@ -11,36 +11,36 @@ use Rattle.rst_transform_references.specs.declared.links.Linked.{Linked}
 use Rattle.rst_transform_references.specs.declared.links.LinkedReader.{LinkedReader}
 
 -- an element, and the place of the one that it is inside
-abbrev pub Held : Type 0
-Held = Node × Option ℕ
+abbrev pub LinkedElement : Type 0
+LinkedElement = Node × Option ℕ
 
 -- what a list of them holds
-abbrev pub held : Linked → Held
-held one = (one.element.now, one.outer)
+abbrev pub linked_element : Linked → LinkedElement
+linked_element one = (one.element.now, one.outer)
 
 -- a node that is inside the one at a place, if it is linked itself
-abbrev pub own_linked : Option ℕ → Tag → Node → List Held
+abbrev pub own_linked : Option ℕ → Tag → Node → List LinkedElement
 own_linked outer tag node = if is_linked_tag tag then ((node, outer) ∷ []) else []
 
 -- the innermost linked element that the nodes in one are inside, which comes after a number of others
-abbrev pub inner_of : ℕ → Option ℕ → Tag → Option ℕ
-inner_of before outer tag = if is_linked_tag tag then (Some before) else outer
+abbrev pub innermost_link : ℕ → Option ℕ → Tag → Option ℕ
+innermost_link before outer tag = if is_linked_tag tag then (Some before) else outer
 
 -- those that were read, and one more element that is inside the one at a place
 abbrev pub TakesLinked : LinkedReader → Option ℕ → Node → LinkedReader → Option ℕ → Type 0
 TakesLinked old outer (Text t) new inner = Unit {0}
 TakesLinked old outer (Element t a c l) new inner =
-    (map held new.list.items ≡ map held old.list.items ++ own_linked outer t (Element t a c l)) × (inner ≡ inner_of (length old.list.items) outer t)
+    (map linked_element new.list.items ≡ map linked_element old.list.items ++ own_linked outer t (Element t a c l)) × (inner ≡ innermost_link (length old.list.items) outer t)
 
 -- those among some nodes that are inside the one at a place, after a number of others
-abbrev pub linked_among : ℕ → Option ℕ → Forest → List Held
+abbrev pub linked_among : ℕ → Option ℕ → Forest → List LinkedElement
 linked_among before outer bare = []
 linked_among before outer (words t r) = linked_among before outer r
 linked_among before outer (element t a c l r) =
-    let own : List Held = own_linked outer t (Element t a c l) in
-    let inside : List Held = linked_among (before + length own) (inner_of before outer t) c in
+    let own : List LinkedElement = own_linked outer t (Element t a c l) in
+    let inside : List LinkedElement = linked_among (before + length own) (innermost_link before outer t) c in
     own ++ (inside ++ linked_among (before + length own + length inside) outer r)
 
 -- those in a document
-abbrev pub linked_of : Document → List Held
+abbrev pub linked_of : Document → List LinkedElement
 linked_of document = linked_among 0 None document.children

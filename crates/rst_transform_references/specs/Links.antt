@@ -14,7 +14,7 @@ use Rattle.rst_tree_index.specs.LinkedTags.{is_linked_tag}
 use Rattle.rst_transform_work.specs.declared.document.Document.{Document}
 use Rattle.rst_transform_references.specs.declared.links.Outcome.{Outcome}
 use Rattle.rst_transform_references.specs.declared.links.Outcome.TheVariants.{Stays, Fails, Failed}
-use Rattle.rst_transform_work.specs.Reading.{source_said}
+use Rattle.rst_transform_work.specs.Reading.{rawsource_of}
 
 -- the attributes, and one more if there is one
 abbrev pub with_more : Option Attr → List Attr → List Attr
@@ -22,16 +22,16 @@ with_more None attrs = attrs
 with_more (Some more) attrs = with_attr more.key more.value attrs
 
 -- an element that stays, or gets a text in place of its content
-abbrev pub shown_as : Option (List ℕ) → Tag → List Attr → ℕ → Rewrite
-shown_as None t a l = Keep t a l
-shown_as (Some text) t a l = Replace (Element t a (words text bare) l)
+abbrev pub with_new_text : Option (List ℕ) → Tag → List Attr → ℕ → Rewrite
+with_new_text None t a l = Keep t a l
+with_new_text (Some text) t a l = Replace (Element t a (words text bare) l)
 
 -- what the first outcome makes of an element; what failed becomes a problematic of its source text
 abbrev pub changed_by : List Outcome → Tag → List Attr → ℕ → Rewrite
 changed_by [] t a l = Keep t a l
-changed_by (Stays attr shown ∷ more) t a l = shown_as shown t (with_more attr a) l
+changed_by (Stays attr new_text ∷ more) t a l = with_new_text new_text t (with_more attr a) l
 changed_by (Fails report ∷ more) t a l = Keep t a l
-changed_by (Failed p ∷ more) t a l = Replace (Element Problematic p (words (source_said a) bare) l)
+changed_by (Failed p ∷ more) t a l = Replace (Element Problematic p (words (rawsource_of a) bare) l)
 
 -- what happens to an element
 abbrev pub change_of : List Outcome → Node → Rewrite

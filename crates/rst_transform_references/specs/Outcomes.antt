@@ -9,7 +9,7 @@ abbrev pub adds : Option Attr → Outcome
 adds attr = Stays attr None
 
 abbrev pub stays : Outcome → Bool
-stays (Stays attr shown) = true
+stays (Stays attr new_text) = true
 stays _ = false
 
 abbrev pub fails : Outcome → Bool

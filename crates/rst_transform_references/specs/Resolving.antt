@@ -14,25 +14,25 @@ use Rattle.rst_transform_references.specs.declared.meanings.Meaning.{Meaning}
 use Rattle.rst_transform_references.specs.declared.meanings.Meaning.TheVariants.{Leads, Unknown, Duplicate}
 use Rattle.rst_transform_work.specs.Known.{Known}
 use Rattle.rst_transform_references.specs.Holders.{element_at, holder_place}
-use Rattle.rst_transform_references.specs.Linkings.{Held}
-use Rattle.rst_transform_references.specs.Backrefs.{referents_of, with_backrefs}
+use Rattle.rst_transform_references.specs.Linkings.{LinkedElement}
+use Rattle.rst_transform_references.specs.Backrefs.{referents_of, with_referring_ids}
 use Rattle.rst_transform_references.specs.Meanings.{meaning_to, refers_to_footnote_or_citation}
 use Rattle.rst_transform_references.specs.Outcomes.{adds, fails}
-use Rattle.rst_transform_work.specs.Reading.{line_of, text_said}
+use Rattle.rst_transform_work.specs.Reading.{line_of, text_of_attribute}
 use Rattle.rst_transform_work.specs.Reports.{reported}
 
 -- the label of a footnote or a citation: the text of its first node
-abbrev pub label_of : Node → Option (List ℕ)
-label_of (Element t a c l) = option_map text_in (slice_get (nodes_of c) 0)
-label_of (Text t) = None
+abbrev pub printed_label : Node → Option (List ℕ)
+printed_label (Element t a c l) = option_map text_in (slice_get (nodes_of c) 0)
+printed_label (Text t) = None
 
 -- a reference to a footnote that gets the footnote's label
 abbrev pub shows_label : Node → Bool
 shows_label node = refers_to_footnote_or_citation node && is_some (node_value Auto node)
 
 -- the text of a reference that leads to an element: the label of that, or its own content
-abbrev pub shown_for : List Held → Node → Option ℕ → Option (List ℕ)
-shown_for linked node place = if shows_label node then option_and_then label_of (element_at linked place) else None
+abbrev pub label_for : List LinkedElement → Node → Option ℕ → Option (List ℕ)
+label_for linked node place = if shows_label node then option_and_then printed_label (element_at linked place) else None
 
 -- the words of the ERROR on a name that means nothing
 abbrev pub unknown : List ℕ → List ℕ
@@ -42,21 +42,21 @@ unknown name = codes "Unknown target name: \"" ++ (name ++ codes "\".")
 abbrev pub duplicate : List ℕ → List ℕ
 duplicate name = codes "Duplicate target name, cannot be used as a unique reference: \"" ++ (name ++ codes "\".")
 
-abbrev pub name_of : Node → List ℕ
-name_of node = unwrap_or (text_said Refname node) []
+abbrev pub refname_of_node : Node → List ℕ
+refname_of_node node = unwrap_or (text_of_attribute Refname node) []
 
 -- a reference fails for an ERROR of its own, which is in the last section
-abbrev pub failing : Node → List ℕ → Known → Outcome × Known
-failing node text known = (Fails (length known.reports), reported Error (line_of node) text true known)
+abbrev pub failing_reference : Node → List ℕ → Known → Outcome × Known
+failing_reference node text known = (Fails (length known.reports), reported Error (line_of node) text true known)
 
 -- what happens to a reference whose name means something
-abbrev pub outcome_of : List Held → Node → Meaning → Known → Outcome × Known
-outcome_of linked node (Leads attr place) known = (Stays (Some attr) (shown_for linked node place), known)
-outcome_of linked node Unknown known = failing node (unknown (name_of node)) known
-outcome_of linked node Duplicate known = failing node (duplicate (name_of node)) known
+abbrev pub outcome_of : List LinkedElement → Node → Meaning → Known → Outcome × Known
+outcome_of linked node (Leads attr place) known = (Stays (Some attr) (label_for linked node place), known)
+outcome_of linked node Unknown known = failing_reference node (unknown (refname_of_node node)) known
+outcome_of linked node Duplicate known = failing_reference node (duplicate (refname_of_node node)) known
 
 -- what happens to an element that may be gone with the one that it is inside
-abbrev pub outcome_unless : Bool → List Held → Node → Option Meaning → Known → Outcome × Known
+abbrev pub outcome_unless : Bool → List LinkedElement → Node → Option Meaning → Known → Outcome × Known
 outcome_unless false linked node (Some meaning) known = outcome_of linked node meaning known
 outcome_unless _ linked node _ known = (adds None, known)
 
@@ -66,12 +66,12 @@ is_gone ended None = false
 is_gone ended (Some outer) = unwrap_or (slice_get ended outer) false
 
 -- the places of holders among the linked elements of a document, and these
-module _ (places : Holder → Option ℕ) (linked : List Held) where
+module _ (places : Holder → Option ℕ) (linked : List LinkedElement) where
   abbrev pub what_becomes : Bool → Node → Known → Outcome × Known
   what_becomes gone node known = outcome_unless gone linked node (meaning_to places linked known.names node) known
 
   -- the same of some elements in preorder; of each element before them it is known whether it is gone or fails
-  abbrev pub resolved_from : List Bool → List Held → Known → List Outcome × Known
+  abbrev pub resolved_from : List Bool → List LinkedElement → Known → List Outcome × Known
   resolved_from ended [] known = ([], known)
   resolved_from ended (one ∷ more) known =
       let gone : Bool = is_gone ended one.1 in
@@ -80,8 +80,8 @@ module _ (places : Holder → Option ℕ) (linked : List Held) where
       (own.0 ∷ rest.0, rest.1)
 
 -- What happens to linked elements. In the end each footnote and citation lists the references to it; the names are as before.
-abbrev pub reference_outcomes : List Held → Known → List Outcome × Known
+abbrev pub reference_outcomes : List LinkedElement → Known → List Outcome × Known
 reference_outcomes linked known =
     let places : Holder → Option ℕ = holder_place known.serials linked in
     let done : List Outcome × Known = resolved_from places linked [] linked known in
-    (with_backrefs (referents_of places linked done.1.names) linked done.0, done.1)
+    (with_referring_ids (referents_of places linked done.1.names) linked done.0, done.1)

@@ -8,7 +8,7 @@ use Rattle.rst_transform_work.specs.Lists.{at_place}
 use Rattle.rst_transform_work.specs.Problematics.{problematic}
 use Rattle.rst_transform_references.specs.declared.links.Outcome.{Outcome}
 use Rattle.rst_transform_references.specs.declared.links.Outcome.TheVariants.{Fails, Failed}
-use Rattle.rst_transform_references.specs.Linkings.{Held}
+use Rattle.rst_transform_references.specs.Linkings.{LinkedElement}
 
 -- the earlier of a message and the one that an element fails for, where there are such
 abbrev pub earlier : Option ℕ → Outcome → Option ℕ
@@ -26,7 +26,7 @@ first_in around outcomes None = None
 first_in around outcomes (Some outer) = earlier_at (slice_get around outer) (slice_get outcomes outer)
 
 -- the same for each of some elements, after those for the elements before them
-abbrev pub firsts : List (Option ℕ) → List Outcome → List Held → List (Option ℕ)
+abbrev pub firsts : List (Option ℕ) → List Outcome → List LinkedElement → List (Option ℕ)
 firsts before outcomes [] = before
 firsts before outcomes (one ∷ more) = firsts (before ++ first_in before outcomes one.1 ∷ []) outcomes more
 
@@ -60,7 +60,7 @@ abbrev pub remaining : List (Option ℕ) → List Outcome → List Outcome
 remaining around outcomes = filter_map (left_at around) (enumerate_from 0 outcomes)
 
 -- what happens to the linked elements that remain, by the outcomes of all
-abbrev pub settled : List Held → List Outcome → Known → List Outcome × Known
+abbrev pub settled : List LinkedElement → List Outcome → Known → List Outcome × Known
 settled linked outcomes known =
     let around : List (Option ℕ) = firsts [] outcomes linked in
     let reports : ℕ = length known.reports in
@@ -68,5 +68,5 @@ settled linked outcomes known =
     (remaining around done.0, done.1)
 
 -- what happens to linked elements as a transform decides
-abbrev pub link_changes : (List Held → Known → List Outcome × Known) → List Held → Known → List Outcome × Known
+abbrev pub link_changes : (List LinkedElement → Known → List Outcome × Known) → List LinkedElement → Known → List Outcome × Known
 link_changes decides linked known = let decided : List Outcome × Known = decides linked known in settled linked decided.0 decided.1

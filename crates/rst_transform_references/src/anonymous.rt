@@ -2,13 +2,13 @@
 ghost use Rattle.std.specs.Prelude.{◌≡◌, drop, map, true};
 ghost use Rattle.rst_tree.specs.Faults.{Gives};
 ghost use Rattle.rst_tree.specs.declared.note.Level.TheVariants.{Error};
-ghost use Rattle.rst_transform_references.specs.Anonymous.{anonymous_outcomes, anonymous_references, anonymous_targets, failing, first_lead, first_line, is_anonymous_reference, is_anonymous_target, mismatch, paired};
-ghost use Rattle.rst_transform_references.specs.Linkings.{held};
+ghost use Rattle.rst_transform_references.specs.Anonymous.{anonymous_outcomes, anonymous_references, anonymous_targets, failing_anonymous, first_lead, first_anonymous_line, is_anonymous_reference, is_anonymous_target, mismatch, paired};
+ghost use Rattle.rst_transform_references.specs.Linkings.{linked_element};
 ghost use Rattle.rst_transform_work.specs.Known.{Makes};
 
 use crate::holders::{lead_of, text_attr};
 use crate::links::{Linked, Outcome};
-use rst_transform_work::{Context, first_said, has, line_of};
+use rst_transform_work::{Context, first_of_attribute, has, line_of};
 use rst_tree::{Attr, Key, Level, Node, Result, Tag, Text};
 use std::alloc::Global;
 
@@ -35,7 +35,7 @@ use std::alloc::Global;
 /// One through an indirect target is left to the next transform. If there are more of the ones than of the others, there is
 /// one ERROR, and each reference becomes a problematic.
 pub fn anonymous_outcomes(context: &mut Context, linked: &[Linked<'_>]) -> Result<Vec<Outcome>>
-    ensures { Gives (λ outcomes. Makes (anonymous_outcomes (map held linked.now)) context.old context.new outcomes.items) result }
+    ensures { Gives (λ outcomes. Makes (anonymous_outcomes (map linked_element linked.now)) context.old context.new outcomes.items) result }
 {
     let references = anonymous_references(context.alloc, linked)?;
     let targets = anonymous_targets(context.alloc, linked)?;
@@ -46,7 +46,7 @@ pub fn anonymous_outcomes(context: &mut Context, linked: &[Linked<'_>]) -> Resul
         let outcomes = paired(context.alloc, linked, targets.as_slice())?;
         return Ok(outcomes);
     }
-    let line = first_line(&references, &targets);
+    let line = first_anonymous_line(&references, &targets);
     let text = mismatch(context.alloc, references.len(), targets.len())?;
     let report = context.report(Level::Error, line, text, true)?;
     let outcomes = mismatched(context.alloc, linked, report)?;
@@ -79,7 +79,7 @@ pub fn is_anonymous_target(node: &Node) -> bool
 
 /// The anonymous references among linked elements, in order.
 fn anonymous_references<'a>(alloc: Global, linked: &[Linked<'a>]) -> Result<Vec<Linked<'a>>>
-    ensures { Gives (λ list. map held list.items ≡ anonymous_references (map held linked.now)) result }
+    ensures { Gives (λ list. map linked_element list.items ≡ anonymous_references (map linked_element linked.now)) result }
 {
     let mut list = Vec::new(alloc);
     for one in linked {
@@ -92,7 +92,7 @@ fn anonymous_references<'a>(alloc: Global, linked: &[Linked<'a>]) -> Result<Vec<
 
 /// The anonymous targets among linked elements, in order.
 fn anonymous_targets<'a>(alloc: Global, linked: &[Linked<'a>]) -> Result<Vec<Linked<'a>>>
-    ensures { Gives (λ list. map held list.items ≡ anonymous_targets (map held linked.now)) result }
+    ensures { Gives (λ list. map linked_element list.items ≡ anonymous_targets (map linked_element linked.now)) result }
 {
     let mut list = Vec::new(alloc);
     for one in linked {
@@ -104,8 +104,8 @@ fn anonymous_targets<'a>(alloc: Global, linked: &[Linked<'a>]) -> Result<Vec<Lin
 }
 
 /// The line of the first reference, or else target.
-fn first_line(references: &[Linked<'_>], targets: &[Linked<'_>]) -> usize
-    ensures { result ≡ first_line (map held references.now) (map held targets.now) }
+fn first_anonymous_line(references: &[Linked<'_>], targets: &[Linked<'_>]) -> usize
+    ensures { result ≡ first_anonymous_line (map linked_element references.now) (map linked_element targets.now) }
 {
     match references.first().or(targets.first()) {
         Some(one) => line_of(one.element),
@@ -125,14 +125,14 @@ fn mismatch(alloc: Global, references: usize, targets: usize) -> Result<Text>
 
 /// What happens to the elements: each anonymous reference takes the next target.
 fn paired(alloc: Global, linked: &[Linked<'_>], targets: &[Linked<'_>]) -> Result<Vec<Outcome>>
-    ensures { Gives (λ outcomes. outcomes.items ≡ paired (map held linked.entry.now) (map held targets.entry.now)) result }
+    ensures { Gives (λ outcomes. outcomes.items ≡ paired (map linked_element linked.entry.now) (map linked_element targets.entry.now)) result }
 {
     let mut left = targets;
     let mut outcomes = Vec::new(alloc);
     for one in linked {
         if is_anonymous_reference(one.element) {
             outcomes.push(Outcome::adds(first_lead(alloc, left)?))?;
-            left = behind_first(left);
+            left = after_first(left);
             continue;
         }
         outcomes.push(Outcome::adds(None))?;
@@ -141,7 +141,7 @@ fn paired(alloc: Global, linked: &[Linked<'_>], targets: &[Linked<'_>]) -> Resul
 }
 
 /// All but the first.
-fn behind_first<'t, 'a>(targets: &'t [Linked<'a>]) -> &'t [Linked<'a>]
+fn after_first<'t, 'a>(targets: &'t [Linked<'a>]) -> &'t [Linked<'a>]
     ensures { result.now ≡ drop 1 targets.now }
 {
     &targets[targets.len().min(1)..]
@@ -149,7 +149,7 @@ fn behind_first<'t, 'a>(targets: &'t [Linked<'a>]) -> &'t [Linked<'a>]
 
 /// What a reference takes from the first of some targets, if there is one: where that leads, or its id, unless it is an indirect one.
 fn first_lead(alloc: Global, targets: &[Linked<'_>]) -> Result<Option<Attr>>
-    ensures { Gives (λ lead. lead ≡ first_lead (map held targets.entry.now)) result }
+    ensures { Gives (λ lead. lead ≡ first_lead (map linked_element targets.entry.now)) result }
 {
     let Some(target) = targets.first() else {
         return Ok(None);
@@ -160,7 +160,7 @@ fn first_lead(alloc: Global, targets: &[Linked<'_>]) -> Result<Option<Attr>>
     if has(target.element, Key::Refname) {
         return Ok(None);
     }
-    match first_said(target.element, Key::Ids) {
+    match first_of_attribute(target.element, Key::Ids) {
         Some(id) => Ok(Some(text_attr(alloc, Key::Refid, id)?)),
         None => Ok(None),
     }
@@ -168,15 +168,17 @@ fn first_lead(alloc: Global, targets: &[Linked<'_>]) -> Result<Option<Attr>>
 
 /// Where all anonymous references fail for a report, what happens to the elements.
 fn mismatched(alloc: Global, linked: &[Linked<'_>], report: usize) -> Result<Vec<Outcome>>
-    ensures { Gives (λ outcomes. outcomes.items ≡ map (λ one. failing report one.element.now) linked.now) result }
+    ensures { Gives (λ outcomes. outcomes.items ≡ map (λ one. failing_anonymous report one.element.now) linked.now) result }
 {
-    let outcomes = linked.iter().map(|one| failing(report, one.element));
+    let outcomes = linked
+        .iter()
+        .map(|one| failing_anonymous(report, one.element));
     Ok(outcomes.collect(alloc)?)
 }
 
 /// What happens to an element where all anonymous references fail for a report.
-fn failing(report: usize, element: &Node) -> Outcome
-    ensures { result ≡ failing report element.now }
+fn failing_anonymous(report: usize, element: &Node) -> Outcome
+    ensures { result ≡ failing_anonymous report element.now }
 {
     if is_anonymous_reference(element) {
         return Outcome::Fails(report);

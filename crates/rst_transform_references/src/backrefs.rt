@@ -2,10 +2,10 @@
 ghost use Rattle.std.specs.Prelude.{◌≡◌, [], map, replicate};
 ghost use Rattle.std.specs.List.{list_any};
 ghost use Rattle.rst_tree.specs.Faults.{Gives};
-ghost use Rattle.rst_transform_references.specs.Backrefs.{reference_ids, referent_of, referents_of, referred_to, with_backrefs, with_reference};
+ghost use Rattle.rst_transform_references.specs.Backrefs.{reference_ids, referent_of, referents_of, referred_to, with_referring_ids, with_reference};
 ghost use Rattle.rst_transform_references.specs.Holders.{place_at};
-ghost use Rattle.rst_transform_references.specs.Linkings.{held};
-ghost use Rattle.rst_transform_names.specs.Names.{held_by};
+ghost use Rattle.rst_transform_references.specs.Linkings.{linked_element};
+ghost use Rattle.rst_transform_names.specs.Names.{entry_named};
 ghost use Rattle.rst_transform_references.specs.Meanings.{refers_to_footnote_or_citation};
 
 use crate::footnote_orders::found_by_order;
@@ -13,7 +13,7 @@ use crate::holders::Holders;
 use crate::links::{Linked, Outcome};
 use crate::meanings::{Meaning, meaning_to, refers_to_footnote_or_citation};
 use rst_transform_names::Names;
-use rst_transform_work::{at_place, first_said};
+use rst_transform_work::{at_place, first_of_attribute};
 use rst_tree::{Attr, Key, Node, Result, Text, Texts, Value};
 use std::alloc::Global;
 
@@ -24,7 +24,7 @@ fn referent_of(
     element: &Node,
     found: Option<usize>,
 ) -> Result<Option<usize>>
-    ensures { Gives (λ referent. referent ≡ referent_of (place_at holders.now.places.items) (map held holders.now.linked.now) (held_by names.now) element.now found) result }
+    ensures { Gives (λ referent. referent ≡ referent_of (place_at holders.now.places.items) (map linked_element holders.now.linked.now) (entry_named names.now) element.now found) result }
 {
     if !refers_to_footnote_or_citation(element) {
         return Ok(None);
@@ -37,7 +37,7 @@ fn referent_of(
 
 /// For each linked element the place of the footnote or citation that it refers to.
 fn referents_of(names: &Names, holders: &Holders<'_>) -> Result<Vec<Option<usize>>>
-    ensures { Gives (λ referents. referents.items ≡ referents_of (place_at holders.now.places.items) (map held holders.now.linked.now) (held_by names.now)) result }
+    ensures { Gives (λ referents. referents.items ≡ referents_of (place_at holders.now.places.items) (map linked_element holders.now.linked.now) (entry_named names.now)) result }
 {
     let found = found_by_order(holders.alloc, holders.linked)?;
     let mut referents = Vec::with_capacity(holders.alloc, holders.linked.len())?;
@@ -73,7 +73,7 @@ fn add_reference(
     let Some(referent) = referent else {
         return Ok(());
     };
-    let Some(id) = first_said(reference, Key::Ids) else {
+    let Some(id) = first_of_attribute(reference, Key::Ids) else {
         return Ok(());
     };
     if referent >= lists.len() {
@@ -90,7 +90,7 @@ fn reference_ids(
     referents: &[Option<usize>],
     count: usize,
 ) -> Result<Vec<Texts>>
-    ensures { Gives (λ lists. lists.items ≡ reference_ids referents.now (map held holders.now.linked.now) count) result }
+    ensures { Gives (λ lists. lists.items ≡ reference_ids referents.now (map linked_element holders.now.linked.now) count) result }
 {
     let mut lists = no_ids(holders.alloc, count)?;
     for (place, referent) in referents.iter().enumerate() {
@@ -124,12 +124,12 @@ fn any_refers_to_footnote_or_citation(linked: &[Linked<'_>]) -> bool
 }
 
 /// What happens to the linked elements, where each footnote and citation lists the ids of the references to it, in order.
-pub fn with_backrefs(
+pub fn with_referring_ids(
     names: &Names,
     holders: &Holders<'_>,
     outcomes: Vec<Outcome>,
 ) -> Result<Vec<Outcome>>
-    ensures { let all = map held holders.now.linked.now in Gives (λ changed. changed.items ≡ with_backrefs (referents_of (place_at holders.now.places.items) all (held_by names.now)) all outcomes.items) result }
+    ensures { let all = map linked_element holders.now.linked.now in Gives (λ changed. changed.items ≡ with_referring_ids (referents_of (place_at holders.now.places.items) all (entry_named names.now)) all outcomes.items) result }
 {
     if !any_refers_to_footnote_or_citation(holders.linked) {
         return Ok(outcomes);

@@ -2,7 +2,7 @@
 ghost use Rattle.std.specs.Prelude.{◌≡◌, ◌+◌, map, unwrap_or};
 ghost use Rattle.rst_tree.specs.Faults.{Gives};
 ghost use Rattle.rst_transform_references.specs.declared.chains.Answer.TheVariants.{Circular};
-ghost use Rattle.rst_transform_references.specs.Chains.{answers_of, at_once, filled, next_on, KnownBelow};
+ghost use Rattle.rst_transform_references.specs.Chains.{answers_of, first_step_answer, filled_answers, next_on, KnownBelow};
 ghost use Rattle.rst_transform_work.specs.Lists.{at_place};
 
 use rst_transform_work::{item_at, put_at};
@@ -46,7 +46,7 @@ impl Answer {
 pub fn answers(alloc: Global, steps: &[Option<Step>]) -> Result<Vec<Option<Answer>>>
     ensures { Gives (λ answers. answers.items ≡ answers_of steps.now) result }
 {
-    let mut answers = at_once(alloc, steps)?;
+    let mut answers = first_step_answer(alloc, steps)?;
     for start in 0..steps.len() {
         follow(alloc, steps, &mut answers, start)?;
     }
@@ -54,8 +54,8 @@ pub fn answers(alloc: Global, steps: &[Option<Step>]) -> Result<Vec<Option<Answe
 }
 
 /// The answers of those whose chains end with the first step.
-fn at_once(alloc: Global, steps: &[Option<Step>]) -> Result<Vec<Option<Answer>>>
-    ensures { Gives (λ answers. answers.items ≡ map at_once steps.now) result }
+fn first_step_answer(alloc: Global, steps: &[Option<Step>]) -> Result<Vec<Option<Answer>>>
+    ensures { Gives (λ answers. answers.items ≡ map first_step_answer steps.now) result }
 {
     let mut answers = Vec::with_capacity(alloc, steps.len())?;
     for step in steps {
@@ -122,7 +122,7 @@ fn fill(
     found: &Answer,
     answers: &mut Vec<Option<Answer>>,
 ) -> Result<()>
-    ensures { Gives (λ _. answers.new.items ≡ filled found.now chain.now answers.old.items) result }
+    ensures { Gives (λ _. answers.new.items ≡ filled_answers found.now chain.now answers.old.items) result }
 {
     for place in chain {
         put_at(answers, *place, Some(found.copy(alloc)?));

@@ -1,11 +1,11 @@
 //! The labels of footnotes.
 ghost use Rattle.std.specs.Prelude.{◌≡◌, ◌+◌, ◌<◌, ◌≤◌, ◌%◌, false, if◌then◌else◌, length, map};
 ghost use Rattle.rst_tree.specs.Faults.{Gives};
-ghost use Rattle.rst_transform_references.specs.Linkings.{held};
-ghost use Rattle.rst_transform_references.specs.FootnoteLabels.{free_numbers, labels, number_of, symbol_label, symbols, to_number, with_written, TellsWritten};
-ghost use Rattle.rst_transform_references.specs.FootnoteOrders.{mark_of};
+ghost use Rattle.rst_transform_references.specs.Linkings.{linked_element};
+ghost use Rattle.rst_transform_references.specs.FootnoteLabels.{free_numbers, labels, label_number, symbol_label, symbols, to_number, with_written, TellsWritten};
+ghost use Rattle.rst_transform_references.specs.FootnoteOrders.{written_label};
 
-use crate::footnote_orders::mark_of;
+use crate::footnote_orders::written_label;
 use crate::links::Linked;
 use rst_transform_names::number_in;
 use rst_transform_work::put_at;
@@ -18,9 +18,9 @@ const SYMBOLS: [char; 10] = ['*', '†', '‡', '§', '¶', '#', '♠', '♥', '
 
 /// Marks the number that a footnote was written with, if there is one and it is among those that the list is about.
 fn set_written(written: &mut Vec<bool>, node: &Node)
-    ensures { written.new.items ≡ with_written (number_of (mark_of node.now)) written.old.items }
+    ensures { written.new.items ≡ with_written (label_number (written_label node.now)) written.old.items }
 {
-    let Some(mark) = mark_of(node) else {
+    let Some(mark) = written_label(node) else {
         return;
     };
     if let Some(number) = number_in(mark) {
@@ -30,7 +30,7 @@ fn set_written(written: &mut Vec<bool>, node: &Node)
 
 /// For each number up to that of all linked elements whether a footnote was written with it.
 fn written_numbers(alloc: Global, linked: &[Linked<'_>]) -> Result<Vec<bool>>
-    ensures { Gives (λ written. TellsWritten (map held linked.now) written.items) result }
+    ensures { Gives (λ written. TellsWritten (map linked_element linked.now) written.items) result }
 {
     let mut written = vec![in alloc; false; linked.len() + 1]?;
     for one in linked {
@@ -42,8 +42,8 @@ fn written_numbers(alloc: Global, linked: &[Linked<'_>]) -> Result<Vec<bool>>
 /// The numbers from 1 on, as many as there are elements, that no footnote was written with. There is one for each footnote
 /// that is to be numbered.
 fn free_numbers(alloc: Global, linked: &[Linked<'_>]) -> Result<Vec<usize>>
-    ensures enough { Gives (λ free. length (to_number (map held linked.now)) ≤ length free.items) result }
-    ensures free { Gives (λ free. free.items ≡ free_numbers (map held linked.now)) result }
+    ensures enough { Gives (λ free. length (to_number (map linked_element linked.now)) ≤ length free.items) result }
+    ensures free { Gives (λ free. free.items ≡ free_numbers (map linked_element linked.now)) result }
 {
     let written = written_numbers(alloc, linked)?;
     let mut free = Vec::new(alloc);
@@ -72,13 +72,13 @@ fn symbol_label(alloc: Global, n: usize) -> Result<Text>
 /// The label of each footnote, by its place; there is nothing for the other elements. Each footnote that is to be numbered
 /// takes the next free number, and each symbol footnote the next symbol.
 pub fn labels(alloc: Global, linked: &[Linked<'_>]) -> Result<Vec<Option<Text>>>
-    ensures { Gives (λ list. list.items ≡ labels (map held linked.now)) result }
+    ensures { Gives (λ list. list.items ≡ labels (map linked_element linked.now)) result }
 {
     let mut numbers = free_numbers(alloc, linked)?.into_iter();
     let mut symbols = 0;
     let mut list = Vec::with_capacity(alloc, linked.len())?;
     for one in linked {
-        let Some(mark) = mark_of(one.element) else {
+        let Some(mark) = written_label(one.element) else {
             list.push(None)?;
             continue;
         };

@@ -2,11 +2,11 @@
 ghost use Rattle.std.specs.Prelude.{◌≡◌, map, MatchOption, None, Some};
 ghost use Rattle.rst_tree.specs.Faults.{Gives};
 ghost use Rattle.rst_tree.specs.declared.key.Key.TheVariants.{Auto};
-ghost use Rattle.rst_transform_references.specs.Linkings.{held};
-ghost use Rattle.rst_transform_references.specs.FootnoteOrders.{footnote_order, found_by_order, in_order, is_order, mark_of, order_name, reference_order};
+ghost use Rattle.rst_transform_references.specs.Linkings.{linked_element};
+ghost use Rattle.rst_transform_references.specs.FootnoteOrders.{footnote_order, found_by_order, in_order, is_order, written_label, order_name, reference_order};
 
 use crate::links::Linked;
-use rst_tree::{Key, Node, Result, Said, Tag};
+use rst_tree::{Key, Node, Result, Tag, ValueRef};
 use std::alloc::Global;
 
 /// The two orders by which a reference without a name finds its footnote (Markup Specification, 'Footnotes').
@@ -41,8 +41,8 @@ impl Order {
 }
 
 /// The label that a footnote was written with.
-pub fn mark_of<'a>(node: &'a Node) -> Option<&'a str>
-    ensures { MatchOption result (mark_of node.now ≡ None) (λ mark. mark_of node.now ≡ Some mark.now) }
+pub fn written_label<'a>(node: &'a Node) -> Option<&'a str>
+    ensures { MatchOption result (written_label node.now ≡ None) (λ mark. written_label node.now ≡ Some mark.now) }
 {
     match node {
         Node::Element { tag, attrs, .. } if matches!(tag, Tag::Footnote) => {
@@ -56,7 +56,7 @@ pub fn mark_of<'a>(node: &'a Node) -> Option<&'a str>
 pub fn footnote_order(node: &Node) -> Option<Order>
     ensures { result ≡ footnote_order node.now }
 {
-    match mark_of(node)? {
+    match written_label(node)? {
         "#" => Some(Order::Numbers),
         "*" => Some(Order::Symbols),
         _ => None,
@@ -71,7 +71,7 @@ pub fn reference_order(node: &Node) -> Option<Order>
         Node::Element { tag, attrs, .. }
             if matches!(tag, Tag::FootnoteReference) && !attrs.has(Key::Refname) => {
             match attrs.get(Key::Auto)? {
-                Said::Text(text) if text.as_str() == "*" => Some(Order::Symbols),
+                ValueRef::Text(text) if text.as_str() == "*" => Some(Order::Symbols),
                 _ => Some(Order::Numbers),
             }
         }
@@ -81,7 +81,7 @@ pub fn reference_order(node: &Node) -> Option<Order>
 
 /// The places of the footnotes that references find by an order.
 pub fn in_order(alloc: Global, linked: &[Linked<'_>], order: Order) -> Result<Vec<usize>>
-    ensures { Gives (λ places. places.items ≡ in_order order (map held linked.now)) result }
+    ensures { Gives (λ places. places.items ≡ in_order order (map linked_element linked.now)) result }
 {
     let mut places = Vec::new(alloc);
     for (place, one) in linked.iter().enumerate() {
@@ -95,7 +95,7 @@ pub fn in_order(alloc: Global, linked: &[Linked<'_>], order: Order) -> Result<Ve
 /// For each linked element the place of the footnote that it finds by the order, if it finds one: each reference takes the next
 /// footnote of its order, where one is left.
 pub fn found_by_order(alloc: Global, linked: &[Linked<'_>]) -> Result<Vec<Option<usize>>>
-    ensures { Gives (λ found. found.items ≡ found_by_order (map held linked.now)) result }
+    ensures { Gives (λ found. found.items ≡ found_by_order (map linked_element linked.now)) result }
 {
     let mut numbers = in_order(alloc, linked, Order::Numbers)?.into_iter();
     let mut symbols = in_order(alloc, linked, Order::Symbols)?.into_iter();

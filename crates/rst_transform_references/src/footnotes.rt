@@ -3,9 +3,9 @@ ghost use Rattle.std.specs.Prelude.{◌≡◌, ℕ, List, MatchOption, None, Som
 ghost use Rattle.std.specs.List.{list_all};
 ghost use Rattle.std.specs.Option.{option_or};
 ghost use Rattle.rst_tree.specs.Faults.{Gives};
-ghost use Rattle.rst_transform_names.specs.Names.{held_by};
-ghost use Rattle.rst_transform_references.specs.Footnotes.{entry_of, first_left_over, footnote_outcomes, is_no_footnote, is_of_footnotes, label_in, lead_to_footnote, outcomes_by, own_number, leftover, with_number, with_numbers};
-ghost use Rattle.rst_transform_references.specs.Linkings.{held};
+ghost use Rattle.rst_transform_names.specs.Names.{entry_named};
+ghost use Rattle.rst_transform_references.specs.Footnotes.{footnote_name_entry, first_left_over, footnote_outcomes, is_no_footnote, is_of_footnotes, label_in, lead_to_footnote, outcomes_by, own_number, leftover, with_number, with_numbers};
+ghost use Rattle.rst_transform_references.specs.Linkings.{linked_element};
 ghost use Rattle.rst_transform_references.specs.FootnoteOrders.{in_order, reference_order};
 ghost use Rattle.rst_transform_work.specs.Known.{Makes};
 ghost use Rattle.rst_transform_work.specs.Lists.{at_place};
@@ -15,7 +15,9 @@ use crate::footnote_orders::{Order, footnote_order, found_by_order, in_order, re
 use crate::holders::text_attr;
 use crate::links::{Linked, Outcome};
 use rst_transform_names::{Holder, NameEntry, Names, Strength};
-use rst_transform_work::{Context, at_place, first_said, item_at, line_of, list_said, number_said};
+use rst_transform_work::{
+    Context, at_place, first_of_attribute, item_at, line_of, list_of_attribute, number_of_attribute,
+};
 use rst_tree::{Attr, Key, Level, Node, Result, Tag, Text, Value};
 use std::alloc::Global;
 
@@ -58,7 +60,7 @@ use std::alloc::Global;
 ///
 /// References left over become problematics of one ERROR for each of the two numberings.
 pub fn footnote_outcomes(context: &mut Context, linked: &[Linked<'_>]) -> Result<Vec<Outcome>>
-    ensures { Gives (λ outcomes. Makes (footnote_outcomes (map held linked.now)) context.old context.new outcomes.items) result }
+    ensures { Gives (λ outcomes. Makes (footnote_outcomes (map linked_element linked.now)) context.old context.new outcomes.items) result }
 {
     if none_is_of_footnotes(linked) {
         return Ok(Vec::new(context.alloc));
@@ -74,7 +76,7 @@ pub fn footnote_outcomes(context: &mut Context, linked: &[Linked<'_>]) -> Result
 
 /// Whether no element is a footnote or a reference to one.
 fn none_is_of_footnotes(linked: &[Linked<'_>]) -> bool
-    ensures { result ≡ list_all (λ one. is_no_footnote (held one)) linked.now }
+    ensures { result ≡ list_all (λ one. is_no_footnote (linked_element one)) linked.now }
 {
     linked.iter().all(|one| !is_of_footnotes(one.element))
 }
@@ -106,7 +108,7 @@ fn hold_numbers(
     linked: &[Linked<'_>],
     labels: &[Option<Text>],
 ) -> Result<()>
-    ensures { Gives (λ _. (name : List ℕ) → held_by names.new name ≡ with_numbers labels.now (map held linked.now) (held_by names.old) name) result }
+    ensures { Gives (λ _. (name : List ℕ) → entry_named names.new name ≡ with_numbers labels.now (map linked_element linked.now) (entry_named names.old) name) result }
 {
     for (place, one) in linked.iter().enumerate() {
         hold_number(alloc, names, one.element, labels, place)?;
@@ -122,7 +124,7 @@ fn hold_number(
     labels: &[Option<Text>],
     place: usize,
 ) -> Result<()>
-    ensures { Gives (λ _. (name : List ℕ) → held_by names.new name ≡ option_or (held_by names.old name) (entry_of name (own_number element.now (at_place labels.now place)) element.now)) result }
+    ensures { Gives (λ _. (name : List ℕ) → entry_named names.new name ≡ option_or (entry_named names.old name) (footnote_name_entry name (own_number element.now (at_place labels.now place)) element.now)) result }
 {
     let Some(number) = own_number(element, labels, place) else {
         return Ok(());
@@ -131,24 +133,24 @@ fn hold_number(
         return Ok(());
     }
     let serial_and_id = (
-        number_said(element, Key::Serial),
-        first_said(element, Key::Ids),
+        number_of_attribute(element, Key::Serial),
+        first_of_attribute(element, Key::Ids),
     );
     let (Some(serial), Some(id)) = serial_and_id else {
         return Ok(());
     };
-    let held = NameEntry {
+    let name_entry = NameEntry {
         holder: Holder::Element(serial),
         strength: Strength::Explicit,
         id: Text::from_str(alloc, id)?,
         uri: None,
     };
-    names.hold(alloc, number.as_str(), held)
+    names.hold(alloc, number.as_str(), name_entry)
 }
 
 /// The line of the first reference of an order that finds no footnote, if there is such.
 fn first_left_over(linked: &[Linked<'_>], found: &[Option<usize>], order: Order) -> Option<usize>
-    ensures { result ≡ first_left_over order found.now (map held linked.now) }
+    ensures { result ≡ first_left_over order found.now (map linked_element linked.now) }
 {
     for (place, one) in linked.iter().enumerate() {
         if order.is(reference_order(one.element)) && at_place(found, place).is_none() {
@@ -165,7 +167,7 @@ fn leftover(
     found: &[Option<usize>],
     order: Order,
 ) -> Result<Option<usize>>
-    ensures { Gives (Makes (leftover (first_left_over order found.now (map held linked.now)) order (length (in_order order (map held linked.now)))) context.old context.new) result }
+    ensures { Gives (Makes (leftover (first_left_over order found.now (map linked_element linked.now)) order (length (in_order order (map linked_element linked.now)))) context.old context.new) result }
 {
     let Some(line) = first_left_over(linked, found, order) else {
         return Ok(None);
@@ -189,14 +191,14 @@ fn outcomes_by(
     numbers: Option<usize>,
     symbols: Option<usize>,
 ) -> Result<Vec<Outcome>>
-    ensures { Gives (λ list. list.items ≡ outcomes_by (map held linked.now) labels.now found.now numbers symbols) result }
+    ensures { Gives (λ list. list.items ≡ outcomes_by (map linked_element linked.now) labels.now found.now numbers symbols) result }
 {
     let mut list = Vec::with_capacity(alloc, linked.len())?;
     for (place, one) in linked.iter().enumerate() {
         if let Some(footnote) = at_place(found, place) {
             let attr = lead_to_footnote(alloc, linked, footnote)?;
-            let shown = label_in(labels, Some(footnote))?;
-            list.push(Outcome::Stays { attr, shown })?;
+            let new_text = label_in(labels, Some(footnote))?;
+            list.push(Outcome::Stays { attr, new_text })?;
             continue;
         }
         let report = match reference_order(one.element) {
@@ -213,8 +215,11 @@ fn outcomes_by(
             ..
         } = one.element
         {
-            let shown = label_in(labels, one.outer)?;
-            list.push(Outcome::Stays { attr: None, shown })?;
+            let new_text = label_in(labels, one.outer)?;
+            list.push(Outcome::Stays {
+                attr: None,
+                new_text,
+            })?;
             continue;
         }
         let names = with_number(alloc, one.element, labels, place)?;
@@ -225,7 +230,7 @@ fn outcomes_by(
 
 /// A copy of the label of a footnote, if there is one.
 fn label_in(labels: &[Option<Text>], footnote: Option<usize>) -> Result<Option<Text>>
-    ensures { Gives (λ shown. shown ≡ label_in labels.now footnote) result }
+    ensures { Gives (λ new_text. new_text ≡ label_in labels.now footnote) result }
 {
     match footnote {
         Some(footnote) => match item_at(labels, footnote) {
@@ -238,12 +243,12 @@ fn label_in(labels: &[Option<Text>], footnote: Option<usize>) -> Result<Option<T
 
 /// What a reference takes from the footnote at a place: its id.
 fn lead_to_footnote(alloc: Global, linked: &[Linked<'_>], footnote: usize) -> Result<Option<Attr>>
-    ensures { Gives (λ lead. lead ≡ lead_to_footnote (slice_get (map held linked.now) footnote)) result }
+    ensures { Gives (λ lead. lead ≡ lead_to_footnote (slice_get (map linked_element linked.now) footnote)) result }
 {
     let Some(one) = linked.get(footnote) else {
         return Ok(None);
     };
-    match first_said(one.element, Key::Ids) {
+    match first_of_attribute(one.element, Key::Ids) {
         Some(id) => Ok(Some(text_attr(alloc, Key::Refid, id)?)),
         None => Ok(None),
     }
@@ -261,7 +266,7 @@ fn with_number(
     let Some(number) = own_number(node, labels, place) else {
         return Ok(None);
     };
-    let mut names = list_said(alloc, node, Key::Names)?;
+    let mut names = list_of_attribute(alloc, node, Key::Names)?;
     names.push(number.copy()?)?;
     let key = Key::Names;
     let value = Value::List(names);

@@ -5,13 +5,13 @@ ghost use Rattle.rst_tree.specs.declared.key.Key.TheVariants.{Serial};
 ghost use Rattle.rst_tree.specs.Attributes.{attr};
 ghost use Rattle.rst_tree.specs.Faults.{Gives};
 ghost use Rattle.rst_transform_names.specs.declared.names.Holder.{Holder};
-ghost use Rattle.rst_transform_references.specs.Holders.{element_at, holder_place, holding, is_nobody, is_target_node, lead_of, name_lead, place_at, with_place};
-ghost use Rattle.rst_transform_references.specs.Linkings.{held};
-ghost use Rattle.rst_transform_work.specs.Reading.{number_said};
+ghost use Rattle.rst_transform_references.specs.Holders.{element_at, holder_place, name_holder, is_nobody, is_target_node, lead_of, name_lead, place_at, with_place};
+ghost use Rattle.rst_transform_references.specs.Linkings.{linked_element};
+ghost use Rattle.rst_transform_work.specs.Reading.{number_of_attribute};
 
 use crate::links::Linked;
 use rst_transform_names::{Holder, NameEntry};
-use rst_transform_work::{number_said, put_at, text_said};
+use rst_transform_work::{number_of_attribute, put_at, text_of_attribute};
 use rst_tree::{Attr, Key, Node, Result, Tag, Text, Value};
 use std::alloc::Global;
 
@@ -27,7 +27,7 @@ impl<'a> Holders<'a> {
     /// The places of some elements, whose numbers are below a bound.
     pub fn of(alloc: Global, linked: &'a [Linked<'a>], serials: u64) -> Result<Holders<'a>>
         ensures linked { Gives (λ holders. holders.linked.now ≡ linked.now) result }
-        ensures places { Gives (λ holders. (holder : Holder) → place_at holders.places.items holder ≡ holder_place serials (map held linked.now) holder) result }
+        ensures places { Gives (λ holders. (holder : Holder) → place_at holders.places.items holder ≡ holder_place serials (map linked_element linked.now) holder) result }
     {
         let mut places = vec![in alloc; None; serials as usize]?;
         for (place, one) in linked.iter().enumerate() {
@@ -53,16 +53,16 @@ impl<'a> Holders<'a> {
 
 /// Puts the place of an element at its number, if it has one below the number of places.
 fn put_place(places: &mut Vec<Option<usize>>, place: usize, element: &Node)
-    ensures { places.new.items ≡ with_place place (number_said Serial element.now) places.old.items }
+    ensures { places.new.items ≡ with_place place (number_of_attribute Serial element.now) places.old.items }
 {
-    if let Some(serial) = number_said(element, Key::Serial) {
+    if let Some(serial) = number_of_attribute(element, Key::Serial) {
         put_at(places, serial as usize, Some(place));
     }
 }
 
 /// The linked element at a place, if there is one.
 pub fn element_at<'a>(linked: &[Linked<'a>], place: Option<usize>) -> Option<&'a Node>
-    ensures { holding result ≡ element_at (map held linked.now) place }
+    ensures { name_holder result ≡ element_at (map linked_element linked.now) place }
 {
     let one = linked.get(place?)?;
     Some(one.element)
@@ -78,7 +78,7 @@ pub fn is_lost(known: &NameEntry) -> bool
 /// An attribute that is a text.
 #[inline(always)]
 pub fn text_attr(alloc: Global, key: Key, text: &str) -> Result<Attr>
-    ensures { Gives (λ said. said ≡ attr key (Words text.now)) result }
+    ensures { Gives (λ attribute. attribute ≡ attr key (Words text.now)) result }
 {
     let text = Text::from_str(alloc, text)?;
     let value = Value::Text(text);
@@ -91,10 +91,10 @@ pub fn text_attr(alloc: Global, key: Key, text: &str) -> Result<Attr>
 pub fn lead_of(alloc: Global, target: &Node) -> Result<Option<Attr>>
     ensures { Gives (λ lead. lead ≡ lead_of target.now) result }
 {
-    if let Some(uri) = text_said(target, Key::Refuri) {
+    if let Some(uri) = text_of_attribute(target, Key::Refuri) {
         return Ok(Some(text_attr(alloc, Key::Refuri, uri)?));
     }
-    let id = text_said(target, Key::Refid);
+    let id = text_of_attribute(target, Key::Refid);
     id.map(|id| text_attr(alloc, Key::Refid, id)).transpose()
 }
 
@@ -111,16 +111,16 @@ pub fn is_target(node: &Node) -> bool
 /// Where a name leads by which another target isn't meant: to where its holder leads if that is a target, and else to the
 /// id of the element that brought the name. A target with a URI leads there though it has left the document.
 #[inline(always)]
-pub fn lead_by_name(alloc: Global, held: &NameEntry, holder: Option<&Node>) -> Result<Attr>
-    ensures { Gives (λ lead. lead ≡ name_lead (holding holder.entry) held.now.uri held.now.id) result }
+pub fn lead_by_name(alloc: Global, name_entry: &NameEntry, holder: Option<&Node>) -> Result<Attr>
+    ensures { Gives (λ lead. lead ≡ name_lead (name_holder holder.entry) name_entry.now.uri name_entry.now.id) result }
 {
     if let Some(target) = holder.filter(|holder| is_target(holder)) {
         if let Some(lead) = lead_of(alloc, target)? {
             return Ok(lead);
         }
     }
-    match &held.uri {
+    match &name_entry.uri {
         Some(uri) => text_attr(alloc, Key::Refuri, uri.as_str()),
-        None => text_attr(alloc, Key::Refid, held.id.as_str()),
+        None => text_attr(alloc, Key::Refid, name_entry.id.as_str()),
     }
 }

@@ -2,11 +2,11 @@
 ghost use Rattle.std.specs.Prelude.{◌≡◌, is_some, map, MatchOption, None, Some};
 ghost use Rattle.std.specs.List.{list_all};
 ghost use Rattle.rst_tree.specs.Faults.{Gives};
-ghost use Rattle.rst_transform_names.specs.Names.{held_by};
+ghost use Rattle.rst_transform_names.specs.Names.{entry_named};
 ghost use Rattle.rst_transform_references.specs.Holders.{place_at};
-ghost use Rattle.rst_transform_references.specs.Indirect.{anonymous_from, failure_of, indirect_outcomes, is_direct, led, missing_text, named_place, outcomes_by, targets_of, with_reports};
+ghost use Rattle.rst_transform_references.specs.Indirect.{anonymous_from, failure_of, indirect_outcomes, is_direct, led, missing_text, named_place, outcomes_of_indirect, targets_of, with_reports};
 ghost use Rattle.rst_transform_references.specs.Chains.{indirect_name, own_step, steps_of};
-ghost use Rattle.rst_transform_references.specs.Linkings.{held};
+ghost use Rattle.rst_transform_references.specs.Linkings.{linked_element};
 ghost use Rattle.rst_transform_work.specs.Known.{Makes};
 ghost use Rattle.rst_transform_work.specs.Reports.{KeepsRest};
 ghost use Rattle.rst_transform_work.specs.Lists.{at_place};
@@ -16,7 +16,7 @@ use crate::chains::{Answer, Step, answers};
 use crate::holders::{Holders, element_at, is_lost, is_target, lead_by_name};
 use crate::links::{Linked, Outcome};
 use rst_transform_names::Names;
-use rst_transform_work::{Context, at_place, has, item_at, line_of, text_said};
+use rst_transform_work::{Context, at_place, has, item_at, line_of, text_of_attribute};
 use rst_tree::{Attr, Entry, Key, Level, Node, Result, Tag, Text};
 use std::alloc::Global;
 
@@ -49,7 +49,7 @@ use std::alloc::Global;
 /// that no element has, gives an ERROR, and the references through it become problematics of that message: message by message,
 /// under each in the order of the document.
 pub fn indirect_outcomes(context: &mut Context, linked: &[Linked<'_>]) -> Result<Vec<Outcome>>
-    ensures { Gives (λ outcomes. Makes (indirect_outcomes (map held linked.now)) context.old context.new outcomes.items) result }
+    ensures { Gives (λ outcomes. Makes (indirect_outcomes (map linked_element linked.now)) context.old context.new outcomes.items) result }
 {
     if none_is_indirect(linked) {
         return Ok(Vec::new(context.alloc));
@@ -65,7 +65,7 @@ pub fn indirect_outcomes(context: &mut Context, linked: &[Linked<'_>]) -> Result
 
 /// Whether no element is an indirect target.
 fn none_is_indirect(linked: &[Linked<'_>]) -> bool
-    ensures { result ≡ list_all (λ one. is_direct (held one)) linked.now }
+    ensures { result ≡ list_all (λ one. is_direct (linked_element one)) linked.now }
 {
     linked.iter().all(|one| !is_indirect(one.element))
 }
@@ -84,12 +84,12 @@ fn indirect_name<'a>(node: &'a Node) -> Option<&'a str>
     if !is_target(node) {
         return None;
     }
-    text_said(node, Key::Refname)
+    text_of_attribute(node, Key::Refname)
 }
 
 /// The first step from an element, if it is an indirect target.
 fn own_step(names: &Names, holders: &Holders<'_>, node: &Node) -> Result<Option<Step>>
-    ensures { Gives (λ step. step ≡ own_step (held_by names.now) (place_at holders.now.places.items) (map held holders.now.linked.now) node.now) result }
+    ensures { Gives (λ step. step ≡ own_step (entry_named names.now) (place_at holders.now.places.items) (map linked_element holders.now.linked.now) node.now) result }
 {
     let Some(name) = indirect_name(node) else {
         return Ok(None);
@@ -116,7 +116,7 @@ fn own_step(names: &Names, holders: &Holders<'_>, node: &Node) -> Result<Option<
 
 /// The first step from each indirect target, by its place; there is nothing for the other elements.
 fn first_steps(names: &Names, holders: &Holders<'_>) -> Result<Vec<Option<Step>>>
-    ensures { Gives (λ steps. steps.items ≡ steps_of (held_by names.now) (place_at holders.now.places.items) (map held holders.now.linked.now)) result }
+    ensures { Gives (λ steps. steps.items ≡ steps_of (entry_named names.now) (place_at holders.now.places.items) (map linked_element holders.now.linked.now)) result }
 {
     let mut steps = Vec::with_capacity(holders.alloc, holders.linked.len())?;
     for one in holders.linked {
@@ -145,7 +145,7 @@ fn failure_at(
 ) -> Result<Option<Text>>
     ensures { Gives (λ text. text ≡ failure_of node.now (at_place answers.now place)) result }
 {
-    let name = text_said(node, Key::OwnName).unwrap_or("");
+    let name = text_of_attribute(node, Key::OwnName).unwrap_or("");
     match item_at(answers, place) {
         Some(Answer::Missing(missing)) => { Ok(Some(missing_text(alloc, name, missing.as_str())?)) }
         Some(Answer::Circular) => {
@@ -162,8 +162,8 @@ fn reports(
     linked: &[Linked<'_>],
     answers: &[Option<Answer>],
 ) -> Result<Vec<Option<usize>>>
-    ensures places { Gives (λ reports. reports.items ≡ (with_reports (at_place answers.now) context.old.first_number context.old.reports.items 0 (map held linked.now)).0) result }
-    ensures reports { Gives (λ _. context.new.reports.items ≡ (with_reports (at_place answers.now) context.old.first_number context.old.reports.items 0 (map held linked.now)).1) result }
+    ensures places { Gives (λ reports. reports.items ≡ (with_reports (at_place answers.now) context.old.first_number context.old.reports.items 0 (map linked_element linked.now)).0) result }
+    ensures reports { Gives (λ _. context.new.reports.items ≡ (with_reports (at_place answers.now) context.old.first_number context.old.reports.items 0 (map linked_element linked.now)).1) result }
     ensures rest { Gives (λ _. KeepsRest context.old context.new) result }
 {
     let mut reports = Vec::with_capacity(context.alloc, linked.len())?;
@@ -180,7 +180,7 @@ fn reports(
 
 /// The places of the anonymous targets, in order.
 fn anonymous_places(alloc: Global, linked: &[Linked<'_>]) -> Result<Vec<usize>>
-    ensures { Gives (λ places. places.items ≡ anonymous_from 0 (map held linked.now)) result }
+    ensures { Gives (λ places. places.items ≡ anonymous_from 0 (map linked_element linked.now)) result }
 {
     let mut places = Vec::new(alloc);
     for (place, one) in linked.iter().enumerate() {
@@ -193,7 +193,7 @@ fn anonymous_places(alloc: Global, linked: &[Linked<'_>]) -> Result<Vec<usize>>
 
 /// The place of the element that a reference means by its name, if it does.
 fn named_place(names: &Names, holders: &Holders<'_>, node: &Node) -> Option<usize>
-    ensures { result ≡ named_place (held_by names.now) (place_at holders.now.places.items) node.now }
+    ensures { result ≡ named_place (entry_named names.now) (place_at holders.now.places.items) node.now }
 {
     if !matches!(
         node,
@@ -204,14 +204,14 @@ fn named_place(names: &Names, holders: &Holders<'_>, node: &Node) -> Option<usiz
     ) {
         return None;
     }
-    let name = text_said(node, Key::Refname)?;
+    let name = text_of_attribute(node, Key::Refname)?;
     let known = names.get(name)?;
     holders.place(known.holder)
 }
 
 /// For each reference the place of the target that it means, by its name or by the order.
 fn targets_of(names: &Names, holders: &Holders<'_>) -> Result<Vec<Option<usize>>>
-    ensures { Gives (λ targets. targets.items ≡ targets_of (held_by names.now) (place_at holders.now.places.items) (map held holders.now.linked.now)) result }
+    ensures { Gives (λ targets. targets.items ≡ targets_of (entry_named names.now) (place_at holders.now.places.items) (map linked_element holders.now.linked.now)) result }
 {
     let anonymous = anonymous_places(holders.alloc, holders.linked)?;
     let mut left = anonymous.as_slice();
@@ -250,7 +250,7 @@ fn outcomes(
     reports: &[Option<usize>],
     targets: &[Option<usize>],
 ) -> Result<Vec<Outcome>>
-    ensures { Gives (λ outcomes. outcomes.items ≡ outcomes_by (at_place answers.now) (at_place reports.now) (at_place targets.now) (map held linked.now)) result }
+    ensures { Gives (λ outcomes. outcomes.items ≡ outcomes_of_indirect (at_place answers.now) (at_place reports.now) (at_place targets.now) (map linked_element linked.now)) result }
 {
     let mut outcomes = Vec::with_capacity(alloc, linked.len())?;
     for (place, one) in linked.iter().enumerate() {

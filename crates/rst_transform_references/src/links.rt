@@ -4,7 +4,7 @@ ghost use Rattle.std.specs.List.{list_all};
 ghost use Rattle.rst_tree.specs.declared.node.Node.TheVariants.{Element};
 ghost use Rattle.rst_tree.specs.Faults.{Gives};
 ghost use Rattle.rst_tree.specs.Rewritten.{Turned};
-ghost use Rattle.rst_transform_references.specs.Linkings.{held, linked_of, TakesLinked};
+ghost use Rattle.rst_transform_references.specs.Linkings.{linked_element, linked_of, TakesLinked};
 ghost use Rattle.rst_transform_references.specs.Links.{change_next, change_of, changed_by, changed_document, is_idle};
 ghost use Rattle.rst_transform_references.specs.Outcomes.{adds, fails, stays};
 
@@ -32,7 +32,7 @@ pub enum Outcome {
     /// a label or a reference to a footnote, contains no linked element.
     Stays {
         attr: Option<Attr>,
-        shown: Option<Text>,
+        new_text: Option<Text>,
     },
     /// It becomes a problematic of the message at this place among the reports once its turn comes, and stays till then.
     Fails(usize),
@@ -45,7 +45,10 @@ impl Outcome {
     pub fn adds(attr: Option<Attr>) -> Outcome
         ensures { result ≡ adds attr }
     {
-        Outcome::Stays { attr, shown: None }
+        Outcome::Stays {
+            attr,
+            new_text: None,
+        }
     }
 
     /// Whether it becomes a problematic once its turn comes.
@@ -97,7 +100,7 @@ impl<'a> Reader<'a> for LinkedReader<'a> {
 
 /// The linked elements in a document, in preorder.
 pub fn linked_in<'a>(alloc: Global, document: &'a Document) -> Result<Vec<Linked<'a>>>
-    ensures { Gives (λ list. map held list.items ≡ linked_of document.now) result }
+    ensures { Gives (λ list. map linked_element list.items ≡ linked_of document.now) result }
 {
     let mut linked = LinkedReader {
         list: Vec::new(alloc),
@@ -160,11 +163,11 @@ impl Changes {
     {
         match self.left.pop_front() {
             None | Some(Outcome::Fails(_)) => Ok(true),
-            Some(Outcome::Stays { attr, shown }) => {
+            Some(Outcome::Stays { attr, new_text }) => {
                 if let Some(attr) = attr {
                     attrs.set(attr.key, attr.value)?;
                 }
-                let Some(text) = shown else {
+                let Some(text) = new_text else {
                     return Ok(true);
                 };
                 children.set_lone(Node::Text(text))?;
@@ -186,7 +189,7 @@ fn is_idle(outcome: &Outcome) -> bool
     ensures { result ≡ is_idle outcome.now }
 {
     match outcome {
-        Outcome::Stays { attr, shown } => attr.is_none() && shown.is_none(),
+        Outcome::Stays { attr, new_text } => attr.is_none() && new_text.is_none(),
         Outcome::Fails(_) => true,
         Outcome::Failed(_) => false,
     }

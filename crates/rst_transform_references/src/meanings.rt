@@ -1,9 +1,9 @@
 //! What names mean to the references by name.
 ghost use Rattle.std.specs.Prelude.{◌≡◌, map, MatchOption, None, Some};
 ghost use Rattle.rst_tree.specs.Faults.{Gives};
-ghost use Rattle.rst_transform_names.specs.Names.{held_by};
-ghost use Rattle.rst_transform_references.specs.Holders.{holding, place_at};
-ghost use Rattle.rst_transform_references.specs.Linkings.{held};
+ghost use Rattle.rst_transform_names.specs.Names.{entry_named};
+ghost use Rattle.rst_transform_references.specs.Holders.{name_holder, place_at};
+ghost use Rattle.rst_transform_references.specs.Linkings.{linked_element};
 ghost use Rattle.rst_transform_references.specs.Meanings.{meaning_to, reference_name, referent_place, refers_to_footnote_or_citation};
 
 use crate::holders::{Holders, element_at, is_lost, lead_by_name};
@@ -52,7 +52,7 @@ pub fn reference_name<'n>(node: &'n Node) -> Option<&'n str>
 /// The place of a footnote or a citation, if the element there is one.
 #[inline(always)]
 fn referent_place(element: Option<&Node>, place: Option<usize>) -> Option<usize>
-    ensures { result ≡ referent_place (holding element.entry) place }
+    ensures { result ≡ referent_place (name_holder element.entry) place }
 {
     match element {
         Some(
@@ -68,7 +68,7 @@ fn referent_place(element: Option<&Node>, place: Option<usize>) -> Option<usize>
 /// What its name means to a reference by name; there is nothing for another element.
 #[inline(always)]
 pub fn meaning_to(names: &Names, holders: &Holders<'_>, element: &Node) -> Result<Option<Meaning>>
-    ensures { Gives (λ meaning. meaning ≡ meaning_to (place_at holders.now.places.items) (map held holders.now.linked.now) (held_by names.now) element.now) result }
+    ensures { Gives (λ meaning. meaning ≡ meaning_to (place_at holders.now.places.items) (map linked_element holders.now.linked.now) (entry_named names.now) element.now) result }
 {
     let Some(name) = reference_name(element) else {
         return Ok(None);

@@ -3,15 +3,15 @@ ghost use Rattle.std.specs.Prelude.{◌≡◌, ◌||◌, ◌++◌, [], codes, ma
 ghost use Rattle.rst_tree.specs.Faults.{Gives};
 ghost use Rattle.rst_transform_work.specs.Known.{Makes};
 ghost use Rattle.rst_transform_references.specs.Holders.{place_at};
-ghost use Rattle.rst_transform_references.specs.Linkings.{held};
+ghost use Rattle.rst_transform_references.specs.Linkings.{linked_element};
 ghost use Rattle.rst_transform_references.specs.Outcomes.{fails};
-ghost use Rattle.rst_transform_references.specs.Resolving.{failing, is_gone, name_of, outcome_of, reference_outcomes, resolved_from, shown_for, what_becomes};
+ghost use Rattle.rst_transform_references.specs.Resolving.{failing_reference, is_gone, refname_of_node, outcome_of, reference_outcomes, resolved_from, label_for, what_becomes};
 
-use crate::backrefs::with_backrefs;
+use crate::backrefs::with_referring_ids;
 use crate::holders::{Holders, element_at};
 use crate::links::{Linked, Outcome};
 use crate::meanings::{Meaning, meaning_to, refers_to_footnote_or_citation};
-use rst_transform_work::{Context, has, line_of, text_said};
+use rst_transform_work::{Context, has, line_of, text_of_attribute};
 use rst_tree::{Key, Level, Node, Result, Text};
 
 /// Lets each reference by name refer to what the name means, and each footnote and citation list its references (Markup
@@ -48,17 +48,17 @@ use rst_tree::{Key, Level, Node, Result, Text};
 /// A name that means nothing gives an ERROR, and the reference becomes a problematic; the references inside it are gone, and
 /// give no message.
 pub fn reference_outcomes(context: &mut Context, linked: &[Linked<'_>]) -> Result<Vec<Outcome>>
-    ensures { Gives (λ outcomes. Makes (reference_outcomes (map held linked.now)) context.old context.new outcomes.items) result }
+    ensures { Gives (λ outcomes. Makes (reference_outcomes (map linked_element linked.now)) context.old context.new outcomes.items) result }
 {
     let holders = Holders::of(context.alloc, linked, context.serials)?;
     let outcomes = resolved(context, &holders)?;
-    let outcomes = with_backrefs(&context.names, &holders, outcomes)?;
+    let outcomes = with_referring_ids(&context.names, &holders, outcomes)?;
     Ok(outcomes)
 }
 
 /// The new text of a reference in place of its content, if it gets the label of the footnote or citation at a place.
-fn shown_for(holders: &Holders<'_>, reference: &Node, place: Option<usize>) -> Result<Option<Text>>
-    ensures { Gives (λ shown. shown ≡ shown_for (map held holders.now.linked.now) reference.now place) result }
+fn label_for(holders: &Holders<'_>, reference: &Node, place: Option<usize>) -> Result<Option<Text>>
+    ensures { Gives (λ new_text. new_text ≡ label_for (map linked_element holders.now.linked.now) reference.now place) result }
 {
     if !refers_to_footnote_or_citation(reference) || !has(reference, Key::Auto) {
         return Ok(None);
@@ -74,10 +74,10 @@ fn shown_for(holders: &Holders<'_>, reference: &Node, place: Option<usize>) -> R
 
 /// A reference that fails for an ERROR of its own, which has these words before its name.
 #[tactic(auto, using(crate::proofs::Resolves::fails_for))]
-fn failing(context: &mut Context, reference: &Node, words: &str) -> Result<Outcome>
-    ensures { Gives (Makes (failing reference.now (words.now ++ (name_of reference.now ++ codes "\"."))) context.old context.new) result }
+fn failing_reference(context: &mut Context, reference: &Node, words: &str) -> Result<Outcome>
+    ensures { Gives (Makes (failing_reference reference.now (words.now ++ (refname_of_node reference.now ++ codes "\"."))) context.old context.new) result }
 {
-    let name = text_said(reference, Key::Refname).unwrap_or("");
+    let name = text_of_attribute(reference, Key::Refname).unwrap_or("");
     let text = Text::of_three(context.alloc, words, name, "\".")?;
     let line = line_of(reference);
     let report = context.report(Level::Error, line, text, true)?;
@@ -94,16 +94,16 @@ fn outcome_of(
     reference: &Node,
     meaning: Meaning,
 ) -> Result<Outcome>
-    ensures { Gives (Makes (outcome_of (map held holders.now.linked.now) reference.now meaning) context.old context.new) result }
+    ensures { Gives (Makes (outcome_of (map linked_element holders.now.linked.now) reference.now meaning) context.old context.new) result }
 {
     match meaning {
         Meaning::Leads { attr, referent } => {
-            let shown = shown_for(holders, reference, referent)?;
+            let new_text = label_for(holders, reference, referent)?;
             let attr = Some(attr);
-            Ok(Outcome::Stays { attr, shown })
+            Ok(Outcome::Stays { attr, new_text })
         }
-        Meaning::Unknown => failing(context, reference, "Unknown target name: \""),
-        Meaning::Duplicate => failing(context, reference, DUPLICATE),
+        Meaning::Unknown => failing_reference(context, reference, "Unknown target name: \""),
+        Meaning::Duplicate => failing_reference(context, reference, DUPLICATE),
     }
 }
 
@@ -121,7 +121,7 @@ fn what_becomes(
     element: &Node,
     gone: bool,
 ) -> Result<Outcome>
-    ensures { Gives (Makes (what_becomes (place_at holders.now.places.items) (map held holders.now.linked.now) gone element.now) context.old context.new) result }
+    ensures { Gives (Makes (what_becomes (place_at holders.now.places.items) (map linked_element holders.now.linked.now) gone element.now) context.old context.new) result }
 {
     if gone {
         return Ok(Outcome::adds(None));
@@ -135,7 +135,7 @@ fn what_becomes(
 
 /// What happens to all linked elements, where the messages of those that fail are made.
 fn resolved(context: &mut Context, holders: &Holders<'_>) -> Result<Vec<Outcome>>
-    ensures { let all = map held holders.now.linked.now in Gives (λ outcomes. Makes (resolved_from (place_at holders.now.places.items) all [] all) context.old context.new outcomes.items) result }
+    ensures { let all = map linked_element holders.now.linked.now in Gives (λ outcomes. Makes (resolved_from (place_at holders.now.places.items) all [] all) context.old context.new outcomes.items) result }
 {
     let mut outcomes = Vec::with_capacity(context.alloc, holders.linked.len())?;
     let mut ended: Vec<bool> = Vec::with_capacity(context.alloc, holders.linked.len())?;

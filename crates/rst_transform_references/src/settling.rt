@@ -2,7 +2,7 @@
 ghost use Rattle.std.specs.Prelude.{◌≡◌, [], map, is_none};
 ghost use Rattle.std.specs.List.{list_all};
 ghost use Rattle.rst_tree.specs.Faults.{Gives};
-ghost use Rattle.rst_transform_references.specs.Linkings.{held};
+ghost use Rattle.rst_transform_references.specs.Linkings.{linked_element};
 ghost use Rattle.rst_transform_references.specs.Outcomes.{stays};
 ghost use Rattle.rst_transform_references.specs.Settling.{by_message, first_in, firsts, remaining, settled, take_turns, turns_of};
 ghost use Rattle.rst_transform_work.specs.Known.{Makes};
@@ -21,7 +21,7 @@ pub fn settle(
     linked: &[Linked<'_>],
     mut outcomes: Vec<Outcome>,
 ) -> Result<Changes>
-    ensures { Gives (Makes (settled (map held linked.now) outcomes.items) context.old context.new) result }
+    ensures { Gives (Makes (settled (map linked_element linked.now) outcomes.items) context.old context.new) result }
 {
     if all_stay(outcomes.as_slice()) {
         return Ok(Changes::of(outcomes));
@@ -52,7 +52,7 @@ fn first_around(
     linked: &[Linked<'_>],
     outcomes: &[Outcome],
 ) -> Result<Vec<Option<usize>>>
-    ensures { Gives (λ around. around.items ≡ firsts [] outcomes.now (map held linked.now)) result }
+    ensures { Gives (λ around. around.items ≡ firsts [] outcomes.now (map linked_element linked.now)) result }
 {
     let mut around: Vec<Option<usize>> = Vec::with_capacity(alloc, linked.len())?;
     for one in linked {

@@ -14,7 +14,7 @@ use Rattle.rst_tree.specs.Walk.{Item, item, items, node_items}
 use Rattle.rst_transform_structure.specs.Law.{KeepsTransitions}
 use Rattle.rst_tree_index.specs.Kinds.{is_transition}
 use Rattle.rst_transform_names.specs.NameMessages.{is_section}
-use Rattle.rst_transform_structure.specs.Transitions.{fault_before, is_last, none_yet, placed_in, at_end, put_section, put_transition, transitions_in, with_fault, with_message, with_node, Siblings}
+use Rattle.rst_transform_structure.specs.Transitions.{fault_before, is_last, no_siblings_yet, placed_in, at_end, put_section, put_transition, transitions_in, with_transition_fault, with_transition_message, with_node, Siblings}
 
 in_both : (xs ys : List Item) → transitions_in (xs ++ ys) ≡ transitions_in xs ++ transitions_in ys
 in_both xs ys = filter-append (λ x. is_transition x.tag) xs ys
@@ -68,12 +68,12 @@ record Same (s u : Siblings) : Type 0 where
   pub all : among u.placed ≡ among s.placed
   pub moving : u.moving ≡ s.moving
 
-message_same : (first line : ℕ) (text : List ℕ) (s : Siblings) → Same s (with_message first line text s)
-unfolding with_message
+message_same : (first line : ℕ) (text : List ℕ) (s : Siblings) → Same s (with_transition_message first line text s)
+unfolding with_transition_message
 message_same first line text s = record { all = among-append s.placed _ ∙ append-nil (among s.placed); moving = refl }
 
-fault_same : (first line : ℕ) (fault : Option (List ℕ)) (s : Siblings) → Same s (with_fault first line fault s)
-unfolding with_fault
+fault_same : (first line : ℕ) (fault : Option (List ℕ)) (s : Siblings) → Same s (with_transition_fault first line fault s)
+unfolding with_transition_fault
 fault_same first line None s = record { all = refl; moving = refl }
 fault_same first line (Some text) s = message_same first line text s
 
@@ -96,12 +96,12 @@ steps_before n last ends s t u k h =
 transition_steps : (first : ℕ) (last ends : Bool) (n : Node) (line : ℕ) (s : Siblings) → s.moving ≡ [] → Steps n last ends s (put_transition first last ends n line s)
 unfolding put_transition
 transition_steps first last ends n line s none =
-    let noted : Siblings = with_fault first line (fault_before s.placed) s in
+    let noted : Siblings = with_transition_fault first line (fault_before s.placed) s in
     let h = fault_same first line (fault_before s.placed) s in
     steps_after n last ends s noted (put_transition first last ends n line s) h (by last ends noted (h.moving ∙ none))
   where
     by : (x y : Bool) (t : Siblings) → t.moving ≡ []
-        → Steps n x y t (if x && not y then record t { moving = t.moving ++ n ∷ [] } else (if x then with_message first line at_end (with_node n t) else with_node n t))
+        → Steps n x y t (if x && not y then record t { moving = t.moving ++ n ∷ [] } else (if x then with_transition_message first line at_end (with_node n t) else with_node n t))
     by true true t still = steps_before n true true t (with_node n t) _ (node_steps n true true t still) (message_same first line at_end (with_node n t))
     by true false t still =
         record {
@@ -162,8 +162,8 @@ kept first ends s (words t r) none out =
 kept first ends s (element t a c l r) none out =
     let n : Node = Element t a c l in
     let z : Bool = ends && is_last r in
-    let inside : Siblings = placed_in first z (none_yet s.reports) c in
-    let within : All first z (none_yet s.reports) c = kept first z (none_yet s.reports) c (λ h. refl) (λ h. refl) in
+    let inside : Siblings = placed_in first z (no_siblings_yet s.reports) c in
+    let within : All first z (no_siblings_yet s.reports) c = kept first z (no_siblings_yet s.reports) c (λ h. refl) (λ h. refl) in
     let put : (u : Siblings) → placed_in first ends s (element t a c l r) ≡ placed_in first ends u r → Steps n (is_last r) ends s u → All first ends s (element t a c l r) =
     λ u step k. then_all first ends s u n r step k (kept first ends u r k.stays k.ended) in
     elim (is_section t) as (λ x. is_section t ≡ x → All first ends s (element t a c l r)) [
@@ -176,6 +176,6 @@ kept first ends s (element t a c l r) none out =
 
 pub transitions_stay : KeepsTransitions
 transitions_stay document known =
-    let h = kept known.first_number true (none_yet known.reports) document.children (λ h. refl) (λ h. refl) in
-    let all : Siblings = placed_in known.first_number true (none_yet known.reports) document.children in
+    let h = kept known.first_number true (no_siblings_yet known.reports) document.children (λ h. refl) (λ h. refl) in
+    let all : Siblings = placed_in known.first_number true (no_siblings_yet known.reports) document.children in
     sym (append-nil (among all.placed)) ∙ ap (λ ns. among all.placed ++ among ns) (sym (h.ended refl)) ∙ h.all

@@ -14,7 +14,7 @@ use Rattle.rst_transform_work.specs.declared.context.Context.{Context}
 use Rattle.rst_transform_work.specs.Reports.{KeepsRest}
 use Rattle.rst_tree_index.specs.Kinds.{is_transition}
 use Rattle.rst_transform_names.specs.NameMessages.{is_section}
-use Rattle.rst_transform_structure.specs.Transitions.{is_last, keeps_place, none_yet, placed_in, put_section, put_transition, so_far, with_node, Siblings}
+use Rattle.rst_transform_structure.specs.Transitions.{is_last, keeps_place, no_siblings_yet, placed_in, put_section, put_transition, siblings_so_far, with_node, Siblings}
 
 -- what is the same in its parts is the same
 siblings : (s u : Siblings) → s.placed ≡ u.placed → s.moving ≡ u.moving → s.reports ≡ u.reports → s ≡ u
@@ -27,7 +27,7 @@ module _ (first : ℕ) (ends : Bool) (s : Siblings) where
 
   module _ (t : Tag) (a : List Attr) (c : Forest) (l : ℕ) (r : Forest) where
     pub step_section : is_section t ≡ true
-        → placed_in first ends s (element t a c l r) ≡ placed_in first ends (put_section (is_last r) t a l (placed_in first (ends && is_last r) (none_yet s.reports) c) s) r
+        → placed_in first ends s (element t a c l r) ≡ placed_in first ends (put_section (is_last r) t a l (placed_in first (ends && is_last r) (no_siblings_yet s.reports) c) s) r
     unfolding placed_in
     step_section is = rw is refl
 
@@ -59,11 +59,11 @@ last_of (Text t ∷ ns) = grind arith
 -- some nodes have their places: those that are left give what all give
 pub record Placing (old : Context) (ends : Bool) (nodes : Forest) (left : ℕ) (met : List Node) (placed : Placed) (context : Context) : Type 0 where
   pub same : (rest : List Node) → met ++ rest ≡ nodes_of nodes
-      → (left ≡ length rest) × (placed_in old.first_number ends (so_far placed context) (forest_of rest) ≡ placed_in old.first_number ends (none_yet old.reports.items) nodes)
+      → (left ≡ length rest) × (placed_in old.first_number ends (siblings_so_far placed context) (forest_of rest) ≡ placed_in old.first_number ends (no_siblings_yet old.reports.items) nodes)
   pub kept : KeepsRest old context
 
 pub placing_all : (old : Context) (ends : Bool) (nodes : Forest) (left : ℕ) (met : List Node) (placed : Placed) (context : Context) → Placing old ends nodes left met placed context → met ≡ nodes_of nodes
-    → so_far placed context ≡ placed_in old.first_number ends (none_yet old.reports.items) nodes
+    → siblings_so_far placed context ≡ placed_in old.first_number ends (no_siblings_yet old.reports.items) nodes
 unfolding placed_in
 placing_all old ends nodes left met placed context p all = (p.same [] (append-nil met ∙ all)).1
 
@@ -86,7 +86,7 @@ module _
   abbrev Next : Type 0
   Next = Placing old ends nodes less (met ++ n ∷ []) placed' context'
 
-  next : ((r : Forest) → is_last r ≡ nat_eq less 0 → placed_in old.first_number ends (so_far placed context) (join_node n r) ≡ placed_in old.first_number ends (so_far placed' context') r) → Next
+  next : ((r : Forest) → is_last r ≡ nat_eq less 0 → placed_in old.first_number ends (siblings_so_far placed context) (join_node n r) ≡ placed_in old.first_number ends (siblings_so_far placed' context') r) → Next
   next step =
       record {
         same = λ rest e.
@@ -97,28 +97,28 @@ module _
       }
 
   -- one that is neither a section nor a transition
-  pub placing_node : ((r : Forest) → placed_in old.first_number ends (so_far placed context) (join_node n r) ≡ placed_in old.first_number ends (with_node n (so_far placed context)) r)
+  pub placing_node : ((r : Forest) → placed_in old.first_number ends (siblings_so_far placed context) (join_node n r) ≡ placed_in old.first_number ends (with_node n (siblings_so_far placed context)) r)
       → placed'.nodes.items ≡ placed.nodes.items ++ n ∷ [] → placed'.moving.items ≡ placed.moving.items → context'.reports.items ≡ context.reports.items → Next
-  placing_node step put still said =
-      next (λ r last. step r ∙ ap (λ s. placed_in old.first_number ends s r) (sym (siblings (so_far placed' context') (with_node n (so_far placed context)) put still said)))
+  placing_node step put still reports_same =
+      next (λ r last. step r ∙ ap (λ s. placed_in old.first_number ends s r) (sym (siblings (siblings_so_far placed' context') (with_node n (siblings_so_far placed context)) put still reports_same)))
 
   module _ (t : Tag) (a : List Attr) (c : Forest) (l : ℕ) (is : n ≡ Element t a c l) where
     pub placing_transition : is_section t ≡ false → is_transition t ≡ true
-        → so_far placed' context' ≡ put_transition context.first_number (nat_eq less 0) ends (Element t a c l) l (so_far placed context) → Next
+        → siblings_so_far placed' context' ≡ put_transition context.first_number (nat_eq less 0) ends (Element t a c l) l (siblings_so_far placed context) → Next
     placing_transition no_section kind put =
-        next (λ r last. ap (λ m. placed_in old.first_number ends (so_far placed context) (join_node m r)) is ∙ step_transition old.first_number ends (so_far placed context) t a c l r no_section kind
-        ∙ ap (λ b. placed_in old.first_number ends (put_transition old.first_number b ends (Element t a c l) l (so_far placed context)) r) last
-        ∙ ap (λ k. placed_in old.first_number ends (put_transition k (nat_eq less 0) ends (Element t a c l) l (so_far placed context)) r) (sym same_first)
+        next (λ r last. ap (λ m. placed_in old.first_number ends (siblings_so_far placed context) (join_node m r)) is ∙ step_transition old.first_number ends (siblings_so_far placed context) t a c l r no_section kind
+        ∙ ap (λ b. placed_in old.first_number ends (put_transition old.first_number b ends (Element t a c l) l (siblings_so_far placed context)) r) last
+        ∙ ap (λ k. placed_in old.first_number ends (put_transition k (nat_eq less 0) ends (Element t a c l) l (siblings_so_far placed context)) r) (sym same_first)
         ∙ ap (λ s. placed_in old.first_number ends s r) (sym put))
 
     pub placing_section : (inner : Placed) (last : Bool) → is_section t ≡ true → last ≡ nat_eq less 0
-        → so_far inner context' ≡ placed_in context.first_number (ends && last) (none_yet context.reports.items) c
+        → siblings_so_far inner context' ≡ placed_in context.first_number (ends && last) (no_siblings_yet context.reports.items) c
         → placed'.nodes.items ≡ placed.nodes.items ++ Element t a (forest_of inner.nodes.items) l ∷ (if last then [] else inner.moving.items)
         → placed'.moving.items ≡ placed.moving.items ++ (if last then inner.moving.items else []) → Next
     unfolding put_section
     placing_section inner last kind none_left inside put more =
-        next (λ r ended. ap (λ m. placed_in old.first_number ends (so_far placed context) (join_node m r)) is ∙ step_section old.first_number ends (so_far placed context) t a c l r kind
-        ∙ ap (λ b. placed_in old.first_number ends (put_section b t a l (placed_in old.first_number (ends && b) (none_yet context.reports.items) c) (so_far placed context)) r) (ended ∙ sym none_left)
-        ∙ ap (λ k. placed_in old.first_number ends (put_section last t a l (placed_in k (ends && last) (none_yet context.reports.items) c) (so_far placed context)) r) (sym same_first)
-        ∙ ap (λ s. placed_in old.first_number ends (put_section last t a l s (so_far placed context)) r) (sym inside)
-        ∙ ap (λ s. placed_in old.first_number ends s r) (sym (siblings (so_far placed' context') (put_section last t a l (so_far inner context') (so_far placed context)) put more refl)))
+        next (λ r ended. ap (λ m. placed_in old.first_number ends (siblings_so_far placed context) (join_node m r)) is ∙ step_section old.first_number ends (siblings_so_far placed context) t a c l r kind
+        ∙ ap (λ b. placed_in old.first_number ends (put_section b t a l (placed_in old.first_number (ends && b) (no_siblings_yet context.reports.items) c) (siblings_so_far placed context)) r) (ended ∙ sym none_left)
+        ∙ ap (λ k. placed_in old.first_number ends (put_section last t a l (placed_in k (ends && last) (no_siblings_yet context.reports.items) c) (siblings_so_far placed context)) r) (sym same_first)
+        ∙ ap (λ s. placed_in old.first_number ends (put_section last t a l s (siblings_so_far placed context)) r) (sym inside)
+        ∙ ap (λ s. placed_in old.first_number ends s r) (sym (siblings (siblings_so_far placed' context') (put_section last t a l (siblings_so_far inner context') (siblings_so_far placed context)) put more refl)))

@@ -21,12 +21,12 @@ use Rattle.rst_tree_index.specs.Kinds.{is_internal}
 use Rattle.rst_transform_work.specs.declared.context.Context.{Context}
 use Rattle.rst_transform_work.specs.declared.document.Document.{Document}
 use Rattle.rst_transform_work.specs.Known.{Makes}
-use Rattle.rst_transform_work.specs.Lists.{listed}
+use Rattle.rst_transform_work.specs.Lists.{listed_texts}
 use Rattle.rst_transform_work.specs.Reading.{members_in}
 use Rattle.rst_transform_work.specs.States.{document_node, elements_of, node_tag, IsDocument}
 use Rattle.rst_transform_work.proofs.Holding.{makes_names}
 use Rattle.rst_transform_structure.specs.Passing.{passed, Passes}
-use Rattle.rst_transform_structure.specs.Targets.{at_first, changed_at, handed, next_reached, reached, takers, takes_ids, with_targets, TakesTaker, Reached}
+use Rattle.rst_transform_structure.specs.Targets.{at_first, changed_item, handed, next_reached, reached, takers, takes_ids, with_targets, TakesTaker, Reached}
 
 -- ---- which elements take ids
 
@@ -45,21 +45,21 @@ abbrev document_in : Node → Document
 document_in (Element t a c l) = record { attrs = a; children = c; line = l }
 document_in (Text t) = record { attrs = []; children = bare; line = 0 }
 
-pub is_document : (d : Document) (root done : Node) (r : Reached) → root ≡ document_node d → done ≡ walked_node next_reached changed_at r root → IsDocument done
-is_document d root done r is left_by = ap node_tag (left_by ∙ ap (walked_node next_reached changed_at r) is)
+pub is_document : (d : Document) (root done : Node) (r : Reached) → root ≡ document_node d → done ≡ walked_node next_reached changed_item r root → IsDocument done
+is_document d root done r is left_by = ap node_tag (left_by ∙ ap (walked_node next_reached changed_item r) is)
 
 -- what the walk leaves
 pub walk_makes : (d e : Document) (root done : Node) (ts : List Bool) (r s : Reached) (got : List (List ℕ × Option ℕ)) (old new : Context) → root ≡ document_node d → document_node e ≡ done → ts ≡ takers (elements_of d)
-    → r ≡ reached ts (handed [] []) [] → done ≡ walked_node next_reached changed_at r root → s ≡ after next_reached changed_at r (node_items root) → got ≡ s.got → Passes got old.names new.names
+    → r ≡ reached ts (handed [] []) [] → done ≡ walked_node next_reached changed_item r root → s ≡ after next_reached changed_item r (node_items root) → got ≡ s.got → Passes got old.names new.names
     → new ≡ record old { names = new.names } → Makes (with_targets d) old new e
 walk_makes d e root done ts r s got old new is made all begun left_by state end passes rest =
     let xs : List Item = items d.children in
     let begin : r ≡ at_first (elements_of d) = begun ∙ ap (λ z. reached z (handed [] []) []) all in
-    let same : e ≡ record d { children = walked next_reached changed_at (at_first xs) d.children } =
-    ap document_in (made ∙ left_by ∙ ap (walked_node next_reached changed_at r) is ∙ ap (λ z. walked_node next_reached changed_at z (document_node d)) begin) in
-    let got_is : got ≡ (after next_reached changed_at (at_first xs) xs).got =
-    end ∙ ap (λ z. z.got) (state ∙ ap (λ n. after next_reached changed_at r (node_items n)) is ∙ ap (λ z. after next_reached changed_at z (elements_of d)) begin) in
-    makes_names _ (passed (after next_reached changed_at (at_first xs) xs).got) old new e same (subst (λ g. Passes g old.names new.names) got_is passes) rest
+    let same : e ≡ record d { children = walked next_reached changed_item (at_first xs) d.children } =
+    ap document_in (made ∙ left_by ∙ ap (walked_node next_reached changed_item r) is ∙ ap (λ z. walked_node next_reached changed_item z (document_node d)) begin) in
+    let got_is : got ≡ (after next_reached changed_item (at_first xs) xs).got =
+    end ∙ ap (λ z. z.got) (state ∙ ap (λ n. after next_reached changed_item r (node_items n)) is ∙ ap (λ z. after next_reached changed_item z (elements_of d)) begin) in
+    makes_names _ (passed (after next_reached changed_item (at_first xs) xs).got) old new e same (subst (λ g. Passes g old.names new.names) got_is passes) rest
 
 -- ---- a document without internal target
 
@@ -67,21 +67,21 @@ walk_makes d e root done ts r s got old new is made all begun left_by state end 
 abbrev idle : List Bool → Reached
 idle ts = reached ts (handed [] []) []
 
-goes_by : (ts : List Bool) (x : Item) → is_internal x ≡ false → (next_reached (idle ts) x ≡ idle (drop 1 ts)) × (changed_at (idle ts) x ≡ x)
+goes_by : (ts : List Bool) (x : Item) → is_internal x ≡ false → (next_reached (idle ts) x ≡ idle (drop 1 ts)) × (changed_item (idle ts) x ≡ x)
 goes_by ts x none = rw none (refl, refl)
 
 left : List Bool → List Item → List Bool
 left ts [] = ts
 left ts (x ∷ xs) = left (drop 1 ts) xs
 
-none_after : (ts : List Bool) (xs : List Item) → list_any is_internal xs ≡ false → after next_reached changed_at (idle ts) xs ≡ idle (left ts xs)
+none_after : (ts : List Bool) (xs : List Item) → list_any is_internal xs ≡ false → after next_reached changed_item (idle ts) xs ≡ idle (left ts xs)
 unfolding left
 none_after ts [] none = refl
 none_after ts (x ∷ xs) none =
     let both = or_none (is_internal x) (list_any is_internal xs) none in
-    ap (λ s. after next_reached changed_at s xs) (goes_by ts x both.0).0 ∙ none_after (drop 1 ts) xs both.1
+    ap (λ s. after next_reached changed_item s xs) (goes_by ts x both.0).0 ∙ none_after (drop 1 ts) xs both.1
 
-none_changed : (ts : List Bool) (f : Forest) → list_any is_internal (items f) ≡ false → walked next_reached changed_at (idle ts) f ≡ f
+none_changed : (ts : List Bool) (f : Forest) → list_any is_internal (items f) ≡ false → walked next_reached changed_item (idle ts) f ≡ f
 none_changed ts bare none = refl
 none_changed ts (words t r) none = ap (words t) (none_changed ts r none)
 none_changed ts (element t a c l r) none =
@@ -90,24 +90,24 @@ none_changed ts (element t a c l r) none =
     let own = or_none (is_internal x) (list_any is_internal (items c)) split.0 in
     let step = goes_by ts x own.0 in
     let first : next_reached (idle ts) x ≡ idle (drop 1 ts) = step.0 in
-    ap (λ y. element y.tag y.attrs (walked next_reached changed_at (next_reached (idle ts) x) c) y.line
-    (walked next_reached changed_at (after next_reached changed_at (next_reached (idle ts) x) (items c)) r)) step.1
-    ∙ ap (λ s. element t a (walked next_reached changed_at s c) l (walked next_reached changed_at (after next_reached changed_at s (items c)) r)) first
-    ∙ ap (λ f. element t a f l (walked next_reached changed_at (after next_reached changed_at (idle (drop 1 ts)) (items c)) r)) (none_changed (drop 1 ts) c own.1)
-    ∙ ap (λ s. element t a c l (walked next_reached changed_at s r)) (none_after (drop 1 ts) (items c) own.1)
+    ap (λ y. element y.tag y.attrs (walked next_reached changed_item (next_reached (idle ts) x) c) y.line
+    (walked next_reached changed_item (after next_reached changed_item (next_reached (idle ts) x) (items c)) r)) step.1
+    ∙ ap (λ s. element t a (walked next_reached changed_item s c) l (walked next_reached changed_item (after next_reached changed_item s (items c)) r)) first
+    ∙ ap (λ f. element t a f l (walked next_reached changed_item (after next_reached changed_item (idle (drop 1 ts)) (items c)) r)) (none_changed (drop 1 ts) c own.1)
+    ∙ ap (λ s. element t a c l (walked next_reached changed_item s r)) (none_after (drop 1 ts) (items c) own.1)
     ∙ ap (element t a c l) (none_changed (left (drop 1 ts) (items c)) r split.1)
 
 -- it stays as it is
 pub without_targets : (d : Document) (context : Context) → list_any is_internal (elements_of d) ≡ false → Makes (with_targets d) context context d
 without_targets d context none =
     let ts : List Bool = takers (items d.children) in
-    let got : (after next_reached changed_at (idle ts) (items d.children)).got ≡ [] = ap (λ s. s.got) (none_after ts (items d.children) none) in
-    makes_names _ (passed (after next_reached changed_at (idle ts) (items d.children)).got) context context d (ap (λ f. record d { children = f }) (sym (none_changed ts d.children none)))
-    (subst (λ g. Passes g context.names context.names) (sym got) (λ held are. are)) refl
+    let got : (after next_reached changed_item (idle ts) (items d.children)).got ≡ [] = ap (λ s. s.got) (none_after ts (items d.children) none) in
+    makes_names _ (passed (after next_reached changed_item (idle ts) (items d.children)).got) context context d (ap (λ f. record d { children = f }) (sym (none_changed ts d.children none)))
+    (subst (λ g. Passes g context.names context.names) (sym got) (λ entries are. are)) refl
 
 -- texts put after others whose last comes first
-pub reversed_behind : (xs ys : List (List ℕ)) → reverse (xs ++ reverse ys) ≡ ys ++ reverse xs
-reversed_behind xs ys = reverse-append xs (reverse ys) ∙ ap (λ zs. zs ++ reverse xs) (reverse-reverse ys)
+pub reversed_after : (xs ys : List (List ℕ)) → reverse (xs ++ reverse ys) ≡ ys ++ reverse xs
+reversed_after xs ys = reverse-append xs (reverse ys) ∙ ap (λ zs. zs ++ reverse xs) (reverse-reverse ys)
 
 -- the names that a target lists are those that it lists once its ids are taken
 differ : (k : Key) → is_same k Ids ≡ true → is_same k OfNames ≡ false
@@ -121,5 +121,5 @@ names_kept (a ∷ more) =
       | false ↦ λ e. ap (λ v. if is_same a.key OfNames then Some a.value else v) (names_kept more)
     ] refl
 
-pub listed_still : (attrs : List Attr) → listed OfNames (without_key Ids attrs) ≡ listed OfNames attrs
+pub listed_still : (attrs : List Attr) → listed_texts OfNames (without_key Ids attrs) ≡ listed_texts OfNames attrs
 listed_still attrs = ap members_in (names_kept attrs)

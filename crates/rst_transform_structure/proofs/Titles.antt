@@ -6,7 +6,7 @@ use Rattle.std.specs.List.{list_all}
 use Rattle.std.proofs.lemmas.List.{length-append, map-append, take_more}
 use Rattle.std.proofs.lemmas.Option.{slice_get-get_or}
 use Rattle.std.proofs.Math.Seq.{get_or-append_seam, take-append_seam}
-use Rattle.rst_transform_names.specs.Names.{held_by, moved, Knows}
+use Rattle.rst_transform_names.specs.Names.{entry_named, with_holder, Knows}
 use Rattle.rst_transform_names.specs.declared.names.Names.{Names}
 use Rattle.rst_transform_names.specs.declared.names.Holder.TheVariants.{Unregistered}
 use Rattle.rst_tree.proofs.Changes.{nodes_of-forest_of}
@@ -18,9 +18,9 @@ use Rattle.rst_tree.specs.Faults.{Gives}
 use Rattle.rst_tree.specs.Forest.{Forest}
 use Rattle.rst_tree.specs.Nodes.{forest_of, nodes_of}
 use Rattle.rst_transform_structure.specs.declared.title.Section.{Section}
-use Rattle.rst_transform_work.specs.Lists.{listed}
+use Rattle.rst_transform_work.specs.Lists.{listed_texts}
 use Rattle.rst_transform_structure.specs.Title.{lone_section, section_after, section_in, subtitle_names, title_names, with_before}
-use Rattle.rst_transform_structure.specs.Passing.{with_number, Passes}
+use Rattle.rst_transform_structure.specs.Passing.{paired_with_number, Passes}
 use Rattle.rst_transform_structure.proofs.Passing.{Passes-more, Passes-then}
 use Rattle.rst_transform_work.specs.Reading.{may_precede}
 
@@ -49,12 +49,12 @@ pub put_back : (nodes back : Forest) (items pushed xs : List Node) (n m : Node) 
 put_back nodes back items pushed xs n m e f is p b = b ∙ ap forest_of (p ∙ ap (λ z. xs ++ z ∷ []) is ∙ sym f) ∙ sym e
 
 -- the names of a section move, and then those of the section in it
-pub title_moves : (nodes : Forest) (s : Section) (a b c : Names) → lone_section nodes ≡ Some s → Passes (with_number None (listed OfNames s.attrs)) a b
-    → Passes (with_number None (subtitle_names (lone_section s.body))) b c → Passes (with_number None (title_names (lone_section nodes))) a c
+pub title_moves : (nodes : Forest) (s : Section) (a b c : Names) → lone_section nodes ≡ Some s → Passes (paired_with_number None (listed_texts OfNames s.attrs)) a b
+    → Passes (paired_with_number None (subtitle_names (lone_section s.body))) b c → Passes (paired_with_number None (title_names (lone_section nodes))) a c
 title_moves nodes s a b c is h k =
-    let both = Passes-then (with_number None (listed OfNames s.attrs)) (with_number None (subtitle_names (lone_section s.body))) a b c h k in
-    subst (λ o. Passes (with_number None (title_names o)) a c) (sym is)
-    (subst (λ names. Passes names a c) (sym (map-append (λ name. (name, None)) (listed OfNames s.attrs) (subtitle_names (lone_section s.body)))) both)
+    let both = Passes-then (paired_with_number None (listed_texts OfNames s.attrs)) (paired_with_number None (subtitle_names (lone_section s.body))) a b c h k in
+    subst (λ o. Passes (paired_with_number None (title_names o)) a c) (sym is)
+    (subst (λ names. Passes names a c) (sym (map-append (λ name. (name, None)) (listed_texts OfNames s.attrs) (subtitle_names (lone_section s.body)))) both)
 
 -- what holds anyway holds if the call gives a value
 pub anyway : {A : Type 0} (P : Type 0) (r : Result A TreeFault) → P → Gives (λ _. P) r
@@ -62,9 +62,9 @@ anyway P (Ok done) p = p
 anyway P (Err NoMemory) p = tt
 
 -- one more name moves
-pub Moves-more : (xs : List (List ℕ)) (i : ℕ) (x y : List ℕ) (a b c : Names) → i < length xs → x ≡ get_or xs i x → y ≡ x → Passes (with_number None (take i xs)) a b
-    → Knows y (moved Unregistered (held_by b y)) b c → Passes (with_number None (take (i + 1) xs)) a c
+pub Moves-more : (xs : List (List ℕ)) (i : ℕ) (x y : List ℕ) (a b c : Names) → i < length xs → x ≡ get_or xs i x → y ≡ x → Passes (paired_with_number None (take i xs)) a b
+    → Knows y (with_holder Unregistered (entry_named b y)) b c → Passes (paired_with_number None (take (i + 1) xs)) a c
 Moves-more xs i x y a b c fits at is h k =
-    let more : with_number None (take i xs) ++ (x, None) ∷ [] ≡ with_number None (take (i + 1) xs) =
-    sym (map-append (λ name. (name, None)) (take i xs) (x ∷ [])) ∙ ap (λ z. with_number None (take i xs ++ z ∷ [])) at ∙ ap (with_number None) (sym (take_more xs i x fits)) in
-    subst (λ names. Passes names a c) more (Passes-more (with_number None (take i xs)) (x, None) y Unregistered a b c h is refl k)
+    let more : paired_with_number None (take i xs) ++ (x, None) ∷ [] ≡ paired_with_number None (take (i + 1) xs) =
+    sym (map-append (λ name. (name, None)) (take i xs) (x ∷ [])) ∙ ap (λ z. paired_with_number None (take i xs ++ z ∷ [])) at ∙ ap (paired_with_number None) (sym (take_more xs i x fits)) in
+    subst (λ names. Passes names a c) more (Passes-more (paired_with_number None (take i xs)) (x, None) y Unregistered a b c h is refl k)

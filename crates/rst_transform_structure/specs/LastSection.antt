@@ -18,8 +18,8 @@ use Rattle.rst_transform_work.specs.Known.{Known}
 use Rattle.rst_transform_work.specs.Reports.{report_node, without_ids}
 
 -- a message is in the last section and is at or above the report level
-abbrev pub is_shown : Threshold → Report → Bool
-is_shown report own = own.own && is_reached report (level_number own.level)
+abbrev pub is_reported : Threshold → Report → Bool
+is_reported report own = own.own && is_reached report (level_number own.level)
 
 -- the section's title
 abbrev pub heading : Node
@@ -30,8 +30,8 @@ abbrev pub own_nodes : List Report → List Node
 own_nodes reports = map report_node (filter (λ one. one.own) reports)
 
 -- the section
-abbrev pub section_of : List Report → Node
-section_of reports = Element Section (attr Classes (Listed (codes "system-messages" ∷ [])) ∷ []) (forest_of (heading ∷ own_nodes reports)) 0
+abbrev pub messages_section : List Report → Node
+messages_section reports = Element Section (attr Classes (Listed (codes "system-messages" ∷ [])) ∷ []) (forest_of (heading ∷ own_nodes reports)) 0
 
 -- a message whose ids have moved to its element, if that is in the section
 abbrev pub ids_moved : Report → Report
@@ -40,6 +40,6 @@ ids_moved one = if one.own then without_ids one else one
 -- the document with the section, if one of the messages is printed, and what is known then
 abbrev pub with_last_section : Threshold → Document → Known → Document × Known
 with_last_section report document known =
-    if list_any (is_shown report) known.reports
-    then (record document { children = forest_of (nodes_of document.children ++ section_of known.reports ∷ []) }, record known { reports = map ids_moved known.reports })
+    if list_any (is_reported report) known.reports
+    then (record document { children = forest_of (nodes_of document.children ++ messages_section known.reports ∷ []) }, record known { reports = map ids_moved known.reports })
     else (document, known)

@@ -8,13 +8,13 @@ use Rattle.rst_tree.specs.declared.node.Node.{Node}
 use Rattle.rst_tree.specs.declared.node.Node.TheVariants.{Element, Text}
 use Rattle.rst_tree.specs.declared.tag.Tag.{Tag}
 use Rattle.rst_tree.specs.declared.tag.Tag.TheVariants.{Comment, SubstitutionDefinition, SystemMessage, Transition}
-use Rattle.rst_tree.specs.Attributes.{said_number, value_of, with_attr, without_key}
+use Rattle.rst_tree.specs.Attributes.{as_number, value_of, with_attr, without_key}
 use Rattle.rst_tree.specs.Walk.{Item, after, item, items, walked}
 use Rattle.rst_tree_index.specs.Kinds.{is_internal}
 use Rattle.rst_transform_work.specs.Known.{Known}
-use Rattle.rst_transform_work.specs.Lists.{listed, with_listed}
+use Rattle.rst_transform_work.specs.Lists.{listed_texts, with_listed}
 use Rattle.rst_transform_work.specs.declared.document.Document.{Document}
-use Rattle.rst_transform_structure.specs.Passing.{passed, with_number}
+use Rattle.rst_transform_structure.specs.Passing.{passed, paired_with_number}
 
 -- whether an element of a kind takes the ids and names of a target before it
 abbrev pub takes_ids : Tag → Bool
@@ -43,20 +43,20 @@ handed ids names = record { ids = ids; names = names }
 
 -- those of a target with these attributes, and after them what it got itself
 abbrev pub handed_by : List Attr → Handed → Handed
-handed_by attrs h = handed (listed Ids attrs ++ h.ids) (listed OfNames attrs ++ h.names)
+handed_by attrs h = handed (listed_texts Ids attrs ++ h.ids) (listed_texts OfNames attrs ++ h.names)
 
 -- the attributes of an element that got ids and names: they come after its own
-abbrev pub given : Handed → List Attr → List Attr
-given h attrs = with_listed OfNames h.names (with_listed Ids h.ids attrs)
+abbrev pub with_ids_and_names : Handed → List Attr → List Attr
+with_ids_and_names h attrs = with_listed OfNames h.names (with_listed Ids h.ids attrs)
 
 -- the attributes with a reference to the first of some ids, if there is one
-abbrev pub with_refid : List (List ℕ) → List Attr → List Attr
-with_refid [] attrs = attrs
-with_refid (id ∷ more) attrs = with_attr Refid (Says id) attrs
+abbrev pub with_first_refid : List (List ℕ) → List Attr → List Attr
+with_first_refid [] attrs = attrs
+with_first_refid (id ∷ more) attrs = with_attr Refid (Says id) attrs
 
 -- the attributes of a target that has handed on its ids and names: it refers to its own first id
 abbrev pub referring : List Attr → List Attr
-referring attrs = with_refid (listed Ids attrs) (without_key Dupnames (without_key OfNames (without_key Ids attrs)))
+referring attrs = with_first_refid (listed_texts Ids attrs) (without_key Dupnames (without_key OfNames (without_key Ids attrs)))
 
 -- What is known at an element in document order: whether it and each one after it takes ids, what it gets of the target directly before it, and the
 -- names that those before it got and keep, each with the element's number.
@@ -79,7 +79,7 @@ hands_on r x = is_internal x && unwrap_or (slice_get r.takers 1) false
 
 -- names that an element with these attributes got, each with the element's number, if it has one
 abbrev pub got_by : List Attr → List (List ℕ) → List (List ℕ × Option ℕ)
-got_by attrs names = with_number (said_number (value_of Serial attrs)) names
+got_by attrs names = paired_with_number (as_number (value_of Serial attrs)) names
 
 -- at the next element
 abbrev pub next_reached : Reached → Item → Reached
@@ -88,13 +88,13 @@ next_reached r x =
     else reached (drop 1 r.takers) (handed [] []) (r.got ++ got_by x.attrs r.handed.names)
 
 -- what happens to the element
-abbrev pub changed_at : Reached → Item → Item
-changed_at r x = item x.tag (if hands_on r x then referring x.attrs else given r.handed x.attrs) x.line
+abbrev pub changed_item : Reached → Item → Item
+changed_item r x = item x.tag (if hands_on r x then referring x.attrs else with_ids_and_names r.handed x.attrs) x.line
 
 -- the document whose internal targets have handed on their ids and names, and what is known then: elements hold the names that they got
 abbrev pub with_targets : Document → Known → Document × Known
 with_targets document known =
     let xs = items document.children in (
-      record document { children = walked next_reached changed_at (at_first xs) document.children },
-      record known { names = passed (after next_reached changed_at (at_first xs) xs).got known.names },
+      record document { children = walked next_reached changed_item (at_first xs) document.children },
+      record known { names = passed (after next_reached changed_item (at_first xs) xs).got known.names },
     )

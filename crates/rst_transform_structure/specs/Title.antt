@@ -12,9 +12,9 @@ use Rattle.rst_tree.specs.Forest.{Forest, bare, element, words}
 use Rattle.rst_tree.specs.Nodes.{forest_of, join_node, nodes_of}
 use Rattle.rst_tree.specs.Tree.{text_in}
 use Rattle.rst_transform_structure.specs.declared.title.Section.{Section}
-use Rattle.rst_transform_structure.specs.Passing.{passed, with_number}
+use Rattle.rst_transform_structure.specs.Passing.{passed, paired_with_number}
 use Rattle.rst_transform_work.specs.Known.{Known}
-use Rattle.rst_transform_work.specs.Lists.{listed, with_names}
+use Rattle.rst_transform_work.specs.Lists.{listed_texts, with_names}
 use Rattle.rst_transform_work.specs.declared.document.Document.{Document}
 use Rattle.rst_transform_work.specs.Reading.{may_precede}
 
@@ -23,14 +23,14 @@ abbrev pub section : List Attr → Node → Forest → Section
 section a title body = record { attrs = a; title = title; body = body }
 
 -- the section with these attributes and nodes, if it has a title
-abbrev pub section_of : List Attr → Forest → Option Section
-section_of a bare = None
-section_of a (element t b c l body) = Some (section a (Element t b c l) body)
-section_of a (words t body) = Some (section a (Text t) body)
+abbrev pub section_if_titled : List Attr → Forest → Option Section
+section_if_titled a bare = None
+section_if_titled a (element t b c l body) = Some (section a (Element t b c l) body)
+section_if_titled a (words t body) = Some (section a (Text t) body)
 
 -- a node as a section with a title, if it is one
 abbrev pub section_in : Node → Option Section
-section_in (Element IsSection a c l) = section_of a c
+section_in (Element IsSection a c l) = section_if_titled a c
 section_in (Element _ a c l) = None
 section_in (Text t) = None
 
@@ -73,13 +73,13 @@ titled d = let section = lone_section d.children in record { attrs = title_attrs
 -- the names that the subtitle gets
 abbrev pub subtitle_names : Option Section → List (List ℕ)
 subtitle_names None = []
-subtitle_names (Some s) = listed OfNames s.attrs
+subtitle_names (Some s) = listed_texts OfNames s.attrs
 
 -- the names that the document and its subtitle get
 abbrev pub title_names : Option Section → List (List ℕ)
 title_names None = []
-title_names (Some s) = listed OfNames s.attrs ++ subtitle_names (lone_section s.body)
+title_names (Some s) = listed_texts OfNames s.attrs ++ subtitle_names (lone_section s.body)
 
 -- the document with its title and its subtitle, and what is known then: they hold the names
 abbrev pub with_title : Document → Known → Document × Known
-with_title document known = (titled document, record known { names = passed (with_number None (title_names (lone_section document.children))) known.names })
+with_title document known = (titled document, record known { names = passed (paired_with_number None (title_names (lone_section document.children))) known.names })

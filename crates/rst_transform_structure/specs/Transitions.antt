@@ -51,34 +51,34 @@ pub record Siblings : Type 0 where
   pub reports : List Report
 
 -- those that the program has, with its messages
-abbrev pub so_far : Placed → Context → Siblings
-so_far p context = record { placed = p.nodes.items; moving = p.moving.items; reports = context.reports.items }
+abbrev pub siblings_so_far : Placed → Context → Siblings
+siblings_so_far p context = record { placed = p.nodes.items; moving = p.moving.items; reports = context.reports.items }
 
 -- no node, after these messages
-abbrev pub none_yet : List Report → Siblings
-none_yet reports = record { placed = []; moving = []; reports = reports }
+abbrev pub no_siblings_yet : List Report → Siblings
+no_siblings_yet reports = record { placed = []; moving = []; reports = reports }
 
 -- one more node
 abbrev pub with_node : Node → Siblings → Siblings
 with_node n s = record s { placed = s.placed ++ n ∷ [] }
 
 -- one more node, the next message on a transition of this line; the messages have numbers from the first on
-unfoldable pub with_message : ℕ → ℕ → List ℕ → Siblings → Siblings
-with_message first line text s =
+unfoldable pub with_transition_message : ℕ → ℕ → List ℕ → Siblings → Siblings
+with_transition_message first line text s =
     let next = next_report first s.reports Error line text false in record s { placed = s.placed ++ report_node next ∷ []; reports = s.reports ++ next ∷ [] }
 
 -- the same, if something is wrong
-unfoldable pub with_fault : ℕ → ℕ → Option (List ℕ) → Siblings → Siblings
-with_fault first line None s = s
-with_fault first line (Some text) s = with_message first line text s
+unfoldable pub with_transition_fault : ℕ → ℕ → Option (List ℕ) → Siblings → Siblings
+with_transition_fault first line None s = s
+with_transition_fault first line (Some text) s = with_transition_message first line text s
 
 -- A transition, after the message on what is wrong with it. If it is the last node, it moves out; but if the document ends with it, which it may not
 -- either, it stays, with a message after it.
 unfoldable pub put_transition : ℕ → Bool → Bool → Node → ℕ → Siblings → Siblings
 put_transition first last ends n line s =
-    let noted = with_fault first line (fault_before s.placed) s in
+    let noted = with_transition_fault first line (fault_before s.placed) s in
     if last && not ends then record noted { moving = noted.moving ++ n ∷ [] }
-    else (if last then with_message first line at_end (with_node n noted) else with_node n noted)
+    else (if last then with_transition_message first line at_end (with_node n noted) else with_node n noted)
 
 -- a section, which is the last node or not, with its nodes: the transition that moves out of it comes after it, or moves further if no node does
 unfoldable pub put_section : Bool → Tag → List Attr → ℕ → Siblings → Siblings → Siblings
@@ -99,7 +99,7 @@ unfoldable pub placed_in : ℕ → Bool → Siblings → Forest → Siblings
 placed_in first ends s bare = s
 placed_in first ends s (words t r) = placed_in first ends (with_node (Text t) s) r
 placed_in first ends s (element t a c l r) =
-    let inside = placed_in first (ends && is_last r) (none_yet s.reports) c in
+    let inside = placed_in first (ends && is_last r) (no_siblings_yet s.reports) c in
     placed_in first ends
     (if is_section t then put_section (is_last r) t a l inside s
     else (if is_transition t then put_transition first (is_last r) ends (Element t a c l) l s else with_node (Element t a c l) s)) r
@@ -107,7 +107,7 @@ placed_in first ends s (element t a c l r) =
 -- the document whose transitions have their places, and what is known then
 abbrev pub with_transitions : Document → Known → Document × Known
 with_transitions document known =
-    let all = placed_in known.first_number true (none_yet known.reports) document.children in
+    let all = placed_in known.first_number true (no_siblings_yet known.reports) document.children in
     (record document { children = forest_of all.placed }, record known { reports = all.reports })
 
 -- the transitions among some elements

@@ -8,9 +8,9 @@ use Rattle.rst_transform_work.specs.Known.{Known}
 use Rattle.rst_transform_work.specs.declared.report.Report.{Report}
 
 -- what is known of a name that was given explicitly
-abbrev pub held : Holder → Option NameEntry
-held holder = Some (record { holder = holder; strength = Explicit; id = codes "a"; uri = None })
+abbrev pub entry_for : Holder → Option NameEntry
+entry_for holder = Some (record { holder = holder; strength = Explicit; id = codes "a"; uri = None })
 
 -- these messages, the first number, and that the element of number 0 holds each name
 abbrev pub known_from : ℕ → List Report → Known
-known_from first reports = record { ids = []; names = λ name. held (Element 0); reports = reports; first_number = first; serials = 0 }
+known_from first reports = record { ids = []; names = λ name. entry_for (Element 0); reports = reports; first_number = first; serials = 0 }

@@ -4,7 +4,7 @@ ghost use Rattle.std.specs.List.{list_any};
 ghost use Rattle.rst_tree.specs.Faults.{Gives};
 ghost use Rattle.rst_tree.specs.Nodes.{forest_of, nodes_of};
 ghost use Rattle.rst_transform_work.specs.Known.{Makes};
-ghost use Rattle.rst_transform_structure.specs.LastSection.{ids_moved, is_shown, own_nodes, section_of, with_last_section};
+ghost use Rattle.rst_transform_structure.specs.LastSection.{ids_moved, is_reported, own_nodes, messages_section, with_last_section};
 
 use rst_settings::Threshold;
 use rst_transform_work::{Context, Document, Report};
@@ -25,7 +25,7 @@ pub fn last_section(
 ) -> Result<Document>
     ensures { Gives (Makes (with_last_section report document) context.old context.new) result }
 {
-    if !is_any_shown(context.reports.as_slice(), report) {
+    if !is_any_reported(context.reports.as_slice(), report) {
         return Ok(document);
     }
     let section = section(context.alloc, &mut context.reports)?;
@@ -34,15 +34,15 @@ pub fn last_section(
 }
 
 /// Whether one of some messages is in the last section and is at or above the report level.
-fn is_any_shown(reports: &[Report], threshold: Threshold) -> bool
-    ensures { result ≡ list_any (is_shown threshold) reports.now }
+fn is_any_reported(reports: &[Report], threshold: Threshold) -> bool
+    ensures { result ≡ list_any (is_reported threshold) reports.now }
 {
     reports.iter().any(|report| report.own && threshold.is_reached(report.level.number()))
 }
 
 /// The section with its title and the messages in it.
 fn section(alloc: Global, reports: &mut Vec<Report>) -> Result<Node>
-    ensures section { Gives (λ section. section ≡ section_of reports.old.items) result }
+    ensures section { Gives (λ section. section ≡ messages_section reports.old.items) result }
     ensures reports { Gives (λ _. reports.new.items ≡ map ids_moved reports.old.items) result }
 {
     let classes = Texts::lone(alloc, Text::from_str(alloc, "system-messages")?);

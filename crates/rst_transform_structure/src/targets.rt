@@ -4,8 +4,8 @@ ghost use Rattle.rst_tree.specs.Faults.{Gives};
 ghost use Rattle.rst_tree.specs.Walk.{item};
 ghost use Rattle.rst_transform_work.specs.States.{elements_of};
 ghost use Rattle.rst_transform_work.specs.Known.{Makes};
-ghost use Rattle.rst_transform_structure.specs.Passing.{with_number, Passes};
-ghost use Rattle.rst_transform_structure.specs.Targets.{given, got_by, handed, handed_by, hands_on, reached, referring, takers, takes_ids, with_refid, with_targets, TakesTaker};
+ghost use Rattle.rst_transform_structure.specs.Passing.{paired_with_number, Passes};
+ghost use Rattle.rst_transform_structure.specs.Targets.{with_ids_and_names, got_by, handed, handed_by, hands_on, reached, referring, takers, takes_ids, with_first_refid, with_targets, TakesTaker};
 
 use rst_transform_names::{Holder, Names};
 use rst_transform_work::{Context, Document, append, take_list};
@@ -142,7 +142,7 @@ impl Walking {
     }
 
     /// Takes the ids and names from a target, which refers to its first id from now on.
-    #[tactic(auto, using(crate::proofs::Retargeting::reversed_behind, crate::proofs::Retargeting::listed_still))]
+    #[tactic(auto, using(crate::proofs::Retargeting::reversed_after, crate::proofs::Retargeting::listed_still))]
     fn hand_on(&mut self, attrs: &mut Attrs) -> Result<()>
         ensures attrs { Gives (λ _. attrs.new ≡ referring attrs.old) result }
         ensures handed { Gives (λ _. self.new ≡ record self.old { handed = handed_by attrs.old self.old.handed }) result }
@@ -158,7 +158,7 @@ impl Walking {
 
     /// Gives the ids and names that were handed on to an element.
     fn hand_over(&mut self, attrs: &mut Attrs) -> Result<()>
-        ensures attrs { Gives (λ _. attrs.new ≡ given self.old.handed attrs.old) result }
+        ensures attrs { Gives (λ _. attrs.new ≡ with_ids_and_names self.old.handed attrs.old) result }
         ensures handed { Gives (λ _. self.new ≡ reached self.old.takers (handed [] []) (self.old.got ++ got_by attrs.old self.old.handed.names)) result }
     {
         if self.ids.is_empty() && self.names.is_empty() {
@@ -176,11 +176,11 @@ impl Walking {
 }
 
 impl Visitor for Walking {
-    ghost use Rattle.rst_transform_structure.specs.Targets.{changed_at, next_reached};
+    ghost use Rattle.rst_transform_structure.specs.Targets.{changed_item, next_reached};
 
     ghost next = { next_reached };
 
-    ghost out = { changed_at };
+    ghost out = { changed_item };
 
     fn visit(&mut self, tag: &mut Tag, attrs: &mut Attrs, _line: &mut usize) -> Result<()> {
         if self.is_turn(*tag, attrs) {
@@ -192,7 +192,7 @@ impl Visitor for Walking {
 
 /// Writes a reference to the first of some ids, if there is one, into attributes.
 fn refer(attrs: &mut Attrs, ids: &[Text]) -> Result<()>
-    ensures { Gives (λ _. attrs.new ≡ with_refid ids.now attrs.old) result }
+    ensures { Gives (λ _. attrs.new ≡ with_first_refid ids.now attrs.old) result }
 {
     match ids.first() {
         Some(id) => attrs.set(Key::Refid, Value::Text(id.copy()?)),
@@ -214,7 +214,7 @@ fn add_backwards(texts: &mut Vec<Text>, more: &[Text]) -> Result<()>
 
 /// Adds names that an element with a number, or without, got.
 fn add_got(got: &mut Vec<(Text, Option<u64>)>, names: Vec<Text>, number: Option<u64>) -> Result<()>
-    ensures { Gives (λ _. got.new.items ≡ got.old.items ++ with_number number names.items) result }
+    ensures { Gives (λ _. got.new.items ≡ got.old.items ++ paired_with_number number names.items) result }
 {
     for name in names {
         got.push((name, number))?;

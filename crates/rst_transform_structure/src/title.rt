@@ -5,15 +5,15 @@ ghost use Rattle.rst_tree.specs.declared.key.Key.TheVariants.{Names as OfNames};
 ghost use Rattle.rst_tree.specs.Faults.{Gives};
 ghost use Rattle.rst_tree.specs.Nodes.{join_node};
 ghost use Rattle.rst_transform_work.specs.Known.{Makes};
-ghost use Rattle.rst_transform_work.specs.Lists.{with_names, listed};
+ghost use Rattle.rst_transform_work.specs.Lists.{with_names, listed_texts};
 ghost use Rattle.rst_transform_work.specs.Made.{IsMadeOf};
 ghost use Rattle.rst_transform_structure.specs.Title.{lone_section, section_in, subtitle, subtitle_names, subtitled_by, title_attrs, title_names, titled_by, with_title};
-ghost use Rattle.rst_transform_structure.specs.Passing.{with_number, Passes};
+ghost use Rattle.rst_transform_structure.specs.Passing.{paired_with_number, Passes};
 ghost use Rattle.rst_transform_work.specs.Reading.{may_precede};
 
 use rst_transform_names::{Holder, Names};
 use rst_transform_work::{Context, Document, append_names, may_precede};
-use rst_tree::{Attrs, Children, Key, Node, Result, Said, Tag, Text, Value};
+use rst_tree::{Attrs, Children, Key, Node, Result, Tag, Text, Value, ValueRef};
 use std::alloc::Global;
 
 /// Makes the title of a document's lone section the document's, and then that of a lone subsection its subtitle (Markup
@@ -48,7 +48,7 @@ pub fn title(mut document: Document, context: &mut Context) -> Result<Document>
 fn titled(alloc: Global, attrs: &mut Attrs, nodes: Children, names: &mut Names) -> Result<Children>
     ensures attrs { Gives (λ _. attrs.new ≡ title_attrs (lone_section nodes) attrs.old) result }
     ensures nodes { Gives (λ all. all ≡ titled_by (lone_section nodes) nodes) result }
-    ensures names { Gives (λ _. Passes (with_number None (title_names (lone_section nodes))) names.old names.new) result }
+    ensures names { Gives (λ _. Passes (paired_with_number None (title_names (lone_section nodes))) names.old names.new) result }
 {
     match lone_section(nodes)? {
         Ok(section) => {
@@ -64,7 +64,7 @@ fn titled(alloc: Global, attrs: &mut Attrs, nodes: Children, names: &mut Names) 
 /// The nodes after a document's title, once the subtitle is the first of them, if it gets one.
 fn subtitled(alloc: Global, nodes: Children, names: &mut Names) -> Result<Children>
     ensures nodes { Gives (λ all. all ≡ subtitled_by (lone_section nodes) nodes) result }
-    ensures names { Gives (λ _. Passes (with_number None (subtitle_names (lone_section nodes))) names.old names.new) result }
+    ensures names { Gives (λ _. Passes (paired_with_number None (subtitle_names (lone_section nodes))) names.old names.new) result }
 {
     match lone_section(nodes)? {
         Ok(section) => {
@@ -166,20 +166,20 @@ fn lone_section(nodes: Children) -> Result<std::result::Result<Section, Children
 /// Adds a section's ids, names and lost names to those of the element that takes its title.
 fn take_names(alloc: Global, attrs: &mut Attrs, section: &Attrs, names: &mut Names) -> Result<()>
     ensures attrs { Gives (λ _. attrs.new ≡ with_names section.now attrs.old) result }
-    ensures names { Gives (λ _. Passes (with_number None (listed OfNames section.now)) names.old names.new) result }
+    ensures names { Gives (λ _. Passes (paired_with_number None (listed_texts OfNames section.now)) names.old names.new) result }
 {
     append_names(alloc, attrs, section)?;
-    if let Some(Said::List(held)) = section.get(Key::Names) {
-        move_names(held, names);
+    if let Some(ValueRef::List(own_names)) = section.get(Key::Names) {
+        move_names(own_names, names);
     }
     Ok(())
 }
 
 /// Lets an element without number hold names.
-fn move_names(held: &[Text], names: &mut Names)
-    ensures { Passes (with_number None held.now) names.old names.new }
+fn move_names(own_names: &[Text], names: &mut Names)
+    ensures { Passes (paired_with_number None own_names.now) names.old names.new }
 {
-    for name in held {
+    for name in own_names {
         names.move_to(name.as_str(), Holder::Unregistered);
     }
 }

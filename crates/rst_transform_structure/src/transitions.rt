@@ -9,7 +9,7 @@ ghost use Rattle.rst_transform_work.specs.Known.{Makes};
 ghost use Rattle.rst_transform_work.specs.Reading.{is_title};
 ghost use Rattle.rst_tree_index.specs.Kinds.{is_transition};
 ghost use Rattle.rst_transform_names.specs.NameMessages.{is_section};
-ghost use Rattle.rst_transform_structure.specs.Transitions.{ends_in_transition, fault_before, keeps_place, none_yet, placed_in, put_transition, so_far, with_fault, with_message, with_transitions};
+ghost use Rattle.rst_transform_structure.specs.Transitions.{ends_in_transition, fault_before, keeps_place, no_siblings_yet, placed_in, put_transition, siblings_so_far, with_transition_fault, with_transition_message, with_transitions};
 
 use rst_transform_work::{Context, Document, is_title};
 use rst_tree::{Attrs, Children, Level, Node, Result, Tag, Text};
@@ -54,7 +54,7 @@ struct Placed {
 /// Gives the transitions among the nodes of the document or a section, and in its sections, their places. If the document `ends` with
 /// the nodes, a transition that they end with stays, and else it moves out.
 fn place_in(nodes: Children, ends: bool, context: &mut Context) -> Result<Placed>
-    ensures placed { Gives (λ placed. so_far placed context.new ≡ placed_in context.old.first_number ends (none_yet context.old.reports.items) nodes) result }
+    ensures placed { Gives (λ placed. siblings_so_far placed context.new ≡ placed_in context.old.first_number ends (no_siblings_yet context.old.reports.items) nodes) result }
     ensures rest { Gives (λ _. KeepsRest context.old context.new) result }
 {
     let mut left = nodes.len();
@@ -109,9 +109,9 @@ fn place_in(nodes: Children, ends: bool, context: &mut Context) -> Result<Placed
 
 impl Placed {
     /// Puts an ERROR on a transition after the nodes, if there are words for one. It is in the list of messages, too.
-    #[tactic(auto, unfolding(crate::specs::Transitions::with_fault, crate::specs::Transitions::with_message))]
+    #[tactic(auto, unfolding(crate::specs::Transitions::with_transition_fault, crate::specs::Transitions::with_transition_message))]
     fn put_message(&mut self, line: usize, words: Option<&str>, context: &mut Context) -> Result<()>
-        ensures siblings { Gives (λ _. so_far self.new context.new ≡ with_fault context.old.first_number line (option_map (λ w. w.now) words.entry) (so_far self.old context.old)) result }
+        ensures siblings { Gives (λ _. siblings_so_far self.new context.new ≡ with_transition_fault context.old.first_number line (option_map (λ w. w.now) words.entry) (siblings_so_far self.old context.old)) result }
         ensures rest { Gives (λ _. KeepsRest context.old context.new) result }
     {
         let Some(words) = words else {
@@ -125,7 +125,7 @@ impl Placed {
 
     /// Puts a transition, which is the last node or not, to its place, after the message on what is wrong with it. It moves out if it is
     /// the last, unless the document ends with it: then a message follows it.
-    #[tactic(auto, unfolding(crate::specs::Transitions::put_transition, crate::specs::Transitions::with_fault))]
+    #[tactic(auto, unfolding(crate::specs::Transitions::put_transition, crate::specs::Transitions::with_transition_fault))]
     fn put_transition(
         &mut self,
         transition: Node,
@@ -134,7 +134,7 @@ impl Placed {
         ends: bool,
         context: &mut Context,
     ) -> Result<()>
-        ensures siblings { Gives (λ _. so_far self.new context.new ≡ put_transition context.old.first_number last ends transition line (so_far self.old context.old)) result }
+        ensures siblings { Gives (λ _. siblings_so_far self.new context.new ≡ put_transition context.old.first_number last ends transition line (siblings_so_far self.old context.old)) result }
         ensures rest { Gives (λ _. KeepsRest context.old context.new) result }
     {
         let fault = fault_before(self.nodes.as_slice());

@@ -12,19 +12,19 @@ use Rattle.rst_transform_substitutions.specs.declared.listing.Defined.{Defined}
 use Rattle.rst_transform_substitutions.specs.declared.listing.Listed.{Listed}
 use Rattle.rst_transform_substitutions.specs.declared.definitions.Definitions.{Definitions}
 use Rattle.rst_transform_substitutions.specs.Definitions.{defined, definitions_among, found_among, found_by, known_place, last_place, own_definition, place_of_name, place_of_normalized, AreKnown, Definition}
-use Rattle.rst_transform_substitutions.specs.Numbering.{names_said, own_name, TakesListed}
+use Rattle.rst_transform_substitutions.specs.Numbering.{refnames_in, referenced_names, TakesListed}
 use Rattle.rst_transform_work.specs.Reading.{name_in}
 
 -- those among nodes come after the others
 pub listed_read : (level : Option ℕ) (f : Forest) (old new : Listed) → AreRead TakesListed level f old new
-    → (map defined new.definitions.items ≡ map defined old.definitions.items ++ definitions_among f) × (map (λ name. name.now) new.names.items ≡ map (λ name. name.now) old.names.items ++ names_said f)
+    → (map defined new.definitions.items ≡ map defined old.definitions.items ++ definitions_among f) × (map (λ name. name.now) new.names.items ≡ map (λ name. name.now) old.names.items ++ refnames_in f)
 listed_read level bare old new read = rw read (sym (append-nil (map defined old.definitions.items)), sym (append-nil (map (λ name. name.now) old.names.items)))
 listed_read level (words t r) old new read = listed_read level r old new read
 listed_read level (element t a c l r) old new read =
     let inside = listed_read read.1 c read.0 read.2 read.4 in
-    let behind = listed_read level r read.2 new read.5 in (
-      three_added (map defined old.definitions.items) (own_definition t a c) (definitions_among c) (definitions_among r) _ _ _ read.3.0 inside.0 behind.0,
-      three_added (map (λ name. name.now) old.names.items) (own_name t a) (names_said c) (names_said r) _ _ _ read.3.1 inside.1 behind.1,
+    let following = listed_read level r read.2 new read.5 in (
+      three_added (map defined old.definitions.items) (own_definition t a c) (definitions_among c) (definitions_among r) _ _ _ read.3.0 inside.0 following.0,
+      three_added (map (λ name. name.now) old.names.items) (referenced_names t a) (refnames_in c) (refnames_in r) _ _ _ read.3.1 inside.1 following.1,
     )
 
 -- one definition more is the last
@@ -52,7 +52,7 @@ pub known_more : (all : List Definition) (known next : Definitions) (name : List
 known_more all known next name content place are is contents exact normalized =
     let count : place ≡ length all = is ∙ ap length are.contents ∙ length-map all (λ one. one.1) in
     record {
-      contents = contents ∙ ap (λ front. front ++ content ∷ []) are.contents ∙ sym (map-append (λ one. one.1) all ((name, content) ∷ []));
+      contents = contents ∙ ap (λ prefix. prefix ++ content ∷ []) are.contents ∙ sym (map-append (λ one. one.1) all ((name, content) ∷ []));
       exact = place_more (λ n. n) all name content place (get_by_text known.exact) (get_by_text next.exact) count are.exact exact;
       normalized = place_more name_in all name content place (get_by_text known.normalized) (get_by_text next.normalized) count are.normalized normalized;
     }

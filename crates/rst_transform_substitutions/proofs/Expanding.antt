@@ -8,11 +8,11 @@ use Rattle.rst_tree.specs.Nodes.{forest_of}
 use Rattle.rst_transform_substitutions.specs.declared.definitions.Definitions.{Definitions}
 use Rattle.rst_transform_substitutions.specs.declared.expansion.ExpansionFault.TheVariants.{Undefined, Circular, TooLarge}
 use Rattle.rst_transform_substitutions.specs.Definitions.{found_by, known_found}
-use Rattle.rst_transform_substitutions.specs.Expansion.{behind, expanded, given, given_within, most_nested, Expansion}
+use Rattle.rst_transform_substitutions.specs.Expansion.{after_nodes, expanded_copies, given, given_within, most_nested, Expansion}
 
 -- the nodes before some, with what those come to while so much may be visited
 abbrev pub so_far : (List ℕ → ℕ → Expansion) → List Node → List Node → ℕ → ℕ → Expansion
-so_far given nodes ns i left = behind nodes (expanded given (forest_of (drop i ns)) left)
+so_far given nodes ns i left = after_nodes nodes (expanded_copies given (forest_of (drop i ns)) left)
 
 -- the definition that is known to be found
 pub found-some : (known : Definitions) (name : List ℕ) (place : ℕ) (content : Forest) → known_found known name ≡ Some place → slice_get known.contents.items place ≡ Some content → found_by known name ≡ Some (place, content)
@@ -34,7 +34,7 @@ unfolding given_within
 too_deep_within found path name left one is among = rw (is, among) refl
 
 pub entered_within : (found : List ℕ → Option (ℕ × Forest)) (more : ℕ) (path name : List ℕ) (left : ℕ) (one : ℕ × Forest) → found name ≡ Some one → list_any (λ place. place == one.0) path ≡ false
-    → given_within found (suc more) path name left ≡ expanded (given_within found more (path ++ one.0 ∷ [])) one.1 left
+    → given_within found (suc more) path name left ≡ expanded_copies (given_within found more (path ++ one.0 ∷ [])) one.1 left
 unfolding given_within
 entered_within found more path name left one is among = rw (is, among) refl
 
@@ -44,7 +44,7 @@ given-too_deep found path name left one is among deep =
     ap (λ more. given_within found more path name left) none ∙ too_deep_within found path name left one is among
 
 pub given-entered : (found : List ℕ → Option (ℕ × Forest)) (path name : List ℕ) (left : ℕ) (one : ℕ × Forest) → found name ≡ Some one → list_any (λ place. place == one.0) path ≡ false → length path < most_nested
-    → given found path name left ≡ expanded (given found (path ++ one.0 ∷ [])) one.1 left
+    → given found path name left ≡ expanded_copies (given found (path ++ one.0 ∷ [])) one.1 left
 given-entered found path name left one is among within =
     let more : most_nested - length path ≡ suc (most_nested - length (path ++ one.0 ∷ [])) = omega (arith, length-append path (one.0 ∷ []), within) in
     ap (λ more. given_within found more path name left) more ∙ entered_within found (most_nested - length (path ++ one.0 ∷ [])) path name left one is among

@@ -17,13 +17,13 @@ use Rattle.rst_tree.specs.declared.attrs.Attr.{Attr}
 use Rattle.rst_tree.specs.declared.node.Node.TheVariants.{Element, Text}
 use Rattle.rst_tree.specs.declared.tag.Tag.{Tag}
 use Rattle.rst_tree.specs.Forest.{Forest, bare, element, words}
-use Rattle.rst_tree_index.specs.Kinds.{is_reference}
+use Rattle.rst_tree_index.specs.Kinds.{is_substitution_reference}
 use Rattle.rst_transform_substitutions.specs.declared.definitions.Definitions.{Definitions}
 use Rattle.rst_transform_substitutions.specs.declared.expansion.ExpansionFault.TheVariants.{Circular, TooLarge}
 use Rattle.rst_transform_substitutions.specs.declared.outcomes.Outcome.{Outcome}
 use Rattle.rst_transform_substitutions.specs.Definitions.{found_by, known_found, placed}
-use Rattle.rst_transform_substitutions.specs.Expansion.{and_then, behind, entering, expanded, given_within, inside, most_nested, most_visited, name_said, nodes_for, nodes_in, size_of, visiting, Expansion}
-use Rattle.rst_transform_substitutions.specs.Numbering.{is_at_least, may_lead, names_said, own_name, places_found, places_of, AreOrdered}
+use Rattle.rst_transform_substitutions.specs.Expansion.{then_expanded, after_nodes, entering, expanded_copies, given_within, element_around, most_nested, most_visited, refname_of, nodes_for, expansion_nodes, size_of, visiting, Expansion}
+use Rattle.rst_transform_substitutions.specs.Numbering.{is_at_least, may_lead_to, refnames_in, referenced_names, places_found, definition_places, AreOrdered}
 use Rattle.rst_transform_substitutions.specs.Outcomes.{came}
 
 -- a test that a weaker one follows from
@@ -35,7 +35,7 @@ weaker one two follows (x ∷ xs) all =
 
 -- what a reference, or another element, comes to
 abbrev here_of : (List ℕ → ℕ → Expansion) → Bool → Tag → List Attr → Forest → ℕ → ℕ → Expansion
-here_of given is t a c l more = if is then given (name_said a) more else inside t a l (expanded given c more)
+here_of given is t a c l more = if is then given (refname_of a) more else element_around t a l (expanded_copies given c more)
 
 -- given a test of places that each definition passes on to those that it refers to
 module _ (known : Definitions) (led : ℕ → Bool) (closed : (place : ℕ) (content : Forest) → slice_get known.contents.items place ≡ Some content → led place ≡ true → list_all led (places_found known content) ≡ true) where
@@ -43,10 +43,10 @@ module _ (known : Definitions) (led : ℕ → Bool) (closed : (place : ℕ) (con
   abbrev FindsLed : List ℕ → Type 0
   FindsLed name = list_all led (option_to_list (known_found known name)) ≡ true
 
-  led_parts : (xs ys : List (List ℕ)) → list_all led (places_of known (xs ++ ys)) ≡ true → (list_all led (places_of known xs) ≡ true) × (list_all led (places_of known ys) ≡ true)
+  led_parts : (xs ys : List (List ℕ)) → list_all led (definition_places known (xs ++ ys)) ≡ true → (list_all led (definition_places known xs) ≡ true) × (list_all led (definition_places known ys) ≡ true)
   led_parts xs ys passes =
-      and_parts (list_all led (places_of known xs)) (list_all led (places_of known ys))
-      (sym (ap (list_all led) (flat_map-append (λ name. option_to_list (known_found known name)) xs ys) ∙ list_all-append led (places_of known xs) (places_of known ys)) ∙ passes)
+      and_parts (list_all led (definition_places known xs)) (list_all led (definition_places known ys))
+      (sym (ap (list_all led) (flat_map-append (λ name. option_to_list (known_found known name)) xs ys) ∙ list_all-append led (definition_places known xs) (definition_places known ys)) ∙ passes)
 
   abbrev IsLed : Option (ℕ × Forest) → Type 0
   IsLed None = Unit {0}
@@ -60,23 +60,23 @@ module _ (known : Definitions) (led : ℕ → Bool) (closed : (place : ℕ) (con
   led_found None passes = tt
   led_found (Some place) passes = led_there place (slice_get known.contents.items place) refl (and_parts (led place) true passes).0
 
-  element_same : (one two : List ℕ → ℕ → Expansion) (is : Bool) (t : Tag) (a : List Attr) (c : Forest) (l : ℕ) → ((name : List ℕ) → FindsLed name → one name ≡ two name) → (list_all led (places_found known c) ≡ true → expanded one c ≡ expanded two c)
-      → list_all led (places_of known (if is then name_said a ∷ [] else [])) ≡ true → list_all led (places_found known c) ≡ true → here_of one is t a c l ≡ here_of two is t a c l
-  element_same one two true t a c l same inner own passes = fun_ext (λ more. ap (λ (e : ℕ → Expansion). e more) (same (name_said a) (rw (append-nil (option_to_list (known_found known (name_said a)))) at own)))
-  element_same one two false t a c l same inner own passes = fun_ext (λ more. ap (λ (e : ℕ → Expansion). inside t a l (e more)) (inner passes))
+  element_same : (one two : List ℕ → ℕ → Expansion) (is : Bool) (t : Tag) (a : List Attr) (c : Forest) (l : ℕ) → ((name : List ℕ) → FindsLed name → one name ≡ two name) → (list_all led (places_found known c) ≡ true → expanded_copies one c ≡ expanded_copies two c)
+      → list_all led (definition_places known (if is then refname_of a ∷ [] else [])) ≡ true → list_all led (places_found known c) ≡ true → here_of one is t a c l ≡ here_of two is t a c l
+  element_same one two true t a c l same inner own passes = fun_ext (λ more. ap (λ (e : ℕ → Expansion). e more) (same (refname_of a) (rw (append-nil (option_to_list (known_found known (refname_of a)))) at own)))
+  element_same one two false t a c l same inner own passes = fun_ext (λ more. ap (λ (e : ℕ → Expansion). element_around t a l (e more)) (inner passes))
 
   -- nodes come to the same if what their references do is the same
-  expanded_same : (one two : List ℕ → ℕ → Expansion) → ((name : List ℕ) → FindsLed name → one name ≡ two name) → (c : Forest) → list_all led (places_found known c) ≡ true → expanded one c ≡ expanded two c
+  expanded_same : (one two : List ℕ → ℕ → Expansion) → ((name : List ℕ) → FindsLed name → one name ≡ two name) → (c : Forest) → list_all led (places_found known c) ≡ true → expanded_copies one c ≡ expanded_copies two c
   expanded_same one two same bare passes = fun_ext (λ left. refl)
   expanded_same one two same (words t r) passes =
-      fun_ext (λ left. ap (λ (e : ℕ → Expansion). visiting (size_of (Text t)) left (λ more. behind (Text t ∷ []) (e more))) (expanded_same one two same r passes))
+      fun_ext (λ left. ap (λ (e : ℕ → Expansion). visiting (size_of (Text t)) left (λ more. after_nodes (Text t ∷ []) (e more))) (expanded_same one two same r passes))
   expanded_same one two same (element t a c l r) passes =
-      let own = led_parts (own_name t a) (names_said c ++ names_said r) passes in
-      let parts = led_parts (names_said c) (names_said r) own.1 in
-      let first = element_same one two (is_reference t) t a c l same (λ inner. expanded_same one two same c inner) own.0 parts.0 in
+      let own = led_parts (referenced_names t a) (refnames_in c ++ refnames_in r) passes in
+      let parts = led_parts (refnames_in c) (refnames_in r) own.1 in
+      let first = element_same one two (is_substitution_reference t) t a c l same (λ inner. expanded_same one two same c inner) own.0 parts.0 in
       let rest = expanded_same one two same r parts.1 in
-      fun_ext (λ left. ap (λ (e : ℕ → Expansion). visiting (size_of (Element t a c l)) left (λ more. and_then (e more) (λ then_more. expanded one r then_more))) first
-      ∙ ap (λ (e : ℕ → Expansion). visiting (size_of (Element t a c l)) left (λ more. and_then (here_of two (is_reference t) t a c l more) (λ then_more. e then_more))) rest)
+      fun_ext (λ left. ap (λ (e : ℕ → Expansion). visiting (size_of (Element t a c l)) left (λ more. then_expanded (e more) (λ then_more. expanded_copies one r then_more))) first
+      ∙ ap (λ (e : ℕ → Expansion). visiting (size_of (Element t a c l)) left (λ more. then_expanded (here_of two (is_substitution_reference t) t a c l more) (λ then_more. e then_more))) rest)
 
   entering_same : (a b : ℕ) (path name : List ℕ) (found : Option (ℕ × Forest)) (one two : ℕ × Forest → Expansion) → led a ≡ false → led b ≡ false → IsLed found
       → ((x : ℕ × Forest) → led x.0 ≡ true → slice_get known.contents.items x.0 ≡ Some x.1 → one x ≡ two x) → entering (a ∷ path) name found one ≡ entering (b ∷ path) name found two
@@ -91,7 +91,7 @@ module _ (known : Definitions) (led : ℕ → Bool) (closed : (place : ℕ) (con
   given_same zero a b path name first second passes =
       fun_ext (λ left. entering_same a b path name (found_by known name) (λ one. Err TooLarge) (λ one. Err TooLarge) first second (led_found (known_found known name) passes) (λ x here there. refl))
   given_same (suc more) a b path name first second passes =
-      fun_ext (λ left. entering_same a b path name (found_by known name) (λ one. expanded (given_within (found_by known) more ((a ∷ path) ++ one.0 ∷ [])) one.1 left) (λ one. expanded (given_within (found_by known) more ((b ∷ path) ++ one.0 ∷ [])) one.1 left)
+      fun_ext (λ left. entering_same a b path name (found_by known name) (λ one. expanded_copies (given_within (found_by known) more ((a ∷ path) ++ one.0 ∷ [])) one.1 left) (λ one. expanded_copies (given_within (found_by known) more ((b ∷ path) ++ one.0 ∷ [])) one.1 left)
       first second (led_found (known_found known name) passes)
       (λ x here there. ap (λ (e : ℕ → Expansion). e left)
       (expanded_same (given_within (found_by known) more ((a ∷ path) ++ x.0 ∷ [])) (given_within (found_by known) more ((b ∷ path) ++ x.0 ∷ []))
@@ -112,61 +112,61 @@ at_least_along (Some a) (Some b) (Some c) one two =
     le-leb a c (omega arith)
 
 -- a reference comes to the same in two definitions that the one that it finds doesn't lead to
-nodes_same : (known : Definitions) (numbers : List ℕ) (a b place : ℕ) (name : List ℕ) → AreOrdered known numbers → known_found known name ≡ Some place → may_lead numbers place a ≡ false → may_lead numbers place b ≡ false
+nodes_same : (known : Definitions) (numbers : List ℕ) (a b place : ℕ) (name : List ℕ) → AreOrdered known numbers → known_found known name ≡ Some place → may_lead_to numbers place a ≡ false → may_lead_to numbers place b ≡ false
     → nodes_for (found_by known) (Some a) name ≡ nodes_for (found_by known) (Some b) name
 nodes_same known numbers a b place name ordered finds first second =
-    let itself : may_lead numbers place place ≡ true = at_least_itself (slice_get numbers place) in
-    let found : list_all (may_lead numbers place) (option_to_list (known_found known name)) ≡ true = rw (finds, itself) refl in
+    let itself : may_lead_to numbers place place ≡ true = at_least_itself (slice_get numbers place) in
+    let found : list_all (may_lead_to numbers place) (option_to_list (known_found known name)) ≡ true = rw (finds, itself) refl in
     let same =
-    given_same known (may_lead numbers place)
-    (λ other content there led. weaker (may_lead numbers other) (may_lead numbers place) (λ x leads. at_least_along (slice_get numbers place) (slice_get numbers other) (slice_get numbers x) led leads) (places_found known content) (ordered other content there))
+    given_same known (may_lead_to numbers place)
+    (λ other content there led. weaker (may_lead_to numbers other) (may_lead_to numbers place) (λ x leads. at_least_along (slice_get numbers place) (slice_get numbers other) (slice_get numbers x) led leads) (places_found known content) (ordered other content there))
     (most_nested - 1) a b [] name first second found in
-    ap (λ (e : ℕ → Expansion). nodes_in (e most_visited)) same
+    ap (λ (e : ℕ → Expansion). expansion_nodes (e most_visited)) same
 
-same_case : (known : Definitions) (numbers : List ℕ) (place outer other : ℕ) (name : List ℕ) (leads : Bool) → may_lead numbers place outer ≡ leads → AreOrdered known numbers → known_found known name ≡ Some place → (may_lead numbers place outer ≡ true → other ≡ outer)
-    → (may_lead numbers place outer ≡ false → may_lead numbers place other ≡ false) → nodes_for (found_by known) (Some other) name ≡ nodes_for (found_by known) (Some outer) name
+same_case : (known : Definitions) (numbers : List ℕ) (place outer other : ℕ) (name : List ℕ) (leads : Bool) → may_lead_to numbers place outer ≡ leads → AreOrdered known numbers → known_found known name ≡ Some place → (may_lead_to numbers place outer ≡ true → other ≡ outer)
+    → (may_lead_to numbers place outer ≡ false → may_lead_to numbers place other ≡ false) → nodes_for (found_by known) (Some other) name ≡ nodes_for (found_by known) (Some outer) name
 same_case known numbers place outer other name true is ordered finds led apart = rw (led is) refl
 same_case known numbers place outer other name false is ordered finds led apart = nodes_same known numbers other outer place name ordered finds (apart is) is
 
 -- so it does where another place is taken for that of the definition
-pub gives_standing : (known : Definitions) (numbers : List ℕ) (place outer other : ℕ) (name : List ℕ) → AreOrdered known numbers → known_found known name ≡ Some place → (may_lead numbers place outer ≡ true → other ≡ outer)
-    → (may_lead numbers place outer ≡ false → may_lead numbers place other ≡ false) → (result : Result Outcome TreeFault) → Gives (λ outcome. came outcome ≡ nodes_for (found_by known) (Some other) name) result
+pub gives_standing : (known : Definitions) (numbers : List ℕ) (place outer other : ℕ) (name : List ℕ) → AreOrdered known numbers → known_found known name ≡ Some place → (may_lead_to numbers place outer ≡ true → other ≡ outer)
+    → (may_lead_to numbers place outer ≡ false → may_lead_to numbers place other ≡ false) → (result : Result Outcome TreeFault) → Gives (λ outcome. came outcome ≡ nodes_for (found_by known) (Some other) name) result
     → Gives (λ outcome. came outcome ≡ nodes_for (found_by known) (Some outer) name) result
-gives_standing known numbers place outer other name ordered finds led apart (Ok outcome) gives = gives ∙ same_case known numbers place outer other name (may_lead numbers place outer) refl ordered finds led apart
+gives_standing known numbers place outer other name ordered finds led apart (Ok outcome) gives = gives ∙ same_case known numbers place outer other name (may_lead_to numbers place outer) refl ordered finds led apart
 gives_standing known numbers place outer other name ordered finds led apart (Err NoMemory) gives = tt
 
 -- what one more item of a list gives
 pub next_given : {X A : Type 0} (f : X → List A) (xs : List X) (i : ℕ) (d : X) (old new : List A) → i < length xs → new ≡ old ++ f (get_or xs i d) → old ≡ flat_map f (take i xs) → new ≡ flat_map f (take (i + 1) xs)
-next_given f xs i d old new within adds is = adds ∙ ap (λ front. front ++ f (get_or xs i d)) is ∙ flat_map_more f [] (take i xs) (get_or xs i d) ∙ ap (flat_map f) (sym (take_more xs i d within))
+next_given f xs i d old new within adds is = adds ∙ ap (λ prefix. prefix ++ f (get_or xs i d)) is ∙ flat_map_more f [] (take i xs) (get_or xs i d) ∙ ap (flat_map f) (sym (take_more xs i d within))
 
 -- the places found by the names in references among some nodes
-pub found_of : (known : Definitions) (names : List (Bor (List ℕ))) (nodes : Forest) (places : List ℕ) → places ≡ flat_map (λ name. option_to_list (known_found known name.now)) names → map (λ name. name.now) names ≡ names_said nodes
+pub found_of : (known : Definitions) (names : List (Bor (List ℕ))) (nodes : Forest) (places : List ℕ) → places ≡ flat_map (λ name. option_to_list (known_found known name.now)) names → map (λ name. name.now) names ≡ refnames_in nodes
     → places ≡ places_found known nodes
-found_of known names nodes places is said = is ∙ sym (flat_map-map (λ name. option_to_list (known_found known name)) (λ name. name.now) names) ∙ ap (places_of known) said
+found_of known names nodes places is named = is ∙ sym (flat_map-map (λ name. option_to_list (known_found known name)) (λ name. name.now) names) ∙ ap (definition_places known) named
 
 -- numbers that are checked against the places that each definition refers to
 pub ordered_all : {V : Type 0} (items : V → List ℕ) (known : Definitions) (referred : List V) (numbers : List ℕ) → map items referred ≡ map (places_found known) known.contents.items
-    → ((place : ℕ) (places : List ℕ) → slice_get (map items referred) place ≡ Some places → list_all (may_lead numbers place) places ≡ true) → AreOrdered known numbers
+    → ((place : ℕ) (places : List ℕ) → slice_get (map items referred) place ≡ Some places → list_all (may_lead_to numbers place) places ≡ true) → AreOrdered known numbers
 ordered_all items known referred numbers lists all = λ place content there.
     all place (places_found known content) (ap (λ (l : List (List ℕ)). slice_get l place) lists ∙ slice_get-map (places_found known) known.contents.items place ∙ ap (option_map (places_found known)) there)
 
-leads_all : (numbers : List ℕ) (place : ℕ) (xs : List ℕ) → slice_get numbers place ≡ None → list_all (may_lead numbers place) xs ≡ true
+leads_all : (numbers : List ℕ) (place : ℕ) (xs : List ℕ) → slice_get numbers place ≡ None → list_all (may_lead_to numbers place) xs ≡ true
 leads_all numbers place [] none = refl
 leads_all numbers place (x ∷ xs) none =
-    let leads : may_lead numbers place x ≡ true = rw none refl in
+    let leads : may_lead_to numbers place x ≡ true = rw none refl in
     rw leads (leads_all numbers place xs none)
 
 pub nothing_ordered : (known : Definitions) (numbers : List ℕ) → numbers ≡ [] → AreOrdered known numbers
 nothing_ordered known numbers is = λ place content there. leads_all numbers place (places_found known content) (rw is refl)
 
 -- one more place is in order
-pub more_ordered : {V : Type 0} (items : V → List ℕ) (referred : List V) (numbers : List ℕ) (i : ℕ) (here : V) → i < length referred → here ≡ get_or referred i here → list_all (may_lead numbers i) (items here) ≡ true
-    → ((k : ℕ) → k < i → (places : List ℕ) → slice_get (map items referred) k ≡ Some places → list_all (may_lead numbers k) places ≡ true)
-    → (k : ℕ) → k < i + 1 → (places : List ℕ) → slice_get (map items referred) k ≡ Some places → list_all (may_lead numbers k) places ≡ true
+pub more_ordered : {V : Type 0} (items : V → List ℕ) (referred : List V) (numbers : List ℕ) (i : ℕ) (here : V) → i < length referred → here ≡ get_or referred i here → list_all (may_lead_to numbers i) (items here) ≡ true
+    → ((k : ℕ) → k < i → (places : List ℕ) → slice_get (map items referred) k ≡ Some places → list_all (may_lead_to numbers k) places ≡ true)
+    → (k : ℕ) → k < i + 1 → (places : List ℕ) → slice_get (map items referred) k ≡ Some places → list_all (may_lead_to numbers k) places ≡ true
 more_ordered {V} items referred numbers i here within at passes before =
     let some : V → Option V = λ v. Some v in
     let found : slice_get (map items referred) i ≡ Some (items here) = slice_get-map items referred i ∙ ap (option_map items) (slice_get-get_or referred i here within ∙ ap some (sym at)) in
-    below_more (λ (k : ℕ). (places : List ℕ) → slice_get (map items referred) k ≡ Some places → list_all (may_lead numbers k) places ≡ true) i before
+    below_more (λ (k : ℕ). (places : List ℕ) → slice_get (map items referred) k ≡ Some places → list_all (may_lead_to numbers k) places ≡ true) i before
     (λ places there.
     let same : items here ≡ places = ap (λ (o : Option (List ℕ)). unwrap_or o []) (sym found ∙ there) in
-    subst (λ (v : List ℕ). list_all (may_lead numbers i) v ≡ true) same passes)
+    subst (λ (v : List ℕ). list_all (may_lead_to numbers i) v ≡ true) same passes)

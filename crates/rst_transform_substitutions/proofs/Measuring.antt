@@ -10,12 +10,12 @@ use Rattle.rst_tree.specs.declared.node.Node.TheVariants.{Element, Text}
 use Rattle.rst_tree.specs.declared.tag.Tag.{Tag}
 use Rattle.rst_tree.specs.Forest.{Forest, bare, element, words}
 use Rattle.rst_tree.specs.Nodes.{forest_of, join_node}
-use Rattle.rst_tree_index.specs.Kinds.{is_reference}
+use Rattle.rst_tree_index.specs.Kinds.{is_substitution_reference}
 use Rattle.rst_transform_substitutions.specs.declared.definitions.Definitions.{Definitions}
 use Rattle.rst_transform_substitutions.specs.declared.sizes.Size.{Size}
 use Rattle.rst_transform_substitutions.specs.Definitions.{known_found}
-use Rattle.rst_transform_substitutions.specs.Expansion.{name_said, size_of}
-use Rattle.rst_transform_substitutions.specs.Sizes.{added, both, deeper, flat, measured, size_at, size_found, AreMeasured}
+use Rattle.rst_transform_substitutions.specs.Expansion.{refname_of, size_of}
+use Rattle.rst_transform_substitutions.specs.Sizes.{added, both, deeper_size, flat, measured, size_at, size_found, AreMeasured}
 use Rattle.rst_transform_substitutions.proofs.Sizing.{both_parts}
 
 -- a size by its parts
@@ -50,17 +50,17 @@ both_none own (Some s) = ap Some (added_none own s)
 pub measured_all : (size : List ℕ → Option Size) (c : Forest) → both (Some (flat 0 true)) (measured size c) ≡ measured size c
 measured_all size bare = refl
 measured_all size (words t r) = both_none (flat (size_of (Text t)) false) (measured size r)
-measured_all size (element t a c l r) = both_none (flat 1 (is_reference t)) (both (if is_reference t then size (name_said a) else measured size c) (measured size r))
+measured_all size (element t a c l r) = both_none (flat 1 (is_substitution_reference t)) (both (if is_substitution_reference t then size (refname_of a) else measured size c) (measured size r))
 
 -- the nodes from one on, by that one and the others
-module _ (size : List ℕ → Option Size) (all own : Size) (node : Node) (t : Tag) (a : List Attr) (c : Forest) (l : ℕ) (ns : List Node) (i : ℕ) (is : node ≡ Element t a c l) (at : node ≡ get_or ns i node) (within : i < length ns) (visited : own.visited ≡ min 1 (2 ^ 64 - 1)) (nested : own.nested ≡ 0) (empty : own.is_empty ≡ is_reference t) where
+module _ (size : List ℕ → Option Size) (all own : Size) (node : Node) (t : Tag) (a : List Attr) (c : Forest) (l : ℕ) (ns : List Node) (i : ℕ) (is : node ≡ Element t a c l) (at : node ≡ get_or ns i node) (within : i < length ns) (visited : own.visited ≡ min 1 (2 ^ 64 - 1)) (nested : own.nested ≡ 0) (empty : own.is_empty ≡ is_substitution_reference t) where
   abbrev here : Option Size
-  here = if is_reference t then size (name_said a) else measured size c
+  here = if is_substitution_reference t then size (refname_of a) else measured size c
 
   from_element : both (Some all) (measured size (forest_of (drop i ns))) ≡ both (Some (added all own)) (both here (measured size (forest_of (drop (i + 1) ns))))
   from_element =
       let whole : forest_of (drop i ns) ≡ element t a c l (forest_of (drop (i + 1) ns)) = ap forest_of (drop_more ns i node within) ∙ ap (λ n. join_node n (forest_of (drop (i + 1) ns))) (sym at ∙ is) in
-      ap (λ f. both (Some all) (measured size f)) whole ∙ own_more all own 1 (is_reference t) (both here (measured size (forest_of (drop (i + 1) ns)))) visited nested empty
+      ap (λ f. both (Some all) (measured size f)) whole ∙ own_more all own 1 (is_substitution_reference t) (both here (measured size (forest_of (drop (i + 1) ns)))) visited nested empty
 
   -- an element of a known size
   pub element_measured : (inner : Size) (whole : Option Size) → here ≡ Some inner → both (Some all) (measured size (forest_of (drop i ns))) ≡ whole → both (Some (added (added all own) inner)) (measured size (forest_of (drop (i + 1) ns))) ≡ whole
@@ -78,8 +78,8 @@ added_last a fits = ap Some (same_size _ _ _ _ _ _ (omega (arith, fits)) (omega 
 
 -- what is known of some definitions stays so where more sizes are known
 more_here : (one two : List ℕ → Option Size) → ((name : List ℕ) (s : Size) → one name ≡ Some s → two name ≡ Some s) → (is : Bool) (a : List Attr) (c : Forest) (s : Size) → ((s : Size) → measured one c ≡ Some s → measured two c ≡ Some s)
-    → (if is then one (name_said a) else measured one c) ≡ Some s → (if is then two (name_said a) else measured two c) ≡ Some s
-more_here one two more true a c s inner is = more (name_said a) s is
+    → (if is then one (refname_of a) else measured one c) ≡ Some s → (if is then two (refname_of a) else measured two c) ≡ Some s
+more_here one two more true a c s inner is = more (refname_of a) s is
 more_here one two more false a c s inner is = inner s is
 
 more_measured : (one two : List ℕ → Option Size) → ((name : List ℕ) (s : Size) → one name ≡ Some s → two name ≡ Some s) → (c : Forest) (s : Size) → measured one c ≡ Some s → measured two c ≡ Some s
@@ -88,11 +88,11 @@ more_measured one two more (words t r) s is =
     both_parts (Some (flat (size_of (Text t)) false)) (measured one r) s is (measured two (words t r) ≡ Some s)
     (λ own rest is_own is_rest sum. rw (more_measured one two more r rest is_rest) (ap Some (grind (arith, is_own, sum))))
 more_measured one two more (element t a c l r) s is =
-    both_parts (Some (flat 1 (is_reference t))) (both (if is_reference t then one (name_said a) else measured one c) (measured one r)) s is (measured two (element t a c l r) ≡ Some s)
+    both_parts (Some (flat 1 (is_substitution_reference t))) (both (if is_substitution_reference t then one (refname_of a) else measured one c) (measured one r)) s is (measured two (element t a c l r) ≡ Some s)
     (λ own after is_own is_after sum.
-    both_parts (if is_reference t then one (name_said a) else measured one c) (measured one r) after is_after (measured two (element t a c l r) ≡ Some s)
+    both_parts (if is_substitution_reference t then one (refname_of a) else measured one c) (measured one r) after is_after (measured two (element t a c l r) ≡ Some s)
     (λ here rest is_here is_rest inner_sum.
-    rw (more_here one two more (is_reference t) a c here (more_measured one two more c) is_here, more_measured one two more r rest is_rest) (cc)))
+    rw (more_here one two more (is_substitution_reference t) a c here (more_measured one two more c) is_here, more_measured one two more r rest is_rest) (cc)))
 
 -- one more size is known
 set_at : (xs : List (Option Size)) (n p : ℕ) (v : Option Size) → n < length xs → size_at (slice_set xs n v) p ≡ (if n == p then v else size_at xs p)
@@ -114,11 +114,11 @@ module _ (known : Definitions) (old new : List (Option Size)) (place : ℕ) (con
   kept : (p : ℕ) (s : Size) → size_at old p ≡ Some s → size_at new p ≡ Some s
   kept p s was = put p ∙ kept_case p s (place == p) refl was
 
-  kept_at : (name : List ℕ) (s : Size) (p : ℕ) (at : Option Size) → size_at old p ≡ at → option_and_then deeper at ≡ Some s → option_and_then deeper (size_at new p) ≡ Some s
+  kept_at : (name : List ℕ) (s : Size) (p : ℕ) (at : Option Size) → size_at old p ≡ at → option_and_then deeper_size at ≡ Some s → option_and_then deeper_size (size_at new p) ≡ Some s
   kept_at name s p None is_at was = absurd (cc)
   kept_at name s p (Some inner) is_at was = rw (kept p inner is_at) was
 
-  kept_found : (name : List ℕ) (s : Size) (found : Option ℕ) → option_and_then deeper (option_and_then (size_at old) found) ≡ Some s → option_and_then deeper (option_and_then (size_at new) found) ≡ Some s
+  kept_found : (name : List ℕ) (s : Size) (found : Option ℕ) → option_and_then deeper_size (option_and_then (size_at old) found) ≡ Some s → option_and_then deeper_size (option_and_then (size_at new) found) ≡ Some s
   kept_found name s None was = was
   kept_found name s (Some p) was = kept_at name s p (size_at old p) refl was
 

@@ -11,7 +11,7 @@ use Rattle.rst_transform_substitutions.specs.declared.definitions.Definitions.{D
 use Rattle.rst_transform_substitutions.specs.declared.outcomes.Kept.{Kept}
 use Rattle.rst_transform_substitutions.specs.declared.outcomes.Outcome.{Outcome}
 use Rattle.rst_transform_substitutions.specs.Definitions.{found_by, known_found}
-use Rattle.rst_transform_substitutions.specs.Expansion.{expanded, given, most_nested, most_visited, nodes_for, nodes_in, path_from}
+use Rattle.rst_transform_substitutions.specs.Expansion.{expanded_copies, given, most_nested, most_visited, nodes_for, expansion_nodes, path_from}
 use Rattle.rst_transform_substitutions.specs.Outcomes.{came, kept_of, GoesInto, HoldsTrue}
 use Rattle.rst_transform_substitutions.proofs.Expanding.{found-some, given-entered}
 
@@ -22,9 +22,9 @@ short_path (Some place) = omega arith
 
 -- what a reference comes to that goes into a definition
 goes : (known : Definitions) (within : Option ℕ) (place : ℕ) (name : List ℕ) (content : Forest) → slice_get known.contents.items place ≡ Some content → known_found known name ≡ Some place → list_any (λ entered. entered == place) (path_from within) ≡ false
-    → nodes_for (found_by known) within name ≡ nodes_in (expanded (given (found_by known) (path_from within ++ place ∷ [])) content most_visited)
+    → nodes_for (found_by known) within name ≡ expansion_nodes (expanded_copies (given (found_by known) (path_from within ++ place ∷ [])) content most_visited)
 goes known within place name content there finds other =
-    ap nodes_in (given-entered (found_by known) (path_from within) name most_visited (place, content) (found-some known name place content finds there) other (short_path within))
+    ap expansion_nodes (given-entered (found_by known) (path_from within) name most_visited (place, content) (found-some known name place content finds there) other (short_path within))
 
 -- equal places, or none both times
 pub same_place : (one other : Option ℕ) → option_eq nat_eq one other ≡ true → one ≡ other

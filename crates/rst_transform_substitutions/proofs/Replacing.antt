@@ -10,7 +10,7 @@ use Rattle.rst_tree.specs.declared.node.Node.TheVariants.{Element, Text}
 use Rattle.rst_tree.specs.declared.tag.Tag.{Tag}
 use Rattle.rst_tree.specs.Forest.{Forest}
 use Rattle.rst_tree.specs.Nodes.{forest_of, nodes_of}
-use Rattle.rst_tree_index.specs.Kinds.{is_reference}
+use Rattle.rst_tree_index.specs.Kinds.{is_substitution_reference}
 use Rattle.rst_tree.proofs.Changes.{forest_of-nodes_of, nodes_of-forest_of}
 use Rattle.rst_tree.proofs.EachNode.{drop_item}
 use Rattle.rst_tree.proofs.Rewrites.{Same, Same-init, Same-more}
@@ -19,14 +19,14 @@ use Rattle.rst_transform_work.specs.declared.document.Document.{Document}
 use Rattle.rst_transform_work.specs.Known.{Holds, Known, Makes}
 use Rattle.rst_transform_substitutions.specs.declared.definitions.Definitions.{Definitions}
 use Rattle.rst_transform_substitutions.specs.Definitions.{definitions_among, found_among, found_by, known_place, place_of_name, AreKnown, Definition}
-use Rattle.rst_transform_substitutions.specs.Expanded.{around, expanded_in, followed, is_reference_node, opened, replaced, with_expansions, within_element, Nodes}
+use Rattle.rst_transform_substitutions.specs.Expanded.{around, expanded_in, followed, is_substitution_reference_node, unwrapped_reference, replaced, with_expansions, within_element, Nodes}
 use Rattle.rst_transform_substitutions.proofs.Defining.{found_known, place_known}
 
 module _ (found : List ℕ → Option (ℕ × Forest)) (place : List ℕ → Option ℕ) (within : Option ℕ) where
   -- what happens to one node
   abbrev pub expanded_node : Node → Known → Nodes
   expanded_node (Text t) known = (Text t ∷ [], known)
-  expanded_node (Element t a c l) known = if is_reference t then replaced found within a l known else around t a l (expanded_in found place (within_element place t a within) c known)
+  expanded_node (Element t a c l) known = if is_substitution_reference t then replaced found within a l known else around t a l (expanded_in found place (within_element place t a within) c known)
 
   abbrev rest_of : List Node → Known → Nodes
   rest_of ns known = expanded_in found place within (forest_of ns) known
@@ -39,7 +39,7 @@ module _ (found : List ℕ → Option (ℕ × Forest)) (place : List ℕ → Opt
   pub record Replacing (all : Forest) (first now : Context) (nodes : Forest) (i : ℕ) : Type 0 where
     pub same : Same all nodes i
     pub done : (known : Known) → Holds first known
-        → (more : Known) × Holds now more × (expanded_in found place within all known ≡ followed (flat_map opened (take i (nodes_of nodes)), more) (rest_of (drop i (nodes_of nodes))))
+        → (more : Known) × Holds now more × (expanded_in found place within all known ≡ followed (flat_map unwrapped_reference (take i (nodes_of nodes)), more) (rest_of (drop i (nodes_of nodes))))
 
   pub Replacing-init : (all : Forest) (first : Context) → Replacing all first first all 0
   Replacing-init all first = record {
@@ -48,13 +48,13 @@ module _ (found : List ℕ → Option (ℕ × Forest)) (place : List ℕ → Opt
   }
 
   pub Replacing-more : (all : Forest) (first now between : Context) (nodes : Forest) (i : ℕ) (child new : Node) → Replacing all first now nodes i → i < length (nodes_of nodes) → child ≡ get_or (nodes_of nodes) i child
-      → Makes (expanded_node child) now between (opened new) → Replacing all first between (forest_of (set (nodes_of nodes) i new)) (i + 1)
+      → Makes (expanded_node child) now between (unwrapped_reference new) → Replacing all first between (forest_of (set (nodes_of nodes) i new)) (i + 1)
   Replacing-more all first now between nodes i child new left fits is makes =
       let ns = nodes_of nodes in
       let set_is : nodes_of (forest_of (set ns i new)) ≡ set ns i new = nodes_of-forest_of (set ns i new) in
       let parts : drop i ns ≡ child ∷ drop (i + 1) ns = drop_item ns i child fits is in
       let kept : drop (i + 1) (set ns i new) ≡ drop (i + 1) ns = drop-set-lt (i + 1) ns i new (omega arith) in
-      let so_far : List Node = flat_map opened (take i ns) in
+      let so_far : List Node = flat_map unwrapped_reference (take i ns) in
       record {
         same = Same-more all nodes i new left.same fits;
         done = λ known h.
@@ -62,45 +62,45 @@ module _ (found : List ℕ → Option (ℕ × Forest)) (place : List ℕ → Opt
             let made = makes before.0 before.1 in
             let here : Nodes = expanded_node child before.0 in
             let rest : Nodes = rest_of (drop (i + 1) ns) here.1 in
-            let whole : expanded_in found place within all known ≡ followed (so_far ++ opened new, here.1) (rest_of (drop (i + 1) ns)) =
+            let whole : expanded_in found place within all known ≡ followed (so_far ++ unwrapped_reference new, here.1) (rest_of (drop (i + 1) ns)) =
             before.2
             ∙ ap (λ xs. followed (so_far, before.0) (rest_of xs)) parts
             ∙ ap (λ (e : Nodes). (so_far ++ e.0, e.1)) (next_node child (drop (i + 1) ns) before.0)
             ∙ ap (λ xs. (xs, rest.1)) (sym (append_assoc so_far here.0 rest.0))
             ∙ ap (λ xs. ((so_far ++ xs) ++ rest.0, rest.1)) (sym made.0) in
-            (here.1, made.1, rw (set_is, take_more_set ns i new fits, kept, ← flat_map_more opened [] (take i ns) new) whole);
+            (here.1, made.1, rw (set_is, take_more_set ns i new fits, kept, ← flat_map_more unwrapped_reference [] (take i ns) new) whole);
       }
 
   pub Replacing-all : (all : Forest) (first now : Context) (nodes : Forest) (i : ℕ) → Replacing all first now nodes i → length (nodes_of nodes) ≤ i
-      → Makes (expanded_in found place within all) first now (flat_map opened (nodes_of nodes))
+      → Makes (expanded_in found place within all) first now (flat_map unwrapped_reference (nodes_of nodes))
   Replacing-all all first now nodes i left past = λ known h.
       let before = left.done known h in
       let ns = nodes_of nodes in
-      let whole : expanded_in found place within all known ≡ (flat_map opened ns, before.0) =
-      before.2 ∙ ap (λ xs. followed (flat_map opened (take i ns), before.0) (rest_of xs)) (drop_all i ns past)
-      ∙ ap (λ xs. (flat_map opened xs ++ [], before.0)) (take_all i ns past) ∙ ap (λ xs. (xs, before.0)) (append-nil (flat_map opened ns)) in
+      let whole : expanded_in found place within all known ≡ (flat_map unwrapped_reference ns, before.0) =
+      before.2 ∙ ap (λ xs. followed (flat_map unwrapped_reference (take i ns), before.0) (rest_of xs)) (drop_all i ns past)
+      ∙ ap (λ xs. (flat_map unwrapped_reference xs ++ [], before.0)) (take_all i ns past) ∙ ap (λ xs. (xs, before.0)) (append-nil (flat_map unwrapped_reference ns)) in
       (ap (λ (e : Nodes). e.0) (sym whole), subst (Holds now) (ap (λ (e : Nodes). e.1) (sym whole)) before.1)
 
   -- a text stays
-  pub text_stays : (now : Context) (n : Node) (t : List ℕ) → n ≡ Text t → Makes (expanded_node n) now now (opened n)
+  pub text_stays : (now : Context) (n : Node) (t : List ℕ) → n ≡ Text t → Makes (expanded_node n) now now (unwrapped_reference n)
   text_stays now n t is = rw is (λ known h. (refl, h))
 
   -- a reference holds the nodes that it gives way to
-  pub reference_gives : (now between : Context) (n : Node) (t : Tag) (a held : List Attr) (c nodes : Forest) (l : ℕ) → n ≡ Element t a c l → is_reference t ≡ true
-      → Makes (replaced found within a l) now between (nodes_of nodes) → Makes (expanded_node n) now between (opened (Element t held nodes l))
-  reference_gives now between n t a held c nodes l is test makes = rw (is, test) makes
+  pub reference_gives : (now between : Context) (n : Node) (t : Tag) (a left_attrs : List Attr) (c nodes : Forest) (l : ℕ) → n ≡ Element t a c l → is_substitution_reference t ≡ true
+      → Makes (replaced found within a l) now between (nodes_of nodes) → Makes (expanded_node n) now between (unwrapped_reference (Element t left_attrs nodes l))
+  reference_gives now between n t a left_attrs c nodes l is test makes = rw (is, test) makes
 
   -- those in another element are replaced
-  pub element_holds : (now between : Context) (n : Node) (t : Tag) (a : List Attr) (c nodes : Forest) (l : ℕ) → n ≡ Element t a c l → is_reference t ≡ false
-      → Makes (expanded_in found place (within_element place t a within) c) now between (nodes_of nodes) → Makes (expanded_node n) now between (opened (Element t a nodes l))
+  pub element_holds : (now between : Context) (n : Node) (t : Tag) (a : List Attr) (c nodes : Forest) (l : ℕ) → n ≡ Element t a c l → is_substitution_reference t ≡ false
+      → Makes (expanded_in found place (within_element place t a within) c) now between (nodes_of nodes) → Makes (expanded_node n) now between (unwrapped_reference (Element t a nodes l))
   element_holds now between n t a c nodes l is test makes = rw (is, test) (λ known h.
       let made = makes known h in
       (ap (λ f. Element t a f l ∷ []) (sym (forest_of-nodes_of nodes) ∙ ap forest_of made.0), made.1))
 
 -- where there is no reference, all nodes stay in their places
-pub none_opened : (ns : List Node) → list_any is_reference_node ns ≡ false → flat_map opened ns ≡ ns
+pub none_opened : (ns : List Node) → list_any is_substitution_reference_node ns ≡ false → flat_map unwrapped_reference ns ≡ ns
 none_opened [] none = refl
-none_opened (Element t a c l ∷ ns) none = let parts = or_parts (is_reference t) (list_any is_reference_node ns) none in rw parts.0 (ap (λ xs. Element t a c l ∷ xs) (none_opened ns parts.1))
+none_opened (Element t a c l ∷ ns) none = let parts = or_parts (is_substitution_reference t) (list_any is_substitution_reference_node ns) none in rw parts.0 (ap (λ xs. Element t a c l ∷ xs) (none_opened ns parts.1))
 none_opened (Text t ∷ ns) none = ap (λ xs. Text t ∷ xs) (none_opened ns none)
 
 -- a document whose nodes were expanded by what is known of its definitions

@@ -9,14 +9,14 @@ use Rattle.rst_tree.specs.declared.node.Node.{Node}
 use Rattle.rst_tree.specs.declared.node.Node.TheVariants.{Text}
 use Rattle.rst_tree.specs.declared.tag.Tag.{Tag}
 use Rattle.rst_tree.specs.Forest.{Forest, bare, element, words}
-use Rattle.rst_tree_index.specs.Kinds.{is_reference}
+use Rattle.rst_tree_index.specs.Kinds.{is_substitution_reference}
 use Rattle.rst_transform_substitutions.specs.declared.definitions.Definitions.{Definitions}
 use Rattle.rst_transform_substitutions.specs.declared.expansion.ExpansionFault.{ExpansionFault}
 use Rattle.rst_transform_substitutions.specs.declared.expansion.ExpansionFault.TheVariants.{Circular, TooLarge}
 use Rattle.rst_transform_substitutions.specs.declared.sizes.Size.{Size}
 use Rattle.rst_transform_substitutions.specs.Definitions.{found_by, known_found}
-use Rattle.rst_transform_substitutions.specs.Expansion.{and_then, behind, expanded, given, given_within, inside, left_of, most_nested, most_visited, name_said, size_of, Expansion}
-use Rattle.rst_transform_substitutions.specs.Sizes.{added, both, content_last, deeper, flat, is_above, measured, size_at, size_found, AreMeasured, AreSized}
+use Rattle.rst_transform_substitutions.specs.Expansion.{then_expanded, after_nodes, expanded_copies, given, given_within, element_around, remaining_visits, most_nested, most_visited, refname_of, size_of, Expansion}
+use Rattle.rst_transform_substitutions.specs.Sizes.{added, both, content_last, deeper_size, flat, is_above, measured, size_at, size_found, AreMeasured, AreSized}
 use Rattle.rst_transform_substitutions.proofs.Expanding.{entered_within, found-some, too_deep_within}
 use Rattle.rst_transform_substitutions.proofs.Leading.{weaker}
 
@@ -52,59 +52,59 @@ takes_deep s more left deep = grind arith
 pub takes_large : (s : Size) (more left : ℕ) → left < s.visited → takes s more left ≡ Err TooLarge
 takes_large s more left large = grind arith
 
-left_behind : (nodes : List Node) (e : Expansion) → left_of (behind nodes e) ≡ left_of e
-left_behind nodes (Ok done) = refl
-left_behind nodes (Err fault) = refl
+left_after_nodes : (nodes : List Node) (e : Expansion) → remaining_visits (after_nodes nodes e) ≡ remaining_visits e
+left_after_nodes nodes (Ok done) = refl
+left_after_nodes nodes (Err fault) = refl
 
-left_inside : (t : Tag) (a : List Attr) (l : ℕ) (e : Expansion) → left_of (inside t a l e) ≡ left_of e
+left_inside : (t : Tag) (a : List Attr) (l : ℕ) (e : Expansion) → remaining_visits (element_around t a l e) ≡ remaining_visits e
 left_inside t a l (Ok done) = refl
 left_inside t a l (Err fault) = refl
 
-then_case : (a b : Size) (more left : ℕ) (rest : ℕ → Expansion) → left ≤ most_visited → ((m : ℕ) → m ≤ left → left_of (rest m) ≡ takes b more m) → (e : Expansion) → left_of e ≡ takes a more left → left_of (and_then e rest) ≡ takes (added a b) more left
+then_case : (a b : Size) (more left : ℕ) (rest : ℕ → Expansion) → left ≤ most_visited → ((m : ℕ) → m ≤ left → remaining_visits (rest m) ≡ takes b more m) → (e : Expansion) → remaining_visits e ≡ takes a more left → remaining_visits (then_expanded e rest) ≡ takes (added a b) more left
 then_case a b more left rest small is (Ok done) first =
     let fits = takes_fits a more left done.1 (sym first) in
-    left_behind done.0 (rest done.1) ∙ is done.1 (omega (arith, fits.1.1)) ∙ ap (takes b more) fits.1.1 ∙ takes_both a b more left small fits.0 fits.1.0
+    left_after_nodes done.0 (rest done.1) ∙ is done.1 (omega (arith, fits.1.1)) ∙ ap (takes b more) fits.1.1 ∙ takes_both a b more left small fits.0 fits.1.0
 then_case a b more left rest small is (Err fault) first = sym (takes_first a b more left fault small (sym first))
 
-visit_case : (k : ℕ) (empty : Bool) (b : Size) (more left : ℕ) (rest : ℕ → Expansion) → left ≤ most_visited → ((m : ℕ) → m ≤ left → left_of (rest m) ≡ takes b more m) → (fits : Bool) → nat_le k left ≡ fits → left_of (if fits then rest (left - k) else Err TooLarge) ≡ takes (added (flat k empty) b) more left
+visit_case : (k : ℕ) (empty : Bool) (b : Size) (more left : ℕ) (rest : ℕ → Expansion) → left ≤ most_visited → ((m : ℕ) → m ≤ left → remaining_visits (rest m) ≡ takes b more m) → (fits : Bool) → nat_le k left ≡ fits → remaining_visits (if fits then rest (left - k) else Err TooLarge) ≡ takes (added (flat k empty) b) more left
 visit_case k empty b more left rest small is true fits = is (left - k) (omega arith) ∙ takes_both (flat k empty) b more left small (omega arith) (leb-true k left fits)
 visit_case k empty b more left rest small is false fits = grind arith
 
 -- given what references of a known size come to, where no more than n are nested
-module _ (given : List ℕ → ℕ → Expansion) (size : List ℕ → Option Size) (more n : ℕ) (told : (name : List ℕ) (s : Size) (left : ℕ) → size name ≡ Some s → s.nested ≤ n → left ≤ most_visited → left_of (given name left) ≡ takes s more left) where
-  here_takes : (is : Bool) (t : Tag) (a : List Attr) (c : Forest) (l : ℕ) (s : Size) (left : ℕ) → (if is then size (name_said a) else measured size c) ≡ Some s → s.nested ≤ n → left ≤ most_visited → ((s : Size) → measured size c ≡ Some s → s.nested ≤ n → left_of (expanded given c left) ≡ takes s more left)
-      → left_of (if is then given (name_said a) left else inside t a l (expanded given c left)) ≡ takes s more left
-  here_takes true t a c l s left known low small inner = told (name_said a) s left known low small
-  here_takes false t a c l s left known low small inner = left_inside t a l (expanded given c left) ∙ inner s known low
+module _ (given : List ℕ → ℕ → Expansion) (size : List ℕ → Option Size) (more n : ℕ) (size_given : (name : List ℕ) (s : Size) (left : ℕ) → size name ≡ Some s → s.nested ≤ n → left ≤ most_visited → remaining_visits (given name left) ≡ takes s more left) where
+  here_takes : (is : Bool) (t : Tag) (a : List Attr) (c : Forest) (l : ℕ) (s : Size) (left : ℕ) → (if is then size (refname_of a) else measured size c) ≡ Some s → s.nested ≤ n → left ≤ most_visited → ((s : Size) → measured size c ≡ Some s → s.nested ≤ n → remaining_visits (expanded_copies given c left) ≡ takes s more left)
+      → remaining_visits (if is then given (refname_of a) left else element_around t a l (expanded_copies given c left)) ≡ takes s more left
+  here_takes true t a c l s left known low small inner = size_given (refname_of a) s left known low small
+  here_takes false t a c l s left known low small inner = left_inside t a l (expanded_copies given c left) ∙ inner s known low
 
   -- nodes of a known size come to what the size predicts
-  nodes_take : (c : Forest) (s : Size) (left : ℕ) → measured size c ≡ Some s → s.nested ≤ n → left ≤ most_visited → left_of (expanded given c left) ≡ takes s more left
+  nodes_take : (c : Forest) (s : Size) (left : ℕ) → measured size c ≡ Some s → s.nested ≤ n → left ≤ most_visited → remaining_visits (expanded_copies given c left) ≡ takes s more left
   nodes_take bare s left known low small =
       let e : flat 0 true ≡ s = cc in
-      subst (λ s. left_of (expanded given bare left) ≡ takes s more left) e (takes_flat more left)
+      subst (λ s. remaining_visits (expanded_copies given bare left) ≡ takes s more left) e (takes_flat more left)
   nodes_take (words t r) s left known low small =
-      both_parts (Some (flat (size_of (Text t)) false)) (measured size r) s known (left_of (expanded given (words t r) left) ≡ takes s more left)
+      both_parts (Some (flat (size_of (Text t)) false)) (measured size r) s known (remaining_visits (expanded_copies given (words t r) left) ≡ takes s more left)
       (λ own rest is_own is_rest sum.
       let e : flat (size_of (Text t)) false ≡ own = cc in
       let low_rest : rest.nested ≤ n = grind arith in
       rw (← sum, ← e)
-      (visit_case (size_of (Text t)) false rest more left (λ m. behind (Text t ∷ []) (expanded given r m)) small
-      (λ m le. left_behind (Text t ∷ []) (expanded given r m) ∙ nodes_take r rest m is_rest low_rest (omega (arith, le, small))) (nat_le (size_of (Text t)) left) refl))
+      (visit_case (size_of (Text t)) false rest more left (λ m. after_nodes (Text t ∷ []) (expanded_copies given r m)) small
+      (λ m le. left_after_nodes (Text t ∷ []) (expanded_copies given r m) ∙ nodes_take r rest m is_rest low_rest (omega (arith, le, small))) (nat_le (size_of (Text t)) left) refl))
   nodes_take (element t a c l r) s left known low small =
-      both_parts (Some (flat 1 (is_reference t))) (both (if is_reference t then size (name_said a) else measured size c) (measured size r)) s known (left_of (expanded given (element t a c l r) left) ≡ takes s more left)
+      both_parts (Some (flat 1 (is_substitution_reference t))) (both (if is_substitution_reference t then size (refname_of a) else measured size c) (measured size r)) s known (remaining_visits (expanded_copies given (element t a c l r) left) ≡ takes s more left)
       (λ own after is_own is_after sum.
-      both_parts (if is_reference t then size (name_said a) else measured size c) (measured size r) after is_after (left_of (expanded given (element t a c l r) left) ≡ takes s more left)
+      both_parts (if is_substitution_reference t then size (refname_of a) else measured size c) (measured size r) after is_after (remaining_visits (expanded_copies given (element t a c l r) left) ≡ takes s more left)
       (λ here rest is_here is_rest inner_sum.
-      let e : flat 1 (is_reference t) ≡ own = cc in
+      let e : flat 1 (is_substitution_reference t) ≡ own = cc in
       let low_here : here.nested ≤ n = grind arith in
       let low_rest : rest.nested ≤ n = grind arith in
       rw (← sum, ← e, ← inner_sum)
-      (visit_case 1 (is_reference t) (added here rest) more left (λ m. and_then (if is_reference t then given (name_said a) m else inside t a l (expanded given c m)) (λ then_more. expanded given r then_more)) small
+      (visit_case 1 (is_substitution_reference t) (added here rest) more left (λ m. then_expanded (if is_substitution_reference t then given (refname_of a) m else element_around t a l (expanded_copies given c m)) (λ then_more. expanded_copies given r then_more)) small
       (λ m le.
       let small_m : m ≤ most_visited = omega (arith, le, small) in
-      then_case here rest more m (λ then_more. expanded given r then_more) small_m (λ m2 le2. nodes_take r rest m2 is_rest low_rest (omega (arith, le2, small_m)))
-      (if is_reference t then given (name_said a) m else inside t a l (expanded given c m))
-      (here_takes (is_reference t) t a c l here m is_here low_here small_m (λ s known low. nodes_take c s m known low small_m)))
+      then_case here rest more m (λ then_more. expanded_copies given r then_more) small_m (λ m2 le2. nodes_take r rest m2 is_rest low_rest (omega (arith, le2, small_m)))
+      (if is_substitution_reference t then given (refname_of a) m else element_around t a l (expanded_copies given c m))
+      (here_takes (is_substitution_reference t) t a c l here m is_here low_here small_m (λ s known low. nodes_take c s m known low small_m)))
       (nat_le 1 left) refl)))
 
 -- a definition whose size is known isn't on a path where at least as many are nested in each
@@ -146,14 +146,14 @@ deeper_case inner s false e is = (
   (ap (λ (o : Option Size). unwrap_or (option_map (λ (x : Size). x.nested) o) 0) is, ap (λ (o : Option Size). unwrap_or (option_map (λ (x : Size). x.is_empty) o) true) is),
 )
 
-found_at : (sizes : List (Option Size)) (place : ℕ) (s : Size) (at : Option Size) → size_at sizes place ≡ at → option_and_then deeper at ≡ Some s → (P : Type 0) → ((inner : Size) → size_at sizes place ≡ Some inner → inner.visited ≡ s.visited → inner.nested + 1 ≡ s.nested → inner.is_empty ≡ s.is_empty → P) → P
-found_at sizes place s None is told P made = absurd (cc)
-found_at sizes place s (Some inner) is told P made = let parts = deeper_case inner s (inner.nested == 2 ^ 64 - 1) refl told in made inner is parts.0 parts.1.0 parts.1.1
+found_at : (sizes : List (Option Size)) (place : ℕ) (s : Size) (at : Option Size) → size_at sizes place ≡ at → option_and_then deeper_size at ≡ Some s → (P : Type 0) → ((inner : Size) → size_at sizes place ≡ Some inner → inner.visited ≡ s.visited → inner.nested + 1 ≡ s.nested → inner.is_empty ≡ s.is_empty → P) → P
+found_at sizes place s None is size_given P made = absurd (cc)
+found_at sizes place s (Some inner) is size_given P made = let parts = deeper_case inner s (inner.nested == 2 ^ 64 - 1) refl size_given in made inner is parts.0 parts.1.0 parts.1.1
 
-found_parts : (known : Definitions) (sizes : List (Option Size)) (name : List ℕ) (s : Size) (found : Option ℕ) → known_found known name ≡ found → option_and_then deeper (option_and_then (size_at sizes) found) ≡ Some s → (P : Type 0)
+found_parts : (known : Definitions) (sizes : List (Option Size)) (name : List ℕ) (s : Size) (found : Option ℕ) → known_found known name ≡ found → option_and_then deeper_size (option_and_then (size_at sizes) found) ≡ Some s → (P : Type 0)
     → ((place : ℕ) (inner : Size) → known_found known name ≡ Some place → size_at sizes place ≡ Some inner → inner.visited ≡ s.visited → inner.nested + 1 ≡ s.nested → inner.is_empty ≡ s.is_empty → P) → P
-found_parts known sizes name s None is told P made = absurd (cc)
-found_parts known sizes name s (Some place) is told P made = found_at sizes place s (size_at sizes place) refl told P (λ inner there visited nested empty. made place inner is there visited nested empty)
+found_parts known sizes name s None is size_given P made = absurd (cc)
+found_parts known sizes name s (Some place) is size_given P made = found_at sizes place s (size_at sizes place) refl size_given P (λ inner there visited nested empty. made place inner is there visited nested empty)
 
 content_parts : {A : Type 0} (f : Forest → Option A) (x : A) (there : Option Forest) → option_and_then f there ≡ Some x → (P : Type 0) → ((content : Forest) → there ≡ Some content → f content ≡ Some x → P) → P
 content_parts f x None is P made = absurd (cc)
@@ -175,17 +175,17 @@ takes_deeper inner s more left visited nested = grind arith
 
 -- a reference of a known size comes to what the size predicts
 given_takes : (known : Definitions) (sizes : List (Option Size)) → AreMeasured known sizes → (more n : ℕ) (path : List ℕ) → list_all (is_above sizes n) path ≡ true → (name : List ℕ) (s : Size) (left : ℕ) → size_found known sizes name ≡ Some s → s.nested ≤ n → left ≤ most_visited
-    → left_of (given_within (found_by known) more path name left) ≡ takes s more left
+    → remaining_visits (given_within (found_by known) more path name left) ≡ takes s more left
 given_takes known sizes sized zero n path above name s left is low small =
-    reference_parts known sizes sized name s is (left_of (given_within (found_by known) zero path name left) ≡ takes s zero left)
+    reference_parts known sizes sized name s is (remaining_visits (given_within (found_by known) zero path name left) ≡ takes s zero left)
     (λ place content inner found there size_is visited nested empty.
-    ap left_of (too_deep_within (found_by known) path name left (place, content) found (apart sizes place n inner there (omega (arith, nested, low)) path above)) ∙ takes_none s inner.nested left nested)
+    ap remaining_visits (too_deep_within (found_by known) path name left (place, content) found (apart sizes place n inner there (omega (arith, nested, low)) path above)) ∙ takes_none s inner.nested left nested)
 given_takes known sizes sized (suc more) n path above name s left is low small =
-    reference_parts known sizes sized name s is (left_of (given_within (found_by known) (suc more) path name left) ≡ takes s (suc more) left)
+    reference_parts known sizes sized name s is (remaining_visits (given_within (found_by known) (suc more) path name left) ≡ takes s (suc more) left)
     (λ place content inner found there size_is visited nested empty.
     let lower : inner.nested < n = omega (arith, nested, low) in
     let deeper_above = above_more sizes place n inner there (omega (arith, lower)) path above in
-    ap left_of (entered_within (found_by known) more path name left (place, content) found (apart sizes place n inner there lower path above))
+    ap remaining_visits (entered_within (found_by known) more path name left (place, content) found (apart sizes place n inner there lower path above))
     ∙ nodes_take (given_within (found_by known) more (path ++ place ∷ [])) (size_found known sizes) more inner.nested (λ name s left. given_takes known sizes sized more inner.nested (path ++ place ∷ []) deeper_above name s left) content inner left size_is (omega arith) small
     ∙ takes_deeper inner s more left visited nested)
 
@@ -202,12 +202,12 @@ abbrev IsEmpty : Expansion → Type 0
 IsEmpty (Ok done) = done.0 ≡ []
 IsEmpty (Err fault) = Unit {0}
 
-behind_empty : (nodes : List Node) (e : Expansion) → nodes ≡ [] → IsEmpty e → IsEmpty (behind nodes e)
-behind_empty nodes (Ok done) none empty = rw none empty
-behind_empty nodes (Err fault) none empty = tt
+after_nodes_empty : (nodes : List Node) (e : Expansion) → nodes ≡ [] → IsEmpty e → IsEmpty (after_nodes nodes e)
+after_nodes_empty nodes (Ok done) none empty = rw none empty
+after_nodes_empty nodes (Err fault) none empty = tt
 
-then_empty : (e : Expansion) (rest : ℕ → Expansion) → IsEmpty e → ((m : ℕ) → IsEmpty (rest m)) → IsEmpty (and_then e rest)
-then_empty (Ok done) rest none empty = behind_empty done.0 (rest done.1) none (empty done.1)
+then_empty : (e : Expansion) (rest : ℕ → Expansion) → IsEmpty e → ((m : ℕ) → IsEmpty (rest m)) → IsEmpty (then_expanded e rest)
+then_empty (Ok done) rest none empty = after_nodes_empty done.0 (rest done.1) none (empty done.1)
 then_empty (Err fault) rest none empty = tt
 
 unless_empty : (is : Bool) (fault : ExpansionFault) (e : Expansion) → IsEmpty e → IsEmpty (if is then Err fault else e)
@@ -219,33 +219,33 @@ fits_empty true e empty = empty
 fits_empty false e empty = tt
 
 -- nodes are references of which no node is left, if that is their size
-nodes_empty : (given : List ℕ → ℕ → Expansion) (size : List ℕ → Option Size) → ((name : List ℕ) (s : Size) (left : ℕ) → size name ≡ Some s → s.is_empty ≡ true → IsEmpty (given name left)) → (c : Forest) (s : Size) (left : ℕ) → measured size c ≡ Some s → s.is_empty ≡ true → IsEmpty (expanded given c left)
-nodes_empty given size told bare s left known empty = refl
-nodes_empty given size told (words t r) s left known empty =
-    both_empty (Some (flat (size_of (Text t)) false)) (measured size r) s known empty (IsEmpty (expanded given (words t r) left))
+nodes_empty : (given : List ℕ → ℕ → Expansion) (size : List ℕ → Option Size) → ((name : List ℕ) (s : Size) (left : ℕ) → size name ≡ Some s → s.is_empty ≡ true → IsEmpty (given name left)) → (c : Forest) (s : Size) (left : ℕ) → measured size c ≡ Some s → s.is_empty ≡ true → IsEmpty (expanded_copies given c left)
+nodes_empty given size size_given bare s left known empty = refl
+nodes_empty given size size_given (words t r) s left known empty =
+    both_empty (Some (flat (size_of (Text t)) false)) (measured size r) s known empty (IsEmpty (expanded_copies given (words t r) left))
     (λ own rest is_own is_rest none others.
     let e : flat (size_of (Text t)) false ≡ own = cc in
     absurd (true≢false (sym none ∙ ap (λ (s : Size). s.is_empty) (sym e))))
-nodes_empty given size told (element t a c l r) s left known empty =
-    both_empty (Some (flat 1 (is_reference t))) (both (if is_reference t then size (name_said a) else measured size c) (measured size r)) s known empty (IsEmpty (expanded given (element t a c l r) left))
+nodes_empty given size size_given (element t a c l r) s left known empty =
+    both_empty (Some (flat 1 (is_substitution_reference t))) (both (if is_substitution_reference t then size (refname_of a) else measured size c) (measured size r)) s known empty (IsEmpty (expanded_copies given (element t a c l r) left))
     (λ own after is_own is_after none others.
-    both_empty (if is_reference t then size (name_said a) else measured size c) (measured size r) after is_after others (IsEmpty (expanded given (element t a c l r) left))
+    both_empty (if is_substitution_reference t then size (refname_of a) else measured size c) (measured size r) after is_after others (IsEmpty (expanded_copies given (element t a c l r) left))
     (λ here rest is_here is_rest here_none rest_none.
-    let e : flat 1 (is_reference t) ≡ own = cc in
-    let is : is_reference t ≡ true = ap (λ (s : Size). s.is_empty) e ∙ none in
-    let found : size (name_said a) ≡ Some here = rw is at is_here in
+    let e : flat 1 (is_substitution_reference t) ≡ own = cc in
+    let is : is_substitution_reference t ≡ true = ap (λ (s : Size). s.is_empty) e ∙ none in
+    let found : size (refname_of a) ≡ Some here = rw is at is_here in
     rw is
-    (fits_empty (nat_le 1 left) (and_then (given (name_said a) (left - 1)) (λ m. expanded given r m))
-    (then_empty (given (name_said a) (left - 1)) (λ m. expanded given r m) (told (name_said a) here (left - 1) found here_none) (λ m. nodes_empty given size told r rest m is_rest rest_none)))))
+    (fits_empty (nat_le 1 left) (then_expanded (given (refname_of a) (left - 1)) (λ m. expanded_copies given r m))
+    (then_empty (given (refname_of a) (left - 1)) (λ m. expanded_copies given r m) (size_given (refname_of a) here (left - 1) found here_none) (λ m. nodes_empty given size size_given r rest m is_rest rest_none)))))
 
 -- so does a reference to a definition of which no node is left
 deep_empty : (found : List ℕ → Option (ℕ × Forest)) (path name : List ℕ) (left : ℕ) (one : ℕ × Forest) → found name ≡ Some one → IsEmpty (given_within found zero path name left)
 unfolding given_within
 deep_empty found path name left one is = rw is (unless_empty (list_any (λ place. place == one.0) path) (Circular name) (Err TooLarge) tt)
 
-more_empty : (found : List ℕ → Option (ℕ × Forest)) (more : ℕ) (path name : List ℕ) (left : ℕ) (one : ℕ × Forest) → found name ≡ Some one → IsEmpty (expanded (given_within found more (path ++ one.0 ∷ [])) one.1 left) → IsEmpty (given_within found (suc more) path name left)
+more_empty : (found : List ℕ → Option (ℕ × Forest)) (more : ℕ) (path name : List ℕ) (left : ℕ) (one : ℕ × Forest) → found name ≡ Some one → IsEmpty (expanded_copies (given_within found more (path ++ one.0 ∷ [])) one.1 left) → IsEmpty (given_within found (suc more) path name left)
 unfolding given_within
-more_empty found more path name left one is empty = rw is (unless_empty (list_any (λ place. place == one.0) path) (Circular name) (expanded (given_within found more (path ++ one.0 ∷ [])) one.1 left) empty)
+more_empty found more path name left one is empty = rw is (unless_empty (list_any (λ place. place == one.0) path) (Circular name) (expanded_copies (given_within found more (path ++ one.0 ∷ [])) one.1 left) empty)
 
 given_empty : (known : Definitions) (sizes : List (Option Size)) → AreMeasured known sizes → (more : ℕ) (path name : List ℕ) (s : Size) (left : ℕ) → size_found known sizes name ≡ Some s → s.is_empty ≡ true → IsEmpty (given_within (found_by known) more path name left)
 given_empty known sizes sized zero path name s left is empty =
@@ -258,36 +258,36 @@ given_empty known sizes sized (suc more) path name s left is empty =
     (nodes_empty (given_within (found_by known) more (path ++ place ∷ [])) (size_found known sizes) (λ name s left. given_empty known sizes sized more (path ++ place ∷ []) name s left) content inner left size_is (same ∙ empty)))
 
 -- an expansion by what is left to visit, if no node is left or it is at fault
-empty_is : (e : Expansion) (n : ℕ) → IsEmpty e → left_of e ≡ Ok n → e ≡ Ok ([], n)
+empty_is : (e : Expansion) (n : ℕ) → IsEmpty e → remaining_visits e ≡ Ok n → e ≡ Ok ([], n)
 empty_is (Ok done) n none is =
     let here : done.1 ≡ n = cc in
     let made : List Node → ℕ → Expansion = λ nodes left. Ok (nodes, left) in
     ap (λ (nodes : List Node). made nodes done.1) none ∙ ap (made []) here
 empty_is (Err fault) n none is = absurd (cc)
 
-pub fault_is : (e : Expansion) (fault : ExpansionFault) → left_of e ≡ Err fault → e ≡ Err fault
+pub fault_is : (e : Expansion) (fault : ExpansionFault) → remaining_visits e ≡ Err fault → e ≡ Err fault
 fault_is (Ok done) fault is = absurd (cc)
 fault_is (Err other) fault is = let same : other ≡ fault = cc in rw same refl
 
 -- an expansion comes to what a size predicts, by how many nested definitions may still be gone into and how much may be visited
 abbrev pub Comes : Expansion → Size → ℕ → ℕ → Type 0
-Comes e s more left = (left_of e ≡ takes s more left) × ((n : ℕ) → s.is_empty ≡ true → left_of e ≡ Ok n → e ≡ Ok ([], n))
+Comes e s more left = (remaining_visits e ≡ takes s more left) × ((n : ℕ) → s.is_empty ≡ true → remaining_visits e ≡ Ok n → e ≡ Ok ([], n))
 
 -- so do the nodes of the definition that was gone into last
 pub last_comes : (known : Definitions) (path : List ℕ) (place : ℕ) (size : Size) (left : ℕ) → AreSized known → slice_get path (length path - 1) ≡ Some place → size_at known.sizes.items place ≡ Some size → list_all (is_above known.sizes.items size.nested) path ≡ true → left ≤ most_visited
-    → Comes (expanded (given (found_by known) path) (content_last known path) left) size (most_nested - length path) left
+    → Comes (expanded_copies (given (found_by known) path) (content_last known path) left) size (most_nested - length path) left
 last_comes known path place size left sized last there above small =
-    content_parts (measured (size_found known known.sizes.items)) size (slice_get known.contents.items place) (sized place size there) (Comes (expanded (given (found_by known) path) (content_last known path) left) size (most_nested - length path) left)
+    content_parts (measured (size_found known known.sizes.items)) size (slice_get known.contents.items place) (sized place size there) (Comes (expanded_copies (given (found_by known) path) (content_last known path) left) size (most_nested - length path) left)
     (λ content at is.
     let content_is : content_last known path ≡ content = rw (last, at) refl in
     let references : List ℕ → ℕ → Expansion = given (found_by known) path in
-    let takes_so : left_of (expanded references content left) ≡ takes size (most_nested - length path) left =
+    let takes_so : remaining_visits (expanded_copies references content left) ≡ takes size (most_nested - length path) left =
     nodes_take references (size_found known known.sizes.items) (most_nested - length path) size.nested
     (λ name s left. given_takes known known.sizes.items sized (most_nested - length path) size.nested path above name s left) content size left is (omega arith) small in
     rw content_is (
       takes_so,
       λ n empty done.
-          empty_is (expanded references content left) n
+          empty_is (expanded_copies references content left) n
           (nodes_empty references (size_found known known.sizes.items) (λ name s left. given_empty known known.sizes.items sized (most_nested - length path) path name s left) content size left is empty) done,
     ))
 

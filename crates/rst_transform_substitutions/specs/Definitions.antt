@@ -7,7 +7,7 @@ use Rattle.rst_tree.specs.declared.attrs.Attr.{Attr}
 use Rattle.rst_tree.specs.declared.key.Key.TheVariants.{OwnName}
 use Rattle.rst_tree.specs.declared.tag.Tag.{Tag}
 use Rattle.rst_tree.specs.declared.tag.Tag.TheVariants.{SubstitutionDefinition}
-use Rattle.rst_tree.specs.Attributes.{said_text, value_of}
+use Rattle.rst_tree.specs.Attributes.{as_text, value_of}
 use Rattle.rst_tree.specs.Forest.{Forest, bare, element, words}
 use Rattle.rst_transform_substitutions.specs.declared.listing.Defined.{Defined}
 use Rattle.rst_transform_substitutions.specs.declared.definitions.Definitions.{Definitions}
@@ -23,7 +23,7 @@ defined one = (one.name.now, one.content.now)
 
 -- an element, if it is a definition
 abbrev pub own_definition : Tag → List Attr → Forest → List Definition
-own_definition SubstitutionDefinition a c = (unwrap_or (said_text (value_of OwnName a)) [], c) ∷ []
+own_definition SubstitutionDefinition a c = (unwrap_or (as_text (value_of OwnName a)) [], c) ∷ []
 own_definition _ a c = []
 
 -- the definitions among some nodes, and in them, in preorder

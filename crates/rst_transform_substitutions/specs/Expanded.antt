@@ -8,18 +8,18 @@ use Rattle.rst_tree.specs.declared.node.Node.TheVariants.{Element, Text}
 use Rattle.rst_tree.specs.declared.note.Level.TheVariants.{Error}
 use Rattle.rst_tree.specs.declared.tag.Tag.{Tag}
 use Rattle.rst_tree.specs.declared.tag.Tag.TheVariants.{SubstitutionDefinition}
-use Rattle.rst_tree.specs.Attributes.{said_text, value_of}
+use Rattle.rst_tree.specs.Attributes.{as_text, value_of}
 use Rattle.rst_tree.specs.Forest.{Forest, bare, element, words}
 use Rattle.rst_tree.specs.Nodes.{forest_of, nodes_of}
-use Rattle.rst_tree_index.specs.Kinds.{is_reference}
+use Rattle.rst_tree_index.specs.Kinds.{is_substitution_reference}
 use Rattle.rst_transform_work.specs.declared.document.Document.{Document}
 use Rattle.rst_transform_work.specs.Known.{Known}
-use Rattle.rst_transform_work.specs.Problematics.{problematic_node}
-use Rattle.rst_transform_work.specs.Reading.{source_said}
+use Rattle.rst_transform_work.specs.Problematics.{reported_problematic}
+use Rattle.rst_transform_work.specs.Reading.{rawsource_of}
 use Rattle.rst_transform_work.specs.Reports.{reported}
 use Rattle.rst_transform_substitutions.specs.declared.expansion.ExpansionFault.{ExpansionFault}
 use Rattle.rst_transform_substitutions.specs.Definitions.{definitions_among, found_among, place_of_name, Definition}
-use Rattle.rst_transform_substitutions.specs.Expansion.{fault_text, name_said, nodes_for}
+use Rattle.rst_transform_substitutions.specs.Expansion.{expansion_fault_text, refname_of, nodes_for}
 
 -- nodes, and what is known once they are there
 abbrev pub Nodes : Type 0
@@ -30,29 +30,29 @@ abbrev pub followed : Nodes → (Known → Nodes) → Nodes
 followed here rest = let more : Nodes = rest here.1 in (here.0 ++ more.0, more.1)
 
 -- one node
-abbrev pub lone : Node × Known → Nodes
-lone done = (done.0 ∷ [], done.1)
+abbrev pub single_node : Node × Known → Nodes
+single_node done = (done.0 ∷ [], done.1)
 
 -- an element around nodes
 abbrev pub around : Tag → List Attr → ℕ → Nodes → Nodes
-around t a l inside = lone (Element t a (forest_of inside.0) l, inside.1)
+around t a l inside = single_node (Element t a (forest_of inside.0) l, inside.1)
 
 -- a reference that isn't replaced becomes the problematic of an ERROR, with its source text
 abbrev pub at_fault : List Attr → ℕ → ExpansionFault → Known → Node × Known
-at_fault a l fault known = problematic_node (length known.reports) (source_said a) l (reported Error l (fault_text (name_said a) fault) true known)
+at_fault a l fault known = reported_problematic (length known.reports) (rawsource_of a) l (reported Error l (expansion_fault_text (refname_of a) fault) true known)
 
 -- a reference gives way to nodes, or to that problematic
 abbrev pub given_way : List Attr → ℕ → Result (List Node) ExpansionFault → Known → Nodes
 given_way a l (Ok nodes) known = (nodes, known)
-given_way a l (Err fault) known = lone (at_fault a l fault known)
+given_way a l (Err fault) known = single_node (at_fault a l fault known)
 
 -- what happens to a reference, by which definition a name finds; it is in the definition at a place, or in none
 abbrev pub replaced : (List ℕ → Option (ℕ × Forest)) → Option ℕ → List Attr → ℕ → Known → Nodes
-replaced found within a l = given_way a l (nodes_for found within (name_said a))
+replaced found within a l = given_way a l (nodes_for found within (refname_of a))
 
 -- the place of the definition that the nodes in an element are in, if there is one: that of its own name if it is a definition
 abbrev pub within_element : (List ℕ → Option ℕ) → Tag → List Attr → Option ℕ → Option ℕ
-within_element place SubstitutionDefinition a within = place (unwrap_or (said_text (value_of OwnName a)) [])
+within_element place SubstitutionDefinition a within = place (unwrap_or (as_text (value_of OwnName a)) [])
 within_element place _ a within = within
 
 -- given which definition a name finds, and at which place the definition of a name is
@@ -63,7 +63,7 @@ module _ (found : List ℕ → Option (ℕ × Forest)) (place : List ℕ → Opt
   expanded_in within bare known = ([], known)
   expanded_in within (words t r) known = followed (Text t ∷ [], known) (λ then_known. expanded_in within r then_known)
   expanded_in within (element t a c l r) known =
-      followed (if is_reference t then replaced found within a l known else around t a l (expanded_in (within_element place t a within) c known)) (λ then_known. expanded_in within r then_known)
+      followed (if is_substitution_reference t then replaced found within a l known else around t a l (expanded_in (within_element place t a within) c known)) (λ then_known. expanded_in within r then_known)
 
 -- each reference in a document gives way, by the definitions in the document
 abbrev pub with_expansions : Document → Known → Document × Known
@@ -73,11 +73,11 @@ with_expansions document known =
     (record document { children = forest_of done.0 }, done.1)
 
 -- while references are replaced in place, each contains the nodes that it gives way to
-abbrev pub opened : Node → List Node
-opened (Element t a c l) = if is_reference t then nodes_of c else Element t a c l ∷ []
-opened (Text t) = Text t ∷ []
+abbrev pub unwrapped_reference : Node → List Node
+unwrapped_reference (Element t a c l) = if is_substitution_reference t then nodes_of c else Element t a c l ∷ []
+unwrapped_reference (Text t) = Text t ∷ []
 
 -- a node is a reference
-abbrev pub is_reference_node : Node → Bool
-is_reference_node (Element t a c l) = is_reference t
-is_reference_node (Text t) = false
+abbrev pub is_substitution_reference_node : Node → Bool
+is_substitution_reference_node (Element t a c l) = is_substitution_reference t
+is_substitution_reference_node (Text t) = false

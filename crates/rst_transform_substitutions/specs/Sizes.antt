@@ -3,13 +3,13 @@ use Rattle.std.specs.Prelude.{◌≡◌, ℕ, ◌+◌, ◌-◌, ◌^◌, ◌==�
 use Rattle.std.specs.Option.{option_flatten, option_map_or}
 use Rattle.rst_tree.specs.declared.node.Node.TheVariants.{Element, Text}
 use Rattle.rst_tree.specs.Forest.{Forest, bare, element, words}
-use Rattle.rst_tree_index.specs.Kinds.{is_reference}
+use Rattle.rst_tree_index.specs.Kinds.{is_substitution_reference}
 use Rattle.rst_transform_substitutions.specs.declared.definitions.Definitions.{Definitions}
 use Rattle.rst_transform_substitutions.specs.declared.expansion.Halted.{Halted}
 use Rattle.rst_transform_substitutions.specs.declared.expansion.Halted.TheVariants.{By, NoMemory}
 use Rattle.rst_transform_substitutions.specs.declared.sizes.Size.{Size}
 use Rattle.rst_transform_substitutions.specs.Definitions.{known_found}
-use Rattle.rst_transform_substitutions.specs.Expansion.{left_of, name_said, size_of, Expansion}
+use Rattle.rst_transform_substitutions.specs.Expansion.{remaining_visits, refname_of, size_of, Expansion}
 
 -- the size of nodes where this much is visited and no definition is gone into, by whether no node is left
 abbrev pub flat : ℕ → Bool → Size
@@ -24,8 +24,8 @@ abbrev pub both : Option Size → Option Size → Option Size
 both a b = option_and_then (λ one. option_map (added one) b) a
 
 -- the size of a reference to a definition of this size, if it fits a `usize`
-abbrev pub deeper : Size → Option Size
-deeper size = if size.nested == 2 ^ 64 - 1 then None else Some (record size { nested = size.nested + 1 })
+abbrev pub deeper_size : Size → Option Size
+deeper_size size = if size.nested == 2 ^ 64 - 1 then None else Some (record size { nested = size.nested + 1 })
 
 -- given the size of a reference to a name
 module _ (size : List ℕ → Option Size) where
@@ -33,7 +33,7 @@ module _ (size : List ℕ → Option Size) where
   abbrev pub measured : Forest → Option Size
   measured bare = Some (flat 0 true)
   measured (words t r) = both (Some (flat (size_of (Text t)) false)) (measured r)
-  measured (element t a c l r) = both (Some (flat (size_of (Element t a c l)) (is_reference t))) (both (if is_reference t then size (name_said a) else measured c) (measured r))
+  measured (element t a c l r) = both (Some (flat (size_of (Element t a c l)) (is_substitution_reference t))) (both (if is_substitution_reference t then size (refname_of a) else measured c) (measured r))
 
 -- the size of the definition at a place, if it is known
 abbrev pub size_at : List (Option Size) → ℕ → Option Size
@@ -41,7 +41,7 @@ size_at sizes place = option_flatten (slice_get sizes place)
 
 -- the size of a reference to a name, if that of the definition that it finds is known
 abbrev pub size_found : Definitions → List (Option Size) → List ℕ → Option Size
-size_found known sizes name = option_and_then deeper (option_and_then (size_at sizes) (known_found known name))
+size_found known sizes name = option_and_then deeper_size (option_and_then (size_at sizes) (known_found known name))
 
 -- each size that is known is that of the definition
 abbrev pub AreMeasured : Definitions → List (Option Size) → Type 0
@@ -59,8 +59,8 @@ abbrev pub content_last : Definitions → List ℕ → Forest
 content_last known path = unwrap_or (option_and_then (slice_get known.contents.items) (slice_get path (length path - 1))) bare
 
 -- the call counts at once what is visited for some nodes, if nothing is copied or no node is left, or leaves it uncounted
-abbrev pub Passes : Bool → Expansion → ℕ → ℕ → Result Bool Halted → Type 0
-Passes copies wanted old new (Ok true) = (left_of wanted ≡ Ok new) × (copies ≡ true → wanted ≡ Ok ([], new))
-Passes copies wanted old new (Ok false) = new ≡ old
-Passes copies wanted old new (Err (By fault)) = wanted ≡ Err fault
-Passes copies wanted old new (Err NoMemory) = Unit {0}
+abbrev pub CountsAtOnce : Bool → Expansion → ℕ → ℕ → Result Bool Halted → Type 0
+CountsAtOnce copies wanted old new (Ok true) = (remaining_visits wanted ≡ Ok new) × (copies ≡ true → wanted ≡ Ok ([], new))
+CountsAtOnce copies wanted old new (Ok false) = new ≡ old
+CountsAtOnce copies wanted old new (Err (By fault)) = wanted ≡ Err fault
+CountsAtOnce copies wanted old new (Err NoMemory) = Unit {0}

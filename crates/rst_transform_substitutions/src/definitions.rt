@@ -7,7 +7,7 @@ ghost use Rattle.rst_transform_work.specs.Reading.{name_in};
 
 use crate::listing::Listed;
 use crate::sizes::Size;
-use rst_transform_work::{copies, folded, said};
+use rst_transform_work::{copies, folded, text_or_empty};
 use rst_tree::{Attrs, Children, Key, Result, Tag};
 use std::alloc::Global;
 use std::collections::BTreeMap;
@@ -90,7 +90,10 @@ impl Definitions {
         ensures { result ≡ within_element (known_place self.now) tag attrs.now within }
     {
         match tag {
-            Tag::SubstitutionDefinition => self.exact.get(said(attrs, Key::OwnName)).copied(),
+            Tag::SubstitutionDefinition => {
+                let own_name = text_or_empty(attrs, Key::OwnName);
+                self.exact.get(own_name).copied()
+            }
             _ => within,
         }
     }

@@ -5,15 +5,15 @@ ghost use Rattle.rst_tree.specs.Faults.{Gives};
 ghost use Rattle.rst_tree.specs.Nodes.{nodes_of};
 ghost use Rattle.rst_transform_work.specs.Known.{Makes};
 ghost use Rattle.rst_transform_substitutions.specs.Definitions.{found_by, known_place};
-ghost use Rattle.rst_transform_substitutions.specs.Expanded.{expanded_in, is_reference_node, opened, replaced, with_expansions, within_element};
+ghost use Rattle.rst_transform_substitutions.specs.Expanded.{expanded_in, is_substitution_reference_node, unwrapped_reference, replaced, with_expansions, within_element};
 ghost use Rattle.rst_transform_substitutions.specs.Outcomes.{Remembers};
 
 use crate::definitions::Definitions;
-use crate::expansion::{is_reference, is_reference_node};
-use crate::numbering::numbered;
+use crate::expansion::{is_substitution_reference, is_substitution_reference_node};
+use crate::numbering::numbering_of;
 use crate::outcomes::{Outcome, Outcomes, reference_outcome};
 use crate::sizes::sizes_of;
-use rst_transform_work::{Context, Document, said, take_source};
+use rst_transform_work::{Context, Document, take_source, text_or_empty};
 use rst_tree::{Attrs, Children, Key, Level, Node, Result};
 use std::alloc::Global;
 use std::mem;
@@ -45,7 +45,7 @@ pub fn expand(mut document: Document, context: &mut Context) -> Result<Document>
     ensures { Gives (Makes (with_expansions document) context.old context.new) result }
 {
     let mut definitions = Definitions::of(context.alloc, &document.children)?;
-    let numbering = numbered(context.alloc, &definitions)?;
+    let numbering = numbering_of(context.alloc, &definitions)?;
     let sizes = sizes_of(context.alloc, &definitions, &numbering.order)?;
     definitions.sizes = sizes;
     let mut outcomes = Outcomes::new(context.alloc, numbering.numbers);
@@ -76,7 +76,7 @@ fn expand_in(
                 children,
                 line,
             } => {
-                if is_reference(*tag) {
+                if is_substitution_reference(*tag) {
                     *children = replaced(definitions, attrs, *line, within, outcomes, context)?;
                     continue;
                 }
@@ -96,21 +96,23 @@ fn expand_in(
 
 /// Whether there is a reference among nodes.
 fn has_reference(nodes: &[Node]) -> bool
-    ensures { result ≡ list_any is_reference_node nodes.now }
+    ensures { result ≡ list_any is_substitution_reference_node nodes.now }
 {
-    nodes.iter().any(|node| is_reference_node(node))
+    nodes
+        .iter()
+        .any(|node| is_substitution_reference_node(node))
 }
 
 /// Puts the nodes in each reference into its place, in a list made anew.
 #[inline(never)]
 fn open_references(alloc: Global, nodes: &mut Children) -> Result<()>
-    ensures { Gives (λ _. nodes_of nodes.new ≡ flat_map opened (nodes_of nodes.old)) result }
+    ensures { Gives (λ _. nodes_of nodes.new ≡ flat_map unwrapped_reference (nodes_of nodes.old)) result }
 {
     let list = mem::replace(nodes, Children::new(alloc)).into_list();
     let mut done = Vec::with_capacity(alloc, list.len())?;
     for node in list {
         match node {
-            Node::Element { tag, children, .. } if is_reference(tag) => {
+            Node::Element { tag, children, .. } if is_substitution_reference(tag) => {
                 let mut inner = children.into_list();
                 done.append(&mut inner)?;
             }
@@ -135,7 +137,7 @@ fn replaced(
     ensures replaced { Gives (λ nodes. Makes (replaced (found_by definitions.now) within attrs.old line) context.old context.new (nodes_of nodes)) result }
     ensures remembers { OnOk result (Remembers definitions.now outcomes.new) }
 {
-    let name = said(attrs, Key::Refname);
+    let name = text_or_empty(attrs, Key::Refname);
     match reference_outcome(context.alloc, definitions, name, within, outcomes)? {
         Outcome::Nodes(nodes) => Ok(nodes),
         Outcome::Fault(fault) => {

@@ -1,17 +1,17 @@
 //! What replaces one substitution reference.
 ghost use Rattle.std.specs.Prelude.{◌≡◌, ◌+◌, ◌≤◌, nat_le, true, take, vec_len, ◌-◌, IfOk, OnOk, Some};
 ghost use Rattle.rst_tree.specs.Faults.{Gives};
-ghost use Rattle.rst_tree_index.specs.Kinds.{is_reference};
+ghost use Rattle.rst_tree_index.specs.Kinds.{is_substitution_reference};
 ghost use Rattle.rst_transform_substitutions.specs.declared.expansion.ExpansionFault.TheVariants.{Undefined};
 ghost use Rattle.rst_transform_substitutions.specs.declared.expansion.Halted.TheVariants.{By as HaltedBy, NoMemory as HaltedByMemory};
 ghost use Rattle.rst_transform_substitutions.specs.Definitions.{found_by};
-ghost use Rattle.rst_transform_substitutions.specs.Expanded.{is_reference_node};
-ghost use Rattle.rst_transform_substitutions.specs.Expansion.{behind, copied, expanded, fault_text, given, left_of, most_visited, nodes_for, size_of, ComesTo, Enters};
-ghost use Rattle.rst_transform_substitutions.specs.Sizes.{content_last, AreSized, Passes};
+ghost use Rattle.rst_transform_substitutions.specs.Expanded.{is_substitution_reference_node};
+ghost use Rattle.rst_transform_substitutions.specs.Expansion.{after_nodes, copied_element, expanded_copies, expansion_fault_text, given, remaining_visits, most_visited, nodes_for, size_of, ComesTo, Enters};
+ghost use Rattle.rst_transform_substitutions.specs.Sizes.{content_last, AreSized, CountsAtOnce};
 
 use crate::definitions::Definitions;
 use crate::sizes::{are_above, size_at};
-use rst_transform_work::{element, said};
+use rst_transform_work::{element, text_or_empty};
 use rst_tree::{Attrs, Children, Key, Node, Result, Tag, Text, TreeFault};
 use std::alloc::{AllocFailed, Global};
 
@@ -52,7 +52,7 @@ impl ExpansionFault {
 
     /// The text of the message on a reference to a name that isn't replaced.
     pub fn text(&self, alloc: Global, name: &str) -> Result<Text>
-        ensures { Gives (λ text. text ≡ fault_text name.now self.now) result }
+        ensures { Gives (λ text. text ≡ expansion_fault_text name.now self.now) result }
     {
         let (before, name) = match self {
             ExpansionFault::Undefined(inner) => (UNDEFINED, inner.as_str()),
@@ -117,7 +117,7 @@ impl Progress {
     fn passes(&mut self, definitions: &Definitions, copies: bool) -> Result<bool, Halted>
         requires sized { AreSized definitions.now }
         requires left { self.old.left ≤ most_visited }
-        ensures passes { Passes copies (expanded (given (found_by definitions.now) self.old.path.items) (content_last definitions.now self.old.path.items) self.old.left) self.old.left self.new.left result }
+        ensures passes { CountsAtOnce copies (expanded_copies (given (found_by definitions.now) self.old.path.items) (content_last definitions.now self.old.path.items) self.old.left) self.old.left self.new.left result }
         ensures path { self.new.path ≡ self.old.path }
         ensures left { self.new.left ≤ self.old.left }
     {
@@ -153,18 +153,18 @@ pub fn characters_in(node: &Node) -> usize
 }
 
 /// Whether a node is a reference.
-pub fn is_reference_node(node: &Node) -> bool
-    ensures { result ≡ is_reference_node node.now }
+pub fn is_substitution_reference_node(node: &Node) -> bool
+    ensures { result ≡ is_substitution_reference_node node.now }
 {
     match node {
-        Node::Element { tag, .. } => is_reference(*tag),
+        Node::Element { tag, .. } => is_substitution_reference(*tag),
         Node::Text(_) => false,
     }
 }
 
 /// Whether an element of a kind is a reference.
-pub fn is_reference(tag: Tag) -> bool
-    ensures { result ≡ is_reference tag }
+pub fn is_substitution_reference(tag: Tag) -> bool
+    ensures { result ≡ is_substitution_reference tag }
 {
     matches!(tag, Tag::SubstitutionReference)
 }
@@ -180,8 +180,8 @@ fn add_expanded(
 ) -> Result<(), Halted>
     requires sized { AreSized definitions.now }
     requires left { progress.old.left ≤ most_visited }
-    ensures visits { ComesTo (left_of (expanded (given (found_by definitions.now) progress.old.path.items) content.now progress.old.left)) (λ _. progress.new.left) result }
-    ensures nodes { copies ≡ true → ComesTo (behind nodes.old.items (expanded (given (found_by definitions.now) progress.old.path.items) content.now progress.old.left)) (λ _. (nodes.new.items, progress.new.left)) result }
+    ensures visits { ComesTo (remaining_visits (expanded_copies (given (found_by definitions.now) progress.old.path.items) content.now progress.old.left)) (λ _. progress.new.left) result }
+    ensures nodes { copies ≡ true → ComesTo (after_nodes nodes.old.items (expanded_copies (given (found_by definitions.now) progress.old.path.items) content.now progress.old.left)) (λ _. (nodes.new.items, progress.new.left)) result }
     ensures path { OnOk result (progress.new.path.items ≡ progress.old.path.items) }
     ensures left { OnOk result (progress.new.left ≤ progress.old.left) }
 {
@@ -203,8 +203,13 @@ fn add_expanded(
                 children,
                 line,
             } => {
-                if is_reference(*tag) {
-                    let inner = entered(alloc, definitions, said(attrs, Key::Refname), progress)?;
+                if is_substitution_reference(*tag) {
+                    let inner = entered(
+                        alloc,
+                        definitions,
+                        text_or_empty(attrs, Key::Refname),
+                        progress,
+                    )?;
                     if progress.passes(definitions, copies)? {
                         progress.path.pop();
                         continue;
@@ -218,7 +223,7 @@ fn add_expanded(
                 if !copies {
                     continue;
                 }
-                nodes.push(copied(alloc, *tag, attrs, inner, *line)?)?;
+                nodes.push(copied_element(alloc, *tag, attrs, inner, *line)?)?;
                 continue;
             }
         }
@@ -227,8 +232,14 @@ fn add_expanded(
 }
 
 /// A copy of an element around other nodes: the registered element stays the one that was copied.
-fn copied(alloc: Global, tag: Tag, attrs: &Attrs, children: Vec<Node>, line: usize) -> Result<Node>
-    ensures { Gives (λ node. node ≡ copied tag attrs.now children.items line) result }
+fn copied_element(
+    alloc: Global,
+    tag: Tag,
+    attrs: &Attrs,
+    children: Vec<Node>,
+    line: usize,
+) -> Result<Node>
+    ensures { Gives (λ node. node ≡ copied_element tag attrs.now children.items line) result }
 {
     let mut attrs = attrs.copy(alloc)?;
     attrs.remove(Key::Serial);
@@ -242,7 +253,7 @@ fn entered<'a>(
     name: &str,
     progress: &mut Progress,
 ) -> Result<&'a Children, Halted>
-    ensures content { let reference = given (found_by definitions.now) progress.old.path.items name.now in Enters reference (λ content. expanded (given (found_by definitions.now) progress.new.path.items) content.now) result }
+    ensures content { let reference = given (found_by definitions.now) progress.old.path.items name.now in Enters reference (λ content. expanded_copies (given (found_by definitions.now) progress.new.path.items) content.now) result }
     ensures there { IfOk result (λ content. content_last definitions.now progress.new.path.items ≡ content.now) }
     ensures path { OnOk result (take (vec_len progress.new.path - 1) progress.new.path.items ≡ progress.old.path.items) }
     ensures left { progress.new.left ≡ progress.old.left }

@@ -2,10 +2,10 @@
 ghost use Rattle.std.specs.Prelude.{◌≡◌, map};
 ghost use Rattle.rst_tree.specs.Faults.{Gives};
 ghost use Rattle.rst_transform_substitutions.specs.Definitions.{defined, definitions_among};
-ghost use Rattle.rst_transform_substitutions.specs.Numbering.{names_said, TakesListed};
+ghost use Rattle.rst_transform_substitutions.specs.Numbering.{refnames_in, TakesListed};
 
-use crate::expansion::is_reference;
-use rst_transform_work::said;
+use crate::expansion::is_substitution_reference;
+use rst_transform_work::text_or_empty;
 use rst_tree::{Children, Key, Node, Reader, Result, Tag, read_elements};
 use std::alloc::Global;
 
@@ -29,7 +29,7 @@ impl<'a> Listed<'a> {
     /// The definitions among nodes, and in them, in preorder, and the names in references there.
     pub fn of(alloc: Global, nodes: &'a Children) -> Result<Listed<'a>>
         ensures definitions { Gives (λ listed. map defined listed.definitions.items ≡ definitions_among nodes.now) result }
-        ensures names { Gives (λ listed. map (λ name. name.now) listed.names.items ≡ names_said nodes.now) result }
+        ensures names { Gives (λ listed. map (λ name. name.now) listed.names.items ≡ refnames_in nodes.now) result }
     {
         let mut listed = Listed {
             definitions: Vec::new(alloc),
@@ -58,13 +58,13 @@ impl<'a> Reader<'a> for Listed<'a> {
         else {
             return Ok(level);
         };
-        if is_reference(*tag) {
-            self.names.push(said(attrs, Key::Refname))?;
+        if is_substitution_reference(*tag) {
+            self.names.push(text_or_empty(attrs, Key::Refname))?;
         }
         if !matches!(tag, Tag::SubstitutionDefinition) {
             return Ok(level);
         }
-        let name = said(attrs, Key::OwnName);
+        let name = text_or_empty(attrs, Key::OwnName);
         self.definitions.push(Defined {
             name,
             content: children,

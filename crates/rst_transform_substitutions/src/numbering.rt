@@ -2,7 +2,7 @@
 ghost use Rattle.std.specs.Prelude.{◌≡◌, slice_get, true, map, List, ℕ};
 ghost use Rattle.std.specs.List.{list_all};
 ghost use Rattle.rst_tree.specs.Faults.{Gives};
-ghost use Rattle.rst_transform_substitutions.specs.Numbering.{may_lead, places_found, AreOrdered};
+ghost use Rattle.rst_transform_substitutions.specs.Numbering.{may_lead_to, places_found, AreOrdered};
 
 use crate::definitions::Definitions;
 use crate::listing::Listed;
@@ -30,7 +30,7 @@ pub struct Numbering {
 /// The numbers of the definitions, and their order.
 ///
 /// That no definition refers to one of a lower number is checked in the end, since what is remembered rests on it.
-pub fn numbered(alloc: Global, definitions: &Definitions) -> Result<Numbering>
+pub fn numbering_of(alloc: Global, definitions: &Definitions) -> Result<Numbering>
     ensures { Gives (λ numbering. AreOrdered definitions.now numbering.numbers.items) result }
 {
     let referred = referred(alloc, definitions)?;
@@ -71,7 +71,7 @@ fn places_found(alloc: Global, definitions: &Definitions, nodes: &Children) -> R
 
 /// Whether no place refers to one of a lower number.
 fn are_ordered(referred: &[Vec<usize>], numbers: &[usize]) -> bool
-    ensures { result ≡ true → (place : ℕ) (places : List ℕ) → slice_get (map (λ places. places.items) referred.now) place ≡ Some places → list_all (may_lead numbers.now place) places ≡ true }
+    ensures { result ≡ true → (place : ℕ) (places : List ℕ) → slice_get (map (λ places. places.items) referred.now) place ≡ Some places → list_all (may_lead_to numbers.now place) places ≡ true }
 {
     for (place, places) in referred.iter().enumerate() {
         if !may_lead_to_all(numbers, place, places) {
@@ -83,14 +83,16 @@ fn are_ordered(referred: &[Vec<usize>], numbers: &[usize]) -> bool
 
 /// Whether the definition at a place may lead to all others, by their numbers.
 fn may_lead_to_all(numbers: &[usize], place: usize, others: &[usize]) -> bool
-    ensures { result ≡ list_all (λ other. may_lead numbers.now place other) others.now }
+    ensures { result ≡ list_all (λ other. may_lead_to numbers.now place other) others.now }
 {
-    others.iter().all(|other| may_lead(numbers, place, *other))
+    others
+        .iter()
+        .all(|other| may_lead_to(numbers, place, *other))
 }
 
 /// Whether the definition at a place may lead to another, by their numbers.
-pub fn may_lead(numbers: &[usize], place: usize, other: usize) -> bool
-    ensures { result ≡ may_lead numbers.now place other }
+pub fn may_lead_to(numbers: &[usize], place: usize, other: usize) -> bool
+    ensures { result ≡ may_lead_to numbers.now place other }
 {
     numbers.get(place) <= numbers.get(other)
 }

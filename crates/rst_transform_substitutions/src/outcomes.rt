@@ -4,14 +4,14 @@ ghost use Rattle.std.specs.BTreeMap.{get};
 ghost use Rattle.rst_tree.specs.Faults.{Gives};
 ghost use Rattle.rst_transform_substitutions.specs.Definitions.{found_by};
 ghost use Rattle.rst_transform_substitutions.specs.Expansion.{nodes_for};
-ghost use Rattle.rst_transform_substitutions.specs.Numbering.{may_lead, AreOrdered};
+ghost use Rattle.rst_transform_substitutions.specs.Numbering.{may_lead_to, AreOrdered};
 ghost use Rattle.rst_transform_substitutions.specs.Outcomes.{came, GoesInto, HoldsTrue, Remembers};
 ghost use Rattle.rst_transform_substitutions.specs.Sizes.{AreSized};
 ghost use Rattle.rst_transform_substitutions.specs.declared.definitions.Definitions.{Definitions};
 
 use crate::definitions::Definitions;
 use crate::expansion::{ExpansionFault, Halted, expansion};
-use crate::numbering::may_lead;
+use crate::numbering::may_lead_to;
 use rst_transform_work::copies;
 use rst_tree::{Children, Result, TreeFault};
 use std::alloc::Global;
@@ -80,10 +80,10 @@ impl Outcomes {
     /// The place of a definition where a reference to another comes to what it comes to in an outer one: that of the outer one
     /// itself, or, if the other doesn't lead to it, one past the last.
     fn standing(&self, outer: usize, place: usize) -> usize
-        ensures led { may_lead self.now.numbers.items place outer ≡ true → result ≡ outer }
-        ensures apart { may_lead self.now.numbers.items place outer ≡ false → may_lead self.now.numbers.items place result ≡ false }
+        ensures led { may_lead_to self.now.numbers.items place outer ≡ true → result ≡ outer }
+        ensures apart { may_lead_to self.now.numbers.items place outer ≡ false → may_lead_to self.now.numbers.items place result ≡ false }
     {
-        if may_lead(&self.numbers, place, outer) {
+        if may_lead_to(&self.numbers, place, outer) {
             return outer;
         }
         self.numbers.len()

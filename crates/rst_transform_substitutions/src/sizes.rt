@@ -2,11 +2,11 @@
 ghost use Rattle.std.specs.Prelude.{◌≡◌};
 ghost use Rattle.std.specs.List.{list_all};
 ghost use Rattle.rst_tree.specs.Faults.{Gives};
-ghost use Rattle.rst_transform_substitutions.specs.Sizes.{added, deeper, is_above, measured, size_at, size_found, AreMeasured};
+ghost use Rattle.rst_transform_substitutions.specs.Sizes.{added, deeper_size, is_above, measured, size_at, size_found, AreMeasured};
 
 use crate::definitions::Definitions;
-use crate::expansion::{characters_in, is_reference, is_reference_node};
-use rst_transform_work::{put_at, said};
+use crate::expansion::{characters_in, is_substitution_reference, is_substitution_reference_node};
+use rst_transform_work::{put_at, text_or_empty};
 use rst_tree::{Children, Key, Node, Result};
 use std::alloc::Global;
 
@@ -34,8 +34,8 @@ impl Size {
     }
 
     /// The size of a reference to a definition of this size, if it fits a `usize`.
-    fn deeper(self) -> Option<Size>
-        ensures { result ≡ deeper self }
+    fn deeper_size(self) -> Option<Size>
+        ensures { result ≡ deeper_size self }
     {
         if self.nested == usize::MAX {
             return None;
@@ -109,7 +109,7 @@ fn measured(
         let own = Size {
             visited: characters_in(node).saturating_add(1),
             nested: 0,
-            is_empty: is_reference_node(node),
+            is_empty: is_substitution_reference_node(node),
         };
         all = all.and(own);
         let Node::Element {
@@ -121,8 +121,13 @@ fn measured(
         else {
             continue;
         };
-        if is_reference(*tag) {
-            let Some(inner) = size_found(alloc, definitions, sizes, said(attrs, Key::Refname))?
+        if is_substitution_reference(*tag) {
+            let Some(inner) = size_found(
+                alloc,
+                definitions,
+                sizes,
+                text_or_empty(attrs, Key::Refname),
+            )?
             else {
                 return Ok(None);
             };
@@ -152,5 +157,5 @@ fn size_found(
     let Some(size) = size_at(sizes, place) else {
         return Ok(None);
     };
-    Ok(size.deeper())
+    Ok(size.deeper_size())
 }

@@ -7,11 +7,11 @@ use Rattle.rst_tree.specs.declared.tag.Tag.TheVariants.{Problematic}
 use Rattle.rst_transform_names.specs.declared.ids.Ids.{Ids}
 use Rattle.rst_transform_names.specs.declared.names.NameEntry.{NameEntry}
 use Rattle.rst_transform_names.specs.Ids.{kind_id, AreTaken, GivesNumbered}
-use Rattle.rst_transform_names.specs.Names.{AreHeld}
+use Rattle.rst_transform_names.specs.Names.{AreRegistered}
 use Rattle.rst_transform_work.specs.declared.context.Context.{Context}
 use Rattle.rst_transform_work.specs.declared.report.Report.{Report}
 use Rattle.rst_transform_work.specs.Known.{Holds, Known, Makes}
-use Rattle.rst_transform_work.specs.Problematics.{own_id, problematic, problematic_attrs, problematic_of, referring, with_own_id}
+use Rattle.rst_transform_work.specs.Problematics.{own_id, problematic, problematic_attrs, problematic_of, referring_report, with_own_id}
 use Rattle.rst_transform_work.specs.Reports.{next_report, report_in, reported, IsReported, KeepsRest}
 
 -- the messages alone
@@ -29,7 +29,7 @@ holds_reported level line text own old new known h rest is =
     holds_reports old new known _ h rest (is ∙ ap₂ (λ first reports. reports ++ next_report first reports level line text own ∷ []) h.first_number h.reports)
 
 -- the names alone
-pub holds_names : (old new : Context) (known : Known) (names : List ℕ → Option NameEntry) → Holds old known → new ≡ record old { names = new.names } → AreHeld new.names names
+pub holds_names : (old new : Context) (known : Known) (names : List ℕ → Option NameEntry) → Holds old known → new ≡ record old { names = new.names } → AreRegistered new.names names
     → Holds new (record known { names = names })
 holds_names old new known names h rest are =
     let back : Holds (record old { names = new.names }) (record known { names = names }) =
@@ -46,7 +46,7 @@ makes_reports made old new result is reports rest known h =
 
 -- and one that changes the names alone
 pub makes_names : {A : Type 0} (made : A) (pass : (List ℕ → Option NameEntry) → List ℕ → Option NameEntry) (old new : Context) (result : A) → result ≡ made
-    → ((held : List ℕ → Option NameEntry) → AreHeld old.names held → AreHeld new.names (pass held)) → new ≡ record old { names = new.names }
+    → ((entries : List ℕ → Option NameEntry) → AreRegistered old.names entries → AreRegistered new.names (pass entries)) → new ≡ record old { names = new.names }
     → Makes (λ known. (made, record known { names = pass known.names })) old new result
 makes_names made pass old new result is passes rest known h = (is, holds_names old new known (pass known.names) h rest (passes known.names h.names))
 
@@ -56,7 +56,7 @@ module _ (place : ℕ) (old : Context) (id : List ℕ) (ids : Ids) (gives : Give
 
   -- the next one of a message
   pub makes_next : (new : Context) (r : Report) (own : List ℕ) (later : Ids) → new ≡ record old { ids = later; reports = new.reports } → slice_get old.reports.items place ≡ Some r
-      → new.reports.items ≡ slice_set old.reports.items place (referring own id r) → ((taken : List (List ℕ)) → AreTaken ids taken → (own ≡ own_id r.id taken) × AreTaken later (with_own_id r.id taken))
+      → new.reports.items ≡ slice_set old.reports.items place (referring_report own id r) → ((taken : List (List ℕ)) → AreTaken ids taken → (own ≡ own_id r.id taken) × AreTaken later (with_own_id r.id taken))
       → Makes (problematic place) old new (problematic_attrs id (Some (r.number, own)))
   makes_next new r own later is some reports refers known h =
       let given = gives known.ids h.ids in
@@ -64,6 +64,6 @@ module _ (place : ℕ) (old : Context) (id : List ℕ) (ids : Ids) (gives : Give
       subst (λ i. (own ≡ own_id r.id (i ∷ known.ids)) × AreTaken later (with_own_id r.id (i ∷ known.ids))) given.0 (refers (id ∷ known.ids) given.1) in
       let back : Is (record old { ids = later; reports = new.reports }) (problematic_attrs id (Some (r.number, own))) known (Some r) = (
         ap₂ (λ i o. problematic_attrs i (Some (r.number, o))) given.0 more.0,
-        record { ids = more.1; names = h.names; reports = reports ∙ ap₂ (λ o i. slice_set old.reports.items place (referring o i r)) more.0 given.0 ∙ ap (λ l. slice_set l place (referring (own_id r.id (kind_id known.ids Problematic ∷ known.ids)) (kind_id known.ids Problematic) r)) h.reports; first_number = h.first_number; serials = h.serials },
+        record { ids = more.1; names = h.names; reports = reports ∙ ap₂ (λ o i. slice_set old.reports.items place (referring_report o i r)) more.0 given.0 ∙ ap (λ l. slice_set l place (referring_report (own_id r.id (kind_id known.ids Problematic ∷ known.ids)) (kind_id known.ids Problematic) r)) h.reports; first_number = h.first_number; serials = h.serials },
       ) in
       subst₂ (λ c o. Is c (problematic_attrs id (Some (r.number, own))) known o) (sym is) (sym (ap (λ l. slice_get l place) (sym h.reports) ∙ some)) back

@@ -9,7 +9,7 @@ use Rattle.rst_tree.specs.declared.attrs.Value.TheVariants.{List as Listed}
 use Rattle.rst_tree.specs.declared.fault.TreeFault.{TreeFault}
 use Rattle.rst_tree.specs.declared.fault.TreeFault.TheVariants.{NoMemory}
 use Rattle.rst_tree.specs.declared.key.Key.{Key}
-use Rattle.rst_transform_work.specs.Lists.{listed, with_listed}
+use Rattle.rst_transform_work.specs.Lists.{listed_texts, with_listed}
 
 -- what becomes one thing becomes whatever is the same
 pub becomes_same : {A S : Type 0} (old new wanted same : S) (r : Result A TreeFault) → Becomes old new wanted r → wanted ≡ same → Gives (λ (done : A). new ≡ same) r
@@ -18,15 +18,15 @@ becomes_same old new wanted same (Err NoMemory) h e = tt
 
 -- some texts come after those that an attribute lists
 pub listed_then : (k : Key) (more : List (List ℕ)) (attrs : List Attr) → nat_eq (length more) 0 ≡ false
-    → with_attr k (Listed (listed k attrs ++ more)) (without_key k attrs) ≡ with_listed k more attrs
+    → with_attr k (Listed (listed_texts k attrs ++ more)) (without_key k attrs) ≡ with_listed k more attrs
 listed_then k [] attrs h = absurd (cc)
 listed_then k (text ∷ more) attrs h = refl
 
 -- the same, where the list, the attributes without it and the texts that come after are at hand
 pub listed_by : (k : Key) (more texts start : List (List ℕ)) (attrs rest : List Attr) (n : ℕ) → nat_eq (length more) 0 ≡ false → texts ≡ start ++ take n more → length more ≤ n
-    → start ≡ listed k attrs → rest ≡ without_key k attrs → with_attr k (Listed texts) rest ≡ with_listed k more attrs
+    → start ≡ listed_texts k attrs → rest ≡ without_key k attrs → with_attr k (Listed texts) rest ≡ with_listed k more attrs
 listed_by k more texts start attrs rest n h t le s r =
     ap (λ ts. with_attr k (Listed ts) rest) (t ∙ ap (λ ts. start ++ ts) (take_all n more le))
     ∙ ap (λ ts. with_attr k (Listed (ts ++ more)) rest) s
-    ∙ ap (λ others. with_attr k (Listed (listed k attrs ++ more)) others) r
+    ∙ ap (λ others. with_attr k (Listed (listed_texts k attrs ++ more)) others) r
     ∙ listed_then k more attrs h

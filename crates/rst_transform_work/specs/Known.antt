@@ -2,7 +2,7 @@
 use Rattle.std.specs.Prelude.{◌≡◌, ℕ, List, Option}
 use Rattle.rst_transform_names.specs.declared.names.NameEntry.{NameEntry}
 use Rattle.rst_transform_names.specs.Ids.{AreTaken}
-use Rattle.rst_transform_names.specs.Names.{AreHeld}
+use Rattle.rst_transform_names.specs.Names.{AreRegistered}
 use Rattle.rst_transform_work.specs.declared.context.Context.{Context}
 use Rattle.rst_transform_work.specs.declared.report.Report.{Report}
 
@@ -18,7 +18,7 @@ pub record Known : Type 0 where
 -- a context holds what is known
 pub record Holds (context : Context) (known : Known) : Type 0 where
   pub ids : AreTaken context.ids known.ids
-  pub names : AreHeld context.names known.names
+  pub names : AreRegistered context.names known.names
   pub reports : context.reports.items ≡ known.reports
   pub first_number : context.first_number ≡ known.first_number
   pub serials : context.serials ≡ known.serials

@@ -11,17 +11,17 @@ use Rattle.rst_tree.specs.Attributes.{value_of, with_attr, without_key}
 use Rattle.rst_transform_work.specs.Reading.{members_in}
 
 -- what the attribute of a name lists
-abbrev pub listed : Key → List Attr → List (List ℕ)
-listed k attrs = members_in (value_of k attrs)
+abbrev pub listed_texts : Key → List Attr → List (List ℕ)
+listed_texts k attrs = members_in (value_of k attrs)
 
 -- the attributes with texts, if there are some, after those that the attribute of a name lists
 abbrev pub with_listed : Key → List (List ℕ) → List Attr → List Attr
 with_listed k [] attrs = attrs
-with_listed k (text ∷ more) attrs = with_attr k (Listed (listed k attrs ++ text ∷ more)) (without_key k attrs)
+with_listed k (text ∷ more) attrs = with_attr k (Listed (listed_texts k attrs ++ text ∷ more)) (without_key k attrs)
 
 -- the attributes with what other attributes list under a name after what they list there
 abbrev pub with_list_of : Key → List Attr → List Attr → List Attr
-with_list_of k from attrs = with_listed k (listed k from) attrs
+with_list_of k from attrs = with_listed k (listed_texts k from) attrs
 
 -- the attributes with the ids, names and lost names of others after their own
 abbrev pub with_names : List Attr → List Attr → List Attr

@@ -21,8 +21,8 @@ with_own_id (Some own) taken = taken
 with_own_id None taken = kind_id taken SystemMessage ∷ taken
 
 -- a message with its own id and with one more problematic
-abbrev pub referring : List ℕ → List ℕ → Report → Report
-referring own problematic r = record r { id = Some own; backrefs = r.backrefs ++ problematic ∷ [] }
+abbrev pub referring_report : List ℕ → List ℕ → Report → Report
+referring_report own problematic r = record r { id = Some own; backrefs = r.backrefs ++ problematic ∷ [] }
 
 -- the number and the id of a message, if there is one
 abbrev pub message_attrs : Option (ℕ × List ℕ) → List Attr
@@ -41,7 +41,7 @@ problematic_of (Some r) place known =
     let id : List ℕ = kind_id known.ids Problematic in
     let own : List ℕ = own_id r.id (id ∷ known.ids) in (
       problematic_attrs id (Some (r.number, own)),
-      record known { ids = with_own_id r.id (id ∷ known.ids); reports = slice_set known.reports place (referring own id r) },
+      record known { ids = with_own_id r.id (id ∷ known.ids); reports = slice_set known.reports place (referring_report own id r) },
     )
 
 -- the next problematic of the message at a place, if there is one there
@@ -49,5 +49,5 @@ abbrev pub problematic : ℕ → Known → List Attr × Known
 problematic place known = problematic_of (slice_get known.reports place) place known
 
 -- the same as a node, with a source text, on a line
-abbrev pub problematic_node : ℕ → List ℕ → ℕ → Known → Node × Known
-problematic_node place source line known = let done = problematic place known in (Element Problematic done.0 (words source bare) line, done.1)
+abbrev pub reported_problematic : ℕ → List ℕ → ℕ → Known → Node × Known
+reported_problematic place source line known = let done = problematic place known in (Element Problematic done.0 (words source bare) line, done.1)

@@ -11,7 +11,7 @@ use Rattle.rst_tree.specs.declared.key.Key.{Key}
 use Rattle.rst_tree.specs.declared.key.Key.TheVariants.{Rawsource}
 use Rattle.rst_tree.specs.declared.node.Node.{Node}
 use Rattle.rst_tree.specs.declared.node.Node.TheVariants.{Element, Text as Words}
-use Rattle.rst_tree.specs.Attributes.{value_of, said_text, said_number}
+use Rattle.rst_tree.specs.Attributes.{value_of, as_text, as_number}
 use Rattle.rst_tree.specs.Forest.{Forest, bare, words}
 use Rattle.rst_tree.specs.Paths.{node_value}
 
@@ -20,14 +20,14 @@ abbrev pub members_in : Option Value → List (List ℕ)
 members_in (Some (Listed texts)) = texts
 members_in _ = []
 
-abbrev pub text_said : Key → Node → Option (List ℕ)
-text_said k n = said_text (node_value k n)
+abbrev pub text_of_attribute : Key → Node → Option (List ℕ)
+text_of_attribute k n = as_text (node_value k n)
 
-abbrev pub number_said : Key → Node → Option ℕ
-number_said k n = said_number (node_value k n)
+abbrev pub number_of_attribute : Key → Node → Option ℕ
+number_of_attribute k n = as_number (node_value k n)
 
-abbrev pub list_said : Key → Node → List (List ℕ)
-list_said k n = members_in (node_value k n)
+abbrev pub list_of_attribute : Key → Node → List (List ℕ)
+list_of_attribute k n = members_in (node_value k n)
 
 -- the number of an element's first line, 0 for a text
 abbrev pub line_of : Node → ℕ
@@ -35,8 +35,8 @@ line_of (Element t a c l) = l
 line_of (Words t) = 0
 
 -- the source text in the attributes of a reference, or the empty text
-abbrev pub source_said : List Attr → List ℕ
-source_said attrs = unwrap_or (said_text (value_of Rawsource attrs)) []
+abbrev pub rawsource_of : List Attr → List ℕ
+rawsource_of attrs = unwrap_or (as_text (value_of Rawsource attrs)) []
 
 -- a title or a subtitle
 abbrev pub is_title : Node → Bool

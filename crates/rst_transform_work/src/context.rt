@@ -74,7 +74,7 @@ impl Context {
     /// The problematic with the source text of a reference that is at fault, for the message at a place among the
     /// reports.
     pub fn problematic(&mut self, report: usize, source: Text, line: usize) -> Result<Node>
-        ensures { Gives (Makes (spec.problematic_node report source line) self.old self.new) result }
+        ensures { Gives (Makes (spec.reported_problematic report source line) self.old self.new) result }
     {
         let mut attrs = Attrs::new(self.alloc);
         self.next_problematic(report)?.tell(self.alloc, &mut attrs)?;

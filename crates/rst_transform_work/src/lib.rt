@@ -15,7 +15,8 @@ pub use document::Document;
 pub use lists::{append, append_names, at_place, item_at, put_at, take_list};
 pub use problematics::ProblematicAttrs;
 pub use reading::{
-    first_said, has, is_title, line_of, list_said, may_precede, number_said, said, text_said,
+    first_of_attribute, has, is_title, line_of, list_of_attribute, may_precede,
+    number_of_attribute, text_of_attribute, text_or_empty,
 };
 pub use report::Report;
 pub use texts::{add_names, copies, element, folded, identified, take_source};

@@ -2,14 +2,14 @@
 ghost use Rattle.std.specs.Prelude.{◌≡◌, slice_set, MatchOption, None, Some};
 ghost use Rattle.rst_tree.specs.Attributes.{without_key};
 ghost use Rattle.rst_tree.specs.Faults.{Gives};
-ghost use Rattle.rst_transform_work.specs.Lists.{at_place, listed, with_listed, with_list_of, with_names};
+ghost use Rattle.rst_transform_work.specs.Lists.{at_place, listed_texts, with_listed, with_list_of, with_names};
 
-use rst_tree::{Attrs, Key, Result, Said, Text, Texts, Value};
+use rst_tree::{Attrs, Key, Result, Text, Texts, Value, ValueRef};
 use std::alloc::Global;
 
 /// Takes out an attribute, and gives the texts that it lists; none where it is missing or no list.
 pub fn take_list(alloc: Global, attrs: &mut Attrs, key: Key) -> Texts
-    ensures texts { result ≡ listed key attrs.old }
+    ensures texts { result ≡ listed_texts key attrs.old }
     ensures rest { attrs.new ≡ without_key key attrs.old }
 {
     match attrs.remove(key) {
@@ -46,7 +46,7 @@ fn append_from(alloc: Global, attrs: &mut Attrs, key: Key, from: &Attrs) -> Resu
     ensures { Gives (λ _. attrs.new ≡ with_list_of key from.now attrs.old) result }
 {
     match from.get(key) {
-        Some(Said::List(more)) => append(alloc, attrs, key, more),
+        Some(ValueRef::List(more)) => append(alloc, attrs, key, more),
         _ => Ok(()),
     }
 }

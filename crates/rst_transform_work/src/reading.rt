@@ -1,30 +1,30 @@
 //! The values of an element's attributes.
 ghost use Rattle.std.specs.Prelude.{◌≡◌, [], MatchOption, Some, None, is_some, slice_get, unwrap_or};
-ghost use Rattle.rst_tree.specs.Attributes.{value_of, said_text};
+ghost use Rattle.rst_tree.specs.Attributes.{value_of, as_text};
 ghost use Rattle.rst_tree.specs.Faults.{Gives};
 ghost use Rattle.rst_tree.specs.Paths.{node_value};
-ghost use Rattle.rst_transform_work.specs.Reading.{text_said, number_said, list_said, line_of, may_precede, is_title};
+ghost use Rattle.rst_transform_work.specs.Reading.{text_of_attribute, number_of_attribute, list_of_attribute, line_of, may_precede, is_title};
 
-use rst_tree::{Attrs, Key, Node, Result, Said, Tag, Texts};
+use rst_tree::{Attrs, Key, Node, Result, Tag, Texts, ValueRef};
 use std::alloc::Global;
 
 /// The value of the attribute of a name, where it is a text.
 fn text<'a>(attrs: &'a Attrs, key: Key) -> Option<&'a str>
-    ensures { MatchOption result (said_text (value_of key attrs.now) ≡ None) (λ text. said_text (value_of key attrs.now) ≡ Some text.now) }
+    ensures { MatchOption result (as_text (value_of key attrs.now) ≡ None) (λ text. as_text (value_of key attrs.now) ≡ Some text.now) }
 {
     Some(attrs.text(key)?.as_str())
 }
 
 /// The same; the empty text where there is none.
-pub fn said(attrs: &Attrs, key: Key) -> &str
-    ensures { result.now ≡ unwrap_or (said_text (value_of key attrs.now)) [] }
+pub fn text_or_empty(attrs: &Attrs, key: Key) -> &str
+    ensures { result.now ≡ unwrap_or (as_text (value_of key attrs.now)) [] }
 {
     text(attrs, key).unwrap_or("")
 }
 
 /// The value of an attribute of a node, where it is a text.
-pub fn text_said<'a>(node: &'a Node, key: Key) -> Option<&'a str>
-    ensures { MatchOption result (text_said key node.now ≡ None) (λ text. text_said key node.now ≡ Some text.now) }
+pub fn text_of_attribute<'a>(node: &'a Node, key: Key) -> Option<&'a str>
+    ensures { MatchOption result (text_of_attribute key node.now ≡ None) (λ text. text_of_attribute key node.now ≡ Some text.now) }
 {
     match node {
         Node::Element { attrs, .. } => text(attrs, key),
@@ -33,8 +33,8 @@ pub fn text_said<'a>(node: &'a Node, key: Key) -> Option<&'a str>
 }
 
 /// The value of an attribute of a node, where it is a number.
-pub fn number_said(node: &Node, key: Key) -> Option<u64>
-    ensures { result ≡ number_said key node.now }
+pub fn number_of_attribute(node: &Node, key: Key) -> Option<u64>
+    ensures { result ≡ number_of_attribute key node.now }
 {
     match node {
         Node::Element { attrs, .. } => attrs.number(key),
@@ -43,21 +43,21 @@ pub fn number_said(node: &Node, key: Key) -> Option<u64>
 }
 
 /// The first member of an attribute's value, where it is a list that has one.
-pub fn first_said<'a>(node: &'a Node, key: Key) -> Option<&'a str>
-    ensures { MatchOption result (slice_get (list_said key node.now) 0 ≡ None) (λ text. slice_get (list_said key node.now) 0 ≡ Some text.now) }
+pub fn first_of_attribute<'a>(node: &'a Node, key: Key) -> Option<&'a str>
+    ensures { MatchOption result (slice_get (list_of_attribute key node.now) 0 ≡ None) (λ text. slice_get (list_of_attribute key node.now) 0 ≡ Some text.now) }
 {
     match node.value(key) {
-        Some(Said::List([text, ..])) => Some(text.as_str()),
+        Some(ValueRef::List([text, ..])) => Some(text.as_str()),
         _ => None,
     }
 }
 
 /// A copy of an attribute's value, where it is a list, or else an empty list.
-pub fn list_said(alloc: Global, node: &Node, key: Key) -> Result<Texts>
-    ensures { Gives (λ list. list ≡ list_said key node.now) result }
+pub fn list_of_attribute(alloc: Global, node: &Node, key: Key) -> Result<Texts>
+    ensures { Gives (λ list. list ≡ list_of_attribute key node.now) result }
 {
     match node.value(key) {
-        Some(Said::List(list)) => Texts::copy_of(alloc, list),
+        Some(ValueRef::List(list)) => Texts::copy_of(alloc, list),
         _ => Ok(Texts::new(alloc)),
     }
 }

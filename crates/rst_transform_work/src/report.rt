@@ -2,7 +2,7 @@
 ghost use Rattle.std.specs.Prelude.{◌≡◌, ◌++◌, List, ℕ};
 ghost use Rattle.rst_tree.specs.Faults.{Gives};
 ghost use Rattle.rst_transform_names.specs.Ids.{AreTaken};
-ghost use Rattle.rst_transform_work.specs.Problematics.{own_id, referring, with_own_id};
+ghost use Rattle.rst_transform_work.specs.Problematics.{own_id, referring_report, with_own_id};
 ghost use Rattle.rst_transform_work.specs.Reports.{id_attrs, report_attrs, report_node, report_note, without_ids};
 
 use rst_transform_names::Ids;
@@ -77,7 +77,7 @@ impl Report {
 
     /// Adds a problematic by its id, and gives the message's own, which it gets with the first.
     pub(crate) fn refer_back(&mut self, alloc: Global, ids: &mut Ids, id: Text) -> Result<Text>
-        ensures report { Gives (λ own. self.new ≡ referring own id self.old) result }
+        ensures report { Gives (λ own. self.new ≡ referring_report own id self.old) result }
         ensures ids { (taken : List (List ℕ)) → AreTaken ids.old taken → Gives (λ own. (own ≡ own_id self.old.id taken) × AreTaken ids.new (with_own_id self.old.id taken)) result }
     {
         self.backrefs.push(id)?;

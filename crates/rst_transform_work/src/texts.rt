@@ -2,7 +2,7 @@
 ghost use Rattle.std.specs.Prelude.{◌≡◌, string_bytes};
 ghost use Rattle.rst_tree.specs.declared.node.Node.TheVariants.{Element};
 ghost use Rattle.rst_tree.specs.Faults.{Gives};
-ghost use Rattle.rst_transform_work.specs.Reading.{identifier, name_in, source_said};
+ghost use Rattle.rst_transform_work.specs.Reading.{identifier, name_in, rawsource_of};
 ghost use Rattle.rst_transform_work.specs.Lists.{named};
 
 use crate::lists::append_names;
@@ -63,7 +63,7 @@ pub fn add_names(alloc: Global, node: &mut Node, from: &Attrs) -> Result<()>
 
 /// The source text of a reference, taken out of its attributes; the empty text where they have none.
 pub fn take_source(alloc: Global, attrs: &mut Attrs) -> Result<Text>
-    ensures { Gives (λ source. source ≡ source_said attrs.old) result }
+    ensures { Gives (λ source. source ≡ rawsource_of attrs.old) result }
 {
     match attrs.remove(Key::Rawsource) {
         Some(Value::Text(source)) => Ok(source),

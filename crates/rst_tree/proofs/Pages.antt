@@ -8,30 +8,30 @@ use Rattle.rst_tree.specs.declared.page.Page.{Page}
 use Rattle.rst_tree.specs.declared.fault.PrintFault.{PrintFault}
 use Rattle.rst_tree.specs.declared.fault.PrintFault.TheVariants.{Write}
 use Rattle.rst_tree.specs.Faults.{IsEnd, Prints}
-use Rattle.rst_tree.specs.Sends.{held, Came, IsTaken, Sends, Turns}
+use Rattle.rst_tree.specs.Sends.{page_bytes, Came, IsTaken, Sends, Turns}
 
 module _ {W : Type 0} {N : ℕ} {Takes : W → Option ℕ → List ℕ → W → Type 0} {contents : W → Option (List ℕ)} where
   -- a text that is gathered
-  pub Sends-gathered : (bytes : List ℕ) (a : Counted W) (p p' : Page N) → has_failed a ≡ false → held p' ≡ held p ++ bytes → p'.taken ≡ p.taken → Sends Takes contents bytes a p a p'
+  pub Sends-gathered : (bytes : List ℕ) (a : Counted W) (p p' : Page N) → has_failed a ≡ false → page_bytes p' ≡ page_bytes p ++ bytes → p'.taken ≡ p.taken → Sends Takes contents bytes a p a p'
   Sends-gathered bytes a p p' going same taken = record {
     after = λ start before came. record {
       sent = came.sent;
       calls = came.calls;
       counted = taken ∙ came.counted;
-      gathered = λ e. ap (λ l. came.sent ++ l) same ∙ sym (append_assoc came.sent (held p) bytes) ∙ ap (λ l. l ++ bytes) (came.gathered e);
+      gathered = λ e. ap (λ l. came.sent ++ l) same ∙ sym (append_assoc came.sent (page_bytes p) bytes) ∙ ap (λ l. l ++ bytes) (came.gathered e);
       cut = λ e. absurd (true≢false (sym e ∙ going));
     };
   }
 
   -- what the page contained, and a text after it, are written
-  pub Sends-written : (text bytes : List ℕ) (a b : Counted W) (p p' : Page N) (count : ℕ) → has_failed a ≡ false → held p ++ text ≡ bytes → IsTaken Takes contents a b bytes count
-      → (has_failed b ≡ false → held p' ≡ []) → p'.taken ≡ min (p.taken + count) (2 ^ 64 - 1) → Sends Takes contents text a p b p'
+  pub Sends-written : (text bytes : List ℕ) (a b : Counted W) (p p' : Page N) (count : ℕ) → has_failed a ≡ false → page_bytes p ++ text ≡ bytes → IsTaken Takes contents a b bytes count
+      → (has_failed b ≡ false → page_bytes p' ≡ []) → p'.taken ≡ min (p.taken + count) (2 ^ 64 - 1) → Sends Takes contents text a p b p'
   unfolding sent_then
   Sends-written text bytes a b p p' count going is written empties taken = record {
     after = λ start before came.
         let whole = came.calls.whole going in
         let all : came.sent ++ bytes ≡ before ++ text =
-        ap (λ l. came.sent ++ l) (sym is) ∙ sym (append_assoc came.sent (held p) text) ∙ ap (λ l. l ++ text) (came.gathered going) in
+        ap (λ l. came.sent ++ l) (sym is) ∙ sym (append_assoc came.sent (page_bytes p) text) ∙ ap (λ l. l ++ text) (came.gathered going) in
         record {
           sent = came.sent ++ bytes;
           calls = sent_then came.calls whole written.calls;
@@ -42,7 +42,7 @@ module _ {W : Type 0} {N : ℕ} {Takes : W → Option ℕ → List ℕ → W →
   }
 
 module _ {W : Type 0} {N : ℕ} {Takes : W → Option ℕ → List ℕ → W → Type 0} {contents : W → Option (List ℕ)} (text : List ℕ) (a b c : Counted W) (p q r : Page N)
-    (going : has_failed a ≡ false) (empty : held p ≡ []) (none : p.taken ≡ 0) (sends : Sends Takes contents text a p b q) (turns : Turns Takes contents b q c r) where
+    (going : has_failed a ≡ false) (empty : page_bytes p ≡ []) (none : p.taken ≡ 0) (sends : Sends Takes contents text a p b q) (turns : Turns Takes contents b q c r) where
   -- what came when the page was turned
   turned : Came Takes contents a text c r
   unfolding sent_nothing

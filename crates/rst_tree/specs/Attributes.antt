@@ -11,10 +11,10 @@ abbrev pub attr : Key → Value → Attr
 attr k v = record { key = k; value = v }
 
 -- the names are in order, and no two are the same
-abbrev pub in_order : List Attr → Bool
-in_order [] = true
-in_order (a ∷ []) = true
-in_order (a ∷ b ∷ more) = nat_lt (key_code a.key) (key_code b.key) && in_order (b ∷ more)
+abbrev pub are_keys_in_order : List Attr → Bool
+are_keys_in_order [] = true
+are_keys_in_order (a ∷ []) = true
+are_keys_in_order (a ∷ b ∷ more) = nat_lt (key_code a.key) (key_code b.key) && are_keys_in_order (b ∷ more)
 
 -- the value of the attribute of a name
 abbrev pub value_of : Key → List Attr → Option Value
@@ -22,18 +22,18 @@ value_of k [] = None
 value_of k (a ∷ more) = if is_same a.key k then Some a.value else value_of k more
 
 -- the text that is the value, where it is one
-abbrev pub said_text : Option Value → Option (List ℕ)
-said_text None = None
-said_text (Some (Text text)) = Some text
-said_text (Some (Number number)) = None
-said_text (Some (Listed texts)) = None
+abbrev pub as_text : Option Value → Option (List ℕ)
+as_text None = None
+as_text (Some (Text text)) = Some text
+as_text (Some (Number number)) = None
+as_text (Some (Listed texts)) = None
 
 -- the number that is the value, where it is one
-abbrev pub said_number : Option Value → Option ℕ
-said_number None = None
-said_number (Some (Text text)) = None
-said_number (Some (Number number)) = Some number
-said_number (Some (Listed texts)) = None
+abbrev pub as_number : Option Value → Option ℕ
+as_number None = None
+as_number (Some (Text text)) = None
+as_number (Some (Number number)) = Some number
+as_number (Some (Listed texts)) = None
 
 -- how many attributes come before the first whose name isn't before k
 abbrev pub places_below : Key → List Attr → ℕ
@@ -53,14 +53,14 @@ with_attr k v (a ∷ more) =
     else (if is_same a.key k then attr k v ∷ more else attr k v ∷ a ∷ more)
 
 -- the first attributes, whose names come before k
-abbrev pub before : Key → List Attr → List Attr
-before k [] = []
-before k (a ∷ more) = if nat_lt (key_code a.key) (key_code k) then a ∷ before k more else []
+abbrev pub attrs_before : Key → List Attr → List Attr
+attrs_before k [] = []
+attrs_before k (a ∷ more) = if nat_lt (key_code a.key) (key_code k) then a ∷ attrs_before k more else []
 
 -- the attributes after those, without the first of them if it has the name k
-abbrev pub behind : Key → List Attr → List Attr
-behind k [] = []
-behind k (a ∷ more) = if nat_lt (key_code a.key) (key_code k) then behind k more else (if is_same a.key k then more else a ∷ more)
+abbrev pub following : Key → List Attr → List Attr
+following k [] = []
+following k (a ∷ more) = if nat_lt (key_code a.key) (key_code k) then following k more else (if is_same a.key k then more else a ∷ more)
 
 -- the attributes without the first of a name
 abbrev pub without_key : Key → List Attr → List Attr

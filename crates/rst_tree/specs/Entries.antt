@@ -6,8 +6,8 @@ use Rattle.rst_tree.specs.declared.attrs.Value.{Value}
 use Rattle.rst_tree.specs.declared.attrs.Value.TheVariants.{Text, Number, List as Listed}
 use Rattle.rst_tree.specs.declared.entry.EntryStorage.{EntryStorage}
 use Rattle.rst_tree.specs.declared.entry.EntryStorage.TheVariants.{Text as StoredText, Number as StoredNumber, Lone as StoredLone, List as StoredList}
-use Rattle.rst_tree.specs.declared.entry.Said.{Said}
-use Rattle.rst_tree.specs.declared.entry.Said.TheVariants.{Text as SaidText, Number as SaidNumber, List as SaidList}
+use Rattle.rst_tree.specs.declared.entry.ValueRef.{ValueRef}
+use Rattle.rst_tree.specs.declared.entry.ValueRef.TheVariants.{Text as TextRef, Number as NumberRef, List as ListRef}
 use Rattle.rst_tree.specs.Attributes.{attr}
 
 -- the attribute; a list of one text lies in the value itself
@@ -18,7 +18,7 @@ stored_attr (StoredLone key alloc text) = attr key (Listed (text ∷ []))
 stored_attr (StoredList key list) = attr key (Listed list.items)
 
 -- the value of an attribute, as contracts see it
-abbrev pub said : Said → Value
-said (SaidText text) = Text text.now
-said (SaidNumber number) = Number number
-said (SaidList list) = Listed list.now
+abbrev pub as_value : ValueRef → Value
+as_value (TextRef text) = Text text.now
+as_value (NumberRef number) = Number number
+as_value (ListRef list) = Listed list.now

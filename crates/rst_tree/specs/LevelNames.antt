@@ -18,5 +18,5 @@ level_number Error = 3
 level_number Severe = 4
 
 -- the level that has a number: where none has it, the gravest
-abbrev pub level_of : ℕ → Level
-level_of n = if n == 1 then Info else (if n == 2 then Warning else (if n == 3 then Error else Severe))
+abbrev pub level_by_number : ℕ → Level
+level_by_number n = if n == 1 then Info else (if n == 2 then Warning else (if n == 3 then Error else Severe))

@@ -25,15 +25,15 @@ literal_of text line = holding LiteralBlock (attr XmlSpace (Text (codes "preserv
 -- the text of a message, and the source text that it quotes
 abbrev pub note_nodes : List ℕ → Option (List ℕ) → ℕ → List Node
 note_nodes text None line = holding Paragraph [] text line ∷ []
-note_nodes text (Some shown) line = holding Paragraph [] text line ∷ literal_of shown line ∷ []
+note_nodes text (Some lines) line = holding Paragraph [] text line ∷ literal_of lines line ∷ []
 
 -- the level: the line, the source and the type are added when the message is printed
 abbrev pub note_attrs : Level → List Attr
 note_attrs level = attr LevelKey (Number (level_number level)) ∷ []
 
 -- the same with the number of the message, at its place among their names
-abbrev pub numbered_attrs : ℕ → Level → List Attr
-numbered_attrs number level = with_attr Message (Number number) (note_attrs level)
+abbrev pub numbered_message_attrs : ℕ → Level → List Attr
+numbered_message_attrs number level = with_attr Message (Number number) (note_attrs level)
 
 -- a message's element that holds some attributes
 abbrev pub message_with : List Attr → Note → Node
@@ -44,5 +44,5 @@ abbrev pub note_node : Note → Node
 note_node note = message_with (note_attrs note.level) note
 
 -- the message's element with its number
-abbrev pub numbered_node : ℕ → Note → Node
-numbered_node number note = message_with (numbered_attrs number note.level) note
+abbrev pub numbered_message_node : ℕ → Note → Node
+numbered_message_node number note = message_with (numbered_message_attrs number note.level) note

@@ -16,8 +16,8 @@ use Rattle.rst_tree.specs.TagNames.{tag_name}
 use Rattle.rst_tree.specs.Forest.{Forest, bare, element, words}
 
 -- a backslash or a space
-abbrev pub is_escaped : ℕ → Bool
-is_escaped b = b == 92 || b == 32
+abbrev pub needs_backslash : ℕ → Bool
+needs_backslash b = b == 92 || b == 32
 
 -- a byte of a list's member: a backslash comes before a space and before a backslash
 abbrev pub escaped_byte : ℕ → List ℕ
@@ -61,12 +61,12 @@ abbrev pub attribute_opening : Key → List ℕ
 attribute_opening k = codes " " ++ key_name k ++ codes "=\""
 
 -- ` name="value"`, or nothing
-abbrev pub shown_attr : Attr → List ℕ
-shown_attr a = if is_left_out a then [] else attribute_opening a.key ++ value_text a.value ++ codes "\""
+abbrev pub attribute_text : Attr → List ℕ
+attribute_text a = if is_left_out a then [] else attribute_opening a.key ++ value_text a.value ++ codes "\""
 
 -- `<tag attributes>`
 abbrev pub start_tag : Tag → List Attr → List ℕ
-start_tag t attrs = codes "<" ++ tag_name t ++ flat_map shown_attr attrs ++ codes ">"
+start_tag t attrs = codes "<" ++ tag_name t ++ flat_map attribute_text attrs ++ codes ">"
 
 -- the lines of a text: each LF ends one, and what follows the last LF is one if it isn't empty
 abbrev pub text_lines : List ℕ → List (List ℕ)
@@ -79,30 +79,30 @@ line_len [] = 0
 line_len (b ∷ bs) = if b == 10 then 0 else line_len bs + 1
 
 -- a line: its level and its text
-abbrev pub Line : Type 0
-Line = ℕ × List ℕ
+abbrev pub PrintedLine : Type 0
+PrintedLine = ℕ × List ℕ
 
 -- One level deeper. Levels are counted up to the largest number of 64 bits, which no tree reaches.
-abbrev pub deeper : ℕ → ℕ
-deeper n = min (n + 1) (2 ^ 64 - 1)
+abbrev pub deeper_level : ℕ → ℕ
+deeper_level n = min (n + 1) (2 ^ 64 - 1)
 
 -- the lines of the nodes at a level, in preorder
-abbrev pub lines_at : ℕ → Forest → List Line
+abbrev pub lines_at : ℕ → Forest → List PrintedLine
 lines_at n bare = []
-lines_at n (element t a c l r) = (n, start_tag t a) ∷ (lines_at (deeper n) c ++ lines_at n r)
+lines_at n (element t a c l r) = (n, start_tag t a) ∷ (lines_at (deeper_level n) c ++ lines_at n r)
 lines_at n (words t r) = map (λ l. (n, l)) (text_lines t) ++ lines_at n r
 
 -- four spaces for each level, the text, and the line's end
-abbrev pub printed_line : Line → List ℕ
+abbrev pub printed_line : PrintedLine → List ℕ
 printed_line l = replicate (4 * l.0) 32 ++ l.1 ++ 10 ∷ []
 
 -- what is printed of lines, one after another
-abbrev pub printed : List Line → List ℕ
+abbrev pub printed : List PrintedLine → List ℕ
 printed = flat_map printed_line
 
 -- the lines of a node at a level
-abbrev pub node_lines : ℕ → Node → List Line
-node_lines n (Element t a c l) = (n, start_tag t a) ∷ lines_at (deeper n) c
+abbrev pub node_lines : ℕ → Node → List PrintedLine
+node_lines n (Element t a c l) = (n, start_tag t a) ∷ lines_at (deeper_level n) c
 node_lines n (Words t) = map (λ l. (n, l)) (text_lines t)
 
 -- what is printed of a node at a level

@@ -22,8 +22,8 @@ Turned (Keep t a l) (Text x) new stays = ⊥
 -- What is made of an element and of the nodes after it, and the state then. Another node takes its place; or it stays, what
 -- is in it is gone through, and then comes what is after it.
 abbrev pub go_on : {S : Type 0} → Rewrite → S → (S → Forest × S) → (S → Forest × S) → Forest × S
-go_on (Replace n) s inside behind = (join_node n (behind s).0, (behind s).1)
-go_on (Keep t a l) s inside behind = (element t a (inside s).0 l (behind (inside s).1).0, (behind (inside s).1).1)
+go_on (Replace n) s inside following = (join_node n (following s).0, (following s).1)
+go_on (Keep t a l) s inside following = (element t a (inside s).0 l (following (inside s).1).0, (following (inside s).1).1)
 
 module _ {S : Type 0} (entered : S → Node → S) (becomes : S → Node → Rewrite) where
   -- the nodes rewritten, and the state then

@@ -9,8 +9,8 @@ abbrev pub counted_on : ℕ → ℕ → ℕ
 counted_on done n = min (done + n) (2 ^ 64 - 1)
 
 -- what a page holds: the first of its bytes
-abbrev pub held : {N : ℕ} → Page N → List ℕ
-held page = take page.len page.bytes
+abbrev pub page_bytes : {N : ℕ} → Page N → List ℕ
+page_bytes page = take page.len page.bytes
 
 -- From a start on, a text came to a writer with a page before it. If no write failed, a part was written, and the page holds the rest. Else
 -- nothing was written after the failure. The page counts the bytes that the writer took.
@@ -18,7 +18,7 @@ pub record Came {W : Type 0} {N : ℕ} (Takes : W → Option ℕ → List ℕ �
   pub sent : List ℕ
   pub calls : IsSent Takes contents start writer sent
   pub counted : page.taken ≡ counted_on 0 calls.taken
-  pub gathered : has_failed writer ≡ false → sent ++ held page ≡ text
+  pub gathered : has_failed writer ≡ false → sent ++ page_bytes page ≡ text
   pub cut : has_failed writer ≡ true → (sent ≡ text) × (calls.taken < length text)
 
 -- whatever came before, the text came after it
@@ -27,7 +27,7 @@ pub record Sends {W : Type 0} {N : ℕ} (Takes : W → Option ℕ → List ℕ �
 
 -- nothing came: what the page contained was written, up to a write that failed
 abbrev pub Turns : {W : Type 0} {N : ℕ} → (W → Option ℕ → List ℕ → W → Type 0) → (W → Option (List ℕ)) → Counted W → Page N → Counted W → Page N → Type 0
-Turns Takes contents old page new page' = Sends Takes contents [] old page new page' × (has_failed new ≡ false → held page' ≡ [])
+Turns Takes contents old page new page' = Sends Takes contents [] old page new page' × (has_failed new ≡ false → page_bytes page' ≡ [])
 
 -- some bytes were written: this many were taken, and all of them unless a write failed
 pub record IsTaken {W : Type 0} (Takes : W → Option ℕ → List ℕ → W → Type 0) (contents : W → Option (List ℕ)) (old new : Counted W) (bytes : List ℕ) (count : ℕ) : Type 0 where

@@ -6,7 +6,7 @@ use Rattle.rst_text.specs.Lines.{is_line_end}
 use Rattle.rst_tree.specs.declared.node.Node.{Node}
 use Rattle.rst_tree.specs.declared.node.Node.TheVariants.{Element, Text}
 use Rattle.rst_tree.specs.Forest.{Forest, bare, element, words}
-use Rattle.rst_tree.specs.Attributes.{in_order}
+use Rattle.rst_tree.specs.Attributes.{are_keys_in_order}
 use Rattle.rst_tree.specs.Nodes.{node_height}
 use Rattle.rst_tree.specs.Paths.{node_at, changed_at, with_child}
 
@@ -21,12 +21,12 @@ is_plain_byte b = (b == 10) || (nat_lt 31 b && nat_lt b 128)
 -- each list of attributes is in order, and each text has no line end but LF
 abbrev pub is_sound : Forest → Bool
 is_sound bare = true
-is_sound (element t a c l r) = (in_order a && is_sound c) && is_sound r
+is_sound (element t a c l r) = (are_keys_in_order a && is_sound c) && is_sound r
 is_sound (words t r) = is_lines t && is_sound r
 
 -- the same of one node
 abbrev pub is_sound_node : Node → Bool
-is_sound_node (Element t a c l) = in_order a && is_sound c
+is_sound_node (Element t a c l) = are_keys_in_order a && is_sound c
 is_sound_node (Text t) = is_lines t
 
 -- the most that nodes nest
@@ -73,5 +73,5 @@ option_or_nothing None = []
 option_or_nothing (Some n) = text_in n
 
 -- the text of the node at a path
-abbrev pub text_at : List ℕ → Node → List ℕ
-text_at at root = option_or_nothing (node_at at root)
+abbrev pub node_text_at : List ℕ → Node → List ℕ
+node_text_at at root = option_or_nothing (node_at at root)

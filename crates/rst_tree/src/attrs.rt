@@ -1,10 +1,10 @@
 //! The attributes of elements.
 ghost use Rattle.std.specs.Prelude.{◌≡◌, ◌≤◌, ◌∷◌, drop, length, vec_len, [], true, MatchOption, None, Some, is_some};
 ghost use Rattle.rst_tree.specs.Faults.{Gives, Becomes};
-ghost use Rattle.rst_tree.specs.Attributes.{attr, value_of, said_text, said_number, with_attr, without_key, place_named, places_below, is_at, in_order};
-ghost use Rattle.rst_tree.specs.Entries.{said};
+ghost use Rattle.rst_tree.specs.Attributes.{attr, value_of, as_text, as_number, with_attr, without_key, place_named, places_below, is_at, are_keys_in_order};
+ghost use Rattle.rst_tree.specs.Entries.{as_value};
 
-use crate::entry::{Entry, Said};
+use crate::entry::{Entry, ValueRef};
 use crate::fault::Result;
 use crate::key::Key;
 use crate::text::{Text, Texts};
@@ -34,14 +34,14 @@ pub struct Attrs {
 
 impl Model for Attrs {
     ghost use Rattle.std.specs.Prelude.{◌≡◌, List, true};
-    ghost use Rattle.rst_tree.specs.Attributes.{in_order};
+    ghost use Rattle.rst_tree.specs.Attributes.{are_keys_in_order};
     ghost use Rattle.rst_tree.specs.declared.attrs.Attr.{Attr};
 
     ghost Value = { List Attr };
 
     ghost view = { λ a. a.list.items };
 
-    ghost invariant = { λ a. in_order a.list.items ≡ true };
+    ghost invariant = { λ a. are_keys_in_order a.list.items ≡ true };
 }
 
 impl Attrs {
@@ -65,7 +65,7 @@ impl Attrs {
 
     /// The attributes of a `Vec`, in which their names rise.
     pub fn of(list: Vec<Entry>) -> Attrs
-        requires { in_order list.items ≡ true }
+        requires { are_keys_in_order list.items ≡ true }
         ensures { result ≡ list.items }
     {
         Attrs { list }
@@ -88,18 +88,18 @@ impl Attrs {
 
     /// The names rise. Nothing is done: callers learn it.
     pub fn are_in_order(&self)
-        ensures { in_order self.now ≡ true }
+        ensures { are_keys_in_order self.now ≡ true }
     {
         let _ = &self.list;
     }
 
     /// The value of the attribute of a name, if there is one.
-    pub fn get(&self, key: Key) -> Option<Said<'_>>
-        ensures { MatchOption result (value_of key self.now ≡ None) (λ v. value_of key self.now ≡ Some (said v)) }
+    pub fn get(&self, key: Key) -> Option<ValueRef<'_>>
+        ensures { MatchOption result (value_of key self.now ≡ None) (λ v. value_of key self.now ≡ Some (as_value v)) }
     {
         for attr in &self.list {
             if attr.key().code() == key.code() {
-                return Some(attr.said());
+                return Some(attr.as_value());
             }
         }
         None
@@ -107,20 +107,20 @@ impl Attrs {
 
     /// The value of the attribute of a name, if it is a text.
     pub fn text(&self, key: Key) -> Option<&Text>
-        ensures { MatchOption result (said_text (value_of key self.now) ≡ None) (λ t. said_text (value_of key self.now) ≡ Some t.now) }
+        ensures { MatchOption result (as_text (value_of key self.now) ≡ None) (λ t. as_text (value_of key self.now) ≡ Some t.now) }
     {
         match self.get(key) {
-            Some(Said::Text(text)) => Some(text),
+            Some(ValueRef::Text(text)) => Some(text),
             _ => None,
         }
     }
 
     /// The value of the attribute of a name, if it is a number.
     pub fn number(&self, key: Key) -> Option<u64>
-        ensures { result ≡ said_number (value_of key self.now) }
+        ensures { result ≡ as_number (value_of key self.now) }
     {
         match self.get(key) {
-            Some(Said::Number(number)) => Some(number),
+            Some(ValueRef::Number(number)) => Some(number),
             _ => None,
         }
     }

@@ -1,7 +1,7 @@
 //! Attributes as the lists of them hold them.
 ghost use Rattle.std.specs.Prelude.{◌≡◌};
 ghost use Rattle.rst_tree.specs.Attributes.{attr};
-ghost use Rattle.rst_tree.specs.Entries.{said};
+ghost use Rattle.rst_tree.specs.Entries.{as_value};
 ghost use Rattle.rst_tree.specs.Faults.{Gives};
 
 use crate::attrs::Value;
@@ -31,7 +31,7 @@ enum EntryStorage {
 
 /// The value of an attribute, borrowed from where it is stored.
 #[derive(Clone, Copy, Debug)]
-pub enum Said<'a> {
+pub enum ValueRef<'a> {
     Text(&'a Text),
     Number(u64),
     List(&'a [Text]),
@@ -78,14 +78,14 @@ impl Entry {
     }
 
     /// Its value.
-    pub fn said(&self) -> Said<'_>
-        ensures { said result ≡ self.now.value }
+    pub fn as_value(&self) -> ValueRef<'_>
+        ensures { as_value result ≡ self.now.value }
     {
         match &self.storage {
-            EntryStorage::Text(_, text) => Said::Text(text),
-            EntryStorage::Number(_, number) => Said::Number(*number),
-            EntryStorage::Lone(_, _, text) => Said::List(slice::from_ref(text)),
-            EntryStorage::List(_, list) => Said::List(list.as_slice()),
+            EntryStorage::Text(_, text) => ValueRef::Text(text),
+            EntryStorage::Number(_, number) => ValueRef::Number(*number),
+            EntryStorage::Lone(_, _, text) => ValueRef::List(slice::from_ref(text)),
+            EntryStorage::List(_, list) => ValueRef::List(list.as_slice()),
         }
     }
 

@@ -22,7 +22,7 @@ mod tree;
 mod walking;
 
 pub use attrs::{Attr, Attrs, Value};
-pub use entry::{Entry, Said};
+pub use entry::{Entry, ValueRef};
 pub use fault::{PrintFault, Result, TreeFault};
 pub use key::Key;
 pub use node::{Children, Node};

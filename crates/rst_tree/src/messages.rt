@@ -1,7 +1,7 @@
 //! Messages as elements.
 ghost use Rattle.std.specs.Prelude.{◌≡◌};
 ghost use Rattle.rst_tree.specs.Faults.{Gives};
-ghost use Rattle.rst_tree.specs.Messages.{holding, note_node, message_with, numbered_node};
+ghost use Rattle.rst_tree.specs.Messages.{holding, note_node, message_with, numbered_message_node};
 
 use crate::attrs::{Attrs, Value};
 use crate::entry::Entry;
@@ -28,7 +28,7 @@ impl Note {
 
     /// The same with the number of the message (`Key::Message`).
     pub fn into_numbered(self, alloc: Global, number: u64) -> Result<Node>
-        ensures { Gives (λ node. node ≡ numbered_node number self) result }
+        ensures { Gives (λ node. node ≡ numbered_message_node number self) result }
     {
         let mut attrs = Vec::with_capacity(alloc, 4)?;
         let grade = Value::Number(u64::from(self.level.number()));
@@ -50,12 +50,12 @@ impl Note {
         let paragraph = holding(alloc, Tag::Paragraph, Attrs::new(alloc), text, line)?;
         let children = match block {
             None => Children::lone(alloc, paragraph)?,
-            Some(shown) => {
+            Some(lines) => {
                 let mut nodes = Vec::with_capacity(alloc, 2)?;
                 nodes.push(paragraph)?;
                 let preserve = Text::from_str(alloc, "preserve")?;
                 let preserved = Attrs::lone(alloc, Key::XmlSpace, Value::Text(preserve))?;
-                nodes.push(holding(alloc, Tag::LiteralBlock, preserved, shown, line)?)?;
+                nodes.push(holding(alloc, Tag::LiteralBlock, preserved, lines, line)?)?;
                 Children::of(nodes)
             }
         };

@@ -1,12 +1,12 @@
 //! Nodes and lists of them.
 ghost use Rattle.std.specs.Prelude.{◌≡◌, ◌∷◌, ◌++◌, [], ◌<◌, length, slice_get, slice_index_or, MatchOption, None, Some, IsSomeAnd, string_bytes};
 ghost use Rattle.std.specs.Borrow.{sem};
-ghost use Rattle.rst_tree.specs.Entries.{said};
+ghost use Rattle.rst_tree.specs.Entries.{as_value};
 ghost use Rattle.rst_tree.specs.Faults.{Gives, Becomes, GivesBack};
 ghost use Rattle.rst_tree.specs.Tree.{text_in};
 
 use crate::attrs::{Attrs, Value};
-use crate::entry::Said;
+use crate::entry::ValueRef;
 use crate::fault::{Result, TreeFault};
 use crate::key::Key;
 use crate::tag::Tag;
@@ -211,8 +211,8 @@ impl Node {
     }
 
     /// The value of the attribute of a name, if there is one; a text has none.
-    pub fn value(&self, key: Key) -> Option<Said<'_>>
-        ensures { MatchOption result (node_value key self.now ≡ None) (λ v. node_value key self.now ≡ Some (said v)) }
+    pub fn value(&self, key: Key) -> Option<ValueRef<'_>>
+        ensures { MatchOption result (node_value key self.now ≡ None) (λ v. node_value key self.now ≡ Some (as_value v)) }
     {
         match self {
             Node::Element { attrs, .. } => attrs.get(key),

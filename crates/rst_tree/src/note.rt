@@ -1,6 +1,6 @@
 //! Messages.
 ghost use Rattle.std.specs.Prelude.{◌≡◌};
-ghost use Rattle.rst_tree.specs.LevelNames.{level_name, level_number, level_of};
+ghost use Rattle.rst_tree.specs.LevelNames.{level_name, level_number, level_by_number};
 
 use crate::text::Text;
 
@@ -41,7 +41,7 @@ impl Level {
 
     /// The level that has a number: where none has it, the gravest.
     pub fn of_number(number: u64) -> Level
-        ensures { result ≡ level_of number }
+        ensures { result ≡ level_by_number number }
     {
         match number {
             1 => Level::Info,

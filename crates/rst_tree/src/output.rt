@@ -1,11 +1,11 @@
 //! The texts of nodes and messages, piece by piece.
 ghost use Rattle.std.specs.Prelude.{◌≡◌, ◌+◌, ◌*◌, ◌-◌, ◌<◌, false, replicate};
 ghost use Rattle.rst_tree.specs.Sends.{Sends};
-ghost use Rattle.rst_tree.specs.Print.{is_escaped, escaped, spaced, value_text, shown_attr, printed_line, text_lines, printed_node};
-ghost use Rattle.rst_tree.specs.Attributes.{attr, before, behind};
-ghost use Rattle.rst_tree.specs.Entries.{said};
+ghost use Rattle.rst_tree.specs.Print.{needs_backslash, escaped, spaced, value_text, attribute_text, printed_line, text_lines, printed_node};
+ghost use Rattle.rst_tree.specs.Attributes.{attr, attrs_before, following};
+ghost use Rattle.rst_tree.specs.Entries.{as_value};
 ghost use Rattle.rst_tree.specs.KeyNames.{is_hidden};
-ghost use Rattle.rst_tree.specs.PrintedAttributes.{given, printed_attrs, with_source, with_printed_attrs, with_type};
+ghost use Rattle.rst_tree.specs.PrintedAttributes.{given_source, printed_attrs, with_source, with_printed_attrs, with_type};
 ghost use Rattle.rst_tree.specs.declared.attrs.Value.TheVariants.{Text as Words, Number};
 ghost use Rattle.rst_tree.specs.declared.tag.Tag.TheVariants.{SystemMessage};
 ghost use Rattle.rst_tree.specs.Message.{block_text, message_of};
@@ -13,7 +13,7 @@ ghost use Rattle.std.specs.List.{flat_map, list_any};
 ghost use Rattle.std.specs.Fmt.{decimal};
 
 use crate::attrs::{Attrs, is_at, place_of};
-use crate::entry::{Entry, Said};
+use crate::entry::{Entry, ValueRef};
 use crate::key::Key;
 use crate::node::Node;
 use crate::note::{Level, Note};
@@ -37,7 +37,7 @@ fn put_number<W: WriteCall, const N: usize>(out: &mut Counted<W>, page: &mut Pag
 /// sees where the loop is a function of its own.
 #[inline(never)]
 fn has_escaped(text: &[u8]) -> bool
-    ensures { result ≡ list_any is_escaped text.now }
+    ensures { result ≡ list_any needs_backslash text.now }
 {
     let mut found = false;
     for byte in text {
@@ -81,14 +81,14 @@ fn put_texts<W: WriteCall, const N: usize>(out: &mut Counted<W>, page: &mut Page
 fn put_value<W: WriteCall, const N: usize>(
     out: &mut Counted<W>,
     page: &mut Page<N>,
-    value: Said<'_>,
+    value: ValueRef<'_>,
 )
-    ensures { Sends W.call_takes W.contents (value_text (said value.entry)) out.old page.old out.new page.new }
+    ensures { Sends W.call_takes W.contents (value_text (as_value value.entry)) out.old page.old out.new page.new }
 {
     match value {
-        Said::Text(text) => page.put(out, text.as_bytes()),
-        Said::Number(number) => put_number(out, page, number),
-        Said::List(texts) => put_texts(out, page, texts),
+        ValueRef::Text(text) => page.put(out, text.as_bytes()),
+        ValueRef::Number(number) => put_number(out, page, number),
+        ValueRef::List(texts) => put_texts(out, page, texts),
     }
 }
 
@@ -102,7 +102,7 @@ fn put_printed_attrs<W: WriteCall, const N: usize>(
     line: usize,
     source: Option<&str>,
 )
-    ensures { Sends W.call_takes W.contents (flat_map shown_attr (printed_attrs (given source.entry) tag attrs.now line)) out.old page.old out.new page.new }
+    ensures { Sends W.call_takes W.contents (flat_map attribute_text (printed_attrs (given_source source.entry) tag attrs.now line)) out.old page.old out.new page.new }
 {
     match tag {
         Tag::Document => put_source_and_type(out, page, attrs.as_slice(), source, None),
@@ -126,7 +126,7 @@ fn put_source_and_type<W: WriteCall, const N: usize>(
     source: Option<&str>,
     level: Option<u64>,
 )
-    ensures { Sends W.call_takes W.contents (flat_map shown_attr (with_type level (with_source (given source.entry) attrs.now))) out.old page.old out.new page.new }
+    ensures { Sends W.call_takes W.contents (flat_map attribute_text (with_type level (with_source (given_source source.entry) attrs.now))) out.old page.old out.new page.new }
 {
     match source {
         None => put_with_type(out, page, attrs, level),
@@ -145,7 +145,7 @@ fn put_with_type<W: WriteCall, const N: usize>(
     attrs: &[Entry],
     level: Option<u64>,
 )
-    ensures { Sends W.call_takes W.contents (flat_map shown_attr (with_type level attrs.now)) out.old page.old out.new page.new }
+    ensures { Sends W.call_takes W.contents (flat_map attribute_text (with_type level attrs.now)) out.old page.old out.new page.new }
 {
     match level {
         None => put_attrs(out, page, attrs),
@@ -165,8 +165,8 @@ fn put_before<'a, W: WriteCall, const N: usize>(
     attrs: &'a [Entry],
     key: Key,
 ) -> &'a [Entry]
-    ensures sent { Sends W.call_takes W.contents (flat_map shown_attr (before key attrs.now)) out.old page.old out.new page.new }
-    ensures rest { result.now ≡ behind key attrs.now }
+    ensures sent { Sends W.call_takes W.contents (flat_map attribute_text (attrs_before key attrs.now)) out.old page.old out.new page.new }
+    ensures rest { result.now ≡ following key attrs.now }
 {
     let place = place_of(attrs, key);
     put_attrs(out, page, &attrs[..place]);
@@ -184,7 +184,7 @@ fn put_text_attr<W: WriteCall, const N: usize>(
     text: &str,
 )
     requires { is_hidden key ≡ false }
-    ensures { Sends W.call_takes W.contents (shown_attr (attr key (Words text.now))) out.old page.old out.new page.new }
+    ensures { Sends W.call_takes W.contents (attribute_text (attr key (Words text.now))) out.old page.old out.new page.new }
 {
     page.put(out, key.opening().as_bytes());
     page.put(out, text.as_bytes());
@@ -197,14 +197,14 @@ fn put_attrs<W: WriteCall, const N: usize>(
     page: &mut Page<N>,
     attrs: &[Entry],
 )
-    ensures { Sends W.call_takes W.contents (flat_map shown_attr attrs.now) out.old page.old out.new page.new }
+    ensures { Sends W.call_takes W.contents (flat_map attribute_text attrs.now) out.old page.old out.new page.new }
 {
     for attr in attrs {
         if attr.is_left_out() {
             continue;
         }
         page.put(out, attr.key().opening().as_bytes());
-        put_value(out, page, attr.said());
+        put_value(out, page, attr.as_value());
         page.put(out, b"\"");
     }
 }
@@ -242,8 +242,8 @@ fn put_text<W: WriteCall, const N: usize>(
         put_indent(out, page, level);
         page.put(out, &rest[..end]);
         page.put(out, b"\n");
-        let behind = &rest[end..];
-        rest = &behind[behind.len().min(1)..];
+        let following = &rest[end..];
+        rest = &following[following.len().min(1)..];
     }
 }
 
@@ -255,7 +255,7 @@ pub fn put_node<W: WriteCall, const N: usize>(
     node: &Node,
     source: Option<&str>,
 )
-    ensures { Sends W.call_takes W.contents (printed_node level (with_printed_attrs (given source.entry) node.now)) out.old page.old out.new page.new }
+    ensures { Sends W.call_takes W.contents (printed_node level (with_printed_attrs (given_source source.entry) node.now)) out.old page.old out.new page.new }
 {
     match node {
         Node::Element {

@@ -17,12 +17,12 @@ pub struct Page<const N: usize> {
 }
 
 impl<const N: usize> Page<N> {
-    ghost use Rattle.rst_tree.specs.Sends.{held, IsTaken, Sends, Turns};
+    ghost use Rattle.rst_tree.specs.Sends.{page_bytes, IsTaken, Sends, Turns};
     ghost use Rattle.rst_tree.specs.Faults.{IsEnd};
 
     /// An empty page of a text of which nothing was written.
     pub fn new() -> Page<N>
-        ensures held { held result ≡ [] }
+        ensures page_bytes { page_bytes result ≡ [] }
         ensures taken { result.taken ≡ 0 }
     {
         Page {
@@ -51,7 +51,7 @@ impl<const N: usize> Page<N> {
     #[inline(always)]
     fn gather(&mut self, bytes: &[u8])
         requires { self.old.len + length bytes.now ≤ N }
-        ensures held { held self.new ≡ held self.old ++ bytes.now }
+        ensures page_bytes { page_bytes self.new ≡ page_bytes self.old ++ bytes.now }
         ensures taken { self.new.taken ≡ self.old.taken }
     {
         let end = self.len + bytes.len();

@@ -3,7 +3,7 @@ ghost use Rattle.std.specs.Prelude.{◌≡◌, false, None, Some};
 ghost use Rattle.rst_text.specs.Counted.{between, has_failed, IsSent};
 ghost use Rattle.rst_tree.specs.Print.{print_of};
 ghost use Rattle.rst_tree.specs.Message.{message_of};
-ghost use Rattle.rst_tree.specs.PrintedAttributes.{given, with_printed_attrs};
+ghost use Rattle.rst_tree.specs.PrintedAttributes.{given_source, with_printed_attrs};
 ghost use Rattle.rst_tree.specs.Faults.{Prints};
 
 use crate::fault::PrintFault;
@@ -55,8 +55,8 @@ fn print_given<W: WriteCall>(
     out: &mut Counted<W>,
 ) -> Result<(), PrintFault>
     requires { has_failed out.old ≡ false }
-    ensures prints { Prints (between W.contents out.old out.new) (print_of (with_printed_attrs (given source.entry) node.now)) result }
-    ensures calls { IsSent W.call_takes W.contents out.old out.new (print_of (with_printed_attrs (given source.entry) node.now)) }
+    ensures prints { Prints (between W.contents out.old out.new) (print_of (with_printed_attrs (given_source source.entry) node.now)) result }
+    ensures calls { IsSent W.call_takes W.contents out.old out.new (print_of (with_printed_attrs (given_source source.entry) node.now)) }
 {
     let mut page: Page<TREE_PAGE> = Page::new();
     put_node(out, &mut page, 0, node, source);

@@ -44,7 +44,7 @@ pub fn read_elements<'a, R: Reader<'a>>(
     let mut rest = nodes.as_slice();
     let mut at = level;
     'rest: loop {
-        let Some((node, behind)) = rest.split_first() else {
+        let Some((node, following)) = rest.split_first() else {
             let Some(outer) = left.pop() else {
                 return Ok(());
             };
@@ -52,7 +52,7 @@ pub fn read_elements<'a, R: Reader<'a>>(
             at = outer.level;
             continue;
         };
-        rest = behind;
+        rest = following;
         match node {
             Node::Text(_) => continue,
             Node::Element { children, .. } => {

@@ -12,7 +12,7 @@ ghost use Rattle.rst_tree.specs.LevelNames.{level_name};
 ghost use Rattle.rst_tree.specs.Message.{message_of};
 ghost use Rattle.rst_tree.specs.Messages.{note_node};
 ghost use Rattle.rst_tree.specs.Phrases.{phrase_text};
-ghost use Rattle.rst_tree.specs.Print.{print_of, shown_attr};
+ghost use Rattle.rst_tree.specs.Print.{print_of, attribute_text};
 ghost use Rattle.rst_tree.specs.PrintedAttributes.{with_printed_attrs};
 ghost use Rattle.rst_tree.specs.TagNames.{tag_name};
 ghost use Rattle.rst_tree.specs.declared.attrs.Value.TheVariants.{Text, Number, List as Listed};
@@ -35,13 +35,13 @@ pub fn trees()
 
 /// Attributes (Document Tree, 'Attribute Reference').
 pub fn attributes()
-    ensures text { shown_attr (attr key.Name (Text (codes "a\"<&>\\ b"))) ≡ codes " name=\"a\"<&>\\ b\"" }
-    ensures empty_text { shown_attr (attr key.Alt (Text [])) ≡ codes " alt=\"\"" }
-    ensures number { shown_attr (attr key.Cols (Number 12)) ≡ codes " cols=\"12\"" }
-    ensures list { shown_attr (attr key.Names (Listed (codes "a b" ∷ codes "c\\d" ∷ []))) ≡ codes " names=\"a\\ b c\\\\d\"" }
-    ensures empty_lists { flat_map (λ k. shown_attr (attr k (Listed []))) (key.Backrefs ∷ key.Classes ∷ key.Dupnames ∷ key.Ids ∷ key.Names ∷ [])
+    ensures text { attribute_text (attr key.Name (Text (codes "a\"<&>\\ b"))) ≡ codes " name=\"a\"<&>\\ b\"" }
+    ensures empty_text { attribute_text (attr key.Alt (Text [])) ≡ codes " alt=\"\"" }
+    ensures number { attribute_text (attr key.Cols (Number 12)) ≡ codes " cols=\"12\"" }
+    ensures list { attribute_text (attr key.Names (Listed (codes "a b" ∷ codes "c\\d" ∷ []))) ≡ codes " names=\"a\\ b c\\\\d\"" }
+    ensures empty_lists { flat_map (λ k. attribute_text (attr k (Listed []))) (key.Backrefs ∷ key.Classes ∷ key.Dupnames ∷ key.Ids ∷ key.Names ∷ [])
         ≡ [] }
-    ensures hidden { flat_map (λ k. shown_attr (attr k (Number 1))) (key.Inline ∷ key.Message ∷ key.OwnName ∷ key.Rawsource ∷ key.Refname ∷ []) ≡ [] }
+    ensures hidden { flat_map (λ k. attribute_text (attr k (Number 1))) (key.Inline ∷ key.Message ∷ key.OwnName ∷ key.Rawsource ∷ key.Refname ∷ []) ≡ [] }
 {}
 
 /// Names of elements and attributes (Document Tree, 'Element Reference').

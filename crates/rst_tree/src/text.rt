@@ -73,12 +73,12 @@ impl Text {
     }
 
     /// Three texts, one after the other, as one.
-    pub fn of_three(alloc: Global, front: &str, middle: &str, back: &str) -> Result<Text>
-        ensures { Gives (λ t. t ≡ front.now ++ (middle.now ++ back.now)) result }
+    pub fn of_three(alloc: Global, beginning: &str, middle: &str, back: &str) -> Result<Text>
+        ensures { Gives (λ t. t ≡ beginning.now ++ (middle.now ++ back.now)) result }
     {
-        let storage = match short_joined(front, middle, back) {
+        let storage = match short_joined(beginning, middle, back) {
             Ok(short) => TextStorage::Short(alloc, short),
-            Err(_) => TextStorage::Long(joined(alloc, front, middle, back)?),
+            Err(_) => TextStorage::Long(concatenated(alloc, beginning, middle, back)?),
         };
         Ok(Text { storage })
     }
@@ -131,14 +131,19 @@ impl Text {
         ensures { Becomes self.old self.new (self.old ++ text.now) result }
     {
         match &mut self.storage {
-            TextStorage::Short(alloc, front) => {
+            TextStorage::Short(alloc, beginning) => {
                 let alloc = *alloc;
-                if front.try_push_str(text).is_err() {
-                    self.storage = TextStorage::Long(joined(alloc, front.as_str(), text, "")?);
+                if beginning.try_push_str(text).is_err() {
+                    self.storage = TextStorage::Long(concatenated(
+                        alloc,
+                        beginning.as_str(),
+                        text,
+                        "",
+                    )?);
                 }
             }
             TextStorage::Phrase(alloc, phrase) => {
-                self.storage = TextStorage::Long(joined(*alloc, phrase.text(), text, "")?);
+                self.storage = TextStorage::Long(concatenated(*alloc, phrase.text(), text, "")?);
             }
             TextStorage::Long(string) => string.push_str(text)?,
         }
@@ -148,28 +153,28 @@ impl Text {
 
 /// Three texts, one after the other, in the value itself, unless they are too long.
 fn short_joined<'a>(
-    front: &'a str,
+    beginning: &'a str,
     middle: &'a str,
     back: &'a str,
 ) -> Result<ArrayString<SHORT>, CapacityError<&'a str>>
-    ensures { IfOk result (λ s. s.bytes ≡ front.now ++ (middle.now ++ back.now)) }
+    ensures { IfOk result (λ s. s.bytes ≡ beginning.now ++ (middle.now ++ back.now)) }
 {
-    let mut short = ArrayString::from(front)?;
+    let mut short = ArrayString::from(beginning)?;
     short.try_push_str(middle)?;
     short.try_push_str(back)?;
     Ok(short)
 }
 
 /// Three texts, one after the other, in room for them alone.
-fn joined(alloc: Global, front: &str, middle: &str, back: &str) -> Result<String>
-    ensures { Gives (λ s. string_bytes s ≡ front.now ++ (middle.now ++ back.now)) result }
+fn concatenated(alloc: Global, beginning: &str, middle: &str, back: &str) -> Result<String>
+    ensures { Gives (λ s. string_bytes s ≡ beginning.now ++ (middle.now ++ back.now)) result }
 {
-    let room = front
+    let room = beginning
         .len()
         .saturating_add(middle.len())
         .saturating_add(back.len());
     let mut string = String::with_capacity(alloc, room)?;
-    string.push_str(front)?;
+    string.push_str(beginning)?;
     string.push_str(middle)?;
     string.push_str(back)?;
     Ok(string)

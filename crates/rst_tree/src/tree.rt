@@ -1,12 +1,12 @@
 //! Documents as trees, and changes of them.
 ghost use Rattle.std.specs.Prelude.{◌≡◌, ◌<◌, IsTrue, MatchOption, Some, None, is_some, string_bytes};
-ghost use Rattle.rst_tree.specs.Entries.{said};
+ghost use Rattle.rst_tree.specs.Entries.{as_value};
 ghost use Rattle.rst_tree.specs.Faults.{Gives, Becomes, GivesBack};
 ghost use Rattle.rst_tree.specs.Paths.{node_at, changed_at, with_child, with_value, value_at};
-ghost use Rattle.rst_tree.specs.Tree.{IsTreeOf, is_tree, is_tree_within, fits, is_element, text_at};
+ghost use Rattle.rst_tree.specs.Tree.{IsTreeOf, is_tree, is_tree_within, fits, is_element, node_text_at};
 
 use crate::attrs::Value;
-use crate::entry::Said;
+use crate::entry::ValueRef;
 use crate::fault::{Result, TreeFault};
 use crate::key::Key;
 use crate::node::Node;
@@ -70,8 +70,8 @@ impl Tree {
     }
 
     /// The value of the attribute of a name at the node at a path, if there is one.
-    pub fn attr(&self, at: &[usize], name: Key) -> Option<Said<'_>>
-        ensures { MatchOption result (value_at at.now name self.now ≡ None) (λ v. value_at at.now name self.now ≡ Some (said v)) }
+    pub fn attr(&self, at: &[usize], name: Key) -> Option<ValueRef<'_>>
+        ensures { MatchOption result (value_at at.now name self.now ≡ None) (λ v. value_at at.now name self.now ≡ Some (as_value v)) }
     {
         match found(&self.root, at) {
             Some(node) => node.value(name),
@@ -131,7 +131,7 @@ impl Tree {
     /// The text of the node at a path: the texts below it in order, joined.
     pub fn text_of(&self, alloc: Global, at: &[usize]) -> Result<String>
         requires { IsTrue (is_some (node_at at.now self.now)) }
-        ensures { Gives (λ s. string_bytes s ≡ text_at at.now self.now) result }
+        ensures { Gives (λ s. string_bytes s ≡ node_text_at at.now self.now) result }
     {
         match found(&self.root, at) {
             Some(node) => node.string_of(alloc),

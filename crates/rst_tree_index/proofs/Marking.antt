@@ -14,19 +14,19 @@ use Rattle.rst_tree.specs.Walk.{Item, item, items, node_items, after, walked, wa
 use Rattle.rst_tree.proofs.Walks.{after-append}
 use Rattle.rst_tree.proofs.Changes.{forest_of-nodes_of}
 use Rattle.rst_tree_index.specs.MarkPaths.{node_paths}
-use Rattle.rst_tree_index.specs.Marks.{Place, path_of, deeper, later, own_place, places, own_mark, marks_of, heeded_out, heeded_next, map_item, after_one, visited_at, visited_all}
+use Rattle.rst_tree_index.specs.Marks.{NodePlace, path_of, deeper, later, own_place, places, own_mark, marks_of, heeded_out, heeded_next, map_item, after_one, visited_at, visited_all}
 
 module _ {S : Type 0} (next : S → Item → S) (out : S → Item → Item) where
   -- a state and the nodes, after the element at a place
-  abbrev pub visited : Place → S × Forest → S × Forest
+  abbrev pub visited : NodePlace → S × Forest → S × Forest
   visited p w =
       (after_one next w.0 (option_and_then (node_at p.1) (slice_get (nodes_of w.1) p.0)), forest_of (map_at (changed_at (map_item (out w.0)) p.1) p.0 (nodes_of w.1)))
 
-  abbrev pub many : List Place → S × Forest → S × Forest
+  abbrev pub many : List NodePlace → S × Forest → S × Forest
   many [] w = w
   many (p ∷ ps) w = many ps (visited p w)
 
-  many-append : (ps qs : List Place) (w : S × Forest) → many (ps ++ qs) w ≡ many qs (many ps w)
+  many-append : (ps qs : List NodePlace) (w : S × Forest) → many (ps ++ qs) w ≡ many qs (many ps w)
   many-append [] qs w = refl
   many-append (p ∷ ps) qs w = many-append ps qs (visited p w)
 
@@ -40,27 +40,27 @@ module _ {S : Type 0} (next : S → Item → S) (out : S → Item → Item) wher
   abbrev beside : Tag → List Attr → Forest → ℕ → S × Forest → S × Forest
   beside t a c l w = (w.0, element t a c l w.1)
 
-  abbrev behind : List ℕ → S × Forest → S × Forest
-  behind t w = (w.0, words t w.1)
+  abbrev after_text : List ℕ → S × Forest → S × Forest
+  after_text t w = (w.0, words t w.1)
 
   abbrev within : Tag → List Attr → ℕ → S × Forest → S × Node
   within t a l w = (w.0, Element t a w.1 l)
 
-  many-deeper : (ps : List Place) (s : S) (t : Tag) (a : List Attr) (c : Forest) (l : ℕ) (r : Forest) → many (map deeper ps) (s, element t a c l r) ≡ inside t a l r (many ps (s, c))
+  many-deeper : (ps : List NodePlace) (s : S) (t : Tag) (a : List Attr) (c : Forest) (l : ℕ) (r : Forest) → many (map deeper ps) (s, element t a c l r) ≡ inside t a l r (many ps (s, c))
   many-deeper [] s t a c l r = refl
   many-deeper (p ∷ ps) s t a c l r =
       let w : S × Forest = visited p (s, c) in
       ap (λ z. many (map deeper ps) (w.0, element t a w.1 l z)) (forest_of-nodes_of r) ∙ many-deeper ps w.0 t a w.1 l r
 
-  many-later : (ps : List Place) (s : S) (t : Tag) (a : List Attr) (c : Forest) (l : ℕ) (r : Forest) → many (map later ps) (s, element t a c l r) ≡ beside t a c l (many ps (s, r))
+  many-later : (ps : List NodePlace) (s : S) (t : Tag) (a : List Attr) (c : Forest) (l : ℕ) (r : Forest) → many (map later ps) (s, element t a c l r) ≡ beside t a c l (many ps (s, r))
   many-later [] s t a c l r = refl
   many-later (p ∷ ps) s t a c l r = let w : S × Forest = visited p (s, r) in many-later ps w.0 t a c l w.1
 
-  many-behind : (ps : List Place) (s : S) (t : List ℕ) (r : Forest) → many (map later ps) (s, words t r) ≡ behind t (many ps (s, r))
-  many-behind [] s t r = refl
-  many-behind (p ∷ ps) s t r = let w : S × Forest = visited p (s, r) in many-behind ps w.0 t w.1
+  many-after_text : (ps : List NodePlace) (s : S) (t : List ℕ) (r : Forest) → many (map later ps) (s, words t r) ≡ after_text t (many ps (s, r))
+  many-after_text [] s t r = refl
+  many-after_text (p ∷ ps) s t r = let w : S × Forest = visited p (s, r) in many-after_text ps w.0 t w.1
 
-  visited_all-paths : (ps : List Place) (s : S) (t : Tag) (a : List Attr) (c : Forest) (l : ℕ) → visited_all next out (map path_of ps) (s, Element t a c l) ≡ within t a l (many ps (s, c))
+  visited_all-paths : (ps : List NodePlace) (s : S) (t : Tag) (a : List Attr) (c : Forest) (l : ℕ) → visited_all next out (map path_of ps) (s, Element t a c l) ≡ within t a l (many ps (s, c))
   visited_all-paths [] s t a c l = refl
   visited_all-paths (p ∷ ps) s t a c l = let w : S × Forest = visited p (s, c) in visited_all-paths ps w.0 t a w.1 l
 
@@ -78,7 +78,7 @@ module _ {S : Type 0} (next : S → Item → S) (out : S → Item → Item) wher
     -- the changes at all places are a walk that heeds these elements alone
     pub many-places : (s : S) (f : Forest) → many (places needs f) (s, f) ≡ (after (heeded_next needs next) (heeded_out needs out) s (items f), walked (heeded_next needs next) (heeded_out needs out) s f)
     many-places s bare = refl
-    many-places s (words t r) = many-behind (places needs r) s t r ∙ ap (behind t) (many-places s r)
+    many-places s (words t r) = many-after_text (places needs r) s t r ∙ ap (after_text t) (many-places s r)
     many-places s (element t a c l r) =
         let x : Item = item t a l in
         let y : Item = heeded_out needs out s x in
@@ -105,7 +105,7 @@ module _ {S : Type 0} (next : S → Item → S) (out : S → Item → Item) wher
         ∙ visited_all-paths (places needs c) s1 y.tag y.attrs c y.line
         ∙ ap (within y.tag y.attrs y.line) (many-places s1 c)
 
-abbrev in_node : ℕ → List ℕ → Place
+abbrev in_node : ℕ → List ℕ → NodePlace
 in_node i p = (i, p)
 
 module _ (needs : Item → Bool) where
@@ -135,9 +135,9 @@ module _ (needs : Item → Bool) where
       ∙ sym (append_assoc (own_place needs x) (map deeper (places needs c) ++ map later (places needs (forest_of ns))) (map (in_node (suc (length ns))) (marks_of needs n)))
 
   -- the marks in a list of nodes, and in one more after them
-  pub paths_push : (ns : List Node) (n : Node) (own held inner now : List (List ℕ)) (k : ℕ) → held ≡ own ++ map path_of (places needs (forest_of ns)) → k ≡ length ns → inner ≡ marks_of needs n
-      → now ≡ held ++ map (λ p. k ∷ p) inner → now ≡ own ++ map path_of (places needs (forest_of (ns ++ n ∷ [])))
-  paths_push ns n own held inner now k old at more all =
+  pub paths_push : (ns : List Node) (n : Node) (own old_paths inner now : List (List ℕ)) (k : ℕ) → old_paths ≡ own ++ map path_of (places needs (forest_of ns)) → k ≡ length ns → inner ≡ marks_of needs n
+      → now ≡ old_paths ++ map (λ p. k ∷ p) inner → now ≡ own ++ map path_of (places needs (forest_of (ns ++ n ∷ [])))
+  paths_push ns n own old_paths inner now k old at more all =
       let before : List (List ℕ) = map path_of (places needs (forest_of ns)) in
       let e : map path_of (places needs (forest_of (ns ++ n ∷ []))) ≡ before ++ map (λ p. length ns ∷ p) (marks_of needs n) =
       ap (map path_of) (places-push ns n) ∙ map-append path_of (places needs (forest_of ns)) (map (in_node (length ns)) (marks_of needs n))
@@ -145,17 +145,17 @@ module _ (needs : Item → Bool) where
       all ∙ (rw (old, at, more) (append_assoc own before (map (λ p. length ns ∷ p) (marks_of needs n)))) ∙ ap (λ z. own ++ z) (sym e)
 
   -- the marks in the first nodes of a list, and in one more
-  pub paths_more : (ns : List Node) (i : ℕ) (child : Node) (own held now : List (List ℕ)) → i < length ns → child ≡ get_or ns i child → held ≡ own ++ map path_of (places needs (forest_of (take i ns)))
-      → now ≡ held ++ map (λ p. i ∷ p) (marks_of needs child) → now ≡ own ++ map path_of (places needs (forest_of (take (i + 1) ns)))
-  paths_more ns i child own held now fits at old all =
+  pub paths_more : (ns : List Node) (i : ℕ) (child : Node) (own old_paths now : List (List ℕ)) → i < length ns → child ≡ get_or ns i child → old_paths ≡ own ++ map path_of (places needs (forest_of (take i ns)))
+      → now ≡ old_paths ++ map (λ p. i ∷ p) (marks_of needs child) → now ≡ own ++ map path_of (places needs (forest_of (take (i + 1) ns)))
+  paths_more ns i child own old_paths now fits at old all =
       let k : i ≤ length ns = omega arith in
       let more : take (i + 1) ns ≡ take i ns ++ child ∷ [] = take_more ns i child fits ∙ ap (λ x. take i ns ++ x ∷ []) (sym at) in
-      paths_push (take i ns) child own held (marks_of needs child) now i old (sym (length-take-le i ns k)) refl all ∙ ap (λ z. own ++ map path_of (places needs (forest_of z))) (sym more)
+      paths_push (take i ns) child own old_paths (marks_of needs child) now i old (sym (length-take-le i ns k)) refl all ∙ ap (λ z. own ++ map path_of (places needs (forest_of z))) (sym more)
 
   -- a text among the nodes has none
-  pub paths_past : (ns : List Node) (i : ℕ) (child : Node) (t : List ℕ) (own held : List (List ℕ)) → i < length ns → child ≡ get_or ns i child → child ≡ Text t → held ≡ own ++ map path_of (places needs (forest_of (take i ns)))
-      → held ≡ own ++ map path_of (places needs (forest_of (take (i + 1) ns)))
-  paths_past ns i child t own held fits at is old = paths_more ns i child own held held fits at old (rw is (sym (append-nil held)))
+  pub paths_past : (ns : List Node) (i : ℕ) (child : Node) (t : List ℕ) (own old_paths : List (List ℕ)) → i < length ns → child ≡ get_or ns i child → child ≡ Text t → old_paths ≡ own ++ map path_of (places needs (forest_of (take i ns)))
+      → old_paths ≡ own ++ map path_of (places needs (forest_of (take (i + 1) ns)))
+  paths_past ns i child t own old_paths fits at is old = paths_more ns i child own old_paths old_paths fits at old (rw is (sym (append-nil old_paths)))
 
   -- the marks of an element with nodes
   pub marks_element : (t : Tag) (a : List Attr) (l : ℕ) (c c' : Forest) (own : Bool) (none inner : List (List ℕ)) → own ≡ needs (item t a l) → none ≡ [] → c' ≡ c → inner ≡ none ++ map path_of (places needs c)

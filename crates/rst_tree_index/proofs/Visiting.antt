@@ -16,7 +16,7 @@ use Rattle.rst_tree_index.specs.declared.marks.Mark.{Mark}
 use Rattle.rst_tree_index.specs.declared.marks.Marks.TheDeep.{deep-Mark}
 use Rattle.rst_tree_index.specs.MarkLengths.{most_le-longest}
 use Rattle.rst_tree_index.specs.MarkPaths.{AreUsed, longest, node_paths, paths_at, paths_in}
-use Rattle.rst_tree_index.specs.Marks.{after_one, heeded_next, heeded_out, map_item, visited_all, with_all, with_one}
+use Rattle.rst_tree_index.specs.Marks.{after_one, heeded_next, heeded_out, map_item, visited_all, with_elements_at, with_one}
 use denote.Param.Weighed.{at_most}
 use Rattle.rst_tree_index.proofs.Marking.{own-visited_node, visited_all-append}
 
@@ -132,14 +132,14 @@ read_same (p ∷ ps) known n = read_same ps (after_one with_one known (node_at p
 
 -- the own mark of an element, then those in it
 pub own_read : (own : Bool) (ps : List (List ℕ)) (t : Tag) (a : List Attr) (c : Forest) (l : ℕ) (known more : List Item) → more ≡ (if own then with_one known (item t a l) else known)
-    → with_all ps (Element t a c l) more ≡ with_all (node_paths own ps) (Element t a c l) known
-own_read true ps t a c l known more is = ap (with_all ps (Element t a c l)) is
-own_read false ps t a c l known more is = ap (with_all ps (Element t a c l)) is
+    → with_elements_at ps (Element t a c l) more ≡ with_elements_at (node_paths own ps) (Element t a c l) known
+own_read true ps t a c l known more is = ap (with_elements_at ps (Element t a c l)) is
+own_read false ps t a c l known more is = ap (with_elements_at ps (Element t a c l)) is
 
 -- one more mark
 pub mark_read : (ms : List Mark) (i : ℕ) (m : Mark) (ns : List Node) (d : Node) (known more : List Item) → i < length ms → m ≡ get_or ms i m → m.place < length ns → d ≡ get_or ns m.place d
-    → more ≡ with_all (node_paths m.own m.inner) d known
-    → (t : Tag) (a : List Attr) (l : ℕ) → with_all (paths_in (drop (i + 1) ms)) (Element t a (forest_of ns) l) more ≡ with_all (paths_in (drop i ms)) (Element t a (forest_of ns) l) known
+    → more ≡ with_elements_at (node_paths m.own m.inner) d known
+    → (t : Tag) (a : List Attr) (l : ℕ) → with_elements_at (paths_in (drop (i + 1) ms)) (Element t a (forest_of ns) l) more ≡ with_elements_at (paths_in (drop i ms)) (Element t a (forest_of ns) l) known
 mark_read ms i m ns d known more fits at inside there is t a l =
     let kept : forest_of ns ≡ forest_of (set ns m.place d) = ap forest_of (sym (ap (set ns m.place) there ∙ set-get_or ns m.place d)) in
     ap (λ z. z.0) (mark_visited with_one (λ s x. x) ms i m known more (forest_of ns) (forest_of ns) d d fits at (rw nodes_of-forest_of inside)

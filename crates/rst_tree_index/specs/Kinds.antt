@@ -24,9 +24,9 @@ is_target _ = false
 abbrev pub tells : Key → Item → Bool
 tells k x = is_some (value_of k x.attrs)
 
-abbrev pub is_reference : Tag → Bool
-is_reference SubstitutionReference = true
-is_reference _ = false
+abbrev pub is_substitution_reference : Tag → Bool
+is_substitution_reference SubstitutionReference = true
+is_substitution_reference _ = false
 
 -- an internal target of the body: it is in no text, and has neither a URI nor a name
 abbrev pub is_internal : Item → Bool

@@ -3,7 +3,7 @@ ghost use Rattle.std.specs.Prelude.{◌≡◌, ◌++◌, map, if◌then◌else�
 ghost use Rattle.rst_tree.specs.Faults.{Gives};
 ghost use Rattle.rst_tree.specs.Walk.{item, node_items, after, walked_node};
 ghost use Rattle.rst_tree_index.specs.MarkPaths.{node_paths};
-ghost use Rattle.rst_tree_index.specs.Marks.{marks_of, heeded_next, heeded_out, path_of, places, visited_all, with_all};
+ghost use Rattle.rst_tree_index.specs.Marks.{marks_of, heeded_next, heeded_out, path_of, places, visited_all, with_elements_at};
 ghost use Rattle.rst_tree_index.specs.Registered.{is_registered, item_of};
 
 use crate::marks::Marks;
@@ -28,7 +28,7 @@ fn add_elements<'a>(
     inner: &Marks,
     list: &mut Vec<Element<'a>>,
 ) -> Result<()>
-    ensures { Gives (λ _. map item_of list.new.items ≡ with_all (node_paths own inner.now) node.now (map item_of list.old.items)) result }
+    ensures { Gives (λ _. map item_of list.new.items ≡ with_elements_at (node_paths own inner.now) node.now (map item_of list.old.items)) result }
 {
     let Node::Element {
         tag,

@@ -2,7 +2,7 @@
 ghost use Rattle.std.specs.Prelude.{◌≡◌, ◌<◌, ◌∷◌, ◌++◌, [], map, OnErr, vec_capacity, vec_len};
 ghost use Rattle.rst_tree.specs.Faults.{Gives};
 ghost use Rattle.rst_tree.specs.Nodes.{forest_of};
-ghost use Rattle.rst_tree_index.specs.Known.{entry_behind, entry_of, known_at};
+ghost use Rattle.rst_tree_index.specs.Known.{entry_after, place_and_marks, known_at};
 ghost use Rattle.rst_tree_index.specs.MarkPaths.{node_paths};
 ghost use Rattle.rst_tree_index.specs.Marks.{marks_of};
 ghost use Rattle.rst_tree_index.specs.Registered.{is_registered};
@@ -29,7 +29,7 @@ struct Known {
 /// Puts what is known of the node at a place after the rest, if anything is known.
 #[inline(always)]
 fn note(known: &mut Vec<Known>, place: usize, own: bool, inner: Marks) -> Result<()>
-    ensures noted { Gives (λ _. map entry_of known.new.items ≡ map entry_of known.old.items ++ known_at place (node_paths own inner)) result }
+    ensures noted { Gives (λ _. map place_and_marks known.new.items ≡ map place_and_marks known.old.items ++ known_at place (node_paths own inner)) result }
     ensures kept { OnErr result (known.new.items ≡ known.old.items) }
 {
     if is_used(own, &inner) {
@@ -39,8 +39,8 @@ fn note(known: &mut Vec<Known>, place: usize, own: bool, inner: Marks) -> Result
 }
 
 /// What is known of some nodes, when they follow `before` others.
-fn behind(known: Vec<Known>, before: usize) -> Result<Vec<Known>>
-    ensures { Gives (λ moved. map entry_of moved.items ≡ map (entry_behind before) (map entry_of known.items)) result }
+fn known_after(known: Vec<Known>, before: usize) -> Result<Vec<Known>>
+    ensures { Gives (λ moved. map place_and_marks moved.items ≡ map (entry_after before) (map place_and_marks known.items)) result }
 {
     let mut moved = Vec::with_capacity(*known.allocator(), known.len())?;
     for Known { place, own, inner } in known {
@@ -86,11 +86,11 @@ impl Model for MarkedNodes {
 
     ghost coded = { Prim.hlevel (codes, node.the_row.coded) };
 
-    ghost use Rattle.rst_tree_index.specs.Known.{entry_of, known_of};
+    ghost use Rattle.rst_tree_index.specs.Known.{place_and_marks, known_of};
 
     ghost view = { λ m. m.nodes.items };
 
-    ghost invariant = { λ m. map entry_of m.known.items ≡ known_of 0 m.nodes.items };
+    ghost invariant = { λ m. map place_and_marks m.known.items ≡ known_of 0 m.nodes.items };
 }
 
 impl MarkedNodes {
@@ -218,7 +218,7 @@ impl MarkedNodes {
             return Ok(());
         }
         let MarkedNodes { mut nodes, known } = more;
-        let mut known = behind(known, self.nodes.len())?;
+        let mut known = known_after(known, self.nodes.len())?;
         // Room first: once the nodes follow, what is known of them has to.
         self.known.reserve(known.len())?;
         self.nodes.append(&mut nodes)?;
@@ -287,11 +287,11 @@ impl Model for MarkedIter {
 
     ghost coded = { Prim.hlevel (codes, node.the_row.coded) };
 
-    ghost use Rattle.rst_tree_index.specs.Known.{entry_of, known_of};
+    ghost use Rattle.rst_tree_index.specs.Known.{place_and_marks, known_of};
 
     ghost view = { λ m. into_iter_items m.nodes };
 
-    ghost invariant = { λ m. (into_iter_len m.nodes ≤ m.count) × (m.ahead ≡ None → into_iter_items m.known ≡ []) × (map entry_of (option_to_list m.ahead ++ into_iter_items m.known) ≡ known_of (m.count - into_iter_len m.nodes) (into_iter_items m.nodes)) };
+    ghost invariant = { λ m. (into_iter_len m.nodes ≤ m.count) × (m.ahead ≡ None → into_iter_items m.known ≡ []) × (map place_and_marks (option_to_list m.ahead ++ into_iter_items m.known) ≡ known_of (m.count - into_iter_len m.nodes) (into_iter_items m.nodes)) };
 }
 
 /// A node without marks.

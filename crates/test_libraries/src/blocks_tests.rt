@@ -141,7 +141,7 @@ fn blocks_are_nested_250_deep(rt: HostRuntime) -> Result<(), Fail> {
 
 /// The first block that is nested too deeply counts, in the order of reading.
 #[test]
-fn first_line_too_deep_is_told(rt: HostRuntime) -> Result<(), Fail> {
+fn first_line_too_deep_is_reported(rt: HostRuntime) -> Result<(), Fail> {
     let alloc = rt.alloc();
     let mut text = items(alloc, "", 251)?;
     let again = items(alloc, "\n\n", 251)?;

@@ -64,7 +64,7 @@ ERROR 7: Unknown interpreted text role \"x\".
 ];
 
 /// The nodes and the messages of a text on line 7.
-fn shown(alloc: Global, text: &str) -> Result<String, Fail> {
+fn nodes_and_messages(alloc: Global, text: &str) -> Result<String, Fail> {
     let Pieces { nodes, notes } = inline(alloc, text, 7)?;
     let paragraph = Node::Element {
         tag: Tag::Paragraph,
@@ -88,7 +88,7 @@ fn shown(alloc: Global, text: &str) -> Result<String, Fail> {
 #[test]
 fn reads_inline_markup(rt: HostRuntime) -> Result<(), Fail> {
     for &(text, want) in TEXTS {
-        let got = shown(rt.alloc(), text)?;
+        let got = nodes_and_messages(rt.alloc(), text)?;
         assert_eq!(rt; got.as_str(), want, "{text}");
     }
     Ok(())

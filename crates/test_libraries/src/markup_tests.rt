@@ -1,5 +1,5 @@
 //! Directives, their options and messages, and the options of option lists.
-ghost use Rattle.rst_text.specs.Shown.{block_of};
+ghost use Rattle.rst_text.specs.ViewBlock.{block_of};
 ghost use Rattle.rst_markup_blocks.specs.Parts.{IsCall};
 
 use rst_markup_blocks::{Explicit, Invocation, explicit, kind_of};

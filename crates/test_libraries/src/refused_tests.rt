@@ -123,7 +123,7 @@ fn names(rt: HostRuntime) {
 }
 
 /// A tree as it is printed; nothing where memory ran out for this.
-fn shown(alloc: Global, tree: &Tree) -> Option<String> {
+fn printed_tree(alloc: Global, tree: &Tree) -> Option<String> {
     let mut out = Counted::of(Vec::new(alloc));
     if print(tree, &mut out).is_err() {
         return None;
@@ -136,7 +136,7 @@ fn shown(alloc: Global, tree: &Tree) -> Option<String> {
 
 /// Ends the test where a tree isn't printed as before.
 fn judge_tree(rt: &impl Abort, alloc: Global, tree: &Tree, before: &str) {
-    if let Some(now) = shown(alloc, tree) {
+    if let Some(now) = printed_tree(alloc, tree) {
         assert_eq!(rt; now.as_str(), before);
     }
 }
@@ -153,13 +153,13 @@ fn pushes_nodes(rt: HostRuntime) {
     };
     let mut refusals = Refusals::none();
     for _ in 0..2 {
-        let (Some(before), Ok(more)) = (shown(alloc, &tree), text(alloc, "more")) else {
+        let (Some(before), Ok(more)) = (printed_tree(alloc, &tree), text(alloc, "more")) else {
             return;
         };
         assert!(rt; tree.fits(&[1], &more));
         if let Err((fault, given)) = tree.push(alloc, &[1], more) {
             refusals.add(&rt, fault == TreeFault::NoMemory);
-            assert!(rt; matches!(&given, Node::Text(said) if said.as_str() == "more"));
+            assert!(rt; matches!(&given, Node::Text(pushed) if pushed.as_str() == "more"));
             judge_tree(&rt, alloc, &tree, before.as_str());
         }
     }
@@ -186,7 +186,7 @@ fn sets_attributes(rt: HostRuntime) {
     };
     let mut refusals = Refusals::none();
     for key in [Key::Names, Key::Alt] {
-        let Some(before) = shown(alloc, &tree) else {
+        let Some(before) = printed_tree(alloc, &tree) else {
             return;
         };
         assert!(rt; tree.has_element(&[1]));
@@ -451,9 +451,9 @@ fn reads_documents(rt: HostRuntime) {
     for _ in 0..2 {
         match parse(rt.alloc(), &lines) {
             Ok(parsed) => {
-                let told = (parsed.messages, parsed.looks);
-                assert!(rt; before.is_none_or(|before| before == told));
-                before = Some(told);
+                let counts = (parsed.messages, parsed.looks);
+                assert!(rt; before.is_none_or(|before| before == counts));
+                before = Some(counts);
             }
             Err(fault) => refusals.add(&rt, fault == BlockFault::NoMemory),
         }

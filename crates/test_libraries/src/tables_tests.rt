@@ -123,8 +123,8 @@ fn grids(rt: HostRuntime) -> Result<(), Fail> {
         assert!(rt; view.len() > 0);
         let mut looks = Looks::none();
         let table = grid(rt.alloc(), &view, 0, &mut looks)?;
-        let shown = show(rt.alloc(), table)?;
-        assert_eq!(rt; shown.as_str(), want, "{text}");
+        let got = show(rt.alloc(), table)?;
+        assert_eq!(rt; got.as_str(), want, "{text}");
     }
     Ok(())
 }
@@ -137,8 +137,8 @@ fn simples(rt: HostRuntime) -> Result<(), Fail> {
         assert!(rt; view.len() > 0);
         let mut looks = Looks::none();
         let table = simple(rt.alloc(), &view, 0, &mut looks)?;
-        let shown = show(rt.alloc(), table)?;
-        assert_eq!(rt; shown.as_str(), want, "{text}");
+        let got = show(rt.alloc(), table)?;
+        assert_eq!(rt; got.as_str(), want, "{text}");
     }
     Ok(())
 }

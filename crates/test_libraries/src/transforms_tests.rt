@@ -53,9 +53,9 @@ fn judge(rt: &impl Abort, alloc: Global, document: Document, want: &str) -> Resu
     let mut got = printed(alloc, tree)?;
     for note in &notes {
         let level = note.level.name();
-        let said = note.text.as_str();
+        let text = note.text.as_str();
         let line = note.line;
-        let note = format!(in alloc; "{level} {line}: {said}\n")?;
+        let note = format!(in alloc; "{level} {line}: {text}\n")?;
         got.push_str(note.as_str())?;
     }
     assert_eq!(rt; got.as_str(), want);

@@ -8,8 +8,8 @@ ghost use Rattle.rst_tree.specs.declared.tag.Tag.TheVariants.{Transition};
 
 use rst_text::Counted;
 use rst_tree::{
-    Attrs, Children, Key, Level, Node, Note, Rewriter, Said, Tag, Text, Texts, Tree, TreeFault,
-    Value, message_line, print, print_with_source, rewrite_in,
+    Attrs, Children, Key, Level, Node, Note, Rewriter, Tag, Text, Texts, Tree, TreeFault, Value,
+    ValueRef, message_line, print, print_with_source, rewrite_in,
 };
 use std::alloc::Global;
 use std::process::Abort;
@@ -23,8 +23,8 @@ pub enum Says<'a> {
     List(&'a [&'a str]),
 }
 
-fn value(alloc: Global, said: Says<'_>) -> Result<Value, TreeFault> {
-    match said {
+fn value(alloc: Global, given: Says<'_>) -> Result<Value, TreeFault> {
+    match given {
         Says::Text(text) => Ok(Value::Text(Text::from_str(alloc, text)?)),
         Says::Number(number) => Ok(Value::Number(number)),
         Says::List(members) => {
@@ -38,19 +38,19 @@ fn value(alloc: Global, said: Says<'_>) -> Result<Value, TreeFault> {
 }
 
 /// A node that is a text.
-pub fn text(alloc: Global, said: &str) -> Result<Node, TreeFault> {
-    Node::text(alloc, said)
+pub fn text(alloc: Global, given: &str) -> Result<Node, TreeFault> {
+    Node::text(alloc, given)
 }
 
 /// An element with attributes, which come in any order, and nodes in it.
 pub fn element<const N: usize>(
     alloc: Global,
     tag: Tag,
-    said: &[(Key, Says<'_>)],
+    given: &[(Key, Says<'_>)],
     nodes: [Node; N],
 ) -> Result<Node, TreeFault> {
     let mut attrs = Attrs::new(alloc);
-    for (key, says) in said {
+    for (key, says) in given {
         attrs.set(*key, value(alloc, *says)?)?;
     }
     Ok(Node::Element {
@@ -62,8 +62,8 @@ pub fn element<const N: usize>(
 }
 
 /// An element that contains one text.
-pub fn holding(alloc: Global, tag: Tag, said: &str) -> Result<Node, TreeFault> {
-    element(alloc, tag, &[], [text(alloc, said)?])
+pub fn holding(alloc: Global, tag: Tag, given: &str) -> Result<Node, TreeFault> {
+    element(alloc, tag, &[], [text(alloc, given)?])
 }
 
 /// The document of a title with its underline, and a paragraph.
@@ -114,8 +114,8 @@ fn judge(rt: &impl Abort, root: Node, want: bool) {
 #[test]
 fn knows_trees(rt: HostRuntime) -> Result<(), Fail> {
     let alloc = rt.alloc();
-    for &(said, want) in &[("a\nb\u{1F}", true), ("a\rb", false), ("a\u{2028}", false)] {
-        judge(&rt, text(alloc, said)?, want);
+    for &(given, want) in &[("a\nb\u{1F}", true), ("a\rb", false), ("a\u{2028}", false)] {
+        judge(&rt, text(alloc, given)?, want);
     }
     for &(levels, want) in &[(1350, true), (1351, false)] {
         judge(&rt, nested(alloc, levels)?, want);
@@ -154,7 +154,7 @@ fn changes_trees(rt: HostRuntime) -> Result<(), Fail> {
         return Err(Fail::new("no tree"));
     };
     match tree.attr(&[], Key::Title) {
-        Some(Said::Text(said)) => assert_eq!(rt; said.as_str(), "Title"),
+        Some(ValueRef::Text(given)) => assert_eq!(rt; given.as_str(), "Title"),
         _ => assert!(rt; false),
     }
     assert!(rt; !tree.fits(&[1], &nested(alloc, 1349)?));
@@ -211,15 +211,15 @@ const MESSAGES: &[(Level, &str, Option<&str>, &str)] = &[
 #[test]
 fn prints_messages(rt: HostRuntime) -> Result<(), Fail> {
     let alloc = rt.alloc();
-    for &(level, said, shown, want) in MESSAGES {
-        let block = match shown {
-            Some(shown) => Some(Text::from_str(alloc, shown)?),
+    for &(level, given, lines, want) in MESSAGES {
+        let block = match lines {
+            Some(lines) => Some(Text::from_str(alloc, lines)?),
             None => None,
         };
         let note = Note {
             level,
             line: 12,
-            text: Text::from_str(alloc, said)?,
+            text: Text::from_str(alloc, given)?,
             block,
         };
         let mut out = Counted::of(Vec::new(alloc));

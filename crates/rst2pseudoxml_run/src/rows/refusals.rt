@@ -6,7 +6,7 @@ ghost use Rattle.std.specs.List.{concat};
 ghost use Rattle.rst_settings.specs.Profile.{profile_of};
 ghost use Rattle.rst_settings.specs.declared.Threshold.TheVariants.{Warning};
 ghost use Rattle.rst2pseudoxml_run.specs.declared.end.End.TheVariants.{NotUtf8, TooDeep};
-ghost use Rattle.rst2pseudoxml_run.specs.Shown.{result_of};
+ghost use Rattle.rst2pseudoxml_run.specs.RunResult.{result_of};
 ghost use Rattle.rst2pseudoxml_run.specs.Written.{usual, ReportsOn};
 
 /// Blocks that are nested as deeply as allowed, and one level deeper. A message halts the run, so that no tree is printed (Markup Specification,

@@ -4,7 +4,7 @@
 ghost use Rattle.std.specs.Prelude.{◌≡◌, [], ◌∷◌, map, option_map, true, false, None, Some, Err, codes, option_to_list};
 ghost use Rattle.rst_tree.specs.declared.note.Level.TheVariants.{Warning as WarningLevel};
 ghost use Rattle.rst_tree.specs.declared.tag.Tag.TheVariants as tag;
-ghost use Rattle.rst_inline.specs.Results.{nodes_behind};
+ghost use Rattle.rst_inline.specs.Results.{nodes_from};
 ghost use Rattle.rst_inline_scan.specs.Reading.{pieces_of};
 ghost use Rattle.rst_markup_lines.specs.Enumerator.{enumerator_of};
 ghost use Rattle.rst_markup_lines.specs.declared.option.Delimiter.TheVariants.{Nothing, Space, Equals};
@@ -20,18 +20,18 @@ ghost use Rattle.rst_block_nodes.specs.Options.{code_element, directive_element,
 ghost use Rattle.rst_block_nodes.specs.Readings.{term_nodes, texted, texted_node};
 ghost use Rattle.rst_block_nodes.specs.Targets.{may_replace, target_node};
 ghost use Rattle.rst_block_nodes.specs.Texts.{message_node, section_node};
-ghost use Rattle.rst_block_nodes.specs.Whole.{Says, read_nodes};
+ghost use Rattle.rst_block_nodes.specs.Whole.{Says, element_and_notes};
 
 /// Texts, the messages on them, and sections (Markup Specification, 'Paragraphs').
 pub fn texts()
     ensures empty { Says (plain_node tag.Paragraph 2 [] ∷ preserved_node tag.Comment 3 [] ∷ [])
         ("<paragraph> 2" ∷ "<comment xml:space=\"preserve\"> 3" ∷ []) }
-    ensures messages { Says (read_nodes (texted tag.Line 2 (codes "*a **b") 3 5))
+    ensures messages { Says (element_and_notes (texted tag.Line 2 (codes "*a **b") 3 5))
         ("<line text_messages=\"2\"> 2" ∷ "    <problematic message=\"5\"> 3" ∷ "        *" ∷ "    a " ∷ "    <problematic message=\"6\"> 3"
         ∷ "        **" ∷ "    b" ∷ "<system_message level=\"2\" message=\"5\"> 3" ∷ "    <paragraph> 3"
         ∷ "        Inline emphasis start-string without end-string." ∷ "<system_message level=\"2\" message=\"6\"> 3" ∷ "    <paragraph> 3"
         ∷ "        Inline strong start-string without end-string." ∷ []) }
-    ensures shown_lines { Says (message_node WarningLevel 4 (codes "a\nb") (Some (codes "c\n d")) ∷ [])
+    ensures lines_in_message { Says (message_node WarningLevel 4 (codes "a\nb") (Some (codes "c\n d")) ∷ [])
         ("<system_message level=\"2\"> 4" ∷ "    <paragraph> 4" ∷ "        a" ∷ "        b" ∷ "    <literal_block xml:space=\"preserve\"> 4"
         ∷ "        c" ∷ "         d" ∷ []) }
     ensures section { Says (section_node (plain_node tag.Title 2 (codes "A  Bc")) 0 2 ∷ [])
@@ -89,7 +89,7 @@ pub fn terms()
         ("<term> 2" ∷ "    <emphasis> 2" ∷ "        a" ∷ "     b" ∷ "<classifier> 2" ∷ "    <literal> 2" ∷ "        c : d" ∷ "     e" ∷ []) }
     ensures escaped_colon { Says (term_nodes (codes "a \\: b") 2 0) ("<term> 2" ∷ "    a : b" ∷ []) }
     ensures escaped_space { Says (term_nodes (codes "a\\ : b") 2 0) ("<term> 2" ∷ "    a: b" ∷ []) }
-    ensures escaped_space_behind { Says (term_nodes (codes "a :\\ b") 2 0) ("<term> 2" ∷ "    a :b" ∷ []) }
+    ensures escaped_space_after { Says (term_nodes (codes "a :\\ b") 2 0) ("<term> 2" ∷ "    a :b" ∷ []) }
     ensures space_left { Says (term_nodes (codes "a \\ : b") 2 0) ("<term> 2" ∷ "    a" ∷ "<classifier> 2" ∷ "    b" ∷ []) }
     ensures colon_after_a_colon { Says (term_nodes (codes "a : : b") 2 0) ("<term> 2" ∷ "    a" ∷ "<classifier> 2" ∷ "    : b" ∷ []) }
     ensures spaces_before_a_colon { Says (term_nodes (codes "a :  : b") 2 0) ("<term> 2" ∷ "    a" ∷ "<classifier> 2" ∷ "    : b" ∷ []) }
@@ -107,15 +107,15 @@ pub fn terms()
 
 /// Line blocks (Markup Specification, 'Line Blocks').
 pub fn line_blocks()
-    ensures level { Says (read_nodes (line_block 1 (record { indent = 2; line = 3; text_line = 3; text = codes "a" }
+    ensures level { Says (element_and_notes (line_block 1 (record { indent = 2; line = 3; text_line = 3; text = codes "a" }
         ∷ record { indent = 2; line = 4; text_line = 5; text = codes "b\nc" } ∷ []) 0))
         ("<line_block> 3" ∷ "    <line> 3" ∷ "        a" ∷ "    <line> 4" ∷ "        b" ∷ "        c" ∷ []) }
-    ensures nested { Says (read_nodes (line_block 3 (record { indent = 1; line = 3; text_line = 3; text = codes "a" }
+    ensures nested { Says (element_and_notes (line_block 3 (record { indent = 1; line = 3; text_line = 3; text = codes "a" }
         ∷ record { indent = 2; line = 4; text_line = 4; text = codes "b" } ∷ record { indent = 1; line = 5; text_line = 5; text = codes "c" }
         ∷ record { indent = 0; line = 6; text_line = 6; text = codes "d" } ∷ []) 0))
         ("<line_block> 3" ∷ "    <line_block> 3" ∷ "        <line> 3" ∷ "            a" ∷ "        <line_block> 4" ∷ "            <line> 4"
         ∷ "                b" ∷ "        <line> 5" ∷ "            c" ∷ "    <line> 6" ∷ "        d" ∷ []) }
-    ensures deepest_first { Says (read_nodes (line_block 3 (record { indent = 2; line = 3; text_line = 3; text = codes "a" }
+    ensures deepest_first { Says (element_and_notes (line_block 3 (record { indent = 2; line = 3; text_line = 3; text = codes "a" }
         ∷ record { indent = 1; line = 4; text_line = 4; text = codes "b" } ∷ record { indent = 0; line = 5; text_line = 5; text = codes "c" }
         ∷ []) 0))
         ("<line_block> 3" ∷ "    <line_block> 3" ∷ "        <line_block> 3" ∷ "            <line> 3" ∷ "                a" ∷ "        <line> 4"
@@ -123,7 +123,7 @@ pub fn line_blocks()
     ensures too_deep { line_block 1 (record { indent = 0; line = 3; text_line = 3; text = codes "a" }
         ∷ record { indent = 1; line = 4; text_line = 4; text = codes "b" } ∷ record { indent = 1; line = 5; text_line = 5; text = codes "c" }
         ∷ []) 0 ≡ Err 4 }
-    ensures messages { Says (read_nodes (line_block 2 (record { indent = 1; line = 3; text_line = 4; text = codes "*a" }
+    ensures messages { Says (element_and_notes (line_block 2 (record { indent = 1; line = 3; text_line = 4; text = codes "*a" }
         ∷ record { indent = 0; line = 5; text_line = 5; text = codes "b" } ∷ []) 7))
         ("<line_block> 3" ∷ "    <line_block> 3" ∷ "        <line text_messages=\"1\"> 3" ∷ "            <problematic message=\"7\"> 4"
         ∷ "                *" ∷ "            a" ∷ "    <line> 5" ∷ "        b" ∷ "<system_message level=\"2\" message=\"7\"> 4"
@@ -145,16 +145,16 @@ pub fn labels()
 
 /// What a replacement text may contain (Directives, 'Replacement Text').
 pub fn replacements()
-    ensures roles { may_replace (nodes_behind (codes "*a* **b** ``c`` :sub:`d` :sup:`e` `f` |g| h") 1 0
+    ensures roles { may_replace (nodes_from (codes "*a* **b** ``c`` :sub:`d` :sup:`e` `f` |g| h") 1 0
         (pieces_of (codes "*a* **b** ``c`` :sub:`d` :sup:`e` `f` |g| h"))) ≡ true }
-    ensures references { may_replace (nodes_behind (codes "a_ http://b") 1 0 (pieces_of (codes "a_ http://b"))) ≡ true }
-    ensures embedded { may_replace (nodes_behind (codes "`a <u>`__ `a <b_>`_") 1 0 (pieces_of (codes "`a <u>`__ `a <b_>`_"))) ≡ true }
-    ensures anonymous { may_replace (nodes_behind (codes "a__") 1 0 (pieces_of (codes "a__"))) ≡ false }
-    ensures round_a_substitution { may_replace (nodes_behind (codes "|a|_") 1 0 (pieces_of (codes "|a|_"))) ≡ false }
-    ensures target { may_replace (nodes_behind (codes "_`a`") 1 0 (pieces_of (codes "_`a`"))) ≡ false }
-    ensures footnote { may_replace (nodes_behind (codes "[1]_") 1 0 (pieces_of (codes "[1]_"))) ≡ false }
-    ensures citation { may_replace (nodes_behind (codes "[a]_") 1 0 (pieces_of (codes "[a]_"))) ≡ false }
-    ensures problematic { may_replace (nodes_behind (codes "*a") 1 0 (pieces_of (codes "*a"))) ≡ false }
+    ensures references { may_replace (nodes_from (codes "a_ http://b") 1 0 (pieces_of (codes "a_ http://b"))) ≡ true }
+    ensures embedded { may_replace (nodes_from (codes "`a <u>`__ `a <b_>`_") 1 0 (pieces_of (codes "`a <u>`__ `a <b_>`_"))) ≡ true }
+    ensures anonymous { may_replace (nodes_from (codes "a__") 1 0 (pieces_of (codes "a__"))) ≡ false }
+    ensures round_a_substitution { may_replace (nodes_from (codes "|a|_") 1 0 (pieces_of (codes "|a|_"))) ≡ false }
+    ensures target { may_replace (nodes_from (codes "_`a`") 1 0 (pieces_of (codes "_`a`"))) ≡ false }
+    ensures footnote { may_replace (nodes_from (codes "[1]_") 1 0 (pieces_of (codes "[1]_"))) ≡ false }
+    ensures citation { may_replace (nodes_from (codes "[a]_") 1 0 (pieces_of (codes "[a]_"))) ≡ false }
+    ensures problematic { may_replace (nodes_from (codes "*a") 1 0 (pieces_of (codes "*a"))) ≡ false }
 {}
 
 /// Parts of tables (Markup Specification, 'Grid Tables').

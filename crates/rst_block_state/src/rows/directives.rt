@@ -232,7 +232,7 @@ pub fn directives()
         ("<document>" ∷ "    <note>" ∷ "        <paragraph>" ∷ "            a" ∷ []) }
     ensures two_spaces_before_the_colons { Reads (".. note  :: b" ∷ [])
         ("<document>" ∷ "    <comment xml:space=\"preserve\">" ∷ "        note  :: b" ∷ []) }
-    ensures no_space_behind_the_colons { Reads (".. note::c" ∷ [])
+    ensures no_space_after_the_colons { Reads (".. note::c" ∷ [])
         ("<document>" ∷ "    <comment xml:space=\"preserve\">" ∷ "        note::c" ∷ []) }
     ensures replace_outside { Reads (".. replace:: a" ∷ [])
         ("<document>" ∷ "    <system_message level=\"3\">" ∷ "        <paragraph>"

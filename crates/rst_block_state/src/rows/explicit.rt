@@ -118,7 +118,7 @@ pub fn wrong_substitutions()
     ensures malformed { Means (".. |a" ∷ []) 0
         ("<document> 0" ∷ "    <comment xml:space=\"preserve\"> 1" ∷ "        |a" ∷ "    <system_message level=\"2\"> 1"
         ∷ "        <paragraph> 1" ∷ "            malformed substitution definition." ∷ []) }
-    ensures no_space_behind_the_bar { Reads (".. |a|b| image:: c" ∷ ".. |d|" ∷ [])
+    ensures no_space_after_the_bar { Reads (".. |a|b| image:: c" ∷ ".. |d|" ∷ [])
         ("<document>" ∷ "    <substitution_definition>" ∷ "        <image alt=\"a|b\" uri=\"c\">" ∷ "    <comment xml:space=\"preserve\">"
         ∷ "        |d|" ∷ []) }
     ensures list_in_a_replacement { Reads (".. |a| replace:: - b" ∷ [])

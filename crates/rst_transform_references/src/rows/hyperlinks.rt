@@ -11,36 +11,36 @@ ghost use Rattle.rst_transform_names.specs.declared.names.Strength.TheVariants.{
 ghost use Rattle.rst_transform_names.specs.Trees.{counts, element, lists, says, text};
 ghost use Rattle.rst_transform_work.specs.declared.document.Document.{Document};
 ghost use Rattle.rst_transform_work.specs.Known.{Known};
-ghost use Rattle.rst_transform_work.specs.Written.{document_of, Shows};
+ghost use Rattle.rst_transform_work.specs.Written.{plain_document, Shows};
 ghost use Rattle.rst_transform_references.specs.Linkings.{linked_of};
 ghost use Rattle.rst_transform_references.specs.Outcomes.{adds};
 ghost use Rattle.rst_transform_references.specs.declared.links.Outcome.TheVariants.{Fails};
 ghost use Rattle.rst_transform_references.specs.declared.chains.Answer.TheVariants.{Leads, Missing, Circular};
-ghost use Rattle.rst_transform_references.specs.Anonymous.{agree, anonymous_outcomes, first_line, mismatch};
+ghost use Rattle.rst_transform_references.specs.Anonymous.{agree, anonymous_outcomes, first_anonymous_line, mismatch};
 ghost use Rattle.rst_transform_references.specs.declared.chains.Step.TheVariants.{Ends};
 ghost use Rattle.rst_transform_references.specs.Chains.{indirect_name, step_by};
-ghost use Rattle.rst_transform_references.specs.Indirect.{failure_of, indirect_outcomes, outcome_at, with_reports};
+ghost use Rattle.rst_transform_references.specs.Indirect.{failure_of, indirect_outcomes, indirect_outcome_at, with_reports};
 ghost use Rattle.rst_transform_references.specs.Written.{transformed_by};
 
 /// Anonymous references take the anonymous targets in order (Markup Specification, 'Anonymous Hyperlinks').
 pub fn anonymous()
-    ensures to_a_uri { Shows (transformed_by anonymous_outcomes [] (document_of (element Reference (counts Anonymous 1 ∷ []) (text "a" ∷ [])
+    ensures to_a_uri { Shows (transformed_by anonymous_outcomes [] (plain_document (element Reference (counts Anonymous 1 ∷ []) (text "a" ∷ [])
         ∷ element Target (counts Anonymous 1 ∷ lists Ids ("target-1" ∷ []) ∷ says Refuri "u" ∷ []) [] ∷ []))).0
         ("<document>" ∷ "    <reference anonymous=\"1\" refuri=\"u\">" ∷ "        a" ∷ "    <target anonymous=\"1\" ids=\"target-1\" refuri=\"u\">"
         ∷ []) }
-    ensures in_order { Shows (transformed_by anonymous_outcomes [] (document_of (element Reference (counts Anonymous 1 ∷ []) [] ∷ element Target (says Refuri "x" ∷ []) []
+    ensures in_order { Shows (transformed_by anonymous_outcomes [] (plain_document (element Reference (counts Anonymous 1 ∷ []) [] ∷ element Target (says Refuri "x" ∷ []) []
         ∷ element Target (counts Anonymous 1 ∷ says Refuri "u" ∷ []) [] ∷ element Target (counts Anonymous 1 ∷ says Refid "v" ∷ []) []
         ∷ element Reference [] [] ∷ element Reference (counts Anonymous 1 ∷ []) [] ∷ []))).0
         ("<document>" ∷ "    <reference anonymous=\"1\" refuri=\"u\">" ∷ "    <target refuri=\"x\">" ∷ "    <target anonymous=\"1\" refuri=\"u\">"
         ∷ "    <target anonymous=\"1\" refid=\"v\">" ∷ "    <reference>" ∷ "    <reference anonymous=\"1\" refid=\"v\">" ∷ []) }
-    ensures to_itself { Shows (transformed_by anonymous_outcomes [] (document_of (element Reference (counts Anonymous 1 ∷ []) [] ∷ element Target (counts Anonymous 1
+    ensures to_itself { Shows (transformed_by anonymous_outcomes [] (plain_document (element Reference (counts Anonymous 1 ∷ []) [] ∷ element Target (counts Anonymous 1
         ∷ lists Ids ("target-1" ∷ []) ∷ []) [] ∷ []))).0
         ("<document>" ∷ "    <reference anonymous=\"1\" refid=\"target-1\">" ∷ "    <target anonymous=\"1\" ids=\"target-1\">" ∷ []) }
-    ensures to_an_indirect_one { Shows (transformed_by anonymous_outcomes [] (document_of (element Reference (counts Anonymous 1 ∷ []) [] ∷ element Target (counts Anonymous 1
+    ensures to_an_indirect_one { Shows (transformed_by anonymous_outcomes [] (plain_document (element Reference (counts Anonymous 1 ∷ []) [] ∷ element Target (counts Anonymous 1
         ∷ lists Ids ("target-1" ∷ []) ∷ says Refname "b" ∷ []) [] ∷ []))).0
         ("<document>" ∷ "    <reference anonymous=\"1\">" ∷ "    <target anonymous=\"1\" ids=\"target-1\">" ∷ []) }
-    ensures too_few { agree (linked_of (document_of (element Reference (counts Anonymous 1 ∷ []) [] ∷ element Target [] [] ∷ []))) ≡ false }
-    ensures mismatched { let done : Document × Known = transformed_by anonymous_outcomes [] (document_of (Element Reference (counts Anonymous 1
+    ensures too_few { agree (linked_of (plain_document (element Reference (counts Anonymous 1 ∷ []) [] ∷ element Target [] [] ∷ []))) ≡ false }
+    ensures mismatched { let done : Document × Known = transformed_by anonymous_outcomes [] (plain_document (Element Reference (counts Anonymous 1
         ∷ says Rawsource "a__" ∷ []) bare 3 ∷ element Reference [] [] ∷ element Reference (counts Anonymous 1 ∷ says Rawsource "b__" ∷ []) []
         ∷ element Target (counts Anonymous 1 ∷ []) [] ∷ [])) in
         Shows done.0 ("<document>" ∷ "    <problematic ids=\"problematic-1\" refid=\"system-message-1\">" ∷ "        a__" ∷ "    <reference>"
@@ -48,10 +48,10 @@ pub fn anonymous()
         × (map (λ r. r.line) done.1.reports ≡ 3 ∷ [])
         × (map (λ r. r.text) done.1.reports ≡ codes "Anonymous hyperlink mismatch: 2 references but 1 targets." ∷ []) }
     ensures message { mismatch 2 10 ≡ codes "Anonymous hyperlink mismatch: 2 references but 10 targets." }
-    ensures line_of_a_reference { first_line (linked_of (document_of (Element Reference [] bare 5 ∷ Element Reference [] bare 6
-        ∷ []))) (linked_of (document_of (Element Target [] bare 3 ∷ [])))
+    ensures line_of_a_reference { first_anonymous_line (linked_of (plain_document (Element Reference [] bare 5 ∷ Element Reference [] bare 6
+        ∷ []))) (linked_of (plain_document (Element Target [] bare 3 ∷ [])))
         ≡ 5 }
-    ensures line_of_a_target { first_line [] (linked_of (document_of (Element Target [] bare 3 ∷ Element Target [] bare 4 ∷ []))) ≡ 3 }
+    ensures line_of_a_target { first_anonymous_line [] (linked_of (plain_document (Element Target [] bare 3 ∷ Element Target [] bare 4 ∷ []))) ≡ 3 }
 {}
 
 /// Indirect targets: those that fail, and what happens to the references to them (Markup Specification, 'Hyperlink Targets').
@@ -66,48 +66,48 @@ pub fn indirect()
     ensures circle { failure_of (element Target (says OwnName "a" ∷ []) []) (Some Circular)
         ≡ Some (codes "Indirect hyperlink target \"a\" is circular.") }
     ensures anonymous_target { failure_of (element Target [] []) (Some Circular) ≡ Some (codes "Indirect hyperlink target \"\" is circular.") }
-    ensures one_message_each { map (λ r. r.line) (with_reports (λ place. Some Circular) 0 [] 0 (linked_of (document_of (Element Target
+    ensures one_message_each { map (λ r. r.line) (with_reports (λ place. Some Circular) 0 [] 0 (linked_of (plain_document (Element Target
         (says Refname "b" ∷ []) bare 3 ∷ Element Target (says Refname "a" ∷ []) bare 4 ∷ [])))).1
         ≡ 3 ∷ 4 ∷ [] }
-    ensures places_of_messages { (with_reports (λ place. if nat_eq place 1 then None else Some Circular) 0 [] 0 (linked_of (document_of (element Target [] []
+    ensures places_of_messages { (with_reports (λ place. if nat_eq place 1 then None else Some Circular) 0 [] 0 (linked_of (plain_document (element Target [] []
         ∷ element Target [] [] ∷ element Target [] [] ∷ [])))).0
         ≡ Some 0 ∷ None ∷ Some 1 ∷ [] }
-    ensures target { outcome_at (λ place. Some (Leads (says Refuri "u"))) (λ place. None) (λ place. None) (0, (element Target (says Refname "b" ∷ []) [], None))
+    ensures target { indirect_outcome_at (λ place. Some (Leads (says Refuri "u"))) (λ place. None) (λ place. None) (0, (element Target (says Refname "b" ∷ []) [], None))
         ≡ adds (Some (says Refuri "u")) }
-    ensures failed_target { outcome_at (λ place. Some Circular) (λ place. Some 0) (λ place. None) (0, (element Target (says Refname "b" ∷ []) [], None))
+    ensures failed_target { indirect_outcome_at (λ place. Some Circular) (λ place. Some 0) (λ place. None) (0, (element Target (says Refname "b" ∷ []) [], None))
         ≡ adds None }
-    ensures reference_to_a_failed_one { outcome_at (λ place. None) (λ place. Some 4) (λ place. Some 1) (0, (element Reference [] [], None)) ≡ Fails 4 }
+    ensures reference_to_a_failed_one { indirect_outcome_at (λ place. None) (λ place. Some 4) (λ place. Some 1) (0, (element Reference [] [], None)) ≡ Fails 4 }
 {}
 
 /// Indirect targets lead where their chains of names end (Markup Specification, 'Hyperlink Targets').
 pub fn chains()
-    ensures to_a_uri { Shows (transformed_by indirect_outcomes ("a" ∷ "b" ∷ []) (document_of (element Reference (counts Anonymous 1 ∷ []) (text "x" ∷ [])
+    ensures to_a_uri { Shows (transformed_by indirect_outcomes ("a" ∷ "b" ∷ []) (plain_document (element Reference (counts Anonymous 1 ∷ []) (text "x" ∷ [])
         ∷ element Target (counts Anonymous 1 ∷ lists Ids ("target-1" ∷ []) ∷ says Refname "a" ∷ []) []
         ∷ element Target (counts Serial 0 ∷ says Refname "b" ∷ []) [] ∷ element Target (counts Serial 1 ∷ says Refuri "u" ∷ []) [] ∷ []))).0
         ("<document>" ∷ "    <reference anonymous=\"1\" refuri=\"u\">" ∷ "        x" ∷ "    <target anonymous=\"1\" ids=\"target-1\" refuri=\"u\">"
         ∷ "    <target refuri=\"u\">" ∷ "    <target refuri=\"u\">" ∷ []) }
-    ensures to_an_id { Shows (transformed_by indirect_outcomes ("a" ∷ "b" ∷ []) (document_of (element Target (counts Serial 0 ∷ says Refname "b" ∷ []) []
+    ensures to_an_id { Shows (transformed_by indirect_outcomes ("a" ∷ "b" ∷ []) (plain_document (element Target (counts Serial 0 ∷ says Refname "b" ∷ []) []
         ∷ element Footnote (counts Serial 1 ∷ []) [] ∷ []))).0 ("<document>" ∷ "    <target refid=\"b\">" ∷ "    <footnote>" ∷ []) }
-    ensures to_an_element_of_no_link { Shows (transformed_by indirect_outcomes ("a" ∷ "b" ∷ []) (document_of (element Target (counts Serial 0
+    ensures to_an_element_of_no_link { Shows (transformed_by indirect_outcomes ("a" ∷ "b" ∷ []) (plain_document (element Target (counts Serial 0
         ∷ says Refname "b" ∷ []) [] ∷ []))).0 ("<document>" ∷ "    <target refid=\"b\">" ∷ []) }
-    ensures circle { let done : Document × Known = transformed_by indirect_outcomes ("a" ∷ "b" ∷ []) (document_of (element Target (counts Serial 0
+    ensures circle { let done : Document × Known = transformed_by indirect_outcomes ("a" ∷ "b" ∷ []) (plain_document (element Target (counts Serial 0
         ∷ says OwnName "a" ∷ says Refname "b" ∷ []) [] ∷ element Target (counts Serial 1 ∷ says OwnName "b" ∷ says Refname "a" ∷ []) []
         ∷ element Reference (says Refname "b" ∷ says Rawsource "b_" ∷ []) [] ∷ [])) in
         Shows done.0 ("<document>" ∷ "    <target>" ∷ "    <target>" ∷ "    <problematic ids=\"problematic-1\" refid=\"system-message-1\">"
         ∷ "        b_" ∷ [])
         × (map (λ r. r.text) done.1.reports ≡ codes "Indirect hyperlink target \"a\" is circular."
         ∷ codes "Indirect hyperlink target \"b\" is circular." ∷ []) }
-    ensures into_a_circle { map (λ r. r.text) (transformed_by indirect_outcomes ("a" ∷ "b" ∷ []) (document_of (element Target (says OwnName "c"
+    ensures into_a_circle { map (λ r. r.text) (transformed_by indirect_outcomes ("a" ∷ "b" ∷ []) (plain_document (element Target (says OwnName "c"
         ∷ says Refname "a" ∷ []) [] ∷ element Target (counts Serial 0 ∷ says OwnName "a" ∷ says Refname "a" ∷ []) [] ∷ []))).1.reports
         ≡ codes "Indirect hyperlink target \"c\" is circular." ∷ codes "Indirect hyperlink target \"a\" is circular." ∷ [] }
-    ensures missing_name { let done : Document × Known = transformed_by indirect_outcomes ("a" ∷ []) (document_of (element Target (says OwnName "c"
+    ensures missing_name { let done : Document × Known = transformed_by indirect_outcomes ("a" ∷ []) (plain_document (element Target (says OwnName "c"
         ∷ says Refname "a" ∷ []) [] ∷ element Target (counts Serial 0 ∷ says OwnName "a" ∷ says Refname "b" ∷ []) []
         ∷ element Reference (says Refname "a" ∷ says Rawsource "a_" ∷ []) [] ∷ [])) in
         Shows done.0 ("<document>" ∷ "    <target>" ∷ "    <target>" ∷ "    <problematic ids=\"problematic-1\" refid=\"system-message-1\">"
         ∷ "        a_" ∷ [])
         × (map (λ r. r.text) done.1.reports ≡ codes "Indirect hyperlink target \"c\" refers to target \"b\", which does not exist."
         ∷ codes "Indirect hyperlink target \"a\" refers to target \"b\", which does not exist." ∷ []) }
-    ensures left_to_a_later_transform { Shows (transformed_by indirect_outcomes ("a" ∷ "b" ∷ []) (document_of (element Reference (says Refname "a" ∷ []) []
+    ensures left_to_a_later_transform { Shows (transformed_by indirect_outcomes ("a" ∷ "b" ∷ []) (plain_document (element Reference (says Refname "a" ∷ []) []
         ∷ element Target (counts Serial 0 ∷ says Refname "b" ∷ []) [] ∷ element Target (counts Serial 1 ∷ says Refuri "u" ∷ []) [] ∷ []))).0
         ("<document>" ∷ "    <reference>" ∷ "    <target refuri=\"u\">" ∷ "    <target refuri=\"u\">" ∷ []) }
 {}

@@ -2,7 +2,7 @@ use Rattle.std.proofs.Common.{◌≡◌, false, take, filter}
 use Rattle.std.specs.List.{flat_map}
 use Rattle.rst_text.specs.Counted.{inner_of, has_failed}
 use Rattle.rst_tree.specs.Message.{message_of}
-use Rattle.rst2pseudoxml_run.specs.Shown as spec
+use Rattle.rst2pseudoxml_run.specs.RunResult as spec
 use Rattle.rst2pseudoxml_run.proofs.error_text.error_text.Given as goal
 
 -- the messages so far were written

@@ -1,7 +1,7 @@
 use Rattle.std.proofs.Common.{[]}
 use Rattle.rst_settings.specs.Profile.{profile_of}
 use Rattle.rst_text.specs.Counted.{between, inner_of}
-use Rattle.rst2pseudoxml_run.proofs.ShownLemmas.{ends_read, ends_refused, ends_unread}
+use Rattle.rst2pseudoxml_run.proofs.RunResultLemmas.{ends_read, ends_refused, ends_unread}
 use Rattle.std.proofs.KnownBytes.{Keeps-refl}
 use Rattle.rst_text.proofs.WriteLemmas.{sent_nothing}
 use Rattle.rst2pseudoxml_run.proofs.running.run.Goals as goal

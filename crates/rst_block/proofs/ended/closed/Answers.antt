@@ -1,5 +1,5 @@
 use Rattle.std.proofs.Common.{◌++◌, rules, ap, ◌∙◌}
-use Rattle.rst_text.specs.Shown.{block_of, source_of}
+use Rattle.rst_text.specs.ViewBlock.{block_of, source_of}
 use Rattle.rst_block_state.specs.Texts.{lines_in}
 use Rattle.rst_block_state.specs.declared.open_block.OpenBlock.{OpenBlock}
 use Rattle.rst_block_state.proofs.Calls.{refused_as, refuses}

@@ -4,7 +4,7 @@ use Rattle.std.proofs.lemmas.Result.{IfOk-weaker}
 use Rattle.std.specs.Vec.Iter.{into_iter_items}
 use Rattle.rst_text.specs.Block.{Block}
 use Rattle.rst_text.specs.Lines.{are_lines}
-use Rattle.rst_text.specs.Shown.{block_of, source_of}
+use Rattle.rst_text.specs.ViewBlock.{block_of, source_of}
 use Rattle.rst_text.proofs.Cuts.{are_lines-block_of}
 use Rattle.rst_tree.specs.declared.node.Node.{Node}
 use Rattle.rst_tree.specs.declared.tag.Tag.TheVariants.{Row}
@@ -12,8 +12,8 @@ use Rattle.rst_markup_tables.specs.Results.{cells_of}
 use Rattle.rst_markup_tables.specs.declared.results.TableResult.TheVariants.{Table}
 use Rattle.rst_block_nodes.specs.Elements.{element_of}
 use Rattle.rst_block_state.specs.Inside.{cell_blocks}
-use Rattle.rst_block_state.specs.Ledger.{totals}
-use Rattle.rst_block_state.specs.Meanings.{comes, deepest, done_of, reads, within_at}
+use Rattle.rst_block_state.specs.looks.Ledger.{totals}
+use Rattle.rst_block_state.specs.machine.Meanings.{comes, deepest, done_of, reads, within_at}
 use Rattle.rst_block_state.specs.Nodes.{block_items}
 use Rattle.rst_block_state.specs.Numbered.{just, then_read}
 use Rattle.rst_block_state.specs.Tables.{entry_of, row_of, table_node}
@@ -142,19 +142,19 @@ cells-returns-clause-kept t c = c.in_ok-after_table.ensures.more.depth ∙ c.in_
 pub cells-returns-clause-read : goal.cells-returns-clause-read
 cells-returns-clause-read t c =
     let B : Block = block_of c.args.view.now in
-    let behind = rw c.in-Table.is at c.requires.table in
+    let is_later = rw c.in-Table.is at c.requires.table in
     ap (λ k. reads c.after_table.new.level B k) c.in_ok-after_table.ensures.numbers
     ∙ table_reads c.args.level.now c.go_to.new.self c.put_table.new.level c.after_table.new.level B c.args.depth c.args.found c.in-Table.cols c.in-Table.head c.in-Table.end c.in-Table.rows c.in_ok-made.made (table_node c.as_slice.result.now c.in-Table.head c.in_ok-made.made c.number-line.result)
     c.args.pass.now.numbers c.rows_of.new.pass.numbers c.in-Table.is c.requires.level (sym c.in_ok-made.ensures.rows)
     (ap (λ widths. table_node widths c.in-Table.head c.in_ok-made.made c.number-line.result) c.as_slice.ensures
     ∙ ap (λ line. table_node c.in-Table.cols c.in-Table.head c.in_ok-made.made line) c.number-line.ensures.value)
-    c.go_to.ensures.moved (c.go_to.ensures.there behind) c.in_ok-put_table.ensures c.in_ok-after_table.ensures.more
+    c.go_to.ensures.moved (c.go_to.ensures.there is_later) c.in_ok-put_table.ensures c.in_ok-after_table.ensures.more
 
 pub cells-returns-clause-paid : goal.cells-returns-clause-paid
 cells-returns-clause-paid t c =
-    let behind = rw c.in-Table.is at c.requires.table in
+    let is_later = rw c.in-Table.is at c.requires.table in
     table_paid c.args.level.now c.go_to.new.self c.put_table.new.level c.after_table.new.level (block_of c.args.view.now) c.args.depth c.args.found c.in-Table.cols c.in-Table.head c.in-Table.end c.in-Table.rows
-    _ _ _ _ _ c.in-Table.is c.requires.level c.in_ok-made.ensures.paid c.go_to.ensures.moved (c.go_to.ensures.there behind) c.in_ok-put_table.ensures
+    _ _ _ _ _ c.in-Table.is c.requires.level c.in_ok-made.ensures.paid c.go_to.ensures.moved (c.go_to.ensures.there is_later) c.in_ok-put_table.ensures
     c.in_ok-after_table.ensures.more (omega (arith, c.in_ok-after_table.ensures.looked.0)) c.in_ok-after_table.ensures.looked.1
 
 pub rows_of-loop-cells-init : goal.rows_of-loop-cells-init

@@ -1,11 +1,11 @@
 use Rattle.std.proofs.Common.{◌≡◌, ◌+◌, ◌-◌, ◌*◌, [], drop, take}
 use Rattle.std.specs.Vec.Iter.{into_iter_items}
-use Rattle.rst_text.specs.Shown.{block_of, source_of}
+use Rattle.rst_text.specs.ViewBlock.{block_of, source_of}
 use Rattle.rst_markup_tables.specs.Results.{cells_of}
 use Rattle.rst_markup_tables.specs.declared.results.TableResult.TheVariants.{Table}
 use Rattle.rst_block_state.specs.Inside.{cell_blocks}
-use Rattle.rst_block_state.specs.Ledger.{total_at, totals}
-use Rattle.rst_block_state.specs.Meanings.{plug, reads, within_at}
+use Rattle.rst_block_state.specs.looks.Ledger.{total_at, totals}
+use Rattle.rst_block_state.specs.machine.Meanings.{plug, reads, within_at}
 use Rattle.rst_block_state.specs.Nodes.{block_items}
 use Rattle.rst_block_state.specs.Numbered.{each}
 use Rattle.rst_block_state.specs.Tables.{entry_of, row_of}

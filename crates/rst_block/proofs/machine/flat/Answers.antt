@@ -1,10 +1,10 @@
 use Rattle.std.proofs.Common.{◌≡◌, ℕ, [], None, length, arith, rules, ap, ◌∙◌}
 use Rattle.std.proofs.lemmas.Result.{IfOk-weaker}
 use Rattle.rst_text.specs.Block.{Block}
-use Rattle.rst_text.specs.Shown.{block_of}
-use Rattle.rst_block_state.specs.Ledger.{most_after, least_after, most_left, least_left, Takes}
-use Rattle.rst_block_state.specs.MeaningLaws.{IsBlankPart}
-use Rattle.rst_block_state.specs.Meanings.{resumed}
+use Rattle.rst_text.specs.ViewBlock.{block_of}
+use Rattle.rst_block_state.specs.looks.Ledger.{most_after, least_after, most_left, least_left, Takes}
+use Rattle.rst_block_state.specs.machine.MeaningLaws.{IsBlankPart}
+use Rattle.rst_block_state.specs.machine.Meanings.{resumed}
 use Rattle.rst_block_state.specs.Texts.{lines_in}
 use Rattle.rst_block_state.specs.declared.step.Step.TheVariants.{Open}
 use Rattle.rst_block_state.proofs.Calls.{keeps_as}

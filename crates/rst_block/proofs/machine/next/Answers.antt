@@ -1,9 +1,9 @@
 use Rattle.std.proofs.Common.{◌≡◌, ◌<◌, arith, rules, refl, sym, subst, ◌∙◌}
 use Rattle.rst_text.specs.Block.{Block}
-use Rattle.rst_text.specs.Shown.{block_of}
-use Rattle.rst_block_state.specs.Ledger.{most_left, least_left, Takes}
-use Rattle.rst_block_state.specs.Meanings.{comes, reads}
-use Rattle.rst_block_state.specs.Steps.{IsStep}
+use Rattle.rst_text.specs.ViewBlock.{block_of}
+use Rattle.rst_block_state.specs.looks.Ledger.{most_left, least_left, Takes}
+use Rattle.rst_block_state.specs.machine.Meanings.{comes, reads}
+use Rattle.rst_block_state.specs.machine.Steps.{IsStep}
 use Rattle.rst_block_state.specs.declared.step.Step.TheVariants.{Next}
 use Rattle.rst_block_state.proofs.Calls.{close_refuses}
 use Rattle.rst_block_state.proofs.LedgerLemmas.{ended}

@@ -1,7 +1,7 @@
 use Rattle.std.proofs.Common.{◌≡◌, ◌-◌, ◌≤◌, length}
-use Rattle.rst_text.specs.Shown.{block_of}
-use Rattle.rst_block_state.specs.Ledger.{most_left, least_left, Takes}
-use Rattle.rst_block_state.specs.Meanings.{reads}
+use Rattle.rst_text.specs.ViewBlock.{block_of}
+use Rattle.rst_block_state.specs.looks.Ledger.{most_left, least_left, Takes}
+use Rattle.rst_block_state.specs.machine.Meanings.{reads}
 use Rattle.rst_block_state.specs.declared.step.Step.TheVariants.{Next}
 use Rattle.rst_block.proofs.machine.next.Given as goal
 

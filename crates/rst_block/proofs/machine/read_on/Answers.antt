@@ -1,8 +1,8 @@
 use Rattle.std.proofs.Common.{◌≡◌, ℕ, ◌+◌, ◌-◌, ◌*◌, ◌^◌, ◌<◌, List, [], ◌∷◌, length, length-append, length-drop, drop, arith, rules, refl, sym, ap, ◌∙◌}
 use Rattle.std.proofs.lemmas.List.{drop-append-le}
 use Rattle.rst_text.specs.Block.{Block}
-use Rattle.rst_text.specs.Shown.{block_of, source_of, placement_block}
-use Rattle.rst_block_state.specs.Meanings.{comes, reads}
+use Rattle.rst_text.specs.ViewBlock.{block_of, source_of, placement_block}
+use Rattle.rst_block_state.specs.machine.Meanings.{comes, reads}
 use Rattle.rst_block_state.specs.declared.frame.Frame.{Frame}
 use Rattle.rst_block_state.specs.declared.open_block.OpenBlock.{OpenBlock}
 use Rattle.rst_block_state.specs.declared.step.Step.{Step}

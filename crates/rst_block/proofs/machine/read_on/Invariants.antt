@@ -1,8 +1,8 @@
 use Rattle.std.proofs.Common.{◌≡◌, ◌+◌, ◌-◌, ◌≤◌, length, take, drop}
-use Rattle.rst_text.specs.Shown.{block_of, source_of}
-use Rattle.rst_block_state.specs.Frames.{AreFrames, AreNested, IsNow}
-use Rattle.rst_block_state.specs.Ledger.{least_in, least_left, most_in, most_left}
-use Rattle.rst_block_state.specs.Meanings.{comes, plug, reads}
+use Rattle.rst_text.specs.ViewBlock.{block_of, source_of}
+use Rattle.rst_block_state.specs.machine.Frames.{AreFrames, AreNested, IsNow}
+use Rattle.rst_block_state.specs.looks.Ledger.{least_in, least_left, most_in, most_left}
+use Rattle.rst_block_state.specs.machine.Meanings.{comes, plug, reads}
 use Rattle.rst_block_state.specs.declared.step.Step.TheVariants.{Next}
 use Rattle.rst_block.specs.Reading.{text_left}
 use Rattle.rst_block.proofs.MachinePaid.{IsPaidFor}

@@ -1,8 +1,8 @@
 use Rattle.std.proofs.Common.{[], sym, ap}
 use Rattle.std.proofs.lemmas.Result.{IfOk-weaker}
-use Rattle.rst_text.specs.Shown.{block_of}
-use Rattle.rst_block_state.specs.Ledger.{AreQuotesPaid}
-use Rattle.rst_block_state.specs.Meanings.{after_quote}
+use Rattle.rst_text.specs.ViewBlock.{block_of}
+use Rattle.rst_block_state.specs.looks.Ledger.{AreQuotesPaid}
+use Rattle.rst_block_state.specs.machine.Meanings.{after_quote}
 use Rattle.rst_block_state.proofs.Calls.{keeps_as}
 use Rattle.rst_block_body.proofs.QuoteSteps.{quote_ends}
 use Rattle.rst_block_body.proofs.QuotesPaid.{further_paid, last_paid}

@@ -1,13 +1,13 @@
 use Rattle.std.proofs.Common.{◌≡◌, List, [], ◌∷◌, string_bytes, option_map, box_value, ◌-◌, arith, refl, sym, ap, ◌∙◌, subst}
 use Rattle.std.proofs.lemmas.Result.{IfOk-weaker}
 use Rattle.rst_text.specs.Block.{Block}
-use Rattle.rst_text.specs.Shown.{block_of}
+use Rattle.rst_text.specs.ViewBlock.{block_of}
 use Rattle.rst_tree.specs.declared.node.Node.{Node}
 use Rattle.rst_tree.specs.declared.tag.Tag.TheVariants.{ListItem}
 use Rattle.rst_block_nodes.specs.Elements.{element_of}
 use Rattle.rst_block_state.specs.Directives.{first_paragraph, replacement}
-use Rattle.rst_block_state.specs.Ledger.{WaitsForOne, run_looks, waiting_looks}
-use Rattle.rst_block_state.specs.Meanings.{after_quote, quote_by, resumed}
+use Rattle.rst_block_state.specs.looks.Ledger.{WaitsForOne, run_looks, waiting_looks}
+use Rattle.rst_block_state.specs.machine.Meanings.{after_quote, quote_by, resumed}
 use Rattle.rst_block_state.specs.declared.waits.OpenReplacement.{OpenReplacement}
 use Rattle.rst_block_state.proofs.Calls.{keeps_as, depth_after}
 use Rattle.rst_block_state.proofs.Changes.{item_depth}

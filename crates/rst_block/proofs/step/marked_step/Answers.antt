@@ -1,7 +1,7 @@
 use Rattle.std.proofs.Common.{subst}
 use Rattle.std.specs.Prelude.{◌==◌, drop}
 use Rattle.rst_text.specs.Block.{Block}
-use Rattle.rst_text.specs.Shown.{block_of}
+use Rattle.rst_text.specs.ViewBlock.{block_of}
 use Rattle.rst_markup_blocks.specs.Begun.{IsBegun}
 use Rattle.rst_block_body.proofs.StepsPaid.{grid_found, simple_found}
 use Rattle.rst_block_body.proofs.TableSteps.{grid_there}

@@ -3,7 +3,7 @@ use Rattle.std.proofs.lemmas.List.{drop-drop}
 use Rattle.std.proofs.lemmas.Result.{IfOk-weaker}
 use Rattle.std.specs.Prelude.{◌≢◌, drop}
 use Rattle.rst_text.specs.Block.{Block}
-use Rattle.rst_text.specs.Shown.{block_of}
+use Rattle.rst_text.specs.ViewBlock.{block_of}
 use Rattle.rst_markup_blocks.specs.declared.begun.Begun.{Begun}
 use Rattle.rst_markup_blocks.specs.declared.begun.Begun.TheVariants.{Blank, Text}
 use Rattle.rst_markup_blocks.specs.Begun.{IsBegun}
@@ -11,7 +11,7 @@ use Rattle.rst_markup_blocks.specs.Lines.{lines_while}
 use Rattle.rst_markup_blocks.specs.declared.kind.Kind.TheVariants as kinds
 use Rattle.rst_markup_blocks.specs.declared.lines.LineTest.TheVariants.{Blank as BlankTest}
 use Rattle.rst_markup_blocks.proofs.RowLemmas.{row_at}
-use Rattle.rst_block_state.specs.Ledger.{IsPaid}
+use Rattle.rst_block_state.specs.looks.Ledger.{IsPaid}
 use Rattle.rst_block_state.proofs.LedgerLemmas.{blank_lines}
 use Rattle.rst_block_state.proofs.NextConstructs.{IsFilled, are_blank, blank_reads, next_of}
 use Rattle.rst_block_body.proofs.StepsPaid.{step_taken, text_taken}
@@ -30,9 +30,9 @@ pub returns-in-Blank : goal.returns-in-Blank
 returns-in-Blank c =
     let B : Block = block_of c.args.view.now in
     let at = c.args.level.now.at in
-    let behind : drop 1 (drop at B) ≡ drop (at + 1) B = drop-drop 1 at B ∙ ap (λ i. drop i B) (omega arith) in
+    let rest_of_block : drop 1 (drop at B) ≡ drop (at + 1) B = drop-drop 1 at B ∙ ap (λ i. drop i B) (omega arith) in
     let all : lines_while BlankTest (drop at B) ≡ suc (lines_while BlankTest (drop (at + 1) B)) =
-    blank_more (drop at B) (omega (arith, length-drop at B)) c.in-Blank.ensures.begun ∙ ap (λ X. suc (lines_while BlankTest X)) behind in
+    blank_more (drop at B) (omega (arith, length-drop at B)) c.in-Blank.ensures.begun ∙ ap (λ X. suc (lines_while BlankTest X)) rest_of_block in
     let there = c.go_to.ensures.there (omega (arith, c.lines_end.ensures.end)) in
     let end : c.go_to.new.self.at ≡ at + lines_while BlankTest (drop at B) = omega (arith, there, c.lines_end.ensures.end, all) in
     let moved = c.go_to.ensures.moved in

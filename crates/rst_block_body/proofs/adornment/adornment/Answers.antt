@@ -1,6 +1,6 @@
 use Rattle.std.proofs.Common.{sym, refl, subst}
-use Rattle.rst_text.specs.Shown.{block_of}
-use Rattle.rst_block_state.specs.NextLine.{IsText}
+use Rattle.rst_text.specs.ViewBlock.{block_of}
+use Rattle.rst_block_state.specs.machine.NextLine.{IsText}
 use Rattle.rst_block_body.proofs.AdornedSteps.{form_is, adorned_next, titled_at_top, wrong_next}
 use Rattle.rst_block_body.proofs.ReadLemmas.{adorned_read}
 use Rattle.rst_block_body.proofs.adornment.adornment.Goals as goal

@@ -1,15 +1,15 @@
 use Rattle.std.proofs.Common.{◌≡◌, ◌+◌, ◌≤◌, length, drop, slice_range, arith, rules, refl, sym, ◌∙◌, ap}
 use Rattle.rst_text.specs.Block.{Block, first_number}
-use Rattle.rst_text.specs.Shown.{block_of}
+use Rattle.rst_text.specs.ViewBlock.{block_of}
 use Rattle.std.specs.Prelude.{string_bytes}
 use Rattle.std.specs.Str.{chars}
-use Rattle.rst_text.specs.Block.{front_text}
-use Rattle.rst_markup_lines.specs.Front.{unindented}
+use Rattle.rst_text.specs.Block.{first_text}
+use Rattle.rst_markup_lines.specs.TextStart.{unindented}
 use Rattle.rst_markup_blocks.specs.Conditions.{next_text}
-use Rattle.rst_block_state.specs.Texts.{source_of}
+use Rattle.rst_block_state.specs.Texts.{span_source}
 use Rattle.rst_block_state.specs.Titles.{short_warning}
 use Rattle.rst_block_body.proofs.AdornedSteps.{overlined_reads}
-use Rattle.rst_block_state.proofs.NextConstructs.{next_some, next_within, lines_after, end_behind, goes_behind, span_to, has_ended, next_title}
+use Rattle.rst_block_state.proofs.NextConstructs.{next_some, next_within, lines_after, end_after_lines, goes_after_lines, span_to, has_ended, next_title}
 use Rattle.rst_block_body.proofs.ReadLemmas.{alone_refused}
 use Rattle.rst_block_body.proofs.TextsPaid.{paid_flat, lines_looked}
 use Rattle.rst_block_state.proofs.Views.{few_lines}
@@ -27,23 +27,23 @@ returns c =
     let l = c.args.level.now in
     let found = c.requires.found in
     let within : l.at + 3 ≤ length B = next_within found c.requires.inside in
-    let stop : c.saturating_add-end.result ≡ l.at + 3 = end_behind l.at c.close.new.self.at c.saturating_add-end.result 3 (length B) c.close.ensures.at c.saturating_add-end.ensures within (few_lines c.args.view.now) in
+    let stop : c.saturating_add-end.result ≡ l.at + 3 = end_after_lines l.at c.close.new.self.at c.saturating_add-end.result 3 (length B) c.close.ensures.at c.saturating_add-end.ensures within (few_lines c.args.view.now) in
     let looked : length (slice_range B c.close.new.self.at c.saturating_add-end.result) ≡ 3 = lines_looked B c.close.new.self.at c.saturating_add-end.result c.close.ensures.at stop within in
-    let bytes : string_bytes c.in_ok-lines.lines ≡ source_of B (span_to l.at (l.at + 3)) =
-    c.in_ok-lines.ensures.bytes ∙ ap (λ i. source_of B (span_to i c.saturating_add-end.result)) c.close.ensures.at ∙ ap (λ i. source_of B (span_to l.at i)) stop in
+    let bytes : string_bytes c.in_ok-lines.lines ≡ span_source B (span_to l.at (l.at + 3)) =
+    c.in_ok-lines.ensures.bytes ∙ ap (λ i. span_source B (span_to i c.saturating_add-end.result)) c.close.ensures.at ∙ ap (λ i. span_source B (span_to l.at i)) stop in
     let second : c.saturating_add.result ≡ l.at + 1 = omega (arith, c.saturating_add.ensures, c.close.ensures.at, within, few_lines c.args.view.now) in
     let third : c.saturating_add-2.result ≡ l.at + 1 = omega (arith, c.saturating_add-2.ensures, c.close.ensures.at, within, few_lines c.args.view.now) in
     let line : c.number_at-line.result ≡ first_number (drop 1 (drop l.at B)) = c.number_at-line.ensures ∙ ap first_number (sym (lines_after B l.at 1 c.saturating_add.result second)) in
     let text : chars c.skip-text.result.now ≡ unindented (next_text (drop l.at B)) =
     c.skip-text.ensures.chars
     ∙ ap (λ i. drop i (chars c.text_at-text.result.now)) c.indentation.ensures.value
-    ∙ ap unindented (c.text_at-text.ensures.text ∙ ap front_text (sym (lines_after B l.at 1 c.saturating_add-2.result third))) in
+    ∙ ap unindented (c.text_at-text.ensures.text ∙ ap first_text (sym (lines_after B l.at 1 c.saturating_add-2.result third))) in
     let warning : c.in_ok-warning.warning ≡ short_warning c.args.short (first_number (drop l.at B)) _ (string_bytes c.in_ok-lines.lines) =
     c.in_ok-warning.ensures
     ∙ ap (λ i. short_warning c.args.short i _ c.as_str.result.now) (c.number_at.ensures ∙ ap (λ i. first_number (drop i B)) c.close.ensures.at)
     ∙ ap (short_warning c.args.short (first_number (drop l.at B)) _) c.as_str.ensures.value in
     let at : c.go_to.new.self.at ≡ l.at + 3 =
-    goes_behind l.at c.close.new.self.at c.go_to.new.self.at c.saturating_add-end.result 3 (length B) c.close.ensures.at c.saturating_add-end.ensures (next_some found c.requires.inside)
+    goes_after_lines l.at c.close.new.self.at c.go_to.new.self.at c.saturating_add-end.result 3 (length B) c.close.ensures.at c.saturating_add-end.ensures (next_some found c.requires.inside)
     within (few_lines c.args.view.now) c.go_to.ensures.there in
     let closed = c.in_ok-close.ensures.closed in
     let moved = c.go_to.ensures.moved in

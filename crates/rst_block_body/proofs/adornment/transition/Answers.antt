@@ -1,10 +1,10 @@
 use Rattle.std.proofs.Common.{◌≡◌, ◌+◌, ◌∷◌, [], length, drop, Ok, arith, rules, sym, ◌∙◌, ap}
 use Rattle.rst_text.specs.Block.{Block, first_number}
-use Rattle.rst_text.specs.Shown.{block_of}
+use Rattle.rst_text.specs.ViewBlock.{block_of}
 use Rattle.rst_tree.specs.declared.node.Node.{Node}
 use Rattle.rst_block_state.specs.Titles.{plain, transition_node}
 use Rattle.rst_block_state.proofs.Changes.{moved_more}
-use Rattle.rst_block_state.proofs.NextConstructs.{next_some, next_within, goes_behind, has_ended, next_nodes}
+use Rattle.rst_block_state.proofs.NextConstructs.{next_some, next_within, goes_after_lines, has_ended, next_nodes}
 use Rattle.rst_block_body.proofs.ReadLemmas.{alone_refused}
 use Rattle.rst_block_body.proofs.TextsPaid.{paid_flat}
 use Rattle.rst_block_state.proofs.Views.{few_lines}
@@ -21,7 +21,7 @@ returns c =
     let node : c.element-node.result ≡ transition_node (first_number (drop l.at B)) =
     c.element-node.ensures ∙ ap transition_node (c.number_at.ensures ∙ ap (λ i. first_number (drop i B)) c.close.ensures.at) in
     let at : c.go_to.new.self.at ≡ l.at + 1 =
-    goes_behind l.at c.close.new.self.at c.go_to.new.self.at c.saturating_add.result 1 (length B) c.close.ensures.at c.saturating_add.ensures (next_some found c.requires.inside)
+    goes_after_lines l.at c.close.new.self.at c.go_to.new.self.at c.saturating_add.result 1 (length B) c.close.ensures.at c.saturating_add.ensures (next_some found c.requires.inside)
     (next_within found c.requires.inside) (few_lines c.args.view.now) c.go_to.ensures.there in
     let closed = c.in_ok-close.ensures.closed in
     let more = moved_more c.go_to.ensures.moved at c.in_ok-push.ensures.more in

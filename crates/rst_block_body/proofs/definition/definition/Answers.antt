@@ -1,15 +1,15 @@
 use Rattle.std.proofs.Common.{◌∙◌, drop, arith, refl, rules}
 use Rattle.std.specs.Prelude.{None}
-use Rattle.rst_text.specs.Shown.{block_of}
+use Rattle.rst_text.specs.ViewBlock.{block_of}
 use Rattle.rst_tree.specs.declared.tag.Tag.TheVariants.{DefinitionListItem, Definition as DefinitionTag}
 use Rattle.rst_block_state.specs.Constructs.{definition_item}
 use Rattle.rst_block_state.specs.Lists.{empty_list, item_with}
-use Rattle.rst_block_state.specs.Meanings.{open_of, within_at}
-use Rattle.rst_block_state.specs.OpenBlocks.{HasRun, with_infos}
+use Rattle.rst_block_state.specs.machine.Meanings.{open_run_of, within_at}
+use Rattle.rst_block_state.specs.machine.OpenBlocks.{HasRun, with_infos}
 use Rattle.rst_block_state.specs.declared.waits.Waits.TheVariants.{ListedBody}
 use Rattle.rst_block_state.specs.declared.run.ListKind.TheVariants.{Definition}
 use Rattle.rst_block_state.specs.declared.step.Step.TheVariants.{Open}
-use Rattle.rst_block_body.proofs.ListItems.{item_behind, next_definition, IsOpened, plain_item, opened_depth, plain_refused, definition_made}
+use Rattle.rst_block_body.proofs.ListItems.{item_end_later, next_definition, IsOpened, plain_item, opened_depth, plain_refused, definition_made}
 use Rattle.rst_block_body.proofs.ListsPaid.{found_below, definition_is, paid_item}
 use Rattle.rst_block_state.proofs.MeaningLemmas.{body_means}
 use Rattle.rst_block_body.proofs.definition.definition.Goals as goal
@@ -40,8 +40,8 @@ returns c =
     let opened : IsOpened l c.join_list.new.level B Definition (empty_list mark (drop l.at B)) part.to c.args.pass.now.numbers k =
     record { joins = c.in_ok-join_list.ensures.joins; numbers = c.in_ok-join_list.ensures.numbers; begins = c.in_ok-join_list.ensures.begins } in
     let next = next_definition l B infos c.requires.text c.requires.form is in
-    let run : HasRun c.join_list.new.level c.match-level.level (with_infos infos (open_of c.join_list.new.level.run)) = search rules in
-    let there = c.go_to.ensures.there (rw (run.at, c.in_ok-join_list.ensures.at) (item_behind next c.requires.inside)) in
+    let run : HasRun c.join_list.new.level c.match-level.level (with_infos infos (open_run_of c.join_list.new.level.run)) = search rules in
+    let there = c.go_to.ensures.there (rw (run.at, c.in_ok-join_list.ensures.at) (item_end_later next c.requires.inside)) in
     record {
       step = search rules;
       read = plain_item l c.join_list.new.level c.match-level.level c.go_to.new.self B mark Definition (Open waits part None) (λ w. item_with w B DefinitionListItem DefinitionTag line part heads.items notes.items) part.to

@@ -2,15 +2,15 @@ use Rattle.std.proofs.Common.{drop, arith, refl, sym, ap, ◌∙◌, rules}
 use Rattle.std.specs.Prelude.{slice_range, string_bytes, None}
 use Rattle.std.specs.Str.{chars}
 use Rattle.std.proofs.lemmas.Str.{chars_from_encodes, IsUtf8-string_bytes}
-use Rattle.rst_text.specs.Shown.{block_of}
+use Rattle.rst_text.specs.ViewBlock.{block_of}
 use Rattle.rst_tree.specs.declared.tag.Tag.TheVariants.{Field as FieldTag, FieldBody}
 use Rattle.rst_block_state.specs.Constructs.{field_item}
 use Rattle.rst_block_state.specs.Lists.{empty_list, item_with}
-use Rattle.rst_block_state.specs.Meanings.{within_at}
+use Rattle.rst_block_state.specs.machine.Meanings.{within_at}
 use Rattle.rst_block_state.specs.declared.waits.Waits.TheVariants.{ListedBody}
 use Rattle.rst_block_state.specs.declared.run.ListKind.TheVariants.{Field}
 use Rattle.rst_block_state.specs.declared.step.Step.TheVariants.{Open}
-use Rattle.rst_block_body.proofs.ListItems.{item_behind, next_field, IsOpened, none_noted, plain_item, opened_depth, plain_refused, field_made}
+use Rattle.rst_block_body.proofs.ListItems.{item_end_later, next_field, IsOpened, none_noted, plain_item, opened_depth, plain_refused, field_made}
 use Rattle.rst_block_body.proofs.ListsPaid.{found_hanging, paid_item}
 use Rattle.rst_block_state.proofs.MeaningLemmas.{body_means}
 use Rattle.rst_block_body.proofs.field.field.Goals as goal
@@ -42,7 +42,7 @@ returns c =
     record { joins = c.in_ok-join_list.ensures.joins; numbers = c.in_ok-join_list.ensures.numbers; begins = c.in_ok-join_list.ensures.begins } in
     let text = sym (chars_from_encodes _ (string_bytes c.in_ok-name.name) (IsUtf8-string_bytes c.in_ok-name.name) (sym c.in_ok-name.ensures)) in
     let next = next_field l B c.requires.begun is in
-    let there = c.go_to.ensures.there (rw c.in_ok-join_list.ensures.at (item_behind next c.requires.inside)) in
+    let there = c.go_to.ensures.there (rw c.in_ok-join_list.ensures.at (item_end_later next c.requires.inside)) in
     record {
       step = search rules;
       read = plain_item l mid mid c.go_to.new.self B mark Field (Open waits part None) (λ w. item_with w B FieldTag FieldBody line part heads.items notes.items) part.to c.args.pass.now.numbers k m

@@ -1,12 +1,12 @@
 use Rattle.std.proofs.Common.{◌≡◌, ℕ, ◌+◌, ◌<◌, [], drop, unwrap_or, arith, rules, refl, sym, subst, ◌∙◌, ap}
-use Rattle.rst_text.specs.Shown.{block_of}
+use Rattle.rst_text.specs.ViewBlock.{block_of}
 use Rattle.rst_markup_blocks.specs.declared.begun.Begun.TheVariants.{Line}
 use Rattle.rst_markup_blocks.specs.Sizes.{indented_size}
 use Rattle.rst_block_nodes.specs.LineBlocks.{indented_by, indented}
 use Rattle.rst_block_state.specs.LineRuns.{indentation_of, indented_line}
-use Rattle.rst_block_state.specs.Meanings.{open_of, reads}
-use Rattle.rst_block_state.specs.OpenBlocks.{HasRun, HasLine, line_added}
-use Rattle.rst_block_state.specs.Rest.{open_lines}
+use Rattle.rst_block_state.specs.machine.Meanings.{open_run_of, reads}
+use Rattle.rst_block_state.specs.machine.OpenBlocks.{HasRun, HasLine, line_added}
+use Rattle.rst_block_state.specs.machine.Rest.{open_lines}
 use Rattle.rst_block_state.specs.declared.open_block.OpenBlock.{OpenBlock}
 use Rattle.rst_block_state.specs.declared.run.Run.TheVariants.{Lines}
 use Rattle.rst_block_body.proofs.LineSteps.{line_refused, line_joined, line_begun}
@@ -40,7 +40,7 @@ returns-then-matches c =
       step = search rules;
       read = ap (reads new B) c.in_ok-text.ensures.numbers
           ∙ line_joined bar c.args.pass.now.numbers (search rules) next line
-          (subst (λ i. HasLine l new (line_added bar i (open_of l.run))) stop put.0) (put.1 (omega (arith, stop, some)) ∙ stop);
+          (subst (λ i. HasLine l new (line_added bar i (open_run_of l.run))) stop put.0) (put.1 (omega (arith, stop, some)) ∙ stop);
       paid = line_paid c.indented_end-end.result _ _ _ _ c.requires.inside c.requires.begun stop put.0.depth put.1 c.indented_end-end.ensures.looked
           c.in_ok-text.ensures.looked (omega arith) (omega arith);
     }
@@ -66,7 +66,7 @@ returns c =
     record {
       step = search rules;
       read = line_begun opened bar l.at (search rules) next line (has_ended B _ closed) run
-          (subst (λ i. HasLine opened new (line_added bar i (open_of opened.run))) stop put.0) (put.1 (omega (arith, stop, some, c.close.ensures.at)) ∙ stop)
+          (subst (λ i. HasLine opened new (line_added bar i (open_run_of opened.run))) stop put.0) (put.1 (omega (arith, stop, some, c.close.ensures.at)) ∙ stop)
           ∙ ap (reads l B) c.in_ok-text.ensures.numbers;
       paid = line_paid c.indented_end-end.result _ _ _ _ c.requires.inside c.requires.begun stop (put.0.depth ∙ closed.depth) (λ gone. put.1 (omega (arith, c.close.ensures.at, gone)))
           c.indented_end-end.ensures.looked c.in_ok-text.ensures.looked c.close.ensures.run c.close.ensures.low;

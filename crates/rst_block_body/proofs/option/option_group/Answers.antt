@@ -2,7 +2,7 @@ use Rattle.std.proofs.Common.{◌≡◌, ◌-◌, ◌∷◌, ◌++◌, ℕ, List
 use Rattle.std.specs.Prelude.{max}
 use Rattle.std.specs.Str.{chars}
 use Rattle.std.proofs.lemmas.List.{drop-drop}
-use Rattle.rst_block_state.specs.Lists.{option_in}
+use Rattle.rst_block_state.specs.Lists.{option_element}
 use Rattle.rst_block_body.proofs.option.option_group.Goals as goal
 
 -- what is left of a text from the later of two places on is left of what is left from the one
@@ -25,6 +25,6 @@ loop-listed-preserved c = (
   c.skip-rest.utf8,
   left (chars c.args.text.now) (chars c.loop-listed.rest.now) (chars c.skip-rest.result.now) c.loop-listed.passed c.in-Some.listed.string.from c.saturating_sub.result c.max-passed.result
       c.loop-listed.invariant.1 c.saturating_sub.ensures c.max-passed.ensures c.skip-rest.ensures.chars,
-  one_more (option_in (chars c.args.text.now) c.args.line) c.loop-listed.options.items c.push.new.self.items c.match-listed.made c.in-Some.listed _ _ _
+  one_more (option_element (chars c.args.text.now) c.args.line) c.loop-listed.options.items c.push.new.self.items c.match-listed.made c.in-Some.listed _ _ _
       c.in-Some.ensures.steps.0 (search rules) c.in_ok-push.ensures.items c.loop-listed.invariant.2,
 )

@@ -1,14 +1,14 @@
 use Rattle.std.proofs.Common.{◌∙◌, drop, arith, refl, rules}
 use Rattle.std.specs.Prelude.{None}
-use Rattle.rst_text.specs.Shown.{block_of}
+use Rattle.rst_text.specs.ViewBlock.{block_of}
 use Rattle.rst_tree.specs.declared.tag.Tag.TheVariants.{OptionListItem, Description}
 use Rattle.rst_block_state.specs.Constructs.{option_item}
 use Rattle.rst_block_state.specs.Lists.{empty_list, item_with}
-use Rattle.rst_block_state.specs.Meanings.{within_at}
+use Rattle.rst_block_state.specs.machine.Meanings.{within_at}
 use Rattle.rst_block_state.specs.declared.waits.Waits.TheVariants.{ListedBody}
 use Rattle.rst_block_state.specs.declared.run.ListKind.TheVariants.{OptionItem}
 use Rattle.rst_block_state.specs.declared.step.Step.TheVariants.{Open}
-use Rattle.rst_block_body.proofs.ListItems.{item_behind, next_option, IsOpened, none_noted, plain_item, opened_depth, plain_refused, option_made}
+use Rattle.rst_block_body.proofs.ListItems.{item_end_later, next_option, IsOpened, none_noted, plain_item, opened_depth, plain_refused, option_made}
 use Rattle.rst_block_body.proofs.ListsPaid.{found_hanging, paid_item}
 use Rattle.rst_block_state.proofs.MeaningLemmas.{body_means}
 use Rattle.rst_block_body.proofs.option.option_item.Goals as goal
@@ -38,7 +38,7 @@ returns c =
     let opened : IsOpened l mid B OptionItem (empty_list mark (drop l.at B)) part.to c.args.pass.now.numbers k =
     record { joins = c.in_ok-join_list.ensures.joins; numbers = c.in_ok-join_list.ensures.numbers; begins = c.in_ok-join_list.ensures.begins } in
     let next = next_option l B c.requires.begun is in
-    let there = c.go_to.ensures.there (rw c.in_ok-join_list.ensures.at (item_behind next c.requires.inside)) in
+    let there = c.go_to.ensures.there (rw c.in_ok-join_list.ensures.at (item_end_later next c.requires.inside)) in
     record {
       step = search rules;
       read = plain_item l mid mid c.go_to.new.self B mark OptionItem (Open waits part None) (λ w. item_with w B OptionListItem Description line part heads.items notes.items) part.to c.args.pass.now.numbers k k

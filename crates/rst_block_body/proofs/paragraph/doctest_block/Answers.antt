@@ -1,6 +1,6 @@
 use Rattle.std.proofs.Common.{◌≡◌, ◌+◌, [], ◌∷◌, drop, arith, rules, refl, ◌∙◌}
 use Rattle.rst_text.specs.Block.{Block}
-use Rattle.rst_text.specs.Shown.{block_of}
+use Rattle.rst_text.specs.ViewBlock.{block_of}
 use Rattle.rst_markup_blocks.specs.Sizes.{doctest_size}
 use Rattle.rst_markup_blocks.specs.declared.begun.Begun.TheVariants.{Doctest}
 use Rattle.rst_block_state.specs.Literals.{doctest_node}

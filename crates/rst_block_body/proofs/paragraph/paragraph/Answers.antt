@@ -2,12 +2,12 @@ use Rattle.std.proofs.Common.{◌≡◌, ◌<◌, ◌+◌, ◌-◌, ℕ, List, [
 use Rattle.std.specs.Str.{chars}
 use Rattle.std.proofs.lemmas.Result.{IfOk-weaker}
 use Rattle.rst_text.specs.Block.{Block, first_number}
-use Rattle.rst_text.specs.Shown.{block_of}
+use Rattle.rst_text.specs.ViewBlock.{block_of}
 use Rattle.rst_tree.specs.declared.node.Node.{Node}
 use Rattle.rst_markup_lines.specs.Closing.{ends_in_colons}
 use Rattle.rst_markup_blocks.specs.Sizes.{paragraph_size}
 use Rattle.rst_block_state.specs.Literals.{literal_nodes, paragraph_nodes}
-use Rattle.rst_block_state.specs.OpenBlocks.{ReadsNodes}
+use Rattle.rst_block_state.specs.machine.OpenBlocks.{ReadsNodes}
 use Rattle.rst_block_state.proofs.Calls.{gives_map}
 use Rattle.rst_block_state.proofs.Changes.{more_as, more_then, more_moved}
 use Rattle.rst_block_body.proofs.ParagraphLemmas.{found_paragraph, ends_later, between_all, between_plain, between_colons, end_all, end_plain, end_colons}
@@ -34,8 +34,8 @@ returns-then-not-ends_in_colons c =
           (omega (arith, end_plain t end B plain, put.looked.0), omega (arith, put.looked.1));
     }
 
-pub literal-requires-clause-behind : goal.literal-requires-clause-behind
-literal-requires-clause-behind c =
+pub literal-requires-clause-is_later : goal.literal-requires-clause-is_later
+literal-requires-clause-is_later c =
     let B : Block = block_of c.args.view.now in
     let at : ℕ = c.args.level.now.at in
     let end : ℕ = c.lines_end-end.result in

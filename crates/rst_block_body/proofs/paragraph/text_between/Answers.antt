@@ -1,5 +1,5 @@
 use Rattle.std.proofs.Common.{◌≡◌, ◌-◌, drop, length-drop, ◌∙◌, arith}
-use Rattle.rst_text.specs.Shown.{block_of}
+use Rattle.rst_text.specs.ViewBlock.{block_of}
 use Rattle.rst_block_body.proofs.ParagraphLemmas.{one_line}
 use Rattle.rst_block_body.proofs.paragraph.text_between.Goals as goal
 

@@ -1,7 +1,7 @@
 use Rattle.std.proofs.Common.{◌∙◌, ap, drop}
 use Rattle.std.specs.Str.{chars}
 use Rattle.rst_text.specs.Block.{first_number}
-use Rattle.rst_text.specs.Shown.{block_of}
+use Rattle.rst_text.specs.ViewBlock.{block_of}
 use Rattle.rst_tree.specs.declared.tag.Tag.TheVariants.{Attribution as AttributionTag}
 use Rattle.rst_markup_blocks.specs.Attributions.{attribution_part}
 use Rattle.rst_block_state.specs.Texts.{joined, lines_in}

@@ -1,9 +1,9 @@
 use Rattle.std.proofs.Common.{◌<◌, [], drop, sym, ap, subst, ◌∙◌, arith, rules}
 use Rattle.std.proofs.lemmas.Result.{IfOk-weaker}
-use Rattle.rst_text.specs.Shown.{block_of}
+use Rattle.rst_text.specs.ViewBlock.{block_of}
 use Rattle.rst_markup_blocks.specs.declared.begun.Begun.TheVariants.{Quote}
 use Rattle.rst_markup_blocks.specs.declared.part.Part.{Part}
-use Rattle.rst_block_state.specs.Meanings.{quotes_from}
+use Rattle.rst_block_state.specs.machine.Meanings.{quotes_from}
 use Rattle.rst_block_state.specs.Within.{indented_part}
 use Rattle.rst_block_state.proofs.Calls.{keeps_as}
 use Rattle.rst_block_state.proofs.NextConstructs.{next_of, next_some, has_ended}

@@ -1,6 +1,6 @@
 use Rattle.std.proofs.Common.{◌+◌, ◌-◌, ◌*◌, ◌≤◌, length}
 use Rattle.rst_text.specs.Looked.{capped}
-use Rattle.rst_text.specs.Shown.{block_of}
+use Rattle.rst_text.specs.ViewBlock.{block_of}
 use Rattle.rst_block_body.proofs.AttributionsFound.{Unfound}
 use Rattle.rst_block_body.proofs.quote.first_attribution.Given as goal
 

@@ -1,13 +1,13 @@
 use Rattle.std.proofs.Common.{ℕ, ◌+◌, ◌-◌, ◌<◌, ◌≤◌, Some, None, arith, rules, ◌∙◌, ap}
 use Rattle.rst_text.specs.Block.{Block}
-use Rattle.rst_text.specs.Shown.{block_of}
+use Rattle.rst_text.specs.ViewBlock.{block_of}
 use Rattle.rst_markup_blocks.specs.declared.part.Part.{Part}
-use Rattle.rst_block_state.specs.MeaningLaws.{front_of}
-use Rattle.rst_block_state.specs.Meanings.{comes}
-use Rattle.rst_block_state.specs.Steps.{IsRest}
+use Rattle.rst_block_state.specs.machine.MeaningLaws.{first_lines_of}
+use Rattle.rst_block_state.specs.machine.Meanings.{comes}
+use Rattle.rst_block_state.specs.machine.Steps.{IsRest}
 use Rattle.rst_block_state.specs.declared.waits.Waits.TheVariants.{Quote}
 use Rattle.rst_block_state.specs.declared.step.Step.TheVariants.{Open}
-use Rattle.rst_block_state.proofs.Blocks.{front_block}
+use Rattle.rst_block_state.proofs.Blocks.{first_lines_block}
 use Rattle.rst_block_body.proofs.QuoteSteps.{plain_part, attributed_part, rest_follows}
 use Rattle.rst_block_body.proofs.QuotesPaid.{plain_paid, attributed_paid}
 use Rattle.rst_block_body.proofs.quote.quote_part.Goals as goal
@@ -42,15 +42,15 @@ returns-in_ok-attribution-in-Some c =
     let box = c.in_ok-attribution-in-Some.attribution in
     let ends : c.in-Some.found.end ≤ quote.to - quote.from = omega (arith, found.within.within, c.inside-lines.ensures.lines) in
     let before : quote.from + place ≤ quote.to = omega (arith, ends, found.place.1, c.requires.block.ordered) in
-    let behind : old.at < quote.from + next = omega (arith, c.requires.at, c.lines_end-next.ensures.end, found.place.0, found.place.1) in
-    let goes_on : new.at ≤ quote.from + next = c.go_to-in-Some.ensures.within (quote.from + next) behind (omega arith) in
-    let front = front_block B quote place c.requires.block before in
+    let is_later : old.at < quote.from + next = omega (arith, c.requires.at, c.lines_end-next.ensures.end, found.place.0, found.place.1) in
+    let goes_on : new.at ≤ quote.from + next = c.go_to-in-Some.ensures.within (quote.from + next) is_later (omega arith) in
+    let first_line_block = first_lines_block B quote place c.requires.block before in
     let rest : IsRest B new.at c.rest_of.result = rw c.rest_of.ensures (rest_follows B quote next new.at c.requires.block goes_on) in
-    let there = c.go_to-in-Some.ensures.there behind in
+    let there = c.go_to-in-Some.ensures.there is_later in
     record {
-      step = (c.go_to-in-Some.ensures.later, front, tt, rest);
-      resumed = (c.requires.inside, c.go_to-in-Some.ensures.later, front, tt, rest);
-      read = ap (λ left. comes new B (Open (Quote line (Some box) left quote.to) (front_of quote place) None) c.attribution_text.new.pass.numbers) c.rest_of.ensures
+      step = (c.go_to-in-Some.ensures.later, first_line_block, tt, rest);
+      resumed = (c.requires.inside, c.go_to-in-Some.ensures.later, first_line_block, tt, rest);
+      read = ap (λ left. comes new B (Open (Quote line (Some box) left quote.to) (first_lines_of quote place) None) c.attribution_text.new.pass.numbers) c.rest_of.ensures
           ∙ attributed_part old new B quote place next line c.args.pass.now.numbers c.attribution_text.new.pass.numbers c.in-Some.found c.in_ok-made-in-Some.made box L c.inside-lines.ensures.block
           found.first c.lines_end-next.ensures.end c.in_ok-made-in-Some.ensures.text c.in_ok-attribution-in-Some.ensures.ok c.requires.filled
           c.requires.block.within c.go_to-in-Some.ensures.moved there c.number_at-line.ensures;

@@ -1,14 +1,14 @@
 use Rattle.std.proofs.Common.{◌≡◌, ℕ, ◌+◌, ◌∷◌, codes, drop, arith, rules, subst, ◌∙◌, ap}
 use Rattle.rst_text.specs.Block.{Block, first_number}
-use Rattle.rst_text.specs.Shown.{block_of}
+use Rattle.rst_text.specs.ViewBlock.{block_of}
 use Rattle.rst_tree.specs.declared.node.Node.{Node}
 use Rattle.rst_tree.specs.declared.note.Level.TheVariants.{Error}
 use Rattle.rst_markup_tables.specs.Messages.{malformed_text}
 use Rattle.rst_markup_tables.specs.declared.results.TableResult.TheVariants.{Malformed}
-use Rattle.rst_block_state.specs.Meanings.{reads}
-use Rattle.rst_block_state.specs.NextLine.{IsTableAt}
-use Rattle.rst_block_state.specs.OpenBlocks.{HasMore}
-use Rattle.rst_block_state.specs.Texts.{shown, source_of, warned}
+use Rattle.rst_block_state.specs.machine.Meanings.{reads}
+use Rattle.rst_block_state.specs.machine.NextLine.{IsTableAt}
+use Rattle.rst_block_state.specs.machine.OpenBlocks.{HasMore}
+use Rattle.rst_block_state.specs.Texts.{message_with_lines, span_source, warned}
 use Rattle.rst_block_state.proofs.Calls.{close_refuses}
 use Rattle.rst_block_state.proofs.Changes.{more_more, moved_more}
 use Rattle.rst_block_state.proofs.NextConstructs.{next_some, span_to, has_ended, next_refused}
@@ -36,11 +36,11 @@ returns-in_ok-after_table-in-Malformed c =
     let t : IsNextTable l B (Malformed end fault) = next_table l B (Malformed end fault) here in
     let stop : end ≡ l.at + t.lines = t.end in
     let at : c.go_to.new.self.at ≡ end = c.go_to.ensures.there (omega (arith, c.close.ensures.at, stop, next_some t.next c.requires.inside)) in
-    let error : c.in_ok-error-in-Malformed.error ≡ shown Error (first_number (drop mid.at B)) (malformed_text fault.detail) (source_of B (span_to mid.at end)) = search rules in
+    let error : c.in_ok-error-in-Malformed.error ≡ message_with_lines Error (first_number (drop mid.at B)) (malformed_text fault.detail) (span_source B (span_to mid.at end)) = search rules in
     let nodes : c.in_ok-error-in-Malformed.error ∷ warned (codes "Blank line required after table.") (drop c.push.new.self.at B)
-    ≡ shown Error (first_number (drop mid.at B)) (malformed_text fault.detail) (source_of B (span_to mid.at end)) ∷ warned (codes "Blank line required after table.") (drop end B) =
+    ≡ message_with_lines Error (first_number (drop mid.at B)) (malformed_text fault.detail) (span_source B (span_to mid.at end)) ∷ warned (codes "Blank line required after table.") (drop end B) =
     ap (λ (n : Node). n ∷ warned (codes "Blank line required after table.") (drop c.push.new.self.at B)) error
-    ∙ ap (λ i. shown Error (first_number (drop mid.at B)) (malformed_text fault.detail) (source_of B (span_to mid.at end)) ∷ warned (codes "Blank line required after table.") (drop i B)) (c.push.ensures.at ∙ at) in
+    ∙ ap (λ i. message_with_lines Error (first_number (drop mid.at B)) (malformed_text fault.detail) (span_source B (span_to mid.at end)) ∷ warned (codes "Blank line required after table.") (drop i B)) (c.push.ensures.at ∙ at) in
     let both = more_more c.in_ok-push-in-Malformed.ensures.more c.in_ok-after_table-in-Malformed.ensures.more in
     let more = moved_more c.go_to.ensures.moved at both in
     record {

@@ -1,6 +1,6 @@
 use Rattle.std.proofs.Common.{◌≡◌, ◌+◌, ◌∷◌, [], true, drop, sym, ◌∙◌, arith, rules}
 use Rattle.std.specs.Prelude.{◌==◌}
-use Rattle.rst_text.specs.Shown.{block_of}
+use Rattle.rst_text.specs.ViewBlock.{block_of}
 use Rattle.rst_block_state.specs.Constructs.{short_underline}
 use Rattle.rst_block_body.proofs.TextLines.{short_as}
 use Rattle.rst_block_state.proofs.Views.{few_lines}

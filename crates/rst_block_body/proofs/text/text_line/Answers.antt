@@ -1,7 +1,7 @@
 use Rattle.std.proofs.Common.{◌≡◌, ◌+◌, ◌<◌, drop, refl, ap, ◌∙◌, arith, rules}
-use Rattle.rst_text.specs.Shown.{block_of}
+use Rattle.rst_text.specs.ViewBlock.{block_of}
 use Rattle.rst_markup_blocks.specs.Sizes.{paragraph_size}
-use Rattle.rst_block_state.specs.Ledger.{run_looks}
+use Rattle.rst_block_state.specs.looks.Ledger.{run_looks}
 use Rattle.rst_block_state.proofs.NextConstructs.{next_of_form, next_some, next_within, has_ended}
 use Rattle.rst_block_body.proofs.ReadLemmas.{alone_refused, text_read}
 use Rattle.rst_block_body.proofs.TextLines.{form_here, paragraph_goes, short_more, underlined_goes}

@@ -1,10 +1,10 @@
 use Rattle.std.proofs.Common.{drop, arith, refl, rules, ◌∙◌, List, ap}
 use Rattle.std.proofs.lemmas.Str.{encodes-chars}
 use Rattle.rst_text.specs.Block.{first_number}
-use Rattle.rst_text.specs.Shown.{block_of}
-use Rattle.rst_block_markup.specs.MarkupSteps.{read_of, reads_with}
-use Rattle.rst_block_state.specs.Meanings.{within_at, comes}
-use Rattle.rst_block_state.specs.Texts.{source_of}
+use Rattle.rst_text.specs.ViewBlock.{block_of}
+use Rattle.rst_block_markup.specs.MarkupSteps.{read_of_directive, reads_with}
+use Rattle.rst_block_state.specs.machine.Meanings.{within_at, comes}
+use Rattle.rst_block_state.specs.Texts.{span_source}
 use Rattle.rst_block_markup.proofs.DirectiveReads.{image_right, image_is, figure_is, figure_right}
 use Rattle.rst_block_markup.proofs.PartLemmas.{put_reads, content_reads}
 use Rattle.rst_block_state.proofs.NextConstructs.{span_to}
@@ -23,7 +23,7 @@ returns c = λ pass.
     let f = c.args.found.now in
     let t = c.args.uri.now in
     let line = first_number (drop l.at B) in
-    let right = image_right f.name t (within_at l.depth) B line (read_of f) (source_of B (span_to l.at f.end)) f.content (search rules) (encodes-chars t c.utf8.uri) in
+    let right = image_right f.name t (within_at l.depth) B line (read_of_directive f) (span_source B (span_to l.at f.end)) f.content (search rules) (encodes-chars t c.utf8.uri) in
     put_reads c.in_ok-node.node c.put.ensures c.requires.later
     (image_is c.in_ok-node.node t c.as_slice-options.result.now f.options.items c.number_at-line.result line c.in_ok-node.ensures c.as_slice-options.ensures.value c.number_at-line.ensures ∙ right.0) right.1 refl (omega arith) (omega arith)
 
@@ -37,14 +37,14 @@ returns-then-matches c = λ pass.
     let line = c.number_at-line.result in
     let at = first_number (drop l.at B) in
     let figure = c.in_ok-figure-2.figure in
-    let lines = source_of B (span_to l.at f.end) in
+    let lines = span_source B (span_to l.at f.end) in
     let opened = c.opened.ensures in
-    let right = figure_right f.name t (within_at l.depth) B at (read_of f) lines f.content (search rules) (encodes-chars t c.utf8.uri) in
+    let right = figure_right f.name t (within_at l.depth) B at (read_of_directive f) lines f.content (search rules) (encodes-chars t c.utf8.uri) in
     content_reads (Figure figure l.at f.end) f.content opened.opened tt tt c.requires.content c.requires.later opened.moved opened.at
     (ap (λ s. comes c.opened.new.level B s n) opened.opened
     ∙ content_comes B (Figure figure l.at f.end) f.content (figure_nodes figure (caption_error at lines)) n opened.moved opened.at (λ ns. refl)
     ∙ ap (λ (read : Numbered (List Node)). reads_with l B read f.end n)
-    (figure_is (within_at l.depth) B (read_of f) t lines line at c.as_slice-options.result.now c.in_ok-figure.field-0 c.in_ok-shown.shown figure
-    c.in_ok-alone.field-0.items c.in_ok-figure.ensures c.in_ok-shown.ensures c.in_ok-alone.ensures c.in_ok-figure-2.ensures (ap choices_in c.as_slice-options.ensures.value) c.number_at-line.ensures
+    (figure_is (within_at l.depth) B (read_of_directive f) t lines line at c.as_slice-options.result.now c.in_ok-figure.field-0 c.in_ok-image_node.image_node figure
+    c.in_ok-alone.field-0.items c.in_ok-figure.ensures c.in_ok-image_node.ensures c.in_ok-alone.ensures c.in_ok-figure-2.ensures (ap choices_in c.as_slice-options.ensures.value) c.number_at-line.ensures
     ∙ right.0))
     right.1 (omega arith) (omega arith)

@@ -1,5 +1,5 @@
 use Rattle.std.proofs.Common.{false, rules}
-use Rattle.rst_text.specs.Shown.{block_of}
+use Rattle.rst_text.specs.ViewBlock.{block_of}
 use Rattle.rst_block_state.specs.Paragraphs.{is_single_paragraph}
 use Rattle.rst_block_state.specs.Texts.{lines_in}
 use Rattle.rst_block_markup.proofs.DirectiveFlags.{flag_free}

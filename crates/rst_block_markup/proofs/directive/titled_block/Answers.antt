@@ -6,8 +6,8 @@ use Rattle.rst_block_state.specs.Directives.{titled_element}
 use Rattle.rst_block_state.specs.LineRuns.{number_or}
 use Rattle.rst_block_state.proofs.TextsRead.{titled_reads}
 use Rattle.rst_text.specs.Block.{first_number}
-use Rattle.rst_text.specs.Shown.{block_of}
-use Rattle.rst_block_markup.specs.MarkupSteps.{read_of}
+use Rattle.rst_text.specs.ViewBlock.{block_of}
+use Rattle.rst_block_markup.specs.MarkupSteps.{read_of_directive}
 use Rattle.rst_block_state.specs.Texts.{joined, lines_in}
 use Rattle.rst_block_state.specs.declared.waits.Waits.TheVariants.{Element}
 use Rattle.rst_block_markup.proofs.DirectiveReads.{titled_comes}
@@ -33,6 +33,6 @@ returns c =
     c.in_ok-node-2.ensures in
     let opened = c.opened.ensures in
     content_reads (Element c.in_ok-node-2.node) f.content opened.opened tt tt c.requires.right.content c.requires.right.later opened.moved opened.at
-    (titled_comes l c.opened.new.level B (read_of f) X f.end c.args.pass.now.numbers c.with_text.new.numbers line (first_number (drop l.at B)) c.in_ok-node-2.node c.opened.result
+    (titled_comes l c.opened.new.level B (read_of_directive f) X f.end c.args.pass.now.numbers c.with_text.new.numbers line (first_number (drop l.at B)) c.in_ok-node-2.node c.opened.result
     node c.number_at-line.ensures opened.opened opened.at opened.moved)
     refl (omega (arith, c.in_ok-text.ensures.each)) (omega (arith, c.joined.ensures.most, c.inside-lines.ensures.lines))

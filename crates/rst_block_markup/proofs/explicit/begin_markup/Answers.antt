@@ -1,5 +1,5 @@
 use Rattle.std.proofs.Common.{arith, rules}
-use Rattle.rst_text.specs.Shown.{block_of}
+use Rattle.rst_text.specs.ViewBlock.{block_of}
 use Rattle.rst_block_state.proofs.Calls.{close_refuses}
 use Rattle.rst_block_markup.proofs.MarkupReads.{joined_markup, begun_markup, markup_refused, has_markup}
 use Rattle.rst_block_state.proofs.NextConstructs.{has_ended}

@@ -1,11 +1,11 @@
 use Rattle.std.proofs.Common.{◌≡◌, ◌∙◌, ℕ, List, ◌∷◌, ◌-◌, refl, ap, arith, rules}
-use Rattle.rst_text.specs.Shown.{block_of}
+use Rattle.rst_text.specs.ViewBlock.{block_of}
 use Rattle.rst_tree.specs.declared.node.Node.{Node}
 use Rattle.rst_tree.specs.declared.tag.Tag.TheVariants.{Comment as CommentTag}
 use Rattle.rst_markup_blocks.specs.declared.forms.CommentCause.{CommentCause}
 use Rattle.rst_block_nodes.specs.Elements.{preserved_node}
 use Rattle.rst_block_state.specs.Markup.{cause_notes}
-use Rattle.rst_block_state.specs.Meanings.{reads_from}
+use Rattle.rst_block_state.specs.machine.Meanings.{reads_from}
 use Rattle.rst_block_state.specs.Texts.{spelled}
 use Rattle.rst_block_state.proofs.Changes.{more_more, moved_more, more_is_read}
 use Rattle.rst_block_state.proofs.NumberedLemmas.{at_number}

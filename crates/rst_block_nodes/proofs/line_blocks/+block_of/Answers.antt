@@ -1,7 +1,7 @@
 use Rattle.std.proofs.Common.{◌≡◌, ◌+◌, ◌-◌, suc, take, drop, List, Err, arith, rules, sym, ap, subst, ◌∙◌}
 use Rattle.std.proofs.Math.ListN.{drop_of_length-le}
 use Rattle.std.proofs.lemmas.List.{take_rest, drop-drop}
-use Rattle.rst_block_nodes.specs.LineBlocks.{IndentedLine, deeper_len, least_indent, first_line, line_block, Makes}
+use Rattle.rst_block_nodes.specs.LineBlocks.{IndentedLine, deeper_len, least_indent, first_line, line_block, MakesLineBlock}
 use Rattle.rst_block_nodes.proofs.LineBlockLemmas.{one_line, one_run, run_refused, all_made, line_at}
 use Rattle.rst_block_nodes.proofs.line_blocks.+block_of.Goals as goal
 
@@ -29,7 +29,7 @@ returns-in_err-made-2 t c =
     let left : List IndentedLine = drop c.loop-place.place lines in
     let inner : List IndentedLine = take (c.loop-place.place + c.deeper_len-run.result - c.loop-place.place) left in
     let levels : suc (c.args.levels - 1) ≡ c.args.levels = omega arith in
-    run_refused c.args.levels c.loop-place.numbers c.block_of.new.numbers c.block_of.new.numbers (least_indent lines) (first_line lines) c.deeper_len-run.result left inner c.loop-place.nodes.items c.loop-place.notes.items c.in_err-made-2.field-0.0 _ c.from_residual-in_err-made-2.result c.loop-place.invariant (c.deeper_len-run.ensures.value ∙ ap (deeper_len c.least_indent-least.result) (take_rest lines c.loop-place.place) ∙ ap (λ n. deeper_len n left) c.least_indent-least.ensures) (omega arith) (ap (λ n. take n left) (omega arith)) (subst (λ n. Makes (line_block n inner c.loop-place.numbers) c.block_of.new.numbers (Err c.in_err-made-2.field-0.0)) levels c.in_err-made-2.ensures) (search rules)
+    run_refused c.args.levels c.loop-place.numbers c.block_of.new.numbers c.block_of.new.numbers (least_indent lines) (first_line lines) c.deeper_len-run.result left inner c.loop-place.nodes.items c.loop-place.notes.items c.in_err-made-2.field-0.0 _ c.from_residual-in_err-made-2.result c.loop-place.invariant (c.deeper_len-run.ensures.value ∙ ap (deeper_len c.least_indent-least.result) (take_rest lines c.loop-place.place) ∙ ap (λ n. deeper_len n left) c.least_indent-least.ensures) (omega arith) (ap (λ n. take n left) (omega arith)) (subst (λ n. MakesLineBlock (line_block n inner c.loop-place.numbers) c.block_of.new.numbers (Err c.in_err-made-2.field-0.0)) levels c.in_err-made-2.ensures) (search rules)
 
 pub returns : goal.returns
 returns t c =

@@ -3,14 +3,14 @@ use Rattle.std.specs.Prelude.{map}
 use Rattle.std.specs.Vec.Iter.{into_iter_items}
 use Rattle.std.proofs.lemmas.List.{nil_from_length}
 use Rattle.rst_block_nodes.specs.Elements.{text_nodes}
-use Rattle.rst_block_nodes.specs.Terms.{heads_with, joined}
+use Rattle.rst_block_nodes.specs.Terms.{heads_with, merged_groups}
 use Rattle.rst_block_nodes.proofs.HeadLemmas.{left_none, IsReady, ready_first, ready_closed, put_some, put_none}
 use Rattle.rst_block_nodes.proofs.terms.with_parts.Goals.{then-not-is_first+in_ok-heads, else-not-is_first}
 use Rattle.rst_block_nodes.proofs.terms.with_parts.Goals as goal
 
 pub loop-part-init : goal.loop-part-init
 loop-part-init c rest =
-    ap (λ ps. heads_with c.args.notes c.args.line c.args.heads (joined (map text_nodes ps) rest)) c.into_iter-part-iterator.ensures.into_iter_gives.0
+    ap (λ ps. heads_with c.args.notes c.args.line c.args.heads (merged_groups (map text_nodes ps) rest)) c.into_iter-part-iterator.ensures.into_iter_gives.0
 
 pub loop-part-preserved-in-Continue-branch-2 : goal.loop-part-preserved-in-Continue-branch-2
 loop-part-preserved-in-Continue-branch-2 c rest =

@@ -1,5 +1,5 @@
 use Rattle.std.proofs.Common.{drop, arith}
-use Rattle.rst_text.specs.Shown.{block_of}
+use Rattle.rst_text.specs.ViewBlock.{block_of}
 use Rattle.rst_markup_blocks.proofs.EndLemmas.{hanging_some}
 use Rattle.rst_markup_blocks.proofs.ExplicitLemmas.{hanging_block}
 use Rattle.rst_block_state.proofs.part.hanging.Goals as goal

@@ -1,5 +1,5 @@
 use Rattle.std.proofs.Common.{drop, arith}
-use Rattle.rst_text.specs.Shown.{block_of}
+use Rattle.rst_text.specs.ViewBlock.{block_of}
 use Rattle.rst_text.proofs.Reaches.{looked_is}
 use Rattle.rst_block_state.proofs.Blocks.{indented_block}
 use Rattle.rst_block_state.proofs.part.indented.Goals as goal

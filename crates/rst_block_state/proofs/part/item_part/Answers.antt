@@ -1,7 +1,7 @@
 use Rattle.std.proofs.Common.{ap, drop, arith}
 use Rattle.rst_text.specs.Block.{Block}
 use Rattle.rst_text.specs.Reach.{reach}
-use Rattle.rst_text.specs.Shown.{block_of}
+use Rattle.rst_text.specs.ViewBlock.{block_of}
 use Rattle.rst_block_state.proofs.Blocks.{item_block}
 use Rattle.rst_block_state.proofs.Looked.{bare_item}
 use Rattle.rst_block_state.proofs.part.item_part.Goals as goal

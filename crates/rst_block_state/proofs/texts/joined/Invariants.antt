@@ -1,7 +1,7 @@
 use Rattle.std.proofs.Common.{◌≡◌, ◌+◌, ◌≤◌, take}
 use Rattle.std.specs.Prelude.{string_bytes}
 use Rattle.rst_text.specs.Looked.{capped}
-use Rattle.rst_text.specs.Shown.{block_of}
+use Rattle.rst_text.specs.ViewBlock.{block_of}
 use Rattle.rst_block_state.specs.Texts.{spelled}
 use Rattle.rst_block_state.proofs.texts.joined.Given as goal
 

@@ -1,5 +1,5 @@
 use Rattle.std.proofs.Common.{◌+◌, ◌-◌, drop, take, length, ap, ◌∙◌, arith}
-use Rattle.rst_text.specs.Shown.{block_of}
+use Rattle.rst_text.specs.ViewBlock.{block_of}
 use Rattle.rst_text.proofs.CutLaws.{length-cut}
 use Rattle.rst_text.proofs.Indented.{is_indented-zero}
 use Rattle.rst_block_state.proofs.Spelling.{uncut_block, lines_there}

@@ -6,10 +6,10 @@ pub returns : goal.returns
 unfolding rst_inline
 returns c = record {
   no_white = refl;
-  white_in_front = refl;
+  leading_white = refl;
   white_at_the_end = refl;
   nothing = refl;
-  text_behind = refl;
+  text_after = refl;
   escaped_opening = refl;
   escaped_closing = refl;
   no_reference = refl;

@@ -10,7 +10,7 @@ returns c = record {
   titles = refl;
   exactly = refl;
   others = refl;
-  in_front = refl;
-  behind = refl;
+  role_before = refl;
+  role_after = refl;
   by_default = refl;
 }

@@ -2,7 +2,7 @@ use Rattle.std.proofs.Common.{◌≡◌, ◌-◌, ◌≤◌, length}
 use Rattle.rst_text.specs.Escapes.{is_escaped}
 use Rattle.rst_inline_scan.specs.Pieces.{HasNoStart}
 use Rattle.rst_inline_scan.specs.Missing.{IsMissing}
-use Rattle.rst_inline_scan.proofs.PieceLemmas.{Told}
+use Rattle.rst_inline_scan.proofs.PieceLemmas.{Gathered}
 use Rattle.rst_inline_scan.proofs.scanner.pieces_by.Given as goal
 
 abbrev pub decreases-loop-place : goal.decreases-loop-place
@@ -15,5 +15,5 @@ invariant-loop-place l = record {
   escaped : l.escaped ≡ is_escaped l.text l.from l.place;
   none : HasNoStart l.text l.from l.from l.place;
   known : IsMissing l.text l.missing l.place;
-  told : Told l.text l.from l.pieces.items;
+  gathered : Gathered l.text l.from l.pieces.items;
 }

@@ -2,7 +2,7 @@ use Rattle.std.proofs.Common.{rules, ◌≤◌, arith, ◌+◌, ◌∙◌, appen
 use Rattle.rst_tree.specs.Nodes.{node_height}
 use Rattle.rst_tree.specs.PrintedAttributes.{with_printed_attrs}
 use Rattle.rst_tree.proofs.PrintedParts.{child_height}
-use Rattle.rst_json.specs.Json.{behind_comma, json_node}
+use Rattle.rst_json.specs.Json.{after_comma, json_node}
 use Rattle.rst_json.proofs.JsonLemmas.{element_put, next_item}
 use Rattle.rst_json.proofs.element.+put_node.Goals as goal
 
@@ -15,7 +15,7 @@ put_node-requires t c =
 
 pub loop-child-preserved : goal.loop-child-preserved
 loop-child-preserved t c =
-    next_item (λ n. behind_comma (json_node (with_printed_attrs None n))) c.as_slice-child-items.result.now c.loop-child.child-index c.child-item.result _ c.loop-child.out.items _
+    next_item (λ n. after_comma (json_node (with_printed_attrs None n))) c.as_slice-child-items.result.now c.loop-child.child-index c.child-item.result _ c.loop-child.out.items _
     c.child-item.is (omega arith) c.loop-child.invariant
     (c.in_ok-put_node-in-Element.ensures ∙ rw c.in_ok-push-in-Element-4.ensures.items (simp append_assoc))
 

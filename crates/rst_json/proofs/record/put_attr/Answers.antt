@@ -8,10 +8,10 @@ use Rattle.rst_json.proofs.record.put_attr.Goals as goal
 pub returns : goal.returns
 returns c =
     let a = c.args.attr.now in
-    let shown : is_left_out a ≡ false = sym c.is_left_out.ensures ∙ c.if-is_left_out.false in
-    sealed c.args.out.now.items (sized (key_name a.key) ++ value_record a.value) c.put_said.new.out.items c.seal.new.out.items c.len-start.result (search rules)
-    (c.in_ok-put_said.ensures
-    ∙ rw (c.in_ok-put_sized.ensures, c.in_ok-put_word.ensures, c.name_of.ensures, c.key.ensures, c.said.ensures)
+    let included : is_left_out a ≡ false = sym c.is_left_out.ensures ∙ c.if-is_left_out.false in
+    sealed c.args.out.now.items (sized (key_name a.key) ++ value_record a.value) c.put_value.new.out.items c.seal.new.out.items c.len-start.result (search rules)
+    (c.in_ok-put_value.ensures
+    ∙ rw (c.in_ok-put_sized.ensures, c.in_ok-put_word.ensures, c.attribute_name.ensures, c.key.ensures, c.as_value.ensures)
     (append_assoc (c.args.out.now.items ++ word 0) (sized (key_name a.key)) (value_record a.value)))
     c.seal.ensures
-    ∙ rw shown refl
+    ∙ rw included refl

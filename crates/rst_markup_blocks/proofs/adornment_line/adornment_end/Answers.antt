@@ -1,8 +1,8 @@
 use Rattle.std.proofs.Common.{Bool, ◌≡◌, ℕ, ◌≤◌, Some, None, length, drop, length-drop, ap, sym, ◌∙◌, arith, subst}
 use Rattle.std.specs.Prelude.{Option, unwrap_or}
-use Rattle.rst_text.specs.Block.{Block, front_text}
+use Rattle.rst_text.specs.Block.{Block, first_text}
 use Rattle.rst_text.specs.Reach.{reach}
-use Rattle.rst_text.specs.Shown.{block_of}
+use Rattle.rst_text.specs.ViewBlock.{block_of}
 use Rattle.rst_markup_lines.specs.Adornment.{adornment_of}
 use Rattle.rst_markup_lines.specs.declared.adornment.Adornment.{Adornment}
 use Rattle.rst_markup_blocks.specs.Conditions.{next_text}
@@ -12,7 +12,7 @@ use Rattle.rst_markup_blocks.proofs.AdornmentLaws.{SizeWithin, form_sizes, adorn
 use Rattle.rst_markup_blocks.proofs.adornment_line.adornment_end.Goals as goal
 
 -- how many lines a form with a fixed size has
-sized : (titles : Bool) (X : Block) (mark : Adornment) (n : ℕ) → 1 ≤ length X → adornment_of (front_text X) ≡ Some mark → fixed_size (adorned_form titles mark (next_text X) (third_text X)) ≡ Some n
+sized : (titles : Bool) (X : Block) (mark : Adornment) (n : ℕ) → 1 ≤ length X → adornment_of (first_text X) ≡ Some mark → fixed_size (adorned_form titles mark (next_text X) (third_text X)) ≡ Some n
     → (adornment_size titles X ≡ n) × (1 ≤ n) × (n ≤ length X)
 sized titles X mark n some e f =
     let P : Option ℕ → Type 0 = SizeWithin (length X) in
@@ -37,7 +37,7 @@ pub returns-in-None : goal.returns-in-None
 returns-in-None c =
     let B : Block = block_of c.args.view.now in
     let X : Block = drop c.args.i B in
-    let e : adornment_of (front_text X) ≡ Some c.in-Some.mark = ap adornment_of (sym c.line-text.ensures.text) ∙ sym c.adornment_of.ensures ∙ c.in-Some.is in
+    let e : adornment_of (first_text X) ≡ Some c.in-Some.mark = ap adornment_of (sym c.line-text.ensures.text) ∙ sym c.adornment_of.ensures ∙ c.in-Some.is in
     let f : fixed_size (adorned_form c.args.titles c.in-Some.mark (next_text X) (third_text X)) ≡ None = ap fixed_size (sym c.adorned_at-form.ensures.form) ∙ sym c.fixed_size.ensures ∙ c.in-None.is in
     let size : adornment_size c.args.titles X ≡ text_size X = adornment_is c.args.titles X c.in-Some.mark e ∙ ap (λ o. unwrap_or o (text_size X)) f in
     search (arith, ap (λ n. reach n X) size)

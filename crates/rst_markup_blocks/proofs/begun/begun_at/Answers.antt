@@ -2,9 +2,9 @@ use Rattle.std.proofs.Common.{◌≡◌, true, None, drop, sym, rules, ◌∙◌
 use Rattle.std.specs.Char.{is_ascii_alphabetic}
 use Rattle.std.specs.Str.{chars}
 use Rattle.rst_text.specs.Block.{Block}
-use Rattle.rst_text.specs.Shown.{block_of}
+use Rattle.rst_text.specs.ViewBlock.{block_of}
 use Rattle.rst_markup_lines.specs.Enumerator.{enumerator_of}
-use Rattle.rst_markup_lines.specs.Front.{begins_by}
+use Rattle.rst_markup_lines.specs.TextStart.{begins_by}
 use Rattle.rst_markup_blocks.proofs.KindRows.{begun_of, blank_at, letter_kind}
 use Rattle.rst_markup_blocks.proofs.begun.begun_at.Goals as goal
 
@@ -22,8 +22,8 @@ returns-then-is_none-clause-begun c =
 pub returns-clause-begun : goal.returns-clause-begun
 returns-clause-begun c =
     let X : Block = drop c.args.at (block_of c.args.view.now) in
-    let front = sym c.line-text.ensures.text in
+    let first_line = sym c.line-text.ensures.text in
     let next = sym c.below_text-next.ensures.text in
     let after = sym c.below_text-after.ensures.text in
-    begun_of X (chars c.line-text.result.now) (chars c.below_text-next.result.now) (chars c.below_text-after.result.now) c.begun_by.result front next after
-    (c.begun_by.ensures.kind X front next after) c.begun_by.ensures.mark
+    begun_of X (chars c.line-text.result.now) (chars c.below_text-next.result.now) (chars c.below_text-after.result.now) c.begun_by.result first_line next after
+    (c.begun_by.ensures.kind X first_line next after) c.begun_by.ensures.mark

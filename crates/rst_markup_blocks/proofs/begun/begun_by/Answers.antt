@@ -1,13 +1,13 @@
 use Rattle.std.proofs.Common.{◌≡◌, ◌∙◌, sym, rules, List, ℕ}
 use Rattle.std.specs.Str.{chars}
-use Rattle.rst_text.specs.Block.{Block, front_text}
+use Rattle.rst_text.specs.Block.{Block, first_text}
 use Rattle.rst_markup_blocks.specs.Conditions.{next_text, after_text}
 use Rattle.rst_markup_blocks.specs.Kinds.{first_kind, kind_at, later_kinds}
 use Rattle.rst_markup_blocks.specs.declared.kind.Kind.{Kind}
 use Rattle.rst_markup_blocks.proofs.KindRows.{kind_by, kind_at_is}
 use Rattle.rst_markup_blocks.proofs.begun.begun_by.Goals as goal
 
-by_row : (k : Kind) (X : Block) (text next after : List ℕ) → front_text X ≡ text → next_text X ≡ next → after_text X ≡ after → k ≡ kind_by text next after (first_kind later_kinds X) → k ≡ kind_at X
+by_row : (k : Kind) (X : Block) (text next after : List ℕ) → first_text X ≡ text → next_text X ≡ next → after_text X ≡ after → k ≡ kind_by text next after (first_kind later_kinds X) → k ≡ kind_at X
 by_row k X text next after a b d row = row ∙ sym (kind_at_is X text next after a b d)
 
 pub returns-then-begins_with-clause-kind : goal.returns-then-begins_with-clause-kind

@@ -2,7 +2,7 @@ use Rattle.std.proofs.Common.{rules, ap, ◌∙◌, length-drop, sym, drop, arit
 use Rattle.std.specs.Str.{chars}
 use Rattle.rst_text.specs.Block.{Block}
 use Rattle.rst_text.specs.Reach.{reach}
-use Rattle.rst_text.specs.Shown.{block_of}
+use Rattle.rst_text.specs.ViewBlock.{block_of}
 use Rattle.rst_text.proofs.LinesLemmas.{length-chars}
 use Rattle.rst_markup_blocks.specs.declared.explicit_markup.ExplicitForm.TheVariants.{Label, Target, Substitution, Directive}
 use Rattle.rst_markup_blocks.proofs.ExplicitLemmas.{form_within_at, target_short, indented_some, form_lines}
@@ -33,8 +33,8 @@ overflow_add-n-in-Substitution c =
     let w = form_within_at _ (Substitution c.in-Substitution.len c.in-Substitution.marker) (sym c.in-Substitution.is ∙ c.requires.form) in
     omega (arith, w.0, w.1, length-drop c.args.marker.cut (chars c.args.text.now), length-chars c.args.text.now c.utf8.text)
 
-pub substitution_with-requires-clause-behind : goal.substitution_with-requires-clause-behind
-substitution_with-requires-clause-behind c =
+pub substitution_with-requires-clause-within_text : goal.substitution_with-requires-clause-within_text
+substitution_with-requires-clause-within_text c =
     let w = form_within_at _ (Substitution c.in-Substitution.len c.in-Substitution.marker) (sym c.in-Substitution.is ∙ c.requires.form) in
     omega (arith, w.0, w.1, length-drop c.args.marker.cut (chars c.args.text.now), length-chars c.args.text.now c.utf8.text)
 

@@ -2,7 +2,7 @@ use Rattle.std.proofs.Common.{drop, length-drop, ap, arith, ◌+◌}
 use Rattle.rst_text.specs.Block.{Block}
 use Rattle.rst_text.specs.Extent.{extent}
 use Rattle.rst_text.specs.Reach.{looked}
-use Rattle.rst_text.specs.Shown.{block_of}
+use Rattle.rst_text.specs.ViewBlock.{block_of}
 use Rattle.rst_text.proofs.Ends.{drop_one}
 use Rattle.rst_markup_blocks.proofs.LineLemmas.{looked_below}
 use Rattle.rst_text.proofs.Reaches.{looked_is}

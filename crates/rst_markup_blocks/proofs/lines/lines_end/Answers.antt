@@ -1,16 +1,16 @@
 use Rattle.std.proofs.Common.{◌≡◌, ◌∙◌, ◌+◌, true, false, sym, drop, length-drop, arith, rules}
-use Rattle.rst_text.specs.Block.{Block, front_text}
-use Rattle.rst_text.specs.Shown.{block_of}
+use Rattle.rst_text.specs.Block.{Block, first_text}
+use Rattle.rst_text.specs.ViewBlock.{block_of}
 use Rattle.rst_markup_blocks.specs.Lines.{passes, lines_while}
 use Rattle.rst_markup_blocks.proofs.RowLaws.{while_le}
 use Rattle.rst_markup_blocks.specs.declared.lines.LineTest.TheVariants.{Blank}
-use Rattle.rst_markup_blocks.proofs.LineLemmas.{blanks_are, blanks_through, while_more, while_stop, while_end, behind_while}
+use Rattle.rst_markup_blocks.proofs.LineLemmas.{blanks_are, blanks_through, while_more, while_stop, while_end, after_while}
 use Rattle.rst_markup_blocks.proofs.lines.lines_end.Goals as goal
 
 pub loop-i-preserved : goal.loop-i-preserved
 loop-i-preserved c =
     let B : Block = block_of c.args.view.now in
-    let pass : passes c.args.test (front_text (drop c.loop-i.i B)) ≡ true = cc in
+    let pass : passes c.args.test (first_text (drop c.loop-i.i B)) ≡ true = cc in
     record {
       at_line = search rules;
       place = sym (while_more c.loop-i.i c.args.test B (omega arith) pass) ∙ c.loop-i.invariant.place;
@@ -23,10 +23,10 @@ returns-after-loop-i c = search (rules, while_end c.loop-i.i c.args.test (block_
 pub returns-then-not-passes : goal.returns-then-not-passes
 returns-then-not-passes c =
     let B : Block = block_of c.args.view.now in
-    let fails : passes c.args.test (front_text (drop c.loop-i.i B)) ≡ false = cc in
+    let fails : passes c.args.test (first_text (drop c.loop-i.i B)) ≡ false = cc in
     let stop = while_stop c.loop-i.i c.args.test B (omega arith) fails in
     let place : c.loop-i.i ≡ c.args.from + lines_while c.args.test (drop c.args.from B) = omega (arith, stop.0, c.loop-i.invariant.place) in
-    search (rules, stop.0, stop.1, behind_while c.args.from c.loop-i.i c.args.test B place)
+    search (rules, stop.0, stop.1, after_while c.args.from c.loop-i.i c.args.test B place)
 
 pub returns-in-Blank : goal.returns-in-Blank
 returns-in-Blank c =

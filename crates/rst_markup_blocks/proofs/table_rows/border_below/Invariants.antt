@@ -1,7 +1,7 @@
 use Rattle.std.proofs.Common.{◌+◌, ◌-◌, drop}
 use Rattle.rst_text.specs.Places.{NoneFrom}
 use Rattle.rst_text.specs.Looked.{Looked}
-use Rattle.rst_text.specs.Shown.{block_of}
+use Rattle.rst_text.specs.ViewBlock.{block_of}
 use Rattle.rst_markup_blocks.specs.TableRows.{is_lower_border_at}
 use Rattle.rst_markup_blocks.proofs.table_rows.border_below.Given as goal
 

@@ -1,7 +1,7 @@
 use Rattle.std.proofs.Common.{◌-◌, ◌≤◌, drop}
 use Rattle.rst_text.specs.Places.{IsLast}
 use Rattle.rst_text.specs.Looked.{Looked}
-use Rattle.rst_text.specs.Shown.{block_of}
+use Rattle.rst_text.specs.ViewBlock.{block_of}
 use Rattle.rst_markup_blocks.specs.TableRows.{is_border_at}
 use Rattle.rst_markup_blocks.proofs.table_rows.grid_bottom.Given as goal
 

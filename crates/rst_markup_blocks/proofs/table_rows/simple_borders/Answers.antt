@@ -1,9 +1,9 @@
 use Rattle.std.proofs.Common.{rules, ◌≡◌, ◌∙◌, true, false, drop, length, length-drop, arith}
 use Rattle.std.specs.Prelude.{Some, None}
 use Rattle.rst_text.specs.Block.{Block}
-use Rattle.rst_text.specs.Shown.{block_of}
+use Rattle.rst_text.specs.ViewBlock.{block_of}
 use Rattle.rst_markup_blocks.specs.TableRows.{closes_head, simple_bottom}
-use Rattle.rst_markup_blocks.proofs.TableLemmas.{border_below-below, bottom-none, bottom-first, bottom-second, head-none, head-stays, head-first, last-below, last-through, scan-is, simple_size-is}
+use Rattle.rst_markup_blocks.proofs.TableLemmas.{border_below-below, bottom-none, bottom-first, bottom-second, head-none, head-stays, head-first, last-below, last-lines_through, scan-is, simple_size-is}
 use Rattle.rst_markup_blocks.proofs.table_rows.simple_borders.Goals as goal
 
 pub returns-in_default-clause-looked : goal.returns-in_default-clause-looked
@@ -38,10 +38,10 @@ returns c =
     let first = c.in-Some.ensures.border in
     let head = head-first X c.in-Some.first first closes in
     let bottom : c.border_below-2.result ≡ simple_bottom X = c.border_below-2.ensures.border ∙ bottom-second X c.in-Some.first first closes in
-    let through = last-through (length X) c.in-Some.first c.border_below-2.result (border_below-below X 0 c.in-Some.first first).1 in
+    let lines_through = last-lines_through (length X) c.in-Some.first c.border_below-2.result (border_below-below X 0 c.in-Some.first first).1 in
     record {
       head = head;
       bottom = bottom;
       within = last-below X (Some c.in-Some.first) c.border_below-2.result head bottom;
-      looked = search (arith, scan-is X c.border_below-2.result bottom, simple_size-is X (Some c.in-Some.first) c.border_below-2.result head bottom, through, c.in-Some.ensures.low, c.in-Some.ensures.looks);
+      looked = search (arith, scan-is X c.border_below-2.result bottom, simple_size-is X (Some c.in-Some.first) c.border_below-2.result head bottom, lines_through, c.in-Some.ensures.low, c.in-Some.ensures.looks);
     }

@@ -1,6 +1,6 @@
 use Rattle.std.proofs.Common.{◌≡◌, ◌-◌, ◌&&◌, Result, length, length-drop, drop, arith, rules, cond, [], sym, ap, ◌∙◌, subst}
 use Rattle.rst_text.specs.Block.{Block, cut}
-use Rattle.rst_text.specs.Shown.{block_of}
+use Rattle.rst_text.specs.ViewBlock.{block_of}
 use Rattle.rst_markup_blocks.specs.Lines.{lines_while}
 use Rattle.rst_markup_blocks.proofs.ReachLaws.{reach_within}
 use Rattle.rst_markup_blocks.proofs.RowLaws.{while_le}

@@ -1,7 +1,7 @@
 use Rattle.std.proofs.Common.{◌≡◌, ◌+◌, ◌++◌, [], ◌∷◌, false, drop, length, sym, ap, ◌∙◌, arith, length-append}
 use Rattle.std.specs.Str.{chars}
 use Rattle.rst_text.specs.Block.{is_blank}
-use Rattle.rst_text.specs.Shown.{block_of}
+use Rattle.rst_text.specs.ViewBlock.{block_of}
 use Rattle.rst_markup_directives.specs.Lines.{texts_of, first_run}
 use Rattle.rst_markup_directives.proofs.Runs.{run-more}
 use Rattle.rst_markup_directives.proofs.lines.run_of.Goals as goal

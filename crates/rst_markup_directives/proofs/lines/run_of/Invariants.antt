@@ -1,6 +1,6 @@
 use Rattle.std.proofs.Common.{◌≡◌, ◌++◌, drop, length}
 use Rattle.rst_text.specs.Looked.{Looked}
-use Rattle.rst_text.specs.Shown.{block_of}
+use Rattle.rst_text.specs.ViewBlock.{block_of}
 use Rattle.rst_markup_directives.specs.Lines.{texts_of, first_run}
 use Rattle.rst_markup_directives.proofs.lines.run_of.Given as goal
 

@@ -10,7 +10,7 @@ use Rattle.std.specs.Str.{chars}
 use Rattle.rst_text.specs.Text.{chars_of}
 use Rattle.rst_markup_directives.specs.Characters.{unindented}
 use Rattle.rst_markup_directives.specs.Faults.{Gives}
-use Rattle.rst_markup_directives.specs.Lines.{joined, with_line}
+use Rattle.rst_markup_directives.specs.Lines.{joined_nonempty, with_line}
 use Rattle.rst_markup_directives.specs.Target.{located, destination_of, destination_in, target_text, target_value}
 use Rattle.rst_markup_directives.proofs.Joins.{joined_onto}
 use Rattle.rst_markup_directives.proofs.PlainUris.{is_plain, plain-uri}
@@ -32,7 +32,7 @@ returns-then-all c =
     ap (λ t. Some (located t)) uri ∙ sym plain
 
 pub returns : goal.returns
-unfolding target_value target_text joined
+unfolding target_value target_text joined_nonempty
 returns c =
     let end = YieldsList-end (YieldsList-from_slice_split {s = c.into_iter-line-iterator.result} _ (λ d. eqb d 10) c.deref.result.now (search rules) (search rules) (search rules) (λ x r q k. search (rules, tests)))
     c.loop-line.yielded c.loop-line.line-iterator c.loop-line.yielded_by c.next.result c.next.new.self c.in-None.is c.next.ensures.steps in
@@ -40,6 +40,6 @@ returns c =
     let text : c.deref-2.result.now ≡ target_text (chars c.args.text.now) =
     c.deref-2.ensures.value ∙ c.loop-line.invariant
     ∙ sym (fold-map with_line unindented [] lines ∙ fold-map (λ text line. with_line text (unindented line)) (λ (y : Bor (List ℕ)). y.now) [] c.loop-line.yielded)
-    ∙ joined_onto [] (map unindented lines) ∙ ap (λ ls. joined (map unindented ls)) end.0 ∙ ap target_text (c.deref.ensures.value ∙ c.in_ok-characters.ensures) in
+    ∙ joined_onto [] (map unindented lines) ∙ ap (λ ls. joined_nonempty (map unindented ls)) end.0 ∙ ap target_text (c.deref.ensures.value ∙ c.in_ok-characters.ensures) in
     let P : List ℕ → Type 0 = λ cs. Gives (λ target. option_map destination_of target ≡ destination_in cs) c.destination_in.result in
     subst P text c.destination_in.ensures

@@ -12,10 +12,10 @@ use Rattle.rst_text.specs.Characters.{is_white}
 use Rattle.rst_text.specs.Names.{id_of}
 use Rattle.rst_text.specs.Text.{chars_of}
 use Rattle.rst_markup_directives.specs.Characters.{Text}
-use Rattle.rst_markup_directives.specs.Value.{all_filled, ids_of, texts_in}
+use Rattle.rst_markup_directives.specs.Value.{all_filled, ids_of, chars_of_texts}
 use Rattle.rst_markup_directives.proofs.value.ids_of.Goals as goal
 
-any-texts : {A : Type 0} (ids : List (String A)) → list_any (λ id. is_blank (chars_of id)) ids ≡ list_any is_blank (texts_in ids)
+any-texts : {A : Type 0} (ids : List (String A)) → list_any (λ id. is_blank (chars_of id)) ids ≡ list_any is_blank (chars_of_texts ids)
 any-texts [] = refl
 any-texts (id ∷ ids) = ap (λ b. is_blank (chars_of id) || b) (any-texts ids)
 
@@ -30,7 +30,7 @@ filled (t ∷ ts) b some e = ap (λ x. cond x None (Some (t ∷ ts))) e
 pub loop-word-preserved : goal.loop-word-preserved
 loop-word-preserved c =
     let id = c.in_ok-id_of.ensures ∙ ap id_of (ap chars c.as_str.ensures.value ∙ c.in_ok-word.ensures) in
-    ap texts_in c.in_ok-push.ensures.items ∙ map-append chars_of c.loop-word.ids.items (c.in_ok-id_of.field-0 ∷ [])
+    ap chars_of_texts c.in_ok-push.ensures.items ∙ map-append chars_of c.loop-word.ids.items (c.in_ok-id_of.field-0 ∷ [])
     ∙ ap₂ ◌++◌ c.loop-word.invariant (ap (λ t. t ∷ []) id)
     ∙ sym (ap (map id_of) (map-append (λ word. word.now) c.loop-word.yielded (c.in-Some.word ∷ [])) ∙ map-append id_of (map (λ word. word.now) c.loop-word.yielded) (c.in-Some.word.now ∷ []))
 
@@ -40,7 +40,7 @@ returns-then-is_empty c =
     let end = YieldsList-end (YieldsList-from_filter {s = c.into_iter-word-iterator.result} _ (λ t. not (is_blank t)) (YieldsList-from_slice_split _ is_white c.args.text.now (cc) (cc) (cc) (λ x r q k. search (rules, tests))) (cc) (λ x b q k. search (rules, tests)))
     c.loop-word.yielded c.loop-word.word-iterator c.loop-word.yielded_by c.next.result c.next.new.self c.in-None.is c.next.ensures.steps in
     let empty = eqb-true _ _ (sym c.is_empty.ensures ∙ c.if-is_empty.true) in
-    none (texts_in c.loop-word.ids.items) (omega (arith, length-map c.loop-word.ids.items chars_of)) ∙ ap all_filled (c.loop-word.invariant ∙ ap (map id_of) end.0)
+    none (chars_of_texts c.loop-word.ids.items) (omega (arith, length-map c.loop-word.ids.items chars_of)) ∙ ap all_filled (c.loop-word.invariant ∙ ap (map id_of) end.0)
 
 pub returns-then-any : goal.returns-then-any
 unfolding ids_of
@@ -49,7 +49,7 @@ returns-then-any c =
     c.loop-word.yielded c.loop-word.word-iterator c.loop-word.yielded_by c.next.result c.next.new.self c.in-None.is c.next.ensures.steps in
     let some = eqb-false _ _ (sym c.is_empty.ensures ∙ c.if-is_empty.false) in
     let blank = any_from_yields_List (λ id. is_blank (chars_of id)) c.any.new.self _ c.any.result c.any.ensures.ran (YieldsList-from_slice c.loop-word.ids.items (cc)) (λ x b q k. search (rules, tests)) in
-    filled (texts_in c.loop-word.ids.items) true (λ e. some (omega (arith, length-map c.loop-word.ids.items chars_of))) (sym c.if-any.true ∙ blank ∙ any-texts c.loop-word.ids.items) ∙ ap all_filled (c.loop-word.invariant ∙ ap (map id_of) end.0)
+    filled (chars_of_texts c.loop-word.ids.items) true (λ e. some (omega (arith, length-map c.loop-word.ids.items chars_of))) (sym c.if-any.true ∙ blank ∙ any-texts c.loop-word.ids.items) ∙ ap all_filled (c.loop-word.invariant ∙ ap (map id_of) end.0)
 
 pub returns : goal.returns
 unfolding ids_of
@@ -58,4 +58,4 @@ returns c =
     c.loop-word.yielded c.loop-word.word-iterator c.loop-word.yielded_by c.next.result c.next.new.self c.in-None.is c.next.ensures.steps in
     let some = eqb-false _ _ (sym c.is_empty.ensures ∙ c.if-is_empty.false) in
     let blank = any_from_yields_List (λ id. is_blank (chars_of id)) c.any.new.self _ c.any.result c.any.ensures.ran (YieldsList-from_slice c.loop-word.ids.items (cc)) (λ x b q k. search (rules, tests)) in
-    filled (texts_in c.loop-word.ids.items) false (λ e. some (omega (arith, length-map c.loop-word.ids.items chars_of))) (sym c.if-any.false ∙ blank ∙ any-texts c.loop-word.ids.items) ∙ ap all_filled (c.loop-word.invariant ∙ ap (map id_of) end.0)
+    filled (chars_of_texts c.loop-word.ids.items) false (λ e. some (omega (arith, length-map c.loop-word.ids.items chars_of))) (sym c.if-any.false ∙ blank ∙ any-texts c.loop-word.ids.items) ∙ ap all_filled (c.loop-word.invariant ∙ ap (map id_of) end.0)

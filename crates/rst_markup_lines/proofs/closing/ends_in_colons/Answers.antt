@@ -6,7 +6,7 @@ use Rattle.std.specs.List.{slice_get}
 use Rattle.std.proofs.lemmas.List.{drop-drop}
 use Rattle.rst_text.specs.Block.{is_blank}
 use Rattle.rst_text.specs.Escapes.{is_escaped}
-use Rattle.rst_markup_lines.specs.Front.{begins_with}
+use Rattle.rst_markup_lines.specs.TextStart.{begins_with}
 use Rattle.rst_markup_lines.proofs.ColonLemmas.{no_colons}
 use Rattle.rst_markup_lines.proofs.ClosingLemmas.{place_of_rest, none-start, rest-next, escaped-next, colons-none, colons-there, colons-end}
 use Rattle.rst_markup_lines.proofs.closing.ends_in_colons.Goals as goal
@@ -18,23 +18,23 @@ loop-c-init c =
     record { text = search rules; place = rw all refl; escaped = rw all refl; none = none-start (chars c.args.text.now); within = omega arith }
 
 pub loop-c-smaller : goal.loop-c-smaller
-loop-c-smaller c = c.after_first-behind.ensures.shorter (search rules)
+loop-c-smaller c = c.after_first-following.ensures.shorter (search rules)
 
 pub loop-c-preserved : goal.loop-c-preserved
 loop-c-preserved c =
     let at = c.loop-c.invariant.place in
     let m = place_of_rest (chars c.args.text.now) (chars c.loop-c.rest.now) in
-    let behind : chars c.after_first-behind.result.now ≡ drop 1 (chars c.loop-c.rest.now) = c.after_first-behind.ensures.value in
-    let next : place_of_rest (chars c.args.text.now) (chars c.after_first-behind.result.now) ≡ m + 1 =
-    ap (place_of_rest (chars c.args.text.now)) behind ∙ rest-next (chars c.args.text.now) (chars c.loop-c.rest.now) c.in-Some.c c.loop-c.invariant.within (cc) in
+    let following : chars c.after_first-following.result.now ≡ drop 1 (chars c.loop-c.rest.now) = c.after_first-following.ensures.value in
+    let next : place_of_rest (chars c.args.text.now) (chars c.after_first-following.result.now) ≡ m + 1 =
+    ap (place_of_rest (chars c.args.text.now)) following ∙ rest-next (chars c.args.text.now) (chars c.loop-c.rest.now) c.in-Some.c c.loop-c.invariant.within (cc) in
     let none : (not c.loop-c.escaped && (c.in-Some.c == 58 && (begins_with 58 (drop 1 (chars c.loop-c.rest.now)) && is_blank (drop 1 (drop 1 (chars c.loop-c.rest.now)))))) ≡ false = cc in
     record {
       text = search rules;
-      place = ap (λ i. drop i (chars c.args.text.now)) next ∙ sym (drop-drop 1 m (chars c.args.text.now)) ∙ ap (drop 1) at ∙ sym behind;
+      place = ap (λ i. drop i (chars c.args.text.now)) next ∙ sym (drop-drop 1 m (chars c.args.text.now)) ∙ ap (drop 1) at ∙ sym following;
       escaped = c.escapes-escaped.ensures ∙ escaped-next (chars c.args.text.now) (chars c.loop-c.rest.now) c.in-Some.c m c.loop-c.escaped at (cc) c.loop-c.invariant.escaped
           ∙ ap (is_escaped (chars c.args.text.now) 0) (sym next);
-      none = rw behind (colons-none (chars c.args.text.now) (chars c.loop-c.rest.now) c.in-Some.c c.loop-c.escaped at (cc) c.loop-c.invariant.escaped none c.loop-c.invariant.none);
-      within = omega (arith, ap length behind, c.loop-c.invariant.within, length-drop 1 (chars c.loop-c.rest.now));
+      none = rw following (colons-none (chars c.args.text.now) (chars c.loop-c.rest.now) c.in-Some.c c.loop-c.escaped at (cc) c.loop-c.invariant.escaped none c.loop-c.invariant.none);
+      within = omega (arith, ap length following, c.loop-c.invariant.within, length-drop 1 (chars c.loop-c.rest.now));
     }
 
 pub returns-then-is_colon_pair : goal.returns-then-is_colon_pair

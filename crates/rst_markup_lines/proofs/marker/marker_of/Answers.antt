@@ -1,7 +1,7 @@
 use Rattle.std.proofs.Common.{◌≡◌, drop, arith, true}
 use Rattle.std.specs.Str.{chars}
 use Rattle.rst_text.specs.Block.{indentation}
-use Rattle.rst_markup_lines.specs.Front.{begins_with}
+use Rattle.rst_markup_lines.specs.TextStart.{begins_with}
 use Rattle.rst_markup_lines.proofs.TextLemmas.{indent_within}
 use Rattle.rst_text.proofs.LinesLemmas.{length-chars}
 use Rattle.rst_markup_lines.proofs.marker.marker_of.Goals as goal

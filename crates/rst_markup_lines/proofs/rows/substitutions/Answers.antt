@@ -7,7 +7,7 @@ unfolding rst_markup_lines
 returns c = record {
   named = refl;
   bar_inside = refl;
-  bar_behind_white = refl;
+  bar_after_white = refl;
   escaped = refl;
   without_space = refl;
   unclosed = refl;

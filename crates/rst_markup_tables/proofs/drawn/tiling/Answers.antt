@@ -38,9 +38,9 @@ returns-then-index-rectangle c =
     let wide : c.loop-left.left < length c.loop-left.depths.items = omega arith in
     let had : c.index.result.now ≡ get_or c.loop-left.depths.items c.loop-left.left 0 = get_or_read c.loop-left.depths.items _ _ wide c.index.ensures 0 in
     let inside = (frame_within c.args.rows.now c.in-Some.rectangle c.in-Some.ensures.0.frame).1 in
-    let held = get_or_read c.loop-column.depths.items _ _ (omega (arith, inside, c.loop-left.invariant.size, c.loop-column.invariant.size)) c.index-in-loop-column.ensures 0 in
+    let depth_read = get_or_read c.loop-column.depths.items _ _ (omega (arith, inside, c.loop-left.invariant.size, c.loop-column.invariant.size)) c.index-in-loop-column.ensures 0 in
     overlap _ c.loop-top.top c.loop-left.left c.loop-left.depths.items c.loop-column.depths.items c.loop-left.rectangles.items c.in-Some.rectangle c.loop-left.invariant (omega arith) wide (sym had ∙ c.if-index-top.false)
-    c.in-Some.ensures (c.loop-column.column, omega arith, omega arith, λ e. c.if-index-rectangle.true (held ∙ c.loop-column.invariant.kept c.loop-column.column (λ above below. omega arith) ∙ e))
+    c.in-Some.ensures (c.loop-column.column, omega arith, omega arith, λ e. c.if-index-rectangle.true (depth_read ∙ c.loop-column.invariant.kept c.loop-column.column (λ above below. omega arith) ∙ e))
 
 pub loop-left-preserved : goal.loop-left-preserved
 loop-left-preserved c =

@@ -1,8 +1,8 @@
 use Rattle.std.proofs.lemmas.Bool.Decides.{nat_tests}
 use Rattle.std.proofs.Common.{◌≡◌, ◌+◌, ◌-◌, ◌∙◌, ◌++◌, ◌&&◌, true, false, cond, leb, Some, Option, ℕ, ap, sym, subst, drop, length-drop, arith}
-use Rattle.rst_text.specs.Block.{Block, first_number, front_text}
+use Rattle.rst_text.specs.Block.{Block, first_number, first_text}
 use Rattle.rst_text.specs.Places.{IsLast}
-use Rattle.rst_text.specs.Shown.{block_of}
+use Rattle.rst_text.specs.ViewBlock.{block_of}
 use Rattle.rst_markup_lines.specs.Border.{is_grid_border}
 use Rattle.rst_markup_blocks.specs.declared.lines.LineTest.TheVariants.{Drawn}
 use Rattle.rst_markup_blocks.specs.TableLines.{is_drawn}
@@ -20,7 +20,7 @@ use Rattle.rst_markup_tables.proofs.grid_lines.drawn_lines.Goals as goal
 pub returns-then-not-is_drawn : goal.returns-then-not-is_drawn
 returns-then-not-is_drawn c =
     let B : Block = block_of c.args.view.now in
-    let stop : is_drawn (front_text (drop c.loop-k.k B)) ≡ false = sym (c.is_drawn.ensures ∙ ap is_drawn c.line-text.ensures.text) ∙ c.if-not-is_drawn.true in
+    let stop : is_drawn (first_text (drop c.loop-k.k B)) ≡ false = sym (c.is_drawn.ensures ∙ ap is_drawn c.line-text.ensures.text) ∙ c.if-not-is_drawn.true in
     let X : Block = drop c.args.i B in
     let all : c.loop-k.k - c.args.i - 2 ≡ lines_while Drawn X - 2 = omega (arith, c.loop-k.invariant.among, (while_stop c.loop-k.k Drawn B (omega arith) stop).0) in
     record {
@@ -41,12 +41,12 @@ pub loop-k-preserved : goal.loop-k-preserved
 loop-k-preserved c =
     let B : Block = block_of c.args.view.now in
     let n : ℕ = c.loop-k.k - c.args.i in
-    let drawn : is_drawn (front_text (drop c.loop-k.k B)) ≡ true = sym (c.is_drawn.ensures ∙ ap is_drawn c.line-text.ensures.text) ∙ c.if-not-is_drawn.false in
+    let drawn : is_drawn (first_text (drop c.loop-k.k B)) ≡ true = sym (c.is_drawn.ensures ∙ ap is_drawn c.line-text.ensures.text) ∙ c.if-not-is_drawn.false in
     let rows = drawn-row B c.loop-k.k c.in_ok-line.line c.in_ok-line.ensures.line drawn in
     let more = while_more c.loop-k.k Drawn B (omega arith) drawn in
     let step = border-more B c.args.i c.loop-k.k c.loop-k.bottom (omega arith) c.loop-k.invariant.last in
     let size = pushed_size c.loop-k.lines.items c.push.new.self.items c.in_ok-line.line n c.in_ok-push.ensures.items c.loop-k.invariant.size in
-    let new : c.if-k-i-ge2.bottom ≡ cond (leb 2 n && is_grid_border (front_text (drop c.loop-k.k B))) (Some n) c.loop-k.bottom = grind (arith, nat_tests, c.line-text.ensures.text) in
+    let new : c.if-k-i-ge2.bottom ≡ cond (leb 2 n && is_grid_border (first_text (drop c.loop-k.k B))) (Some n) c.loop-k.bottom = grind (arith, nat_tests, c.line-text.ensures.text) in
     record {
       lines = onto _ _ _ _ _ c.in_ok-push.ensures.items (sym (ap (λ l. c.loop-k.lines.items ++ l) rows) ∙ c.loop-k.invariant.lines);
       among = sym more ∙ c.loop-k.invariant.among;

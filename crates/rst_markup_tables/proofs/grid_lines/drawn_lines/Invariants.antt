@@ -3,7 +3,7 @@ use Rattle.rst_text.specs.Block.{first_number}
 use Rattle.rst_markup_tables.specs.Places.{no_row}
 use Rattle.rst_text.specs.Places.{IsLast}
 use Rattle.rst_text.specs.Looked.{Looked}
-use Rattle.rst_text.specs.Shown.{block_of}
+use Rattle.rst_text.specs.ViewBlock.{block_of}
 use Rattle.rst_markup_blocks.specs.declared.lines.LineTest.TheVariants.{Drawn}
 use Rattle.rst_markup_blocks.specs.Lines.{lines_while}
 use Rattle.rst_markup_blocks.specs.TableRows.{is_border_at}

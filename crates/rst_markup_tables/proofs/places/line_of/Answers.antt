@@ -3,7 +3,7 @@ use Rattle.std.specs.List.{list_any}
 use Rattle.std.specs.Str.{all_scalars, chars}
 use Rattle.std.proofs.lemmas.Str.{scalars-chars}
 use Rattle.rst_text.specs.Lines.{is_line_end, is_line_text}
-use Rattle.rst_text.specs.Shown.{block_of}
+use Rattle.rst_text.specs.ViewBlock.{block_of}
 use Rattle.rst_text.proofs.Cuts.{is_line_text-line}
 use Rattle.rst_text.proofs.LineTexts.{is_line_text-parts}
 use Rattle.rst_markup_tables.specs.Cells.{characters}

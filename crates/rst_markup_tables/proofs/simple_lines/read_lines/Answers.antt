@@ -3,7 +3,7 @@ use Rattle.rst_text.specs.Block.{first_number}
 use Rattle.rst_markup_tables.specs.Places.{Row, no_row}
 use Rattle.rst_markup_tables.proofs.Begins.{pushed, pushed_size}
 use Rattle.rst_markup_tables.proofs.Numbered.{numbered-from}
-use Rattle.rst_text.specs.Shown.{block_of}
+use Rattle.rst_text.specs.ViewBlock.{block_of}
 use Rattle.rst_text.specs.Block.{Block}
 use Rattle.rst_markup_tables.specs.Places.{rows_of}
 use Rattle.rst_markup_tables.proofs.Lists.{onto}

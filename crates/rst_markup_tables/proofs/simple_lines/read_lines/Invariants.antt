@@ -1,7 +1,7 @@
 use Rattle.std.proofs.Common.{◌≡◌, ℕ, ◌++◌, ◌+◌, ◌-◌, ◌<◌, take, drop, length, get_or}
 use Rattle.rst_text.specs.Block.{first_number}
 use Rattle.rst_text.specs.Looked.{Looked}
-use Rattle.rst_text.specs.Shown.{block_of}
+use Rattle.rst_text.specs.ViewBlock.{block_of}
 use Rattle.rst_markup_tables.specs.Places.{rows_of, no_row}
 use Rattle.rst_markup_tables.proofs.simple_lines.read_lines.Given as goal
 

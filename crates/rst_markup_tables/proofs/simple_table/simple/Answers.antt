@@ -1,7 +1,7 @@
 use Rattle.std.proofs.Common.{◌≡◌, ◌∙◌, ◌+◌, ◌-◌, ap, ap₂, sym, drop, take, length, length-drop, arith, ℕ, Option, Some}
 use Rattle.std.specs.Option.{option_or}
 use Rattle.rst_text.specs.Block.{Block, first_number}
-use Rattle.rst_text.specs.Shown.{block_of}
+use Rattle.rst_text.specs.ViewBlock.{block_of}
 use Rattle.rst_markup_blocks.specs.TableRows.{head_border, simple_size}
 use Rattle.rst_markup_blocks.proofs.TableLaws.{simple_size_le}
 use Rattle.rst_markup_tables.specs.Places.{Grid, rows_of}

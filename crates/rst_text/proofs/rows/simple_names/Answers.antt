@@ -8,7 +8,7 @@ returns c = record {
   joined = refl;
   each_joint = refl;
   two_joints = refl;
-  joint_in_front = refl;
+  leading_joint = refl;
   joint_at_the_end = refl;
   empty = refl;
 }

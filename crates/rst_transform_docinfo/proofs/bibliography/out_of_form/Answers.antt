@@ -6,9 +6,9 @@ use Rattle.rst_transform_docinfo.proofs.bibliography.out_of_form.Goals as goal
 
 pub returns-clause-node : goal.returns-clause-node
 returns-clause-node c =
-    let told : c.in_ok-message.message ≡ report_node (fault_report c.args.context.now.first_number c.args.context.now.reports.items c.args.name.now c.args.field.line) =
+    let reported : c.in_ok-message.message ≡ report_node (fault_report c.args.context.now.first_number c.args.context.now.reports.items c.args.name.now c.args.field.line) =
     subst (λ text. c.in_ok-message.message ≡ report_node (report_in c.args.context.now Warning c.args.field.line text false)) c.in_ok-text.ensures c.in_ok-message.ensures.node in
-    search (rules, told)
+    search (rules, reported)
 
 pub returns-clause-reports : goal.returns-clause-reports
 returns-clause-reports c =

@@ -9,5 +9,5 @@ returns c = record {
   in_a_quote = refl;
   problematics = refl;
   without_message = refl;
-  shown = refl;
+  reported = refl;
 }

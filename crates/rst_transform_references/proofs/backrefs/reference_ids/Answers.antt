@@ -1,10 +1,10 @@
 use Rattle.std.proofs.Common.{rules, ◌≤◌, map, length, arith}
-use Rattle.rst_transform_references.specs.Linkings.{held}
+use Rattle.rst_transform_references.specs.Linkings.{linked_element}
 use Rattle.rst_transform_references.proofs.Referring.{gather_end, gather_more, gather_none, gather_short}
 use Rattle.rst_transform_references.proofs.backrefs.reference_ids.Goals as goal
 
 pub loop-place-init : goal.loop-place-init
-loop-place-init c = rw (c.in_ok-lists.ensures) (gather_none c.args.referents.now (map held c.args.holders.now.linked.now) c.args.count)
+loop-place-init c = rw (c.in_ok-lists.ensures) (gather_none c.args.referents.now (map linked_element c.args.holders.now.linked.now) c.args.count)
 
 pub loop-place-preserved : goal.loop-place-preserved
 loop-place-preserved c =

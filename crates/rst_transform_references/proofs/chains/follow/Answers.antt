@@ -1,6 +1,6 @@
 use Rattle.std.proofs.Common.{rules, ◌≡◌, Some, None, unwrap_or}
 use Rattle.rst_transform_references.specs.declared.chains.Answer.TheVariants.{Circular}
-use Rattle.rst_transform_references.specs.Chains.{filled, next_on}
+use Rattle.rst_transform_references.specs.Chains.{filled_answers, next_on}
 use Rattle.rst_transform_references.proofs.Following.{Following-less, Following-more, Following-end}
 use Rattle.rst_transform_references.proofs.chains.follow.Goals as goal
 use Rattle.rst_transform_work.specs.Lists.{at_place}
@@ -19,5 +19,5 @@ pub returns : goal.returns
 returns c =
     let stops : next_on c.args.steps.now c.loop-next.answers.items c.loop-next.place ≡ None = search rules in
     let is : c.in_ok-found.found ≡ unwrap_or (at_place c.loop-next.answers.items c.loop-next.place) Circular = search rules in
-    let filling : c.fill.new.answers.items ≡ filled c.in_ok-found.found c.loop-next.chain.items c.loop-next.answers.items = search rules in
+    let filling : c.fill.new.answers.items ≡ filled_answers c.in_ok-found.found c.loop-next.chain.items c.loop-next.answers.items = search rules in
     rw filling (Following-end c.args.steps.now c.args.start c.loop-next.answers.items c.loop-next.chain.items c.loop-next.place c.loop-next.invariant c.in_ok-found.found stops is)

@@ -7,7 +7,7 @@ use Rattle.std.proofs.lemmas.Iterator.Adapters.{YieldsList-from_vec}
 use Rattle.rst_tree.specs.Forest.{height}
 use Rattle.rst_tree.specs.Nodes.{join_node}
 use Rattle.rst_tree.proofs.PrintedParts.{inside_lower}
-use Rattle.rst_transform_structure.specs.Transitions.{keeps_place, none_yet, placed_in, so_far, with_node}
+use Rattle.rst_transform_structure.specs.Transitions.{keeps_place, no_siblings_yet, placed_in, siblings_so_far, with_node}
 use Rattle.rst_transform_structure.proofs.Placing.{all_keep, placing_node, placing_transition, placing_section, placing_all, step_other, step_text}
 use Rattle.rst_transform_structure.proofs.transitions.+place_in.Goals as goal
 use Rattle.rst_transform_structure.proofs.transitions.+place_in.Goals.{then-ends, else-ends}
@@ -23,7 +23,7 @@ place_in-requires t c =
 
 pub loop-node-preserved-in-Text : goal.loop-node-preserved-in-Text
 loop-node-preserved-in-Text t c =
-    let s = so_far c.loop-node.placed c.loop-node.context in
+    let s = siblings_so_far c.loop-node.placed c.loop-node.context in
     placing_node c.args.context.now c.args.ends c.args.nodes c.loop-node.left _ c.loop-node.yielded c.loop-node.placed _ c.loop-node.context _ c.in-Some.node c.loop-node.invariant c.saturating_sub-left.ensures refl
     (λ r. ap (λ m. placed_in c.args.context.now.first_number c.args.ends s (join_node m r)) c.in-Text.is ∙ step_text c.args.context.now.first_number c.args.ends s c.in-Text.text r
     ∙ ap (λ m. placed_in c.args.context.now.first_number c.args.ends (with_node m s) r) (sym c.in-Text.is))
@@ -45,7 +45,7 @@ loop-node-preserved-then-is_transition t c =
 
 pub loop-node-preserved : goal.loop-node-preserved
 loop-node-preserved t c =
-    let s = so_far c.loop-node.placed c.loop-node.context in
+    let s = siblings_so_far c.loop-node.placed c.loop-node.context in
     placing_node c.args.context.now c.args.ends c.args.nodes c.loop-node.left _ c.loop-node.yielded c.loop-node.placed _ c.loop-node.context _ c.in-Some.node c.loop-node.invariant c.saturating_sub-left.ensures refl
     (λ r. ap (λ m. placed_in c.args.context.now.first_number c.args.ends s (join_node m r)) c.in-Element.is
     ∙ step_other c.args.context.now.first_number c.args.ends s c.in-Element.tag c.in-Element.attrs c.in-Element.children c.in-Element.line r (sym c.is_section.ensures ∙ c.if-is_section.false)
@@ -55,7 +55,7 @@ loop-node-preserved t c =
 
 pub returns-then-all_keep_places-clause-placed : goal.returns-then-all_keep_places-clause-placed
 returns-then-all_keep_places-clause-placed t c =
-    let none = none_yet c.args.context.now.reports.items in
+    let none = no_siblings_yet c.args.context.now.reports.items in
     ap (λ ms. record none { placed = c.into_list-list.result.items; moving = ms }) c.new.ensures.items
     ∙ sym (ap (placed_in c.args.context.now.first_number c.args.ends none) c.into_list-list.ensures.forest
     ∙ all_keep c.args.context.now.first_number c.args.ends none c.into_list-list.result.items

@@ -6,7 +6,7 @@ use Rattle.rst_tree.proofs.Changes.{nodes_of-forest_of}
 use Rattle.rst_tree.proofs.Rewrites.{Same-child}
 use Rattle.rst_transform_work.specs.Known.{Makes}
 use Rattle.rst_transform_substitutions.specs.Definitions.{found_by, known_place}
-use Rattle.rst_transform_substitutions.specs.Expanded.{expanded_in, is_reference_node, within_element}
+use Rattle.rst_transform_substitutions.specs.Expanded.{expanded_in, is_substitution_reference_node, within_element}
 use Rattle.rst_transform_substitutions.proofs.NoReferences.{plain_stays}
 use Rattle.rst_transform_substitutions.proofs.Replacing.{element_holds, none_opened, reference_gives, text_stays, Replacing-all, Replacing-init, Replacing-more}
 use Rattle.rst_transform_substitutions.proofs.expand.+expand_in.Goals as goal
@@ -21,12 +21,12 @@ loop-i-preserved-in-Text t c = record {
   remembers = c.loop-i.invariant.remembers;
 }
 
-pub loop-i-preserved-then-is_reference : goal.loop-i-preserved-then-is_reference
-loop-i-preserved-then-is_reference t c = record {
+pub loop-i-preserved-then-is_substitution_reference : goal.loop-i-preserved-then-is_substitution_reference
+loop-i-preserved-then-is_substitution_reference t c = record {
   replacing = Replacing-more (found_by c.args.definitions.now) (known_place c.args.definitions.now) c.args.within c.args.nodes.now c.args.context.now c.loop-i.context c.replaced.new.context c.loop-i.nodes c.loop-i.i c.get_mut.result.now _ c.loop-i.invariant.replacing
       (omega (arith, c.loop-i.invariant.replacing.same.same_len, c.len-i-end.ensures)) c.get_mut.ensures.value
       (reference_gives (found_by c.args.definitions.now) (known_place c.args.definitions.now) c.args.within c.loop-i.context c.replaced.new.context c.get_mut.result.now c.in-Element.tag c.in-Element.attrs c.replaced.new.attrs c.in-Element.children c.in_ok-children-in-Element.field-0 c.in-Element.line
-      c.in-Element.is (sym c.is_reference.ensures ∙ c.if-is_reference.true) c.in_ok-children-in-Element.ensures.replaced);
+      c.in-Element.is (sym c.is_substitution_reference.ensures ∙ c.if-is_substitution_reference.true) c.in_ok-children-in-Element.ensures.replaced);
   remembers = c.in_ok-children-in-Element.ensures.remembers;
 }
 
@@ -39,7 +39,7 @@ loop-i-preserved-then-are_plain t c =
       replacing = Replacing-more found place c.args.within c.args.nodes.now c.args.context.now c.loop-i.context c.loop-i.context c.loop-i.nodes c.loop-i.i c.get_mut.result.now _ c.loop-i.invariant.replacing
           (omega (arith, c.loop-i.invariant.replacing.same.same_len, c.len-i-end.ensures)) c.get_mut.ensures.value
           (element_holds found place c.args.within c.loop-i.context c.loop-i.context c.get_mut.result.now c.in-Element.tag c.in-Element.attrs c.in-Element.children c.in-Element.children c.in-Element.line
-          c.in-Element.is (sym c.is_reference.ensures ∙ c.if-is_reference.false) stay);
+          c.in-Element.is (sym c.is_substitution_reference.ensures ∙ c.if-is_substitution_reference.false) stay);
       remembers = c.loop-i.invariant.remembers;
     }
 
@@ -56,7 +56,7 @@ loop-i-preserved t c = record {
   replacing = Replacing-more (found_by c.args.definitions.now) (known_place c.args.definitions.now) c.args.within c.args.nodes.now c.args.context.now c.loop-i.context c.expand_in.new.context c.loop-i.nodes c.loop-i.i c.get_mut.result.now _ c.loop-i.invariant.replacing
       (omega (arith, c.loop-i.invariant.replacing.same.same_len, c.len-i-end.ensures)) c.get_mut.ensures.value
       (element_holds (found_by c.args.definitions.now) (known_place c.args.definitions.now) c.args.within c.loop-i.context c.expand_in.new.context c.get_mut.result.now c.in-Element.tag c.in-Element.attrs c.in-Element.children c.expand_in.new.nodes c.in-Element.line
-      c.in-Element.is (sym c.is_reference.ensures ∙ c.if-is_reference.false) (rw (c.within_element-within.ensures) at c.in_ok-expand_in-in-Element.ensures.expanded));
+      c.in-Element.is (sym c.is_substitution_reference.ensures ∙ c.if-is_substitution_reference.false) (rw (c.within_element-within.ensures) at c.in_ok-expand_in-in-Element.ensures.expanded));
   remembers = c.in_ok-expand_in-in-Element.ensures.remembers;
 }
 
@@ -70,6 +70,6 @@ returns-in_ok-open_references-clause-expanded t c =
 pub returns-else-has_reference-clause-expanded : goal.returns-else-has_reference-clause-expanded
 returns-else-has_reference-clause-expanded t c =
     let are = ap nodes_of c.as_slice.ensures ∙ nodes_of-forest_of c.as_slice.result.now in
-    let none = none_opened (nodes_of c.loop-i.nodes) (ap (list_any is_reference_node) are ∙ sym c.has_reference.ensures ∙ c.if-has_reference.false) in
+    let none = none_opened (nodes_of c.loop-i.nodes) (ap (list_any is_substitution_reference_node) are ∙ sym c.has_reference.ensures ∙ c.if-has_reference.false) in
     subst (λ xs. Makes (expanded_in (found_by c.args.definitions.now) (known_place c.args.definitions.now) c.args.within c.args.nodes.now) c.args.context.now c.loop-i.context xs) none
     (Replacing-all (found_by c.args.definitions.now) (known_place c.args.definitions.now) c.args.within c.args.nodes.now c.args.context.now c.loop-i.context c.loop-i.nodes c.loop-i.i c.loop-i.invariant.replacing (omega (arith, c.loop-i.invariant.replacing.same.same_len, c.len-i-end.ensures)))

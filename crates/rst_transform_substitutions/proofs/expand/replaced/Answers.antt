@@ -3,7 +3,7 @@ use Rattle.rst_tree.specs.declared.note.Level.TheVariants.{Error}
 use Rattle.rst_transform_work.specs.Known.{Makes}
 use Rattle.rst_transform_work.proofs.Holding.{holds_reported}
 use Rattle.rst_transform_substitutions.specs.Expanded.{at_fault}
-use Rattle.rst_transform_substitutions.specs.Expansion.{fault_text, name_said}
+use Rattle.rst_transform_substitutions.specs.Expansion.{expansion_fault_text, refname_of}
 use Rattle.rst_transform_substitutions.proofs.expand.replaced.Goals as goal
 
 pub returns-in_ok-node-in-Fault-clause-replaced : goal.returns-in_ok-node-in-Fault-clause-replaced
@@ -11,6 +11,6 @@ returns-in_ok-node-in-Fault-clause-replaced c =
     let made : Makes (at_fault c.args.attrs.now c.args.line c.in-Fault.fault) c.args.context.now c.problematic.new.self c.in_ok-node-in-Fault.node = λ known h.
     let first : c.in_ok-report-in-Fault.report ≡ length c.args.context.now.reports.items = grind arith in
     let place : c.in_ok-report-in-Fault.report ≡ length known.reports = first ∙ ap length h.reports in
-    let held = holds_reported Error c.args.line (fault_text (name_said c.args.attrs.now) c.in-Fault.fault) _ c.args.context.now c.report.new.self known h c.in_ok-report-in-Fault.ensures.rest (rw (c.in_ok-text-in-Fault.ensures, c.said-name.ensures) at c.in_ok-report-in-Fault.ensures.reports) in
-    rw (place, c.in_ok-source-in-Fault.ensures) at (c.in_ok-node-in-Fault.ensures _ held) in
+    let reported = holds_reported Error c.args.line (expansion_fault_text (refname_of c.args.attrs.now) c.in-Fault.fault) _ c.args.context.now c.report.new.self known h c.in_ok-report-in-Fault.ensures.rest (rw (c.in_ok-text-in-Fault.ensures, c.text_or_empty-name.ensures) at c.in_ok-report-in-Fault.ensures.reports) in
+    rw (place, c.in_ok-source-in-Fault.ensures) at (c.in_ok-node-in-Fault.ensures _ reported) in
     search (rules, made)

@@ -1,7 +1,7 @@
 use Rattle.std.proofs.Common.{◌≡◌, ◌*◌, ◌-◌, arith, refl, ◌∙◌, ap, replicate, ◌++◌}
 use Rattle.std.proofs.lemmas.List.{take-replicate}
 use Rattle.rst_tree.proofs.Sending.{◌▸◌, Sends-as, Sends-none}
-use Rattle.rst_tree.proofs.PrintedParts.{indent_behind}
+use Rattle.rst_tree.proofs.PrintedParts.{indent_after}
 use Rattle.rst_tree.proofs.output.put_indent.Goals as goal
 
 pub loop-left-init : goal.loop-left-init
@@ -13,7 +13,7 @@ loop-left-init g c = record {
 pub loop-left-preserved : goal.loop-left-preserved
 loop-left-preserved g c = record {
   within = omega arith;
-  sent = Sends-as (c.loop-left.invariant.sent ▸ c.put.ensures) (indent_behind (c.args.level - c.loop-left.left) 256 (c.args.level - (c.loop-left.left - 256)) (omega arith));
+  sent = Sends-as (c.loop-left.invariant.sent ▸ c.put.ensures) (indent_after (c.args.level - c.loop-left.left) 256 (c.args.level - (c.loop-left.left - 256)) (omega arith));
 }
 
 pub returns : goal.returns
@@ -21,5 +21,5 @@ returns g c =
     Sends-as (c.loop-left.invariant.sent ▸ c.put-2.ensures)
     (
     ap (λ l. replicate (4 * (c.args.level - c.loop-left.left)) 32 ++ l) (take-replicate (4 * c.loop-left.left) 1024 32 (omega (arith, c.loop-left-test.false)))
-    ∙ indent_behind (c.args.level - c.loop-left.left) c.loop-left.left c.args.level (omega arith)
+    ∙ indent_after (c.args.level - c.loop-left.left) c.loop-left.left c.args.level (omega arith)
     )

@@ -7,7 +7,7 @@ use Rattle.rst_tree.specs.Nodes.{forest_of, node_height}
 use Rattle.rst_tree.proofs.Changes.{nodes_of-forest_of}
 use Rattle.rst_tree.proofs.PrintedParts.{child_height}
 use Rattle.rst_tree_index.specs.MarkPaths.{node_paths, paths_in}
-use Rattle.rst_tree_index.specs.Marks.{with_all, with_one}
+use Rattle.rst_tree_index.specs.Marks.{with_elements_at, with_one}
 use Rattle.rst_tree_index.specs.Registered.{item_of}
 use Rattle.rst_tree_index.proofs.Visiting.{mark_passed, mark_read, own_read, text_left}
 use Rattle.rst_tree_index.proofs.marked.+add_elements.Goals as goal
@@ -45,7 +45,7 @@ returns t c =
       | else-own w ↦ rw (w.if-own.false, w.list-is) refl
     ] in
     let node = ap (λ f. Element e.tag e.attrs f e.line) (sym c.as_slice-nodes.ensures) ∙ sym e.is in
-    ap (λ ms. with_all (paths_in ms) (Element e.tag e.attrs (forest_of c.as_slice-nodes.result.now) e.line) (map item_of c.loop-mark.list.items))
+    ap (λ ms. with_elements_at (paths_in ms) (Element e.tag e.attrs (forest_of c.as_slice-nodes.result.now) e.line) (map item_of c.loop-mark.list.items))
     (sym (drop_all c.loop-mark.mark-index c.as_slice-marks.result.now c.loop-mark-test.false))
     ∙ c.loop-mark.invariant e.tag e.attrs e.line ∙ own_read c.args.own (paths_in c.as_slice-marks.result.now) e.tag e.attrs _ e.line old _ known
-    ∙ ap₂ (λ ps n. with_all (node_paths c.args.own ps) n old) (sym c.as_slice-marks.ensures.paths) node
+    ∙ ap₂ (λ ps n. with_elements_at (node_paths c.args.own ps) n old) (sym c.as_slice-marks.ensures.paths) node

@@ -19,26 +19,26 @@ add_marks-requires t c =
 
 pub loop-place-preserved : goal.loop-place-preserved
 loop-place-preserved t c =
-    let held = c.loop-place in
+    let loop_place = c.loop-place in
     let node = c.index-list-place.result in
     let inside = c.in-Element in
     let marks =
     marks_within is_registered node inside.tag inside.attrs inside.children inside.line c.is_registered-own.result c.none-inner.result c.add_marks.new.marks inside.is c.is_registered-own.ensures c.none-inner.ensures
     c.in_ok-add_marks.ensures in
-    paths_more is_registered c.as_slice-list.result.now held.place node c.args.marks.now held.marks c.push-in-loop-place.new.self c.loop-place-test.true c.index-list-place.is held.invariant
-    (c.in_ok-push-2.ensures ∙ ap (λ z. held.marks ++ map (λ p. held.place ∷ p) z) marks)
+    paths_more is_registered c.as_slice-list.result.now loop_place.place node c.args.marks.now loop_place.marks c.push-in-loop-place.new.self c.loop-place-test.true c.index-list-place.is loop_place.invariant
+    (c.in_ok-push-2.ensures ∙ ap (λ z. loop_place.marks ++ map (λ p. loop_place.place ∷ p) z) marks)
 
 pub loop-place-preserved-then-are_plain : goal.loop-place-preserved-then-are_plain
 loop-place-preserved-then-are_plain t c =
-    let held = c.loop-place in
+    let loop_place = c.loop-place in
     let node = c.index-list-place.result in
     let inside = c.in-Element in
     let none = nothing_gathered (places is_registered) (λ t. refl) inside.children (sym c.are_plain.ensures ∙ c.if-are_plain.true) in
     let marks =
     marks_within is_registered node inside.tag inside.attrs inside.children inside.line c.is_registered-own.result c.none.result c.none.result inside.is c.is_registered-own.ensures c.none.ensures
     (c.none.ensures ∙ ap (λ z. [] ++ map path_of z) (sym none) ∙ ap (λ z. z ++ map path_of (places is_registered inside.children)) (sym c.none.ensures)) in
-    paths_more is_registered c.as_slice-list.result.now held.place node c.args.marks.now held.marks c.push.new.self c.loop-place-test.true c.index-list-place.is held.invariant
-    (c.in_ok-push.ensures ∙ ap (λ z. held.marks ++ map (λ p. held.place ∷ p) z) marks)
+    paths_more is_registered c.as_slice-list.result.now loop_place.place node c.args.marks.now loop_place.marks c.push.new.self c.loop-place-test.true c.index-list-place.is loop_place.invariant
+    (c.in_ok-push.ensures ∙ ap (λ z. loop_place.marks ++ map (λ p. loop_place.place ∷ p) z) marks)
 
 pub loop-place-preserved-in_default : goal.loop-place-preserved-in_default
 loop-place-preserved-in_default t c =

@@ -7,7 +7,7 @@ unfolding rst_block_nodes
 returns c = record {
   empty = refl;
   messages = refl;
-  shown_lines = refl;
+  lines_in_message = refl;
   section = refl;
   markup_in_a_title = refl;
   labels_in_a_title = refl;

@@ -13,7 +13,7 @@ use Rattle.rst_inline.proofs.written.Written.meant.Goals as goal
 pub overflow_sub-high : goal.overflow_sub-high
 overflow_sub-high c =
     let t = c.deref.result.now in
-    let alias = ap is_alias (sym c.part-held.ensures) ∙ sym c.is_alias.ensures ∙ c.if-is_alias.true in
+    let alias = ap is_alias (sym c.part-enclosed.ensures) ∙ sym c.is_alias.ensures ∙ c.if-is_alias.true in
     omega (
       arith,
       alias-some (part t c.args.low c.args.high) alias,
@@ -25,8 +25,8 @@ pub returns-then-is_alias : goal.returns-then-is_alias
 returns-then-is_alias c =
     let t = c.args.self.now.characters.items in
     let u = part t c.args.low c.args.high in
-    let held = c.part-held.ensures ∙ ap (λ (t : Text). part t c.args.low c.args.high) c.deref.ensures.value in
-    let alias : is_alias u ≡ true = ap is_alias (sym held) ∙ sym c.is_alias.ensures ∙ c.if-is_alias.true in
+    let enclosed = c.part-enclosed.ensures ∙ ap (λ (t : Text). part t c.args.low c.args.high) c.deref.ensures.value in
+    let alias : is_alias u ≡ true = ap is_alias (sym enclosed) ∙ sym c.is_alias.ensures ∙ c.if-is_alias.true in
     let is = ap unescaped (alias-part t c.args.low c.args.high c.requires (alias-some u alias))
     ∙ sym (ap (λ b. cond b (unescaped (part u 0 (length u - 1))) (without_white (unescaped u))) alias) in
     subst (λ m. IfOk c.unescaped.result (λ meaning. chars (cow_str_bytes meaning) ≡ m)) is c.unescaped.ensures
@@ -35,8 +35,8 @@ pub returns-then-not-has_white : goal.returns-then-not-has_white
 returns-then-not-has_white c =
     let t = c.args.self.now.characters.items in
     let u = part t c.args.low c.args.high in
-    let held = c.part-held.ensures ∙ ap (λ (t : Text). part t c.args.low c.args.high) c.deref.ensures.value in
-    let alias : is_alias u ≡ false = ap is_alias (sym held) ∙ sym c.is_alias.ensures ∙ c.if-is_alias.false in
-    let dark : list_any is_white u ≡ false = ap (list_any is_white) (sym held) ∙ sym c.has_white.ensures ∙ c.if-not-has_white.true in
+    let enclosed = c.part-enclosed.ensures ∙ ap (λ (t : Text). part t c.args.low c.args.high) c.deref.ensures.value in
+    let alias : is_alias u ≡ false = ap is_alias (sym enclosed) ∙ sym c.is_alias.ensures ∙ c.if-is_alias.false in
+    let dark : list_any is_white u ≡ false = ap (list_any is_white) (sym enclosed) ∙ sym c.has_white.ensures ∙ c.if-not-has_white.true in
     let is = dark-unescaped u dark ∙ sym (ap (λ b. cond b (unescaped (part u 0 (length u - 1))) (without_white (unescaped u))) alias) in
     subst (λ m. IfOk c.unescaped-then-not-has_white.result (λ meaning. chars (cow_str_bytes meaning) ≡ m)) is c.unescaped-then-not-has_white.ensures

@@ -6,8 +6,8 @@ use Rattle.rst_text.specs.Escapes.{has_backslash}
 use Rattle.rst_inline.proofs.WrittenLemmas.{plain-chars}
 use Rattle.rst_inline.proofs.written.Written.of.Goals as goal
 
-pub invariant_of-result-clause-spelled : goal.invariant_of-result-clause-spelled
-invariant_of-result-clause-spelled c = sym (encodes-chars c.args.text.now c.utf8.text) ∙ ap encode_utf8_all (sym c.in_ok-characters.ensures.characters)
+pub invariant_of-result-clause-text_bytes : goal.invariant_of-result-clause-text_bytes
+invariant_of-result-clause-text_bytes c = sym (encodes-chars c.args.text.now c.utf8.text) ∙ ap encode_utf8_all (sym c.in_ok-characters.ensures.characters)
 
 pub invariant_of-result-clause-scalars : goal.invariant_of-result-clause-scalars
 invariant_of-result-clause-scalars c = ap all_scalars c.in_ok-characters.ensures.characters ∙ scalars-chars c.args.text.now c.utf8.text

@@ -7,4 +7,4 @@ pub pieces_of_ascii-requires : goal.pieces_of_ascii-requires
 pieces_of_ascii-requires c =
     let w = c.args.self.now in
     let ascii = w.ascii (eqb-true (vec_len w.starts) 0 (sym c.is_empty.ensures ∙ c.if-is_empty.true)) in
-    c.as_bytes.ensures.value ∙ w.spelled ∙ encodes-IsAscii w.characters.items ascii ∙ sym c.deref.ensures.value
+    c.as_bytes.ensures.value ∙ w.text_bytes ∙ encodes-IsAscii w.characters.items ascii ∙ sym c.deref.ensures.value

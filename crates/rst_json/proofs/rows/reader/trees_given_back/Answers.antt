@@ -5,5 +5,5 @@ use Rattle.rst_json.proofs.rows.reader.trees_given_back.Goals as goal
 pub returns : goal.returns
 unfolding rst_json
 returns c = record {
-  without_what_is_not_shown = refl;
+  without_left_out_attributes = refl;
 }

@@ -1,16 +1,16 @@
 use Rattle.std.proofs.Common.{Some, None, true, ◌+◌, ◌≡◌, ◌-◌, length, length-drop, drop, ap, sym, ◌∙◌, subst, IsTrue, arith}
 use Rattle.std.specs.Option.{option_or}
 use Rattle.std.specs.Str.{chars}
-use Rattle.rst_text.specs.Block.{Block, front_text}
+use Rattle.rst_text.specs.Block.{Block, first_text}
 use Rattle.rst_text.specs.Reach.{reach}
-use Rattle.rst_text.specs.Shown.{block_of}
+use Rattle.rst_text.specs.ViewBlock.{block_of}
 use Rattle.rst_text.proofs.Reaches.{looked_is}
 use Rattle.rst_markup_lines.specs.ExplicitMarks.{dots}
 use Rattle.rst_markup_lines.proofs.MarkBounds.{dots_within}
 use Rattle.rst_markup_lines.specs.Marker.{bullet}
 use Rattle.rst_markup_lines.specs.Enumerator.{enumerator_of}
 use Rattle.rst_markup_blocks.specs.Ends.{row_reach, row_size}
-use Rattle.rst_markup_blocks.specs.TableRows.{through, simple_size}
+use Rattle.rst_markup_blocks.specs.TableRows.{lines_through, simple_size}
 use Rattle.rst_markup_blocks.specs.Kinds.{row_holds}
 use Rattle.rst_markup_blocks.specs.declared.lines.LineTest.TheVariants.{Drawn}
 use Rattle.rst_markup_blocks.proofs.TableLaws.{grid_drawn, while_some}
@@ -48,7 +48,7 @@ returns-in-Simple c =
     let X : Block = drop c.args.i B in
     let all : c.len-in-Simple.result - c.args.i ≡ length X = omega (arith, length-drop c.args.i B) in
     let size : c.size.result ≡ simple_size X =
-    c.size.ensures ∙ ap (λ n. through n (option_or c.simple_borders.result.bottom c.simple_borders.result.head)) all
+    c.size.ensures ∙ ap (λ n. lines_through n (option_or c.simple_borders.result.bottom c.simple_borders.result.head)) all
     ∙ simple_size-is X c.simple_borders.result.head c.simple_borders.result.bottom c.simple_borders.ensures.head c.simple_borders.ensures.bottom in
     record {
       end = search (arith, size, ap (λ k. row_size k c.args.titles X) c.in-Simple.is);
@@ -60,7 +60,7 @@ returns-in-Some-grid_bottom c =
     let B : Block = block_of c.args.view.now in
     let X : Block = drop c.args.i B in
     let begins = subst (λ k. IsTrue (row_holds k X)) c.in-Grid.is c.requires.begins in
-    let one = while_some Drawn X (omega (arith, length-drop c.args.i B)) (grid_drawn (front_text X) begins) in
+    let one = while_some Drawn X (omega (arith, length-drop c.args.i B)) (grid_drawn (first_text X) begins) in
     search (arith, one, drawn_reach X, grid_size-is X (Some c.in-Some-grid_bottom.k) c.in-Some-grid_bottom.ensures.bottom, ap (λ k. row_size k c.args.titles X) c.in-Grid.is, ap (λ k. row_reach k c.args.titles X) c.in-Grid.is)
 
 pub returns-in-None-grid_bottom : goal.returns-in-None-grid_bottom
@@ -68,21 +68,21 @@ returns-in-None-grid_bottom c =
     let B : Block = block_of c.args.view.now in
     let X : Block = drop c.args.i B in
     let begins = subst (λ k. IsTrue (row_holds k X)) c.in-Grid.is c.requires.begins in
-    let one = while_some Drawn X (omega (arith, length-drop c.args.i B)) (grid_drawn (front_text X) begins) in
+    let one = while_some Drawn X (omega (arith, length-drop c.args.i B)) (grid_drawn (first_text X) begins) in
     search (arith, one, drawn_reach X, grid_size-is X None c.in-None-grid_bottom.ensures.bottom, ap (λ k. row_size k c.args.titles X) c.in-Grid.is, ap (λ k. row_reach k c.args.titles X) c.in-Grid.is)
 
-pub behind_dots-requires-clause-marker : goal.behind_dots-requires-clause-marker
-behind_dots-requires-clause-marker c = dots_within (chars c.line-text.result.now) c.in-Some-dots.marker (sym c.dots.ensures ∙ c.in-Some-dots.is)
+pub after_dots-requires-clause-marker : goal.after_dots-requires-clause-marker
+after_dots-requires-clause-marker c = dots_within (chars c.line-text.result.now) c.in-Some-dots.marker (sym c.dots.ensures ∙ c.in-Some-dots.is)
 
 pub returns-in-Some-dots : goal.returns-in-Some-dots
 returns-in-Some-dots c =
     let B : Block = block_of c.args.view.now in
     let X : Block = drop c.args.i B in
     let begins = subst (λ k. IsTrue (row_holds k X)) c.in-Explicit.is c.requires.begins in
-    let e : dots (front_text X) ≡ Some c.in-Some-dots.marker = ap dots (sym c.line-text.ensures.text) ∙ sym c.dots.ensures ∙ c.in-Some-dots.is in
+    let e : dots (first_text X) ≡ Some c.in-Some-dots.marker = ap dots (sym c.line-text.ensures.text) ∙ sym c.dots.ensures ∙ c.in-Some-dots.is in
     let size = size_dots X c.in-Some-dots.marker e in
     record {
-      end = c.end.ensures ∙ explicit_ends_at c.args.i X c.behind_dots.result (c.behind_dots.ensures.explicit ∙ sym (explicit_dots c.args.i X c.in-Some-dots.marker e))
+      end = c.end.ensures ∙ explicit_ends_at c.args.i X c.after_dots.result (c.after_dots.ensures.explicit ∙ sym (explicit_dots c.args.i X c.in-Some-dots.marker e))
           ∙ ap (λ k. c.args.i + row_size k c.args.titles X) (sym c.in-Explicit.is);
       looked = search (arith, (explicit_within true X (omega (arith, length-drop c.args.i B)) begins).0, size, ap (λ n. reach n X) size, ap (λ k. row_reach k c.args.titles X) c.in-Explicit.is);
     }

@@ -31,11 +31,11 @@ loop-rectangle-preserved c =
     let size : length rows ≡ c.args.count = c.loop-rectangle.invariant.size in
     let few : f (get_or c.args.self.now.rectangles.now c.loop-rectangle.rectangle-index d).top < c.args.count = c.requires.few c.loop-rectangle.rectangle-index (omega arith) in
     let within : c.row.result < length rows = omega (arith, c.row.ensures) in
-    let held : c.index_mut.result.now.items ≡ get_or (cells_of rows) c.row.result [] =
+    let cell_row : c.index_mut.result.now.items ≡ get_or (cells_of rows) c.row.result [] =
     sym (get_or-map (λ (row : Vec Cell Global). row.items) rows c.row.result c.index_mut.result.now [] within ∙ ap (λ (v : Vec Cell Global). v.items) (sym c.index_mut.ensures.value)) in
     let now : cells_of (set rows c.row.result c.push-in-loop-rectangle.new.self) ≡ set (cells_of rows) c.row.result (get_or (cells_of rows) c.row.result [] ++ c.in_ok-cell.cell ∷ []) =
     map-set (λ (row : Vec Cell Global). row.items) rows c.row.result c.push-in-loop-rectangle.new.self
-    ∙ ap (λ l. set (cells_of rows) c.row.result l) (c.in_ok-push-2.ensures.items ∙ ap (λ l. l ++ c.in_ok-cell.cell ∷ []) held) in
+    ∙ ap (λ l. set (cells_of rows) c.row.result l) (c.in_ok-push-2.ensures.items ∙ ap (λ l. l ++ c.in_ok-cell.cell ∷ []) cell_row) in
     record {
       size = length-set rows c.row.result c.push-in-loop-rectangle.new.self ∙ size;
       at = λ n inside. cell_more f g c.args.self.now.lines.now c.args.self.now.rectangles.now c.loop-rectangle.rectangle-index d (cells_of rows) (cells_of (set rows c.row.result c.push-in-loop-rectangle.new.self)) c.row.result c.in_ok-cell.cell

@@ -20,5 +20,5 @@ returns c = λ q f top left.
     let G = c.args.self.now.rows.now in
     let w = frame_within G q f in
     let inside : q.right < width G = w.1 in
-    let behind : c.loop-right.right ≤ q.right = c.loop-right.invariant.none q f top left in
+    let beyond : c.loop-right.right ≤ q.right = c.loop-right.invariant.none q f top left in
     omega arith

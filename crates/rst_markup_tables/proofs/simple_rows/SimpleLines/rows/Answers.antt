@@ -1,7 +1,7 @@
 use Rattle.std.proofs.Common.{ℕ, ◌+◌, ◌∙◌, ◌++◌, List, drop, get_or, append_assoc, append-nil, sym, ap, arith}
 use Rattle.std.proofs.lemmas.List.{drop_more, drop_all}
 use Rattle.rst_markup_tables.specs.Places.{Grid}
-use Rattle.rst_markup_tables.specs.SimpleTable.{section, sections}
+use Rattle.rst_markup_tables.specs.SimpleTable.{section_rows, sections}
 use Rattle.rst_markup_tables.specs.declared.simple_rows.RowLines.{RowLines}
 use Rattle.rst_markup_tables.proofs.SimpleLemmas.{sections_left, sections_left-more}
 use Rattle.rst_markup_tables.proofs.simple_rows.SimpleLines.rows.Goals as goal
@@ -19,7 +19,7 @@ loop-rule-preserved c =
     let left = ap (sections_left T low) (drop_more c.args.rules.now c.loop-rule.rule-index 0 (omega arith)) ∙ sections_left-more T low rule rest c.loop-rule.invariant.low in
     record {
       low = omega arith;
-      rows = ap (λ l. l ++ sections_left T (rule + 1) rest) c.in_ok-rows.ensures ∙ append_assoc old (section T low rule) (sections_left T (rule + 1) rest) ∙ ap (λ l. old ++ l) (sym left) ∙ c.loop-rule.invariant.rows;
+      rows = ap (λ l. l ++ sections_left T (rule + 1) rest) c.in_ok-rows.ensures ∙ append_assoc old (section_rows T low rule) (sections_left T (rule + 1) rest) ∙ ap (λ l. old ++ l) (sym left) ∙ c.loop-rule.invariant.rows;
     }
 
 pub returns : goal.returns

@@ -1,9 +1,9 @@
 use Rattle.std.proofs.Common.{◌≡◌, ◌<◌, ◌≤◌, ◌∙◌, length, get_or, drop, inl, inr, sym, ap, arith, Err}
 use Rattle.std.proofs.lemmas.Bool.{cases_lt}
 use Rattle.std.proofs.lemmas.List.{get_or_default}
-use Rattle.rst_text.specs.Block.{Block, front_text}
+use Rattle.rst_text.specs.Block.{Block, first_text}
 use Rattle.rst_text.specs.Source.{kept_lines}
-use Rattle.rst_text.proofs.NumberedLemmas.{front_text-numbered}
+use Rattle.rst_text.proofs.NumberedLemmas.{first_text-numbered}
 use Rattle.rst_text.proofs.SpreadLemmas.{length-kept_lines, searched-place, gap, rises}
 use Rattle.rst_text.proofs.lines.Lines.empty_end.Goals as goal
 
@@ -25,8 +25,8 @@ returns-in-None c =
       above = run.above;
       within = run.within;
       empty = λ k low high.
-          ap (λ (B : Block). front_text (drop k B)) (sym c.self.view_is ∙ ap (kept_lines c.self.inside.first c.self.inside.count kept) c.in-None.is)
-          ∙ front_text-numbered c.self.inside.first k kept ∙ sym (front_text-numbered 0 k kept) ∙ run.empty k low high;
+          ap (λ (B : Block). first_text (drop k B)) (sym c.self.view_is ∙ ap (kept_lines c.self.inside.first c.self.inside.count kept) c.in-None.is)
+          ∙ first_text-numbered c.self.inside.first k kept ∙ sym (first_text-numbered 0 k kept) ∙ run.empty k low high;
     }
 
 pub returns-in-Ok : goal.returns-in-Ok
@@ -46,7 +46,7 @@ returns-in-Err c =
       above = omega (arith, c.min.ensures, c.requires.in_order, found.2 next (omega arith) inside);
       within = omega (arith, c.min.ensures);
       empty = λ k low high.
-          ap (λ (B : Block). front_text (drop k B)) (sym c.self.view_is ∙ ap (kept_lines l.first l.count l.kept) c.in-Some.is)
+          ap (λ (B : Block). first_text (drop k B)) (sym c.self.view_is ∙ ap (kept_lines l.first l.count l.kept) c.in-Some.is)
           ∙ gap l.first l.count c.args.i c.min.result ps l.kept (omega (arith, c.min.ensures, c.requires.within))
           (λ j within. elim (cases_lt j next) [ inl before ↦ inl (found.1 j before) | inr after ↦ inr (omega (arith, c.min.ensures, rises 0 l.count next j ps l.kept so.0 so.1 after within)) ]) k low high;
     }
@@ -64,6 +64,6 @@ returns-in-Err-2 c =
       above = c.requires.in_order;
       within = omega arith;
       empty = λ k low high.
-          ap (λ (B : Block). front_text (drop k B)) (sym c.self.view_is ∙ ap (kept_lines l.first l.count l.kept) c.in-Some.is)
+          ap (λ (B : Block). first_text (drop k B)) (sym c.self.view_is ∙ ap (kept_lines l.first l.count l.kept) c.in-Some.is)
           ∙ gap l.first l.count c.args.i c.args.to ps l.kept (omega (arith, c.requires.within)) (λ j within. inl (found.1 j (omega arith))) k low high;
     }

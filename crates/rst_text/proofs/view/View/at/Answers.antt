@@ -1,5 +1,5 @@
 use Rattle.std.proofs.Common.{refl}
-use Rattle.rst_text.specs.Shown.{block_of, placement_block}
+use Rattle.rst_text.specs.ViewBlock.{block_of, placement_block}
 use Rattle.rst_text.proofs.view.View.at.Goals as goal
 
 pub invariant_of-result : goal.invariant_of-result

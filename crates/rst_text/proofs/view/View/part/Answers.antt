@@ -1,8 +1,8 @@
 use Rattle.std.proofs.Common.{◌≡◌, ◌<◌, ◌≤◌, ◌-◌, ◌+◌, length, drop, sym, arith, ap, subst, ◌∙◌, cond, eqb}
 use Rattle.std.specs.Str.{IsUtf8}
 use Rattle.std.proofs.Math.Utf8.{encodes}
-use Rattle.rst_text.specs.Block.{front_text}
-use Rattle.rst_text.specs.Shown.{block_of}
+use Rattle.rst_text.specs.Block.{first_text}
+use Rattle.rst_text.specs.ViewBlock.{block_of}
 use Rattle.rst_text.proofs.Cuts.{length-block_of, part_of, part_fits, utf8_in_view, leaves}
 use Rattle.rst_text.proofs.view.View.part.Goals as goal
 use Rattle.rst_text.proofs.view.View.part.Goals.{then-from-to, else-from-to}
@@ -11,8 +11,8 @@ pub tail-requires : goal.tail-requires
 tail-requires c =
     let v = c.args.self.now in
     let there : c.args.from < length (block_of v) = omega (arith, c.requires.in_range, c.if-from-to.true) in
-    let e : drop (cond (eqb c.args.from 0) v.first v.rest) (encodes (front_text (drop (v.from + c.args.from) v.lines.now))) ≡ drop c.cut_at.result c.uncut-text.result.now =
-    ap (λ n. drop n (encodes (front_text (drop (v.from + c.args.from) v.lines.now)))) (sym c.cut_at.ensures) ∙ ap (drop c.cut_at.result) (sym c.uncut-text.ensures) in
+    let e : drop (cond (eqb c.args.from 0) v.first v.rest) (encodes (first_text (drop (v.from + c.args.from) v.lines.now))) ≡ drop c.cut_at.result c.uncut-text.result.now =
+    ap (λ n. drop n (encodes (first_text (drop (v.from + c.args.from) v.lines.now)))) (sym c.cut_at.ensures) ∙ ap (drop c.cut_at.result) (sym c.uncut-text.ensures) in
     subst IsUtf8 e (utf8_in_view v c.args.from there)
 
 pub overflow_add-result : goal.overflow_add-result

@@ -1,5 +1,5 @@
 use Rattle.std.proofs.Common.{refl}
-use Rattle.rst_text.specs.Shown.{block_of, placement_block}
+use Rattle.rst_text.specs.ViewBlock.{block_of, placement_block}
 use Rattle.rst_text.proofs.view.View.placement.Goals as goal
 
 pub returns-clause-inside : goal.returns-clause-inside

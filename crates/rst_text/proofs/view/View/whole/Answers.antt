@@ -1,7 +1,7 @@
 use Rattle.std.proofs.Common.{◌≡◌, ◌∙◌, true, length, sym, ap, arith}
 use Rattle.rst_text.specs.Lines.{are_lines}
 use Rattle.rst_text.specs.MayCut.{are_texts}
-use Rattle.rst_text.specs.Shown.{block_of}
+use Rattle.rst_text.specs.ViewBlock.{block_of}
 use Rattle.rst_text.proofs.Cuts.{whole_lines, whole_all}
 use Rattle.rst_text.proofs.SpreadLemmas.{length-kept_lines}
 use Rattle.rst_text.proofs.view.View.whole.Goals as goal

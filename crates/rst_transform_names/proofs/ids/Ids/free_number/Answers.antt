@@ -1,6 +1,6 @@
 use Rattle.std.proofs.Common.{◌+◌, sym, ap, ◌∙◌, arith}
 use Rattle.std.specs.BTreeSet.{contains_text}
-use Rattle.rst_transform_names.proofs.IdLemmas.{behind_all, unhindered}
+use Rattle.rst_transform_names.proofs.IdLemmas.{after_all, unhindered}
 use Rattle.rst_transform_names.proofs.ids.Ids.free_number.Goals as goal
 
 pub returns-then-not-contains : goal.returns-then-not-contains
@@ -12,4 +12,4 @@ returns-then-not-contains c =
 pub returns : goal.returns
 returns c =
     let first = c.from-first.result + 1 in
-    behind_all c.args.self.now c.args.base.now first (first + c.len.result) (omega arith) (omega arith) (omega arith) (λ m low less. c.loop-number.invariant.2 m low (omega (arith, less))) (omega arith)
+    after_all c.args.self.now c.args.base.now first (first + c.len.result) (omega arith) (omega arith) (omega arith) (λ m low less. c.loop-number.invariant.2 m low (omega (arith, less))) (omega arith)

@@ -2,7 +2,7 @@ use Rattle.std.proofs.Common.{◌≡◌, [], ◌∷◌, ◌++◌, Some, option_m
 use Rattle.rst_tree_index.specs.Registered.{item_of}
 use Rattle.rst_transform_names.specs.Gathered.{own_name}
 use Rattle.rst_transform_names.specs.Ids.{id_for, AreTaken}
-use Rattle.rst_transform_names.specs.Names.{held_by}
+use Rattle.rst_transform_names.specs.Names.{entry_named}
 use Rattle.rst_transform_names.specs.declared.rulings.Ruling.{Ruling}
 use Rattle.rst_transform_names.specs.DuplicateMessages.{duplicate_name}
 use Rattle.rst_transform_names.specs.Registry.{losing, rule_named}
@@ -16,10 +16,10 @@ returns c = λ r h.
     let new = item_of c.args.new in
     let number : c.serial-serial.result ≡ length r.standings = c.serial-serial.ensures ∙ ap length h.standings in
     let named = c.own_name-name.ensures in
-    let given = c.in_ok-id.ensures r.ids h.ids in
-    let id : c.in_ok-id.id ≡ id_for r.ids new.tag (own_name new) = given.0 ∙ ap (id_for r.ids new.tag) named in
-    let held : held_by old.names (own_name new) ≡ r.names (own_name new) = h.names (own_name new) in
-    let rule : c.ruling_on-ruling.result ≡ rule_named (own_name new) (r.names (own_name new)) new = c.ruling_on-ruling.ensures ∙ ap (λ n. rule_named n (held_by old.names n) new) named ∙ ap (λ k. rule_named (own_name new) k new) held in
+    let given_source = c.in_ok-id.ensures r.ids h.ids in
+    let id : c.in_ok-id.id ≡ id_for r.ids new.tag (own_name new) = given_source.0 ∙ ap (id_for r.ids new.tag) named in
+    let same_entry : entry_named old.names (own_name new) ≡ r.names (own_name new) = h.names (own_name new) in
+    let rule : c.ruling_on-ruling.result ≡ rule_named (own_name new) (r.names (own_name new)) new = c.ruling_on-ruling.ensures ∙ ap (λ n. rule_named n (entry_named old.names n) new) named ∙ ap (λ k. rule_named (own_name new) k new) same_entry in
     let loser = c.ruling_on-ruling.result.loser in
     let lost = put_lost old.standings c.lose.new.standings loser (c.lose.ensures ∙ ap (losing loser) c.deref_mut.ensures.value) in
     let made : c.match-ruling.message ≡ option_map (λ message. duplicate_name message new c.in_ok-id.id) c.ruling_on-ruling.result.message = elim c.match-ruling.branch [
@@ -27,7 +27,7 @@ returns c = λ r h.
       | in-None w ↦ rw (w.message-is, w.in-None.is) refl
     ] in
     record {
-      ids = subst (λ i. AreTaken c.give.new.self (i ∷ r.ids)) id given.1;
+      ids = subst (λ i. AreTaken c.give.new.self (i ∷ r.ids)) id given_source.1;
       names = λ other.
           let is = c.in_ok-follow.ensures other in
           let was = h.names other in

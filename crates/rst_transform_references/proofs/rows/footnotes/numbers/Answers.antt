@@ -6,7 +6,7 @@ pub returns : goal.returns
 unfolding rst_transform_references
 returns c = record {
   written_numbers = refl;
-  zero_in_front = refl;
+  leading_zero = refl;
   named_by_a_number = refl;
   citation = refl;
 }

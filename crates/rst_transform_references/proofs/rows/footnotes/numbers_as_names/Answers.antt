@@ -5,5 +5,5 @@ use Rattle.rst_transform_references.proofs.rows.footnotes.numbers_as_names.Goals
 pub returns : goal.returns
 unfolding rst_transform_references
 returns c = record {
-  held = refl;
+  registered = refl;
 }

@@ -1,6 +1,6 @@
 use Rattle.std.proofs.Common.{◌≡◌, ◌<◌, length, arith, ap, ◌∙◌, Some}
-use Rattle.rst_tree.specs.Attributes.{in_order, place_named, without_key}
-use Rattle.rst_tree.proofs.Attributes.{named_value, named_rest, unnamed_value, unnamed_rest, in_order-without_key}
+use Rattle.rst_tree.specs.Attributes.{are_keys_in_order, place_named, without_key}
+use Rattle.rst_tree.proofs.Attributes.{named_value, named_rest, unnamed_value, unnamed_rest, are_keys_in_order-without_key}
 use Rattle.rst_tree.proofs.attrs.Attrs.remove.Goals as goal
 
 pub returns-then-place-len-clause-value : goal.returns-then-place-len-clause-value
@@ -31,4 +31,4 @@ pub invariant_of-self : goal.invariant_of-self
 invariant_of-self c =
     let p : c.place_named-place.result ≡ place_named c.args.key c.args.self.now = c.place_named-place.ensures ∙ ap (place_named c.args.key) (c.as_slice.ensures.value ∙ c.self.view_is) in
     let rest : c.remove-attr.new.self.items ≡ without_key c.args.key c.args.self.now = c.remove-attr.ensures.items ∙ (rw (p, c.self.view_is) (named_rest c.args.key c.args.self.now)) in
-    ap in_order rest ∙ in_order-without_key c.args.key c.args.self.now (rw c.self.view_is at c.self.invariant)
+    ap are_keys_in_order rest ∙ are_keys_in_order-without_key c.args.key c.args.self.now (rw c.self.view_is at c.self.invariant)

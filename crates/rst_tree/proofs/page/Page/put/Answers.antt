@@ -7,4 +7,4 @@ pub returns-then-failed : goal.returns-then-failed
 returns-then-failed g c = Sends-failed _ _ _ (sym c.failed.ensures ∙ c.if-failed.true)
 
 pub returns-else-self-bytes : goal.returns-else-self-bytes
-returns-else-self-bytes g c = Sends-gathered c.args.bytes.now _ _ _ (sym c.failed.ensures ∙ c.if-failed.false) c.gather.ensures.held c.gather.ensures.taken
+returns-else-self-bytes g c = Sends-gathered c.args.bytes.now _ _ _ (sym c.failed.ensures ∙ c.if-failed.false) c.gather.ensures.page_bytes c.gather.ensures.taken

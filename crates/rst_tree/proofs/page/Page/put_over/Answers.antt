@@ -12,7 +12,7 @@ returns-then-self-bytes g c =
 
 pub returns-else-self-bytes : goal.returns-else-self-bytes
 returns-else-self-bytes g c =
-    c.turn.ensures.0 ▸ Sends-gathered c.args.bytes.now _ _ _ (sym c.failed.ensures ∙ c.if-failed.false) c.gather.ensures.held c.gather.ensures.taken
+    c.turn.ensures.0 ▸ Sends-gathered c.args.bytes.now _ _ _ (sym c.failed.ensures ∙ c.if-failed.false) c.gather.ensures.page_bytes c.gather.ensures.taken
 
 pub returns-then-failed : goal.returns-then-failed
 returns-then-failed g c = c.turn.ensures.0 ▸ Sends-failed c.args.bytes.now _ _ (sym c.failed.ensures ∙ c.if-failed.true)

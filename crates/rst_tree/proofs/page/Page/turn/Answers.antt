@@ -1,5 +1,5 @@
 use Rattle.std.proofs.Common.{refl, sym, ◌∙◌, append-nil, true≢false}
-use Rattle.rst_tree.specs.Sends.{held}
+use Rattle.rst_tree.specs.Sends.{page_bytes}
 use Rattle.rst_tree.proofs.Sending.{Sends-failed}
 use Rattle.rst_tree.proofs.Pages.{Sends-written}
 use Rattle.rst_tree.proofs.page.Page.turn.Goals as goal
@@ -12,6 +12,6 @@ returns-then-failed g c =
 pub returns : goal.returns
 returns g c =
     let page = c.args.self.now in (
-      Sends-written _ (held page) _ _ page _ c.write-count.result (sym c.failed.ensures ∙ c.if-failed.false) (append-nil (held page)) c.write-count.ensures (λ _. refl) c.saturating_add-self.ensures,
+      Sends-written _ (page_bytes page) _ _ page _ c.write-count.result (sym c.failed.ensures ∙ c.if-failed.false) (append-nil (page_bytes page)) c.write-count.ensures (λ _. refl) c.saturating_add-self.ensures,
       λ _. refl,
     )

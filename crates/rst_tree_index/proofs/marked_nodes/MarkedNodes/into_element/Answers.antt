@@ -4,7 +4,7 @@ use Rattle.std.proofs.lemmas.List.{map-id}
 use Rattle.std.proofs.lemmas.Iterator.Consumers.{YieldsList-end}
 use Rattle.std.proofs.lemmas.Iterator.Adapters.{YieldsList-from_vec}
 use Rattle.rst_tree.specs.Nodes.{forest_of}
-use Rattle.rst_tree_index.specs.Known.{entry_of, entry_paths, known_of}
+use Rattle.rst_tree_index.specs.Known.{place_and_marks, entry_paths, known_of}
 use Rattle.rst_tree_index.specs.Registered.{is_registered}
 use Rattle.rst_tree_index.proofs.Knowing.{all_paths, paths_next}
 use Rattle.rst_tree_index.proofs.Marking.{marks_element}
@@ -19,5 +19,5 @@ from_parts-requires c =
     c.loop-node.yielded c.loop-node.node-iterator c.loop-node.yielded_by c.next.result c.next.new.self c.in-None.is c.next.ensures.steps in
     let all : c.loop-node.yielded ≡ c.self.inside.known.items = sym (map-id c.loop-node.yielded) ∙ end.0 in
     let paths =
-    all_paths c.self.inside.known.items c.shrink_to_fit.new.self.items c.loop-node.inner (c.self.invariant ∙ ap (known_of 0) (sym c.shrink_to_fit.ensures.items)) (c.loop-node.invariant ∙ ap (λ ks. entry_paths (map entry_of ks)) all) in
+    all_paths c.self.inside.known.items c.shrink_to_fit.new.self.items c.loop-node.inner (c.self.invariant ∙ ap (known_of 0) (sym c.shrink_to_fit.ensures.items)) (c.loop-node.invariant ∙ ap (λ ks. entry_paths (map place_and_marks ks)) all) in
     marks_element is_registered c.args.tag c.args.attrs c.args.line (forest_of c.shrink_to_fit.new.self.items) c.of.result c.is_registered-own.result [] c.loop-node.inner c.is_registered-own.ensures refl c.of.ensures paths

@@ -1,0 +1,9 @@
+pub mod Frames
+pub mod Steps
+pub mod Begins
+pub mod Rest
+pub mod RestLaws
+pub mod Meanings
+pub mod OpenBlocks
+pub mod NextLine
+pub mod MeaningLaws

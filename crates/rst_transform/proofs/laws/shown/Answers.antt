@@ -1,5 +1,0 @@
-use Rattle.rst_transform.proofs.Left.{shown}
-use Rattle.rst_transform.proofs.laws.shown.Goals as goal
-
-pub returns : goal.returns
-returns c = shown
