@@ -6,12 +6,11 @@ use Rattle.rst_text.specs.Block.{Block, first_text}
 use Rattle.rst_markup_lines.specs.TextStart.{begins_with}
 use Rattle.rst_markup_blocks.specs.declared.forms.Invocation.{Invocation}
 use Rattle.rst_markup_directives.specs.Call.{name_text}
-use Rattle.rst_markup_directives.specs.Characters.{Text, is_word, lookup}
+use Rattle.rst_markup_directives.specs.Characters.{Text, is_word}
 use Rattle.rst_markup_directives.specs.Directive.{directive_at, directive_of}
-use Rattle.rst_markup_directives.specs.Name.{admonition_of, admonitions, code_directives, directive_named, directives, is_code}
+use Rattle.rst_markup_directives.specs.Kind.{is_code}
 use Rattle.rst_markup_directives.specs.declared.found.Place.{Place}
-use Rattle.rst_markup_directives.specs.declared.name.Name.TheVariants.{Code}
-use Rattle.rst_markup_directives.proofs.Tables.{code_or_admonition}
+use Rattle.rst_markup_directives.proofs.Tables.{named_alike}
 use Rattle.rst2pseudoxml_run.specs.CodeCalls.{begins_call, begins_code, begins_colons, holds_code, is_called}
 
 pub or_right : (a b : Bool) → b ≡ true → (a || b) ≡ true
@@ -164,26 +163,6 @@ code_called name rest h k =
 
 -- ---- directives
 
-lookup_next : {A : Type 0} (passes : Text → Bool) (x : Text × A) (xs ys : List (Text × A)) → lookup passes xs ≡ lookup passes ys → lookup passes (x ∷ xs) ≡ lookup passes (x ∷ ys)
-lookup_next {A} passes x xs ys h = by (passes x.0)
-  where
-    by : (b : Bool) → option_map (λ (entry : Text × A). entry.1) (cond b (Some x) (find (λ entry. passes entry.0) xs)) ≡ option_map (λ (entry : Text × A). entry.1) (cond b (Some x) (find (λ entry. passes entry.0) ys))
-    by true = refl
-    by false = h
-
-lookup_after : {A : Type 0} (passes : Text → Bool) (prefix xs ys : List (Text × A)) → lookup passes xs ≡ lookup passes ys → lookup passes (prefix ++ xs) ≡ lookup passes (prefix ++ ys)
-lookup_after passes [] xs ys h = h
-lookup_after passes (x ∷ prefix) xs ys h = lookup_next passes x (prefix ++ xs) (prefix ++ ys) (lookup_after passes prefix xs ys h)
-
--- another text than those names names the same directive with and without the one for program code
-pub named_alike : (t : Text) → is_code t ≡ false → directive_named t true ≡ directive_named t false
-unfolding directive_named
-named_alike t h =
-    let p = is_word t in
-    let rest : lookup p (code_directives ++ admonitions) ≡ lookup p admonitions =
-    code_or_admonition t true ∙ ap (λ b. if b then Some Code else admonition_of t) h ∙ sym (code_or_admonition t false) in
-    lookup_after p (take 5 (directives false)) (code_directives ++ admonitions) admonitions rest
-
 -- a directive is called in a line: what follows its name is a call
 abbrev pub IsCalledIn : Text → Invocation → Type 0
 IsCalledIn t call = (call.name.from ≤ call.name.to) × (begins_call (drop call.name.to t) ≡ true)
@@ -210,7 +189,7 @@ other_name B at call called free = by (is_code (name_text B at call)) refl
 with_and_without : (B : Block) (at : ℕ) (call : Invocation) (place : Place) (paragraph : Bool) → IsCalledIn (first_text (drop at B)) call
     → holds_code (first_text (drop at B)) ≡ false → directive_at true B at call place paragraph ≡ directive_at false B at call place paragraph
 with_and_without B at call place paragraph called free =
-    ap (λ name. directive_of name B at call.block place paragraph) (named_alike (name_text B at call) (other_name B at call called free))
+    ap (λ kind. directive_of kind B at call.block place paragraph) (named_alike (name_text B at call) (other_name B at call called free))
 
 -- where no call of program code is in the line, a directive is the same whether there is one for program code
 pub directive_alike : (a b : Bool) (B : Block) (at : ℕ) (call : Invocation) (place : Place) (paragraph : Bool) → IsCalledIn (first_text (drop at B)) call

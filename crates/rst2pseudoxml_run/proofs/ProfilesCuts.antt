@@ -9,18 +9,17 @@ use Rattle.rst_markup_blocks.specs.declared.forms.Explicit.{Explicit}
 use Rattle.rst_markup_blocks.specs.declared.forms.Explicit.TheVariants.{Footnote, Citation, Target, Anonymous, Substitution, Directive, Comment, EmptyComment}
 use Rattle.rst_markup_blocks.specs.declared.lines.LineTest.TheVariants.{Blank}
 use Rattle.rst_markup_blocks.specs.declared.part.Part.{Part}
-use Rattle.rst_markup_directives.specs.Argument.{ArgumentMeaning, nothing as no_argument, title, uri, language}
+use Rattle.rst_markup_directives.specs.Argument.{ArgumentMeaning, uri}
 use Rattle.rst_markup_directives.specs.Directive.{Outcome, found, wrong}
 use Rattle.rst_markup_directives.specs.declared.found.Content.{Content}
 use Rattle.rst_markup_directives.specs.declared.found.Place.TheVariants.{Top, Body, Substitution as InDefinition}
-use Rattle.rst_markup_directives.specs.declared.name.Name.{Name}
-use Rattle.rst_markup_directives.specs.declared.name.Name.TheVariants.{Figure, Code}
 use Rattle.rst_block_state.specs.Constructs.{Construct, block_quote, item_of_list, grid, simple, explicit_markup}
 use Rattle.rst_block_state.specs.Directives.{called}
-use Rattle.rst_block_state.specs.Inside.{cells_by, content_blocks, definition_blocks, definition_content, directive_blocks, directive_content, markup_blocks, opened_by, part_of_item, quoted, quoted_by}
+use Rattle.rst_block_state.specs.Inside.{cells_by, content_blocks, definition_blocks, definition_content, directive_blocks, has_blocks, markup_blocks, opened_by, part_of_item, quoted, quoted_by}
 use Rattle.rst_block_state.specs.Quotes.{first_attribution, quote_after}
 use Rattle.rst_block_state.specs.Texts.{lines_in}
 use Rattle.rst_block_state.specs.Within.{Within, indented_part}
+use Rattle.rst_block_state.proofs.MarkFacts.{chosen}
 use Rattle.rst2pseudoxml_run.specs.CodeCalls.{IsWithoutCode}
 use Rattle.rst2pseudoxml_run.proofs.ProfilesCells.{IsLineFree, grid_cells_free, simple_cells_free}
 use Rattle.rst2pseudoxml_run.proofs.ProfilesCode.{drop_free}
@@ -59,15 +58,8 @@ quoted_free (suc n) (l ∷ ls) free = by (first_attribution (l ∷ ls)) (λ Q al
 content_free : (B : Block) (content : Content) → IsWithoutCode B → AreFree (content_blocks B content)
 content_free B content free = (part_free_in B content.first free, (part_free_in B content.second free, tt))
 
-directive_content_free : (given : ArgumentMeaning) (name : Name) (B : Block) (content : Content) → IsWithoutCode B → AreFree (directive_content given name B content)
-directive_content_free no_argument Code B content free = tt
-directive_content_free no_argument name B content free = content_free B content free
-directive_content_free (title part) name B content free = content_free B content free
-directive_content_free (uri address) Figure B content free = content_free B content free
-directive_content_free _ _ B content free = tt
-
 directive_free : (o : Outcome) (B : Block) → IsWithoutCode B → AreFree (directive_blocks o B)
-directive_free (found read) B free = directive_content_free read.argument read.name B read.content free
+directive_free (found read) B free = chosen AreFree (has_blocks read.argument read.kind.content) (content_blocks B read.content) [] (content_free B read.content free) tt
 directive_free (wrong fault part) B free = tt
 
 definition_content_free : (given : ArgumentMeaning) (B : Block) (content : Content) → IsWithoutCode B → AreFree (definition_content given B content)

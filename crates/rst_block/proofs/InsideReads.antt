@@ -19,8 +19,8 @@ use Rattle.rst_markup_directives.specs.Directive.{Read, Outcome, directive_at, f
 use Rattle.rst_markup_directives.specs.declared.found.Content.{Content}
 use Rattle.rst_markup_directives.specs.declared.found.Place.{Place}
 use Rattle.rst_markup_directives.specs.declared.found.Place.TheVariants.{Top, Body, Substitution as InDefinition}
-use Rattle.rst_markup_directives.specs.declared.name.Name.{Name}
-use Rattle.rst_markup_directives.specs.declared.name.Name.TheVariants.{Figure, Code}
+use Rattle.rst_markup_directives.specs.declared.kind.ContentKind.{ContentKind}
+use Rattle.rst_markup_directives.specs.declared.kind.ContentKind.TheVariants.{Lines, Caption}
 use Rattle.rst_markup_tables.specs.SimpleTable.{simple_table}
 use Rattle.rst_markup_tables.specs.Tiling.{grid_table}
 use Rattle.rst_markup_tables.specs.declared.results.Cell.{Cell}
@@ -150,20 +150,20 @@ module _ (all code later titles : Bool) (levels more : ℕ) (g h : Block → Num
       → Alike all ((content_nodes c B content >>= k) n) ((content_nodes d B content >>= k) n)
   content_then B content k n i = same_alike all (content_nodes c B content n) (content_nodes d B content n) k (content_alike B content n i)
 
-  right_alike : (given : ArgumentMeaning) (name : Name) (B : Block) (line : ℕ) (read : Read) (lines : List ℕ) (n : ℕ) → Inside (directive_content given name B read.content)
-      → Alike all (right_by given name c B line read lines n) (right_by given name d B line read lines n)
-  right_alike no_argument Code B line read lines n i = alike all _
-  right_alike no_argument name B line read lines n i = content_then B read.content _ n i
-  right_alike (title part) name B line read lines n i =
-      let rest : Node × List Node → List Node → Numbered (List Node) = λ made nodes. just (filled (titled_element read.name (directive_element read.name read.options line) made.0) (made.0 ∷ made.1 ++ nodes) ∷ []) in
+  right_alike : (given : ArgumentMeaning) (content : ContentKind) (B : Block) (line : ℕ) (read : Read) (lines : List ℕ) (n : ℕ) → Inside (directive_content given content B read.content)
+      → Alike all (right_by given content c B line read lines n) (right_by given content d B line read lines n)
+  right_alike no_argument Lines B line read lines n i = alike all _
+  right_alike no_argument content B line read lines n i = content_then B read.content _ n i
+  right_alike (title part) content B line read lines n i =
+      let rest : Node × List Node → List Node → Numbered (List Node) = λ made nodes. just (filled (titled_element read.kind.element (directive_element read.kind.element read.options line) made.0) (made.0 ∷ made.1 ++ nodes) ∷ []) in
       let X : Block = lines_in B part in
       after_alike all (texted TitleTag (number_or line X) (joined X) (number_or line X) n) (λ (made : Node × List Node). content_nodes c B read.content >>= rest made) (λ (made : Node × List Node). content_nodes d B read.content >>= rest made)
       (λ made k. content_then B read.content (rest made) k i)
-  right_alike (uri address) Figure B line read lines n i = content_then B read.content _ n i
+  right_alike (uri address) Caption B line read lines n i = content_then B read.content _ n i
   right_alike _ _ B line read lines n i = alike all _
 
   directive_alike : (o : Outcome) (B : Block) (s : Span) (name : List ℕ) (n : ℕ) → Inside (directive_blocks o B) → Alike all (directive_by o c B s name n) (directive_by o d B s name n)
-  directive_alike (found read) B s name n i = right_alike read.argument read.name B (first_number (drop s.start B)) read _ n i
+  directive_alike (found read) B s name n i = right_alike read.argument read.kind.content B (first_number (drop s.start B)) read _ n i
   directive_alike (wrong fault part) B s name n i = alike all _
 
   definition_alike : (given : ArgumentMeaning) (B : Block) (line : ℕ) (name : List ℕ) (read : Read) (lines : List ℕ) (n : ℕ) → Inside (definition_content given B read.content)

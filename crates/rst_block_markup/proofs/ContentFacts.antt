@@ -9,24 +9,27 @@ use Rattle.rst_markup_blocks.proofs.RowLaws.{while_le}
 use Rattle.rst_markup_blocks.specs.declared.forms.Invocation.{Invocation}
 use Rattle.rst_markup_blocks.specs.declared.lines.LineTest.TheVariants.{Blank}
 use Rattle.rst_markup_blocks.specs.declared.part.Part.{Part}
-use Rattle.rst_markup_directives.specs.Argument.{ArgumentMeaning, nothing, title, uri, argument_of}
+use Rattle.rst_markup_directives.specs.Argument.{ArgumentMeaning, uri, argument_of}
 use Rattle.rst_markup_directives.specs.Call.{called_at, part_of, content_of, is_empty}
 use Rattle.rst_markup_directives.specs.Characters.{Text}
-use Rattle.rst_markup_directives.specs.Directive.{Read, Outcome, found, wrong, run_in, is_code_name, directive_options, read_parts, directive_by_layout, read_block, read_at, directive_outcome_at, of_block, judged_directive, named_directive, source_lines_at, is_late, directive_of}
+use Rattle.rst_markup_directives.specs.Directive.{Read, Outcome, found, wrong, run_in, directive_options, read_parts, directive_by_layout, read_block, read_at, directive_outcome_at, of_block, judged_directive, named_directive, source_lines_at, is_late, directive_of}
 use Rattle.rst_markup_directives.specs.Judgement.{content_fault}
-use Rattle.rst_markup_directives.specs.Layout.{begins_field, before_field, content_alone, parts_without_argument, layout_at, layout_of}
+use Rattle.rst_markup_directives.specs.Layout.{begins_field, before_field, content_alone, parts_without_argument, layout_by, layout_at, layout_of}
 use Rattle.rst_markup_directives.specs.Lines.{first_run, blank_len, after_blank}
 use Rattle.rst_markup_directives.specs.Options.{OptionSetting}
 use Rattle.rst_markup_directives.specs.Wrong.{Wrong, Fault, and_then, unless, fault_in}
 use Rattle.rst_markup_directives.specs.declared.fault.DirectiveFault.{DirectiveFault}
 use Rattle.rst_markup_directives.specs.declared.found.Content.{Content}
 use Rattle.rst_markup_directives.specs.declared.found.Place.{Place}
-use Rattle.rst_markup_directives.specs.declared.name.Name.{Name}
-use Rattle.rst_markup_directives.specs.declared.name.Name.TheVariants.{Attention, Caution, Danger, Error, Hint, Important, Note, Tip, Warning, Admonition, Topic, Image, Figure, Replace, Code}
+use Rattle.rst_markup_directives.specs.declared.kind.ArgumentKind.{ArgumentKind}
+use Rattle.rst_markup_directives.specs.declared.kind.ArgumentKind.TheVariants.{Absent}
+use Rattle.rst_markup_directives.specs.declared.kind.ContentKind.{ContentKind}
+use Rattle.rst_markup_directives.specs.declared.kind.ContentKind.TheVariants.{Paragraph}
+use Rattle.rst_markup_directives.specs.declared.kind.Kind.{Kind}
 use Rattle.rst_block_state.specs.looks.Budget.{sum_of}
 use Rattle.rst_block_state.specs.looks.BudgetLaws.{is_trimmed, IsFronted, HaveAtMostLines}
 use Rattle.rst_block_state.specs.Directives.{called}
-use Rattle.rst_block_state.specs.Inside.{content_blocks, directive_content, directive_blocks, definition_content, definition_blocks}
+use Rattle.rst_block_state.specs.Inside.{content_blocks, has_blocks, directive_blocks, definition_content, definition_blocks}
 use Rattle.rst_block_state.specs.Paragraphs.{is_single_paragraph}
 use Rattle.rst_block_state.specs.Texts.{lines_in}
 use Rattle.rst_block_state.specs.Within.{Within}
@@ -62,23 +65,15 @@ without_laid : (run : List Text) (H : Block) → is_trimmed H ≡ true → lengt
 without_laid run H h r =
     chosen (λ layout. IsLaid layout.first layout.second H) (before_field run == length run) (content_alone run (length H)) _ (alone_laid H h) (rest_laid (before_field run) run H h (prefix_len-le-length (λ (t : Text). not (begins_field t)) run) r)
 
-layout_laid : (name : Name) (run : List Text) (H : Block) → is_trimmed H ≡ true → length run ≤ length H → let layout = layout_of name run H in IsLaid layout.first layout.second H
+parts_laid : (content : ContentKind) (argument : ArgumentKind) (run : List Text) (H : Block) → is_trimmed H ≡ true → length run ≤ length H
+    → let layout = layout_by content argument run (length H) (after_blank H (length run)) in IsLaid layout.first layout.second H
+parts_laid Paragraph argument run H h r = alone_laid H h
+parts_laid _ Absent run H h r = without_laid run H h r
+parts_laid _ _ run H h r = rest_laid 0 run H h (omega arith) r
+
+layout_laid : (kind : Kind) (run : List Text) (H : Block) → is_trimmed H ≡ true → length run ≤ length H → let layout = layout_of kind run H in IsLaid layout.first layout.second H
 unfolding layout_at
-layout_laid Replace run H h r = alone_laid H h
-layout_laid Admonition run H h r = rest_laid 0 run H h (omega arith) r
-layout_laid Topic run H h r = rest_laid 0 run H h (omega arith) r
-layout_laid Image run H h r = rest_laid 0 run H h (omega arith) r
-layout_laid Figure run H h r = rest_laid 0 run H h (omega arith) r
-layout_laid Code run H h r = rest_laid 0 run H h (omega arith) r
-layout_laid Attention run H h r = without_laid run H h r
-layout_laid Caution run H h r = without_laid run H h r
-layout_laid Danger run H h r = without_laid run H h r
-layout_laid Error run H h r = without_laid run H h r
-layout_laid Hint run H h r = without_laid run H h r
-layout_laid Important run H h r = without_laid run H h r
-layout_laid Note run H h r = without_laid run H h r
-layout_laid Tip run H h r = without_laid run H h r
-layout_laid Warning run H h r = without_laid run H h r
+layout_laid kind run H h r = parts_laid kind.content kind.argument run H h r
 
 -- ---- the content
 
@@ -112,24 +107,24 @@ abbrev IsIn : ℕ → Block → Outcome → Type 0
 IsIn n B (found read) = HaveAtMostLines n (content_blocks B read.content)
 IsIn n B (wrong fault source) = Unit {0}
 
-parts_in : (n : ℕ) (B : Block) (name : Name) (content : Content) (given : Result ArgumentMeaning Wrong) (choices : Result (List OptionSetting) Wrong) → HaveAtMostLines n (content_blocks B content) → MayBeIn n B (read_parts name content given choices)
-parts_in n B name content given (Err w) h = tt
-parts_in n B name content (Err w) (Ok choices) h = tt
-parts_in n B name content (Ok value) (Ok choices) h = h
+parts_in : (n : ℕ) (B : Block) (kind : Kind) (content : Content) (given : Result ArgumentMeaning Wrong) (choices : Result (List OptionSetting) Wrong) → HaveAtMostLines n (content_blocks B content) → MayBeIn n B (read_parts kind content given choices)
+parts_in n B kind content given (Err w) h = tt
+parts_in n B kind content (Err w) (Ok choices) h = tt
+parts_in n B kind content (Ok value) (Ok choices) h = h
 
-block_in : (B : Block) (name : Name) (late : Bool) (block : Part) → IsFronted (lines_in B block) → length (lines_in B block) ≡ block.to - block.from
-    → MayBeIn (length (lines_in B block)) B (read_block name late block (lines_in B block))
+block_in : (B : Block) (kind : Kind) (late : Bool) (block : Part) → IsFronted (lines_in B block) → length (lines_in B block) ≡ block.to - block.from
+    → MayBeIn (length (lines_in B block)) B (read_block kind late block (lines_in B block))
 unfolding read_block directive_by_layout
-block_in B name late block h count =
+block_in B kind late block h count =
     let H : Block = lines_in B block in
-    let run : List Text = run_in name late H in
-    let layout = layout_of name run H in
-    parts_in (length H) B name (content_of block layout (length H)) (argument_of name (take layout.argument run) (part_of block 0 layout.argument)) (directive_options name (drop layout.options run))
-    (content_in B block layout.first layout.second h count (layout_laid name run H h.trimmed (run_in-le name late H)))
+    let run : List Text = run_in kind late H in
+    let layout = layout_of kind run H in
+    parts_in (length H) B kind (content_of block layout (length H)) (argument_of kind.argument (take layout.argument run) (part_of block 0 layout.argument)) (directive_options kind.options (drop layout.options run))
+    (content_in B block layout.first layout.second h count (layout_laid kind run H h.trimmed (run_in-le kind late H)))
 
 judged_in : (n : ℕ) (B : Block) (place : Place) (paragraph : Bool) (source : Part) (read : Result Read Wrong) → MayBeIn n B read → IsIn n B (directive_outcome_at source (and_then (judged_directive place paragraph) (of_block read)))
 judged_in n B place paragraph source (Err w) h = tt
-judged_in n B place paragraph source (Ok read) h = by (content_fault read.name (is_empty read.content) place paragraph)
+judged_in n B place paragraph source (Ok read) h = by (content_fault read.kind (is_empty read.content) place paragraph)
   where
     by : (fault : Option DirectiveFault) → IsIn n B (directive_outcome_at source (unless (option_map fault_in fault) (Ok read)))
     by (Some fault) = tt
@@ -143,9 +138,9 @@ outcome_in c B i call place h count = by (named_directive (called_at c.code B i 
     paragraph : Bool
     paragraph = is_single_paragraph (lines_in B call.block)
 
-    by : (r : Result Name Fault) → IsIn (length (lines_in B call.block)) B (directive_outcome_at (source_lines_at i call.block) (and_then (judged_directive place paragraph) (and_then (read_at B i call.block) r)))
+    by : (r : Result Kind Fault) → IsIn (length (lines_in B call.block)) B (directive_outcome_at (source_lines_at i call.block) (and_then (judged_directive place paragraph) (and_then (read_at B i call.block) r)))
     by (Err w) = tt
-    by (Ok name) = judged_in (length (lines_in B call.block)) B place paragraph (source_lines_at i call.block) (read_block name (is_late i call.block) call.block (lines_in B call.block)) (block_in B name (is_late i call.block) call.block h count)
+    by (Ok kind) = judged_in (length (lines_in B call.block)) B place paragraph (source_lines_at i call.block) (read_block kind (is_late i call.block) call.block (lines_in B call.block)) (block_in B kind (is_late i call.block) call.block h count)
 
 -- ---- the blocks
 
@@ -156,19 +151,12 @@ none_within n = record { few = omega arith; fronted = tt }
 pub more_within : (n m : ℕ) (Cs : List Block) → n ≤ m → HaveAtMostLines n Cs → HaveAtMostLines m Cs
 more_within n m Cs h w = record { few = omega (arith, h, w.few); fronted = w.fronted }
 
-content_by : (n : ℕ) (B : Block) (given : ArgumentMeaning) (name : Name) (content : Content) → HaveAtMostLines n (content_blocks B content) → HaveAtMostLines n (directive_content given name B content)
-content_by n B nothing Code content h = none_within n
-content_by n B nothing name content h = h
-content_by n B (title part) name content h = h
-content_by n B (uri address) Figure content h = h
-content_by n B _ _ content h = none_within n
-
 definition_by : (n : ℕ) (B : Block) (given : ArgumentMeaning) (content : Content) → HaveAtMostLines n (content_blocks B content) → HaveAtMostLines n (definition_content given B content)
 definition_by n B (uri address) content h = none_within n
 definition_by n B _ content h = h
 
 directive_by : (n : ℕ) (B : Block) (o : Outcome) → IsIn n B o → HaveAtMostLines n (directive_blocks o B)
-directive_by n B (found read) h = content_by n B read.argument read.name read.content h
+directive_by n B (found read) h = chosen (HaveAtMostLines n) (has_blocks read.argument read.kind.content) (content_blocks B read.content) [] h (none_within n)
 directive_by n B (wrong fault source) h = none_within n
 
 definition_blocks_within : (n : ℕ) (B : Block) (o : Outcome) → IsIn n B o → HaveAtMostLines n (definition_blocks o B)

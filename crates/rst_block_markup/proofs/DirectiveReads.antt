@@ -6,12 +6,13 @@ use Rattle.rst_text.specs.Block.{Block}
 use Rattle.rst_tree.specs.declared.node.Node.{Node}
 use Rattle.rst_tree.specs.declared.tag.Tag.TheVariants.{Title as TitleTag}
 use Rattle.rst_markup_directives.specs.Argument.{ArgumentMeaning, nothing, uri, given_in}
-use Rattle.rst_markup_directives.specs.Directive.{Read, is_code_name}
+use Rattle.rst_markup_directives.specs.Directive.{Read}
+use Rattle.rst_markup_directives.specs.Kind.{is_lines, is_caption}
 use Rattle.rst_markup_directives.specs.Options.{choices_in}
 use Rattle.rst_markup_directives.specs.declared.argument.Argument.{Argument}
 use Rattle.rst_markup_directives.specs.declared.found.Content.{Content}
-use Rattle.rst_markup_directives.specs.declared.name.Name.{Name}
-use Rattle.rst_markup_directives.specs.declared.name.Name.TheVariants.{Figure, Code}
+use Rattle.rst_markup_directives.specs.declared.kind.ContentKind.{ContentKind}
+use Rattle.rst_markup_directives.specs.declared.kind.ContentKind.TheVariants.{Lines, Caption}
 use Rattle.rst_markup_directives.specs.declared.options.Setting.{Setting}
 use Rattle.rst_block_nodes.specs.Options.{directive_element, figure_element, image_element}
 use Rattle.rst_block_nodes.specs.Sections.{filled}
@@ -19,7 +20,7 @@ use Rattle.rst_block_state.specs.Directives.{content_nodes, titled_element, titl
 use Rattle.rst_block_state.specs.Figures.{caption_error, figure_nodes}
 use Rattle.rst_block_state.specs.Inside.{content_blocks, directive_content}
 use Rattle.rst_block_state.specs.LineRuns.{number_or}
-use Rattle.rst_block_markup.specs.MarkupSteps.{IsDirectiveRead, is_figure, made_of_content, reads_with}
+use Rattle.rst_block_markup.specs.MarkupSteps.{IsDirectiveRead, made_of_content, reads_with}
 use Rattle.rst_block_markup.specs.declared.directive.Found.{Found}
 use Rattle.rst_block_state.specs.machine.Meanings.{within_at, reads_from, comes}
 use Rattle.rst_block_state.specs.Numbered.{Numbered, then_read, just}
@@ -35,30 +36,30 @@ use Rattle.rst_block_state.specs.declared.texts.Pass.{Pass}
 use Rattle.rst_block_markup.proofs.MarkupReads.{content_comes, titled_then}
 use Rattle.rst_block_markup.proofs.PartLemmas.{part_as}
 
--- ---- a directive by its argument and its name
+-- ---- a directive by its argument and its content
 
 -- what such a directive leaves, and the blocks of its content
-abbrev IsRightBy : ArgumentMeaning → Name → Within → Block → ℕ → Read → List ℕ → Content → Numbered (List Node) → List Block → Type 0
-IsRightBy given name c B line read lines content nodes inner = (nodes ≡ right_by given name c B line read lines) × (inner ≡ directive_content given name B content)
+abbrev IsRightBy : ArgumentMeaning → ContentKind → Within → Block → ℕ → Read → List ℕ → Content → Numbered (List Node) → List Block → Type 0
+IsRightBy given kind c B line read lines content nodes inner = (nodes ≡ right_by given kind c B line read lines) × (inner ≡ directive_content given kind B content)
 
-pub figure_right : (name : Name) (t : List ℕ) (c : Within) (B : Block) (line : ℕ) (read : Read) (lines : List ℕ) (content : Content) → is_figure name ≡ true → encode_utf8_all (chars t) ≡ t
-    → IsRightBy (uri (chars t)) name c B line read lines content (figure_of c B line read t lines) (content_blocks B content)
-figure_right Figure t c B line read lines content h u = (ap (λ a. figure_of c B line read a lines) (sym u), refl)
+pub figure_right : (kind : ContentKind) (t : List ℕ) (c : Within) (B : Block) (line : ℕ) (read : Read) (lines : List ℕ) (content : Content) → is_caption kind ≡ true → encode_utf8_all (chars t) ≡ t
+    → IsRightBy (uri (chars t)) kind c B line read lines content (figure_of c B line read t lines) (content_blocks B content)
+figure_right Caption t c B line read lines content h u = (ap (λ a. figure_of c B line read a lines) (sym u), refl)
 figure_right _ t c B line read lines content h u = absurd (let no : false ≡ true = h in cc)
 
-pub image_right : (name : Name) (t : List ℕ) (c : Within) (B : Block) (line : ℕ) (read : Read) (lines : List ℕ) (content : Content) → is_figure name ≡ false → encode_utf8_all (chars t) ≡ t
-    → IsRightBy (uri (chars t)) name c B line read lines content (just (image_element t read.options line false None ∷ [])) []
-image_right Figure t c B line read lines content h u = absurd (let no : true ≡ false = h in cc)
+pub image_right : (kind : ContentKind) (t : List ℕ) (c : Within) (B : Block) (line : ℕ) (read : Read) (lines : List ℕ) (content : Content) → is_caption kind ≡ false → encode_utf8_all (chars t) ≡ t
+    → IsRightBy (uri (chars t)) kind c B line read lines content (just (image_element t read.options line false None ∷ [])) []
+image_right Caption t c B line read lines content h u = absurd (let no : true ≡ false = h in cc)
 image_right _ t c B line read lines content h u = (ap (λ a. just (image_element a read.options line false None ∷ [])) (sym u), refl)
 
-pub code_right : (name : Name) (c : Within) (B : Block) (line : ℕ) (read : Read) (lines : List ℕ) (content : Content) → is_code_name name ≡ true
-    → IsRightBy nothing name c B line read lines content (just (code_nodes B line read None)) []
-code_right Code c B line read lines content h = (refl, refl)
+pub code_right : (kind : ContentKind) (c : Within) (B : Block) (line : ℕ) (read : Read) (lines : List ℕ) (content : Content) → is_lines kind ≡ true
+    → IsRightBy nothing kind c B line read lines content (just (code_nodes B line read None)) []
+code_right Lines c B line read lines content h = (refl, refl)
 code_right _ c B line read lines content h = absurd (let no : false ≡ true = h in cc)
 
-pub plain_right : (name : Name) (c : Within) (B : Block) (line : ℕ) (read : Read) (lines : List ℕ) (content : Content) → is_code_name name ≡ false
-    → IsRightBy nothing name c B line read lines content (plain_nodes c B line read) (content_blocks B content)
-plain_right Code c B line read lines content h = absurd (let no : true ≡ false = h in cc)
+pub plain_right : (kind : ContentKind) (c : Within) (B : Block) (line : ℕ) (read : Read) (lines : List ℕ) (content : Content) → is_lines kind ≡ false
+    → IsRightBy nothing kind c B line read lines content (plain_nodes c B line read) (content_blocks B content)
+plain_right Lines c B line read lines content h = absurd (let no : true ≡ false = h in cc)
 plain_right _ c B line read lines content h = (refl, refl)
 
 -- a directive whose argument is this one
@@ -70,7 +71,7 @@ given_read {few} {more} {B} {old} {new} {before} {after} {argument} {result} f g
 -- ---- what comes
 
 pub titled_comes : (old new : OpenBlock) (B : Block) (read : Read) (lines : Block) (end n m line at : ℕ) (node : Node) (s : Step)
-    → then_read (λ (made : Node × List Node). just (filled (titled_element read.name (directive_element read.name read.options line) made.0) (made.0 ∷ made.1)))
+    → then_read (λ (made : Node × List Node). just (filled (titled_element read.kind.element (directive_element read.kind.element read.options line) made.0) (made.0 ∷ made.1)))
     (texted TitleTag (number_or line lines) (joined lines) (number_or line lines) n)
     ≡ Ok (node, m)
     → line ≡ at → s ≡ Open (Element node) read.content.first (Some read.content.second) → new.at ≡ end → IsMoved old new
@@ -80,17 +81,17 @@ titled_comes old new B read lines end n m line at node s h l e a moved =
     ap (λ s. comes new B s m) e
     ∙ content_comes B (Element node) read.content (λ ns. filled node ns ∷ []) m moved a (λ ns. refl)
     ∙ ap (then_read (λ ns. reads_from old B ns end))
-    (sym (titled_then (texted TitleTag (number_or line lines) (joined lines) (number_or line lines) n) (titled_element read.name (directive_element read.name read.options line)) (content_nodes c B read.content) node m h))
+    (sym (titled_then (texted TitleTag (number_or line lines) (joined lines) (number_or line lines) n) (titled_element read.kind.element (directive_element read.kind.element read.options line)) (content_nodes c B read.content) node m h))
     ∙ ap (λ k. reads_with old B (titled_nodes c B k read lines) end n) l
 
-pub plain_comes : (old new : OpenBlock) (B : Block) (read : Read) (end n line at : ℕ) (node : Node) (slice : List Setting) (s : Step) → node ≡ directive_element read.name (choices_in slice) line
+pub plain_comes : (old new : OpenBlock) (B : Block) (read : Read) (end n line at : ℕ) (node : Node) (slice : List Setting) (s : Step) → node ≡ directive_element read.kind.element (choices_in slice) line
     → choices_in slice ≡ read.options → line ≡ at → s ≡ Open (Element node) read.content.first (Some read.content.second) → new.at ≡ end → IsMoved old new
     → comes new B s n ≡ reads_with old B (plain_nodes (within_at old.depth) B at read) end n
 plain_comes old new B read end n line at node slice s h o l e a moved =
     let c = within_at old.depth in
     ap (λ s. comes new B s n) e
     ∙ content_comes B (Element node) read.content (λ ns. filled node ns ∷ []) n moved a (λ ns. refl)
-    ∙ ap (λ x. reads_with old B (made_of_content c B read.content (λ ns. filled x ns ∷ [])) end n) (h ∙ ap (λ os. directive_element read.name os line) o ∙ ap (directive_element read.name read.options) l)
+    ∙ ap (λ x. reads_with old B (made_of_content c B read.content (λ ns. filled x ns ∷ [])) end n) (h ∙ ap (λ os. directive_element read.kind.element os line) o ∙ ap (directive_element read.kind.element read.options) l)
 
 -- ---- elements
 

@@ -1,6 +1,5 @@
 -- What directives and substitution definitions take of looks: the blocks that they open, and how many lines their parts have.
-use Rattle.std.proofs.Common.{◌≡◌, ℕ, ◌-◌, ◌≤◌, Bool, true, false, not, cond, List, [], ◌∷◌, length, take, drop, Option, None, Some, option_map, Result, Ok, Err, arith, sym, subst}
-use Rattle.std.proofs.lemmas.List.Sums.{prefix_len-le-length}
+use Rattle.std.proofs.Common.{◌≡◌, ℕ, ◌-◌, ◌≤◌, Bool, true, false, cond, List, [], ◌∷◌, length, take, drop, Option, None, Some, option_map, Result, Ok, Err, arith, sym, subst}
 use Rattle.rst_text.specs.Block.{Block}
 use Rattle.rst_text.specs.Names.{normalized_white}
 use Rattle.rst_text.specs.Characters.{is_among}
@@ -11,8 +10,8 @@ use Rattle.rst_markup_directives.specs.Call.{called_at, part_of, content_of, is_
 use Rattle.rst_markup_directives.specs.Characters.{Text}
 use Rattle.rst_markup_directives.specs.Directive.{Read, Outcome, found, wrong, run_in, directive_options, directive_outcome, read_parts, directive_by_layout, read_block, read_at, directive_outcome_at, of_block, judged_directive, named_directive, source_lines_at, is_late, directive_of}
 use Rattle.rst_markup_directives.specs.Judgement.{content_fault}
-use Rattle.rst_markup_directives.specs.Layout.{begins_field, before_field, layout_at, layout_of}
-use Rattle.rst_markup_directives.specs.Lines.{after_blank, joined_nonempty}
+use Rattle.rst_markup_directives.specs.Layout.{layout_of}
+use Rattle.rst_markup_directives.specs.Lines.{joined_nonempty}
 use Rattle.rst_markup_directives.specs.Options.{OptionSetting}
 use Rattle.rst_markup_directives.specs.Wrong.{Wrong, Fault, many_arguments, and_then, unless, fault_in}
 use Rattle.rst_markup_directives.specs.declared.argument.Argument.TheVariants.{Title}
@@ -21,14 +20,15 @@ use Rattle.rst_markup_directives.specs.declared.found.Content.{Content}
 use Rattle.rst_markup_directives.specs.declared.found.Directive.{Directive}
 use Rattle.rst_markup_directives.specs.declared.found.Directive.TheVariants.{Found as FoundDirective, Wrong as WrongDirective}
 use Rattle.rst_markup_directives.specs.declared.found.Place.{Place}
-use Rattle.rst_markup_directives.specs.declared.name.Name.{Name}
-use Rattle.rst_markup_directives.specs.declared.name.Name.TheVariants.{Admonition, Topic, Image, Figure, Code}
+use Rattle.rst_markup_directives.specs.declared.kind.ArgumentKind.{ArgumentKind}
+use Rattle.rst_markup_directives.specs.declared.kind.ArgumentKind.TheVariants.{Absent as NoArgument, Title as TitleArgument, Uri as UriArgument, Language as LanguageArgument}
+use Rattle.rst_markup_directives.specs.declared.kind.Kind.{Kind}
 use Rattle.rst_block_state.specs.Directives.{called}
 use Rattle.rst_block_state.specs.looks.Ledger.{argument_lines}
 use Rattle.rst_block_state.specs.Paragraphs.{is_single_paragraph}
 use Rattle.rst_block_state.specs.Texts.{lines_in}
 use Rattle.rst_block_state.specs.Within.{Within}
-use Rattle.rst_markup_directives.proofs.DirectiveParts.{run_in-le}
+use Rattle.rst_markup_directives.proofs.DirectiveParts.{block_within}
 use Rattle.rst_block_state.proofs.PartFacts.{part_le}
 
 -- ---- the lines of a directive's parts
@@ -74,37 +74,31 @@ language_short n (t ∷ ts) = by (is_among words 32)
     by true = tt
     by false = tt
 
--- a title ends before the first option, within the run of lines that the block begins with
-run_title : (n : ℕ) (block : Part) (run : List Text) → length run ≤ n → MayBeShort n (title_argument (take (before_field run) run) (part_of block 0 (before_field run)))
-run_title n block run h = title_short n (take (before_field run) run) (part_of block 0 (before_field run)) (omega (arith, h, prefix_len-le-length (λ (t : Text). not (begins_field t)) run))
+-- a title ends before the first option, in its block
+argument_short : (n : ℕ) (argument : ArgumentKind) (ts : List Text) (block : Part) (to : ℕ) → to ≤ n → MayBeShort n (argument_of argument ts (part_of block 0 to))
+argument_short n NoArgument ts block to h = tt
+argument_short n TitleArgument ts block to h = title_short n ts (part_of block 0 to) (omega arith)
+argument_short n UriArgument ts block to h = uri_short n ts
+argument_short n LanguageArgument ts block to h = language_short n ts
 
-argument_short : (n : ℕ) (name : Name) (block : Part) (run : List Text) (all rest : ℕ) → length run ≤ n
-    → let layout = layout_at name run all rest in MayBeShort n (argument_of name (take layout.argument run) (part_of block 0 layout.argument))
-unfolding layout_at
-argument_short n Admonition block run all rest h = run_title n block run h
-argument_short n Topic block run all rest h = run_title n block run h
-argument_short n Image block run all rest h = uri_short n (take (before_field run) run)
-argument_short n Figure block run all rest h = uri_short n (take (before_field run) run)
-argument_short n Code block run all rest h = language_short n (take (before_field run) run)
-argument_short n _ block run all rest h = tt
+parts_short : (n : ℕ) (kind : Kind) (content : Content) (given : Result ArgumentMeaning Wrong) (choices : Result (List OptionSetting) Wrong) → MayBeShort n given → content.second.to - content.second.from ≤ n
+    → MayBeReadShort n (read_parts kind content given choices)
+parts_short n kind content given (Err w) h k = tt
+parts_short n kind content (Err w) (Ok choices) h k = tt
+parts_short n kind content (Ok value) (Ok choices) h k = (h, k)
 
-parts_short : (n : ℕ) (name : Name) (content : Content) (given : Result ArgumentMeaning Wrong) (choices : Result (List OptionSetting) Wrong) → MayBeShort n given → content.second.to - content.second.from ≤ n
-    → MayBeReadShort n (read_parts name content given choices)
-parts_short n name content given (Err w) h k = tt
-parts_short n name content (Err w) (Ok choices) h k = tt
-parts_short n name content (Ok value) (Ok choices) h k = (h, k)
-
-block_short : (n : ℕ) (name : Name) (late : Bool) (block : Part) (H : Block) → length H ≤ n → MayBeReadShort n (read_block name late block H)
+block_short : (n : ℕ) (kind : Kind) (late : Bool) (block : Part) (H : Block) → length H ≤ n → MayBeReadShort n (read_block kind late block H)
 unfolding read_block directive_by_layout
-block_short n name late block H few =
-    let run : List Text = run_in name late H in
-    let layout = layout_of name run H in
-    parts_short n name (content_of block layout (length H)) (argument_of name (take layout.argument run) (part_of block 0 layout.argument)) (directive_options name (drop layout.options run))
-    (argument_short n name block run (length H) (after_blank H (length run)) (omega (arith, few, run_in-le name late H))) (omega (arith, few))
+block_short n kind late block H few =
+    let run : List Text = run_in kind late H in
+    let layout = layout_of kind run H in
+    let within = block_within kind late H in
+    parts_short n kind (content_of block layout (length H)) (argument_of kind.argument (take layout.argument run) (part_of block 0 layout.argument)) (directive_options kind.options (drop layout.options run))
+    (argument_short n kind.argument (take layout.argument run) block layout.argument (omega (arith, few, within.argument))) (omega (arith, few))
 
 judged_short : (n : ℕ) (place : Place) (paragraph : Bool) (source : Part) (read : Result Read Wrong) → MayBeReadShort n read → AreOutcomeShort n (directive_outcome_at source (and_then (judged_directive place paragraph) (of_block read)))
 judged_short n place paragraph source (Err w) h = tt
-judged_short n place paragraph source (Ok read) h = by (content_fault read.name (is_empty read.content) place paragraph)
+judged_short n place paragraph source (Ok read) h = by (content_fault read.kind (is_empty read.content) place paragraph)
   where
     by : (fault : Option DirectiveFault) → AreOutcomeShort n (directive_outcome_at source (unless (option_map fault_in fault) (Ok read)))
     by (Some fault) = tt
@@ -117,17 +111,17 @@ outcome_short n c B i call place few = by (named_directive (called_at c.code B i
     paragraph : Bool
     paragraph = is_single_paragraph (lines_in B call.block)
 
-    by : (r : Result Name Fault) → AreOutcomeShort n (directive_outcome_at (source_lines_at i call.block) (and_then (judged_directive place paragraph) (and_then (read_at B i call.block) r)))
-    by (Ok name) = judged_short n place paragraph (source_lines_at i call.block) (read_block name (is_late i call.block) call.block (lines_in B call.block)) (block_short n name (is_late i call.block) call.block (lines_in B call.block) few)
+    by : (r : Result Kind Fault) → AreOutcomeShort n (directive_outcome_at (source_lines_at i call.block) (and_then (judged_directive place paragraph) (and_then (read_at B i call.block) r)))
+    by (Ok kind) = judged_short n place paragraph (source_lines_at i call.block) (read_block kind (is_late i call.block) call.block (lines_in B call.block)) (block_short n kind (is_late i call.block) call.block (lines_in B call.block) few)
     by (Err w) = tt
 
 -- a directive's title, and its content after the options, have no more lines than this
 abbrev pub AreFew : ℕ → Directive → Type 0
-AreFew n (FoundDirective name argument options content) = (argument_lines argument ≤ n) × (content.second.to - content.second.from ≤ n)
+AreFew n (FoundDirective kind argument options content) = (argument_lines argument ≤ n) × (content.second.to - content.second.from ≤ n)
 AreFew n (WrongDirective fault source) = Unit {0}
 
 kept_few : (n : ℕ) (d : Directive) → AreOutcomeShort n (directive_outcome d) → AreFew n d
-kept_few n (FoundDirective name (Title part) options content) h = h
+kept_few n (FoundDirective kind (Title part) options content) h = h
 kept_few n (WrongDirective fault source) h = tt
 kept_few n _ h = (omega arith, h.1)
 

@@ -13,7 +13,7 @@ use Rattle.rst_markup_directives.specs.Argument.{uri}
 use Rattle.rst_markup_directives.specs.Directive.{Outcome, found}
 use Rattle.rst_markup_directives.specs.Options.{OptionSetting}
 use Rattle.rst_markup_directives.specs.declared.found.Content.{Content}
-use Rattle.rst_markup_directives.specs.declared.name.Name.{Name}
+use Rattle.rst_markup_directives.specs.declared.kind.Kind.{Kind}
 use Rattle.rst_block_nodes.specs.Elements.{substitution_definition_node}
 use Rattle.rst_block_nodes.specs.Options.{image_element}
 use Rattle.rst_block_nodes.specs.Targets.{may_replace}
@@ -29,11 +29,11 @@ image_in_definition : List OptionSetting → ℕ → List ℕ → List ℕ → N
 image_in_definition choices line name address = filled (substitution_definition_node name line) (image_element address choices line false (Some name) ∷ [])
 
 -- a definition that holds an image
-pub image_holds : (outcome : Outcome) (name : Name) (choices : List OptionSetting) (content : Content) (word t displayed n written : List ℕ) (c : Within) (B : Block) (s : Span) (line : ℕ) (node : Node)
-    → outcome ≡ found (record { name = name; argument = uri (chars word); options = choices; content = content }) → t ≡ word → encode_utf8_all (chars t) ≡ t → displayed ≡ n → line ≡ first_number (drop s.start B)
+pub image_holds : (outcome : Outcome) (kind : Kind) (choices : List OptionSetting) (content : Content) (word t displayed n written : List ℕ) (c : Within) (B : Block) (s : Span) (line : ℕ) (node : Node)
+    → outcome ≡ found (record { kind = kind; argument = uri (chars word); options = choices; content = content }) → t ≡ word → encode_utf8_all (chars t) ≡ t → displayed ≡ n → line ≡ first_number (drop s.start B)
     → node ≡ filled (substitution_definition_node displayed line) (image_element t choices line false (Some displayed) ∷ []) → just (node ∷ []) ≡ definition_or_error outcome c B s n written
 unfolding image_in_definition
-image_holds outcome name choices content word t displayed n written c B s line node o h u e l m =
+image_holds outcome kind choices content word t displayed n written c B s line node o h u e l m =
     let at : ℕ = first_number (drop s.start B) in
     ap (λ (x : Node). just (x ∷ []))
     (m ∙ ap (λ x. image_in_definition choices line x t) e ∙ ap (λ k. image_in_definition choices k n t) l ∙ ap (image_in_definition choices at n) (sym u ∙ ap (λ w. encode_utf8_all (chars w)) h))

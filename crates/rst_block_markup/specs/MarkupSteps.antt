@@ -1,16 +1,16 @@
 -- Explicit markup, step by step: what a block gives where its next line begins some, and directives as they are kept. No rule of markup.
-use Rattle.std.specs.Prelude.{ℕ, ◌<◌, length, drop, Bool, true, false, List, Option, Some, Result, IfOk, if◌then◌else◌}
+use Rattle.std.specs.Prelude.{ℕ, ◌<◌, length, drop, Bool, true, false, List, Option, Some, None, Result, IfOk, if◌then◌else◌}
 use Rattle.rst_text.specs.Block.{Block, first_number}
 use Rattle.rst_tree.specs.declared.node.Node.{Node}
 use Rattle.rst_markup_directives.specs.Argument.{ArgumentMeaning, given_in}
 use Rattle.rst_markup_directives.specs.Call.{IsContentIn}
 use Rattle.rst_markup_directives.specs.Directive.{Read}
+use Rattle.rst_markup_directives.specs.Kind.{is_paragraph}
 use Rattle.rst_markup_directives.specs.Options.{choices_in}
 use Rattle.rst_markup_directives.specs.declared.found.Content.{Content}
 use Rattle.rst_markup_directives.specs.declared.found.Place.{Place}
 use Rattle.rst_markup_directives.specs.declared.found.Place.TheVariants.{Top, Body}
-use Rattle.rst_markup_directives.specs.declared.name.Name.{Name}
-use Rattle.rst_markup_directives.specs.declared.name.Name.TheVariants.{Figure, Replace}
+use Rattle.rst_markup_directives.specs.declared.kind.Kind.{Kind}
 use Rattle.rst_block_state.specs.Constructs.{explicit_markup}
 use Rattle.rst_block_state.specs.Directives.{content_nodes, right_by}
 use Rattle.rst_block_state.specs.Figures.{Beginning, caption, no_caption, neither}
@@ -63,15 +63,10 @@ made_of_content c B content make = do
 
 -- ---- directives
 
--- a directive of this name is a replacement text
-abbrev pub is_replacement : Option Name → Bool
-is_replacement (Some Replace) = true
-is_replacement _ = false
-
--- a directive of this name is a figure
-abbrev pub is_figure : Name → Bool
-is_figure Figure = true
-is_figure _ = false
+-- a directive of this kind takes a single paragraph
+abbrev pub takes_paragraph : Option Kind → Bool
+takes_paragraph (Some kind) = is_paragraph kind.content
+takes_paragraph None = false
 
 -- where a directive is: in the document itself where titles are recognized, else in a body
 abbrev pub place_in : Bool → Place
@@ -79,7 +74,7 @@ place_in titles = if titles then Top else Body
 
 -- a right directive, as it is kept
 abbrev pub read_of_directive : Found → Read
-read_of_directive f = record { name = f.name; argument = given_in f.argument; options = choices_in f.options.items; content = f.content }
+read_of_directive f = record { kind = f.kind; argument = given_in f.argument; options = choices_in f.options.items; content = f.content }
 
 -- a right directive at a line of a block: its content is in the block, and it ends after the line
 pub record IsRight (B : Block) (at : ℕ) (found : Found) : Type 0 where
@@ -91,8 +86,8 @@ pub record IsRight (B : Block) (at : ℕ) (found : Found) : Type 0 where
 abbrev pub IsDirectiveRead : ℕ → Block → OpenBlock → Pass → Found → ArgumentMeaning → OpenBlock → Pass → Result Step BlockFault → Type 0
 IsDirectiveRead few B old before f given new after result =
     let lines = span_source B (record { start = old.at; stop = f.end }) in
-    let nodes = right_by given f.name (within_at old.depth) B (first_number (drop old.at B)) (read_of_directive f) lines in
-    IsPartRead few B old before nodes (directive_content given f.name B f.content) f.end new after result
+    let nodes = right_by given f.kind.content (within_at old.depth) B (first_number (drop old.at B)) (read_of_directive f) lines in
+    IsPartRead few B old before nodes (directive_content given f.kind.content B f.content) f.end new after result
 
 -- what the content of a figure begins with, as it is kept
 abbrev pub beginning_in : ContentStart → Beginning

@@ -39,8 +39,8 @@ use rst_block_state::{
 };
 use rst_markup_blocks::{Invocation, Part};
 use rst_markup_directives::{
-    Argument, Content, Directive, DirectiveFault, Name, Place, Setting, called, directive,
-    message as fault_text,
+    Argument, Content, ContentKind, Directive, DirectiveFault, Kind, Place, Setting, called,
+    directive, message as fault_text,
 };
 use rst_text::{Looks, View};
 use rst_tree::{Level, Node, Tag};
@@ -62,12 +62,12 @@ pub(crate) fn directive_at(
     ensures looked { let lines = invocation.now.block.to - invocation.now.block.from in
         IfOk result (λ _. Looked 1 (8 + 2 * lines) pass.old.looks pass.new.looks) }
 {
-    let name = called(pass.alloc, view, at, invocation, &mut pass.looks)?;
+    let kind = called(pass.alloc, view, at, invocation, &mut pass.looks)?;
     let block = invocation.block;
-    let paragraph = is_paragraph(name, view, block, &mut pass.looks);
+    let paragraph = is_paragraph(kind, view, block, &mut pass.looks);
     Ok(directive(
         pass.alloc,
-        name,
+        kind,
         view,
         at,
         block,
@@ -78,13 +78,13 @@ pub(crate) fn directive_at(
 }
 
 /// Whether the block of a replacement text is a single paragraph, which counts for no other directive.
-fn is_paragraph(name: Option<Name>, view: &View<'_>, block: Part, looks: &mut Looks) -> bool
+fn is_paragraph(kind: Option<Kind>, view: &View<'_>, block: Part, looks: &mut Looks) -> bool
     requires block { IsBlock (block_of view.now) block }
-    ensures flag { (B : Block) (at : ℕ) (place : Place) → directives.directive_of name B at block place result
-        ≡ directives.directive_of name B at block place (is_single_paragraph (lines_in (block_of view.now) block)) }
+    ensures flag { (B : Block) (at : ℕ) (place : Place) → directives.directive_of kind B at block place result
+        ≡ directives.directive_of kind B at block place (is_single_paragraph (lines_in (block_of view.now) block)) }
     ensures looked { Looked 0 (block.to - block.from + 6) looks.old looks.new }
 {
-    if matches!(name, Some(Name::Replace)) {
+    if kind.is_some_and(|kind| kind.content == ContentKind::Paragraph) {
         return is_single_paragraph(&inside(view, block), looks);
     }
     false
@@ -117,13 +117,13 @@ pub(crate) fn directive_block(
             put(level, error, end)
         }
         Directive::Found {
-            name,
+            kind,
             argument,
             options,
             content,
         } => {
             let found = Found {
-                name,
+                kind,
                 argument,
                 options,
                 content,
@@ -144,7 +144,7 @@ fn place_in(titles: bool) -> Place
 /// A right directive, which ends at `end`.
 #[derive(Drop)]
 struct Found {
-    name: Name,
+    kind: Kind,
     argument: Argument,
     options: Vec<Setting>,
     content: Content,
@@ -229,9 +229,10 @@ fn titled_block(
         title_line,
         &mut pass.numbers,
     )?;
-    let node = directive_element(pass.alloc, found.name, found.options.as_slice(), line)?;
-    let node = match found.name {
-        Name::Admonition => with_title_class(pass.alloc, node, &title.element)?,
+    let element = found.kind.element;
+    let node = directive_element(pass.alloc, element, found.options.as_slice(), line)?;
+    let node = match element {
+        Tag::Admonition => with_title_class(pass.alloc, node, &title.element)?,
         _ => node,
     };
     let mut nodes = alone(pass.alloc, title.element)?;
@@ -251,11 +252,12 @@ fn plain_block(
     ensures { let few = found.now.content.second.to - found.now.content.second.from in
         IsDirectiveRead few (block_of view.now) level.old pass.old found.now given.nothing level.new pass.new result }
 {
-    if matches!(found.name, Name::Code) {
+    if found.kind.content == ContentKind::Lines {
         return code_nodes(view, level, found, None, pass);
     }
     let line = number_at(view, level.at);
-    let node = directive_element(pass.alloc, found.name, found.options.as_slice(), line)?;
+    let element = found.kind.element;
+    let node = directive_element(pass.alloc, element, found.options.as_slice(), line)?;
     Ok(opened(level, Waits::Element(node), found))
 }
 
@@ -274,7 +276,7 @@ fn image_block(
     let at = level.at;
     let line = number_at(view, at);
     let options = found.options.as_slice();
-    if matches!(found.name, Name::Figure) {
+    if found.kind.content == ContentKind::Caption {
         let image_node = image(alloc, uri, options, line, true, None)?;
         let figure = filled(figure(alloc, options, line)?, alone(alloc, image_node)?)?;
         let waits = Waits::Figure {

@@ -11,14 +11,12 @@ use Rattle.rst_tree.specs.declared.key.Key.TheVariants.{Align, Alt, Classes, Hei
 use Rattle.rst_tree.specs.declared.node.Node.{Node}
 use Rattle.rst_tree.specs.declared.node.Node.TheVariants.{Element}
 use Rattle.rst_tree.specs.declared.tag.Tag.{Tag}
-use Rattle.rst_tree.specs.declared.tag.Tag.TheVariants.{Admonition as AdmonitionTag, Attention as AttentionTag, Caution as CautionTag, Danger as DangerTag, Error as ErrorTag, Figure as FigureTag, Hint as HintTag, Image as ImageTag, Important as ImportantTag, LiteralBlock, Note as NoteTag, Paragraph, Reference, Tip as TipTag, Topic as TopicTag, Warning as WarningTag}
+use Rattle.rst_tree.specs.declared.tag.Tag.TheVariants.{Figure as FigureTag, Image as ImageTag, LiteralBlock, Reference}
 use Rattle.rst_markup_directives.specs.Options.{OptionSetting}
 use Rattle.rst_markup_directives.specs.Target.{Destination, named, located}
 use Rattle.rst_markup_directives.specs.Value.{Meaning, plain, measured, numbered, placed, classed, linked, called}
 use Rattle.rst_markup_directives.specs.declared.measure.Alignment.{Alignment}
 use Rattle.rst_markup_directives.specs.declared.measure.Alignment.TheVariants.{Top, Middle, Bottom, Left, Center, Right}
-use Rattle.rst_markup_directives.specs.declared.name.Name.{Name as Directive}
-use Rattle.rst_markup_directives.specs.declared.name.Name.TheVariants.{Attention, Caution, Danger, Error, Hint, Important, Note, Tip, Warning, Admonition, Topic, Image as ImageName, Figure as FigureName, Replace, Code}
 use Rattle.rst_markup_directives.specs.declared.option.OptionName.{OptionName}
 use Rattle.rst_markup_directives.specs.declared.option.OptionName.TheVariants.{Alt as AltOption, Height as HeightOption, Width as WidthOption, Scale as ScaleOption, Align as AlignOption, Class as ClassOption, Name as NameOption, FigureWidth, FigureClass}
 use Rattle.rst_block_nodes.specs.declared.settings.Holder.{Holder}
@@ -93,27 +91,9 @@ with_choices holder (ch ∷ more) attrs = with_choices holder more (with_value_a
 abbrev pub figure_element : List OptionSetting → ℕ → Node
 figure_element choices line = Element FigureTag (with_choices Figure choices []) bare line
 
--- the element that a directive makes
-abbrev pub tag_of : Directive → Tag
-tag_of Attention = AttentionTag
-tag_of Caution = CautionTag
-tag_of Danger = DangerTag
-tag_of Error = ErrorTag
-tag_of Hint = HintTag
-tag_of Important = ImportantTag
-tag_of Note = NoteTag
-tag_of Tip = TipTag
-tag_of Warning = WarningTag
-tag_of Admonition = AdmonitionTag
-tag_of Topic = TopicTag
-tag_of ImageName = ImageTag
-tag_of FigureName = FigureTag
-tag_of Replace = Paragraph
-tag_of Code = LiteralBlock
-
 -- the element of a directive with a body, still without content
-abbrev pub directive_element : Directive → List OptionSetting → ℕ → Node
-directive_element name choices line = Element (tag_of name) (with_choices Body choices []) bare line
+abbrev pub directive_element : Tag → List OptionSetting → ℕ → Node
+directive_element element choices line = Element element (with_choices Body choices []) bare line
 
 -- ---- program code
 

@@ -7,43 +7,26 @@ ghost use Rattle.rst_block_nodes.specs.Options.{directive_element, code_element,
 
 use super::nodes::{element_of, preserving, text_nodes};
 use super::settings::{Holder, set_options};
-use rst_markup_directives::{Name, Setting};
+use rst_markup_directives::Setting;
 use rst_text::id_of;
 use rst_tree::{Attrs, Key, Node, Result, Tag, Text, Texts, TreeFault, Value};
 use std::alloc::Global;
 
-/// The element of an admonition or a topic, with the classes and the name of its options, without title and content
-/// (Docutils, Directives, 'Admonitions'). Of `replace`, which makes no element of its own, it is the paragraph that it holds.
+/// The element of a directive with a body, with the classes and the name of its options, without title and content
+/// (Docutils, Directives, 'Admonitions').
 ///
 /// The only refusal is [`TreeFault::NoMemory`].
 pub fn directive_element(
     alloc: Global,
-    name: Name,
+    element: Tag,
     options: &[Setting],
     line: usize,
 ) -> Result<Node>
-    ensures { Gives (λ node. node ≡ directive_element name (choices_in options.now) line) result }
+    ensures { Gives (λ node. node ≡ directive_element element (choices_in options.now) line) result }
 {
-    let tag = match name {
-        Name::Attention => Tag::Attention,
-        Name::Caution => Tag::Caution,
-        Name::Danger => Tag::Danger,
-        Name::Error => Tag::Error,
-        Name::Hint => Tag::Hint,
-        Name::Important => Tag::Important,
-        Name::Note => Tag::Note,
-        Name::Tip => Tag::Tip,
-        Name::Warning => Tag::Warning,
-        Name::Admonition => Tag::Admonition,
-        Name::Topic => Tag::Topic,
-        Name::Image => Tag::Image,
-        Name::Figure => Tag::Figure,
-        Name::Replace => Tag::Paragraph,
-        Name::Code => Tag::LiteralBlock,
-    };
     let mut attrs = Attrs::new(alloc);
     set_options(alloc, &mut attrs, Holder::Body, options)?;
-    Ok(element_of(tag, attrs, Vec::new(alloc), line))
+    Ok(element_of(element, attrs, Vec::new(alloc), line))
 }
 
 /// An element of the directive `admonition` with the class that its title gives, unless its options gave it some: the

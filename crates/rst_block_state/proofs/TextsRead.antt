@@ -9,7 +9,6 @@ use Rattle.rst_block_nodes.specs.declared.texted.Texted.{Texted}
 use Rattle.rst_block_nodes.proofs.ReadingBridges.{texted_read}
 use Rattle.rst_block_nodes.specs.declared.heading.Style.{Style}
 use Rattle.rst_block_nodes.specs.Sections.{filled}
-use Rattle.rst_markup_directives.specs.declared.name.Name.{Name}
 use Rattle.rst_block_state.specs.Directives.{titled_element}
 use Rattle.rst_block_state.specs.Numbered.{then_read, just}
 use Rattle.rst_block_state.specs.Texts.{texted}
@@ -30,10 +29,10 @@ title_reads style t line warning lines number next element notes e =
     ap (then_read (λ (made : Node × List Node). just (titled (record { style = style; element = made.0; notes = made.1; warning = warning; line = line; source = lines }) ∷ []))) e
 
 -- a directive's element with a title and the messages on its text, where that begins in the title's own line
-pub titled_reads : (name : Name) (element : Node) (line at : ℕ) (t u : List ℕ) (number next : ℕ) (title : Node) (notes title_nodes : List Node) (made whole : Node) → line ≡ at → t ≡ u
-    → texted TitleTag line t line number ≡ Ok ((title, notes), next) → made ≡ titled_element name element title → title_nodes ≡ title ∷ notes → whole ≡ filled made title_nodes
-    → then_read (λ (read : Node × List Node). just (filled (titled_element name element read.0) (read.0 ∷ read.1))) (texted TitleTag at u at number) ≡ Ok (whole, next)
-titled_reads name element line at t u number next title notes title_nodes made whole l e r m h w =
+pub titled_reads : (tag : Tag) (element : Node) (line at : ℕ) (t u : List ℕ) (number next : ℕ) (title : Node) (notes title_nodes : List Node) (made whole : Node) → line ≡ at → t ≡ u
+    → texted TitleTag line t line number ≡ Ok ((title, notes), next) → made ≡ titled_element tag element title → title_nodes ≡ title ∷ notes → whole ≡ filled made title_nodes
+    → then_read (λ (read : Node × List Node). just (filled (titled_element tag element read.0) (read.0 ∷ read.1))) (texted TitleTag at u at number) ≡ Ok (whole, next)
+titled_reads tag element line at t u number next title notes title_nodes made whole l e r m h w =
     let read : texted TitleTag at u at number ≡ Ok ((title, notes), next) = sym (ap (λ x. texted TitleTag line x line number) e ∙ ap (λ x. texted TitleTag x u x number) l) ∙ r in
-    let node : whole ≡ filled (titled_element name element title) (title ∷ notes) = w ∙ ap (filled made) h ∙ ap (λ (n : Node). filled n (title ∷ notes)) m in
-    ap (then_read (λ (read : Node × List Node). just (filled (titled_element name element read.0) (read.0 ∷ read.1)))) read ∙ ap (λ (n : Node). Ok (n, next)) (sym node)
+    let node : whole ≡ filled (titled_element tag element title) (title ∷ notes) = w ∙ ap (filled made) h ∙ ap (λ (n : Node). filled n (title ∷ notes)) m in
+    ap (then_read (λ (read : Node × List Node). just (filled (titled_element tag element read.0) (read.0 ∷ read.1)))) read ∙ ap (λ (n : Node). Ok (n, next)) (sym node)

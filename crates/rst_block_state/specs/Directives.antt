@@ -8,7 +8,7 @@ use Rattle.rst_tree.specs.declared.node.Node.{Node}
 use Rattle.rst_tree.specs.declared.node.Node.TheVariants.{Element, Text}
 use Rattle.rst_tree.specs.declared.note.Level.TheVariants.{Warning, Error}
 use Rattle.rst_tree.specs.declared.tag.Tag.{Tag}
-use Rattle.rst_tree.specs.declared.tag.Tag.TheVariants.{Paragraph, Title as TitleTag}
+use Rattle.rst_tree.specs.declared.tag.Tag.TheVariants.{Admonition, Paragraph, Title as TitleTag}
 use Rattle.rst_markup_blocks.specs.Partition.{Span}
 use Rattle.rst_markup_blocks.specs.declared.forms.Invocation.{Invocation}
 use Rattle.rst_markup_directives.specs.Argument.{ArgumentMeaning, nothing, title, uri, language}
@@ -18,8 +18,8 @@ use Rattle.rst_markup_directives.specs.Wrong.{Fault, not_in_substitution}
 use Rattle.rst_markup_directives.specs.declared.found.Content.{Content}
 use Rattle.rst_markup_directives.specs.declared.found.Place.{Place}
 use Rattle.rst_markup_directives.specs.declared.found.Place.TheVariants.{Top, Body, Substitution}
-use Rattle.rst_markup_directives.specs.declared.name.Name.{Name}
-use Rattle.rst_markup_directives.specs.declared.name.Name.TheVariants.{Admonition, Figure, Code}
+use Rattle.rst_markup_directives.specs.declared.kind.ContentKind.{ContentKind}
+use Rattle.rst_markup_directives.specs.declared.kind.ContentKind.TheVariants.{Lines, Caption}
 use Rattle.rst_block_nodes.specs.Admonitions.{with_title_class}
 use Rattle.rst_block_nodes.specs.Elements.{substitution_definition_node}
 use Rattle.rst_block_nodes.specs.Targets.{may_replace}
@@ -48,7 +48,7 @@ called c B i call place = directive_at c.code B i call place (is_single_paragrap
 -- ---- directives
 
 -- the element of a directive with a title: the title of an admonition gives its class, unless the options do
-abbrev pub titled_element : Name → Node → Node → Node
+abbrev pub titled_element : Tag → Node → Node → Node
 titled_element Admonition element heading = with_title_class element heading
 titled_element _ element heading = element
 
@@ -57,13 +57,13 @@ abbrev pub titled_nodes : Within → Block → ℕ → Read → Block → Number
 titled_nodes c B line read lines = do
   made ← texted TitleTag (number_or line lines) (joined lines) (number_or line lines)
   nodes ← content_nodes c B read.content
-  just (filled (titled_element read.name (directive_element read.name read.options line) made.0) (made.0 ∷ made.1 ++ nodes) ∷ [])
+  just (filled (titled_element read.kind.element (directive_element read.kind.element read.options line) made.0) (made.0 ∷ made.1 ++ nodes) ∷ [])
 
 -- a directive without an argument, and its content
 abbrev pub plain_nodes : Within → Block → ℕ → Read → Numbered (List Node)
 plain_nodes c B line read = do
   nodes ← content_nodes c B read.content
-  just (filled (directive_element read.name read.options line) nodes ∷ [])
+  just (filled (directive_element read.kind.element read.options line) nodes ∷ [])
 
 -- a figure: its image, and its content as caption and legend; an ERROR on it shows these lines
 abbrev pub figure_of : Within → Block → ℕ → Read → List ℕ → List ℕ → Numbered (List Node)
@@ -76,18 +76,18 @@ figure_of c B line read address lines = do
 abbrev pub code_nodes : Block → ℕ → Read → Option (List ℕ) → List Node
 code_nodes B line read word = code_element word read.options (spelled (lines_in B read.content.second)) line ∷ []
 
--- a directive by its argument and its name: images and figures have a URI, program code may have a language
-abbrev pub right_by : ArgumentMeaning → Name → Within → Block → ℕ → Read → List ℕ → Numbered (List Node)
-right_by nothing Code c B line read lines = just (code_nodes B line read None)
-right_by nothing name c B line read lines = plain_nodes c B line read
-right_by (title part) name c B line read lines = titled_nodes c B line read (lines_in B part)
-right_by (uri address) Figure c B line read lines = figure_of c B line read (encode_utf8_all address) lines
-right_by (uri address) name c B line read lines = just (image_element (encode_utf8_all address) read.options line false None ∷ [])
-right_by (language word) name c B line read lines = just (code_nodes B line read (Some (encode_utf8_all word)))
+-- a directive by its argument and its content: images and figures have a URI, program code may have a language
+abbrev pub right_by : ArgumentMeaning → ContentKind → Within → Block → ℕ → Read → List ℕ → Numbered (List Node)
+right_by nothing Lines c B line read lines = just (code_nodes B line read None)
+right_by nothing content c B line read lines = plain_nodes c B line read
+right_by (title part) content c B line read lines = titled_nodes c B line read (lines_in B part)
+right_by (uri address) Caption c B line read lines = figure_of c B line read (encode_utf8_all address) lines
+right_by (uri address) content c B line read lines = just (image_element (encode_utf8_all address) read.options line false None ∷ [])
+right_by (language word) content c B line read lines = just (code_nodes B line read (Some (encode_utf8_all word)))
 
 -- a directive, or the ERROR on one that is wrong, which shows its lines; no block of a wrong directive is read
 abbrev pub directive_by : Outcome → Within → Block → Span → List ℕ → Numbered (List Node)
-directive_by (found read) c B s name = right_by read.argument read.name c B (first_number (drop s.start B)) read (span_source B s)
+directive_by (found read) c B s name = right_by read.argument read.kind.content c B (first_number (drop s.start B)) read (span_source B s)
 directive_by (wrong fault part) c B s name = just (message_with_lines Error (first_number (drop s.start B)) (fault_text fault name) (span_source B s) ∷ [])
 
 -- the directive that is called in the first of some lines; its place is the document itself where titles are recognized, else a body

@@ -12,14 +12,13 @@ use Rattle.rst_markup_blocks.specs.Parts.{IsBlock}
 use Rattle.rst_markup_blocks.specs.declared.part.Part.{Part}
 use Rattle.rst_markup_blocks.proofs.RowLaws.{while_le}
 use Rattle.rst_markup_blocks.specs.declared.lines.LineTest.TheVariants.{Blank}
-use Rattle.rst_markup_directives.specs.Argument.{ArgumentMeaning, title, word_of, argument_by, argument_of}
+use Rattle.rst_markup_directives.specs.Argument.{ArgumentMeaning, title, word_of, argument_of}
 use Rattle.rst_markup_directives.specs.Call.{part_of, content_of, is_empty, IsContentIn, IsDirectiveIn}
 use Rattle.rst_markup_directives.specs.Characters.{Text}
 use Rattle.rst_markup_directives.specs.Directive.{Read, Outcome, found, wrong, run_in, directive_options, read_parts, directive_by_layout, read_block, directive_outcome_at, of_block, judged_directive, directive_outcome}
 use Rattle.rst_markup_directives.specs.Judgement.{content_fault}
 use Rattle.rst_markup_directives.specs.Layout.{begins_field, before_field, parts_with_argument, parts_without_argument, layout_by, layout_at, layout_of}
 use Rattle.rst_markup_directives.specs.Lines.{first_run, blank_len, after_blank, joined_nonempty}
-use Rattle.rst_markup_directives.specs.Name.{takes, holds}
 use Rattle.rst_markup_directives.specs.Options.{OptionSetting}
 use Rattle.rst_markup_directives.specs.Wrong.{Wrong as WrongInside, and_then, unless, fault_in}
 use Rattle.rst_markup_directives.specs.declared.argument.Argument.TheVariants.{Absent}
@@ -29,11 +28,11 @@ use Rattle.rst_markup_directives.specs.declared.found.Directive.{Directive}
 use Rattle.rst_markup_directives.specs.declared.found.Directive.TheVariants.{Found, Wrong}
 use Rattle.rst_markup_directives.specs.declared.found.Place.{Place}
 use Rattle.rst_markup_directives.specs.declared.layout.Layout.{Layout}
-use Rattle.rst_markup_directives.specs.declared.name.Holds.{Holds}
-use Rattle.rst_markup_directives.specs.declared.name.Holds.TheVariants.{Paragraph}
-use Rattle.rst_markup_directives.specs.declared.name.Name.{Name}
-use Rattle.rst_markup_directives.specs.declared.name.Takes.{Takes}
-use Rattle.rst_markup_directives.specs.declared.name.Takes.TheVariants.{Nothing as TakesNothing, Title as TakesTitle, Uri as TakesUri, Language as TakesLanguage}
+use Rattle.rst_markup_directives.specs.declared.kind.ContentKind.{ContentKind}
+use Rattle.rst_markup_directives.specs.declared.kind.ContentKind.TheVariants.{Paragraph}
+use Rattle.rst_markup_directives.specs.declared.kind.Kind.{Kind}
+use Rattle.rst_markup_directives.specs.declared.kind.ArgumentKind.{ArgumentKind}
+use Rattle.rst_markup_directives.specs.declared.kind.ArgumentKind.TheVariants.{Absent as NoArgument, Title as TitleArgument, Uri as UriArgument, Language as LanguageArgument}
 use Rattle.rst_markup_directives.proofs.Parts.{length_cut}
 
 -- ---- lines of a block
@@ -51,10 +50,10 @@ part_block B block from to b ordered within =
     }
 
 -- where the parts of a block of `all` lines end
-record IsWithin (layout : Layout) (all : ℕ) : Type 0 where
-  argument : layout.argument ≤ all
-  first : layout.first ≤ all
-  second : layout.second ≤ all
+pub record IsWithin (layout : Layout) (all : ℕ) : Type 0 where
+  pub argument : layout.argument ≤ all
+  pub first : layout.first ≤ all
+  pub second : layout.second ≤ all
 
 content_block : (B : Block) (block : Part) (layout : Layout) (all : ℕ) → IsBlock B block → IsWithin layout all → block.from + all ≤ block.to → IsContentIn B (content_of block layout all)
 content_block B block layout all b inside within = (
@@ -75,9 +74,9 @@ first_run-le B =
 blank_len-le : (B : Block) → blank_len B ≤ length B
 blank_len-le B = while_le Blank B
 
-pub run_in-le : (name : Name) (late : Bool) (H : Block) → length (run_in name late H) ≤ length H
+pub run_in-le : (kind : Kind) (late : Bool) (H : Block) → length (run_in kind late H) ≤ length H
 unfolding run_in
-run_in-le name late H = grind (arith, first_run-le H)
+run_in-le kind late H = grind (arith, first_run-le H)
 
 with_within : (run : List Text) (all rest : ℕ) → length run ≤ all → rest ≤ all → IsWithin (parts_with_argument run rest) all
 with_within run all rest h k = record { argument = omega (arith, before_field-le run); first = omega arith; second = omega arith }
@@ -88,14 +87,19 @@ without_within run all rest h k =
     (λ _. record { argument = omega arith; first = omega arith; second = omega arith })
     (λ _. record { argument = omega arith; first = omega (arith, before_field-le run); second = omega arith })
 
-holds_within : (content : Holds) (t : Takes) (run : List Text) (all rest : ℕ) → length run ≤ all → rest ≤ all → IsWithin (layout_by content t run all rest) all
-holds_within Paragraph t run all rest h k = record { argument = omega arith; first = omega arith; second = omega arith }
-holds_within _ TakesNothing run all rest h k = without_within run all rest h k
-holds_within _ _ run all rest h k = with_within run all rest h k
+parts_within : (content : ContentKind) (argument : ArgumentKind) (run : List Text) (all rest : ℕ) → length run ≤ all → rest ≤ all → IsWithin (layout_by content argument run all rest) all
+parts_within Paragraph argument run all rest h k = record { argument = omega arith; first = omega arith; second = omega arith }
+parts_within _ NoArgument run all rest h k = without_within run all rest h k
+parts_within _ _ run all rest h k = with_within run all rest h k
 
-layout_within : (name : Name) (run : List Text) (all rest : ℕ) → length run ≤ all → rest ≤ all → IsWithin (layout_at name run all rest) all
+layout_within : (kind : Kind) (run : List Text) (all rest : ℕ) → length run ≤ all → rest ≤ all → IsWithin (layout_at kind run all rest) all
 unfolding layout_at
-layout_within name run all rest h k = holds_within (holds name) (takes name) run all rest h k
+layout_within kind run all rest h k = parts_within kind.content kind.argument run all rest h k
+
+pub block_within : (kind : Kind) (late : Bool) (H : Block) → IsWithin (layout_of kind (run_in kind late H) H) (length H)
+block_within kind late H =
+    let run : List Text = run_in kind late H in
+    layout_within kind run (length H) (after_blank H (length run)) (run_in-le kind late H) (omega (arith, run_in-le kind late H, blank_len-le (drop (length run) H), length-drop (length run) H))
 
 -- ---- what is read
 
@@ -119,35 +123,34 @@ word_in : (B : Block) (words : Text) → MayBeGivenIn B (word_of words)
 unfolding word_of
 word_in B words = cond_both (is_among words 32) _ _ (MayBeGivenIn B) (λ _. tt) (λ _. tt)
 
-argument_in : (B : Block) (t : Takes) (ts : List Text) (part : Part) → IsBlock B part → MayBeGivenIn B (argument_by t ts part)
-argument_in B TakesTitle (t ∷ ts) part b = b
-argument_in B TakesUri [] part b = tt
-argument_in B TakesLanguage (t ∷ ts) part b = word_in B (normalized_white (joined_nonempty (t ∷ ts)))
+argument_in : (B : Block) (argument : ArgumentKind) (ts : List Text) (part : Part) → IsBlock B part → MayBeGivenIn B (argument_of argument ts part)
+argument_in B TitleArgument (t ∷ ts) part b = b
+argument_in B UriArgument [] part b = tt
+argument_in B LanguageArgument (t ∷ ts) part b = word_in B (normalized_white (joined_nonempty (t ∷ ts)))
 argument_in B _ _ part b = tt
 
-parts_in_block : (B : Block) (name : Name) (content : Content) (given : Result ArgumentMeaning WrongInside) (choices : Result (List OptionSetting) WrongInside)
-    → IsContentIn B content → MayBeGivenIn B given → MayBeReadIn B (read_parts name content given choices)
-parts_in_block B name content (Ok value) (Ok choices) h k = (k, h)
-parts_in_block B name content (Err w) (Ok choices) h k = tt
-parts_in_block B name content given (Err w) h k = tt
+parts_in_block : (B : Block) (kind : Kind) (content : Content) (given : Result ArgumentMeaning WrongInside) (choices : Result (List OptionSetting) WrongInside)
+    → IsContentIn B content → MayBeGivenIn B given → MayBeReadIn B (read_parts kind content given choices)
+parts_in_block B kind content (Ok value) (Ok choices) h k = (k, h)
+parts_in_block B kind content (Err w) (Ok choices) h k = tt
+parts_in_block B kind content given (Err w) h k = tt
 
-read_in_block : (B : Block) (name : Name) (late : Bool) (block : Part) (H : Block) → IsBlock B block → length H ≡ block.to - block.from → MayBeReadIn B (read_block name late block H)
+read_in_block : (B : Block) (kind : Kind) (late : Bool) (block : Part) (H : Block) → IsBlock B block → length H ≡ block.to - block.from → MayBeReadIn B (read_block kind late block H)
 unfolding read_block directive_by_layout
-read_in_block B name late block H b count =
-    let run : List Text = run_in name late H in
-    let rest : ℕ = after_blank H (length run) in
-    let within = layout_within name run (length H) rest (run_in-le name late H) (omega (arith, run_in-le name late H, blank_len-le (drop (length run) H), length-drop (length run) H)) in
-    let layout : Layout = layout_of name run H in
+read_in_block B kind late block H b count =
+    let run : List Text = run_in kind late H in
+    let within = block_within kind late H in
+    let layout : Layout = layout_of kind run H in
     let inside : block.from + length H ≤ block.to = omega (arith, b.ordered, count) in
-    parts_in_block B name (content_of block layout (length H)) (argument_of name (take layout.argument run) (part_of block 0 layout.argument)) (directive_options name (drop layout.options run))
+    parts_in_block B kind (content_of block layout (length H)) (argument_of kind.argument (take layout.argument run) (part_of block 0 layout.argument)) (directive_options kind.options (drop layout.options run))
     (content_block B block layout (length H) b within inside)
-    (argument_in B (takes name) (take layout.argument run) (part_of block 0 layout.argument) (part_block B block 0 layout.argument b (omega arith) (omega (arith, within.argument, inside))))
+    (argument_in B kind.argument (take layout.argument run) (part_of block 0 layout.argument) (part_block B block 0 layout.argument b (omega arith) (omega (arith, within.argument, inside))))
 
 -- ---- what a directive is
 
 judged_in : (B : Block) (place : Place) (paragraph : Bool) (source : Part) (read : Result Read WrongInside) → MayBeReadIn B read → IsOutcomeIn B (directive_outcome_at source (and_then (judged_directive place paragraph) (of_block read)))
 judged_in B place paragraph source (Err w) h = tt
-judged_in B place paragraph source (Ok read) h = by (content_fault read.name (is_empty read.content) place paragraph)
+judged_in B place paragraph source (Ok read) h = by (content_fault read.kind (is_empty read.content) place paragraph)
   where
     by : (fault : Option DirectiveFault) → IsOutcomeIn B (directive_outcome_at source (unless (option_map fault_in fault) (Ok read)))
     by (Some fault) = tt
@@ -155,13 +158,13 @@ judged_in B place paragraph source (Ok read) h = by (content_fault read.name (is
 
 kept_in : (B : Block) (directive : Directive) → IsOutcomeIn B (directive_outcome directive) → IsDirectiveIn B directive
 kept_in B (Wrong fault source) h = tt
-kept_in B (Found name Absent options content) h = h
+kept_in B (Found kind Absent options content) h = h
 kept_in B _ h = h
 
 -- the parts of a directive whose block was read
-pub directive_in : (B : Block) (name : Name) (late : Bool) (block : Part) (place : Place) (paragraph : Bool) (source : Part) (read : Result Read WrongInside) (directive : Directive) → IsBlock B block
-    → read ≡ read_block name late block (cut B block.from block.to block.first_cut block.rest_cut) → directive_outcome directive ≡ directive_outcome_at source (and_then (judged_directive place paragraph) (of_block read)) → IsDirectiveIn B directive
-directive_in B name late block place paragraph source read directive b same kept =
+pub directive_in : (B : Block) (kind : Kind) (late : Bool) (block : Part) (place : Place) (paragraph : Bool) (source : Part) (read : Result Read WrongInside) (directive : Directive) → IsBlock B block
+    → read ≡ read_block kind late block (cut B block.from block.to block.first_cut block.rest_cut) → directive_outcome directive ≡ directive_outcome_at source (and_then (judged_directive place paragraph) (of_block read)) → IsDirectiveIn B directive
+directive_in B kind late block place paragraph source read directive b same kept =
     let H : Block = cut B block.from block.to block.first_cut block.rest_cut in
-    let inside = read_in_block B name late block H b (length_cut B block.from block.to block.first_cut block.rest_cut b.ordered b.within) in
+    let inside = read_in_block B kind late block H b (length_cut B block.from block.to block.first_cut block.rest_cut b.ordered b.within) in
     kept_in B directive (subst (IsOutcomeIn B) (sym kept) (judged_in B place paragraph source read (subst (MayBeReadIn B) (sym same) inside)))

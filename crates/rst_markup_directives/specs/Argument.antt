@@ -4,15 +4,13 @@ use Rattle.rst_text.specs.Names.{normalized_white}
 use Rattle.rst_text.specs.Text.{chars_of}
 use Rattle.rst_text.specs.Characters.{is_among, without_white}
 use Rattle.rst_markup_directives.specs.Characters.{Text}
-use Rattle.rst_markup_directives.specs.Name.{takes}
 use Rattle.rst_markup_directives.specs.Lines.{joined_nonempty}
 use Rattle.rst_markup_directives.specs.Wrong.{Wrong, no_argument, many_arguments, wrong_in}
 use Rattle.rst_markup_directives.specs.declared.argument.Argument.{Argument}
 use Rattle.rst_markup_directives.specs.declared.argument.Argument.TheVariants.{Absent, Title, Uri, Language}
 use Rattle.rst_markup_directives.specs.declared.fault.Detail.{Detail}
-use Rattle.rst_markup_directives.specs.declared.name.Name.{Name}
-use Rattle.rst_markup_directives.specs.declared.name.Takes.{Takes}
-use Rattle.rst_markup_directives.specs.declared.name.Takes.TheVariants.{Nothing as TakesNothing, Title as TakesTitle, Uri as TakesUri, Language as TakesLanguage}
+use Rattle.rst_markup_directives.specs.declared.kind.ArgumentKind.{ArgumentKind}
+use Rattle.rst_markup_directives.specs.declared.kind.ArgumentKind.TheVariants.{Absent as NoArgument, Title as TitleArgument, Uri as UriArgument, Language as LanguageArgument}
 use Rattle.rst_markup_blocks.specs.declared.part.Part.{Part}
 
 -- what an argument means
@@ -41,16 +39,12 @@ abbrev pub language_of : List Text → Result ArgumentMeaning Wrong
 language_of [] = Ok nothing
 language_of (t ∷ ts) = word_of (normalized_white (joined_nonempty (t ∷ ts)))
 
--- the argument of a directive that takes nothing, a title, a URI or a language
-abbrev pub argument_by : Takes → List Text → Part → Result ArgumentMeaning Wrong
-argument_by TakesNothing ts part = Ok nothing
-argument_by TakesTitle ts part = title_argument ts part
-argument_by TakesUri ts part = uri_of ts
-argument_by TakesLanguage ts part = language_of ts
-
--- the argument that the lines of a part of a view are
-abbrev pub argument_of : Name → List Text → Part → Result ArgumentMeaning Wrong
-argument_of name ts part = argument_by (takes name) ts part
+-- the argument of a kind that the lines of a part of a view are: none, a title, a URI or a language
+abbrev pub argument_of : ArgumentKind → List Text → Part → Result ArgumentMeaning Wrong
+argument_of NoArgument ts part = Ok nothing
+argument_of TitleArgument ts part = title_argument ts part
+argument_of UriArgument ts part = uri_of ts
+argument_of LanguageArgument ts part = language_of ts
 
 -- ---- as it is kept
 

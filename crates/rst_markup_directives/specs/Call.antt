@@ -2,14 +2,14 @@
 use Rattle.std.specs.Prelude.{ℕ, ◌+◌, Bool, ◌&&◌, ◌==◌, drop, slice_range, Option, if◌then◌else◌}
 use Rattle.rst_text.specs.Block.{Block, first_text}
 use Rattle.rst_markup_directives.specs.Characters.{Text}
-use Rattle.rst_markup_directives.specs.Name.{directive_named}
+use Rattle.rst_markup_directives.specs.Kind.{directive_named}
 use Rattle.rst_markup_directives.specs.declared.argument.Argument.{Argument}
 use Rattle.rst_markup_directives.specs.declared.argument.Argument.TheVariants.{Title}
 use Rattle.rst_markup_directives.specs.declared.found.Content.{Content}
 use Rattle.rst_markup_directives.specs.declared.found.Directive.{Directive}
 use Rattle.rst_markup_directives.specs.declared.found.Directive.TheVariants.{Found, Wrong}
 use Rattle.rst_markup_directives.specs.declared.layout.Layout.{Layout}
-use Rattle.rst_markup_directives.specs.declared.name.Name.{Name}
+use Rattle.rst_markup_directives.specs.declared.kind.Kind.{Kind}
 use Rattle.rst_markup_blocks.specs.Parts.{IsBlock}
 use Rattle.rst_markup_blocks.specs.declared.forms.Invocation.{Invocation}
 use Rattle.rst_markup_blocks.specs.declared.part.Part.{Part}
@@ -19,7 +19,7 @@ abbrev pub name_text : Block → ℕ → Invocation → Text
 name_text B at call = slice_range (first_text (drop at B)) call.name.from call.name.to
 
 -- the directive that is called; `code` is true if the one for program code is among them
-abbrev pub called_at : Bool → Block → ℕ → Invocation → Option Name
+abbrev pub called_at : Bool → Block → ℕ → Invocation → Option Kind
 called_at code B at call = directive_named (name_text B at call) code
 
 -- how many characters the line at this place of a block loses, which may be another number for the first line
@@ -51,5 +51,5 @@ IsArgumentIn B argument = Unit {0}
 
 -- the parts of a directive are those of a block
 abbrev pub IsDirectiveIn : Block → Directive → Type 0
-IsDirectiveIn B (Found name argument options content) = IsArgumentIn B argument × IsContentIn B content
+IsDirectiveIn B (Found kind argument options content) = IsArgumentIn B argument × IsContentIn B content
 IsDirectiveIn B (Wrong fault source) = Unit {0}

@@ -1,5 +1,5 @@
--- What a directive is: its name, argument, options and content, or what is wrong with it (Markup Specification,
--- 'Directives'; the sections of Directives are in Name, Judgement and Value).
+-- What a directive is: its kind, argument, options and content, or what is wrong with it (Markup Specification,
+-- 'Directives'; the sections of Directives are in Kind, Judgement and Value).
 use Rattle.std.specs.Prelude.{ℕ, ◌-◌, Bool, true, false, ◌&&◌, nat_lt, List, [], take, drop, length, option_map, Option, Result, Ok, Err, ok_or, if◌then◌else◌}
 use Rattle.std.specs.Result.{result_map_both}
 use Rattle.rst_text.specs.Block.{Block, cut}
@@ -7,6 +7,7 @@ use Rattle.rst_markup_directives.specs.Argument.{ArgumentMeaning, given_in, argu
 use Rattle.rst_markup_directives.specs.Call.{called_at, part_of, content_of, is_empty}
 use Rattle.rst_markup_directives.specs.Characters.{Text}
 use Rattle.rst_markup_directives.specs.Judgement.{permitted, content_fault}
+use Rattle.rst_markup_directives.specs.Kind.{is_lines}
 use Rattle.rst_markup_directives.specs.Layout.{layout_of}
 use Rattle.rst_markup_directives.specs.Lines.{first_run}
 use Rattle.rst_markup_directives.specs.Options.{fields_in, OptionSetting, choices_in, settings_in}
@@ -17,51 +18,46 @@ use Rattle.rst_markup_directives.specs.declared.found.Content.{Content}
 use Rattle.rst_markup_directives.specs.declared.found.Directive.{Directive}
 use Rattle.rst_markup_directives.specs.declared.found.Directive.TheVariants.{Found as FoundDirective, Wrong as WrongDirective}
 use Rattle.rst_markup_directives.specs.declared.found.Place.{Place}
+use Rattle.rst_markup_directives.specs.declared.kind.Kind.{Kind}
+use Rattle.rst_markup_directives.specs.declared.kind.OptionSet.{OptionSet}
 use Rattle.rst_markup_directives.specs.declared.layout.Layout.{Layout}
-use Rattle.rst_markup_directives.specs.declared.name.Name.{Name}
-use Rattle.rst_markup_directives.specs.declared.name.Name.TheVariants.{Code}
 use Rattle.rst_markup_blocks.specs.declared.forms.Invocation.{Invocation}
 use Rattle.rst_markup_blocks.specs.declared.part.Part.{Part}
 
 -- ---- the block
 
--- the directive for program code
-abbrev pub is_code_name : Name → Bool
-is_code_name Code = true
-is_code_name _ = false
-
 -- The lines that hold the argument and the options: those before the first blank one; none for program code whose block
 -- begins late, not in the line after the directive's.
-unfoldable pub run_in : Name → Bool → Block → List Text
-run_in name late H = if late && is_code_name name then [] else first_run H
+unfoldable pub run_in : Kind → Bool → Block → List Text
+run_in kind late H = if late && is_lines kind.content then [] else first_run H
 
 -- a directive whose options and argument are right
 pub record Read : Type 0 where
-  pub name : Name
+  pub kind : Kind
   pub argument : ArgumentMeaning
   pub options : List OptionSetting
   pub content : Content
 
 -- the options that lines are; lines that aren't fields alone are an invalid option block
-abbrev pub directive_options : Name → List Text → Result (List OptionSetting) Wrong
-directive_options name lines = and_then (settings_in name) (ok_or (fields_in lines) option_block)
+abbrev pub directive_options : OptionSet → List Text → Result (List OptionSetting) Wrong
+directive_options options lines = and_then (settings_in options) (ok_or (fields_in lines) option_block)
 
 -- a directive whose options are right, by its argument
-abbrev pub with_argument : Name → Content → List OptionSetting → Result ArgumentMeaning Wrong → Result Read Wrong
-with_argument name content options given = and_then (λ argument. Ok (record { name = name; argument = argument; options = options; content = content })) given
+abbrev pub with_argument : Kind → Content → List OptionSetting → Result ArgumentMeaning Wrong → Result Read Wrong
+with_argument kind content options given = and_then (λ argument. Ok (record { kind = kind; argument = argument; options = options; content = content })) given
 
 -- a directive by its argument and its options, where what is wrong with an option counts first
-abbrev pub read_parts : Name → Content → Result ArgumentMeaning Wrong → Result (List OptionSetting) Wrong → Result Read Wrong
-read_parts name content given choices = and_then (λ options. with_argument name content options given) choices
+abbrev pub read_parts : Kind → Content → Result ArgumentMeaning Wrong → Result (List OptionSetting) Wrong → Result Read Wrong
+read_parts kind content given choices = and_then (λ options. with_argument kind content options given) choices
 
 -- a directive by the run of lines that its block of `all` lines begins with, and by where the parts of the block are
-unfoldable pub directive_by_layout : Name → Part → ℕ → List Text → Layout → Result Read Wrong
-directive_by_layout name block all run layout =
-    read_parts name (content_of block layout all) (argument_of name (take layout.argument run) (part_of block 0 layout.argument)) (directive_options name (drop layout.options run))
+unfoldable pub directive_by_layout : Kind → Part → ℕ → List Text → Layout → Result Read Wrong
+directive_by_layout kind block all run layout =
+    read_parts kind (content_of block layout all) (argument_of kind.argument (take layout.argument run) (part_of block 0 layout.argument)) (directive_options kind.options (drop layout.options run))
 
 -- what the block of a directive holds, or the first that is wrong: its options, then its argument
-unfoldable pub read_block : Name → Bool → Part → Block → Result Read Wrong
-read_block name late block H = directive_by_layout name block (length H) (run_in name late H) (layout_of name (run_in name late H) H)
+unfoldable pub read_block : Kind → Bool → Part → Block → Result Read Wrong
+read_block kind late block H = directive_by_layout kind block (length H) (run_in kind late H) (layout_of kind (run_in kind late H) H)
 
 -- ---- the directive
 
@@ -87,22 +83,22 @@ is_late at block = nat_lt at block.from && nat_lt 1 (block.from - at)
 abbrev pub of_block : Result Read Wrong → Result Read Fault
 of_block read = result_map_both (λ read. read) inside read
 
--- a directive of this name, by its block
-abbrev pub read_at : Block → ℕ → Part → Name → Result Read Fault
-read_at B at block name = of_block (read_block name (is_late at block) block (cut B block.from block.to block.first_cut block.rest_cut))
+-- a directive of this kind, by its block
+abbrev pub read_at : Block → ℕ → Part → Kind → Result Read Fault
+read_at B at block kind = of_block (read_block kind (is_late at block) block (cut B block.from block.to block.first_cut block.rest_cut))
 
 -- a directive, unless its content has a fault
 abbrev pub judged_directive : Place → Bool → Read → Result Read Fault
-judged_directive place paragraph read = unless (option_map fault_in (content_fault read.name (is_empty read.content) place paragraph)) (Ok read)
+judged_directive place paragraph read = unless (option_map fault_in (content_fault read.kind (is_empty read.content) place paragraph)) (Ok read)
 
--- a name, if it is that of a directive that is allowed there, or the fault of the name
-abbrev pub named_directive : Option Name → Place → Result Name Fault
-named_directive name place = result_map_both (λ name. name) fault_in (permitted name place)
+-- the kind of a directive, if there is one and it is allowed there, or the fault
+abbrev pub named_directive : Option Kind → Place → Result Kind Fault
+named_directive kind place = result_map_both (λ kind. kind) fault_in (permitted kind place)
 
--- What the directive of a name is that is called in the line at a place of a block, with this block of its own; `paragraph` is true if
+-- What the directive of a kind is that is called in the line at a place of a block, with this block of its own; `paragraph` is true if
 -- that is a single paragraph. The faults are looked for in this order: of its name, of its options, of its argument, of its content.
-unfoldable pub directive_of : Option Name → Block → ℕ → Part → Place → Bool → Outcome
-directive_of name B at block place paragraph = directive_outcome_at (source_lines_at at block) (and_then (judged_directive place paragraph) (and_then (read_at B at block) (named_directive name place)))
+unfoldable pub directive_of : Option Kind → Block → ℕ → Part → Place → Bool → Outcome
+directive_of kind B at block place paragraph = directive_outcome_at (source_lines_at at block) (and_then (judged_directive place paragraph) (and_then (read_at B at block) (named_directive kind place)))
 
 -- what the directive is that is called there; `code` is true if those for program code are directives
 abbrev pub directive_at : Bool → Block → ℕ → Invocation → Place → Bool → Outcome
@@ -112,7 +108,7 @@ directive_at code B at call place paragraph = directive_of (called_at code B at 
 
 -- the meaning of a right directive
 abbrev pub read_in : Reading → Read
-read_in reading = record { name = reading.name; argument = given_in reading.argument; options = choices_in reading.options.items; content = reading.content }
+read_in reading = record { kind = reading.kind; argument = given_in reading.argument; options = choices_in reading.options.items; content = reading.content }
 
 -- the meaning of a right directive, or what is wrong with it
 abbrev pub reading_in : Result Reading Detail → Result Read Wrong
@@ -121,5 +117,5 @@ reading_in (Err detail) = Err (wrong_in detail)
 
 -- the meaning of a directive, right or wrong
 abbrev pub directive_outcome : Directive → Outcome
-directive_outcome (FoundDirective name argument options content) = found (record { name = name; argument = given_in argument; options = choices_in options.items; content = content })
+directive_outcome (FoundDirective kind argument options content) = found (record { kind = kind; argument = given_in argument; options = choices_in options.items; content = content })
 directive_outcome (WrongDirective fault source) = wrong (fault_in fault) source

@@ -7,13 +7,12 @@ use Rattle.rst_text.specs.Block.{Block}
 use Rattle.rst_markup_lines.specs.Field.{field_of}
 use Rattle.rst_markup_directives.specs.Characters.{Text}
 use Rattle.rst_markup_directives.specs.Lines.{after_blank}
-use Rattle.rst_markup_directives.specs.Name.{takes, holds}
 use Rattle.rst_markup_directives.specs.declared.layout.Layout.{Layout}
-use Rattle.rst_markup_directives.specs.declared.name.Name.{Name}
-use Rattle.rst_markup_directives.specs.declared.name.Takes.{Takes}
-use Rattle.rst_markup_directives.specs.declared.name.Takes.TheVariants.{Nothing}
-use Rattle.rst_markup_directives.specs.declared.name.Holds.{Holds}
-use Rattle.rst_markup_directives.specs.declared.name.Holds.TheVariants.{Paragraph}
+use Rattle.rst_markup_directives.specs.declared.kind.Kind.{Kind}
+use Rattle.rst_markup_directives.specs.declared.kind.ArgumentKind.{ArgumentKind}
+use Rattle.rst_markup_directives.specs.declared.kind.ArgumentKind.TheVariants.{Absent}
+use Rattle.rst_markup_directives.specs.declared.kind.ContentKind.{ContentKind}
+use Rattle.rst_markup_directives.specs.declared.kind.ContentKind.TheVariants.{Paragraph}
 
 -- a line begins a field (Markup Specification, 'Field Lists')
 unfoldable pub begins_field : Text → Bool
@@ -39,18 +38,18 @@ parts_without_argument run all rest =
     if before_field run == length run then content_alone run all
     else record { argument = 0; first = before_field run; options = before_field run; second = rest }
 
--- a block by what its directive holds and takes: a paragraph alone leaves no room for options
-abbrev pub layout_by : Holds → Takes → List Text → ℕ → ℕ → Layout
-layout_by Paragraph takes run all rest = content_alone run all
-layout_by _ Nothing run all rest = parts_without_argument run all rest
+-- a block by the content and the argument that its directive takes: a paragraph alone leaves no room for options
+abbrev pub layout_by : ContentKind → ArgumentKind → List Text → ℕ → ℕ → Layout
+layout_by Paragraph argument run all rest = content_alone run all
+layout_by _ Absent run all rest = parts_without_argument run all rest
 layout_by _ _ run all rest = parts_with_argument run rest
 
 -- the parts of a block of `all` lines that begins with this run; `rest` is the place of the first line after the run that
 -- isn't blank
-unfoldable pub layout_at : Name → List Text → ℕ → ℕ → Layout
-layout_at name run all rest = layout_by (holds name) (takes name) run all rest
+unfoldable pub layout_at : Kind → List Text → ℕ → ℕ → Layout
+layout_at kind run all rest = layout_by kind.content kind.argument run all rest
 
 -- The parts of a block that begins with this run of lines, which hold the argument and the options: the argument up to the
 -- first option, the options up to the end of the run, and the content after the blank lines after it.
-abbrev pub layout_of : Name → List Text → Block → Layout
-layout_of name run H = layout_at name run (length H) (after_blank H (length run))
+abbrev pub layout_of : Kind → List Text → Block → Layout
+layout_of kind run H = layout_at kind run (length H) (after_blank H (length run))

@@ -2,7 +2,7 @@ pub mod Characters
 pub mod Escapes
 pub mod Measure
 pub mod OptionName
-pub mod Name
+pub mod Kind
 pub mod Faults
 pub mod Lines
 pub mod Layout

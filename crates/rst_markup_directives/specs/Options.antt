@@ -8,12 +8,12 @@ use Rattle.rst_markup_lines.specs.Field.{field_of}
 use Rattle.rst_markup_lines.specs.TextStart.{begins_with}
 use Rattle.rst_markup_directives.specs.Characters.{Text, is_same_word}
 use Rattle.rst_markup_directives.specs.Lines.{joined_nonempty}
-use Rattle.rst_markup_directives.specs.Name.{has_option}
+use Rattle.rst_markup_directives.specs.Kind.{has_option}
 use Rattle.rst_markup_directives.specs.OptionName.{option_named}
 use Rattle.rst_markup_directives.specs.Value.{Meaning, meaning_of, option_meaning}
 use Rattle.rst_markup_directives.specs.Wrong.{Wrong, and_then, unless, unknown, duplicate, invalid, wrong_in}
 use Rattle.rst_markup_directives.specs.declared.fault.Detail.{Detail}
-use Rattle.rst_markup_directives.specs.declared.name.Name.{Name}
+use Rattle.rst_markup_directives.specs.declared.kind.OptionSet.{OptionSet}
 use Rattle.rst_markup_directives.specs.declared.option.OptionName.{OptionName}
 use Rattle.rst_markup_directives.specs.declared.options.Field.{Field}
 use Rattle.rst_markup_directives.specs.declared.options.Setting.{Setting}
@@ -63,12 +63,12 @@ fields_in ts = fields_of (groups ts)
 -- ---- what is wrong with them
 
 -- the directive has no option of this name
-abbrev pub is_unknown : Name → Text → Bool
-is_unknown directive name = not (option_map_or (has_option directive) (option_named name) false)
+abbrev pub is_unknown : OptionSet → Text → Bool
+is_unknown options name = not (option_map_or (has_option options) (option_named name) false)
 
 -- the name of the first field that names no option of the directive
-abbrev pub first_unknown : Name → List FieldText → Option Text
-first_unknown directive fs = option_map (λ f. f.0) (find (λ f. is_unknown directive f.0) fs)
+abbrev pub first_unknown : OptionSet → List FieldText → Option Text
+first_unknown options fs = option_map (λ f. f.0) (find (λ f. is_unknown options f.0) fs)
 
 -- the name is that of one of the fields
 abbrev pub is_field_name : Text → List FieldText → Bool
@@ -84,26 +84,26 @@ abbrev pub OptionSetting : Type 0
 OptionSetting = OptionName × Meaning
 
 -- what a field chooses, if there is such an option, and it can have the value
-abbrev pub option_setting : Name → FieldText → Option OptionSetting
-option_setting directive f = option_and_then (λ option. option_map (λ meaning. (option, meaning)) (option_meaning directive option f.1)) (option_named f.0)
+abbrev pub option_setting : OptionSet → FieldText → Option OptionSetting
+option_setting options f = option_and_then (λ option. option_map (λ meaning. (option, meaning)) (option_meaning options option f.1)) (option_named f.0)
 
 -- a choice before others; without one the value of the option of this name is invalid
 abbrev pub onto_choices : Option OptionSetting → Text → Result (List OptionSetting) Wrong → Result (List OptionSetting) Wrong
 onto_choices choice name choices = and_then (λ first. and_then (λ others. Ok (first ∷ others)) choices) (ok_or choice (invalid name))
 
 -- what fields choose, or the first that can't have its value
-abbrev pub choices_of : Name → List FieldText → Result (List OptionSetting) Wrong
-choices_of directive [] = Ok []
-choices_of directive (f ∷ fs) = onto_choices (option_setting directive f) f.0 (choices_of directive fs)
+abbrev pub choices_of : OptionSet → List FieldText → Result (List OptionSetting) Wrong
+choices_of options [] = Ok []
+choices_of options (f ∷ fs) = onto_choices (option_setting options f) f.0 (choices_of options fs)
 
 -- what is wrong with the names of fields: of all of them an unknown one, then a duplicate one
-abbrev pub wrong_name : Name → List FieldText → Option Wrong
-wrong_name directive fs = option_or (option_map unknown (first_unknown directive fs)) (option_map duplicate (first_again [] fs))
+abbrev pub wrong_name : OptionSet → List FieldText → Option Wrong
+wrong_name options fs = option_or (option_map unknown (first_unknown options fs)) (option_map duplicate (first_again [] fs))
 
 -- What the fields of a directive choose, or what is wrong: of all fields an unknown option, then a duplicate one, then a
 -- value that an option can't have.
-unfoldable pub settings_in : Name → List FieldText → Result (List OptionSetting) Wrong
-settings_in directive fs = unless (wrong_name directive fs) (choices_of directive fs)
+unfoldable pub settings_in : OptionSet → List FieldText → Result (List OptionSetting) Wrong
+settings_in options fs = unless (wrong_name options fs) (choices_of options fs)
 
 -- ---- as they are kept
 

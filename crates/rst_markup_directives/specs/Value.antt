@@ -7,10 +7,10 @@ use Rattle.rst_text.specs.Names.{words_of, id_of, name_of}
 use Rattle.rst_text.specs.Text.{chars_of}
 use Rattle.rst_markup_directives.specs.Characters.{Text}
 use Rattle.rst_markup_directives.specs.Measure.{measure_of, scale_of, alignment_of}
-use Rattle.rst_markup_directives.specs.Name.{has_vertical}
+use Rattle.rst_markup_directives.specs.Kind.{has_vertical}
 use Rattle.rst_markup_directives.specs.Target.{Destination, destination_of, target_value}
 use Rattle.rst_markup_directives.specs.declared.measure.Alignment.{Alignment}
-use Rattle.rst_markup_directives.specs.declared.name.Name.{Name}
+use Rattle.rst_markup_directives.specs.declared.kind.OptionSet.{OptionSet}
 use Rattle.rst_markup_directives.specs.declared.option.OptionName.{OptionName}
 use Rattle.rst_markup_directives.specs.declared.option.OptionName.TheVariants.{Alt, Height, Width, Scale, Align, Target, Class, Name as NameOption, FigureWidth, FigureClass}
 use Rattle.rst_markup_directives.specs.declared.value.OptionValue.{OptionValue}
@@ -44,17 +44,17 @@ abbrev pub called_by : Text → Meaning
 called_by t = called (name_of t)
 
 -- the meaning of an option's value, if the option can have it
-abbrev pub option_meaning : Name → OptionName → Text → Option Meaning
-option_meaning directive Alt t = Some (plain t)
-option_meaning directive Height t = option_map measured (measure_of t false false)
-option_meaning directive Width t = option_map measured (measure_of t true false)
-option_meaning directive Scale t = option_map numbered (scale_of t)
-option_meaning directive Align t = option_map placed (alignment_of t (has_vertical directive))
-option_meaning directive Target t = option_map (λ to. linked to t) (target_value t)
-option_meaning directive Class t = option_map classed (ids_of t)
-option_meaning directive NameOption t = Some (called_by t)
-option_meaning directive FigureWidth t = option_map measured (measure_of t true true)
-option_meaning directive FigureClass t = option_map classed (ids_of t)
+abbrev pub option_meaning : OptionSet → OptionName → Text → Option Meaning
+option_meaning options Alt t = Some (plain t)
+option_meaning options Height t = option_map measured (measure_of t false false)
+option_meaning options Width t = option_map measured (measure_of t true false)
+option_meaning options Scale t = option_map numbered (scale_of t)
+option_meaning options Align t = option_map placed (alignment_of t (has_vertical options))
+option_meaning options Target t = option_map (λ to. linked to t) (target_value t)
+option_meaning options Class t = option_map classed (ids_of t)
+option_meaning options NameOption t = Some (called_by t)
+option_meaning options FigureWidth t = option_map measured (measure_of t true true)
+option_meaning options FigureClass t = option_map classed (ids_of t)
 
 -- ---- as they are kept
 

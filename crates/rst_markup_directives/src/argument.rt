@@ -8,7 +8,7 @@ ghost use Rattle.rst_markup_directives.specs.Lines.{joined_nonempty, texts_of};
 
 use super::characters::{has_character, text_from};
 use super::fault::{Detail, MarkupFault};
-use super::name::{Name, Takes};
+use super::kind::ArgumentKind;
 use super::options::joined_nonempty;
 use rst_markup_blocks::Part;
 use rst_text::{characters_of, normalized_white, without_white};
@@ -27,21 +27,21 @@ pub enum Argument {
     Language(String),
 }
 
-/// The argument that some lines of a directive are, or what is wrong with it. `part` is where the lines are.
+/// The argument of a kind that some lines of a directive are, or what is wrong with it. `part` is where the lines are.
 pub(crate) fn argument_of(
     alloc: Global,
-    name: Name,
+    kind: ArgumentKind,
     lines: &[&str],
     part: Part,
 ) -> Result<Result<Argument, Detail>, MarkupFault>
-    ensures { Gives (λ argument. spec.argument_in argument ≡ spec.argument_of name (texts_of lines.now) part) result }
+    ensures { Gives (λ argument. spec.argument_in argument ≡ spec.argument_of kind (texts_of lines.now) part) result }
 {
-    match (name.takes(), lines) {
-        (Takes::Nothing, _) | (Takes::Language, []) => Ok(Ok(Argument::Absent)),
-        (Takes::Title | Takes::Uri, []) => Ok(Err(Detail::NoArgument)),
-        (Takes::Title, _) => Ok(Ok(Argument::Title(part))),
-        (Takes::Uri, _) => uri_of(alloc, lines),
-        (Takes::Language, _) => language_of(alloc, lines),
+    match (kind, lines) {
+        (ArgumentKind::Absent, _) | (ArgumentKind::Language, []) => Ok(Ok(Argument::Absent)),
+        (ArgumentKind::Title | ArgumentKind::Uri, []) => Ok(Err(Detail::NoArgument)),
+        (ArgumentKind::Title, _) => Ok(Ok(Argument::Title(part))),
+        (ArgumentKind::Uri, _) => uri_of(alloc, lines),
+        (ArgumentKind::Language, _) => language_of(alloc, lines),
     }
 }
 

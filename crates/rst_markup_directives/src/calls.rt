@@ -13,15 +13,15 @@ use super::argument::{Argument, argument_of};
 use super::fault::{Detail, DirectiveFault, MarkupFault};
 use super::found::{Content, Directive, Place};
 use super::judgement::{content_fault, permitted};
+use super::kind::{ContentKind, Kind};
 use super::layout::{Layout, layout_of};
 use super::lines::run_of;
-use super::name::Name;
 use super::options::{Setting, excerpt, fields_of, settings_of};
 use rst_markup_blocks::{Invocation, LineTest, Part, lines_end};
 use rst_text::{Looks, View};
 use std::alloc::Global;
 
-/// The directive that is called at line `at` of a view, if there is one of that name.
+/// The kind of the directive that is called at line `at` of a view, if there is one of that name.
 ///
 /// The only refusal is [`MarkupFault::NoMemory`].
 pub fn called(
@@ -30,16 +30,16 @@ pub fn called(
     at: usize,
     invocation: &Invocation,
     looks: &mut Looks,
-) -> Result<Option<Name>, MarkupFault>
+) -> Result<Option<Kind>, MarkupFault>
     requires call { IsCall (block_of view.now) at invocation.now }
-    ensures name { Gives (λ name. name ≡ spec.called_at true (block_of view.now) at invocation.now) result }
+    ensures kind { Gives (λ kind. kind ≡ spec.called_at true (block_of view.now) at invocation.now) result }
     ensures looks { looks.new ≡ capped (looks.old + 1) }
 {
     let name = excerpt(alloc, view.line(at, looks), invocation.name)?;
-    Ok(Name::of(&name))
+    Ok(Kind::of(&name))
 }
 
-/// What the directive of a name is that is called at line `at` of a view with this block, or what is wrong with it. `paragraph`
+/// What the directive of a kind is that is called at line `at` of a view with this block, or what is wrong with it. `paragraph`
 /// is true if the block is a single paragraph, which counts for `replace` alone. It makes at most one look more than the
 /// block has lines.
 ///
@@ -47,7 +47,7 @@ pub fn called(
 #[tactic(auto, unfolding(crate::specs::Directive::directive_of))]
 pub fn directive(
     alloc: Global,
-    name: Option<Name>,
+    kind: Option<Kind>,
     view: &View<'_>,
     at: usize,
     block: Part,
@@ -56,7 +56,7 @@ pub fn directive(
     looks: &mut Looks,
 ) -> Result<Directive, MarkupFault>
     requires block { IsBlock (block_of view.now) block }
-    ensures outcome { Gives (λ found. directives.directive_outcome found ≡ directives.directive_of name (block_of view.now) at block place paragraph) result }
+    ensures outcome { Gives (λ found. directives.directive_outcome found ≡ directives.directive_of kind (block_of view.now) at block place paragraph) result }
     ensures parts { Gives (λ found. spec.IsDirectiveIn (block_of view.now) found) result }
     ensures looked { Looked 0 (1 + (block.to - block.from)) looks.old looks.new }
 {
@@ -66,11 +66,11 @@ pub fn directive(
         first_cut: 0,
         rest_cut: 0,
     };
-    match permitted(name, place) {
-        Ok(name) => {
+    match permitted(kind, place) {
+        Ok(kind) => {
             // The block begins after the line after the directive's.
             let late = 1 < block.from.saturating_sub(at);
-            let reading = read(alloc, name, late, view, block, looks)?;
+            let reading = read(alloc, kind, late, view, block, looks)?;
             Ok(judged_directive(reading, place, paragraph, source))
         }
         Err(fault) => Ok(Directive::Wrong { fault, source }),
@@ -80,7 +80,7 @@ pub fn directive(
 /// A directive whose options and argument are right.
 #[derive(Drop)]
 struct Reading {
-    name: Name,
+    kind: Kind,
     argument: Argument,
     options: Vec<Setting>,
     content: Content,
@@ -91,31 +91,28 @@ struct Reading {
 #[tactic(auto, using(crate::proofs::Parts::length_cut))]
 fn read(
     alloc: Global,
-    name: Name,
+    kind: Kind,
     late: bool,
     view: &View<'_>,
     block: Part,
     looks: &mut Looks,
 ) -> Result<Result<Reading, Detail>, MarkupFault>
     requires block { IsBlock (block_of view.now) block }
-    ensures reading { Gives (λ reading. directives.reading_in reading ≡ directives.read_block name late block (cut (block_of view.now) block.from block.to block.first_cut block.rest_cut)) result }
+    ensures reading { Gives (λ reading. directives.reading_in reading ≡ directives.read_block kind late block (cut (block_of view.now) block.from block.to block.first_cut block.rest_cut)) result }
     ensures looked { Looked 0 (1 + (block.to - block.from)) looks.old looks.new }
 {
     let lines = view.part(block.from, block.to, block.first_cut, block.rest_cut);
-    let none = match name {
-        Name::Code => late,
-        _ => false,
-    };
+    let none = late && kind.content == ContentKind::Lines;
     let run = run_of(alloc, none, &lines, looks)?;
     let rest = lines_end(&lines, run.len(), LineTest::Blank, looks);
-    read_run(alloc, name, block, &run, rest)
+    read_run(alloc, kind, block, &run, rest)
 }
 
 /// Reads a block by its first run of lines; `rest` is the place of the first line after it that isn't blank.
 #[tactic(auto, using(crate::proofs::FieldLemmas::texts_take, crate::proofs::FieldLemmas::texts_after), unfolding(crate::specs::Directive::directive_by_layout))]
 fn read_run(
     alloc: Global,
-    name: Name,
+    kind: Kind,
     block: Part,
     run: &[&str],
     rest: usize,
@@ -123,22 +120,22 @@ fn read_run(
     requires ordered { block.from ≤ block.to }
     requires run { length run.now ≤ block.to - block.from }
     requires rest { rest ≤ block.to - block.from }
-    ensures { Gives (λ reading. directives.reading_in reading ≡ directives.directive_by_layout name block (block.to - block.from) (texts_of run.now) (layouts.layout_at name (texts_of run.now) (block.to - block.from) rest)) result }
+    ensures { Gives (λ reading. directives.reading_in reading ≡ directives.directive_by_layout kind block (block.to - block.from) (texts_of run.now) (layouts.layout_at kind (texts_of run.now) (block.to - block.from) rest)) result }
 {
     let all = block.to - block.from;
-    let layout = layout_of(name, run, all, rest);
+    let layout = layout_of(kind, run, all, rest);
     let content = content_of(block, layout, all);
     let part = part_of(block, 0, layout.argument);
     let Some(fields) = fields_of(alloc, &run[layout.options..])? else {
         return Ok(Err(Detail::InvalidOptionBlock));
     };
-    let options = match settings_of(alloc, name, &fields)? {
+    let options = match settings_of(alloc, kind.options, &fields)? {
         Ok(options) => options,
         Err(detail) => return Ok(Err(detail)),
     };
-    match argument_of(alloc, name, &run[..layout.argument], part)? {
+    match argument_of(alloc, kind.argument, &run[..layout.argument], part)? {
         Ok(argument) => Ok(Ok(Reading {
-            name,
+            kind,
             argument,
             options,
             content,
@@ -194,7 +191,7 @@ fn judged_directive(
     ensures { directives.directive_outcome result ≡ directives.directive_outcome_at source (and_then (directives.judged_directive place paragraph) (directives.of_block (directives.reading_in reading))) }
 {
     let Reading {
-        name,
+        kind,
         argument,
         options,
         content,
@@ -205,10 +202,10 @@ fn judged_directive(
             return Directive::Wrong { fault, source };
         }
     };
-    match content_fault(name, is_empty(content), place, paragraph) {
+    match content_fault(kind, is_empty(content), place, paragraph) {
         Some(fault) => Directive::Wrong { fault, source },
         None => Directive::Found {
-            name,
+            kind,
             argument,
             options,
             content,

@@ -1,7 +1,7 @@
 //! What a directive is.
 use super::argument::Argument;
 use super::fault::DirectiveFault;
-use super::name::Name;
+use super::kind::Kind;
 use super::options::Setting;
 use rst_markup_blocks::Part;
 
@@ -28,7 +28,7 @@ pub struct Content {
 pub enum Directive {
     /// A right one: its options are in the order of the source.
     Found {
-        name: Name,
+        kind: Kind,
         argument: Argument,
         options: Vec<Setting>,
         content: Content,

@@ -4,18 +4,19 @@ ghost use Rattle.rst_markup_directives.specs.Judgement as spec;
 
 use super::fault::{Detail, DirectiveFault};
 use super::found::Place;
-use super::name::{Holds, Name};
+use super::kind::{Allowed, ContentKind, Kind};
 
-/// The directive of a name, if there is one and it is allowed at a place; or the fault.
+/// The kind of a directive, if there is one and it is allowed there; or the fault.
 #[tactic(auto, unfolding(crate::specs::Judgement::permitted))]
-pub(crate) fn permitted(name: Option<Name>, place: Place) -> Result<Name, DirectiveFault>
-    ensures { result ≡ spec.permitted name place }
+pub(crate) fn permitted(kind: Option<Kind>, place: Place) -> Result<Kind, DirectiveFault>
+    ensures { result ≡ spec.permitted kind place }
 {
-    match (name, place) {
-        (Some(Name::Image), Place::Substitution) => Ok(Name::Image),
-        (Some(Name::Replace), Place::Substitution) => Ok(Name::Replace),
+    match (kind, place) {
+        (Some(kind), Place::Top | Place::Body) => Ok(kind),
+        (Some(kind), _) if matches!(kind.allowed, Allowed::Substitution | Allowed::Anywhere) => {
+            Ok(kind)
+        }
         (_, Place::Substitution) => Err(DirectiveFault::NotInSubstitution),
-        (Some(name), _) => Ok(name),
         (None, _) => Err(DirectiveFault::Unknown),
     }
 }
@@ -23,25 +24,33 @@ pub(crate) fn permitted(name: Option<Name>, place: Place) -> Result<Name, Direct
 /// The fault of a directive's content, which is empty or not, and maybe a single paragraph.
 #[tactic(auto, unfolding(crate::specs::Judgement::content_fault))]
 pub(crate) fn content_fault(
-    name: Name,
+    kind: Kind,
     empty: bool,
     place: Place,
     paragraph: bool,
 ) -> Option<DirectiveFault>
-    ensures { result ≡ spec.content_fault name empty place paragraph }
+    ensures { result ≡ spec.content_fault kind empty place paragraph }
 {
-    match (name.holds(), empty) {
-        (Holds::Figure, _) | (Holds::Nothing, true) => None,
-        (Holds::Nothing, false) => Some(DirectiveFault::Inside(Detail::ContentNotPermitted)),
-        (Holds::Required | Holds::Paragraph, true) => Some(DirectiveFault::NoContent),
-        (Holds::Required, false) => match (name, place) {
-            (Name::Topic, Place::Body | Place::Substitution) => Some(DirectiveFault::TopicNotHere),
-            _ => None,
-        },
-        (Holds::Paragraph, false) => match place {
-            _ if !paragraph => Some(DirectiveFault::Inside(Detail::NotOneParagraph)),
-            Place::Substitution => None,
-            _ => Some(DirectiveFault::ReplaceNotHere),
-        },
+    match (kind.content, empty) {
+        (ContentKind::Empty, false) => Some(DirectiveFault::Inside(Detail::ContentNotPermitted)),
+        (ContentKind::Lines | ContentKind::Blocks | ContentKind::Paragraph, true) => {
+            Some(DirectiveFault::NoContent)
+        }
+        (ContentKind::Paragraph, false) if !paragraph => {
+            Some(DirectiveFault::Inside(Detail::NotOneParagraph))
+        }
+        _ => place_fault(kind.allowed, place),
+    }
+}
+
+/// The fault of a directive's place.
+fn place_fault(allowed: Allowed, place: Place) -> Option<DirectiveFault>
+    ensures { result ≡ spec.place_fault allowed place }
+{
+    match (allowed, place) {
+        (Allowed::Sections, Place::Top) | (Allowed::Substitution, Place::Substitution) => None,
+        (Allowed::Sections, _) => Some(DirectiveFault::TopicNotHere),
+        (Allowed::Substitution, _) => Some(DirectiveFault::ReplaceNotHere),
+        _ => None,
     }
 }

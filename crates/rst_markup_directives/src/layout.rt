@@ -3,7 +3,7 @@ ghost use Rattle.std.specs.Prelude.{◌≡◌, ◌≤◌, length};
 ghost use Rattle.rst_markup_directives.specs.Lines.{texts_of};
 ghost use Rattle.rst_markup_directives.specs.Layout as spec;
 
-use super::name::{Holds, Name, Takes};
+use super::kind::{ArgumentKind, ContentKind, Kind};
 use rst_markup_lines::field_of;
 
 /// The parts of a block, by places of its lines: the argument has those before `argument`; the first part of the
@@ -34,16 +34,16 @@ fn before_field(run: &[&str]) -> usize
 /// The parts of a block of `all` lines that begins with this run, up to a blank line; `rest` is the place of the first line
 /// after the run that isn't blank.
 #[tactic(auto, unfolding(crate::specs::Layout::layout_at))]
-pub(crate) fn layout_of(name: Name, run: &[&str], all: usize, rest: usize) -> Layout
-    ensures value { result ≡ spec.layout_at name (texts_of run.now) all rest }
+pub(crate) fn layout_of(kind: Kind, run: &[&str], all: usize, rest: usize) -> Layout
+    ensures value { result ≡ spec.layout_at kind (texts_of run.now) all rest }
     ensures argument { result.argument ≤ length run.now }
     ensures options { result.options ≤ length run.now }
     ensures first { length run.now ≤ all → result.first ≤ all }
     ensures second { rest ≤ all → result.second ≤ all }
 {
-    match (name.holds(), name.takes()) {
-        (Holds::Paragraph, _) => content_alone(run, all),
-        (_, Takes::Nothing) => parts_without_argument(run, all, rest),
+    match (kind.content, kind.argument) {
+        (ContentKind::Paragraph, _) => content_alone(run, all),
+        (_, ArgumentKind::Absent) => parts_without_argument(run, all, rest),
         _ => {
             // The argument ends where the options begin.
             let from = before_field(run);

@@ -8,8 +8,8 @@ ghost use Rattle.rst_markup_directives.specs.Options as spec;
 
 use super::characters::{is_same_word, text_from};
 use super::fault::{Detail, MarkupFault};
+use super::kind::OptionSet;
 use super::lines::add_line;
-use super::name::Name;
 use super::option::OptionName;
 use super::value::{OptionValue, option_value};
 use rst_markup_lines::{Characters, begins_with, field_of};
@@ -111,19 +111,19 @@ pub(crate) fn fields_of(alloc: Global, run: &[&str]) -> Result<Option<Vec<Field>
     Ok(Some(fields))
 }
 
-/// The settings of a directive's fields, or what is wrong: of all fields, an unknown option, then a duplicate one, then
-/// a wrong value.
+/// The settings that fields are, of a directive with these options, or what is wrong: of all fields, an unknown option,
+/// then a duplicate one, then a wrong value.
 #[tactic(auto, unfolding(crate::specs::Options::settings_in))]
 pub(crate) fn settings_of(
     alloc: Global,
-    directive: Name,
+    options: OptionSet,
     fields: &[Field],
 ) -> Result<Result<Vec<Setting>, Detail>, MarkupFault>
-    ensures { Gives (λ settings. spec.choices_or_fault settings ≡ spec.settings_in directive (spec.field_texts fields.now)) result }
+    ensures { Gives (λ settings. spec.choices_or_fault settings ≡ spec.settings_in options (spec.field_texts fields.now)) result }
 {
     for field in fields {
         let option = OptionName::of(&field.name);
-        if !option.is_some_and(|option| directive.has_option(option)) {
+        if !option.is_some_and(|option| options.has(option)) {
             let name = text_from(alloc, &field.name)?;
             return Ok(Err(Detail::UnknownOption(name)));
         }
@@ -140,7 +140,7 @@ pub(crate) fn settings_of(
     let mut settings = Vec::new(alloc);
     for choice in fields {
         if let Some(option) = OptionName::of(&choice.name)
-            && let Some(value) = option_value(alloc, directive, option, &choice.value)?
+            && let Some(value) = option_value(alloc, options, option, &choice.value)?
         {
             settings.push(Setting { option, value })?;
             continue;

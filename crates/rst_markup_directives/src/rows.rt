@@ -2,14 +2,15 @@
 //! definition gives for a text that is written out.
 #![tactic(auto, unfolding(crate::proofs::Computing::rst_markup_directives))]
 
-ghost use Rattle.std.specs.Prelude.{◌≡◌, true, false, Some, None, Ok, Err, codes, ◌∷◌, ◌++◌, [], map, filter, is_some};
+ghost use Rattle.std.specs.Prelude.{◌≡◌, is_ok, option_map, true, false, Some, None, Ok, Err, codes, ◌∷◌, ◌++◌, [], map, filter, is_some};
 ghost use Rattle.rst_text.specs.Written.{block};
+ghost use Rattle.rst_tree.specs.declared.tag.Tag.TheVariants as tag;
 ghost use Rattle.rst_markup_directives.specs.Argument.{language, nothing, title, uri};
 ghost use Rattle.rst_markup_directives.specs.Directive.{directive_at, found, read_block, wrong};
 ghost use Rattle.rst_markup_directives.specs.Judgement.{content_fault, permitted};
 ghost use Rattle.rst_markup_directives.specs.Measure.{alignment_of, measure_of, scale_of};
 ghost use Rattle.rst_markup_directives.specs.Message.{fault_text, wrong_text};
-ghost use Rattle.rst_markup_directives.specs.Name.{directive_named, has_option};
+ghost use Rattle.rst_markup_directives.specs.Kind.{directive_named, has_option, kind};
 ghost use Rattle.rst_markup_directives.specs.OptionName.{option_named};
 ghost use Rattle.rst_markup_directives.specs.Options.{fields_in};
 ghost use Rattle.rst_markup_directives.specs.Target.{located, named, target_value};
@@ -20,19 +21,28 @@ ghost use Rattle.rst_markup_directives.specs.declared.fault.Detail.TheVariants.{
 ghost use Rattle.rst_markup_directives.specs.declared.fault.DirectiveFault.TheVariants.{Inside, NoContent, NotInSubstitution, ReplaceNotHere, TopicNotHere, Unknown};
 ghost use Rattle.rst_markup_directives.specs.declared.found.Place.TheVariants.{Body, Substitution, Top as Sections};
 ghost use Rattle.rst_markup_directives.specs.declared.measure.Alignment.TheVariants.{Bottom, Center, Left, Middle, Right, Top};
-ghost use Rattle.rst_markup_directives.specs.declared.name.Name.TheVariants.{Admonition, Attention, Caution, Code, Danger, Error, Figure, Hint, Image, Important, Note, Replace, Tip, Topic, Warning};
+ghost use Rattle.rst_markup_directives.specs.declared.kind.Allowed.TheVariants as allowed;
+ghost use Rattle.rst_markup_directives.specs.declared.kind.ArgumentKind.TheVariants.{Absent, Language, Title, Uri};
+ghost use Rattle.rst_markup_directives.specs.declared.kind.ContentKind.TheVariants.{Blocks, Caption, Empty, Lines, Paragraph};
+ghost use Rattle.rst_markup_directives.specs.declared.kind.OptionSet.TheVariants.{Common, Empty as NoOptions, Figure, Image};
 ghost use Rattle.rst_markup_directives.specs.declared.option.OptionName.TheVariants.{Align, Alt, Class, FigureClass, FigureWidth, Height, Name as NameOption, Scale, Target, Width};
 
 /// Which directive a name is of (Markup Specification, 'Directives').
 pub fn names()
     ensures admonitions { map (λ t. directive_named (codes t) false) ("attention" ∷ "caution" ∷ "danger" ∷ "error" ∷ "hint" ∷ "important" ∷ "note"
         ∷ "tip" ∷ "warning" ∷ [])
-        ≡ Some Attention ∷ Some Caution ∷ Some Danger ∷ Some Error ∷ Some Hint ∷ Some Important ∷ Some Note ∷ Some Tip ∷ Some Warning ∷ [] }
-    ensures others { map (λ t. directive_named (codes t) false) ("admonition" ∷ "topic" ∷ "image" ∷ "figure" ∷ "replace" ∷ [])
-        ≡ Some Admonition ∷ Some Topic ∷ Some Image ∷ Some Figure ∷ Some Replace ∷ [] }
-    ensures code { map (λ t. directive_named (codes t) true) ("code" ∷ "code-block" ∷ "sourcecode" ∷ []) ≡ Some Code ∷ Some Code ∷ Some Code ∷ [] }
+        ≡ map (λ element. Some (kind element Absent Common Blocks allowed.Body)) (tag.Attention ∷ tag.Caution ∷ tag.Danger ∷ tag.Error ∷ tag.Hint
+        ∷ tag.Important ∷ tag.Note ∷ tag.Tip ∷ tag.Warning ∷ []) }
+    ensures titled { map (λ t. directive_named (codes t) false) ("admonition" ∷ "topic" ∷ [])
+        ≡ Some (kind tag.Admonition Title Common Blocks allowed.Body) ∷ Some (kind tag.Topic Title Common Blocks allowed.Sections) ∷ [] }
+    ensures images { map (λ t. directive_named (codes t) false) ("image" ∷ "figure" ∷ [])
+        ≡ Some (kind tag.Image Uri Image Empty allowed.Anywhere) ∷ Some (kind tag.Figure Uri Figure Caption allowed.Body) ∷ [] }
+    ensures replace { directive_named (codes "replace") false ≡ Some (kind tag.Paragraph Absent NoOptions Paragraph allowed.Substitution) }
+    ensures code { map (λ t. directive_named (codes t) true) ("code" ∷ "code-block" ∷ "sourcecode" ∷ [])
+        ≡ (let code = Some (kind tag.LiteralBlock Language Common Lines allowed.Body) in code ∷ code ∷ code ∷ []) }
     ensures no_code { map (λ t. directive_named (codes t) false) ("code" ∷ "code-block" ∷ "sourcecode" ∷ []) ≡ None ∷ None ∷ None ∷ [] }
-    ensures case_of_letters { map (λ t. directive_named (codes t) true) ("NoTe" ∷ "Code-Block" ∷ "tıp" ∷ []) ≡ Some Note ∷ Some Code ∷ None ∷ [] }
+    ensures case_of_letters { map (λ t. directive_named (codes t) true) ("NoTe" ∷ "Code-Block" ∷ "tıp" ∷ [])
+        ≡ Some (kind tag.Note Absent Common Blocks allowed.Body) ∷ Some (kind tag.LiteralBlock Language Common Lines allowed.Body) ∷ None ∷ [] }
     ensures left_out { filter (λ t. is_some (directive_named (codes t) true)) ("raw" ∷ "include" ∷ "table" ∷ "csv-table" ∷ "list-table" ∷ "math"
         ∷ "contents" ∷ "class" ∷ "container" ∷ "rubric" ∷ "sidebar" ∷ "parsed-literal" ∷ "role" ∷ "unicode" ∷ "date" ∷ "notes" ∷ "not" ∷ [])
         ≡ [] }
@@ -51,9 +61,8 @@ pub fn option_names()
         ≡ Alt ∷ Height ∷ Width ∷ Scale ∷ Align ∷ Target ∷ Class ∷ NameOption ∷ [] }
     ensures figure { filter (λ o. has_option Figure o) (Alt ∷ Target ∷ Class ∷ NameOption ∷ FigureWidth ∷ FigureClass ∷ [])
         ≡ Alt ∷ Target ∷ Class ∷ NameOption ∷ FigureWidth ∷ FigureClass ∷ [] }
-    ensures note { filter (λ o. has_option Note o) (Alt ∷ Scale ∷ Align ∷ Target ∷ Class ∷ NameOption ∷ FigureClass ∷ []) ≡ Class ∷ NameOption ∷ [] }
-    ensures code { filter (λ o. has_option Code o) (Alt ∷ Width ∷ Class ∷ NameOption ∷ []) ≡ Class ∷ NameOption ∷ [] }
-    ensures replace { filter (λ o. has_option Replace o) (Alt ∷ Class ∷ NameOption ∷ []) ≡ [] }
+    ensures common { filter (λ o. has_option Common o) (Alt ∷ Scale ∷ Align ∷ Target ∷ Class ∷ NameOption ∷ FigureClass ∷ []) ≡ Class ∷ NameOption ∷ [] }
+    ensures none { filter (λ o. has_option NoOptions o) (Alt ∷ Class ∷ NameOption ∷ []) ≡ [] }
 {}
 
 /// Measures, scales and alignments (Markup Specification, 'Length Units').
@@ -102,7 +111,7 @@ pub fn values()
     ensures no_classes { map (λ t. ids_of (codes t)) ("" ∷ "a 1" ∷ []) ≡ None ∷ None ∷ [] }
     ensures empty_alt { option_meaning Image Alt (codes "") ≡ Some (plain []) }
     ensures alt { option_meaning Image Alt (codes "A\\ b") ≡ Some (plain (codes "A\\ b")) }
-    ensures name { option_meaning Note NameOption (codes "A\n  b") ≡ Some (called (codes "a b")) }
+    ensures name { option_meaning Common NameOption (codes "A\n  b") ≡ Some (called (codes "a b")) }
     ensures height { map (λ t. option_meaning Image Height (codes t)) ("50" ∷ "50%" ∷ []) ≡ Some (measured (codes "50")) ∷ None ∷ [] }
     ensures width { map (λ t. option_meaning Figure Width (codes t)) ("50" ∷ "50%" ∷ [])
         ≡ Some (measured (codes "50")) ∷ Some (measured (codes "50%")) ∷ [] }
@@ -121,9 +130,9 @@ pub fn option_blocks()
 
 /// The argument, options and content of a directive's block (Markup Specification, 'Directives').
 pub fn blocks()
-    ensures content_alone { read_block Note false (record { from = 0; to = 3; first_cut = 9; rest_cut = 3 }) (block ("a" ∷ "" ∷ ":class: b" ∷ []))
+    ensures content_alone { read_block (kind tag.Note Absent Common Blocks allowed.Body) false (record { from = 0; to = 3; first_cut = 9; rest_cut = 3 }) (block ("a" ∷ "" ∷ ":class: b" ∷ []))
         ≡ Ok (record {
-          name = Note;
+          kind = kind tag.Note Absent Common Blocks allowed.Body;
           argument = nothing;
           options = [];
           content = record {
@@ -131,10 +140,10 @@ pub fn blocks()
             second = record { from = 3; to = 3; first_cut = 3; rest_cut = 3 };
           };
         }) }
-    ensures two_parts { read_block Tip false (record { from = 5; to = 10; first_cut = 9; rest_cut = 3 }) (block ("a" ∷ ":class: b" ∷ "" ∷ "" ∷ "c"
+    ensures two_parts { read_block (kind tag.Tip Absent Common Blocks allowed.Body) false (record { from = 5; to = 10; first_cut = 9; rest_cut = 3 }) (block ("a" ∷ ":class: b" ∷ "" ∷ "" ∷ "c"
         ∷ []))
         ≡ Ok (record {
-          name = Tip;
+          kind = kind tag.Tip Absent Common Blocks allowed.Body;
           argument = nothing;
           options = (Class, classed (codes "b" ∷ []))
               ∷ [];
@@ -143,9 +152,9 @@ pub fn blocks()
             second = record { from = 9; to = 10; first_cut = 3; rest_cut = 3 };
           };
         }) }
-    ensures field_in_a_replacement { read_block Replace false (record { from = 0; to = 1; first_cut = 13; rest_cut = 0 }) (block (":class: a" ∷ []))
+    ensures field_in_a_replacement { read_block (kind tag.Paragraph Absent NoOptions Paragraph allowed.Substitution) false (record { from = 0; to = 1; first_cut = 13; rest_cut = 0 }) (block (":class: a" ∷ []))
         ≡ Ok (record {
-          name = Replace;
+          kind = kind tag.Paragraph Absent NoOptions Paragraph allowed.Substitution;
           argument = nothing;
           options = [];
           content = record {
@@ -153,9 +162,9 @@ pub fn blocks()
             second = record { from = 1; to = 1; first_cut = 0; rest_cut = 0 };
           };
         }) }
-    ensures late_code { read_block Code true (record { from = 2; to = 3; first_cut = 3; rest_cut = 3 }) (block (":class: c" ∷ []))
+    ensures late_code { read_block (kind tag.LiteralBlock Language Common Lines allowed.Body) true (record { from = 2; to = 3; first_cut = 3; rest_cut = 3 }) (block (":class: c" ∷ []))
         ≡ Ok (record {
-          name = Code;
+          kind = kind tag.LiteralBlock Language Common Lines allowed.Body;
           argument = nothing;
           options = [];
           content = record {
@@ -167,10 +176,10 @@ pub fn blocks()
 
 /// The arguments of directives (Markup Specification, 'Directives').
 pub fn arguments()
-    ensures with_title { read_block Topic false (record { from = 0; to = 5; first_cut = 10; rest_cut = 3 }) (block ("A" ∷ "B" ∷ ":name: C d" ∷ ""
+    ensures with_title { read_block (kind tag.Topic Title Common Blocks allowed.Sections) false (record { from = 0; to = 5; first_cut = 10; rest_cut = 3 }) (block ("A" ∷ "B" ∷ ":name: C d" ∷ ""
         ∷ "e" ∷ []))
         ≡ Ok (record {
-          name = Topic;
+          kind = kind tag.Topic Title Common Blocks allowed.Sections;
           argument = title (record { from = 0; to = 2; first_cut = 10; rest_cut = 3 });
           options = (NameOption, called (codes "c d"))
               ∷ [];
@@ -179,9 +188,9 @@ pub fn arguments()
             second = record { from = 4; to = 5; first_cut = 3; rest_cut = 3 };
           };
         }) }
-    ensures with_uri { read_block Image false (record { from = 0; to = 3; first_cut = 10; rest_cut = 3 }) (block ("a b" ∷ "c.png" ∷ ":Scale: 5" ∷ []))
+    ensures with_uri { read_block (kind tag.Image Uri Image Empty allowed.Anywhere) false (record { from = 0; to = 3; first_cut = 10; rest_cut = 3 }) (block ("a b" ∷ "c.png" ∷ ":Scale: 5" ∷ []))
         ≡ Ok (record {
-          name = Image;
+          kind = kind tag.Image Uri Image Empty allowed.Anywhere;
           argument = uri (codes "abc.png");
           options = (Scale, numbered 5)
               ∷ [];
@@ -190,9 +199,9 @@ pub fn arguments()
             second = record { from = 3; to = 3; first_cut = 3; rest_cut = 3 };
           };
         }) }
-    ensures backslash_in_a_uri { read_block Image false (record { from = 0; to = 2; first_cut = 10; rest_cut = 3 }) (block ("a b" ∷ "c\\ d" ∷ []))
+    ensures backslash_in_a_uri { read_block (kind tag.Image Uri Image Empty allowed.Anywhere) false (record { from = 0; to = 2; first_cut = 10; rest_cut = 3 }) (block ("a b" ∷ "c\\ d" ∷ []))
         ≡ Ok (record {
-          name = Image;
+          kind = kind tag.Image Uri Image Empty allowed.Anywhere;
           argument = uri (codes "abc\\d");
           options = [];
           content = record {
@@ -200,9 +209,9 @@ pub fn arguments()
             second = record { from = 2; to = 2; first_cut = 3; rest_cut = 3 };
           };
         }) }
-    ensures with_language { read_block Code false (record { from = 0; to = 3; first_cut = 9; rest_cut = 3 }) (block ("C++" ∷ "" ∷ ":a: b" ∷ []))
+    ensures with_language { read_block (kind tag.LiteralBlock Language Common Lines allowed.Body) false (record { from = 0; to = 3; first_cut = 9; rest_cut = 3 }) (block ("C++" ∷ "" ∷ ":a: b" ∷ []))
         ≡ Ok (record {
-          name = Code;
+          kind = kind tag.LiteralBlock Language Common Lines allowed.Body;
           argument = language (codes "C++");
           options = [];
           content = record {
@@ -214,21 +223,21 @@ pub fn arguments()
 
 /// What is wrong with an option or an argument, of which the first counts (Markup Specification, 'Directives').
 pub fn wrong_blocks()
-    ensures two_languages { read_block Code false (record { from = 0; to = 2; first_cut = 9; rest_cut = 3 }) (block ("a" ∷ "b" ∷ []))
+    ensures two_languages { read_block (kind tag.LiteralBlock Language Common Lines allowed.Body) false (record { from = 0; to = 2; first_cut = 9; rest_cut = 3 }) (block ("a" ∷ "b" ∷ []))
         ≡ Err many_arguments }
-    ensures unknown_option { read_block Image false (record { from = 0; to = 4; first_cut = 0; rest_cut = 0 }) (block (":scale: x" ∷ ":alt: a"
+    ensures unknown_option { read_block (kind tag.Image Uri Image Empty allowed.Anywhere) false (record { from = 0; to = 4; first_cut = 0; rest_cut = 0 }) (block (":scale: x" ∷ ":alt: a"
         ∷ ":alt: b" ∷ ":Foo: c" ∷ []))
         ≡ Err (unknown (codes "Foo")) }
-    ensures duplicate_option { read_block Image false (record { from = 0; to = 3; first_cut = 0; rest_cut = 0 }) (block (":scale: x" ∷ ":alt: a"
+    ensures duplicate_option { read_block (kind tag.Image Uri Image Empty allowed.Anywhere) false (record { from = 0; to = 3; first_cut = 0; rest_cut = 0 }) (block (":scale: x" ∷ ":alt: a"
         ∷ ":ALT: b" ∷ []))
         ≡ Err (duplicate (codes "ALT")) }
-    ensures invalid_value { read_block Image false (record { from = 0; to = 2; first_cut = 0; rest_cut = 0 }) (block (":alt: a" ∷ ":scale: x" ∷ []))
+    ensures invalid_value { read_block (kind tag.Image Uri Image Empty allowed.Anywhere) false (record { from = 0; to = 2; first_cut = 0; rest_cut = 0 }) (block (":alt: a" ∷ ":scale: x" ∷ []))
         ≡ Err (invalid (codes "scale")) }
-    ensures missing_argument { read_block Image false (record { from = 0; to = 1; first_cut = 0; rest_cut = 0 }) (block (":alt: a" ∷ []))
+    ensures missing_argument { read_block (kind tag.Image Uri Image Empty allowed.Anywhere) false (record { from = 0; to = 1; first_cut = 0; rest_cut = 0 }) (block (":alt: a" ∷ []))
         ≡ Err no_argument }
-    ensures option_for_an_argument { read_block Admonition true (record { from = 2; to = 3; first_cut = 3; rest_cut = 3 }) (block (":class: x" ∷ []))
+    ensures option_for_an_argument { read_block (kind tag.Admonition Title Common Blocks allowed.Body) true (record { from = 2; to = 3; first_cut = 3; rest_cut = 3 }) (block (":class: x" ∷ []))
         ≡ Err no_argument }
-    ensures text_among_options { read_block Note false (record { from = 0; to = 2; first_cut = 0; rest_cut = 0 }) (block (":class: a" ∷ "b" ∷ []))
+    ensures text_among_options { read_block (kind tag.Note Absent Common Blocks allowed.Body) false (record { from = 0; to = 2; first_cut = 0; rest_cut = 0 }) (block (":class: a" ∷ "b" ∷ []))
         ≡ Err option_block }
 {}
 
@@ -236,16 +245,22 @@ pub fn wrong_blocks()
 pub fn places()
     ensures unknown_name { permitted None Body ≡ Err Unknown }
     ensures unknown_in_a_definition { permitted None Substitution ≡ Err NotInSubstitution }
-    ensures in_a_definition { map (λ d. permitted (Some d) Substitution) (Image ∷ Replace ∷ Figure ∷ Note ∷ [])
-        ≡ Ok Image ∷ Ok Replace ∷ Err NotInSubstitution ∷ Err NotInSubstitution ∷ [] }
-    ensures without_content { map (λ d. content_fault d true Body false) (Note ∷ Admonition ∷ Topic ∷ Code ∷ Replace ∷ Image ∷ Figure ∷ [])
-        ≡ Some NoContent ∷ Some NoContent ∷ Some NoContent ∷ Some NoContent ∷ Some NoContent ∷ None ∷ None ∷ [] }
-    ensures with_content { map (λ d. content_fault d false Body true) (Note ∷ Topic ∷ Image ∷ Figure ∷ Replace ∷ [])
-        ≡ None ∷ Some TopicNotHere ∷ Some (Inside ContentNotPermitted) ∷ None ∷ Some ReplaceNotHere ∷ [] }
-    ensures topic { content_fault Topic false Sections false ≡ None }
-    ensures replacement { map (λ paragraph. content_fault Replace false Substitution paragraph) (true ∷ false ∷ [])
-        ≡ None ∷ Some (Inside NotOneParagraph) ∷ [] }
-    ensures two_paragraphs { content_fault Replace false Body false ≡ Some (Inside NotOneParagraph) }
+    ensures in_a_definition { filter (λ t. is_ok (permitted (directive_named (codes t) true) Substitution)) ("note" ∷ "topic" ∷ "image" ∷ "figure"
+        ∷ "replace" ∷ "code" ∷ [])
+        ≡ "image" ∷ "replace" ∷ [] }
+    ensures not_in_a_definition { permitted (directive_named (codes "figure") true) Substitution ≡ Err NotInSubstitution }
+    ensures without_content { map (λ t. option_map (λ k. content_fault k true Body false) (directive_named (codes t) true)) ("note" ∷ "admonition"
+        ∷ "topic" ∷ "code" ∷ "replace" ∷ "image" ∷ "figure" ∷ [])
+        ≡ map (λ fault. Some fault) (Some NoContent ∷ Some NoContent ∷ Some NoContent ∷ Some NoContent ∷ Some NoContent ∷ None ∷ None ∷ []) }
+    ensures with_content { map (λ t. option_map (λ k. content_fault k false Body true) (directive_named (codes t) true)) ("note" ∷ "topic" ∷ "image"
+        ∷ "figure" ∷ "replace" ∷ [])
+        ≡ map (λ fault. Some fault) (None ∷ Some TopicNotHere ∷ Some (Inside ContentNotPermitted) ∷ None ∷ Some ReplaceNotHere ∷ []) }
+    ensures topic { option_map (λ k. content_fault k false Sections false) (directive_named (codes "topic") true) ≡ Some None }
+    ensures replacement { map (λ paragraph. option_map (λ k. content_fault k false Substitution paragraph) (directive_named (codes "replace") true)) (true
+        ∷ false ∷ [])
+        ≡ Some None ∷ Some (Some (Inside NotOneParagraph)) ∷ [] }
+    ensures two_paragraphs { option_map (λ k. content_fault k false Body false) (directive_named (codes "replace") true)
+        ≡ Some (Some (Inside NotOneParagraph)) }
 {}
 
 /// Whole directives (Markup Specification, 'Directives').
@@ -253,7 +268,7 @@ pub fn directives()
     ensures figure { directive_at false (block (".. Figure:: a.png" ∷ "   :align: left" ∷ "" ∷ "   b"
         ∷ [])) 0 (record { name = record { from = 3; to = 9 }; block = record { from = 0; to = 4; first_cut = 12; rest_cut = 3 } }) Body false
         ≡ found (record {
-          name = Figure;
+          kind = kind tag.Figure Uri Figure Caption allowed.Body;
           argument = uri (codes "a.png");
           options = (Align, placed Left)
               ∷ [];
@@ -265,7 +280,7 @@ pub fn directives()
     ensures late { directive_at false (block (".. note::" ∷ "" ∷ "   :class: a" ∷ "" ∷ "   b"
         ∷ [])) 0 (record { name = record { from = 3; to = 7 }; block = record { from = 2; to = 5; first_cut = 3; rest_cut = 3 } }) Body false
         ≡ found (record {
-          name = Note;
+          kind = kind tag.Note Absent Common Blocks allowed.Body;
           argument = nothing;
           options = (Class, classed (codes "a" ∷ []))
               ∷ [];
@@ -277,7 +292,7 @@ pub fn directives()
     ensures late_code { directive_at true (block ("a" ∷ "" ∷ "" ∷ ".. code::" ∷ "" ∷ "   :class: c"
         ∷ [])) 3 (record { name = record { from = 3; to = 7 }; block = record { from = 5; to = 6; first_cut = 3; rest_cut = 3 } }) Body true
         ≡ found (record {
-          name = Code;
+          kind = kind tag.LiteralBlock Language Common Lines allowed.Body;
           argument = nothing;
           options = [];
           content = record {
@@ -288,7 +303,7 @@ pub fn directives()
     ensures code_in_the_next_line { directive_at true (block (".. code::" ∷ "   :class: c" ∷ "" ∷ "   b"
         ∷ [])) 0 (record { name = record { from = 3; to = 7 }; block = record { from = 1; to = 4; first_cut = 3; rest_cut = 3 } }) Body true
         ≡ found (record {
-          name = Code;
+          kind = kind tag.LiteralBlock Language Common Lines allowed.Body;
           argument = nothing;
           options = (Class, classed (codes "c" ∷ []))
               ∷ [];

@@ -6,8 +6,8 @@ ghost use Rattle.rst_markup_directives.specs.Value as spec;
 
 use super::characters::{is_empty_text, text_from};
 use super::fault::MarkupFault;
+use super::kind::OptionSet;
 use super::measure::{Alignment, alignment_of, measure_of, scale_of};
-use super::name::Name;
 use super::option::OptionName;
 use super::target::{Target, target_value};
 use rst_markup_lines::is_blank as is_empty;
@@ -36,11 +36,11 @@ pub enum OptionValue {
 /// What the value of an option of a directive means, or none where the option can't have it.
 pub(crate) fn option_value(
     alloc: Global,
-    directive: Name,
+    options: OptionSet,
     option: OptionName,
     value: &[char],
 ) -> Result<Option<OptionValue>, MarkupFault>
-    ensures { Gives (λ meaning. option_map spec.meaning_of meaning ≡ spec.option_meaning directive option value.now) result }
+    ensures { Gives (λ meaning. option_map spec.meaning_of meaning ≡ spec.option_meaning options option value.now) result }
 {
     match option {
         OptionName::Alt => Ok(Some(OptionValue::Text(text_from(alloc, value)?))),
@@ -49,7 +49,7 @@ pub(crate) fn option_value(
         OptionName::FigureWidth => measure(alloc, value, true, true),
         OptionName::Scale => Ok(scale_of(alloc, value)?.map(|number| OptionValue::Number(number))),
         OptionName::Align => {
-            let vertical = !matches!(directive, Name::Figure);
+            let vertical = options != OptionSet::Figure;
             Ok(alignment_of(value, vertical).map(|alignment| OptionValue::Place(alignment)))
         }
         OptionName::Class | OptionName::FigureClass => {

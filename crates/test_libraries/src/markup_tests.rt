@@ -32,11 +32,11 @@ pub fn first_directive(
 const DIRECTIVES: &[(&str, &str)] = &[
     (
         ".. note:: a\n   :class: x y\n   :name: N  m\n\n   t\n\n   u",
-        "Found { name: Note, argument: Absent, options: [Setting { option: Class, value: Classes([\"x\", \"y\"]) }, Setting { option: Name, value: Name(\"n m\") }], content: Content { first: Part { from: 0, to: 1, first_cut: 10, rest_cut: 3 }, second: Part { from: 4, to: 7, first_cut: 3, rest_cut: 3 } } }",
+        "Found { kind: Kind { element: Note, argument: Absent, options: Common, content: Blocks, allowed: Body }, argument: Absent, options: [Setting { option: Class, value: Classes([\"x\", \"y\"]) }, Setting { option: Name, value: Name(\"n m\") }], content: Content { first: Part { from: 0, to: 1, first_cut: 10, rest_cut: 3 }, second: Part { from: 4, to: 7, first_cut: 3, rest_cut: 3 } } }",
     ),
     (
         ".. image:: a b\n   c.png\n   :alt: A\n     B\n   :width: 50 %\n   :Scale: 050 %\n   :align: top\n   :target: `x y`_",
-        "Found { name: Image, argument: Uri(\"abc.png\"), options: [Setting { option: Alt, value: Text(\"A\\nB\") }, Setting { option: Width, value: Measure(\"50%\") }, Setting { option: Scale, value: Number(50) }, Setting { option: Align, value: Place(Top) }, Setting { option: Target, value: Link { to: Name(\"x y\"), source: \"`x y`_\" } }], content: Content { first: Part { from: 0, to: 0, first_cut: 11, rest_cut: 3 }, second: Part { from: 8, to: 8, first_cut: 3, rest_cut: 3 } } }",
+        "Found { kind: Kind { element: Image, argument: Uri, options: Image, content: Empty, allowed: Anywhere }, argument: Uri(\"abc.png\"), options: [Setting { option: Alt, value: Text(\"A\\nB\") }, Setting { option: Width, value: Measure(\"50%\") }, Setting { option: Scale, value: Number(50) }, Setting { option: Align, value: Place(Top) }, Setting { option: Target, value: Link { to: Name(\"x y\"), source: \"`x y`_\" } }], content: Content { first: Part { from: 0, to: 0, first_cut: 11, rest_cut: 3 }, second: Part { from: 8, to: 8, first_cut: 3, rest_cut: 3 } } }",
     ),
     (
         ".. tip:: a\n   :foo: 1",

@@ -8,12 +8,12 @@ use super::tree_tests::{text, titled};
 use rst_block::{BlockFault, parse};
 use rst_inline::{InlineFault, inline, unescape};
 use rst_markup_blocks::{Explicit, explicit, kind_of};
-use rst_markup_directives::{Argument, Directive, MarkupFault, Name, Place};
+use rst_markup_directives::{Argument, Directive, Kind, MarkupFault, Place};
 use rst_markup_tables::{TableResult, grid, simple};
 use rst_settings::Settings;
 use rst_text::{Counted, Lines, Looks, TextFault, View, decode, id_of, name_of, normalized_white};
 use rst_transform::finish;
-use rst_tree::{Key, Node, Tree, TreeFault, Value, print};
+use rst_tree::{Key, Node, Tag, Tree, TreeFault, Value, print};
 use rst_tree_index::{Marked, Parsed};
 use std::alloc::{AllocError, Global};
 use std::process::Abort;
@@ -360,7 +360,10 @@ fn simples(rt: HostRuntime) {
 fn judge_note(rt: &impl Abort, found: &Directive) {
     match found {
         Directive::Found {
-            name: Name::Note,
+            kind: Kind {
+                element: Tag::Note,
+                ..
+            },
             argument: Argument::Absent,
             options,
             content,

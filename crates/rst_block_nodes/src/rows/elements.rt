@@ -11,7 +11,6 @@ ghost use Rattle.rst_markup_lines.specs.declared.option.Delimiter.TheVariants.{N
 ghost use Rattle.rst_markup_directives.specs.Target.{named, located};
 ghost use Rattle.rst_markup_directives.specs.Value.{plain, measured, numbered, placed, classed, linked, called};
 ghost use Rattle.rst_markup_directives.specs.declared.measure.Alignment.TheVariants.{Top, Middle, Bottom, Left, Center, Right};
-ghost use Rattle.rst_markup_directives.specs.declared.name.Name.TheVariants.{Attention, Caution, Danger, Error, Hint, Important, Note, Tip, Warning, Admonition, Topic};
 ghost use Rattle.rst_markup_directives.specs.declared.option.OptionName.TheVariants.{Alt, Height, Width, Scale, Align, Target, Class, Name, FigureWidth, FigureClass};
 ghost use Rattle.rst_block_nodes.specs.Admonitions.{with_title_class};
 ghost use Rattle.rst_block_nodes.specs.Elements.{plain_node, preserved_node, bullet_list_node, enumerated_list_node, start_text, option_node, footnote_node, citation_node, substitution_definition_node, tgroup_node, entry_node};
@@ -166,19 +165,16 @@ pub fn tables()
 
 /// Admonitions, topics and program code (Directives, 'Specific Admonitions').
 pub fn directives()
-    ensures tags { Says (map (λ name. directive_element name [] 1)
-        (Attention ∷ Caution ∷ Danger ∷ Error ∷ Hint ∷ Important ∷ Note ∷ Tip ∷ Warning ∷ Admonition ∷ Topic ∷ []))
-        ("<attention> 1" ∷ "<caution> 1" ∷ "<danger> 1" ∷ "<error> 1" ∷ "<hint> 1" ∷ "<important> 1" ∷ "<note> 1" ∷ "<tip> 1" ∷ "<warning> 1"
-        ∷ "<admonition> 1" ∷ "<topic> 1" ∷ []) }
-    ensures options { Says (directive_element Note ((Class, classed (codes "b" ∷ codes "a" ∷ [])) ∷ (Name, called (codes "c")) ∷ []) 1 ∷ [])
+    ensures tags { Says (map (λ element. directive_element element [] 1) (tag.Tip ∷ tag.Topic ∷ [])) ("<tip> 1" ∷ "<topic> 1" ∷ []) }
+    ensures options { Says (directive_element tag.Note ((Class, classed (codes "b" ∷ codes "a" ∷ [])) ∷ (Name, called (codes "c")) ∷ []) 1 ∷ [])
         ("<note classes=\"b a\" own_name=\"c\"> 1" ∷ []) }
-    ensures class_of_a_title { Says (with_title_class (directive_element Admonition [] 1) (plain_node tag.Title 1 (codes "My *Note*")) ∷ [])
+    ensures class_of_a_title { Says (with_title_class (directive_element tag.Admonition [] 1) (plain_node tag.Title 1 (codes "My *Note*")) ∷ [])
         ("<admonition classes=\"admonition-my-note\"> 1" ∷ []) }
-    ensures classes_of_titles { Says (map (λ t. with_title_class (directive_element Admonition [] 1) (texted_node tag.Title 1 (codes t) 1 0))
+    ensures classes_of_titles { Says (map (λ t. with_title_class (directive_element tag.Admonition [] 1) (texted_node tag.Title 1 (codes t) 1 0))
         (":sub:`2`" ∷ "ß 1" ∷ "2 Ä" ∷ "|x| y" ∷ []))
         ("<admonition classes=\"admonition-\"> 1" ∷ "<admonition classes=\"admonition-\"> 1" ∷ "<admonition classes=\"admonition-a\"> 1"
         ∷ "<admonition classes=\"admonition-x-y\"> 1" ∷ []) }
-    ensures class_of_the_options { Says (with_title_class (directive_element Admonition ((Class, classed (codes "a" ∷ [])) ∷ []) 1)
+    ensures class_of_the_options { Says (with_title_class (directive_element tag.Admonition ((Class, classed (codes "a" ∷ [])) ∷ []) 1)
         (plain_node tag.Title 1 (codes "My Note")) ∷ []) ("<admonition classes=\"a\"> 1" ∷ []) }
     ensures code { Says (code_element None [] (codes "a\n b") 2 ∷ [])
         ("<literal_block classes=\"code\" xml:space=\"preserve\"> 2" ∷ "    a" ∷ "     b" ∷ []) }

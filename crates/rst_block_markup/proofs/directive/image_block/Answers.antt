@@ -23,12 +23,12 @@ returns c = λ pass.
     let f = c.args.found.now in
     let t = c.args.uri.now in
     let line = first_number (drop l.at B) in
-    let right = image_right f.name t (within_at l.depth) B line (read_of_directive f) (span_source B (span_to l.at f.end)) f.content (search rules) (encodes-chars t c.utf8.uri) in
+    let right = image_right f.kind.content t (within_at l.depth) B line (read_of_directive f) (span_source B (span_to l.at f.end)) f.content (search rules) (encodes-chars t c.utf8.uri) in
     put_reads c.in_ok-node.node c.put.ensures c.requires.later
     (image_is c.in_ok-node.node t c.as_slice-options.result.now f.options.items c.number_at-line.result line c.in_ok-node.ensures c.as_slice-options.ensures.value c.number_at-line.ensures ∙ right.0) right.1 refl (omega arith) (omega arith)
 
-pub returns-then-matches : goal.returns-then-matches
-returns-then-matches c = λ pass.
+pub returns-then-eq : goal.returns-then-eq
+returns-then-eq c = λ pass.
     let B = block_of c.args.view.now in
     let l = c.args.level.now in
     let f = c.args.found.now in
@@ -39,7 +39,7 @@ returns-then-matches c = λ pass.
     let figure = c.in_ok-figure-2.figure in
     let lines = span_source B (span_to l.at f.end) in
     let opened = c.opened.ensures in
-    let right = figure_right f.name t (within_at l.depth) B at (read_of_directive f) lines f.content (search rules) (encodes-chars t c.utf8.uri) in
+    let right = figure_right f.kind.content t (within_at l.depth) B at (read_of_directive f) lines f.content (search rules) (encodes-chars t c.utf8.uri) in
     content_reads (Figure figure l.at f.end) f.content opened.opened tt tt c.requires.content c.requires.later opened.moved opened.at
     (ap (λ s. comes c.opened.new.level B s n) opened.opened
     ∙ content_comes B (Figure figure l.at f.end) f.content (figure_nodes figure (caption_error at lines)) n opened.moved opened.at (λ ns. refl)

@@ -7,4 +7,4 @@ use Rattle.rst_block_markup.proofs.directive.is_paragraph.Goals as goal
 
 pub returns-clause-flag : goal.returns-clause-flag
 returns-clause-flag c = λ B at place.
-    flag_free c.args.name B at c.args.block place false (is_single_paragraph (lines_in (block_of c.args.view.now) c.args.block)) (search rules)
+    flag_free c.args.kind B at c.args.block place false (is_single_paragraph (lines_in (block_of c.args.view.now) c.args.block)) (search rules)

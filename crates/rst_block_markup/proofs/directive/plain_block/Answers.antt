@@ -13,12 +13,12 @@ use Rattle.rst_block_markup.proofs.PartLemmas.{part_as, content_reads}
 use Rattle.rst_block_state.proofs.NextConstructs.{span_to}
 use Rattle.rst_block_markup.proofs.directive.plain_block.Goals as goal
 
-pub returns-then-matches : goal.returns-then-matches
-returns-then-matches c =
+pub returns-then-eq : goal.returns-then-eq
+returns-then-eq c =
     let B = block_of c.args.view.now in
     let l = c.args.level.now in
     let f = c.args.found.now in
-    let right = code_right f.name (within_at l.depth) B (first_number (drop l.at B)) (read_of_directive f) (span_source B (span_to l.at f.end)) f.content (search rules) in
+    let right = code_right f.kind.content (within_at l.depth) B (first_number (drop l.at B)) (read_of_directive f) (span_source B (span_to l.at f.end)) f.content (search rules) in
     part_as c.code_nodes.ensures right.0 right.1 refl (omega arith) (omega arith)
 
 pub returns : goal.returns
@@ -29,7 +29,7 @@ returns c =
     let n = c.args.pass.now.numbers in
     let line = first_number (drop l.at B) in
     let opened = c.opened.ensures in
-    let right = plain_right f.name (within_at l.depth) B line (read_of_directive f) (span_source B (span_to l.at f.end)) f.content (search rules) in
+    let right = plain_right f.kind.content (within_at l.depth) B line (read_of_directive f) (span_source B (span_to l.at f.end)) f.content (search rules) in
     content_reads (Element c.in_ok-node.node) f.content opened.opened tt tt c.requires.content c.requires.later opened.moved opened.at
     (plain_comes l c.opened.new.level B (read_of_directive f) f.end n c.number_at-line.result line c.in_ok-node.node c.as_slice.result.now c.opened.result c.in_ok-node.ensures (ap choices_in c.as_slice.ensures.value) c.number_at-line.ensures
     opened.opened opened.at opened.moved

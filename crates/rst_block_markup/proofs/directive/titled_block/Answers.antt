@@ -21,14 +21,14 @@ returns c =
     let f = c.args.found.now in
     let X = lines_in B c.args.title in
     let line = c.number_at-line.result in
-    let made : c.match-found.node ≡ titled_element f.name c.in_ok-node.node c.in_ok-title.title.element = search rules in
+    let made : c.match-element.node ≡ titled_element f.kind.element c.in_ok-node.node c.in_ok-title.title.element = search rules in
     let node =
-    titled_reads f.name (directive_element f.name (choices_in f.options.items) line) c.first_line_or-title_line.result (number_or line X) (chars c.as_str.result.now) (joined X)
-    c.args.pass.now.numbers c.with_text.new.numbers c.in_ok-title.title.element c.in_ok-title.title.notes.items c.append.new.nodes.items c.match-found.node c.in_ok-node-2.node
+    titled_reads f.kind.element (directive_element f.kind.element (choices_in f.options.items) line) c.first_line_or-title_line.result (number_or line X) (chars c.as_str.result.now) (joined X)
+    c.args.pass.now.numbers c.with_text.new.numbers c.in_ok-title.title.element c.in_ok-title.title.notes.items c.append.new.nodes.items c.match-element.node c.in_ok-node-2.node
     (c.first_line_or-title_line.ensures ∙ ap (number_or line) c.inside-lines.ensures.block)
     (ap chars c.as_str.ensures.value ∙ c.in_ok-text.ensures.text ∙ ap joined c.inside-lines.ensures.block)
     c.in_ok-title.ensures.read
-    (made ∙ ap (λ n. titled_element f.name n c.in_ok-title.title.element) (c.in_ok-node.ensures ∙ ap (λ ss. directive_element f.name (choices_in ss) line) c.as_slice.ensures.value))
+    (made ∙ ap (λ n. titled_element f.kind.element n c.in_ok-title.title.element) (c.in_ok-node.ensures ∙ ap (λ ss. directive_element f.kind.element (choices_in ss) line) c.as_slice.ensures.value))
     (c.in_ok-append.ensures ∙ ap (λ ns. ns ++ c.in_ok-title.title.notes.items) c.in_ok-nodes.ensures)
     c.in_ok-node-2.ensures in
     let opened = c.opened.ensures in

@@ -49,9 +49,9 @@ returns-in_ok-image_node-in-Uri c =
     let found = c.in-Found in
     let looked = c.in_ok-fault.ensures.looked in
     let known = c.in_ok-fault.ensures.outcome in
-    let image = ap directive_outcome found.is ∙ ap (λ (a : Argument). directive_outcome (Found found.name a found.options found.content)) c.in-Uri.is in
+    let image = ap directive_outcome found.is ∙ ap (λ (a : Argument). directive_outcome (Found found.kind a found.options found.content)) c.in-Uri.is in
     put_reads c.in_ok-image_node-in-Uri.image_node c.put-in-Uri.ensures c.requires.later
-    (image_holds outcome found.name (choices_in found.options.items) found.content (string_bytes c.in-Uri.uri) c.as_str.result.now c.as_str-in-Uri.result.now (string_bytes c.args.name)
+    (image_holds outcome found.kind (choices_in found.options.items) found.content (string_bytes c.in-Uri.uri) c.as_str.result.now c.as_str-in-Uri.result.now (string_bytes c.args.name)
     (excerpt (first_text (drop l.at B)) c.args.invocation.now.name) d B (span_to l.at c.args.end) c.number_at-line.result c.in_ok-image_node-in-Uri.image_node (sym known ∙ image)
     c.as_str.ensures.value (encodes-chars c.as_str.result.now c.as_str.utf8) c.as_str-in-Uri.ensures.value c.number_at-line.ensures c.in_ok-image_node-in-Uri.ensures)
     (ap (λ (o : Outcome). definition_blocks o B) (sym image ∙ known)) c.directive_at.ensures.numbers (omega (arith, looked.0)) (omega (arith, looked.1, c.requires.begins.0, c.requires.begins.1, c.requires.later))

@@ -6,7 +6,9 @@ pub returns : goal.returns
 unfolding rst_markup_directives
 returns c = record {
   admonitions = refl;
-  others = refl;
+  titled = refl;
+  images = refl;
+  replace = refl;
   code = refl;
   no_code = refl;
   case_of_letters = refl;

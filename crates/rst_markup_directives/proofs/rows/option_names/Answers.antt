@@ -9,7 +9,6 @@ returns c = record {
   case_of_letters = refl;
   image = refl;
   figure = refl;
-  note = refl;
-  code = refl;
-  replace = refl;
+  common = refl;
+  none = refl;
 }

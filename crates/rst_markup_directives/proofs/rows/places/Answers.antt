@@ -8,6 +8,7 @@ returns c = record {
   unknown_name = refl;
   unknown_in_a_definition = refl;
   in_a_definition = refl;
+  not_in_a_definition = refl;
   without_content = refl;
   with_content = refl;
   topic = refl;
