@@ -1,8 +1,6 @@
 pub mod Computing
 pub mod IdLemmas
 pub mod IdNumbers
-pub mod MessageGaps
-pub mod MessagePlaces
 pub mod NoNameMessages
 pub mod RegisteredRoot
 pub mod RegistryLemmas

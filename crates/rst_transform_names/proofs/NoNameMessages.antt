@@ -1,6 +1,6 @@
 -- Without messages on equal names the document is the same.
 use Rattle.std.proofs.Common.{◌≡◌, ℕ, zero, suc, true≢false, List, [], ◌∷◌, ◌++◌, Bool, true, false, Option, Some, None, refl, ap, ◌∙◌, append_assoc}
-use Rattle.std.specs.Prelude.{◌&&◌, not, if◌then◌else◌, is_some, map, option_and_then}
+use Rattle.std.specs.Prelude.{if◌then◌else◌, is_some, option_and_then, replicate}
 use Rattle.std.specs.List.{list_any}
 use Rattle.std.specs.Option.{option_to_list}
 use Rattle.std.proofs.Math.Path.{fun_ext}
@@ -14,67 +14,95 @@ use Rattle.rst_tree.specs.declared.tag.Tag.{Tag}
 use Rattle.rst_tree.specs.Forest.{Forest, bare, element, words}
 use Rattle.rst_tree.specs.Nodes.{nodes_of}
 use Rattle.rst_tree.proofs.Changes.{forest_of-nodes_of}
+use Rattle.rst_transform_names.specs.declared.queue.Queued.TheVariants.{Present, New}
 use Rattle.rst_transform_names.specs.Gathered.{number_at}
-use Rattle.rst_transform_names.specs.NameMessages.{beginning, filled, given, goes_in, goes_out, message_on, no_texts, nodes_with, taken, takes_in, texts, then_texts, with_filled_element, with_messages, with_name_messages, Filled, Placed, Texts}
-use Rattle.rst_transform_names.proofs.MessageGaps.{woven-none}
+use Rattle.rst_transform_names.specs.NameMessages.{after_next, before_next, beginning, counted, filled, first_queue, goes_out, is_inline, is_section, message_on, taken, takes_in, with_due, with_filled_element, with_messages, with_name_messages, with_own, Filled, Queue}
 
 either_none : {X : Type 0} (b : Bool) → ◌≡◌ {A = List X} (if b then [] else []) []
 either_none true = refl
 either_none false = refl
 
+-- no message on a name is in a queue
+abbrev ArePresent : Queue → Type 0
+ArePresent [] = Unit {0}
+ArePresent (Present ∷ queue) = ArePresent queue
+ArePresent (New message ∷ queue) = ⊥
+
+present-before : (queue : Queue) → ArePresent queue → before_next queue ≡ []
+present-before [] present = refl
+present-before (Present ∷ queue) present = refl
+present-before (New message ∷ queue) present = absurd present
+
+present-after : (queue : Queue) → ArePresent queue → ArePresent (after_next queue)
+present-after [] present = tt
+present-after (Present ∷ queue) present = present
+present-after (New message ∷ queue) present = absurd present
+
+present-append : (queue more : Queue) → ArePresent queue → ArePresent more → ArePresent (queue ++ more)
+present-append [] more present others = others
+present-append (Present ∷ queue) more present others = present-append queue more present others
+present-append (New message ∷ queue) more present others = absurd present
+
+present-replicate : (count : ℕ) → ArePresent (replicate count Present)
+present-replicate zero = tt
+present-replicate (suc count) = present-replicate count
+
 -- nodes that give no message
 record Quiet (nodes : List Node) (f : Filled) : Type 0 where
   same : f.nodes ≡ nodes
-  inline : f.inline ≡ []
   before : f.before ≡ []
-  after : f.after ≡ []
-  texts_out : f.texts_out.placed ≡ []
-  waiting : f.waiting.placed ≡ []
-
-nodes-none : (t : Tag) (a : List Attr) (nodes : List Node) (f : Filled) → Quiet nodes f → nodes_with t a [] f ≡ nodes
-nodes-none t a nodes f q = rw (q.after, q.before, q.waiting, q.same, either_none, either_none) (woven-none nodes)
-
-texts-none : (t : Tag) (a : List Attr) (nodes : List Node) (f : Filled) → Quiet nodes f → (texts t a f).placed ≡ []
-texts-none t a nodes f q = rw (q.inline, q.texts_out) refl
-
-then-none : (x y : Texts) → x.placed ≡ [] → y.placed ≡ [] → (then_texts x y).placed ≡ []
-then-none x y is is' = rw (is, is') refl
+  queue : ArePresent f.queue
 
 -- no message on any name
-abbrev none : List Attr → Placed
+abbrev none : List Attr → List Node
 none a = []
 
-element-none : (p t : Tag) (a : List Attr) (l : ℕ) (c : Forest) (nodes : List Node) (inside f : Filled) → Quiet (nodes_of c) inside → Quiet nodes f → Quiet (nodes ++ Element t a c l ∷ []) (with_filled_element p t a l [] inside f)
-element-none p t a l c nodes inside f i q =
-    let no_text = texts-none t a (nodes_of c) inside i in record {
-      same = rw (q.same, nodes-none t a (nodes_of c) inside i, forest_of-nodes_of c) refl;
-      inline = simp (q.inline, either_none);
-      before = simp (q.before, i.before, either_none);
-      after = simp (q.after, no_text, either_none);
-      texts_out = cond_both (goes_out p t) _ _ (λ (x : Texts). x.placed ≡ []) (λ _. then-none f.texts_out (texts t a inside) q.texts_out no_text) (λ _. q.texts_out);
-      waiting = cond_both (goes_in t && not (goes_out p t)) _ _ (λ (x : Texts). x.placed ≡ []) (λ _. then-none f.waiting (texts t a inside) q.waiting no_text) (λ _. q.waiting);
-    }
+beginning-none : (t : Tag) (a : List Attr) → Quiet [] (beginning t a)
+beginning-none t a = record { same = refl; before = refl; queue = cond_both (is_section t) [] (replicate (counted a) Present) ArePresent (λ _. tt) (λ _. present-replicate (counted a)) }
 
-begun-none : (before : Texts) → before.placed ≡ [] → Quiet [] (beginning before)
-begun-none before is = record { same = refl; inline = refl; before = refl; after = is; texts_out = refl; waiting = refl }
+first-none : (t : Tag) (a : List Attr) (queue : Queue) → ArePresent queue → ArePresent (first_queue t a [] queue)
+first-none t a queue present =
+    cond_both (takes_in t) queue (if is_section t then Present ∷ replicate (counted a) Present ++ [] else []) ArePresent (λ _. present)
+    (λ _. cond_both (is_section t) (Present ∷ replicate (counted a) Present ++ []) [] ArePresent (λ _. present-append (replicate (counted a) Present) [] (present-replicate (counted a)) tt) (λ _. tt))
 
-filled-none : (p : Tag) (nodes : List Node) (f : Filled) (c : Forest) → Quiet nodes f → Quiet (nodes ++ nodes_of c) (filled none p f c)
-filled-none p nodes f bare q = rw append-nil q
-filled-none p nodes f (words t r) q =
-    let rest = filled-none p (nodes ++ Text t ∷ []) (record f { nodes = f.nodes ++ Text t ∷ [] }) r (record { same = ap (λ ns. ns ++ Text t ∷ []) q.same; inline = q.inline; before = q.before; after = q.after; texts_out = q.texts_out; waiting = q.waiting }) in
+due-none : (first due : Queue) (nodes : List Node) (f : Filled) → ArePresent first → ArePresent due → Quiet nodes f → Quiet nodes (with_due first due f)
+due-none first due nodes f o d q = record { same = simp (present-before due d, present-before first o, append-nil) q.same; before = q.before; queue = q.queue }
+
+own-none : (t : Tag) (a : List Attr) (nodes : List Node) (f : Filled) → Quiet nodes f → Quiet nodes (with_own t a [] f)
+own-none t a nodes f q =
+    let inline : Quiet nodes (record f { queue = f.queue ++ [] }) = record { same = q.same; before = q.before; queue = present-append f.queue [] q.queue tt } in
+    let other : Quiet nodes (record f { before = f.before ++ [] }) = record { same = q.same; before = rw q.before refl; queue = q.queue } in
+    cond_both (is_section t) f (if is_inline a then record f { queue = f.queue ++ [] } else record f { before = f.before ++ [] }) (Quiet nodes) (λ _. q)
+    (λ _. cond_both (is_inline a) (record f { queue = f.queue ++ [] }) (record f { before = f.before ++ [] }) (Quiet nodes) (λ _. inline) (λ _. other))
+
+taken-none : (t : Tag) (nodes : List Node) (f : Filled) → Quiet nodes f → Quiet nodes (taken t f)
+taken-none t nodes f q = record { same = q.same; before = q.before; queue = cond_both (takes_in t) [] f.queue ArePresent (λ _. tt) (λ _. q.queue) }
+
+element-none : (p t : Tag) (a : List Attr) (l : ℕ) (c : Forest) (nodes : List Node) (inside f : Filled) → Quiet (nodes_of c) inside → Quiet nodes f → Quiet (nodes ++ Element t a c l ∷ []) (with_filled_element p t a l inside f)
+element-none p t a l c nodes inside f i q = record {
+  same = rw (q.same, i.before, either_none, append-nil, i.same, forest_of-nodes_of c) refl;
+  before = rw (q.before, i.before, either_none) refl;
+  queue = present-append f.queue (if goes_out p t a then inside.queue else []) q.queue (cond_both (goes_out p t a) inside.queue [] ArePresent (λ _. i.queue) (λ _. tt));
+}
+
+filled-none : (p : Tag) (first due : Queue) (nodes : List Node) (f : Filled) (c : Forest) → ArePresent first → ArePresent due → Quiet nodes f → Quiet (nodes ++ nodes_of c) (filled none p first due f c)
+filled-none p first due nodes f bare o d q = rw append-nil (due-none first due nodes f o d q)
+filled-none p first due nodes f (words t r) o d q =
+    let rest = filled-none p first due (nodes ++ Text t ∷ []) (record f { nodes = f.nodes ++ Text t ∷ [] }) r o d (record { same = ap (λ ns. ns ++ Text t ∷ []) q.same; before = q.before; queue = q.queue }) in
     rw append_assoc at rest
-filled-none p nodes f (element t a c l r) q =
-    let inside = filled-none t [] (beginning (given t f)) c (begun-none (given t f) (cond_both (takes_in t) f.waiting no_texts (λ x. x.placed ≡ []) (λ _. q.waiting) (λ _. refl))) in
-    let left : Quiet nodes (taken t f) = record { same = q.same; inline = q.inline; before = q.before; after = q.after; texts_out = q.texts_out; waiting = cond_both (takes_in t) no_texts f.waiting (λ x. x.placed ≡ []) (λ _. refl) (λ _. q.waiting) } in
-    let rest = filled-none p (nodes ++ Element t a c l ∷ []) (with_filled_element p t a l [] (filled none t (beginning (given t f)) c) (taken t f)) r (element-none p t a l c nodes (filled none t (beginning (given t f)) c) (taken t f) inside left) in
+filled-none p first due nodes f (element t a c l r) o d q =
+    let begun = first_queue t a [] f.queue in
+    let inside = with_own t a [] (filled none t begun [] (beginning t a) c) in
+    let i : Quiet (nodes_of c) inside = own-none t a (nodes_of c) (filled none t begun [] (beginning t a) c) (filled-none t begun [] [] (beginning t a) c (first-none t a f.queue q.queue) tt (beginning-none t a)) in
+    let f' = taken t (with_due first due f) in
+    let after : ArePresent (after_next due ++ (if goes_out p t a then [] else inside.queue)) = present-append (after_next due) (if goes_out p t a then [] else inside.queue) (present-after due d) (cond_both (goes_out p t a) [] inside.queue ArePresent (λ _. tt) (λ _. i.queue)) in
+    let rest = filled-none p (after_next first) (after_next due ++ (if goes_out p t a then [] else inside.queue)) (nodes ++ Element t a c l ∷ []) (with_filled_element p t a l inside f') r (present-after first o) after
+    (element-none p t a l c nodes inside f' i (taken-none t nodes (with_due first due f) (due-none first due nodes f o d q))) in
     rw append_assoc at rest
 
 with_none : (document : Node) → with_messages none document ≡ document
 with_none (Text t) = refl
-with_none (Element t a c l) =
-    let f = filled none t (beginning no_texts) c in
-    let q = filled-none t [] (beginning no_texts) c (begun-none no_texts refl) in
-    rw (nodes-none t a (nodes_of c) f q, texts-none t a (nodes_of c) f q, q.before, either_none, woven-none (nodes_of c), forest_of-nodes_of c) refl
+with_none (Element t a c l) = rw ((filled-none t [] [] [] (beginning t a) c tt tt (beginning-none t a)).same, forest_of-nodes_of c) refl
 
 -- no message is that on the name of an element
 pub none_there : (messages : List (Option Node)) → list_any is_some messages ≡ false → (number : ℕ) → message_on messages number ≡ None
@@ -83,7 +111,7 @@ none_there (None ∷ more) none zero = refl
 none_there (None ∷ more) none (suc number) = none_there more none number
 none_there (Some message ∷ more) none number = absurd (true≢false none)
 
-none_numbered : (number : Option ℕ) → ◌≡◌ {A = Placed} (map (λ message. (0, message)) (option_to_list (option_and_then (λ (n : ℕ). None) number))) []
+none_numbered : (number : Option ℕ) → ◌≡◌ {A = List Node} (option_to_list (option_and_then (λ (n : ℕ). None) number)) []
 none_numbered None = refl
 none_numbered (Some n) = refl
 

@@ -1,21 +1,14 @@
-//! The nodes of an element with the messages on equal names in them.
-ghost use Rattle.std.specs.Prelude.{◌≡◌, ◌+◌, ◌<◌, ◌^◌, ◌||◌, ◌&&◌, not, [], ◌++◌, if◌then◌else◌};
+//! What is made of the nodes of an element when the messages on equal names get their places.
+ghost use Rattle.std.specs.Prelude.{◌≡◌, ◌++◌, [], if◌then◌else◌};
+ghost use Rattle.std.specs.Option.{option_to_list};
 ghost use Rattle.rst_tree.specs.Faults.{Gives};
-ghost use Rattle.rst_tree.specs.Nodes.{forest_of, nodes_of};
 ghost use Rattle.rst_transform_names.specs.NameMessages as spec;
-ghost use Rattle.rst_transform_names.specs.PlacingMessages.{seen, message_texts};
+ghost use Rattle.rst_transform_names.specs.NameMessages.{message_on};
+ghost use Rattle.rst_transform_names.specs.PlacingMessages.{seen};
 
-use super::weaving::{Placed, TextMessages, put_from, weave};
-use rst_tree::{Attrs, Children, Key, Result, Tag};
+use super::queue::{Queue, Queued, push_present, put_next};
+use rst_tree::{Attrs, Children, Key, Node, Result, Tag};
 use std::alloc::Global;
-use std::mem;
-
-/// Whether the text of an element has its messages first in the definition or the field body that follows.
-fn goes_in(tag: Tag) -> bool
-    ensures { result ≡ spec.goes_in tag }
-{
-    matches!(tag, Tag::Term | Tag::Classifier | Tag::FieldName)
-}
 
 /// Whether messages on names in an element come before it.
 fn is_passed_over(tag: Tag) -> bool
@@ -24,138 +17,160 @@ fn is_passed_over(tag: Tag) -> bool
     matches!(tag, Tag::Reference | Tag::SubstitutionDefinition)
 }
 
-/// The messages on names among the nodes of an element that get their places with the element.
-#[derive(Drop)]
-pub struct Inside {
-    /// Those on the names of nodes that are part of a text.
-    pub inline: Placed,
-    /// Those that come before nodes, or before the element, if it is a reference or a substitution definition.
-    pub before: Placed,
-    /// Those on the names in texts, after the elements of the texts.
-    pub after: Placed,
-    /// Those on the names in texts that have their messages where the element's own text has them.
-    pub texts_out: TextMessages,
-    /// Those on the names in terms or a field's name, for which no definition or field body has come yet.
-    pub waiting: TextMessages,
-}
-
-/// The messages of an element that come outside of it.
-#[derive(Drop)]
-pub struct Outside {
-    /// Those before the element, on the names of the elements in it.
-    pub ahead: Placed,
-    /// That on its own name, unless it is a section.
-    pub own: Placed,
-    /// Those on the names in its text, and in the texts that have their messages where it has them.
-    pub texts: TextMessages,
-}
-
-impl Inside {
-    /// Those of no node, after those of the terms or the field name before the element.
-    pub fn after(alloc: Global, given: TextMessages) -> Inside
-        ensures { seen [] result ≡ spec.beginning (message_texts given) }
-    {
-        Inside {
-            inline: Vec::new(alloc),
-            before: Vec::new(alloc),
-            after: given.placed,
-            texts_out: TextMessages::none(alloc),
-            waiting: TextMessages::none(alloc),
-        }
-    }
-
-    /// Takes those out that an element has of the terms or the field name before it.
-    pub fn given(&mut self, alloc: Global, tag: Tag) -> TextMessages
-        ensures given { message_texts result ≡ (if spec.takes_in tag then message_texts self.old.waiting else spec.no_texts) }
-        ensures taken { self.new ≡ record self.old { waiting = self.new.waiting } }
-        ensures waiting { message_texts self.new.waiting ≡ (if spec.takes_in tag then spec.no_texts else message_texts self.old.waiting) }
-    {
-        let none = TextMessages::none(alloc);
-        if matches!(tag, Tag::Definition | Tag::FieldBody) {
-            return mem::replace(&mut self.waiting, none);
-        }
-        none
-    }
-
-    /// Puts those that come among the nodes there, with the message on the element's own name, and gives the others.
-    pub fn weave(
-        self,
-        alloc: Global,
-        tag: Tag,
-        attrs: &Attrs,
-        nodes: &mut Children,
-        mut own: Placed,
-    ) -> Result<Outside>
-        ensures nodes { Gives (λ _. nodes.new ≡ forest_of (spec.nodes_with tag attrs.now own.items (seen (nodes_of nodes.old) self))) result }
-        ensures ahead { Gives (λ outside. outside.ahead.items ≡ (if spec.is_passed_over tag then self.before.items else [])) result }
-        ensures own { Gives (λ outside. outside.own.items ≡ (if spec.is_section tag then [] else own.items)) result }
-        ensures texts { Gives (λ outside. message_texts outside.texts ≡ spec.texts tag attrs.now (seen [] self)) result }
-    {
-        // How many nodes belong to the element's text, by its attributes: the text's messages, which follow it; in a section those between title
-        // and content.
-        let counted = attrs.number(Key::TextMessages).unwrap_or(0);
-        let mut among = self.after;
-        let mut ahead = self.before;
-        if matches!(tag, Tag::Section) {
-            let section = mem::replace(&mut own, Vec::new(alloc));
-            put_from(&mut among, counted.saturating_add(1), section)?;
-        }
-        if !is_passed_over(tag) {
-            among.append(&mut ahead)?;
-        }
-        put_from(&mut among, nodes.len() as u64, self.waiting.placed)?;
-        weave(alloc, nodes, among)?;
-        let mut texts = TextMessages::none(alloc);
-        texts.own = if matches!(tag, Tag::Section) {
-            0
-        } else {
-            counted
-        };
-        put_from(&mut texts.placed, texts.own, self.inline)?;
-        texts.append(self.texts_out)?;
-        Ok(Outside { ahead, own, texts })
-    }
-
-    /// Puts the messages of one more element after some number of nodes of an element of a kind.
-    pub fn put(
-        &mut self,
-        parent: Tag,
-        place: usize,
-        tag: Tag,
-        attrs: &Attrs,
-        outside: Outside,
-    ) -> Result<()>
-        requires { place + 1 < 2 ^ 64 }
-        ensures inline { Gives (λ _. self.new.inline.items ≡ self.old.inline.items ++ (if spec.is_inline attrs.now then outside.own.items else [])) result }
-        ensures before { Gives (λ _. self.new.before.items ≡ self.old.before.items ++ spec.from (if spec.is_passed_over parent then 0 else place) (outside.ahead.items ++ (if spec.is_inline attrs.now then [] else outside.own.items))) result }
-        ensures after { Gives (λ _. self.new.after.items ≡ self.old.after.items ++ (if spec.goes_out parent tag || spec.goes_in tag then [] else spec.from (place + 1) outside.texts.placed.items)) result }
-        ensures texts_out { Gives (λ _. message_texts self.new.texts_out ≡ (if spec.goes_out parent tag then spec.then_texts (message_texts self.old.texts_out) (message_texts outside.texts) else message_texts self.old.texts_out)) result }
-        ensures waiting { Gives (λ _. message_texts self.new.waiting ≡ (if spec.goes_in tag && not (spec.goes_out parent tag) then spec.then_texts (message_texts self.old.waiting) (message_texts outside.texts) else message_texts self.old.waiting)) result }
-    {
-        let mut ahead = outside.ahead;
-        let mut own = outside.own;
-        if attrs.has(Key::Inline) {
-            self.inline.append(&mut own)?;
-        }
-        ahead.append(&mut own)?;
-        let first = if is_passed_over(parent) {
-            0
-        } else {
-            place as u64
-        };
-        put_from(&mut self.before, first, ahead)?;
-        // These texts have their messages where that of the outer element has them.
-        if matches!(
+/// Whether the queue of an element's text goes out of the element around it.
+fn goes_out(parent: Tag, tag: Tag, attrs: &Attrs) -> bool
+    ensures { result ≡ spec.goes_out parent tag attrs.now }
+{
+    attrs.has(Key::Inline)
+        || matches!(
             (parent, tag),
             (Tag::LineBlock, Tag::Line | Tag::LineBlock)
                 | (Tag::BlockQuote, Tag::Attribution)
                 | (Tag::Figure, Tag::Caption)
-        ) {
-            return self.texts_out.append(outside.texts);
+                | (Tag::DefinitionListItem, Tag::Term | Tag::Classifier)
+                | (Tag::Field, Tag::FieldName)
+        )
+}
+
+/// How many nodes belong to an element's text.
+fn counted(attrs: &Attrs) -> u64
+    ensures { result ≡ spec.counted attrs.now }
+{
+    attrs.number(Key::TextMessages).unwrap_or(0)
+}
+
+/// The message on the name of an element with these attributes, if there is one.
+fn own_message(alloc: Global, attrs: &Attrs, messages: &[Option<Node>]) -> Result<Option<Node>>
+    ensures { Gives (λ own. option_to_list own ≡ spec.own_message (message_on messages.now) attrs.now) result }
+{
+    if let Some(serial) = attrs.number(Key::Serial) {
+        if let Some(Some(message)) = messages.get(serial as usize) {
+            return Ok(Some(message.copy(alloc)?));
         }
-        if goes_in(tag) {
-            return self.waiting.append(outside.texts);
+    }
+    Ok(None)
+}
+
+/// Puts the queue with which an element's nodes begin after another; it may be the one that went `out` of the nodes before the element.
+#[inline(never)]
+pub fn put_first(
+    alloc: Global,
+    tag: Tag,
+    attrs: &Attrs,
+    messages: &[Option<Node>],
+    out: &mut Queue,
+    first: &mut Queue,
+) -> Result<()>
+    ensures first { Gives (λ _. first.new.items ≡ first.old.items ++ spec.first_queue tag attrs.now (spec.own_message (message_on messages.now) attrs.now) out.old.items) result }
+    ensures out { Gives (λ _. out.new.items ≡ (if spec.takes_in tag then [] else out.old.items)) result }
+{
+    match tag {
+        Tag::Definition | Tag::FieldBody => first.append(out)?,
+        Tag::Section => {
+            first.push_back(Queued::Present)?;
+            push_present(first, counted(attrs))?;
+            if let Some(own) = own_message(alloc, attrs, messages)? {
+                first.push_back(Queued::New(own))?;
+            }
         }
-        put_from(&mut self.after, place as u64 + 1, outside.texts.placed)
+        _ => {}
+    }
+    Ok(())
+}
+
+/// What is made of the nodes of an element.
+#[derive(Drop)]
+pub struct Inside {
+    /// The nodes so far, with the messages among them.
+    pub nodes: Vec<Node>,
+    /// The messages that come before the element.
+    pub before: Vec<Node>,
+    /// Those that follow its text, and those that went out of its nodes.
+    pub queue: Queue,
+}
+
+impl Inside {
+    /// Before the first node of an element.
+    #[inline(never)]
+    pub fn beginning(alloc: Global, tag: Tag, attrs: &Attrs) -> Result<Inside>
+        ensures { Gives (λ inside. seen inside ≡ spec.beginning tag attrs.now) result }
+    {
+        let mut queue = Queue::new(alloc);
+        if !matches!(tag, Tag::Section) {
+            push_present(&mut queue, counted(attrs))?;
+        }
+        Ok(Inside {
+            nodes: Vec::new(alloc),
+            before: Vec::new(alloc),
+            queue,
+        })
+    }
+
+    /// Puts the messages there that are due before the next node, by the queue that the nodes began with and that of the texts before it.
+    #[inline(never)]
+    pub fn put_due(&mut self, first: &mut Queue, due: &mut Queue) -> Result<()>
+        ensures made { Gives (λ _. seen self.new ≡ spec.with_due first.old.items due.old.items (seen self.old)) result }
+        ensures first { Gives (λ _. first.new.items ≡ spec.after_next first.old.items) result }
+        ensures due { Gives (λ _. due.new.items ≡ spec.after_next due.old.items) result }
+    {
+        put_next(due, &mut self.nodes)?;
+        put_next(first, &mut self.nodes)
+    }
+
+    /// Puts the message on the element's own name outside of it, unless it is a section.
+    #[inline(never)]
+    pub fn put_own(
+        &mut self,
+        alloc: Global,
+        tag: Tag,
+        attrs: &Attrs,
+        messages: &[Option<Node>],
+    ) -> Result<()>
+        ensures { Gives (λ _. seen self.new ≡ spec.with_own tag attrs.now (spec.own_message (message_on messages.now) attrs.now) (seen self.old)) result }
+    {
+        if matches!(tag, Tag::Section) {
+            return Ok(());
+        }
+        if let Some(own) = own_message(alloc, attrs, messages)? {
+            if attrs.has(Key::Inline) {
+                self.queue.push_back(Queued::New(own))?;
+            } else {
+                self.before.push(own)?;
+            }
+        }
+        Ok(())
+    }
+
+    /// Adds an element, with what was made of its nodes, to those of an element of a kind. Its queue goes out or is `due`.
+    #[inline(never)]
+    pub fn add(
+        &mut self,
+        parent: Tag,
+        tag: Tag,
+        attrs: Attrs,
+        line: usize,
+        mut inside: Inside,
+        due: &mut Queue,
+    ) -> Result<()>
+        ensures made { Gives (λ _. seen self.new ≡ spec.with_filled_element parent tag attrs line (seen inside) (seen self.old)) result }
+        ensures due { Gives (λ _. due.new.items ≡ due.old.items ++ (if spec.goes_out parent tag attrs then [] else inside.queue.items)) result }
+    {
+        if is_passed_over(parent) {
+            self.before.append(&mut inside.before)?;
+        } else {
+            self.nodes.append(&mut inside.before)?;
+        }
+        if goes_out(parent, tag, &attrs) {
+            self.queue.append(&mut inside.queue)?;
+        } else {
+            due.append(&mut inside.queue)?;
+        }
+        self.nodes.push(Node::Element {
+            tag,
+            attrs,
+            children: Children::of(inside.nodes),
+            line,
+        })?;
+        Ok(())
     }
 }

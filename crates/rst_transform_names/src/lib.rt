@@ -8,12 +8,12 @@ pub mod laws;
 mod message_ids;
 mod names;
 mod placing;
+mod queue;
 mod registrants;
 mod registration;
 mod registry;
 pub mod rows;
 mod rulings;
-mod weaving;
 mod writing;
 
 pub use ids::{Ids, number_in};

@@ -1,15 +1,14 @@
 //! The places of the messages on equal names.
-ghost use Rattle.std.specs.Prelude.{◌≡◌, is_some};
+ghost use Rattle.std.specs.Prelude.{◌≡◌, [], is_some};
 ghost use Rattle.std.specs.List.{list_any};
 ghost use Rattle.rst_tree.specs.Faults.{Gives};
-ghost use Rattle.rst_tree.specs.Nodes.{nodes_of};
 ghost use Rattle.rst_transform_names.specs.NameMessages as spec;
 ghost use Rattle.rst_transform_names.specs.NameMessages.{message_on};
-ghost use Rattle.rst_transform_names.specs.PlacingMessages.{seen, message_texts};
+ghost use Rattle.rst_transform_names.specs.PlacingMessages.{seen};
 
-use super::inside::Inside;
-use super::weaving::{Placed, TextMessages, put_from, weave};
-use rst_tree::{Attrs, Children, Key, Node, Result, Tag};
+use super::inside::{Inside, put_first};
+use super::queue::{Queue, put_next};
+use rst_tree::{Children, Node, Result, Tag};
 use std::alloc::Global;
 
 /// Whether there is a message.
@@ -19,50 +18,45 @@ fn is_any(messages: &[Option<Node>]) -> bool
     messages.iter().any(|message| message.is_some())
 }
 
-/// The message on the name of an element with these attributes, if there is one.
-fn own_message(alloc: Global, attrs: &Attrs, messages: &[Option<Node>]) -> Result<Placed>
-    ensures { Gives (λ own. own.items ≡ spec.own_message (message_on messages.now) attrs.now) result }
-{
-    let mut own = Vec::new(alloc);
-    if let Some(serial) = attrs.number(Key::Serial) {
-        if let Some(Some(message)) = messages.get(serial as usize) {
-            own.push((0, message.copy(alloc)?))?;
-        }
-    }
-    Ok(own)
-}
-
-/// Puts the messages on names that come into nodes there, and gives the others; the nodes are those of an element of this kind, and
-/// `given` the messages of the terms or the field name before it.
+/// Goes through the nodes of an element of a kind, which begin with a queue, and puts the messages on names there.
+// What happens at an element is in functions of its own: a call of this one takes little of the stack.
 fn fill(
     alloc: Global,
-    tag: Tag,
-    nodes: &mut Children,
-    given: TextMessages,
+    parent: Tag,
+    nodes: Children,
+    first: &mut Queue,
     messages: &[Option<Node>],
-) -> Result<Inside>
-    ensures { Gives (λ made. seen (nodes_of nodes.new) made ≡ spec.filled (spec.own_message (message_on messages.now)) tag (spec.beginning (message_texts given)) nodes.old) result }
+    made: &mut Inside,
+) -> Result<()>
+    ensures { Gives (λ _. seen made.new ≡ spec.filled (spec.own_message (message_on messages.now)) parent first.old.items [] (record (seen made.old) { nodes = [] }) nodes) result }
 {
-    let parent = tag;
-    let mut made = Inside::after(alloc, given);
-    for place in 0..nodes.len() {
-        match nodes.get_mut(place) {
-            Node::Text(_) => continue,
+    if nodes.are_plain() {
+        made.nodes = nodes.into_list();
+        put_next(first, &mut made.nodes)?;
+        return Ok(());
+    }
+    made.nodes = Vec::with_capacity(alloc, nodes.len())?;
+    let mut due = Queue::new(alloc);
+    for node in nodes.into_list() {
+        match node {
+            Node::Text(text) => made.nodes.push(Node::Text(text))?,
             Node::Element {
                 tag,
                 attrs,
                 children,
-                ..
+                line,
             } => {
-                let given = made.given(alloc, *tag);
-                let inside = fill(alloc, *tag, children, given, messages)?;
-                let own = own_message(alloc, attrs, messages)?;
-                let outside = inside.weave(alloc, *tag, attrs, children, own)?;
-                made.put(parent, place, *tag, attrs, outside)?;
+                made.put_due(first, &mut due)?;
+                let mut begun = Queue::new(alloc);
+                put_first(alloc, tag, &attrs, messages, &mut made.queue, &mut begun)?;
+                let mut inside = Inside::beginning(alloc, tag, &attrs)?;
+                fill(alloc, tag, children, &mut begun, messages, &mut inside)?;
+                inside.put_own(alloc, tag, &attrs, messages)?;
+                made.add(parent, tag, attrs, line, inside, &mut due)?;
             }
         }
     }
-    Ok(made)
+    made.put_due(first, &mut due)
 }
 
 /// Puts the messages on names, by the numbers of their elements, into a document, in one pass.
@@ -76,22 +70,23 @@ pub fn place_name_messages(alloc: Global, document: Node, messages: &[Option<Nod
     if !is_any(messages) {
         return Ok(document);
     }
-    let mut document = document;
-    let Node::Element {
-        tag,
-        attrs,
-        children,
-        ..
-    } = &mut document
-    else {
-        return Ok(document);
-    };
-    let inside = fill(alloc, *tag, children, TextMessages::none(alloc), messages)?;
-    let own = own_message(alloc, attrs, messages)?;
-    let outside = inside.weave(alloc, *tag, attrs, children, own)?;
-    let mut last = Vec::new(alloc);
-    put_from(&mut last, children.len() as u64, outside.ahead)?;
-    put_from(&mut last, children.len() as u64, outside.texts.placed)?;
-    weave(alloc, children, last)?;
-    Ok(document)
+    match document {
+        Node::Text(text) => Ok(Node::Text(text)),
+        Node::Element {
+            tag,
+            attrs,
+            children,
+            line,
+        } => {
+            let mut first = Queue::new(alloc);
+            let mut made = Inside::beginning(alloc, tag, &attrs)?;
+            fill(alloc, tag, children, &mut first, messages, &mut made)?;
+            Ok(Node::Element {
+                tag,
+                attrs,
+                children: Children::of(made.nodes),
+                line,
+            })
+        }
+    }
 }
