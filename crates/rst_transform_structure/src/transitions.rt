@@ -1,15 +1,13 @@
 //! The places of transitions.
-ghost use Rattle.std.specs.Prelude.{◌≡◌, ◌++◌, ◌∷◌, [], if◌then◌else◌, false, option_map};
+ghost use Rattle.std.specs.Prelude.{◌≡◌, ◌≤◌, ◌++◌, length, Some};
 ghost use Rattle.std.specs.List.{list_all};
 ghost use Rattle.rst_tree.specs.Faults.{Gives};
-ghost use Rattle.rst_tree.specs.Nodes.{forest_of};
-ghost use Rattle.rst_tree.specs.declared.node.Node.TheVariants.{Element};
 ghost use Rattle.rst_transform_work.specs.Reports.{KeepsRest};
 ghost use Rattle.rst_transform_work.specs.Known.{Makes};
-ghost use Rattle.rst_transform_work.specs.Reading.{is_title};
 ghost use Rattle.rst_tree_index.specs.Kinds.{is_transition};
 ghost use Rattle.rst_transform_names.specs.NameMessages.{is_section};
-ghost use Rattle.rst_transform_structure.specs.Transitions.{ends_in_transition, fault_before, keeps_place, no_siblings_yet, placed_in, put_transition, siblings_so_far, with_transition_fault, with_transition_message, with_transitions};
+ghost use Rattle.rst_transform_structure.specs.declared.transitions.TransitionFault.TheVariants.{AtBeginning};
+ghost use Rattle.rst_transform_structure.specs.Transitions.{fault_after, transition_fault_text, is_one, keeps_place, transition_message, placed_in, placed_section, placed_transition, staying, with_transitions};
 
 use rst_transform_work::{Context, Document, is_title};
 use rst_tree::{Attrs, Children, Level, Node, Result, Tag, Text};
@@ -38,43 +36,59 @@ use rst_tree::{Attrs, Children, Level, Node, Result, Tag, Text};
 pub fn transitions(mut document: Document, context: &mut Context) -> Result<Document>
     ensures { Gives (Makes (with_transitions document) context.old context.new) result }
 {
-    let placed = place_in(document.children, true, context)?;
-    document.children = Children::of(placed.nodes);
+    let nodes = place_in(document.children, true, context)?;
+    document.children = Children::of(nodes);
     Ok(document)
 }
 
-/// The nodes of the document or a section, whose transitions have their places.
-#[derive(Drop)]
-struct Placed {
-    nodes: Vec<Node>,
-    /// The transition that moves further out, if one does.
-    moving: Vec<Node>,
+/// What is wrong with the place of a transition.
+#[derive(Clone, Copy)]
+enum TransitionFault {
+    /// Only titles come before it.
+    AtBeginning,
+    /// It follows another one.
+    Adjacent,
+    /// The document ends with it.
+    AtEnd,
+}
+
+impl TransitionFault {
+    /// The text of the message.
+    fn text(self) -> &'static str
+        ensures { result.now ≡ transition_fault_text self }
+    {
+        match self {
+            TransitionFault::AtBeginning => "Document or section may not begin with a transition.",
+            TransitionFault::Adjacent => {
+                "At least one body element must separate transitions; adjacent transitions are not allowed."
+            }
+            TransitionFault::AtEnd => "Document may not end with a transition.",
+        }
+    }
 }
 
 /// Gives the transitions among the nodes of the document or a section, and in its sections, their places. If the document `ends` with
-/// the nodes, a transition that they end with stays, and else it moves out.
-fn place_in(nodes: Children, ends: bool, context: &mut Context) -> Result<Placed>
-    ensures placed { Gives (λ placed. siblings_so_far placed context.new ≡ placed_in context.old.first_number ends (no_siblings_yet context.old.reports.items) nodes) result }
+/// the nodes, a transition that they end with gets a message after it.
+fn place_in(nodes: Children, ends: bool, context: &mut Context) -> Result<Vec<Node>>
+    ensures placed { Gives (λ placed. (placed.items, context.new.reports.items) ≡ placed_in context.old.first_number ends (Some AtBeginning) nodes context.old.reports.items) result }
     ensures rest { Gives (λ _. KeepsRest context.old context.new) result }
 {
     let mut left = nodes.len();
     let list = nodes.into_list();
     // Most often none has to be moved.
     if all_keep_places(list.as_slice()) {
-        return Ok(Placed {
-            nodes: list,
-            moving: Vec::new(context.alloc),
-        });
+        return Ok(list);
     }
-    let mut placed = Placed {
-        nodes: Vec::with_capacity(context.alloc, left)?,
-        moving: Vec::new(context.alloc),
-    };
+    let mut placed = Vec::with_capacity(context.alloc, left)?;
+    let mut next_fault = Some(TransitionFault::AtBeginning);
     for node in list {
         left = left.saturating_sub(1);
+        let last = ends && left == 0;
+        let fault = next_fault;
+        next_fault = fault_after(&node, fault);
         match node {
             Node::Text(text) => {
-                placed.nodes.push(Node::Text(text))?;
+                placed.push(Node::Text(text))?;
                 continue;
             }
             Node::Element {
@@ -83,10 +97,9 @@ fn place_in(nodes: Children, ends: bool, context: &mut Context) -> Result<Placed
                 children,
                 line,
             } => {
-                let last = left == 0;
                 if is_section(tag) {
-                    let inner = place_in(children, ends && last, context)?;
-                    placed.put_section(tag, attrs, line, inner, last)?;
+                    let inner = place_in(children, last, context)?;
+                    put_section(&mut placed, tag, attrs, line, inner)?;
                     continue;
                 }
                 let element = Node::Element {
@@ -96,10 +109,10 @@ fn place_in(nodes: Children, ends: bool, context: &mut Context) -> Result<Placed
                     line,
                 };
                 if is_transition(tag) {
-                    placed.put_transition(element, line, last, ends, context)?;
+                    put_transition(&mut placed, element, line, fault, last, context)?;
                     continue;
                 }
-                placed.nodes.push(element)?;
+                placed.push(element)?;
                 continue;
             }
         }
@@ -107,113 +120,96 @@ fn place_in(nodes: Children, ends: bool, context: &mut Context) -> Result<Placed
     Ok(placed)
 }
 
-impl Placed {
-    /// Puts an ERROR on a transition after the nodes, if there are words for one. It is in the list of messages, too.
-    #[tactic(auto, unfolding(crate::specs::Transitions::with_transition_fault, crate::specs::Transitions::with_transition_message))]
-    fn put_message(&mut self, line: usize, words: Option<&str>, context: &mut Context) -> Result<()>
-        ensures siblings { Gives (λ _. siblings_so_far self.new context.new ≡ with_transition_fault context.old.first_number line (option_map (λ w. w.now) words.entry) (siblings_so_far self.old context.old)) result }
-        ensures rest { Gives (λ _. KeepsRest context.old context.new) result }
-    {
-        let Some(words) = words else {
-            return Ok(());
-        };
-        let text = Text::from_str(context.alloc, words)?;
-        let message = context.report_in_place(Level::Error, line, text)?;
-        self.nodes.push(message)?;
-        Ok(())
-    }
+/// Puts a section with these nodes after others. The transition at its end moves out, to after the section.
+fn put_section(
+    nodes: &mut Vec<Node>,
+    tag: Tag,
+    attrs: Attrs,
+    line: usize,
+    mut inner: Vec<Node>,
+) -> Result<()>
+    ensures { Gives (λ _. nodes.new.items ≡ nodes.old.items ++ placed_section tag attrs line inner.items) result }
+{
+    let staying = staying(inner.as_slice());
+    let mut moving = inner.split_off(staying)?;
+    nodes.push(Node::Element {
+        tag,
+        attrs,
+        children: Children::of(inner),
+        line,
+    })?;
+    nodes.append(&mut moving)?;
+    Ok(())
+}
 
-    /// Puts a transition, which is the last node or not, to its place, after the message on what is wrong with it. It moves out if it is
-    /// the last, unless the document ends with it: then a message follows it.
-    #[tactic(auto, unfolding(crate::specs::Transitions::put_transition, crate::specs::Transitions::with_transition_fault))]
-    fn put_transition(
-        &mut self,
-        transition: Node,
-        line: usize,
-        last: bool,
-        ends: bool,
-        context: &mut Context,
-    ) -> Result<()>
-        ensures siblings { Gives (λ _. siblings_so_far self.new context.new ≡ put_transition context.old.first_number last ends transition line (siblings_so_far self.old context.old)) result }
-        ensures rest { Gives (λ _. KeepsRest context.old context.new) result }
-    {
-        let fault = fault_before(self.nodes.as_slice());
-        self.put_message(line, fault, context)?;
-        if last && !ends {
-            self.moving.push(transition)?;
-            return Ok(());
-        }
-        self.nodes.push(transition)?;
-        if last {
-            return self.put_message(line, Some(AT_END), context);
-        }
-        Ok(())
-    }
-
-    /// Puts a section to its place. The transition that moved out of it comes after it, or moves further if no node does.
-    fn put_section(
-        &mut self,
-        tag: Tag,
-        attrs: Attrs,
-        line: usize,
-        inner: Placed,
-        last: bool,
-    ) -> Result<()>
-        ensures nodes { Gives (λ _. self.new.nodes.items ≡ self.old.nodes.items ++ Element tag attrs (forest_of inner.nodes.items) line ∷ (if last then [] else inner.moving.items)) result }
-        ensures moving { Gives (λ _. self.new.moving.items ≡ self.old.moving.items ++ (if last then inner.moving.items else [])) result }
-    {
-        let Placed { nodes, mut moving } = inner;
-        self.nodes.push(Node::Element {
-            tag,
-            attrs,
-            children: Children::of(nodes),
-            line,
-        })?;
-        if last {
-            self.moving.append(&mut moving)?;
-            return Ok(());
-        }
-        self.nodes.append(&mut moving)?;
-        Ok(())
+/// How many of a section's nodes stay in it: all but a transition at its end.
+fn staying(nodes: &[Node]) -> usize
+    ensures count { result ≡ staying nodes.now }
+    ensures within { result ≤ length nodes.now }
+{
+    match nodes.split_last() {
+        Some((last, others)) if is_one(last) => others.len(),
+        _ => nodes.len(),
     }
 }
 
-/// The message on a transition that only titles come before.
-const AT_BEGINNING: &str = "Document or section may not begin with a transition.";
-/// The message on a transition that follows another one.
-const ADJACENT: &str =
-    "At least one body element must separate transitions; adjacent transitions are not allowed.";
-/// The message on a transition that nothing follows.
-const AT_END: &str = "Document may not end with a transition.";
-
-/// What is wrong with a transition after these siblings, if anything is.
-#[tactic(auto, unfolding(crate::specs::Transitions::fault_before))]
-fn fault_before(before: &[Node]) -> Option<&'static str>
-    ensures { option_map (λ words. words.now) result ≡ fault_before before.now }
+/// Puts a transition after nodes, with the message on what is wrong with it before it. If it is the last node of the document, another
+/// message follows it.
+#[tactic(auto, unfolding(crate::specs::Transitions::placed_transition))]
+fn put_transition(
+    nodes: &mut Vec<Node>,
+    transition: Node,
+    line: usize,
+    fault: Option<TransitionFault>,
+    last: bool,
+    context: &mut Context,
+) -> Result<()>
+    ensures nodes { Gives (λ _. let placed = placed_transition context.old.first_number fault last transition line context.old.reports.items in (nodes.new.items ≡ nodes.old.items ++ placed.0) × (context.new.reports.items ≡ placed.1)) result }
+    ensures rest { Gives (λ _. KeepsRest context.old context.new) result }
 {
-    if only_titles(before) {
-        return Some(AT_BEGINNING);
-    }
-    if ends_in_transition(before) {
-        return Some(ADJACENT);
-    }
-    None
+    put_message(nodes, line, fault, context)?;
+    nodes.push(transition)?;
+    let end = last.then_some(TransitionFault::AtEnd);
+    put_message(nodes, line, end, context)
 }
 
-/// Whether the nodes are titles and subtitles.
-fn only_titles(nodes: &[Node]) -> bool
-    ensures { result ≡ list_all is_title nodes.now }
+/// Puts an ERROR on a transition after nodes, if something is wrong with it. It is in the list of messages, too.
+#[tactic(auto, unfolding(crate::specs::Transitions::transition_message))]
+fn put_message(
+    nodes: &mut Vec<Node>,
+    line: usize,
+    fault: Option<TransitionFault>,
+    context: &mut Context,
+) -> Result<()>
+    ensures nodes { Gives (λ _. let made = transition_message context.old.first_number line fault context.old.reports.items in (nodes.new.items ≡ nodes.old.items ++ made.0) × (context.new.reports.items ≡ made.1)) result }
+    ensures rest { Gives (λ _. KeepsRest context.old context.new) result }
 {
-    nodes.iter().all(|node| is_title(node))
+    let Some(fault) = fault else {
+        return Ok(());
+    };
+    let text = Text::from_str(context.alloc, fault.text())?;
+    let message = context.report_in_place(Level::Error, line, text)?;
+    nodes.push(message)?;
+    Ok(())
 }
 
-/// Whether the last of these nodes is a transition.
-fn ends_in_transition(nodes: &[Node]) -> bool
-    ensures { result ≡ ends_in_transition nodes.now }
+/// What is wrong with a transition after one more node, if anything is.
+fn fault_after(node: &Node, fault: Option<TransitionFault>) -> Option<TransitionFault>
+    ensures { result ≡ fault_after node.now fault }
 {
-    match nodes.last() {
-        Some(Node::Element { tag, .. }) => is_transition(*tag),
-        Some(Node::Text(_)) | None => false,
+    if is_title(node) {
+        return fault;
+    }
+    is_one(node).then_some(TransitionFault::Adjacent)
+}
+
+/// Whether a node is a transition.
+fn is_one(node: &Node) -> bool
+    ensures { result ≡ is_one (Some node.now) }
+{
+    match node {
+        Node::Element { tag, .. } => is_transition(*tag),
+        Node::Text(_) => false,
     }
 }
 
