@@ -49,8 +49,8 @@ HOLD = {
     "OpenBlock": "Heading Run", "OpenList": "ListKind", "OpenReplacement": "String", "Run": "BarText OpenList", "Sections": "Style",
     "Step": "TableResult Waits", "Waits": "OpenReplacement", "WrongForm": "str",
     # functions
-    "add_line": "char", "alone": "N", "from": "T", "heading_of": "String", "heads_of": "Text", "holding": "String", "joined": "char", "of": "String",
-    "option": "str", "push": "N", "replacement": "String", "shortened": "String", "with_parts": "Text",
+    "add_line": "char", "alone": "N", "definition_or_error": "String", "from": "T", "heading_of": "String", "heads_of": "Text",
+    "joined_nonempty": "char", "of": "String", "option": "str", "push": "N", "replacement": "String", "shortened": "String", "with_parts": "Text",
     MACHINE: "Begun Cell Ended Frame Frames LineTest Lines OpenBlock Rows Step TableResult Waits",
 }
 # How many lines there are, their numbers, and where they are; how views and lines are made.
