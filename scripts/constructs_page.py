@@ -27,7 +27,7 @@ ROWS = [
     ("Bullet lists", "is_bullet_row bullet is_bullet", "bullet_size item_size least_below", "list_item item_part list_joining_after list_by"),
     ("Enumerated lists", "is_enumerator_row item_enumerator if_listed", "enumerator_size", "list_item enumerators_by is_next_after start_note"),
     ("Field lists", "is_field_row field_of", "hanging_size", "field hanging"),
-    ("Option lists", "is_option_row item_option if_described", "hanging_size", "option option_group option_in"),
+    ("Option lists", "is_option_row item_option if_described", "hanging_size", "option option_group option_element"),
     ("Doctest blocks", "is_doctest_row doctest", "doctest_size", "doctest_node"),
     ("Line blocks", "is_bar_row line_bar", "indented_size", "line_nodes indented_lines indented_line indentation_of bar_lines"),
     ("Grid tables", "is_grid_row is_grid_border", "grid_size grid_bottom is_border_at", "table_nodes table_node head_nodes row_of entry_of"),
