@@ -1,5 +1,5 @@
 -- The looks that the machine takes: at the cells of tables, in the blocks that wait, and in whole texts.
-use Rattle.std.proofs.Common.{◌≡◌, ◌⊎◌, inl, inr, ℕ, suc, ◌+◌, ◌-◌, ◌*◌, ◌<◌, ◌≤◌, true, false, List, [], ◌∷◌, ◌++◌, length, map, Option, Some, None, append-nil, arith, refl, ap, sym, subst, ◌∙◌}
+use Rattle.std.proofs.Common.{◌≡◌, ◌⊎◌, inl, inr, ℕ, suc, ◌+◌, ◌-◌, ◌*◌, ◌<◌, ◌≤◌, true, false, List, [], ◌∷◌, ◌++◌, length, map, Option, Some, None, append-nil, arith, refl, ap, sym, subst, ◌∙◌, vec_items}
 use Rattle.std.specs.Prelude.{Vec, IsTrue}
 use Rattle.std.proofs.lemmas.List.{nil_from_length}
 use Rattle.rst_settings.specs.Profile.{profile_of}
@@ -9,7 +9,6 @@ use Rattle.rst_text.specs.Lines.{are_lines}
 use Rattle.rst_text.specs.Looked.{capped}
 use Rattle.rst_text.specs.ViewBlock.{placement_block}
 use Rattle.rst_markup_blocks.specs.declared.part.Part.{Part}
-use Rattle.rst_markup_tables.specs.Results.{cells_of}
 use Rattle.rst_markup_tables.specs.declared.results.Cell.{Cell}
 use Rattle.rst_markup_tables.specs.declared.results.TableResult.{TableResult}
 use Rattle.rst_markup_tables.specs.declared.results.TableResult.TheVariants.{Table}
@@ -61,7 +60,7 @@ cell_lines cells = map (λ (c : Cell). c.lines) cells
 
 -- the lines of the cells of rows, as they are kept
 abbrev pub row_lines : {Z : Type 0} → List (Vec Cell Z) → List Block
-row_lines rows = cell_blocks (Table [] 0 (cells_of rows) 0)
+row_lines rows = cell_blocks (Table [] 0 (map vec_items rows) 0)
 
 -- the next cell of a row
 pub next_cell : (depth : ℕ) (left rest : List Cell) (cell : Cell) (C : Block) → 1 ≤ depth → left ≡ cell ∷ rest → C ≡ cell.lines
@@ -89,7 +88,7 @@ row_paid depth cells left before now l h = subst (λ n. TakesFor n before now) (
 -- the next row of a table
 pub next_row : {Z : Type 0} (depth : ℕ) (left rest : List (Vec Cell Z)) (row : Vec Cell Z) → left ≡ row ∷ rest
     → totals depth (row_lines left) ≡ totals depth (cell_blocks (Table [] 0 (row.items ∷ []) 0)) + totals depth (row_lines rest)
-next_row {Z} depth left rest row l = ap (λ (some : List (Vec Cell Z)). totals depth (row_lines some)) l ∙ rows_cells depth 0 0 0 [] row.items (cells_of rest)
+next_row {Z} depth left rest row l = ap (λ (some : List (Vec Cell Z)). totals depth (row_lines some)) l ∙ rows_cells depth 0 0 0 [] row.items (map vec_items rest)
 
 -- after the last row no line is left
 no_row : {Z : Type 0} (depth : ℕ) (left : List (Vec Cell Z)) → left ≡ [] → totals depth (row_lines left) ≡ 0

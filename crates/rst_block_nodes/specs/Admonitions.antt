@@ -1,5 +1,6 @@
 -- The class that a title gives (Directives, 'Generic Admonition').
 use Rattle.std.specs.Prelude.{List, [], ◌∷◌, ◌++◌, codes, if◌then◌else◌}
+use Rattle.rst_text.specs.Names.{identifier}
 use Rattle.std.specs.Option.{is_some}
 use Rattle.rst_tree.specs.Attributes.{value_of, with_attr}
 use Rattle.rst_tree.specs.Tree.{text_in}
@@ -9,7 +10,6 @@ use Rattle.rst_tree.specs.declared.attrs.Value.TheVariants.{List as Listed}
 use Rattle.rst_tree.specs.declared.key.Key.TheVariants.{Classes}
 use Rattle.rst_tree.specs.declared.node.Node.{Node}
 use Rattle.rst_tree.specs.declared.node.Node.TheVariants.{Element, Text as Words}
-use Rattle.rst_block_nodes.specs.Values.{identifier}
 
 -- the class that a title gives: `admonition-` and the id of its text
 abbrev pub title_class : Node → Value

@@ -2,7 +2,7 @@
 use Rattle.std.specs.Prelude.{ℕ, ◌==◌, List, [], ◌∷◌, ◌++◌, length, map, drop, codes, decimal, if◌then◌else◌, Option, Some, None, encode_utf8_all}
 use Rattle.std.specs.Str.{chars}
 use Rattle.rst_text.specs.Block.{is_blank}
-use Rattle.rst_text.specs.Names.{name_of}
+use Rattle.rst_text.specs.Names.{name_of, name_in}
 use Rattle.rst_tree.specs.Attributes.{attr}
 use Rattle.rst_tree.specs.Forest.{bare}
 use Rattle.rst_tree.specs.Nodes.{forest_of}
@@ -23,7 +23,6 @@ use Rattle.rst_markup_lines.specs.declared.option.Delimiter.{Delimiter}
 use Rattle.rst_markup_lines.specs.declared.option.Delimiter.TheVariants.{Nothing, Space, Equals}
 use Rattle.rst_markup_lines.specs.Enumerator.{first_reading}
 use Rattle.rst_markup_lines.specs.TextStart.{begins_with}
-use Rattle.rst_block_nodes.specs.Values.{name_in}
 
 -- an element with attributes and nodes
 abbrev pub element_of : Tag → List Attr → List Node → ℕ → Node

@@ -4,7 +4,7 @@ use Rattle.std.specs.Prelude.{ℕ, Bool, true, false, ◌&&◌, not, List, [], �
 use Rattle.std.specs.List.{list_all, list_any}
 use Rattle.std.specs.Option.{is_some}
 use Rattle.std.specs.Str.{chars}
-use Rattle.rst_text.specs.Names.{name_of}
+use Rattle.rst_text.specs.Names.{name_of, name_in}
 use Rattle.rst_tree.specs.Attributes.{attr, value_of, with_attr}
 use Rattle.rst_tree.specs.Forest.{Forest, bare}
 use Rattle.rst_tree.specs.Nodes.{nodes_of}
@@ -15,8 +15,9 @@ use Rattle.rst_tree.specs.declared.node.Node.{Node}
 use Rattle.rst_tree.specs.declared.node.Node.TheVariants.{Element, Text as Words}
 use Rattle.rst_tree.specs.declared.tag.Tag.{Tag}
 use Rattle.rst_tree.specs.declared.tag.Tag.TheVariants.{Emphasis, Strong, Literal, Subscript, Superscript, TitleReference, SubstitutionReference, Reference, Target}
+use Rattle.rst_tree_index.specs.Kinds.{is_substitution_reference_node}
 use Rattle.rst_markup_directives.specs.Target.{Destination, named, located, target_value}
-use Rattle.rst_block_nodes.specs.Values.{name_in, unescaped}
+use Rattle.rst_block_nodes.specs.Values.{unescaped}
 
 -- ---- targets
 
@@ -48,19 +49,9 @@ is_plain_role TitleReference = true
 is_plain_role SubstitutionReference = true
 is_plain_role _ = false
 
--- the element is a substitution reference
-abbrev pub is_substitution_tag : Tag → Bool
-is_substitution_tag SubstitutionReference = true
-is_substitution_tag _ = false
-
--- the node is a substitution reference
-abbrev pub is_substitution : Node → Bool
-is_substitution (Element t a c l) = is_substitution_tag t
-is_substitution (Words t) = false
-
 -- A reference is allowed there if it isn't anonymous and doesn't contain a substitution reference.
 abbrev pub may_refer : List Attr → Forest → Bool
-may_refer a c = not (is_some (value_of Anonymous a)) && not (list_any is_substitution (nodes_of c))
+may_refer a c = not (is_some (value_of Anonymous a)) && not (list_any is_substitution_reference_node (nodes_of c))
 
 -- an element is allowed there: a reference by its attributes and nodes, any other by its kind
 abbrev pub may_stand_as : Tag → List Attr → Forest → Bool

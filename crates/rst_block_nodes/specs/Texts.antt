@@ -1,5 +1,6 @@
 -- Elements that hold a text with inline markup, and messages (Document Tree, 'Element Reference', 'system_message').
 use Rattle.std.specs.Prelude.{ℕ, ◌==◌, if◌then◌else◌, List, [], ◌∷◌, Option}
+use Rattle.rst_text.specs.Names.{name_in}
 use Rattle.rst_tree.specs.Attributes.{attr}
 use Rattle.rst_tree.specs.Messages.{note_node, numbered_message_node}
 use Rattle.rst_tree.specs.Sends.{counted_on}
@@ -12,7 +13,6 @@ use Rattle.rst_tree.specs.declared.note.Level.{Level}
 use Rattle.rst_tree.specs.declared.note.Note.{Note}
 use Rattle.rst_tree.specs.declared.tag.Tag.TheVariants.{Section}
 use Rattle.rst_block_nodes.specs.Elements.{element_of}
-use Rattle.rst_block_nodes.specs.Values.{name_in}
 
 -- a message
 abbrev pub message_node : Level → ℕ → List ℕ → Option (List ℕ) → Node

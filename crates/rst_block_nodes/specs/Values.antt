@@ -7,10 +7,6 @@ use Rattle.rst_text.specs.Escapes as escapes
 use Rattle.rst_tree.specs.declared.attrs.Value.{Value}
 use Rattle.rst_tree.specs.declared.attrs.Value.TheVariants.{List as Listed}
 
--- the name that a text gives
-abbrev pub name_in : List ℕ → List ℕ
-name_in text = encode_utf8_all (names.name_of (chars text))
-
 -- a text with each run of white characters as one space, and none at its ends
 abbrev pub normalized : List ℕ → List ℕ
 normalized text = encode_utf8_all (names.normalized_white (chars text))
@@ -18,10 +14,6 @@ normalized text = encode_utf8_all (names.normalized_white (chars text))
 -- a text without its escapes
 abbrev pub unescaped : List ℕ → List ℕ
 unescaped text = encode_utf8_all (escapes.unescaped (chars text))
-
--- the id that a text gives
-abbrev pub identifier : List ℕ → List ℕ
-identifier text = encode_utf8_all (names.id_of (chars text))
 
 -- a value that lists texts
 abbrev pub list_of_texts : {A : Type 0} → List (String A) → Value

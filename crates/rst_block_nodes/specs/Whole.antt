@@ -7,15 +7,12 @@ use Rattle.std.specs.List.{flat_map}
 use Rattle.rst_text.specs.Written.{written}
 use Rattle.rst_tree.specs.Forest.{Forest, bare, element, words}
 use Rattle.rst_tree.specs.Nodes.{forest_of}
-use Rattle.rst_tree.specs.Print.{PrintedLine, attribute_opening, printed, text_lines, value_text}
+use Rattle.rst_tree.specs.Print.{PrintedLine, printed, text_lines}
 use Rattle.rst_tree.specs.TagNames.{tag_name}
 use Rattle.rst_tree.specs.declared.attrs.Attr.{Attr}
 use Rattle.rst_tree.specs.declared.node.Node.{Node}
 use Rattle.rst_tree.specs.declared.tag.Tag.{Tag}
-
--- ` name="value"`
-abbrev pub any_attr : Attr → List ℕ
-any_attr a = attribute_opening a.key ++ value_text a.value ++ codes "\""
+use Rattle.rst_inline.specs.Reads.{any_attr}
 
 -- `<tag attributes>` and the number of the line
 abbrev pub tag_and_line : Tag → List Attr → ℕ → List ℕ

@@ -2,10 +2,11 @@
 ghost use Rattle.std.specs.Prelude.{◌≡◌, ◌∷◌, [], string_bytes, option_map};
 ghost use Rattle.std.specs.List.{list_any};
 ghost use Rattle.rst_tree.specs.Faults.{Gives};
+ghost use Rattle.rst_tree_index.specs.Kinds.{is_substitution_reference_node};
 ghost use Rattle.rst_markup_directives.specs.Target.{destination_of};
 ghost use Rattle.rst_block_nodes.specs.Values.{normalized, unescaped};
 ghost use Rattle.rst_block_nodes.specs.Elements.{substitution_definition_node};
-ghost use Rattle.rst_block_nodes.specs.Targets.{target_node, name_attrs, leading_attrs, may_replace, may_stand, is_substitution};
+ghost use Rattle.rst_block_nodes.specs.Targets.{target_node, name_attrs, leading_attrs, may_replace, may_stand};
 
 use super::nodes::element_of;
 use super::values::{name_value, normalized, text_value, unescaped};
@@ -112,7 +113,7 @@ fn may_stand(node: &Node) -> bool
 
 /// Whether one of the nodes is a substitution reference.
 fn has_substitution(nodes: &[Node]) -> bool
-    ensures { result ≡ list_any is_substitution nodes.now }
+    ensures { result ≡ list_any is_substitution_reference_node nodes.now }
 {
     nodes.iter().any(|node| {
         matches!(

@@ -1,9 +1,10 @@
 //! Texts as values of attributes.
 ghost use Rattle.std.specs.Prelude.{◌≡◌, string_bytes};
+ghost use Rattle.rst_text.specs.Names.{name_in};
 ghost use Rattle.std.specs.Cow.{cow_str_bytes};
 ghost use Rattle.rst_tree.specs.Faults.{Gives};
 ghost use Rattle.rst_tree.specs.declared.attrs.Value.TheVariants.{Text as TextValue};
-ghost use Rattle.rst_block_nodes.specs.Values.{name_in, normalized, unescaped, list_of_texts};
+ghost use Rattle.rst_block_nodes.specs.Values.{normalized, unescaped, list_of_texts};
 
 use rst_inline::unescape;
 use rst_text::{name_of, normalized_white};

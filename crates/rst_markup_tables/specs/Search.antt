@@ -1,5 +1,5 @@
 -- How the rectangles of a grid table are found, and its tiling made of them. No rule of markup: what is found is what is drawn.
-use Rattle.std.specs.Prelude.{◌≡◌, ℕ, ◌+◌, ◌<◌, ◌≤◌, Bool, true, false, ◌&&◌, List, [], Option, Some, None, if◌then◌else◌, get_or, length, ◌≢◌, map, Vec}
+use Rattle.std.specs.Prelude.{◌≡◌, ℕ, ◌+◌, ◌<◌, ◌≤◌, Bool, true, false, ◌&&◌, List, [], Option, Some, None, if◌then◌else◌, get_or, length, ◌≢◌}
 use Rattle.rst_markup_tables.specs.Places.{Grid, row_at, mark_at, place}
 use Rattle.rst_markup_tables.specs.Drawn.{is_across, is_upright, IsAcross, IsUpright, IsDrawnRectangle, IsDrawn}
 use Rattle.rst_markup_tables.specs.declared.drawn.Rectangle.{Rectangle}
@@ -73,7 +73,3 @@ HasBegins G begins = (i : ℕ) → i < length G → AreBegins (row_at G i) (get_
 -- the number at a place of such rows, 0 past the end
 unfoldable pub begin_at : List (List ℕ) → ℕ → ℕ → ℕ
 begin_at begins i j = get_or (get_or begins i []) j 0
-
--- the numbers of rows that are kept apart
-abbrev pub lists_of : {Z : Type 0} → List (Vec ℕ Z) → List (List ℕ)
-lists_of rows = map (λ row. row.items) rows

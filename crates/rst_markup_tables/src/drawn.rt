@@ -1,8 +1,8 @@
 //! The rectangles that a grid table draws, and the tiling by them.
-ghost use Rattle.std.specs.Prelude.{◌≡◌, ◌<◌, IfOk, option_map, vec_items};
+ghost use Rattle.std.specs.Prelude.{◌≡◌, ◌<◌, IfOk, option_map, map, vec_items};
 ghost use Rattle.rst_markup_tables.specs.Places.{width, place};
 ghost use Rattle.rst_markup_tables.specs.Drawn.{is_across, is_upright, Tiles};
-ghost use Rattle.rst_markup_tables.specs.Search.{are_upright, lists_of, begin_at, IsBottom, Tells, IsLeastBottom, AreBegins, HasBegins, Draws};
+ghost use Rattle.rst_markup_tables.specs.Search.{are_upright, begin_at, IsBottom, Tells, IsLeastBottom, AreBegins, HasBegins, Draws};
 
 use super::Result;
 use super::places::{Place, TableLine, mark, mark_at, width};
@@ -51,14 +51,14 @@ fn begins_of(alloc: Global, row: &[Place]) -> Result<Vec<usize>>
 struct Runs<'a> {
     rows: &'a [TableLine],
     begins: Vec<Vec<usize>>,
-    ghost are_begins: { HasBegins rows.now (lists_of begins.items) },
+    ghost are_begins: { HasBegins rows.now (map vec_items begins.items) },
 }
 
 impl Runs<'_> {
     // The number at a place of the table of runs.
     #[tactic(auto, unfolding(crate::specs::Search::begin_at))]
     fn begin_at(&self, row: usize, column: usize) -> usize
-        ensures { result ≡ begin_at (lists_of self.now.begins.items) row column }
+        ensures { result ≡ begin_at (map vec_items self.now.begins.items) row column }
     {
         match self.begins.get(row) {
             Some(begins) => begins.get(column).copied().unwrap_or(0),

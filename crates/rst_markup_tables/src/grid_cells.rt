@@ -1,8 +1,7 @@
 //! The cells of a grid table.
-ghost use Rattle.std.specs.Prelude.{◌≡◌, ◌+◌, ◌-◌, ◌<◌, ℕ, Some, length, get_or, IfOk, IfSome};
+ghost use Rattle.std.specs.Prelude.{◌≡◌, ◌+◌, ◌-◌, ◌<◌, ℕ, Some, length, get_or, IfOk, IfSome, map, vec_items};
 ghost use Rattle.rst_markup_tables.specs.Drawn.{IsTiling};
 ghost use Rattle.rst_markup_tables.specs.GridTable as spec;
-ghost use Rattle.rst_markup_tables.specs.Results.{cells_of};
 
 use super::Result;
 use super::bounds::{Tiling, gaps};
@@ -68,7 +67,7 @@ impl Tiling<'_> {
     fn cell_rows(&self, ranks: &Ranks, count: usize) -> Result<Vec<Vec<Cell>>>
         requires tiling { IsTiling self.now.lines.now self.now.rectangles.now }
         requires few { (k : ℕ) → k < length self.now.rectangles.now → get_or ranks.now.rows.items (get_or self.now.rectangles.now k (record { top = 0; left = 0; bottom = 0; right = 0 })).top 0 < count }
-        ensures { IfOk result (λ rows. cells_of rows.items ≡ spec.cell_rows (λ k. get_or ranks.now.rows.items k 0) (λ k. get_or ranks.now.columns.items k 0) self.now.lines.now self.now.rectangles.now count) }
+        ensures { IfOk result (λ rows. map vec_items rows.items ≡ spec.cell_rows (λ k. get_or ranks.now.rows.items k 0) (λ k. get_or ranks.now.columns.items k 0) self.now.lines.now self.now.rectangles.now count) }
     {
         let mut rows = Vec::with_capacity(self.alloc, count)?;
         for _ in 0..count {

@@ -104,29 +104,27 @@ pub struct Rows {
 }
 
 impl Model for Rows {
-    ghost use Rattle.std.specs.Prelude.{List};
+    ghost use Rattle.std.specs.Prelude.{List, map, vec_items};
     ghost use Rattle.rst_markup_tables.specs.declared.results.Cell.{Cell};
 
     ghost Value = { List (List Cell) };
 
-    ghost use Rattle.rst_markup_tables.specs.Results.{cells_of};
-
-    ghost view = { λ r. cells_of r.rows.items };
+    ghost view = { λ r. map vec_items r.rows.items };
 }
 
 impl Rows {
-    ghost use Rattle.rst_markup_tables.specs.Results.{cells_of};
+    ghost use Rattle.std.specs.Prelude.{map, vec_items};
 
     /// These rows.
     pub(crate) fn of(rows: Vec<Vec<Cell>>) -> Rows
-        ensures { result ≡ cells_of rows.items }
+        ensures { result ≡ map vec_items rows.items }
     {
         Rows { rows }
     }
 
     /// The rows, from the top down.
     pub fn into_rows(self) -> Vec<Vec<Cell>>
-        ensures { cells_of result.items ≡ self }
+        ensures { map vec_items result.items ≡ self }
     {
         self.rows
     }

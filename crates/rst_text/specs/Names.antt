@@ -1,8 +1,9 @@
 -- Names and ids of texts (Markup Specification, 'Reference Names'; Directives, 'Identifier Normalization'; Document Tree,
 -- attributes `names` and `ids`).
-use Rattle.std.specs.Prelude.{ℕ, Bool, not, ◌||◌, ◌==◌, if◌then◌else◌, List, drop, map, filter}
+use Rattle.std.specs.Prelude.{ℕ, Bool, not, ◌||◌, ◌==◌, if◌then◌else◌, List, drop, map, filter, encode_utf8_all}
 use Rattle.std.specs.Char.{is_ascii, is_ascii_digit, is_ascii_lowercase}
 use Rattle.std.specs.List.{join_with_byte, list_all, prefix_len, slice_split}
+use Rattle.std.specs.Str.{chars}
 use Rattle.unicode.specs.CaseFolding.{simple_fold}
 use Rattle.unicode_normalization.specs.Forms.{nfkd}
 use Rattle.rst_text.specs.Block.{is_blank}
@@ -44,3 +45,11 @@ identifier_of cs = skip_while is_no_start (join_with_byte 45 (parts_between (λ 
 -- The id that a text gives: its name, decomposed (NFKD), as an identifier. A name in ASCII is already decomposed.
 unfoldable pub id_of : List ℕ → List ℕ
 id_of text = let name = name_of text in identifier_of (if list_all is_ascii name then name else nfkd name)
+
+-- the name that a text in UTF-8 gives
+abbrev pub name_in : List ℕ → List ℕ
+name_in text = encode_utf8_all (name_of (chars text))
+
+-- the id that a text in UTF-8 gives; the empty text gives the empty id, which is none
+abbrev pub identifier : List ℕ → List ℕ
+identifier text = encode_utf8_all (id_of (chars text))

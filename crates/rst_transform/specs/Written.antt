@@ -7,7 +7,7 @@ use Rattle.rst_settings.specs.declared.Settings.{Settings}
 use Rattle.rst_settings.specs.declared.Threshold.TheVariants.{Never, Severe, Warning}
 use Rattle.rst_tree.specs.declared.key.Key.TheVariants.{Anonymous, Auto, OwnName, Rawsource, Refname}
 use Rattle.rst_tree.specs.declared.node.Node.{Node}
-use Rattle.rst_tree.specs.declared.tag.Tag.TheVariants.{FootnoteReference, Paragraph, Reference, Section, SubstitutionDefinition, SubstitutionReference, Target, Title, Transition}
+use Rattle.rst_tree.specs.declared.tag.Tag.TheVariants.{FootnoteReference, Paragraph, Reference, Section, Target, Title, Transition}
 use Rattle.rst_transform_names.specs.Trees.{counts, document_element, element, IsPrintedIn, says, text}
 use Rattle.rst_transform.specs.Finishing.{leaves}
 
@@ -42,12 +42,6 @@ indirect_target name other = element Target (says OwnName name ∷ says Refname 
 abbrev pub named_section : String → String → List Node → Node
 named_section name title nodes = element Section (says OwnName name ∷ []) (element Title [] (text title ∷ []) ∷ nodes)
 
--- a substitution reference and a definition of its name
-abbrev pub substitution : String → String → Node
-substitution name source = element SubstitutionReference (says Rawsource source ∷ says Refname name ∷ []) []
-
-abbrev pub definition_node : String → List Node → Node
-definition_node name nodes = element SubstitutionDefinition (says OwnName name ∷ []) nodes
-
+-- a transition
 abbrev pub transition : Node
 transition = element Transition [] []

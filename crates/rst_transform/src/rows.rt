@@ -6,9 +6,10 @@ ghost use Rattle.rst_settings.specs.declared.Threshold.TheVariants.{Error, Sever
 ghost use Rattle.rst_tree.specs.declared.key.Key.TheVariants.{Anonymous, Level, OwnName, Rawsource, Refname};
 ghost use Rattle.rst_tree.specs.declared.tag.Tag.TheVariants.{Field, FieldBody, FieldList, FieldName, Paragraph, Reference, Section, SystemMessage, Target, Title};
 ghost use Rattle.rst_transform_names.specs.Trees.{counts, element, paragraph, says, text};
+ghost use Rattle.rst_transform_substitutions.specs.Written.{definition_node, substitution};
 ghost use Rattle.rst_transform_docinfo.specs.Written.{field};
 ghost use Rattle.rst_transform_references.specs.Written.{footnote};
-ghost use Rattle.rst_transform.specs.Written.{anonymous_reference, definition_node, indirect_target, numbered_reference, reference_paragraph, named_section, substitution, transition, usual, Leaves, HasMessageTexts};
+ghost use Rattle.rst_transform.specs.Written.{anonymous_reference, indirect_target, numbered_reference, reference_paragraph, named_section, transition, usual, Leaves, HasMessageTexts};
 
 /// Transitions are looked at after the links, and before the last section is added (Markup Specification, 'Transitions').
 pub fn transitions()

@@ -1,5 +1,6 @@
 -- What the fields of a document's bibliography become (reStructuredText Markup Specification, 'Bibliographic Fields').
 use Rattle.std.specs.Prelude.{ℕ, false, List, [], ◌∷◌, ◌++◌, Option, Some, None, option_map, if◌then◌else◌, codes}
+use Rattle.rst_text.specs.Names.{identifier}
 use Rattle.std.specs.Str.{bytes_eq}
 use Rattle.rst_tree.specs.declared.attrs.Attr.{Attr}
 use Rattle.rst_tree.specs.declared.attrs.Value.TheVariants.{Text as Says, List as Listed}
@@ -21,7 +22,6 @@ use Rattle.rst_transform_docinfo.specs.declared.field.Field.{Field}
 use Rattle.rst_transform_work.specs.declared.report.Report.{Report}
 use Rattle.rst_transform_docinfo.specs.Authors.{authors_in}
 use Rattle.rst_transform_docinfo.specs.Fields.{nodes_in, paragraph_in}
-use Rattle.rst_transform_work.specs.Reading.{identifier}
 use Rattle.rst_transform_work.specs.Reports.{next_report, report_node}
 
 -- the row of the table that has a name

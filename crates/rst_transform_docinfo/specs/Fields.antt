@@ -1,5 +1,6 @@
 -- Fields and their parts (Document Tree, 'field').
 use Rattle.std.specs.Prelude.{ℕ, List, [], ◌∷◌, Option, Some, None}
+use Rattle.rst_text.specs.Names.{name_in}
 use Rattle.rst_tree.specs.declared.attrs.Attr.{Attr}
 use Rattle.rst_tree.specs.declared.node.Node.{Node}
 use Rattle.rst_tree.specs.declared.node.Node.TheVariants.{Element, Text}
@@ -7,7 +8,6 @@ use Rattle.rst_tree.specs.declared.tag.Tag.TheVariants.{Paragraph, Field as IsFi
 use Rattle.rst_tree.specs.Forest.{Forest, bare, element, words}
 use Rattle.rst_tree.specs.Nodes.{nodes_of}
 use Rattle.rst_tree.specs.Tree.{text_in}
-use Rattle.rst_transform_work.specs.Reading.{name_in}
 use Rattle.rst_transform_docinfo.specs.declared.field.Field.{Field}
 
 -- a field's attributes, its name, its body and its line

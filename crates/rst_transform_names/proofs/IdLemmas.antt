@@ -13,12 +13,13 @@ use Rattle.std.proofs.lemmas.Bool.{lt-leb, eq-eqb, cases_Bool, cond_both, cond-t
 use Rattle.std.proofs.lemmas.Str.{encodes-chars, IsUtf8-string_bytes}
 use Rattle.std.specs.Cmp.Lexicographic.{bytes_decides}
 use Rattle.rst_text.specs.Text.{chars_of}
+use Rattle.rst_text.specs.Names.{identifier}
 use Rattle.rst_tree.specs.declared.fault.TreeFault.{TreeFault}
 use Rattle.rst_tree.specs.declared.fault.TreeFault.TheVariants.{NoMemory}
 use Rattle.rst_tree.specs.declared.tag.Tag.{Tag}
 use Rattle.rst_transform_names.specs.declared.ids.Ids.{Ids}
 use Rattle.rst_tree.specs.TagNames.{hyphenated, tag_name}
-use Rattle.rst_transform_names.specs.Ids.{id_with_number, id_number, last_number, taken_by, has_id, is_taken, id_by, kind_id, least_free, least_failing_from, numbered_id, wanted_id, AreTaken, IsLeastFree, TakesId, TakesNone, GivesId, GivesNumber, GivesNumbered}
+use Rattle.rst_transform_names.specs.Ids.{id_with_number, id_number, last_number, taken_by, has_id, is_taken, id_by, kind_id, least_free, least_failing_from, numbered_id, AreTaken, IsLeastFree, TakesId, TakesNone, GivesId, GivesNumber, GivesNumbered}
 use Rattle.rst_transform_names.proofs.IdNumbers.{id_number-id_with_number, some_same, id_number-is}
 
 -- ---- ids taken
@@ -257,7 +258,7 @@ kind_of_nothing : (taken : List (List ℕ)) (tag : Tag) (wanted : List ℕ) → 
 kind_of_nothing taken tag [] none = refl
 kind_of_nothing taken tag (c ∷ cs) none = absurd (omega (arith, none))
 
-pub gives_kind : (tag : Tag) (name wanted : List ℕ) (old new : Ids) (r : Result (List ℕ) TreeFault) → wanted ≡ wanted_id name → length wanted ≡ 0
+pub gives_kind : (tag : Tag) (name wanted : List ℕ) (old new : Ids) (r : Result (List ℕ) TreeFault) → wanted ≡ identifier name → length wanted ≡ 0
     → GivesNumbered (hyphenated (tag_name tag)) old new r → GivesId tag name old new r
 gives_kind tag name wanted old new (Ok id) is none h = λ taken are.
     let given = h taken are in (given.0 ∙ kind_of_nothing taken tag wanted none ∙ ap (id_by taken tag) is, given.1)
@@ -268,7 +269,7 @@ by_wanted : (taken : List (List ℕ)) (tag : Tag) (wanted id : List ℕ) → 0 <
 by_wanted taken tag [] id some is = absurd (omega arith)
 by_wanted taken tag (c ∷ cs) id some is = is
 
-pub gives_after : (tag : Tag) (name wanted : List ℕ) (old mid new : Ids) (r : Result (List ℕ) TreeFault) → wanted ≡ wanted_id name → 0 < length wanted
+pub gives_after : (tag : Tag) (name wanted : List ℕ) (old mid new : Ids) (r : Result (List ℕ) TreeFault) → wanted ≡ identifier name → 0 < length wanted
     → is_taken old wanted ≡ true → TakesId wanted old mid → GivesNumbered wanted mid new r → GivesId tag name old new r
 gives_after tag name wanted old mid new (Ok id) is some was takes h = λ taken are.
     let given = h taken (taken_still old mid taken are (none_by_taken old mid wanted was takes)) in

@@ -1,11 +1,11 @@
 -- Ids: which are taken, and which one an element gets (Document Tree, attribute `ids`).
-use Rattle.std.specs.Prelude.{◌≡◌, ℕ, zero, suc, ◌+◌, ◌<◌, ◌^◌, Bool, true, false, ◌==◌, ◌&&◌, ◌||◌, if◌then◌else◌, List, [], ◌∷◌, ◌++◌, length, codes, decimal, Option, Some, None, option_map, option_and_then, unwrap_or, nat_le, nat_lt, Result, Ok, Err, encode_utf8_all}
+use Rattle.std.specs.Prelude.{◌≡◌, ℕ, zero, suc, ◌+◌, ◌<◌, ◌^◌, Bool, true, false, ◌==◌, ◌&&◌, ◌||◌, if◌then◌else◌, List, [], ◌∷◌, ◌++◌, length, codes, decimal, Option, Some, None, option_map, option_and_then, unwrap_or, nat_le, nat_lt, Result, Ok, Err}
 use Rattle.std.specs.BTreeMap.{get_by_text}
 use Rattle.std.specs.BTreeSet.{contains_text}
 use Rattle.std.specs.List.{list_any}
-use Rattle.std.specs.Str.{bytes_eq, chars}
+use Rattle.std.specs.Str.{bytes_eq}
 use Rattle.std.specs.Str.Parse.{digits_value}
-use Rattle.rst_text.specs.Names.{id_of}
+use Rattle.rst_text.specs.Names.{identifier}
 use Rattle.rst_tree.specs.TagNames.{hyphenated, tag_name}
 use Rattle.rst_tree.specs.declared.fault.TreeFault.{TreeFault}
 use Rattle.rst_tree.specs.declared.fault.TreeFault.TheVariants.{NoMemory}
@@ -54,10 +54,6 @@ pub record IsLeastFree (taken : List ℕ → Bool) (base : List ℕ) (n : ℕ) :
   pub is_free : taken (id_with_number base n) ≡ false
   pub is_least : (m : ℕ) → 0 < m → m < n → taken (id_with_number base m) ≡ true
 
--- what a name gives; the empty name gives the empty id, which is none
-abbrev pub wanted_id : List ℕ → List ℕ
-wanted_id name = encode_utf8_all (id_of (chars name))
-
 -- an id is among some
 abbrev pub has_id : List (List ℕ) → List ℕ → Bool
 has_id ids id = list_any (bytes_eq id) ids
@@ -84,7 +80,7 @@ id_by taken tag [] = kind_id taken tag
 id_by taken tag (c ∷ cs) = if has_id taken (c ∷ cs) then numbered_id taken (c ∷ cs) else c ∷ cs
 
 abbrev pub id_for : List (List ℕ) → Tag → List ℕ → List ℕ
-id_for taken tag name = id_by taken tag (wanted_id name)
+id_for taken tag name = id_by taken tag (identifier name)
 
 -- the ids that are taken are these
 abbrev pub AreTaken : Ids → List (List ℕ) → Type 0

@@ -1,8 +1,9 @@
 //! Ids.
 ghost use Rattle.std.specs.Prelude.{◌≡◌, ◌<◌, List, ℕ, false, MatchOption, None, Some, string_bytes, nat_le, slice_index, ◌&&◌};
+ghost use Rattle.rst_text.specs.Names.{identifier};
 ghost use Rattle.rst_tree.specs.Faults.{Gives};
 ghost use Rattle.rst_tree.specs.TagNames.{hyphenated, tag_name};
-ghost use Rattle.rst_transform_names.specs.Ids.{is_taken, last_number, wanted_id, GivesId, GivesNumber, GivesNumbered, IsLeastFree, TakesOrFails, Tries};
+ghost use Rattle.rst_transform_names.specs.Ids.{is_taken, last_number, GivesId, GivesNumber, GivesNumbered, IsLeastFree, TakesOrFails, Tries};
 ghost use Rattle.rst_transform_names.specs.Ids as spec;
 ghost use Rattle.rst_transform_names.specs.Written as written;
 
@@ -177,7 +178,7 @@ fn begins_from_one(digits: &str) -> bool
 /// The id that a name gives; it may be empty, as that of the empty name is.
 #[tactic(auto, using(rst_text::proofs::TextLemmas::bytes_of_chars))]
 fn id_text(alloc: Global, name: &str) -> Result<String>
-    ensures { Gives (λ id. string_bytes id ≡ wanted_id name.now) result }
+    ensures { Gives (λ id. string_bytes id ≡ identifier name.now) result }
 {
     match id_of(alloc, name) {
         Ok(id) => Ok(id),

@@ -3,6 +3,7 @@
 #![tactic(auto, unfolding(crate::proofs::Computing::rst_transform_names))]
 
 ghost use Rattle.std.specs.Prelude.{◌≡◌, true, false, Some, None, codes, [], ◌∷◌};
+ghost use Rattle.rst_text.specs.Names.{identifier};
 ghost use Rattle.rst_tree.specs.declared.key.Key.TheVariants.{Inline, Message, OwnName, Refuri, Serial, TextMessages};
 ghost use Rattle.rst_tree.specs.declared.note.Level.TheVariants.{Info, Warning};
 ghost use Rattle.rst_tree.specs.declared.tag.Tag.TheVariants.{Attribution, BlockQuote, Caption, Classifier, Definition, DefinitionListItem, Field, FieldBody, FieldName, Figure, Footnote, Image, Line, LineBlock, Paragraph, Problematic, Reference, Section, SubstitutionDefinition, SystemMessage, Target, Term, Title};
@@ -13,7 +14,7 @@ ghost use Rattle.rst_transform_names.specs.declared.names.Holder.TheVariants.{No
 ghost use Rattle.rst_transform_names.specs.declared.names.Strength.TheVariants.{Implicit, Explicit};
 ghost use Rattle.rst_transform_names.specs.declared.rulings.Now.TheVariants.{Old, New, Nobody as NobodyNow};
 ghost use Rattle.rst_transform_names.specs.DuplicateMessages.{duplicate_definition, duplicate_name};
-ghost use Rattle.rst_transform_names.specs.Ids.{number_in, id_number, id_with_number, wanted_id};
+ghost use Rattle.rst_transform_names.specs.Ids.{number_in, id_number, id_with_number};
 ghost use Rattle.rst_transform_names.specs.NameMessages.{message_on, with_name_messages};
 ghost use Rattle.rst_transform_names.specs.Registering.{registration};
 ghost use Rattle.rst_transform_names.specs.Registry.{rule_by, standing};
@@ -23,8 +24,8 @@ ghost use Rattle.rst_transform_names.specs.Written.{given, left_after, with_give
 
 /// What a name gives as an id, and the numbers at the end of ids (Directives, 'Identifier Normalization').
 pub fn ids()
-    ensures of_a_name { wanted_id (codes "1. To be") ≡ codes "to-be" }
-    ensures of_no_name { wanted_id [] ≡ [] }
+    ensures of_a_name { identifier (codes "1. To be") ≡ codes "to-be" }
+    ensures of_no_name { identifier [] ≡ [] }
     ensures with_a_number { id_with_number (codes "a") 12 ≡ codes "a-12" }
     ensures after_the_last_hyphen { id_number (codes "a-1-2") ≡ Some (codes "a-1", 2) }
     ensures no_number { id_number (codes "a-b") ≡ None }

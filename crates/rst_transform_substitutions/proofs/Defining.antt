@@ -1,6 +1,7 @@
 -- The definitions of a document, found one node after another, and then known by their names.
 use Rattle.std.proofs.Common.{◌≡◌, ℕ, ◌+◌, ◌<◌, ◌≤◌, List, [], ◌∷◌, ◌++◌, length, map, get_or, take, refl, sym, ◌∙◌, ap, arith, Bool}
 use Rattle.std.specs.Prelude.{if◌then◌else◌, Option, Some, None}
+use Rattle.rst_text.specs.Names.{name_in}
 use Rattle.std.specs.BTreeMap.{get_by_text}
 use Rattle.std.specs.Str.{bytes_eq}
 use Rattle.std.proofs.Math.Path.{fun_ext}
@@ -13,7 +14,6 @@ use Rattle.rst_transform_substitutions.specs.declared.listing.Listed.{Listed}
 use Rattle.rst_transform_substitutions.specs.declared.definitions.Definitions.{Definitions}
 use Rattle.rst_transform_substitutions.specs.Definitions.{defined, definitions_among, found_among, found_by, known_place, last_place, own_definition, place_of_name, place_of_normalized, AreKnown, Definition}
 use Rattle.rst_transform_substitutions.specs.Numbering.{refnames_in, referenced_names, TakesListed}
-use Rattle.rst_transform_work.specs.Reading.{name_in}
 
 -- those among nodes come after the others
 pub listed_read : (level : Option ℕ) (f : Forest) (old new : Listed) → AreRead TakesListed level f old new

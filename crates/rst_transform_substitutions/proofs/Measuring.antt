@@ -11,11 +11,12 @@ use Rattle.rst_tree.specs.declared.tag.Tag.{Tag}
 use Rattle.rst_tree.specs.Forest.{Forest, bare, element, words}
 use Rattle.rst_tree.specs.Nodes.{forest_of, join_node}
 use Rattle.rst_tree_index.specs.Kinds.{is_substitution_reference}
+use Rattle.rst_transform_work.specs.Lists.{at_place}
 use Rattle.rst_transform_substitutions.specs.declared.definitions.Definitions.{Definitions}
 use Rattle.rst_transform_substitutions.specs.declared.sizes.Size.{Size}
 use Rattle.rst_transform_substitutions.specs.Definitions.{known_found}
 use Rattle.rst_transform_substitutions.specs.Expansion.{refname_of, size_of}
-use Rattle.rst_transform_substitutions.specs.Sizes.{added, both, deeper_size, flat, measured, size_at, size_found, AreMeasured}
+use Rattle.rst_transform_substitutions.specs.Sizes.{added, both, deeper_size, flat, measured, size_found, AreMeasured}
 use Rattle.rst_transform_substitutions.proofs.Sizing.{both_parts}
 
 -- a size by its parts
@@ -95,7 +96,7 @@ more_measured one two more (element t a c l r) s is =
     rw (more_here one two more (is_substitution_reference t) a c here (more_measured one two more c) is_here, more_measured one two more r rest is_rest) (cc)))
 
 -- one more size is known
-set_at : (xs : List (Option Size)) (n p : ℕ) (v : Option Size) → n < length xs → size_at (slice_set xs n v) p ≡ (if n == p then v else size_at xs p)
+set_at : (xs : List (Option Size)) (n p : ℕ) (v : Option Size) → n < length xs → at_place (slice_set xs n v) p ≡ (if n == p then v else at_place xs p)
 set_at [] n p v within = absurd (omega (arith, within))
 set_at (x ∷ xs) zero zero v within = refl
 set_at (x ∷ xs) zero (suc p) v within = grind arith
@@ -104,23 +105,23 @@ set_at (x ∷ xs) (suc n) (suc p) v within = let h = set_at xs n p v (omega (ari
 
 -- given sizes that are known, and the nodes of a definition that are measured by them
 module _ (known : Definitions) (old new : List (Option Size)) (place : ℕ) (content : Forest) (size : Option Size) (sized : AreMeasured known old) (there : slice_get known.contents.items place ≡ Some content)
-    (is : size ≡ measured (size_found known old) content) (put : (p : ℕ) → size_at new p ≡ (if place == p then size else size_at old p)) where
-  kept_case : (p : ℕ) (s : Size) (same : Bool) → place == p ≡ same → size_at old p ≡ Some s → (if same then size else size_at old p) ≡ Some s
+    (is : size ≡ measured (size_found known old) content) (put : (p : ℕ) → at_place new p ≡ (if place == p then size else at_place old p)) where
+  kept_case : (p : ℕ) (s : Size) (same : Bool) → place == p ≡ same → at_place old p ≡ Some s → (if same then size else at_place old p) ≡ Some s
   kept_case p s true at was =
       let here : place ≡ p = eqb-true place p at in
-      is ∙ rw there at (sized place s (subst (λ q. size_at old q ≡ Some s) (sym here) was))
+      is ∙ rw there at (sized place s (subst (λ q. at_place old q ≡ Some s) (sym here) was))
   kept_case p s false at was = was
 
-  kept : (p : ℕ) (s : Size) → size_at old p ≡ Some s → size_at new p ≡ Some s
+  kept : (p : ℕ) (s : Size) → at_place old p ≡ Some s → at_place new p ≡ Some s
   kept p s was = put p ∙ kept_case p s (place == p) refl was
 
-  kept_at : (name : List ℕ) (s : Size) (p : ℕ) (at : Option Size) → size_at old p ≡ at → option_and_then deeper_size at ≡ Some s → option_and_then deeper_size (size_at new p) ≡ Some s
+  kept_at : (name : List ℕ) (s : Size) (p : ℕ) (at : Option Size) → at_place old p ≡ at → option_and_then deeper_size at ≡ Some s → option_and_then deeper_size (at_place new p) ≡ Some s
   kept_at name s p None is_at was = absurd (cc)
   kept_at name s p (Some inner) is_at was = rw (kept p inner is_at) was
 
-  kept_found : (name : List ℕ) (s : Size) (found : Option ℕ) → option_and_then deeper_size (option_and_then (size_at old) found) ≡ Some s → option_and_then deeper_size (option_and_then (size_at new) found) ≡ Some s
+  kept_found : (name : List ℕ) (s : Size) (found : Option ℕ) → option_and_then deeper_size (option_and_then (at_place old) found) ≡ Some s → option_and_then deeper_size (option_and_then (at_place new) found) ≡ Some s
   kept_found name s None was = was
-  kept_found name s (Some p) was = kept_at name s p (size_at old p) refl was
+  kept_found name s (Some p) was = kept_at name s p (at_place old p) refl was
 
   kept_measured : (c : Forest) (s : Size) → measured (size_found known old) c ≡ Some s → measured (size_found known new) c ≡ Some s
   kept_measured = more_measured (size_found known old) (size_found known new) (λ name s was. kept_found name s (known_found known name) was)
@@ -129,7 +130,7 @@ module _ (known : Definitions) (old new : List (Option Size)) (place : ℕ) (con
   kept_content p s None was = absurd (cc)
   kept_content p s (Some c) was = kept_measured c s was
 
-  sized_case : (p : ℕ) (s : Size) (same : Bool) → place == p ≡ same → (if same then size else size_at old p) ≡ Some s → option_and_then (measured (size_found known new)) (slice_get known.contents.items p) ≡ Some s
+  sized_case : (p : ℕ) (s : Size) (same : Bool) → place == p ≡ same → (if same then size else at_place old p) ≡ Some s → option_and_then (measured (size_found known new)) (slice_get known.contents.items p) ≡ Some s
   sized_case p s true at was =
       let here : place ≡ p = eqb-true place p at in
       subst (λ q. option_and_then (measured (size_found known new)) (slice_get known.contents.items q) ≡ Some s) here (rw there (kept_measured content s (sym is ∙ was)))
@@ -149,10 +150,10 @@ set_sized known old place content size sized there is = elim (cases_lt place (le
   | inr past ↦ rw (set_past old place size past) sized
 ]
 
-none_at : (n p : ℕ) → size_at (replicate n None) p ≡ None
+none_at : (n p : ℕ) → at_place {A = Size} (replicate n None) p ≡ None
 none_at zero p = refl
 none_at (suc n) zero = refl
 none_at (suc n) (suc p) = none_at n p
 
 pub none_sized : (known : Definitions) (sizes : List (Option Size)) (n : ℕ) → sizes ≡ replicate n None → AreMeasured known sizes
-none_sized known sizes n is = λ place size there. let none : size_at sizes place ≡ None = rw is (none_at n place) in absurd (cc)
+none_sized known sizes n is = λ place size there. let none : at_place sizes place ≡ None = rw is (none_at n place) in absurd (cc)

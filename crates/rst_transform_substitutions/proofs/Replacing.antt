@@ -10,7 +10,7 @@ use Rattle.rst_tree.specs.declared.node.Node.TheVariants.{Element, Text}
 use Rattle.rst_tree.specs.declared.tag.Tag.{Tag}
 use Rattle.rst_tree.specs.Forest.{Forest}
 use Rattle.rst_tree.specs.Nodes.{forest_of, nodes_of}
-use Rattle.rst_tree_index.specs.Kinds.{is_substitution_reference}
+use Rattle.rst_tree_index.specs.Kinds.{is_substitution_reference, is_substitution_reference_node}
 use Rattle.rst_tree.proofs.Changes.{forest_of-nodes_of, nodes_of-forest_of}
 use Rattle.rst_tree.proofs.EachNode.{drop_item}
 use Rattle.rst_tree.proofs.Rewrites.{Same, Same-init, Same-more}
@@ -19,7 +19,7 @@ use Rattle.rst_transform_work.specs.declared.document.Document.{Document}
 use Rattle.rst_transform_work.specs.Known.{Holds, Known, Makes}
 use Rattle.rst_transform_substitutions.specs.declared.definitions.Definitions.{Definitions}
 use Rattle.rst_transform_substitutions.specs.Definitions.{definitions_among, found_among, found_by, known_place, place_of_name, AreKnown, Definition}
-use Rattle.rst_transform_substitutions.specs.Expanded.{around, expanded_in, followed, is_substitution_reference_node, unwrapped_reference, replaced, with_expansions, within_element, Nodes}
+use Rattle.rst_transform_substitutions.specs.Expanded.{around, expanded_in, followed, unwrapped_reference, replaced, with_expansions, within_element, Nodes}
 use Rattle.rst_transform_substitutions.proofs.Defining.{found_known, place_known}
 
 module _ (found : List ℕ → Option (ℕ × Forest)) (place : List ℕ → Option ℕ) (within : Option ℕ) where

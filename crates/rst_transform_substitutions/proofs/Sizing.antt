@@ -10,13 +10,14 @@ use Rattle.rst_tree.specs.declared.node.Node.TheVariants.{Text}
 use Rattle.rst_tree.specs.declared.tag.Tag.{Tag}
 use Rattle.rst_tree.specs.Forest.{Forest, bare, element, words}
 use Rattle.rst_tree_index.specs.Kinds.{is_substitution_reference}
+use Rattle.rst_transform_work.specs.Lists.{at_place}
 use Rattle.rst_transform_substitutions.specs.declared.definitions.Definitions.{Definitions}
 use Rattle.rst_transform_substitutions.specs.declared.expansion.ExpansionFault.{ExpansionFault}
 use Rattle.rst_transform_substitutions.specs.declared.expansion.ExpansionFault.TheVariants.{Circular, TooLarge}
 use Rattle.rst_transform_substitutions.specs.declared.sizes.Size.{Size}
 use Rattle.rst_transform_substitutions.specs.Definitions.{found_by, known_found}
 use Rattle.rst_transform_substitutions.specs.Expansion.{then_expanded, after_nodes, expanded_copies, given, given_within, element_around, remaining_visits, most_nested, most_visited, refname_of, size_of, Expansion}
-use Rattle.rst_transform_substitutions.specs.Sizes.{added, both, content_last, deeper_size, flat, is_above, measured, size_at, size_found, AreMeasured, AreSized}
+use Rattle.rst_transform_substitutions.specs.Sizes.{added, both, content_last, deeper_size, flat, is_above, measured, size_found, AreMeasured, AreSized}
 use Rattle.rst_transform_substitutions.proofs.Expanding.{entered_within, found-some, too_deep_within}
 use Rattle.rst_transform_substitutions.proofs.Leading.{weaker}
 
@@ -108,7 +109,7 @@ module _ (given : List ℕ → ℕ → Expansion) (size : List ℕ → Option Si
       (nat_le 1 left) refl)))
 
 -- a definition whose size is known isn't on a path where at least as many are nested in each
-apart_case : (sizes : List (Option Size)) (place n : ℕ) (size : Size) (p : ℕ) (at : Option Size) → size_at sizes place ≡ Some size → size.nested < n → size_at sizes p ≡ at → is_above sizes n p ≡ true → (same : Bool) → p == place ≡ same → same ≡ false
+apart_case : (sizes : List (Option Size)) (place n : ℕ) (size : Size) (p : ℕ) (at : Option Size) → at_place sizes place ≡ Some size → size.nested < n → at_place sizes p ≡ at → is_above sizes n p ≡ true → (same : Bool) → p == place ≡ same → same ≡ false
 apart_case sizes place n size p at there low is above false e = refl
 apart_case sizes place n size p None there low is above true e = let same : p ≡ place = grind (arith, e) in absurd (cc)
 apart_case sizes place n size p (Some other) there low is above true e =
@@ -119,13 +120,13 @@ apart_case sizes place n size p (Some other) there low is above true e =
     let nested : other.nested ≡ size.nested = ap (λ (s : Size). s.nested) equal in
     absurd (omega (arith, higher, nested, low))
 
-apart : (sizes : List (Option Size)) (place n : ℕ) (size : Size) → size_at sizes place ≡ Some size → size.nested < n → (path : List ℕ) → list_all (is_above sizes n) path ≡ true → list_any (λ p. p == place) path ≡ false
+apart : (sizes : List (Option Size)) (place n : ℕ) (size : Size) → at_place sizes place ≡ Some size → size.nested < n → (path : List ℕ) → list_all (is_above sizes n) path ≡ true → list_any (λ p. p == place) path ≡ false
 apart sizes place n size there low [] above = refl
 apart sizes place n size there low (p ∷ path) above =
     let parts = and_parts (is_above sizes n p) (list_all (is_above sizes n) path) above in
-    rw (apart_case sizes place n size p (size_at sizes p) there low refl parts.0 (p == place) refl) (apart sizes place n size there low path parts.1)
+    rw (apart_case sizes place n size p (at_place sizes p) there low refl parts.0 (p == place) refl) (apart sizes place n size there low path parts.1)
 
-lower_case : (sizes : List (Option Size)) (low high p : ℕ) (at : Option Size) → size_at sizes p ≡ at → low ≤ high → is_above sizes high p ≡ true → is_above sizes low p ≡ true
+lower_case : (sizes : List (Option Size)) (low high p : ℕ) (at : Option Size) → at_place sizes p ≡ at → low ≤ high → is_above sizes high p ≡ true → is_above sizes low p ≡ true
 lower_case sizes low high p None is le above = rw is refl
 lower_case sizes low high p (Some size) is le above =
     let high_is : nat_le high size.nested ≡ true = rw is at above in
@@ -133,10 +134,10 @@ lower_case sizes low high p (Some size) is le above =
     rw is (le-leb low size.nested (omega (arith, le, below)))
 
 -- a path to a definition in which fewer are nested, and that definition
-above_more : (sizes : List (Option Size)) (place n : ℕ) (size : Size) → size_at sizes place ≡ Some size → size.nested ≤ n → (path : List ℕ) → list_all (is_above sizes n) path ≡ true → list_all (is_above sizes size.nested) (path ++ place ∷ []) ≡ true
+above_more : (sizes : List (Option Size)) (place n : ℕ) (size : Size) → at_place sizes place ≡ Some size → size.nested ≤ n → (path : List ℕ) → list_all (is_above sizes n) path ≡ true → list_all (is_above sizes size.nested) (path ++ place ∷ []) ≡ true
 above_more sizes place n size there low path above =
     let own : is_above sizes size.nested place ≡ true = rw there (le-leb size.nested size.nested (omega arith)) in
-    list_all-append (is_above sizes size.nested) path (place ∷ []) ∙ rw (own, weaker (is_above sizes n) (is_above sizes size.nested) (λ p. lower_case sizes size.nested n p (size_at sizes p) refl low) path above) refl
+    list_all-append (is_above sizes size.nested) path (place ∷ []) ∙ rw (own, weaker (is_above sizes n) (is_above sizes size.nested) (λ p. lower_case sizes size.nested n p (at_place sizes p) refl low) path above) refl
 
 -- the definition that a reference of a known size finds
 deeper_case : (inner s : Size) (most : Bool) → inner.nested == 2 ^ 64 - 1 ≡ most → (if most then None else Some (record inner { nested = inner.nested + 1 })) ≡ Some s → (inner.visited ≡ s.visited) × ((inner.nested + 1 ≡ s.nested) × (inner.is_empty ≡ s.is_empty))
@@ -146,21 +147,21 @@ deeper_case inner s false e is = (
   (ap (λ (o : Option Size). unwrap_or (option_map (λ (x : Size). x.nested) o) 0) is, ap (λ (o : Option Size). unwrap_or (option_map (λ (x : Size). x.is_empty) o) true) is),
 )
 
-found_at : (sizes : List (Option Size)) (place : ℕ) (s : Size) (at : Option Size) → size_at sizes place ≡ at → option_and_then deeper_size at ≡ Some s → (P : Type 0) → ((inner : Size) → size_at sizes place ≡ Some inner → inner.visited ≡ s.visited → inner.nested + 1 ≡ s.nested → inner.is_empty ≡ s.is_empty → P) → P
+found_at : (sizes : List (Option Size)) (place : ℕ) (s : Size) (at : Option Size) → at_place sizes place ≡ at → option_and_then deeper_size at ≡ Some s → (P : Type 0) → ((inner : Size) → at_place sizes place ≡ Some inner → inner.visited ≡ s.visited → inner.nested + 1 ≡ s.nested → inner.is_empty ≡ s.is_empty → P) → P
 found_at sizes place s None is size_given P made = absurd (cc)
 found_at sizes place s (Some inner) is size_given P made = let parts = deeper_case inner s (inner.nested == 2 ^ 64 - 1) refl size_given in made inner is parts.0 parts.1.0 parts.1.1
 
-found_parts : (known : Definitions) (sizes : List (Option Size)) (name : List ℕ) (s : Size) (found : Option ℕ) → known_found known name ≡ found → option_and_then deeper_size (option_and_then (size_at sizes) found) ≡ Some s → (P : Type 0)
-    → ((place : ℕ) (inner : Size) → known_found known name ≡ Some place → size_at sizes place ≡ Some inner → inner.visited ≡ s.visited → inner.nested + 1 ≡ s.nested → inner.is_empty ≡ s.is_empty → P) → P
+found_parts : (known : Definitions) (sizes : List (Option Size)) (name : List ℕ) (s : Size) (found : Option ℕ) → known_found known name ≡ found → option_and_then deeper_size (option_and_then (at_place sizes) found) ≡ Some s → (P : Type 0)
+    → ((place : ℕ) (inner : Size) → known_found known name ≡ Some place → at_place sizes place ≡ Some inner → inner.visited ≡ s.visited → inner.nested + 1 ≡ s.nested → inner.is_empty ≡ s.is_empty → P) → P
 found_parts known sizes name s None is size_given P made = absurd (cc)
-found_parts known sizes name s (Some place) is size_given P made = found_at sizes place s (size_at sizes place) refl size_given P (λ inner there visited nested empty. made place inner is there visited nested empty)
+found_parts known sizes name s (Some place) is size_given P made = found_at sizes place s (at_place sizes place) refl size_given P (λ inner there visited nested empty. made place inner is there visited nested empty)
 
 content_parts : {A : Type 0} (f : Forest → Option A) (x : A) (there : Option Forest) → option_and_then f there ≡ Some x → (P : Type 0) → ((content : Forest) → there ≡ Some content → f content ≡ Some x → P) → P
 content_parts f x None is P made = absurd (cc)
 content_parts f x (Some content) is P made = made content refl is
 
 reference_parts : (known : Definitions) (sizes : List (Option Size)) → AreMeasured known sizes → (name : List ℕ) (s : Size) → size_found known sizes name ≡ Some s → (P : Type 0)
-    → ((place : ℕ) (content : Forest) (inner : Size) → found_by known name ≡ Some (place, content) → size_at sizes place ≡ Some inner → measured (size_found known sizes) content ≡ Some inner → inner.visited ≡ s.visited → inner.nested + 1 ≡ s.nested → inner.is_empty ≡ s.is_empty → P) → P
+    → ((place : ℕ) (content : Forest) (inner : Size) → found_by known name ≡ Some (place, content) → at_place sizes place ≡ Some inner → measured (size_found known sizes) content ≡ Some inner → inner.visited ≡ s.visited → inner.nested + 1 ≡ s.nested → inner.is_empty ≡ s.is_empty → P) → P
 reference_parts known sizes sized name s is P made =
     found_parts known sizes name s (known_found known name) refl is P
     (λ place inner finds there visited nested empty.
@@ -274,7 +275,7 @@ abbrev pub Comes : Expansion → Size → ℕ → ℕ → Type 0
 Comes e s more left = (remaining_visits e ≡ takes s more left) × ((n : ℕ) → s.is_empty ≡ true → remaining_visits e ≡ Ok n → e ≡ Ok ([], n))
 
 -- so do the nodes of the definition that was gone into last
-pub last_comes : (known : Definitions) (path : List ℕ) (place : ℕ) (size : Size) (left : ℕ) → AreSized known → slice_get path (length path - 1) ≡ Some place → size_at known.sizes.items place ≡ Some size → list_all (is_above known.sizes.items size.nested) path ≡ true → left ≤ most_visited
+pub last_comes : (known : Definitions) (path : List ℕ) (place : ℕ) (size : Size) (left : ℕ) → AreSized known → slice_get path (length path - 1) ≡ Some place → at_place known.sizes.items place ≡ Some size → list_all (is_above known.sizes.items size.nested) path ≡ true → left ≤ most_visited
     → Comes (expanded_copies (given (found_by known) path) (content_last known path) left) size (most_nested - length path) left
 last_comes known path place size left sized last there above small =
     content_parts (measured (size_found known known.sizes.items)) size (slice_get known.contents.items place) (sized place size there) (Comes (expanded_copies (given (found_by known) path) (content_last known path) left) size (most_nested - length path) left)

@@ -1,5 +1,6 @@
 -- Substitution definitions (Markup Specification, 'Substitution Definitions').
 use Rattle.std.specs.Prelude.{◌≡◌, ℕ, ◌+◌, Bool, List, [], ◌∷◌, ◌++◌, if◌then◌else◌, map, option_and_then, option_map, slice_get, unwrap_or, Option, Some, None}
+use Rattle.rst_text.specs.Names.{name_in}
 use Rattle.std.specs.BTreeMap.{get_by_text}
 use Rattle.std.specs.Option.{option_or}
 use Rattle.std.specs.Str.{bytes_eq}
@@ -11,7 +12,6 @@ use Rattle.rst_tree.specs.Attributes.{as_text, value_of}
 use Rattle.rst_tree.specs.Forest.{Forest, bare, element, words}
 use Rattle.rst_transform_substitutions.specs.declared.listing.Defined.{Defined}
 use Rattle.rst_transform_substitutions.specs.declared.definitions.Definitions.{Definitions}
-use Rattle.rst_transform_work.specs.Reading.{name_in}
 
 -- a definition: its name as it was written, and the nodes that replace a reference
 abbrev pub Definition : Type 0

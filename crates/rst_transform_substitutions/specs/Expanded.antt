@@ -1,6 +1,6 @@
 -- Substitution references in a document (Markup Specification, 'Substitution References'): each gives way to what replaces it, or to a
 -- problematic (Document Tree, 'problematic').
-use Rattle.std.specs.Prelude.{ℕ, Bool, true, false, List, [], ◌∷◌, ◌++◌, length, if◌then◌else◌, unwrap_or, Option, None, Result, Ok, Err}
+use Rattle.std.specs.Prelude.{ℕ, true, List, [], ◌∷◌, ◌++◌, length, if◌then◌else◌, unwrap_or, Option, None, Result, Ok, Err}
 use Rattle.rst_tree.specs.declared.attrs.Attr.{Attr}
 use Rattle.rst_tree.specs.declared.key.Key.TheVariants.{OwnName}
 use Rattle.rst_tree.specs.declared.node.Node.{Node}
@@ -76,8 +76,3 @@ with_expansions document known =
 abbrev pub unwrapped_reference : Node → List Node
 unwrapped_reference (Element t a c l) = if is_substitution_reference t then nodes_of c else Element t a c l ∷ []
 unwrapped_reference (Text t) = Text t ∷ []
-
--- a node is a reference
-abbrev pub is_substitution_reference_node : Node → Bool
-is_substitution_reference_node (Element t a c l) = is_substitution_reference t
-is_substitution_reference_node (Text t) = false

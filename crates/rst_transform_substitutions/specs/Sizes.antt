@@ -1,9 +1,10 @@
 -- How much definitions come to when they are expanded. No rule of markup: it is what lets an expansion be counted without being gone through.
 use Rattle.std.specs.Prelude.{◌≡◌, ℕ, ◌+◌, ◌-◌, ◌^◌, ◌==◌, ◌&&◌, min, max, nat_le, Bool, true, false, List, [], length, if◌then◌else◌, option_and_then, option_map, slice_get, unwrap_or, Option, Some, None, Result, Ok, Err}
-use Rattle.std.specs.Option.{option_flatten, option_map_or}
+use Rattle.std.specs.Option.{option_map_or}
 use Rattle.rst_tree.specs.declared.node.Node.TheVariants.{Element, Text}
 use Rattle.rst_tree.specs.Forest.{Forest, bare, element, words}
 use Rattle.rst_tree_index.specs.Kinds.{is_substitution_reference}
+use Rattle.rst_transform_work.specs.Lists.{at_place}
 use Rattle.rst_transform_substitutions.specs.declared.definitions.Definitions.{Definitions}
 use Rattle.rst_transform_substitutions.specs.declared.expansion.Halted.{Halted}
 use Rattle.rst_transform_substitutions.specs.declared.expansion.Halted.TheVariants.{By, NoMemory}
@@ -35,24 +36,20 @@ module _ (size : List ℕ → Option Size) where
   measured (words t r) = both (Some (flat (size_of (Text t)) false)) (measured r)
   measured (element t a c l r) = both (Some (flat (size_of (Element t a c l)) (is_substitution_reference t))) (both (if is_substitution_reference t then size (refname_of a) else measured c) (measured r))
 
--- the size of the definition at a place, if it is known
-abbrev pub size_at : List (Option Size) → ℕ → Option Size
-size_at sizes place = option_flatten (slice_get sizes place)
-
--- the size of a reference to a name, if that of the definition that it finds is known
+-- the size of a reference to a name, by the sizes of the definitions at their places, if that of the definition that it finds is known
 abbrev pub size_found : Definitions → List (Option Size) → List ℕ → Option Size
-size_found known sizes name = option_and_then deeper_size (option_and_then (size_at sizes) (known_found known name))
+size_found known sizes name = option_and_then deeper_size (option_and_then (at_place sizes) (known_found known name))
 
 -- each size that is known is that of the definition
 abbrev pub AreMeasured : Definitions → List (Option Size) → Type 0
-AreMeasured known sizes = (place : ℕ) (size : Size) → size_at sizes place ≡ Some size → option_and_then (measured (size_found known sizes)) (slice_get known.contents.items place) ≡ Some size
+AreMeasured known sizes = (place : ℕ) (size : Size) → at_place sizes place ≡ Some size → option_and_then (measured (size_found known sizes)) (slice_get known.contents.items place) ≡ Some size
 
 abbrev pub AreSized : Definitions → Type 0
 AreSized known = AreMeasured known known.sizes.items
 
 -- at least some number of definitions are nested in the one at a place, if its size is known
 abbrev pub is_above : List (Option Size) → ℕ → ℕ → Bool
-is_above sizes nested place = option_map_or (λ size. nat_le nested size.nested) (size_at sizes place) true
+is_above sizes nested place = option_map_or (λ size. nat_le nested size.nested) (at_place sizes place) true
 
 -- the nodes of the definition that was gone into last
 abbrev pub content_last : Definitions → List ℕ → Forest

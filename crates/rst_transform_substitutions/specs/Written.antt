@@ -31,8 +31,8 @@ abbrev pub stands_for : String → List Node → Result (List Node) ExpansionFau
 stands_for = stands_in None
 
 -- a reference to a name, with its source text
-abbrev pub sourced : String → String → Node
-sourced name source = element SubstitutionReference (says Rawsource source ∷ says Refname name ∷ []) []
+abbrev pub substitution : String → String → Node
+substitution name source = element SubstitutionReference (says Rawsource source ∷ says Refname name ∷ []) []
 
 -- a problematic: its id, the number and the id of its message, and the source text
 abbrev pub problem : String → ℕ → String → String → Node

@@ -1,9 +1,9 @@
 //! The substitution definitions of a document, by their names.
 ghost use Rattle.std.specs.Prelude.{◌≡◌, if◌then◌else◌, List, ℕ, Option, Some};
+ghost use Rattle.rst_text.specs.Names.{name_in};
 ghost use Rattle.std.specs.BTreeMap.{get_by_text};
 ghost use Rattle.std.proofs.Props.{props};
 ghost use Rattle.rst_tree.specs.Faults.{Gives};
-ghost use Rattle.rst_transform_work.specs.Reading.{name_in};
 
 use crate::listing::Listed;
 use crate::sizes::Size;

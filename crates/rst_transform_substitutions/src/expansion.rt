@@ -1,11 +1,10 @@
 //! What replaces one substitution reference.
 ghost use Rattle.std.specs.Prelude.{◌≡◌, ◌+◌, ◌≤◌, nat_le, true, take, vec_len, ◌-◌, IfOk, OnOk, Some};
 ghost use Rattle.rst_tree.specs.Faults.{Gives};
-ghost use Rattle.rst_tree_index.specs.Kinds.{is_substitution_reference};
+ghost use Rattle.rst_tree_index.specs.Kinds.{is_substitution_reference, is_substitution_reference_node};
 ghost use Rattle.rst_transform_substitutions.specs.declared.expansion.ExpansionFault.TheVariants.{Undefined};
 ghost use Rattle.rst_transform_substitutions.specs.declared.expansion.Halted.TheVariants.{By as HaltedBy, NoMemory as HaltedByMemory};
 ghost use Rattle.rst_transform_substitutions.specs.Definitions.{found_by};
-ghost use Rattle.rst_transform_substitutions.specs.Expanded.{is_substitution_reference_node};
 ghost use Rattle.rst_transform_substitutions.specs.Expansion.{after_nodes, copied_element, expanded_copies, expansion_fault_text, given, remaining_visits, most_visited, nodes_for, size_of, ComesTo, Enters};
 ghost use Rattle.rst_transform_substitutions.specs.Sizes.{content_last, AreSized, CountsAtOnce};
 

@@ -12,7 +12,7 @@ ghost use Rattle.rst_tree.specs.Nodes.{forest_of};
 ghost use Rattle.rst_transform_names.specs.Trees.{counts, element, says, text};
 ghost use Rattle.rst_transform_substitutions.specs.declared.expansion.ExpansionFault.TheVariants.{Undefined, Circular, TooLarge};
 ghost use Rattle.rst_transform_substitutions.specs.Expansion.{expanded_copies, expansion_fault_text, nodes_for};
-ghost use Rattle.rst_transform_substitutions.specs.Written.{definition_node, reference_to_name, expansion_result, problem, reports, sourced, stands_for, stands_in};
+ghost use Rattle.rst_transform_substitutions.specs.Written.{definition_node, reference_to_name, expansion_result, problem, reports, substitution, stands_for, stands_in};
 
 /// Definitions and the names that find them (Markup Specification, 'Substitution Definitions').
 pub fn definitions()
@@ -79,8 +79,8 @@ pub fn documents()
         ≡ text "x" ∷ text "y" ∷ element Emphasis [] [] ∷ definition_node "a" (text "x" ∷ text "y" ∷ []) ∷ definition_node "b" [] ∷ [] }
     ensures in_a_definition { expansion_result (definition_node "a" (reference_to_name "b" ∷ []) ∷ definition_node "b" (text "y" ∷ []) ∷ [])
         ≡ definition_node "a" (text "y" ∷ []) ∷ definition_node "b" (text "y" ∷ []) ∷ [] }
-    ensures undefined { expansion_result (sourced "x" "|x|" ∷ []) ≡ problem "problematic-1" 0 "system-message-1" "|x|" ∷ [] }
-    ensures circular { expansion_result (sourced "a" "|A|" ∷ definition_node "a" (sourced "a" "|a|" ∷ []) ∷ [])
+    ensures undefined { expansion_result (substitution "x" "|x|" ∷ []) ≡ problem "problematic-1" 0 "system-message-1" "|x|" ∷ [] }
+    ensures circular { expansion_result (substitution "a" "|A|" ∷ definition_node "a" (substitution "a" "|a|" ∷ []) ∷ [])
         ≡ problem "problematic-1" 0 "system-message-1" "|A|" ∷ definition_node "a" (problem "problematic-2" 1 "system-message-2" "|a|" ∷ []) ∷ [] }
     ensures messages { reports (element Emphasis [] (reference_to_name "x" ∷ []) ∷ reference_to_name "a" ∷ definition_node "a" (reference_to_name "a" ∷ []) ∷ [])
         ≡ codes "Undefined substitution referenced: \"x\"." ∷ codes "Circular substitution definition referenced: \"a\"."

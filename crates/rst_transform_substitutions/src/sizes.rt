@@ -2,7 +2,8 @@
 ghost use Rattle.std.specs.Prelude.{◌≡◌};
 ghost use Rattle.std.specs.List.{list_all};
 ghost use Rattle.rst_tree.specs.Faults.{Gives};
-ghost use Rattle.rst_transform_substitutions.specs.Sizes.{added, deeper_size, is_above, measured, size_at, size_found, AreMeasured};
+ghost use Rattle.rst_transform_work.specs.Lists.{at_place};
+ghost use Rattle.rst_transform_substitutions.specs.Sizes.{added, deeper_size, is_above, measured, size_found, AreMeasured};
 
 use crate::definitions::Definitions;
 use crate::expansion::{characters_in, is_substitution_reference, is_substitution_reference_node};
@@ -69,7 +70,7 @@ pub fn sizes_of(
 
 /// The size of the definition at a place, if it is known.
 pub fn size_at(sizes: &[Option<Size>], place: usize) -> Option<Size>
-    ensures { result ≡ size_at sizes.now place }
+    ensures { result ≡ at_place sizes.now place }
 {
     *sizes.get(place)?
 }

@@ -1,7 +1,5 @@
 -- The values of an element's attributes.
-use Rattle.std.specs.Prelude.{ℕ, Bool, true, false, List, [], Option, Some, None, unwrap_or, encode_utf8_all}
-use Rattle.std.specs.Str.{chars}
-use Rattle.rst_text.specs.Names as names
+use Rattle.std.specs.Prelude.{ℕ, Bool, true, false, List, [], Option, Some, None, unwrap_or}
 use Rattle.rst_tree.specs.declared.tag.Tag.{Tag}
 use Rattle.rst_tree.specs.declared.tag.Tag.TheVariants.{Comment, Target, SubstitutionDefinition, SystemMessage, Subtitle, Title}
 use Rattle.rst_tree.specs.declared.attrs.Attr.{Attr}
@@ -51,11 +49,3 @@ may_precede (Element Target a c l) = true
 may_precede (Element SubstitutionDefinition a c l) = true
 may_precede (Element SystemMessage a c l) = true
 may_precede _ = false
-
--- the name that a text gives
-abbrev pub name_in : List ℕ → List ℕ
-name_in text = encode_utf8_all (names.name_of (chars text))
-
--- the id that a text gives
-abbrev pub identifier : List ℕ → List ℕ
-identifier text = encode_utf8_all (names.id_of (chars text))

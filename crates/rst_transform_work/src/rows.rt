@@ -2,6 +2,7 @@
 #![tactic(auto, unfolding(crate::proofs::Computing::rst_transform_work))]
 
 ghost use Rattle.std.specs.Prelude.{◌≡◌, true, false, Some, codes, [], ◌∷◌, map};
+ghost use Rattle.rst_text.specs.Names.{identifier, name_in};
 ghost use Rattle.rst_tree.specs.declared.key.Key.TheVariants.{Dupnames, Ids, Names};
 ghost use Rattle.rst_tree.specs.declared.note.Level.TheVariants.{Error, Warning};
 ghost use Rattle.rst_tree.specs.declared.node.Node.TheVariants.{Element};
@@ -10,7 +11,7 @@ ghost use Rattle.rst_tree.specs.Forest.{bare};
 ghost use Rattle.rst_transform_names.specs.Trees.{element, lists, paragraph, text, IsPrintedIn};
 ghost use Rattle.rst_transform_work.specs.Lists.{named};
 ghost use Rattle.rst_transform_work.specs.Problematics.{problematic_attrs, referring_report};
-ghost use Rattle.rst_transform_work.specs.Reading.{identifier, is_title, may_precede, name_in};
+ghost use Rattle.rst_transform_work.specs.Reading.{is_title, may_precede};
 ghost use Rattle.rst_transform_work.specs.Reports.{next_report, report_node};
 
 /// Messages, and the problematics that belong to them (Markup Specification, 'Error Handling').

@@ -1,8 +1,9 @@
 //! What several transforms ask of attributes, names and nodes.
 ghost use Rattle.std.specs.Prelude.{◌≡◌, string_bytes};
+ghost use Rattle.rst_text.specs.Names.{identifier, name_in};
 ghost use Rattle.rst_tree.specs.declared.node.Node.TheVariants.{Element};
 ghost use Rattle.rst_tree.specs.Faults.{Gives};
-ghost use Rattle.rst_transform_work.specs.Reading.{identifier, name_in, rawsource_of};
+ghost use Rattle.rst_transform_work.specs.Reading.{rawsource_of};
 ghost use Rattle.rst_transform_work.specs.Lists.{named};
 
 use crate::lists::append_names;

@@ -1,4 +1,4 @@
-use Rattle.std.proofs.Common.{◌≡◌, ◌⊎◌, inl, inr, ℕ, suc, ◌-◌, ◌^◌, ◌≤◌, List, [], length, drop, arith, rules, refl, sym, ap, ◌∙◌}
+use Rattle.std.proofs.Common.{◌≡◌, ◌⊎◌, inl, inr, ℕ, suc, ◌-◌, ◌^◌, ◌≤◌, List, [], length, drop, arith, rules, refl, sym, ap, ◌∙◌, map, vec_items}
 use Rattle.std.proofs.lemmas.List.{drop_all, nil_from_length, take_all}
 use Rattle.std.proofs.lemmas.Result.{IfOk-weaker}
 use Rattle.std.specs.Vec.Iter.{into_iter_items}
@@ -8,7 +8,6 @@ use Rattle.rst_text.specs.ViewBlock.{block_of, source_of}
 use Rattle.rst_text.proofs.Cuts.{are_lines-block_of}
 use Rattle.rst_tree.specs.declared.node.Node.{Node}
 use Rattle.rst_tree.specs.declared.tag.Tag.TheVariants.{Row}
-use Rattle.rst_markup_tables.specs.Results.{cells_of}
 use Rattle.rst_markup_tables.specs.declared.results.TableResult.TheVariants.{Table}
 use Rattle.rst_block_nodes.specs.Elements.{element_of}
 use Rattle.rst_block_state.specs.Inside.{cell_blocks}
@@ -159,32 +158,32 @@ cells-returns-clause-paid t c =
 
 pub rows_of-loop-cells-init : goal.rows_of-loop-cells-init
 rows_of-loop-cells-init t c =
-    let start : cells_of (into_iter_items c.into_iter-cells-iterator.result) ≡ c.args.rows = ap cells_of c.into_iter-cells-iterator.ensures.into_iter_gives.0 ∙ c.into_rows-cells-items.ensures in
+    let start : map vec_items (into_iter_items c.into_iter-cells-iterator.result) ≡ c.args.rows = ap (map vec_items) c.into_iter-cells-iterator.ensures.into_iter_gives.0 ∙ c.into_rows-cells-items.ensures in
     record {
       frames = refl;
-      made = each_begins (row_of (within_at (c.args.depth - 1))) c.args.rows (cells_of (into_iter_items c.into_iter-cells-iterator.result)) c.none-made.result c.args.pass.now.numbers c.none-made.ensures start;
+      made = each_begins (row_of (within_at (c.args.depth - 1))) c.args.rows (map vec_items (into_iter_items c.into_iter-cells-iterator.result)) c.none-made.result c.args.pass.now.numbers c.none-made.ensures start;
       paid = none_read _ _ _ (ap (λ rows. totals (c.args.depth - 1) (cell_blocks (Table [] 0 rows 0))) start);
     }
 
 pub rows_of-returns-in_err-entries-clause-rows : goal.rows_of-returns-in_err-entries-clause-rows
 rows_of-returns-in_err-entries-clause-rows t c =
     refuses c.from_residual.result c.in_err-entries.field-0.0 _ _ (search rules)
-    (each_keeps (row_of (within_at (c.args.depth - 1))) c.in-Some.cells.items (cells_of (into_iter_items c.loop-cells.cells-iterator)) _ c.loop-cells.made c.loop-cells.pass.numbers _ c.in_err-entries.field-0.0 _ _
-    (ap cells_of c.in-Some.ensures.steps.0) c.loop-cells.invariant.made
+    (each_keeps (row_of (within_at (c.args.depth - 1))) c.in-Some.cells.items (map vec_items (into_iter_items c.loop-cells.cells-iterator)) _ c.loop-cells.made c.loop-cells.pass.numbers _ c.in_err-entries.field-0.0 _ _
+    (ap (map vec_items) c.in-Some.ensures.steps.0) c.loop-cells.invariant.made
     (then_keeps _ (λ entries. just (element_of Row [] entries 0)) c.in_err-entries.field-0.0 _ (λ (n : Node). just n 0) c.in_err-entries.ensures.entries))
 
 pub rows_of-loop-cells-preserved : goal.rows_of-loop-cells-preserved
 rows_of-loop-cells-preserved t c = record {
   frames = c.in_ok-entries.ensures.frames ∙ c.loop-cells.invariant.frames;
-  made = each_goes_on (row_of (within_at (c.args.depth - 1))) c.in-Some.cells.items (cells_of (into_iter_items c.loop-cells.cells-iterator)) _ c.loop-cells.made c.put_row.new.rows (element_of Row [] c.in_ok-entries.entries 0) c.loop-cells.pass.numbers
-      c.entries_of.new.pass.numbers _ (ap cells_of c.in-Some.ensures.steps.0) (ap (then_read (λ (entries : List Node). just (element_of Row [] entries 0))) c.in_ok-entries.ensures.entries) c.in_ok-put_row.ensures c.loop-cells.invariant.made;
+  made = each_goes_on (row_of (within_at (c.args.depth - 1))) c.in-Some.cells.items (map vec_items (into_iter_items c.loop-cells.cells-iterator)) _ c.loop-cells.made c.put_row.new.rows (element_of Row [] c.in_ok-entries.entries 0) c.loop-cells.pass.numbers
+      c.entries_of.new.pass.numbers _ (ap (map vec_items) c.in-Some.ensures.steps.0) (ap (then_read (λ (entries : List Node). just (element_of Row [] entries 0))) c.in_ok-entries.ensures.entries) c.in_ok-put_row.ensures c.loop-cells.invariant.made;
   paid = some_read _ _ _ _ _ _ _ c.loop-cells.invariant.paid (next_row (c.args.depth - 1) (into_iter_items c.loop-cells.cells-iterator) _ c.in-Some.cells c.in-Some.ensures.steps.0) c.in_ok-entries.ensures.paid;
 }
 
 pub rows_of-returns-clause-rows : goal.rows_of-returns-clause-rows
 rows_of-returns-clause-rows t c =
     let none : into_iter_items c.loop-cells.cells-iterator ≡ [] = nil_from_length _ (sym c.loop-cells.cells-iterator.rest.ok.0 ∙ c.in-None.ensures.steps.0) in
-    sym (each_ends (row_of (within_at (c.args.depth - 1))) (cells_of (into_iter_items c.loop-cells.cells-iterator)) c.loop-cells.made c.loop-cells.pass.numbers _ (ap cells_of none) c.loop-cells.invariant.made)
+    sym (each_ends (row_of (within_at (c.args.depth - 1))) (map vec_items (into_iter_items c.loop-cells.cells-iterator)) c.loop-cells.made c.loop-cells.pass.numbers _ (ap (map vec_items) none) c.loop-cells.invariant.made)
 
 pub rows_of-returns-clause-paid : goal.rows_of-returns-clause-paid
 rows_of-returns-clause-paid t c =

@@ -1,7 +1,6 @@
-use Rattle.std.proofs.Common.{◌≡◌, ◌+◌, ◌-◌, ◌*◌, [], drop, take}
+use Rattle.std.proofs.Common.{◌≡◌, ◌+◌, ◌-◌, ◌*◌, [], drop, take, map, vec_items}
 use Rattle.std.specs.Vec.Iter.{into_iter_items}
 use Rattle.rst_text.specs.ViewBlock.{block_of, source_of}
-use Rattle.rst_markup_tables.specs.Results.{cells_of}
 use Rattle.rst_markup_tables.specs.declared.results.TableResult.TheVariants.{Table}
 use Rattle.rst_block_state.specs.Inside.{cell_blocks}
 use Rattle.rst_block_state.specs.looks.Ledger.{total_at, totals}
@@ -45,7 +44,7 @@ decreases-read_blocks-loop-table l = text_left l.depth l.base (source_of l.fn.wh
 abbrev pub invariant-rows_of-loop-cells : goal.invariant-rows_of-loop-cells
 invariant-rows_of-loop-cells l = record {
   frames : l.frames ≡ l.fn.frames;
-  made : each_after (row_of (within_at (l.depth - 1))) l.made (cells_of (into_iter_items l.cells-iterator)) l.pass.numbers ≡ each (row_of (within_at (l.depth - 1))) l.fn.rows l.fn.pass.numbers;
+  made : each_after (row_of (within_at (l.depth - 1))) l.made (map vec_items (into_iter_items l.cells-iterator)) l.pass.numbers ≡ each (row_of (within_at (l.depth - 1))) l.fn.rows l.fn.pass.numbers;
   paid : AreLeft (totals (l.depth - 1) (cell_blocks (Table [] 0 l.fn.rows 0))) (totals (l.depth - 1) (row_lines (into_iter_items l.cells-iterator))) l.fn.pass.looks l.pass.looks;
 }
 

@@ -1,8 +1,8 @@
 use Rattle.rst_markup_tables.proofs.Begins.{pushed, pushed_size}
-use Rattle.std.proofs.Common.{◌≡◌, ◌<◌, ◌+◌, true, length, get_or, arith, sym, ap, subst, ◌∙◌, [], ◌∷◌, ◌++◌, vec_items}
+use Rattle.std.proofs.Common.{◌≡◌, ◌<◌, ◌+◌, true, length, get_or, arith, sym, ap, subst, ◌∙◌, [], ◌∷◌, ◌++◌, vec_items, map}
 use Rattle.std.proofs.lemmas.List.{get_or_read, map-append}
 use Rattle.rst_markup_tables.specs.Places.{row_at, no_row}
-use Rattle.rst_markup_tables.specs.Search.{Fills, AreBegins, lists_of}
+use Rattle.rst_markup_tables.specs.Search.{Fills, AreBegins}
 use Rattle.rst_markup_tables.proofs.Rectangles.{frame_within}
 use Rattle.rst_markup_tables.proofs.Scan.{Stands, skip, none_drawn, overlap, add, next_row, finish}
 use Rattle.rst_markup_tables.proofs.drawn.tiling.Goals as goal
@@ -11,13 +11,13 @@ pub loop-line-preserved : goal.loop-line-preserved
 loop-line-preserved c =
     let G = c.args.rows.now in
     let read : c.line-item.result ≡ get_or G c.loop-line.line-index no_row = get_or_read G _ _ (omega arith) c.line-item.is no_row in
-    let is : lists_of c.push.new.self.items ≡ lists_of c.loop-line.begins.items ++ c.in_ok-row.row.items ∷ [] =
-    ap lists_of c.in_ok-push.ensures.items ∙ map-append vec_items c.loop-line.begins.items (c.in_ok-row.row ∷ []) in
+    let is : map vec_items c.push.new.self.items ≡ map vec_items c.loop-line.begins.items ++ c.in_ok-row.row.items ∷ [] =
+    ap (map vec_items) c.in_ok-push.ensures.items ∙ map-append vec_items c.loop-line.begins.items (c.in_ok-row.row ∷ []) in
     let here : AreBegins (row_at G c.loop-line.line-index) c.in_ok-row.row.items =
     subst (λ row. AreBegins row c.in_ok-row.row.items) (c.places.ensures.value ∙ ap (λ r. r.places) read) c.in_ok-row.ensures in
     record {
-      size = pushed_size (lists_of c.loop-line.begins.items) (lists_of c.push.new.self.items) c.in_ok-row.row.items c.loop-line.line-index is c.loop-line.invariant.size;
-      at = pushed (λ i b. AreBegins (row_at G i) b) (lists_of c.loop-line.begins.items) (lists_of c.push.new.self.items) c.in_ok-row.row.items [] c.loop-line.line-index is c.loop-line.invariant.size c.loop-line.invariant.at here;
+      size = pushed_size (map vec_items c.loop-line.begins.items) (map vec_items c.push.new.self.items) c.in_ok-row.row.items c.loop-line.line-index is c.loop-line.invariant.size;
+      at = pushed (λ i b. AreBegins (row_at G i) b) (map vec_items c.loop-line.begins.items) (map vec_items c.push.new.self.items) c.in_ok-row.row.items [] c.loop-line.line-index is c.loop-line.invariant.size c.loop-line.invariant.at here;
     }
 
 pub loop-left-preserved-then-index-top : goal.loop-left-preserved-then-index-top

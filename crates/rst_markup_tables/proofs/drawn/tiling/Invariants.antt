@@ -1,6 +1,6 @@
 use Rattle.rst_markup_tables.specs.Places.{row_at}
-use Rattle.rst_markup_tables.specs.Search.{AreBegins, lists_of}
-use Rattle.std.proofs.Common.{◌≡◌, ℕ, ◌<◌, ◌≤◌, length, get_or, []}
+use Rattle.rst_markup_tables.specs.Search.{AreBegins}
+use Rattle.std.proofs.Common.{◌≡◌, ℕ, ◌<◌, ◌≤◌, length, get_or, [], map, vec_items}
 use Rattle.rst_markup_tables.proofs.Scan.{Stands}
 use Rattle.rst_markup_tables.proofs.drawn.tiling.Given as goal
 
@@ -12,8 +12,8 @@ invariant-loop-left l = Stands l.rows l.top l.left l.depths.items l.rectangles.i
 
 abbrev pub invariant-loop-line : goal.invariant-loop-line
 invariant-loop-line l = record {
-  size : length (lists_of l.begins.items) ≡ l.line-index;
-  at : (i : ℕ) → i < l.line-index → AreBegins (row_at l.rows i) (get_or (lists_of l.begins.items) i []);
+  size : length (map vec_items l.begins.items) ≡ l.line-index;
+  at : (i : ℕ) → i < l.line-index → AreBegins (row_at l.rows i) (get_or (map vec_items l.begins.items) i []);
 }
 
 abbrev pub invariant-loop-column : goal.invariant-loop-column

@@ -2,11 +2,12 @@ use Rattle.std.proofs.Common.{◌≡◌, ◌+◌, ◌≤◌, rules, arith, sym, 
 use Rattle.std.specs.List.{list_any}
 use Rattle.rst_tree.specs.Forest.{height}
 use Rattle.rst_tree.specs.Nodes.{node_height, nodes_of}
+use Rattle.rst_tree_index.specs.Kinds.{is_substitution_reference_node}
 use Rattle.rst_tree.proofs.Changes.{nodes_of-forest_of}
 use Rattle.rst_tree.proofs.Rewrites.{Same-child}
 use Rattle.rst_transform_work.specs.Known.{Makes}
 use Rattle.rst_transform_substitutions.specs.Definitions.{found_by, known_place}
-use Rattle.rst_transform_substitutions.specs.Expanded.{expanded_in, is_substitution_reference_node, within_element}
+use Rattle.rst_transform_substitutions.specs.Expanded.{expanded_in, within_element}
 use Rattle.rst_transform_substitutions.proofs.NoReferences.{plain_stays}
 use Rattle.rst_transform_substitutions.proofs.Replacing.{element_holds, none_opened, reference_gives, text_stays, Replacing-all, Replacing-init, Replacing-more}
 use Rattle.rst_transform_substitutions.proofs.expand.+expand_in.Goals as goal

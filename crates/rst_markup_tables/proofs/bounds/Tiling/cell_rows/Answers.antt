@@ -1,6 +1,5 @@
-use Rattle.std.proofs.Common.{◌≡◌, ◌<◌, ◌∙◌, ◌++◌, ◌∷◌, [], ℕ, List, Vec, Global, length, get_or, set, ap, sym, arith, append-nil}
+use Rattle.std.proofs.Common.{◌≡◌, ◌<◌, ◌∙◌, ◌++◌, ◌∷◌, [], ℕ, List, Vec, Global, length, get_or, set, ap, sym, arith, append-nil, map, vec_items}
 use Rattle.std.proofs.lemmas.List.{map-set, length-set, length-map, get_or-map, at_drop_all}
-use Rattle.rst_markup_tables.specs.Results.{cells_of}
 use Rattle.rst_markup_tables.specs.GridTable.{row_cells}
 use Rattle.rst_markup_tables.specs.declared.drawn.Rectangle.{Rectangle}
 use Rattle.rst_markup_tables.specs.declared.results.Cell.{Cell}
@@ -31,15 +30,15 @@ loop-rectangle-preserved c =
     let size : length rows ≡ c.args.count = c.loop-rectangle.invariant.size in
     let few : f (get_or c.args.self.now.rectangles.now c.loop-rectangle.rectangle-index d).top < c.args.count = c.requires.few c.loop-rectangle.rectangle-index (omega arith) in
     let within : c.row.result < length rows = omega (arith, c.row.ensures) in
-    let cell_row : c.index_mut.result.now.items ≡ get_or (cells_of rows) c.row.result [] =
-    sym (get_or-map (λ (row : Vec Cell Global). row.items) rows c.row.result c.index_mut.result.now [] within ∙ ap (λ (v : Vec Cell Global). v.items) (sym c.index_mut.ensures.value)) in
-    let now : cells_of (set rows c.row.result c.push-in-loop-rectangle.new.self) ≡ set (cells_of rows) c.row.result (get_or (cells_of rows) c.row.result [] ++ c.in_ok-cell.cell ∷ []) =
-    map-set (λ (row : Vec Cell Global). row.items) rows c.row.result c.push-in-loop-rectangle.new.self
-    ∙ ap (λ l. set (cells_of rows) c.row.result l) (c.in_ok-push-2.ensures.items ∙ ap (λ l. l ++ c.in_ok-cell.cell ∷ []) cell_row) in
+    let cell_row : c.index_mut.result.now.items ≡ get_or (map vec_items rows) c.row.result [] =
+    sym (get_or-map vec_items rows c.row.result c.index_mut.result.now [] within ∙ ap (λ (v : Vec Cell Global). v.items) (sym c.index_mut.ensures.value)) in
+    let now : map vec_items (set rows c.row.result c.push-in-loop-rectangle.new.self) ≡ set (map vec_items rows) c.row.result (get_or (map vec_items rows) c.row.result [] ++ c.in_ok-cell.cell ∷ []) =
+    map-set vec_items rows c.row.result c.push-in-loop-rectangle.new.self
+    ∙ ap (λ l. set (map vec_items rows) c.row.result l) (c.in_ok-push-2.ensures.items ∙ ap (λ l. l ++ c.in_ok-cell.cell ∷ []) cell_row) in
     record {
       size = length-set rows c.row.result c.push-in-loop-rectangle.new.self ∙ size;
-      at = λ n inside. cell_more f g c.args.self.now.lines.now c.args.self.now.rectangles.now c.loop-rectangle.rectangle-index d (cells_of rows) (cells_of (set rows c.row.result c.push-in-loop-rectangle.new.self)) c.row.result c.in_ok-cell.cell
-          (omega arith) c.row.ensures (omega (arith, length-map rows (λ (row : Vec Cell Global). row.items))) c.in_ok-cell.ensures now n (c.loop-rectangle.invariant.at n inside);
+      at = λ n inside. cell_more f g c.args.self.now.lines.now c.args.self.now.rectangles.now c.loop-rectangle.rectangle-index d (map vec_items rows) (map vec_items (set rows c.row.result c.push-in-loop-rectangle.new.self)) c.row.result c.in_ok-cell.cell
+          (omega arith) c.row.ensures (omega (arith, length-map rows vec_items)) c.in_ok-cell.ensures now n (c.loop-rectangle.invariant.at n inside);
     }
 
 pub returns : goal.returns
@@ -47,8 +46,8 @@ returns c =
     let f : ℕ → ℕ = λ k. get_or c.args.ranks.now.rows.items k 0 in
     let g : ℕ → ℕ = λ k. get_or c.args.ranks.now.columns.items k 0 in
     let rows : List (Vec Cell Global) = c.loop-rectangle.rows.items in
-    each_from-is (row_cells f g c.args.self.now.lines.now c.args.self.now.rectangles.now) [] c.args.count (cells_of rows)
-    (length-map rows (λ (row : Vec Cell Global). row.items) ∙ c.loop-rectangle.invariant.size)
+    each_from-is (row_cells f g c.args.self.now.lines.now c.args.self.now.rectangles.now) [] c.args.count (map vec_items rows)
+    (length-map rows vec_items ∙ c.loop-rectangle.invariant.size)
     (λ n inside.
-    let all = at_drop_all (λ rs. get_or (cells_of rows) n [] ++ row_cells f g c.args.self.now.lines.now rs n) c.args.self.now.rectangles.now c.loop-rectangle.rectangle-index (omega arith) in
-    sym (append-nil (get_or (cells_of rows) n [])) ∙ sym all ∙ c.loop-rectangle.invariant.at n inside)
+    let all = at_drop_all (λ rs. get_or (map vec_items rows) n [] ++ row_cells f g c.args.self.now.lines.now rs n) c.args.self.now.rectangles.now c.loop-rectangle.rectangle-index (omega arith) in
+    sym (append-nil (get_or (map vec_items rows) n [])) ∙ sym all ∙ c.loop-rectangle.invariant.at n inside)

@@ -1,9 +1,9 @@
 use Rattle.std.proofs.Common.{◌≡◌, List, ℕ, arith, rules, refl, sym, ◌∙◌}
 use Rattle.std.specs.Prelude.{if◌then◌else◌, Option, Some, None, Ok, Err}
+use Rattle.rst_text.specs.Names.{name_in}
 use Rattle.std.specs.BTreeMap.{get_by_text}
 use Rattle.std.specs.Str.{bytes_eq}
 use Rattle.std.proofs.lemmas.Map.Text.{text_keys}
-use Rattle.rst_transform_work.specs.Reading.{name_in}
 use Rattle.rst_transform_substitutions.specs.Definitions.{known_found}
 use Rattle.rst_transform_substitutions.proofs.Remembering.{right-more}
 use Rattle.rst_transform_substitutions.proofs.definitions.Definitions.remember.Goals as goal

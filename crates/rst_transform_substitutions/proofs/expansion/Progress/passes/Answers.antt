@@ -1,9 +1,10 @@
 use Rattle.std.proofs.Common.{◌≡◌, ◌-◌, ◌≤◌, ◌<◌, length, true, true≢false, arith, rules, sym, ◌∙◌, Some}
 use Rattle.std.specs.Prelude.{slice_get}
 use Rattle.std.specs.List.{list_all}
+use Rattle.rst_transform_work.specs.Lists.{at_place}
 use Rattle.rst_transform_substitutions.specs.declared.expansion.ExpansionFault.TheVariants.{TooLarge}
 use Rattle.rst_transform_substitutions.specs.Expansion.{most_nested}
-use Rattle.rst_transform_substitutions.specs.Sizes.{is_above, size_at}
+use Rattle.rst_transform_substitutions.specs.Sizes.{is_above}
 use Rattle.rst_transform_substitutions.proofs.Sizing.{fault_is, last_comes, takes_deep, takes_large, takes_ok}
 use Rattle.rst_transform_substitutions.proofs.expansion.Progress.passes.Goals as goal
 use Rattle.rst_transform_substitutions.proofs.expansion.Progress.passes.Goals.{else-copies-via-then-copies+else-not-size, else-copies-via-else-copies, then-size-more-via-then-size-more, then-size-more-via-else-size-more+then-size-self}
@@ -14,7 +15,7 @@ returns-then-size-more-clause-passes c =
     let size = c.in-Some-size_at.size in
     let left = c.args.self.now.left in
     let last : slice_get path (length path - 1) ≡ Some c.in-Some.last.now = sym (rw (c.deref.ensures.value) at c.in-Some.ensures.value) in
-    let there : size_at c.args.definitions.now.sizes.items c.in-Some.last.now ≡ Some size = sym (rw (c.deref-2.ensures.value) at c.in-Some-size_at.ensures) in
+    let there : at_place c.args.definitions.now.sizes.items c.in-Some.last.now ≡ Some size = sym (rw (c.deref-2.ensures.value) at c.in-Some-size_at.ensures) in
     let above : list_all (is_above c.args.definitions.now.sizes.items size.nested) path ≡ true = rw (c.deref-3.ensures.value, c.deref-4.ensures.value) at (sym c.are_above.ensures ∙ c.if-not-are_above.false) in
     fault_is _ TooLarge
     ((last_comes c.args.definitions.now path c.in-Some.last.now size left c.requires.sized last there above c.requires.left).0
@@ -29,7 +30,7 @@ returns-clause-passes c =
     let size = c.in-Some-size_at.size in
     let left = c.args.self.now.left in
     let last : slice_get path (length path - 1) ≡ Some c.in-Some.last.now = sym (rw (c.deref.ensures.value) at c.in-Some.ensures.value) in
-    let there : size_at c.args.definitions.now.sizes.items c.in-Some.last.now ≡ Some size = sym (rw (c.deref-2.ensures.value) at c.in-Some-size_at.ensures) in
+    let there : at_place c.args.definitions.now.sizes.items c.in-Some.last.now ≡ Some size = sym (rw (c.deref-2.ensures.value) at c.in-Some-size_at.ensures) in
     let above : list_all (is_above c.args.definitions.now.sizes.items size.nested) path ≡ true = rw (c.deref-3.ensures.value, c.deref-4.ensures.value) at (sym c.are_above.ensures ∙ c.if-not-are_above.false) in
     let deep : size.nested ≤ most_nested - length path = omega (arith, c.if-size-more.false) in
     let comes = last_comes c.args.definitions.now path c.in-Some.last.now size left c.requires.sized last there above c.requires.left in
