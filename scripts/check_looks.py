@@ -49,7 +49,7 @@ HOLD = {
     "OpenBlock": "Heading Run", "OpenList": "ListKind", "OpenReplacement": "String", "Run": "BarText OpenList", "Sections": "Style",
     "Step": "TableResult Waits", "Waits": "OpenReplacement", "WrongForm": "str",
     # functions
-    "add_line": "char", "alone": "N", "definition_or_error": "String", "from": "T", "heading_of": "String", "heads_of": "Text",
+    "add_line": "char", "alone": "N", "definition_or_error": "String", "from": "E", "heading_of": "String", "heads_of": "Text",
     "joined_nonempty": "char", "of": "String", "option": "str", "push": "N", "replacement": "String", "shortened": "String", "with_parts": "Text",
     MACHINE: "Begun Cell Ended Frame Frames LineTest Lines OpenBlock Rows Step TableResult Waits",
 }

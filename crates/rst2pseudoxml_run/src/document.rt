@@ -1,7 +1,6 @@
 //! The document that an input is, and its messages.
 ghost use Rattle.std.specs.Prelude.{◌≡◌, ◌≤◌, length, IfOk, string_bytes};
 ghost use Rattle.rst_settings.specs.Profile.{profile_of};
-ghost use Rattle.rst_tree.specs.Faults.{Gives};
 ghost use Rattle.rst2pseudoxml_run.specs.Reading as spec;
 
 use crate::end::End;
@@ -11,7 +10,7 @@ use rst_block_nodes::message;
 use rst_settings::Settings;
 use rst_text::{LineFault, Lines, TextFault, text_in};
 use rst_transform::{Finished, finish};
-use rst_tree::{Attrs, Children, Level, Node, Tag, TreeFault};
+use rst_tree::{Attrs, Children, Level, Node, Tag};
 use std::alloc::{AllocError, Global};
 
 /// The finished document of the bytes, or why they are refused.
@@ -68,9 +67,9 @@ fn long_text(alloc: Global, line: usize) -> Result<String, AllocError>
 
 /// The document of lines of which the one with this number is too long: the message on that (Configuration,
 /// `line_length_limit`).
-fn long_line(alloc: Global, line: usize) -> Result<Parsed, TreeFault>
-    ensures tree { Gives (λ parsed. parsed.tree ≡ spec.long_document line) result }
-    ensures messages { Gives (λ parsed. parsed.messages ≡ 0) result }
+fn long_line(alloc: Global, line: usize) -> Result<Parsed, AllocError>
+    ensures tree { IfOk result (λ parsed. parsed.tree ≡ spec.long_document line) }
+    ensures messages { IfOk result (λ parsed. parsed.messages ≡ 0) }
 {
     let text = long_text(alloc, line)?;
     let mut children = Children::new(alloc);

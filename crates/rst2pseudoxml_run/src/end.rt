@@ -2,8 +2,7 @@
 ghost use Rattle.std.specs.Prelude.{◌≡◌};
 ghost use Rattle.rst2pseudoxml_run.specs.declared.end.End.TheVariants.{NoMemory};
 
-use rst_tree::TreeFault;
-use std::alloc::{AllocError, AllocFailed};
+use std::alloc::AllocError;
 
 /// An exit status, or the fault that ended the run.
 #[derive(Clone, Copy, Debug, PartialEq, Eq)]
@@ -26,26 +25,13 @@ pub enum End {
     WriteOut { done: usize },
 }
 
-impl From<AllocError> for End {
+impl<E: Drop> From<E> for End
+where
+    AllocError: From<E>,
+{
     ghost from_gives = { λ _ end. end ≡ NoMemory };
 
-    fn from(_error: AllocError) -> End {
-        End::NoMemory
-    }
-}
-
-impl<T: Drop> From<AllocFailed<T>> for End {
-    ghost from_gives = { λ _ end. end ≡ NoMemory };
-
-    fn from(_error: AllocFailed<T>) -> End {
-        End::NoMemory
-    }
-}
-
-impl From<TreeFault> for End {
-    ghost from_gives = { λ _ end. end ≡ NoMemory };
-
-    fn from(_error: TreeFault) -> End {
+    fn from(_error: E) -> End {
         End::NoMemory
     }
 }

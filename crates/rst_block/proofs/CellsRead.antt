@@ -15,8 +15,8 @@ use Rattle.rst_block_state.specs.Numbered.{Numbered, then_read, ◌>>=◌, just,
 use Rattle.rst_block_state.specs.machine.OpenBlocks.{IsMoved, HasMore}
 use Rattle.rst_block_state.specs.Tables.{entry_of, row_of, table_node}
 use Rattle.rst_block_state.specs.Titles.{Item, plain}
-use Rattle.rst_block_state.specs.declared.fault.BlockFault.{BlockFault}
-use Rattle.rst_block_state.specs.declared.fault.BlockFault.TheVariants.{TooDeep, NoMemory}
+use Rattle.rst_block_nodes.specs.declared.fault.BlockFault.{BlockFault}
+use Rattle.rst_block_nodes.specs.declared.fault.BlockFault.TheVariants.{TooDeep, NoMemory}
 use Rattle.rst_block_state.specs.declared.open_block.OpenBlock.{OpenBlock}
 use Rattle.rst_block_state.specs.declared.step.Step.TheVariants.{Cells}
 use Rattle.rst_block_state.proofs.Changes.{more_more, moved_more, more_is_read}

@@ -15,8 +15,8 @@ use Rattle.rst_block_state.specs.Nodes.{below_last_level, block_items, inner_nod
 use Rattle.rst_block_state.specs.Numbered.{then_read, just}
 use Rattle.rst_block_state.specs.Texts.{lines_in}
 use Rattle.rst_block_state.specs.Titles.{Item, plain}
-use Rattle.rst_block_state.specs.declared.fault.BlockFault.{BlockFault}
-use Rattle.rst_block_state.specs.declared.fault.BlockFault.TheVariants.{TooDeep, NoMemory}
+use Rattle.rst_block_nodes.specs.declared.fault.BlockFault.{BlockFault}
+use Rattle.rst_block_nodes.specs.declared.fault.BlockFault.TheVariants.{TooDeep, NoMemory}
 use Rattle.rst_block_state.specs.declared.open_block.OpenBlock.{OpenBlock}
 use Rattle.rst_block_state.specs.declared.waits.Waits.{Waits}
 use Rattle.rst_block_state.specs.declared.step.Step.{Step}

@@ -10,7 +10,7 @@ use Rattle.rst_block_state.specs.looks.Ledger.{Takes, least_left, most_left}
 use Rattle.rst_block_state.specs.machine.Meanings.{Keeps, comes}
 use Rattle.rst_block_state.specs.Numbered.{Numbered}
 use Rattle.rst_block_state.specs.Titles.{Item}
-use Rattle.rst_block_state.specs.declared.fault.BlockFault.{BlockFault}
+use Rattle.rst_block_nodes.specs.declared.fault.BlockFault.{BlockFault}
 use Rattle.rst_block_state.specs.declared.frame.Frame.{Frame}
 use Rattle.rst_block_state.specs.declared.open_block.OpenBlock.{OpenBlock}
 use Rattle.rst_block_state.specs.declared.step.Step.{Step}

@@ -1,7 +1,6 @@
 //! What is done with the nodes of a block inside once it is read.
 ghost use Rattle.std.specs.Prelude.{◌≡◌, ◌+◌, ◌-◌, [], ◌∷◌, ◌++◌, IfOk, option_map, box_value, ℕ, Box, Option, None, Some};
 ghost use Rattle.rst_text.specs.ViewBlock.{block_of};
-ghost use Rattle.rst_tree.specs.Faults as faults;
 ghost use Rattle.rst_block_nodes.specs.Elements.{element_of};
 ghost use Rattle.rst_block_state.specs.machine.Steps as spec;
 ghost use Rattle.rst_block_state.specs.machine.Meanings.{after_quote, quote_by, resumed};
@@ -18,9 +17,9 @@ use rst_block_nodes::{Texted, completed};
 use rst_block_state::{OpenBlock, Pass, Result, Step, Waits};
 use rst_markup_blocks::Part;
 use rst_text::View;
-use rst_tree::{Attrs, Node, Tag, TreeFault};
+use rst_tree::{Attrs, Node, Tag};
 use rst_tree_index::{Marked, MarkedNodes};
-use std::alloc::Global;
+use std::alloc::{AllocError, Global};
 
 /// Goes on with a block, the block inside having these nodes.
 pub(crate) fn resume(
@@ -83,9 +82,9 @@ fn listed_item(
     heads: Vec<Node>,
     notes: Vec<Node>,
     nodes: MarkedNodes,
-) -> Result<Marked, TreeFault>
-    ensures { faults.Gives (λ node. node
-        ≡ element_of item [] (heads.items ++ element_of body [] (notes.items ++ nodes) line ∷ []) line) result }
+) -> Result<Marked, AllocError>
+    ensures { IfOk result (λ node. node
+        ≡ element_of item [] (heads.items ++ element_of body [] (notes.items ++ nodes) line ∷ []) line) }
 {
     let mut content = MarkedNodes::of(alloc, notes)?;
     content.append(nodes)?;

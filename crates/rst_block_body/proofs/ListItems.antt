@@ -35,8 +35,8 @@ use Rattle.rst_block_state.specs.machine.RestLaws.{found_as}
 use Rattle.rst_block_state.specs.Texts.{termed, texted}
 use Rattle.rst_block_state.specs.Titles.{Item}
 use Rattle.rst_block_state.specs.Within.{Within, hanging, item_part, indented_part}
-use Rattle.rst_block_state.specs.declared.fault.BlockFault.{BlockFault}
-use Rattle.rst_block_state.specs.declared.fault.BlockFault.TheVariants.{TooDeep, NoMemory}
+use Rattle.rst_block_nodes.specs.declared.fault.BlockFault.{BlockFault}
+use Rattle.rst_block_nodes.specs.declared.fault.BlockFault.TheVariants.{TooDeep, NoMemory}
 use Rattle.rst_block_state.specs.declared.open_block.OpenBlock.{OpenBlock}
 use Rattle.rst_block_state.specs.declared.waits.Waits.TheVariants.{ListItem as InItem}
 use Rattle.rst_block_state.specs.declared.run.ListKind.{ListKind}

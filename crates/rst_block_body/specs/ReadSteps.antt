@@ -6,7 +6,7 @@ use Rattle.rst_markup_blocks.specs.declared.begun.Begun.{Begun}
 use Rattle.rst_block_state.specs.looks.Ledger.{IsPaid}
 use Rattle.rst_block_state.specs.machine.Meanings.{Keeps, comes, reads}
 use Rattle.rst_block_state.specs.machine.Steps.{IsStep}
-use Rattle.rst_block_state.specs.declared.fault.BlockFault.{BlockFault}
+use Rattle.rst_block_nodes.specs.declared.fault.BlockFault.{BlockFault}
 use Rattle.rst_block_state.specs.declared.open_block.OpenBlock.{OpenBlock}
 use Rattle.rst_block_state.specs.declared.step.Step.{Step}
 use Rattle.rst_block_state.specs.declared.texts.Pass.{Pass}

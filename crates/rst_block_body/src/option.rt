@@ -1,8 +1,7 @@
 //! Items of option lists (Markup Specification, 'Option Lists').
-ghost use Rattle.std.specs.Prelude.{◌≡◌, ◌<◌};
+ghost use Rattle.std.specs.Prelude.{◌≡◌, ◌<◌, IfOk};
 ghost use Rattle.std.specs.Str.{chars};
 ghost use Rattle.rst_text.specs.ViewBlock.{block_of};
-ghost use Rattle.rst_tree.specs.Faults.{Gives};
 ghost use Rattle.rst_block_state.specs.Lists as lists;
 ghost use Rattle.rst_markup_blocks.specs.declared.begun.Begun.TheVariants.{OptionItem};
 ghost use Rattle.rst_block_body.specs.ReadSteps.{BeginsAt, IsReadStep};
@@ -14,8 +13,8 @@ use rst_block_state::{
 };
 use rst_markup_lines::{Marker, listed_options};
 use rst_text::{View, skip};
-use rst_tree::{Attrs, Node, Tag, TreeFault};
-use std::alloc::Global;
+use rst_tree::{Attrs, Node, Tag};
+use std::alloc::{AllocError, Global};
 
 /// An item of an option list.
 pub fn option_item(
@@ -56,8 +55,8 @@ pub fn option_item(
 }
 
 /// The options at the front of a line.
-fn option_group(alloc: Global, text: &str, line: usize) -> Result<Node, TreeFault>
-    ensures { Gives (λ node. node ≡ lists.option_group (chars text.now) line) result }
+fn option_group(alloc: Global, text: &str, line: usize) -> Result<Node, AllocError>
+    ensures { IfOk result (λ node. node ≡ lists.option_group (chars text.now) line) }
 {
     let mut options = Vec::new(alloc);
     let mut rest = text;

@@ -3,7 +3,6 @@ ghost use Rattle.std.specs.Prelude.{◌≡◌, [], ◌+◌, ◌-◌, ◌*◌, �
 ghost use Rattle.rst_text.specs.Block.{first_number};
 ghost use Rattle.rst_text.specs.Looked.{Looked, capped};
 ghost use Rattle.rst_text.specs.ViewBlock.{block_of};
-ghost use Rattle.rst_tree.specs.Faults.{Gives};
 ghost use Rattle.rst_tree.specs.declared.tag.Tag.TheVariants.{Attribution as AttributionTag};
 ghost use Rattle.rst_markup_blocks.specs.Parts.{IsBlock};
 ghost use Rattle.rst_markup_blocks.specs.Attributions.{attribution_part};
@@ -19,7 +18,8 @@ use rst_block_nodes::{Texted, with_text};
 use rst_block_state::{OpenBlock, Pass, Result, Step, Waits, indented, inside, joined, number_at};
 use rst_markup_blocks::{Attribution, LineTest, Part, attribution_at, lines_end};
 use rst_text::{Looks, View};
-use rst_tree::{Tag, TreeFault};
+use rst_tree::Tag;
+use std::alloc::AllocError;
 
 /// A block quote.
 pub fn block_quote(view: &View<'_>, level: &mut OpenBlock, pass: &mut Pass) -> Result<Step>
@@ -131,12 +131,12 @@ fn attribution_text(
     place: usize,
     found: Attribution,
     pass: &mut Pass,
-) -> Result<Texted, TreeFault>
+) -> Result<Texted, AllocError>
     requires inside { IsBlock (block_of lines.now) (attribution_part place found) }
     ensures text { let Q = block_of lines.now in
         let line = first_number (drop place Q) in
         let read = texted AttributionTag line (joined (lines_in Q (attribution_part place found))) line pass.old.numbers in
-        Gives (λ made. read ≡ Ok ((made.element, made.notes.items), pass.new.numbers)) result }
+        IfOk result (λ made. read ≡ Ok ((made.element, made.notes.items), pass.new.numbers)) }
     ensures most { pass.new.looks ≤ pass.old.looks + (found.end - place) }
     ensures each { IfOk result (λ _. capped (pass.old.looks + (found.end - place)) ≤ pass.new.looks) }
 {

@@ -2,7 +2,6 @@
 ghost use Rattle.std.specs.Prelude.{◌≡◌, ◌+◌, ◌-◌, ◌<◌, ◌≤◌, ◌==◌, [], ◌∷◌, codes, length, drop, nat_lt, if◌then◌else◌, IfOk, ℕ, ◌*◌};
 ghost use Rattle.rst_text.specs.Looked.{Looked, capped};
 ghost use Rattle.rst_text.specs.ViewBlock.{block_of};
-ghost use Rattle.rst_tree.specs.Faults.{Gives};
 ghost use Rattle.rst_tree.specs.declared.note.Level.TheVariants.{Error};
 ghost use Rattle.rst_tree.specs.declared.tag.Tag.TheVariants.{Thead};
 ghost use Rattle.rst_markup_tables.specs.Messages.{malformed_text};
@@ -22,9 +21,9 @@ use rst_block_nodes::{completed, entry, message, tgroup};
 use rst_block_state::{OpenBlock, Pass, Result, Step, number_at, source, split_nodes};
 use rst_markup_tables::{TableResult, malformed_text};
 use rst_text::View;
-use rst_tree::{Attrs, Level, Tag, TreeFault};
+use rst_tree::{Attrs, Level, Tag};
 use rst_tree_index::{Marked, MarkedNodes};
-use std::alloc::Global;
+use std::alloc::{AllocError, Global};
 
 /// A table, or the message on one that is malformed.
 pub fn table(
@@ -82,8 +81,8 @@ pub fn table_of(
     widths: &[usize],
     head: usize,
     rows: MarkedNodes,
-) -> Result<Marked, TreeFault>
-    ensures { Gives (λ node. node ≡ table_node widths.now head rows line) result }
+) -> Result<Marked, AllocError>
+    ensures { IfOk result (λ node. node ≡ table_node widths.now head rows line) }
 {
     let (heads, bodies) = split_nodes(alloc, rows.into_marked(), head as u64)?;
     let mut parts = head_nodes(alloc, head, heads)?;
@@ -93,8 +92,8 @@ pub fn table_of(
 }
 
 /// The head of a table with these rows, where their number isn't 0.
-fn head_nodes(alloc: Global, head: usize, rows: MarkedNodes) -> Result<MarkedNodes, TreeFault>
-    ensures { Gives (λ nodes. nodes ≡ (if nat_lt 0 head then element_of Thead [] rows 0 ∷ [] else [])) result }
+fn head_nodes(alloc: Global, head: usize, rows: MarkedNodes) -> Result<MarkedNodes, AllocError>
+    ensures { IfOk result (λ nodes. nodes ≡ (if nat_lt 0 head then element_of Thead [] rows 0 ∷ [] else [])) }
 {
     if 0 < head {
         let head = rows.into_element(Tag::Thead, Attrs::new(alloc), 0)?;
@@ -109,8 +108,8 @@ pub fn entry_of(
     morerows: usize,
     morecols: usize,
     nodes: MarkedNodes,
-) -> Result<Marked, TreeFault>
-    ensures { Gives (λ node. node ≡ filled (entry_node morerows morecols 0) nodes) result }
+) -> Result<Marked, AllocError>
+    ensures { IfOk result (λ node. node ≡ filled (entry_node morerows morecols 0) nodes) }
 {
     completed(alloc, entry(alloc, morerows, morecols, 0)?, nodes)
 }

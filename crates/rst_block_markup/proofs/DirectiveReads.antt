@@ -27,7 +27,7 @@ use Rattle.rst_block_state.specs.Numbered.{Numbered, then_read, just}
 use Rattle.rst_block_state.specs.machine.OpenBlocks.{IsMoved}
 use Rattle.rst_block_state.specs.Texts.{joined, texted}
 use Rattle.rst_block_state.specs.Within.{Within}
-use Rattle.rst_block_state.specs.declared.fault.BlockFault.{BlockFault}
+use Rattle.rst_block_nodes.specs.declared.fault.BlockFault.{BlockFault}
 use Rattle.rst_block_state.specs.declared.open_block.OpenBlock.{OpenBlock}
 use Rattle.rst_block_state.specs.declared.waits.Waits.TheVariants.{Element}
 use Rattle.rst_block_state.specs.declared.step.Step.{Step}

@@ -41,7 +41,7 @@ use Rattle.rst_block_state.specs.Markup.{markup_by}
 use Rattle.rst_block_state.specs.machine.Meanings.{within_at}
 use Rattle.rst_block_state.specs.machine.OpenBlocks.{IsMoved}
 use Rattle.rst_block_state.specs.Texts.{lines_in}
-use Rattle.rst_block_state.specs.declared.fault.BlockFault.{BlockFault}
+use Rattle.rst_block_nodes.specs.declared.fault.BlockFault.{BlockFault}
 use Rattle.rst_block_state.specs.declared.open_block.OpenBlock.{OpenBlock}
 use Rattle.rst_block_state.specs.declared.texts.Pass.{Pass}
 use Rattle.rst_block_state.specs.declared.waits.Waits.TheVariants.{Element}

@@ -12,8 +12,8 @@ use Rattle.rst_block_state.specs.Numbered.{Numbered, just}
 use Rattle.rst_block_state.specs.machine.OpenBlocks.{Gives, HasMoreAt, IsMoved}
 use Rattle.rst_block_state.specs.machine.Steps.{IsWaiting}
 use Rattle.rst_block_state.specs.Texts.{lines_in}
-use Rattle.rst_block_state.specs.declared.fault.BlockFault.{BlockFault}
-use Rattle.rst_block_state.specs.declared.fault.BlockFault.TheVariants.{TooDeep, NoMemory}
+use Rattle.rst_block_nodes.specs.declared.fault.BlockFault.{BlockFault}
+use Rattle.rst_block_nodes.specs.declared.fault.BlockFault.TheVariants.{TooDeep, NoMemory}
 use Rattle.rst_block_state.specs.declared.open_block.OpenBlock.{OpenBlock}
 use Rattle.rst_block_state.specs.declared.step.Step.{Step}
 use Rattle.rst_block_state.specs.declared.step.Step.TheVariants.{Next, Open}

@@ -27,7 +27,7 @@ use Rattle.rst_block_state.specs.Within.{Within}
 use Rattle.rst_block_markup.specs.declared.directive.Found.{Found}
 use Rattle.rst_block_markup.specs.declared.figure.ContentStart.{ContentStart}
 use Rattle.rst_block_markup.specs.declared.figure.ContentStart.TheVariants.{Caption, Missing, Wrong}
-use Rattle.rst_block_state.specs.declared.fault.BlockFault.{BlockFault}
+use Rattle.rst_block_nodes.specs.declared.fault.BlockFault.{BlockFault}
 use Rattle.rst_block_state.specs.declared.open_block.OpenBlock.{OpenBlock}
 use Rattle.rst_block_state.specs.declared.step.Step.{Step}
 use Rattle.rst_block_state.specs.declared.texts.Pass.{Pass}

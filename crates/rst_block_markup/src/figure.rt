@@ -3,7 +3,6 @@ ghost use Rattle.std.specs.Prelude.{◌≡◌, ◌+◌, ◌-◌, ◌≤◌, ◌�
 ghost use Rattle.rst_text.specs.Block.{first_number};
 ghost use Rattle.rst_text.specs.Looked.{capped};
 ghost use Rattle.rst_text.specs.ViewBlock.{block_of};
-ghost use Rattle.rst_tree.specs.Faults.{Gives};
 ghost use Rattle.rst_block_nodes.specs.Sections.{filled};
 ghost use Rattle.rst_block_state.specs.Figures as spec;
 ghost use Rattle.rst_block_state.specs.Texts.{span_source};
@@ -12,9 +11,9 @@ ghost use Rattle.rst_block_markup.specs.MarkupSteps.{beginning_in};
 use rst_block_nodes::{completed, message};
 use rst_block_state::{number_at, source, split_nodes};
 use rst_text::{Looks, View};
-use rst_tree::{Attrs, Key, Level, Node, Tag, TreeFault};
+use rst_tree::{Attrs, Key, Level, Node, Tag};
 use rst_tree_index::{Marked, MarkedIter, MarkedNodes};
-use std::alloc::Global;
+use std::alloc::{AllocError, Global};
 
 /// What the content of a figure begins with.
 enum ContentStart {
@@ -36,10 +35,10 @@ pub fn finished_figure(
     end: usize,
     nodes: MarkedNodes,
     looks: &mut Looks,
-) -> Result<MarkedNodes, TreeFault>
+) -> Result<MarkedNodes, AllocError>
     ensures figure { let B = block_of view.now in
         let error = spec.caption_error (first_number (drop start B)) (span_source B (record { start = start; stop = end })) in
-        Gives (λ made. made ≡ spec.figure_nodes figure error nodes) result }
+        IfOk result (λ made. made ≡ spec.figure_nodes figure error nodes) }
     ensures looks { looks.new ≤ looks.old + (end - start) }
     ensures low { IfOk result (λ _. capped looks.old ≤ looks.new) }
 {
@@ -75,8 +74,8 @@ fn captioned(
     mut caption_nodes: MarkedNodes,
     rest: MarkedIter,
     count: u64,
-) -> Result<MarkedNodes, TreeFault>
-    ensures { Gives (λ made. made ≡ filled figure (caption_nodes ++ spec.legend_nodes (drop count rest)) ∷ take count rest) result }
+) -> Result<MarkedNodes, AllocError>
+    ensures { IfOk result (λ made. made ≡ filled figure (caption_nodes ++ spec.legend_nodes (drop count rest)) ∷ take count rest) }
 {
     let (notes, legend) = split_nodes(alloc, rest, count)?;
     caption_nodes.append(legend_nodes(alloc, legend)?)?;
@@ -121,8 +120,8 @@ fn content_start(node: Node) -> ContentStart
 }
 
 /// The legend of some nodes, if there are some.
-fn legend_nodes(alloc: Global, nodes: MarkedNodes) -> Result<MarkedNodes, TreeFault>
-    ensures { Gives (λ made. made ≡ spec.legend_nodes nodes) result }
+fn legend_nodes(alloc: Global, nodes: MarkedNodes) -> Result<MarkedNodes, AllocError>
+    ensures { IfOk result (λ made. made ≡ spec.legend_nodes nodes) }
 {
     if nodes.is_empty() {
         return Ok(nodes);

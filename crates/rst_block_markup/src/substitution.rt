@@ -2,7 +2,6 @@
 ghost use Rattle.std.specs.Prelude.{◌≡◌, ◌-◌, ◌*◌, ◌<◌, ◌≤◌, ◌∷◌, [], false, Some, length, drop, string_bytes, IfOk, IfSome};
 ghost use Rattle.rst_text.specs.Block.{first_number, first_text};
 ghost use Rattle.rst_text.specs.ViewBlock.{block_of};
-ghost use Rattle.rst_tree.specs.Faults.{Gives};
 ghost use Rattle.rst_tree.specs.Nodes.{nodes_of};
 ghost use Rattle.rst_tree.specs.declared.note.Level.TheVariants.{Error};
 ghost use Rattle.rst_markup_directives.specs.Options.{choices_in};
@@ -31,7 +30,7 @@ use rst_block_state::{
 use rst_markup_blocks::Invocation;
 use rst_markup_directives::{Argument, Content, Directive, DirectiveFault, Place, Setting};
 use rst_text::View;
-use rst_tree::{Children, Level, Node, Tag, TreeFault};
+use rst_tree::{Children, Level, Node, Tag};
 use rst_tree_index::MarkedNodes;
 use std::alloc::{AllocError, Global};
 
@@ -151,9 +150,9 @@ fn image_named(
     options: &Vec<Setting>,
     name: &str,
     line: usize,
-) -> Result<Node, TreeFault>
+) -> Result<Node, AllocError>
     ensures { let image_node = image_element uri.now (choices_in options.now.items) line false (Some name.now) in
-        Gives (λ node. node ≡ filled (substitution_definition_node name.now line) (image_node ∷ [])) result }
+        IfOk result (λ node. node ≡ filled (substitution_definition_node name.now line) (image_node ∷ [])) }
 {
     let image_node = image(alloc, uri, options.as_slice(), line, false, Some(name))?;
     let definition = definition(alloc, name, line)?;
@@ -202,10 +201,10 @@ pub fn finished_replacement(
     alloc: Global,
     open: OpenReplacement,
     nodes: MarkedNodes,
-) -> Result<Node, TreeFault>
-    ensures { Gives (λ node. node
+) -> Result<Node, AllocError>
+    ensures { IfOk result (λ node. node
         ≡ directives.replacement (string_bytes open.name) open.line (string_bytes open.source)
-        (directives.first_paragraph nodes)) result }
+        (directives.first_paragraph nodes)) }
 {
     let OpenReplacement { name, line, source } = open;
     let children = first_paragraph(alloc, nodes);

@@ -9,8 +9,8 @@ use Rattle.rst_block_nodes.specs.Elements.{element_of}
 use Rattle.rst_block_nodes.specs.LineBlocks.{IndentedLine, LinePart, level_line, deeper_lines, least_indent, deeper_len, with_deeper, line_parts, part_node, line_block, MakesLineBlock}
 use Rattle.rst_block_nodes.specs.Numbered.{then_read, ◌>>=◌, just, each}
 use Rattle.rst_block_nodes.specs.Readings.{texted}
-use Rattle.rst_block_nodes.specs.declared.line_blocks.LineBlockFault.{LineBlockFault}
-use Rattle.rst_block_nodes.specs.declared.line_blocks.LineBlockFault.TheVariants.{TooDeep, NoMemory}
+use Rattle.rst_block_nodes.specs.declared.fault.BlockFault.{BlockFault}
+use Rattle.rst_block_nodes.specs.declared.fault.BlockFault.TheVariants.{TooDeep, NoMemory}
 use Rattle.rst_block_nodes.specs.declared.texted.Texted.{Texted}
 
 -- the least of n and the indentations of lines
@@ -151,12 +151,12 @@ one_run levels now next least line n left inner following nodes notes nodes_then
     one_more levels least line now next left following nodes notes nodes_then notes_then (deeper_lines inner) m (run_first least n left inner following same some those others) read put noted
 
 -- a line block inside was not made
-pub run_refused : (levels now next after least line n : ℕ) (left inner : List IndentedLine) (nodes notes : List Node) (fault : LineBlockFault) (read : Result ((Node × List Node) × ℕ) ℕ) (r : Result Texted LineBlockFault)
+pub run_refused : (levels now next after least line n : ℕ) (left inner : List IndentedLine) (nodes notes : List Node) (fault : BlockFault) (read : Result ((Node × List Node) × ℕ) ℕ) (r : Result Texted BlockFault)
     → block_after levels least line nodes notes left now ≡ read → n ≡ deeper_len least left → 0 < n → inner ≡ take n left
     → MakesLineBlock (line_block levels inner now) next (Err fault) → r ≡ Err fault → MakesLineBlock read after r
 run_refused levels now next after least line n left inner nodes notes fault read r so_far same some those refused is = subst (MakesLineBlock read after) (sym is) (by fault refused)
   where
-    by : (fault : LineBlockFault) → MakesLineBlock (line_block levels inner now) next (Err fault) → MakesLineBlock read after (Err fault)
+    by : (fault : BlockFault) → MakesLineBlock (line_block levels inner now) next (Err fault) → MakesLineBlock read after (Err fault)
     by (TooDeep number) deep =
         sym so_far ∙ one_refused levels least line now number left (drop n left) nodes notes (deeper_lines inner) (run_first least n left inner (drop n left) same some those refl) deep
     by NoMemory deep = tt

@@ -5,8 +5,8 @@ use Rattle.std.specs.Str.{chars}
 use Rattle.rst_tree.specs.declared.node.Node.{Node}
 use Rattle.rst_tree.specs.declared.tag.Tag.TheVariants.{Line, LineBlock}
 use Rattle.rst_block_nodes.specs.declared.line_blocks.BarText.{BarText}
-use Rattle.rst_block_nodes.specs.declared.line_blocks.LineBlockFault.{LineBlockFault}
-use Rattle.rst_block_nodes.specs.declared.line_blocks.LineBlockFault.TheVariants.{TooDeep, NoMemory}
+use Rattle.rst_block_nodes.specs.declared.fault.BlockFault.{BlockFault}
+use Rattle.rst_block_nodes.specs.declared.fault.BlockFault.TheVariants.{TooDeep, NoMemory}
 use Rattle.rst_block_nodes.specs.declared.texted.Texted.{Texted}
 use Rattle.rst_block_nodes.specs.Elements.{element_of}
 use Rattle.rst_block_nodes.specs.Numbered.{Numbered, ◌>>=◌, just, each}
@@ -84,7 +84,7 @@ indented bars = indented_from 0 bars
 
 -- What is made where this is read: its element and its messages, and then the next message has this number; or it is nested too deeply; or memory
 -- ran out.
-abbrev pub MakesLineBlock : Result ((Node × List Node) × ℕ) ℕ → ℕ → Result Texted LineBlockFault → Type 0
+abbrev pub MakesLineBlock : Result ((Node × List Node) × ℕ) ℕ → ℕ → Result Texted BlockFault → Type 0
 MakesLineBlock read next (Ok made) = read ≡ Ok ((made.element, made.notes.items), next)
 MakesLineBlock read next (Err (TooDeep line)) = read ≡ Err line
 MakesLineBlock read next (Err NoMemory) = Unit {0}

@@ -1,6 +1,5 @@
 //! More nodes after others, in lists and in elements.
-ghost use Rattle.std.specs.Prelude.{◌≡◌, ◌++◌};
-ghost use Rattle.rst_tree.specs.Faults.{Gives};
+ghost use Rattle.std.specs.Prelude.{◌≡◌, ◌++◌, IfOk};
 ghost use Rattle.rst_block_nodes.specs.Sections.{filled};
 
 use rst_tree::{Children, Node, Result};
@@ -9,9 +8,9 @@ use std::alloc::Global;
 
 /// Puts more nodes after the last.
 ///
-/// The only refusal is [`TreeFault::NoMemory`].
+/// The only refusal is [`AllocError`].
 pub fn append(nodes: &mut Vec<Node>, mut more: Vec<Node>) -> Result<()>
-    ensures { Gives (λ _. nodes.new.items ≡ nodes.old.items ++ more.items) result }
+    ensures { IfOk result (λ _. nodes.new.items ≡ nodes.old.items ++ more.items) }
 {
     if nodes.is_empty() {
         *nodes = more;
@@ -25,9 +24,9 @@ pub fn append(nodes: &mut Vec<Node>, mut more: Vec<Node>) -> Result<()>
 
 /// An element with more nodes in it; a text stays as it is.
 ///
-/// The only refusal is [`TreeFault::NoMemory`].
+/// The only refusal is [`AllocError`].
 pub fn filled(element: Node, more: Vec<Node>) -> Result<Node>
-    ensures { Gives (λ node. node ≡ filled element more.items) result }
+    ensures { IfOk result (λ node. node ≡ filled element more.items) }
 {
     match element {
         Node::Element {
@@ -52,9 +51,9 @@ pub fn filled(element: Node, more: Vec<Node>) -> Result<Node>
 /// The same where the marks of the nodes are known. Those of the element are found by a pass over it: it was made for these
 /// nodes, and nobody marked it before. Most such elements are empty, and need no pass.
 ///
-/// The only refusal is [`TreeFault::NoMemory`].
+/// The only refusal is [`AllocError`].
 pub fn completed(alloc: Global, element: Node, more: MarkedNodes) -> Result<Marked>
-    ensures { Gives (λ node. node ≡ filled element more) result }
+    ensures { IfOk result (λ node. node ≡ filled element more) }
 {
     match element {
         Node::Element {

@@ -1,6 +1,5 @@
 //! Admonitions, topics and program code.
-ghost use Rattle.std.specs.Prelude.{◌≡◌, option_map};
-ghost use Rattle.rst_tree.specs.Faults.{Gives};
+ghost use Rattle.std.specs.Prelude.{◌≡◌, option_map, IfOk};
 ghost use Rattle.rst_block_nodes.specs.Admonitions.{title_class, with_title_class};
 ghost use Rattle.rst_markup_directives.specs.Options.{choices_in};
 ghost use Rattle.rst_block_nodes.specs.Options.{directive_element, code_element, code_classes};
@@ -9,20 +8,20 @@ use super::nodes::{element_of, preserving, text_nodes};
 use super::settings::{Holder, set_options};
 use rst_markup_directives::Setting;
 use rst_text::id_of;
-use rst_tree::{Attrs, Key, Node, Result, Tag, Text, Texts, TreeFault, Value};
+use rst_tree::{Attrs, Key, Node, Result, Tag, Text, Texts, Value};
 use std::alloc::Global;
 
 /// The element of a directive with a body, with the classes and the name of its options, without title and content
 /// (Docutils, Directives, 'Admonitions').
 ///
-/// The only refusal is [`TreeFault::NoMemory`].
+/// The only refusal is [`AllocError`].
 pub fn directive_element(
     alloc: Global,
     element: Tag,
     options: &[Setting],
     line: usize,
 ) -> Result<Node>
-    ensures { Gives (λ node. node ≡ directive_element element (choices_in options.now) line) result }
+    ensures { IfOk result (λ node. node ≡ directive_element element (choices_in options.now) line) }
 {
     let mut attrs = Attrs::new(alloc);
     set_options(alloc, &mut attrs, Holder::Body, options)?;
@@ -32,9 +31,9 @@ pub fn directive_element(
 /// An element of the directive `admonition` with the class that its title gives, unless its options gave it some: the
 /// word `admonition-` with the id of the title's text (Docutils, Directives, 'Generic Admonition').
 ///
-/// The only refusal is [`TreeFault::NoMemory`].
+/// The only refusal is [`AllocError`].
 pub fn with_title_class(alloc: Global, admonition: Node, title: &Node) -> Result<Node>
-    ensures { Gives (λ node. node ≡ with_title_class admonition title.now) result }
+    ensures { IfOk result (λ node. node ≡ with_title_class admonition title.now) }
 {
     let mut admonition = admonition;
     if let Node::Element { attrs, .. } = &mut admonition {
@@ -48,10 +47,10 @@ pub fn with_title_class(alloc: Global, admonition: Node, title: &Node) -> Result
 /// The class that a title gives.
 #[tactic(auto, using(rst_text::proofs::TextLemmas::bytes_of_chars))]
 fn title_class(alloc: Global, title: &Node) -> Result<Value>
-    ensures { Gives (λ class. class ≡ title_class title.now) result }
+    ensures { IfOk result (λ class. class ≡ title_class title.now) }
 {
     let text = title.text_of(alloc)?;
-    let id = id_of(alloc, text.as_str()).map_err(|_| TreeFault::NoMemory)?;
+    let id = id_of(alloc, text.as_str())?;
     let mut class = Text::from_str(alloc, "admonition-")?;
     class.push_str(id.as_str())?;
     let mut classes = Texts::new(alloc);
@@ -62,7 +61,7 @@ fn title_class(alloc: Global, title: &Node) -> Result<Value>
 /// Program code in a language, if one is named, with its text (Docutils, Directives, 'Code'). The classes are `code`, the
 /// language as it is written, and those of the options.
 ///
-/// The only refusal is [`TreeFault::NoMemory`].
+/// The only refusal is [`AllocError`].
 pub fn code_block(
     alloc: Global,
     language: Option<&str>,
@@ -70,7 +69,7 @@ pub fn code_block(
     text: &str,
     line: usize,
 ) -> Result<Node>
-    ensures { Gives (λ node. node ≡ code_element (option_map (λ word. word.now) language.entry) (choices_in options.now) text.now line) result }
+    ensures { IfOk result (λ node. node ≡ code_element (option_map (λ word. word.now) language.entry) (choices_in options.now) text.now line) }
 {
     let mut attrs = preserving(alloc)?;
     set_options(alloc, &mut attrs, Holder::Body, options)?;
@@ -82,7 +81,7 @@ pub fn code_block(
 
 /// The classes of program code.
 fn code_classes(alloc: Global, language: Option<&str>, own: Option<Value>) -> Result<Value>
-    ensures { Gives (λ classes. classes ≡ code_classes (option_map (λ word. word.now) language.entry) own) result }
+    ensures { IfOk result (λ classes. classes ≡ code_classes (option_map (λ word. word.now) language.entry) own) }
 {
     let mut classes = Texts::new(alloc);
     classes.push(Text::from_str(alloc, "code")?)?;

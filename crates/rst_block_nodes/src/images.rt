@@ -1,6 +1,5 @@
 //! Images and figures.
-ghost use Rattle.std.specs.Prelude.{◌≡◌, option_map};
-ghost use Rattle.rst_tree.specs.Faults.{Gives};
+ghost use Rattle.std.specs.Prelude.{◌≡◌, option_map, IfOk};
 ghost use Rattle.rst_markup_directives.specs.Options.{choices_in};
 ghost use Rattle.rst_markup_directives.specs.Target.{destination_of};
 ghost use Rattle.rst_block_nodes.specs.Options.{image_element, link_chosen, linked_node, figure_element};
@@ -15,7 +14,7 @@ use std::alloc::Global;
 /// An image, in a reference where its options give it a target (Docutils, Directives, 'Image'). The image of
 /// a figure has no alignment. `alt` is the alternate text where no option gives another.
 ///
-/// The only refusal is [`TreeFault::NoMemory`].
+/// The only refusal is [`AllocError`].
 pub fn image(
     alloc: Global,
     uri: &str,
@@ -24,7 +23,7 @@ pub fn image(
     in_figure: bool,
     alt: Option<&str>,
 ) -> Result<Node>
-    ensures { Gives (λ node. node ≡ image_element uri.now (choices_in options.now) line in_figure (option_map (λ text. text.now) alt.entry)) result }
+    ensures { IfOk result (λ node. node ≡ image_element uri.now (choices_in options.now) line in_figure (option_map (λ text. text.now) alt.entry)) }
 {
     let mut attrs = Attrs::new(alloc);
     attrs.set(Key::Uri, text_value(alloc, uri)?)?;
@@ -59,7 +58,7 @@ fn link_of(options: &[Setting]) -> Option<(&Target, &str)>
 /// A reference round an image: what it leads to, and how it is written.
 #[tactic(auto, using(rst_text::proofs::TextLemmas::bytes_encoded))]
 fn linked(alloc: Global, image: Node, to: &Target, source: &str, line: usize) -> Result<Node>
-    ensures { Gives (λ node. node ≡ linked_node image (destination_of to.now) source.now line) result }
+    ensures { IfOk result (λ node. node ≡ linked_node image (destination_of to.now) source.now line) }
 {
     let mut attrs = Attrs::new(alloc);
     attrs.set(Key::Rawsource, text_value(alloc, source)?)?;
@@ -78,9 +77,9 @@ fn linked(alloc: Global, image: Node, to: &Target, source: &str, line: usize) ->
 
 /// A figure, without its image, caption and legend (Docutils, Directives, 'Figure').
 ///
-/// The only refusal is [`TreeFault::NoMemory`].
+/// The only refusal is [`AllocError`].
 pub fn figure(alloc: Global, options: &[Setting], line: usize) -> Result<Node>
-    ensures { Gives (λ node. node ≡ figure_element (choices_in options.now) line) result }
+    ensures { IfOk result (λ node. node ≡ figure_element (choices_in options.now) line) }
 {
     let mut attrs = Attrs::new(alloc);
     set_options(alloc, &mut attrs, Holder::Figure, options)?;

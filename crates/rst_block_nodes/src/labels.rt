@@ -1,6 +1,5 @@
 //! Footnotes and citations.
-ghost use Rattle.std.specs.Prelude.{◌≡◌};
-ghost use Rattle.rst_tree.specs.Faults.{Gives};
+ghost use Rattle.std.specs.Prelude.{◌≡◌, IfOk};
 ghost use Rattle.rst_block_nodes.specs.Elements.{labelled_node, footnote_node, citation_node};
 
 use super::nodes::{element_of, plain};
@@ -13,9 +12,9 @@ use std::alloc::Global;
 /// A footnote with its label, without its content (Document Tree, 'footnote'). The label is digits, which it shows and is
 /// named by; `#`, maybe with a name after it, which numbers it; or `*`, which gives it a symbol.
 ///
-/// The only refusal is [`TreeFault::NoMemory`].
+/// The only refusal is [`AllocError`].
 pub fn footnote(alloc: Global, label: &str, line: usize) -> Result<Node>
-    ensures { Gives (λ node. node ≡ footnote_node label.now line) result }
+    ensures { IfOk result (λ node. node ≡ footnote_node label.now line) }
 {
     let mut attrs = Attrs::new(alloc);
     if begins_with('#', label) {
@@ -39,9 +38,9 @@ pub fn footnote(alloc: Global, label: &str, line: usize) -> Result<Node>
 
 /// A citation with its label, which names it, without its content (Document Tree, 'citation').
 ///
-/// The only refusal is [`TreeFault::NoMemory`].
+/// The only refusal is [`AllocError`].
 pub fn citation(alloc: Global, label: &str, line: usize) -> Result<Node>
-    ensures { Gives (λ node. node ≡ citation_node label.now line) result }
+    ensures { IfOk result (λ node. node ≡ citation_node label.now line) }
 {
     let attrs = Attrs::lone(alloc, Key::OwnName, name_value(alloc, label)?)?;
     labelled(alloc, Tag::Citation, attrs, label, line)
@@ -49,7 +48,7 @@ pub fn citation(alloc: Global, label: &str, line: usize) -> Result<Node>
 
 /// An element that begins with a label that shows a text.
 fn labelled(alloc: Global, tag: Tag, attrs: Attrs, label_text: &str, line: usize) -> Result<Node>
-    ensures { Gives (λ node. node ≡ labelled_node tag attrs label_text.now line) result }
+    ensures { IfOk result (λ node. node ≡ labelled_node tag attrs label_text.now line) }
 {
     let mut nodes = Vec::new(alloc);
     nodes.push(plain(alloc, Tag::Label, line, label_text)?)?;

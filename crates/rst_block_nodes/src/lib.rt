@@ -5,6 +5,7 @@
 
 mod contents;
 mod directives;
+mod fault;
 mod heading;
 mod images;
 mod labels;
@@ -25,11 +26,12 @@ mod values;
 
 pub use contents::{append, completed, filled};
 pub use directives::{code_block, directive_element, with_title_class};
+pub use fault::BlockFault;
 pub use heading::{Heading, Style};
 pub use images::{figure, image};
 pub use labels::{citation, footnote};
 pub use laws::texts_are_read;
-pub use line_blocks::{BarText, LineBlockFault, line_block};
+pub use line_blocks::{BarText, line_block};
 pub use lists::{bullet_list, enumerated_list, option, start_message};
 pub use messages::message;
 pub use nodes::{element_of, plain, preserved};

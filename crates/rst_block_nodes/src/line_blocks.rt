@@ -2,15 +2,14 @@
 ghost use Rattle.std.specs.Prelude.{◌≡◌, ◌≤◌, ◌-◌, suc, length, Ok};
 ghost use Rattle.rst_tree.specs.declared.tag.Tag.TheVariants.{Line};
 ghost use Rattle.rst_block_nodes.specs.LineBlocks.{MakesLineBlock, line_block, indented, first_line, least_indent, deeper_len};
-ghost use Rattle.rst_block_nodes.specs.declared.line_blocks.LineBlockFault.TheVariants.{NoMemory};
 
+use super::fault::BlockFault;
 use super::nodes::element_of;
 use super::numbers::Numbers;
 use super::texted::{Texted, with_text};
-use rst_tree::{Attrs, Result, Tag, TreeFault};
-use std::alloc::{AllocError, AllocFailed, Global};
+use rst_tree::{Attrs, Result, Tag};
+use std::alloc::Global;
 use std::marker::Model;
-use thiserror::Error;
 
 /// A line of a line block: how deep it is indented after its bar (none where nothing follows the bar), the number of
 /// the line with the bar, the number of the line that its text begins in, and the text.
@@ -20,41 +19,6 @@ pub struct BarText {
     pub line: usize,
     pub text_line: usize,
     pub text: String,
-}
-
-/// Why a line block was not made.
-#[derive(Clone, Copy, Debug, PartialEq, Eq, Error)]
-pub enum LineBlockFault {
-    /// Line blocks nest too deep; the number is that of the first line of the first line block that does.
-    #[error("line {line}: nesting too deep")]
-    TooDeep { line: usize },
-    /// A growth was refused.
-    #[error("out of memory")]
-    NoMemory,
-}
-
-impl From<AllocError> for LineBlockFault {
-    ghost from_gives = { λ _ fault. fault ≡ NoMemory };
-
-    fn from(_error: AllocError) -> LineBlockFault {
-        LineBlockFault::NoMemory
-    }
-}
-
-impl<T: Drop> From<AllocFailed<T>> for LineBlockFault {
-    ghost from_gives = { λ _ fault. fault ≡ NoMemory };
-
-    fn from(_error: AllocFailed<T>) -> LineBlockFault {
-        LineBlockFault::NoMemory
-    }
-}
-
-impl From<TreeFault> for LineBlockFault {
-    ghost from_gives = { λ _ fault. fault ≡ NoMemory };
-
-    fn from(_fault: TreeFault) -> LineBlockFault {
-        LineBlockFault::NoMemory
-    }
 }
 
 /// A line with the indentation that it counts with. Contracts see its text as characters.
@@ -109,15 +73,15 @@ impl IndentedText {
 /// texts. Lines that are deeper than the least indentation form line blocks of the next level, as many neighbours as there
 /// are in each. A line with nothing after its bar is as deep as the one before it, the first not at all.
 ///
-/// Refusals: [`LineBlockFault::TooDeep`] where a line block's level is above `deepest`, and
-/// [`LineBlockFault::NoMemory`].
+/// Refusals: [`BlockFault::TooDeep`] where a line block's level is above `deepest`, and
+/// [`BlockFault::NoMemory`].
 pub fn line_block(
     alloc: Global,
     lines: Vec<BarText>,
     level: usize,
     deepest: usize,
     numbers: &mut Numbers,
-) -> Result<Texted, LineBlockFault>
+) -> Result<Texted, BlockFault>
     ensures { MakesLineBlock (line_block (suc deepest - level) (indented lines.items) numbers.old) numbers.new result }
 {
     let mut texts = Vec::new(alloc);
@@ -127,7 +91,7 @@ pub fn line_block(
         texts.push(IndentedText::of(last, bar))?;
     }
     if deepest < level {
-        return Err(LineBlockFault::TooDeep {
+        return Err(BlockFault::TooDeep {
             line: first_line(&texts),
         });
     }
@@ -177,7 +141,7 @@ fn block_of(
     lines: &[IndentedText],
     levels: usize,
     numbers: &mut Numbers,
-) -> Result<Texted, LineBlockFault>
+) -> Result<Texted, BlockFault>
     ensures { MakesLineBlock (line_block (suc levels) lines.now numbers.old) numbers.new result }
 {
     // The number fits a `u64`: the proof needs it.
@@ -198,7 +162,7 @@ fn block_of(
             continue;
         }
         if levels == 0 {
-            return Err(LineBlockFault::TooDeep {
+            return Err(BlockFault::TooDeep {
                 line: lines[place].line(),
             });
         }

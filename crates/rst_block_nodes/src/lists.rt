@@ -1,6 +1,5 @@
 //! Bullet lists, enumerated lists and the options of option lists.
-ghost use Rattle.std.specs.Prelude.{◌≡◌, None, option_map};
-ghost use Rattle.rst_tree.specs.Faults.{Gives};
+ghost use Rattle.std.specs.Prelude.{◌≡◌, None, option_map, IfOk};
 ghost use Rattle.rst_block_nodes.specs.Elements.{bullet_list_node, enumerated_list_node, start_text, option_node};
 ghost use Rattle.rst_block_nodes.specs.Texts.{message_node};
 
@@ -14,9 +13,9 @@ use std::alloc::Global;
 
 /// A bullet list whose items begin with a mark, without its items (Document Tree, 'bullet_list').
 ///
-/// The only refusal is [`TreeFault::NoMemory`].
+/// The only refusal is [`AllocError`].
 pub fn bullet_list(alloc: Global, mark: char, line: usize) -> Result<Node>
-    ensures { Gives (λ node. node ≡ bullet_list_node mark line) result }
+    ensures { IfOk result (λ node. node ≡ bullet_list_node mark line) }
 {
     let mut bullet = String::new(alloc);
     bullet.push(mark)?;
@@ -27,9 +26,9 @@ pub fn bullet_list(alloc: Global, mark: char, line: usize) -> Result<Node>
 /// An enumerated list whose first item begins with an enumerator, without its items (Document Tree, 'enumerated_list').
 /// It has its first ordinal as an attribute if that isn't 1.
 ///
-/// The only refusal is [`TreeFault::NoMemory`].
+/// The only refusal is [`AllocError`].
 pub fn enumerated_list(alloc: Global, enumerator: Enumerator, line: usize) -> Result<Node>
-    ensures { Gives (λ node. node ≡ enumerated_list_node enumerator line) result }
+    ensures { IfOk result (λ node. node ≡ enumerated_list_node enumerator line) }
 {
     let reading = first_reading(enumerator.written.ordinals);
     let sequence = match reading.sequence {
@@ -56,9 +55,9 @@ pub fn enumerated_list(alloc: Global, enumerator: Enumerator, line: usize) -> Re
 
 /// The message that the first ordinal of a list isn't 1. `written` is the ordinal as it is in the source.
 ///
-/// The only refusal is [`TreeFault::NoMemory`].
+/// The only refusal is [`AllocError`].
 pub fn start_message(alloc: Global, written: &str, ordinal: u64, line: usize) -> Result<Node>
-    ensures { Gives (λ node. node ≡ message_node Level.Info line (start_text written.now ordinal) None) result }
+    ensures { IfOk result (λ node. node ≡ message_node Level.Info line (start_text written.now ordinal) None) }
 {
     let mut buffer = Buffer::new();
     let mut text = String::from_str(alloc, "Enumerated list start value not ordinal-1: \"")?;
@@ -72,14 +71,14 @@ pub fn start_message(alloc: Global, written: &str, ordinal: u64, line: usize) ->
 /// An option of an option list, with its argument, if it has one: what comes before it, and its text (Document Tree,
 /// 'option').
 ///
-/// The only refusal is [`TreeFault::NoMemory`].
+/// The only refusal is [`AllocError`].
 pub fn option(
     alloc: Global,
     string: &str,
     argument: Option<(Delimiter, &str)>,
     line: usize,
 ) -> Result<Node>
-    ensures { Gives (λ node. node ≡ option_node string.now (option_map (λ a. (a.0, a.1.now)) argument.entry) line) result }
+    ensures { IfOk result (λ node. node ≡ option_node string.now (option_map (λ a. (a.0, a.1.now)) argument.entry) line) }
 {
     let mut nodes = Vec::new(alloc);
     nodes.push(plain(alloc, Tag::OptionString, line, string)?)?;

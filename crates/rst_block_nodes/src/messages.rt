@@ -1,6 +1,5 @@
 //! Messages.
-ghost use Rattle.std.specs.Prelude.{◌≡◌, option_map};
-ghost use Rattle.rst_tree.specs.Faults.{Gives};
+ghost use Rattle.std.specs.Prelude.{◌≡◌, option_map, IfOk};
 ghost use Rattle.rst_block_nodes.specs.Texts.{message_node};
 
 use rst_tree::{Level, Node, Note, Result, Text};
@@ -9,7 +8,7 @@ use std::alloc::Global;
 /// A message on the line of a number, with the source text that it quotes, if it quotes some (Document Tree,
 /// 'system_message').
 ///
-/// The only refusal is [`TreeFault::NoMemory`].
+/// The only refusal is [`AllocError`].
 pub fn message(
     alloc: Global,
     level: Level,
@@ -17,7 +16,7 @@ pub fn message(
     text: &str,
     block: Option<&str>,
 ) -> Result<Node>
-    ensures { Gives (λ node. node ≡ message_node level line text.now (option_map (λ lines. lines.now) block.entry)) result }
+    ensures { IfOk result (λ node. node ≡ message_node level line text.now (option_map (λ lines. lines.now) block.entry)) }
 {
     let text = Text::from_str(alloc, text)?;
     let block = match block {

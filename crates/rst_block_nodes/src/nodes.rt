@@ -1,6 +1,5 @@
 //! Elements with their nodes, and those that hold a text without markup.
-ghost use Rattle.std.specs.Prelude.{◌≡◌};
-ghost use Rattle.rst_tree.specs.Faults.{Gives};
+ghost use Rattle.std.specs.Prelude.{◌≡◌, IfOk};
 ghost use Rattle.rst_block_nodes.specs.Elements.{element_of, text_nodes, plain_node, preserving, preserved_node};
 
 use super::values::text_value;
@@ -21,7 +20,7 @@ pub fn element_of(tag: Tag, attrs: Attrs, nodes: Vec<Node>, line: usize) -> Node
 
 /// The nodes of a text without markup: none where it is empty.
 pub(crate) fn text_nodes(alloc: Global, text: &str) -> Result<Vec<Node>>
-    ensures { Gives (λ nodes. nodes.items ≡ text_nodes text.now) result }
+    ensures { IfOk result (λ nodes. nodes.items ≡ text_nodes text.now) }
 {
     let mut nodes = Vec::new(alloc);
     if !text.is_empty() {
@@ -32,9 +31,9 @@ pub(crate) fn text_nodes(alloc: Global, text: &str) -> Result<Vec<Node>>
 
 /// An element whose only node is a text, unchanged; an empty text is no node.
 ///
-/// The only refusal is [`TreeFault::NoMemory`].
+/// The only refusal is [`AllocError`].
 pub fn plain(alloc: Global, tag: Tag, line: usize, text: &str) -> Result<Node>
-    ensures { Gives (λ node. node ≡ plain_node tag line text.now) result }
+    ensures { IfOk result (λ node. node ≡ plain_node tag line text.now) }
 {
     let nodes = text_nodes(alloc, text)?;
     Ok(element_of(tag, Attrs::new(alloc), nodes, line))
@@ -42,7 +41,7 @@ pub fn plain(alloc: Global, tag: Tag, line: usize, text: &str) -> Result<Node>
 
 /// The attribute by which an element's white characters are kept.
 pub(crate) fn preserving(alloc: Global) -> Result<Attrs>
-    ensures { Gives (λ attrs. attrs ≡ preserving) result }
+    ensures { IfOk result (λ attrs. attrs ≡ preserving) }
 {
     Attrs::lone(alloc, Key::XmlSpace, text_value(alloc, "preserve")?)
 }
@@ -50,9 +49,9 @@ pub(crate) fn preserving(alloc: Global) -> Result<Attrs>
 /// A literal block, a doctest block or a comment (Document Tree, 'literal_block'): the same as [`plain`], with the
 /// attribute by which its white characters are kept.
 ///
-/// The only refusal is [`TreeFault::NoMemory`].
+/// The only refusal is [`AllocError`].
 pub fn preserved(alloc: Global, tag: Tag, line: usize, text: &str) -> Result<Node>
-    ensures { Gives (λ node. node ≡ preserved_node tag line text.now) result }
+    ensures { IfOk result (λ node. node ≡ preserved_node tag line text.now) }
 {
     let attrs = preserving(alloc)?;
     let nodes = text_nodes(alloc, text)?;

@@ -1,6 +1,5 @@
 //! Sections, made of the nodes and the titles of a document (Markup Specification, 'Sections').
-ghost use Rattle.std.specs.Prelude.{◌≡◌, ◌+◌, ◌≤◌, List, ◌∷◌, length};
-ghost use Rattle.rst_tree.specs.Faults.{Gives};
+ghost use Rattle.std.specs.Prelude.{◌≡◌, ◌+◌, ◌≤◌, List, ◌∷◌, length, IfOk};
 ghost use Rattle.rst_block_nodes.specs.Sections.{Item, titled, Member, document_of, level_of, title_of, items_of};
 ghost use Rattle.rst_block_nodes.specs.Texts.{section_node};
 ghost use Rattle.rst_block_nodes.specs.OpenSections.{document_with_items, closed_with, StopsAt};
@@ -26,9 +25,9 @@ struct OpenSection {
 /// The document with its sections: the section of a title holds what comes up to the next title of its level or a higher
 /// one.
 ///
-/// The only refusal is [`TreeFault::NoMemory`].
+/// The only refusal is [`AllocError`].
 pub fn document(alloc: Global, nodes: MarkedNodes, headings: Vec<Heading>) -> Result<Marked>
-    ensures { Gives (λ root. root ≡ document_of (items_of headings.items nodes)) result }
+    ensures { IfOk result (λ root. root ≡ document_of (items_of headings.items nodes)) }
 {
     let mut sections = Sections {
         outer: Vec::new(alloc),
@@ -61,7 +60,7 @@ struct Sections {
 impl Sections {
     /// Meets a title: begins a new section, or puts the message on a title whose level is inconsistent.
     fn title(&mut self, alloc: Global, heading: Heading) -> Result<()>
-        ensures { Gives (λ _. (items : List Item) → document_with_items self.new items ≡ document_with_items self.old (titled (title_of heading) ∷ items)) result }
+        ensures { IfOk result (λ _. (items : List Item) → document_with_items self.new items ≡ document_with_items self.old (titled (title_of heading) ∷ items)) }
     {
         let level = level_of(heading.style, self.styles.as_slice());
         // The level of the innermost section is the number of those round it.
@@ -95,10 +94,10 @@ impl Sections {
     /// Ends those of a level or a deeper one: each is put into the one round it.
     fn end(&mut self, alloc: Global, level: usize) -> Result<()>
         requires { 1 ≤ level }
-        ensures closed { Gives (λ _. (ms : List Member) → StopsAt level ms → closed_with self.new ms ≡ closed_with self.old ms) result }
-        ensures few { Gives (λ _. length self.new.outer.items + 1 ≤ level) result }
-        ensures enough { Gives (λ _. level ≤ length self.old.outer.items + 1 → level ≤ length self.new.outer.items + 1) result }
-        ensures styles { Gives (λ _. self.new.styles ≡ self.old.styles) result }
+        ensures closed { IfOk result (λ _. (ms : List Member) → StopsAt level ms → closed_with self.new ms ≡ closed_with self.old ms) }
+        ensures few { IfOk result (λ _. length self.new.outer.items + 1 ≤ level) }
+        ensures enough { IfOk result (λ _. level ≤ length self.old.outer.items + 1 → level ≤ length self.new.outer.items + 1) }
+        ensures styles { IfOk result (λ _. self.new.styles ≡ self.old.styles) }
     {
         while level <= self.outer.len() {
             if let Some(round) = self.outer.pop() {
@@ -125,7 +124,7 @@ fn level_of(style: Style, styles: &[Style]) -> usize
 /// A section that begins with its title, and is named by the title's text; this many messages are to come between the title
 /// and the section's content (Document Tree, 'section').
 fn section(alloc: Global, title: Node, notes: usize, line: usize) -> Result<Node>
-    ensures { Gives (λ node. node ≡ section_node title notes line) result }
+    ensures { IfOk result (λ node. node ≡ section_node title notes line) }
 {
     let text = title.text_of(alloc)?;
     let mut attrs = counting(alloc, notes)?;

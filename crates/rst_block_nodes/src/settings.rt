@@ -1,6 +1,5 @@
 //! The attributes that the options of directives give.
-ghost use Rattle.std.specs.Prelude.{◌≡◌};
-ghost use Rattle.rst_tree.specs.Faults.{Gives};
+ghost use Rattle.std.specs.Prelude.{◌≡◌, IfOk};
 ghost use Rattle.rst_markup_directives.specs.Options.{choices_in};
 ghost use Rattle.rst_markup_directives.specs.Value.{meaning_of};
 ghost use Rattle.rst_block_nodes.specs.Options.{with_choices, value_meant};
@@ -30,7 +29,7 @@ pub(crate) fn set_options(
     holder: Holder,
     options: &[Setting],
 ) -> Result<()>
-    ensures { Gives (λ _. attrs.new ≡ with_choices holder (choices_in options.now) attrs.old) result }
+    ensures { IfOk result (λ _. attrs.new ≡ with_choices holder (choices_in options.now) attrs.old) }
 {
     for setting in options {
         let key = match (holder, setting.option) {
@@ -56,7 +55,7 @@ pub(crate) fn set_options(
 /// The value of an option as the value of an attribute: of a target, the text that it is written with.
 #[tactic(auto, using(rst_text::proofs::TextLemmas::bytes_encoded, crate::proofs::TextLemmas::listed_bytes))]
 fn value_of(alloc: Global, value: &OptionValue) -> Result<Value>
-    ensures { Gives (λ meant. meant ≡ value_meant (meaning_of value.now)) result }
+    ensures { IfOk result (λ meant. meant ≡ value_meant (meaning_of value.now)) }
 {
     match value {
         OptionValue::Text(text) => text_value(alloc, text.as_str()),

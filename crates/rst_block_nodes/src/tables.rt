@@ -1,6 +1,5 @@
 //! Parts of tables.
-ghost use Rattle.std.specs.Prelude.{◌≡◌};
-ghost use Rattle.rst_tree.specs.Faults.{Gives};
+ghost use Rattle.std.specs.Prelude.{◌≡◌, IfOk};
 ghost use Rattle.rst_block_nodes.specs.Elements.{tgroup_node, entry_node};
 
 use super::nodes::element_of;
@@ -10,9 +9,9 @@ use std::alloc::Global;
 /// The group of all rows of a table whose columns have these widths, with an element for each column, without its rows
 /// (Document Tree, 'tgroup').
 ///
-/// The only refusal is [`TreeFault::NoMemory`].
+/// The only refusal is [`AllocError`].
 pub fn tgroup(alloc: Global, widths: &[usize], line: usize) -> Result<Node>
-    ensures { Gives (λ node. node ≡ tgroup_node widths.now line) result }
+    ensures { IfOk result (λ node. node ≡ tgroup_node widths.now line) }
 {
     let mut nodes = Vec::new(alloc);
     for width in widths {
@@ -25,9 +24,9 @@ pub fn tgroup(alloc: Global, widths: &[usize], line: usize) -> Result<Node>
 
 /// An entry of a table that spans this many more rows and columns than one, without its content (Document Tree, 'entry').
 ///
-/// The only refusal is [`TreeFault::NoMemory`].
+/// The only refusal is [`AllocError`].
 pub fn entry(alloc: Global, morerows: usize, morecols: usize, line: usize) -> Result<Node>
-    ensures { Gives (λ node. node ≡ entry_node morerows morecols line) result }
+    ensures { IfOk result (λ node. node ≡ entry_node morerows morecols line) }
 {
     let mut attrs = Attrs::new(alloc);
     if morecols != 0 {

@@ -1,7 +1,6 @@
 //! Targets and substitution definitions.
-ghost use Rattle.std.specs.Prelude.{◌≡◌, ◌∷◌, [], string_bytes, option_map};
+ghost use Rattle.std.specs.Prelude.{◌≡◌, ◌∷◌, [], string_bytes, option_map, IfOk};
 ghost use Rattle.std.specs.List.{list_any};
-ghost use Rattle.rst_tree.specs.Faults.{Gives};
 ghost use Rattle.rst_tree_index.specs.Kinds.{is_substitution_reference_node};
 ghost use Rattle.rst_markup_directives.specs.Target.{destination_of};
 ghost use Rattle.rst_block_nodes.specs.Values.{normalized, unescaped};
@@ -11,18 +10,18 @@ ghost use Rattle.rst_block_nodes.specs.Targets.{target_node, name_attrs, leading
 use super::nodes::element_of;
 use super::values::{name_value, normalized, text_value, unescaped};
 use rst_markup_directives::{Target, target_value};
-use rst_tree::{Attrs, Entry, Key, Node, Result, Tag, Text, TreeFault, Value};
+use rst_tree::{Attrs, Entry, Key, Node, Result, Tag, Text, Value};
 use std::alloc::Global;
 
 /// A target that is a block: its name as it is written, still with escapes, if it has one, and its text, whose lines are
 /// joined by line feeds and may have their indentation (Markup Specification, 'Hyperlink Targets'). It leads to a name or
 /// to a URI, or marks its own place where nothing is left of its text. One without a name is anonymous.
 ///
-/// The only refusal is [`TreeFault::NoMemory`].
+/// The only refusal is [`AllocError`].
 pub fn target(alloc: Global, name: Option<&str>, text: &str, line: usize) -> Result<Node>
-    ensures { Gives (λ node. node ≡ target_node (option_map (λ written. written.now) name.entry) text.now line) result }
+    ensures { IfOk result (λ node. node ≡ target_node (option_map (λ written. written.now) name.entry) text.now line) }
 {
-    let destination = target_value(alloc, text).map_err(|_| TreeFault::NoMemory)?;
+    let destination = target_value(alloc, text)?;
     // Registration gives it up to three attributes more.
     let mut list = Vec::with_capacity(alloc, 5)?;
     list.push(name_attr(alloc, name)?)?;
@@ -33,7 +32,7 @@ pub fn target(alloc: Global, name: Option<&str>, text: &str, line: usize) -> Res
 
 /// The attribute with a target's name, or the one of a target without a name.
 fn name_attr(alloc: Global, name: Option<&str>) -> Result<Entry>
-    ensures { Gives (λ attr. attr ∷ [] ≡ name_attrs (option_map (λ written. written.now) name.entry)) result }
+    ensures { IfOk result (λ attr. attr ∷ [] ≡ name_attrs (option_map (λ written. written.now) name.entry)) }
 {
     let Some(written) = name else {
         return Ok(Entry::new(Key::Anonymous, Value::Number(1)));
@@ -45,7 +44,7 @@ fn name_attr(alloc: Global, name: Option<&str>) -> Result<Entry>
 /// Adds to a target's attributes what it leads to.
 #[tactic(auto, using(rst_text::proofs::TextLemmas::bytes_encoded))]
 fn add_lead(alloc: Global, attrs: &mut Attrs, destination: Option<Target>) -> Result<()>
-    ensures { Gives (λ _. attrs.new ≡ leading_attrs attrs.old (option_map destination_of destination)) result }
+    ensures { IfOk result (λ _. attrs.new ≡ leading_attrs attrs.old (option_map destination_of destination)) }
 {
     match destination {
         Some(Target::Name(name)) => attrs.set(Key::Refname, name_value(alloc, name.as_str())?),
@@ -57,9 +56,9 @@ fn add_lead(alloc: Global, attrs: &mut Attrs, destination: Option<Target>) -> Re
 /// The name of a substitution definition that is written in this way: without escapes, each run of white characters as one
 /// space, and none at the ends. Case is kept.
 ///
-/// The only refusal is [`TreeFault::NoMemory`].
+/// The only refusal is [`AllocError`].
 pub fn substitution_name(alloc: Global, written: &str) -> Result<String>
-    ensures { Gives (λ name. string_bytes name ≡ normalized (unescaped written.now)) result }
+    ensures { IfOk result (λ name. string_bytes name ≡ normalized (unescaped written.now)) }
 {
     let name = unescaped(alloc, written)?;
     normalized(alloc, name.as_str())
@@ -68,9 +67,9 @@ pub fn substitution_name(alloc: Global, written: &str) -> Result<String>
 /// A substitution definition, without its content; the name is that of [`substitution_name`] (Document Tree,
 /// 'substitution_definition').
 ///
-/// The only refusal is [`TreeFault::NoMemory`].
+/// The only refusal is [`AllocError`].
 pub fn substitution_definition(alloc: Global, name: &str, line: usize) -> Result<Node>
-    ensures { Gives (λ node. node ≡ substitution_definition_node name.now line) result }
+    ensures { IfOk result (λ node. node ≡ substitution_definition_node name.now line) }
 {
     let attrs = Attrs::lone(alloc, Key::OwnName, text_value(alloc, name)?)?;
     Ok(element_of(Tag::SubstitutionDefinition, attrs, Vec::new(alloc), line))

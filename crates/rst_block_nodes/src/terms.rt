@@ -1,6 +1,5 @@
 //! Terms of definition lists, with their classifiers.
 ghost use Rattle.std.specs.Prelude.{◌≡◌, ◌≤◌, false, [], ◌∷◌, map, length, IfOk, Ok, chars};
-ghost use Rattle.rst_tree.specs.Faults.{Gives};
 ghost use Rattle.rst_tree.specs.Sends.{counted_on};
 ghost use Rattle.rst_block_nodes.specs.Readings.{termed};
 ghost use Rattle.rst_block_nodes.specs.Results.{HeadsText};
@@ -26,7 +25,7 @@ pub struct Heads {
 /// Specification, 'Definition Lists'). The colon and the spaces are in text without markup, and none of them is
 /// escaped; they are looked for when escapes are gone. The term has the number of messages as an attribute.
 ///
-/// The only refusal is [`TreeFault::NoMemory`].
+/// The only refusal is [`AllocError`].
 #[tactic(auto, using(crate::proofs::MessageLemmas::messages_from_length))]
 pub fn term_and_classifiers(
     alloc: Global,
@@ -34,9 +33,9 @@ pub fn term_and_classifiers(
     line: usize,
     numbers: &mut Numbers,
 ) -> Result<Heads>
-    ensures text { Gives (HeadsText (chars text.now) line numbers.old) result }
-    ensures numbers { Gives (λ made. numbers.new ≡ counted_on numbers.old (length made.notes.items)) result }
-    ensures read { Gives (λ made. termed (chars text.now) line numbers.old ≡ Ok ((made.heads.items, made.notes.items), numbers.new)) result }
+    ensures text { IfOk result (HeadsText (chars text.now) line numbers.old) }
+    ensures numbers { IfOk result (λ made. numbers.new ≡ counted_on numbers.old (length made.notes.items)) }
+    ensures read { IfOk result (λ made. termed (chars text.now) line numbers.old ≡ Ok ((made.heads.items, made.notes.items), numbers.new)) }
 {
     let characters = characters_of(alloc, text)?;
     let pieces = pieces_of(alloc, &characters)?;
@@ -58,7 +57,7 @@ struct Letter {
 
 /// The parts of those pieces without markup of which something is left when escapes are gone, piece after piece.
 fn plain_parts(alloc: Global, text: &[char], pieces: &[Piece]) -> Result<Vec<Vec<Text>>>
-    ensures { Gives (λ parts. map (λ texts. texts.items) parts.items ≡ piece_texts text.now pieces.now) result }
+    ensures { IfOk result (λ parts. map (λ texts. texts.items) parts.items ≡ piece_texts text.now pieces.now) }
 {
     let mut parts = Vec::new(alloc);
     for piece in pieces {
@@ -99,7 +98,7 @@ fn letters_of(alloc: Global, text: &[char]) -> Result<Vec<Letter>, AllocError>
 
 /// The texts before, between and after the colons with spaces on both sides, without these spaces.
 fn term_parts(alloc: Global, letters: &[Letter]) -> Result<Vec<Text>>
-    ensures { Gives (λ parts. parts.items ≡ term_parts letters.now) result }
+    ensures { IfOk result (λ parts. parts.items ≡ term_parts letters.now) }
 {
     let mut parts = Vec::new(alloc);
     let mut part = Vec::new(alloc);
@@ -180,7 +179,7 @@ fn heads_of(
     notes: usize,
     line: usize,
 ) -> Result<Vec<Node>>
-    ensures { Gives (λ heads. heads.items ≡ heads_of notes line (groups_of (map (λ texts. texts.items) parts.items) nodes.items)) result }
+    ensures { IfOk result (λ heads. heads.items ≡ heads_of notes line (groups_of (map (λ texts. texts.items) parts.items) nodes.items)) }
 {
     let mut heads = Unfinished {
         done: Vec::new(alloc),
@@ -208,7 +207,7 @@ fn with_parts(
     notes: usize,
     line: usize,
 ) -> Result<Unfinished>
-    ensures { Gives (IsPut notes line heads parts.items) result }
+    ensures { IfOk result (IsPut notes line heads parts.items) }
 {
     let mut heads = heads;
     let mut is_first = true;
@@ -227,8 +226,8 @@ fn with_parts(
 /// The nodes made an element: the first is the term, the others are classifiers.
 #[tactic(auto, using(crate::proofs::HeadLemmas::first_head, crate::proofs::HeadLemmas::further_head))]
 fn closed_head(alloc: Global, heads: Unfinished, notes: usize, line: usize) -> Result<Unfinished>
-    ensures done { Gives (λ closed_head. closed_head.done.items ≡ heads_after notes line heads.done.items (heads.nodes.items ∷ [])) result }
-    ensures nodes { Gives (λ closed_head. closed_head.nodes.items ≡ []) result }
+    ensures done { IfOk result (λ closed_head. closed_head.done.items ≡ heads_after notes line heads.done.items (heads.nodes.items ∷ [])) }
+    ensures nodes { IfOk result (λ closed_head. closed_head.nodes.items ≡ []) }
 {
     let Unfinished { mut done, nodes } = heads;
     if done.is_empty() {

@@ -1,6 +1,5 @@
 //! Elements that hold a text with inline markup.
-ghost use Rattle.std.specs.Prelude.{◌≡◌, length, Ok, chars};
-ghost use Rattle.rst_tree.specs.Faults.{Gives};
+ghost use Rattle.std.specs.Prelude.{◌≡◌, length, Ok, chars, IfOk};
 ghost use Rattle.rst_tree.specs.Sends.{counted_on};
 ghost use Rattle.rst_block_nodes.specs.Texts.{counting, messages_from};
 ghost use Rattle.rst_block_nodes.specs.Readings.{texted};
@@ -23,7 +22,7 @@ pub struct Texted {
 /// Specification, 'Inline Markup'). The element has the number of messages as an attribute, if there are some. A message and its problematic have
 /// one number, by which the document's messages are counted.
 ///
-/// The only refusal is [`TreeFault::NoMemory`].
+/// The only refusal is [`AllocError`].
 #[tactic(auto, using(crate::proofs::MessageLemmas::messages_from_length))]
 pub fn with_text(
     alloc: Global,
@@ -33,9 +32,9 @@ pub fn with_text(
     text_line: usize,
     numbers: &mut Numbers,
 ) -> Result<Texted>
-    ensures text { Gives (HoldsText tag line (chars text.now) text_line numbers.old) result }
-    ensures numbers { Gives (λ read. numbers.new ≡ counted_on numbers.old (length read.notes.items)) result }
-    ensures read { Gives (λ made. texted tag line (chars text.now) text_line numbers.old ≡ Ok ((made.element, made.notes.items), numbers.new)) result }
+    ensures text { IfOk result (HoldsText tag line (chars text.now) text_line numbers.old) }
+    ensures numbers { IfOk result (λ read. numbers.new ≡ counted_on numbers.old (length read.notes.items)) }
+    ensures read { IfOk result (λ made. texted tag line (chars text.now) text_line numbers.old ≡ Ok ((made.element, made.notes.items), numbers.new)) }
 {
     let first = numbers.given();
     let Pieces { nodes, notes } = inline_from(alloc, text, text_line, first)?;
@@ -57,7 +56,7 @@ pub fn with_text(
 /// The messages of a text as nodes, numbered from the first on.
 #[tactic(auto, using(crate::proofs::MessageLemmas::messages_from_append, crate::proofs::MessageLemmas::number_after_append))]
 pub(crate) fn messages_of(alloc: Global, notes: Vec<Note>, first: u64) -> Result<Vec<Node>>
-    ensures { Gives (λ messages. messages.items ≡ messages_from first notes.items) result }
+    ensures { IfOk result (λ messages. messages.items ≡ messages_from first notes.items) }
 {
     if notes.is_empty() {
         return Ok(Vec::new(alloc));
@@ -73,7 +72,7 @@ pub(crate) fn messages_of(alloc: Global, notes: Vec<Note>, first: u64) -> Result
 
 /// The attribute with the number of messages that an element's text has, if it has some.
 pub(crate) fn counting(alloc: Global, notes: usize) -> Result<Attrs>
-    ensures { Gives (λ attrs. attrs ≡ counting notes) result }
+    ensures { IfOk result (λ attrs. attrs ≡ counting notes) }
 {
     if notes == 0 {
         return Ok(Attrs::new(alloc));

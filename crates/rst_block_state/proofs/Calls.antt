@@ -4,8 +4,8 @@ use Rattle.rst_block_state.specs.machine.Meanings.{Keeps}
 use Rattle.rst_block_state.specs.machine.OpenBlocks.{Closes, Gives}
 use Rattle.rst_block_state.specs.machine.Rest.{no_run}
 use Rattle.rst_block_state.specs.Titles.{Item}
-use Rattle.rst_block_state.specs.declared.fault.BlockFault.{BlockFault}
-use Rattle.rst_block_state.specs.declared.fault.BlockFault.TheVariants.{TooDeep, NoMemory}
+use Rattle.rst_block_nodes.specs.declared.fault.BlockFault.{BlockFault}
+use Rattle.rst_block_nodes.specs.declared.fault.BlockFault.TheVariants.{TooDeep, NoMemory}
 use Rattle.rst_block_state.specs.declared.open_block.OpenBlock.{OpenBlock}
 
 -- ---- a call that gives a value, or for which memory runs out

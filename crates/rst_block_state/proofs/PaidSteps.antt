@@ -17,7 +17,7 @@ use Rattle.rst_block_state.specs.machine.OpenBlocks.{IsMoved, HasMoreAt, IsClose
 use Rattle.rst_block_state.specs.looks.Reaches.{reach_at}
 use Rattle.rst_block_state.specs.machine.Rest.{no_run}
 use Rattle.rst_block_state.specs.Titles.{Item}
-use Rattle.rst_block_state.specs.declared.fault.BlockFault.{BlockFault}
+use Rattle.rst_block_nodes.specs.declared.fault.BlockFault.{BlockFault}
 use Rattle.rst_block_state.specs.declared.open_block.OpenBlock.{OpenBlock}
 use Rattle.rst_block_state.specs.declared.run.Run.{Run}
 use Rattle.rst_block_state.specs.declared.run.Run.TheVariants.{None as NoRun, List as ListRun, Lines, Explicit as ExplicitRun}

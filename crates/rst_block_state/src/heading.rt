@@ -1,14 +1,13 @@
 //! Titles of sections, as they are read.
-ghost use Rattle.std.specs.Prelude.{◌≡◌, ◌∷◌, [], Ok, string_bytes, chars};
-ghost use Rattle.rst_tree.specs.Faults.{Gives};
+ghost use Rattle.std.specs.Prelude.{◌≡◌, ◌∷◌, [], Ok, string_bytes, chars, IfOk};
 ghost use Rattle.rst_block_nodes.specs.Sections.{title_of};
 ghost use Rattle.rst_block_state.specs.Titles.{short_warning, title_item, titled};
 
 use super::texts::Pass;
 use rst_block_nodes::{Heading, Style, message, with_text};
-use rst_tree::{Level, Node, Tag, TreeFault};
+use rst_tree::{Level, Node, Tag};
 use rst_tree_index::MarkedNodes;
-use std::alloc::Global;
+use std::alloc::{AllocError, Global};
 
 /// A title with this text, and no nodes before it.
 pub fn heading_of(
@@ -18,9 +17,9 @@ pub fn heading_of(
     warning: Option<Node>,
     source: String,
     pass: &mut Pass,
-) -> Result<Heading, TreeFault>
-    ensures title { Gives (λ heading. title_item style (chars text.now) line warning (string_bytes source) pass.old.numbers
-        ≡ Ok (titled (title_of heading) ∷ [], pass.new.numbers)) result }
+) -> Result<Heading, AllocError>
+    ensures title { IfOk result (λ heading. title_item style (chars text.now) line warning (string_bytes source) pass.old.numbers
+        ≡ Ok (titled (title_of heading) ∷ [], pass.new.numbers)) }
     ensures looks { pass.new.looks ≡ pass.old.looks }
 {
     let title = with_text(pass.alloc, Tag::Title, line, text, line, &mut pass.numbers)?;
@@ -41,8 +40,8 @@ pub fn short_warning(
     line: usize,
     text: &str,
     lines: &str,
-) -> Result<Option<Node>, TreeFault>
-    ensures { Gives (λ warning. warning ≡ short_warning short line text.now lines.now) result }
+) -> Result<Option<Node>, AllocError>
+    ensures { IfOk result (λ warning. warning ≡ short_warning short line text.now lines.now) }
 {
     if !short {
         return Ok(None);

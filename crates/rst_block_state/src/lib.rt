@@ -14,12 +14,13 @@ mod step;
 mod texts;
 mod waits;
 
-pub use fault::{BlockFault, Result};
+pub use fault::Result;
 pub use frame::{Ended, Frame, opened};
 pub use heading::{heading_of, short_warning};
 pub use open_block::OpenBlock;
 pub use paragraph::announced;
 pub use part::{hanging, indented, inside, item_part};
+pub use rst_block_nodes::BlockFault;
 pub use run::{DEEPEST, ListKind, OpenList, Run, Sequel};
 pub use step::Step;
 pub use texts::{

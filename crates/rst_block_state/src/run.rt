@@ -1,6 +1,5 @@
 //! Constructs that join with those before them: items of one list, lines of one line block, explicit markup.
-ghost use Rattle.std.specs.Prelude.{◌≡◌, suc, ◌-◌, ◌∷◌, ◌++◌, Some, None, IfSome, IfNone, option_map};
-ghost use Rattle.rst_tree.specs.Faults.{Gives};
+ghost use Rattle.std.specs.Prelude.{◌≡◌, suc, ◌-◌, ◌∷◌, ◌++◌, Some, None, IfSome, IfNone, option_map, IfOk};
 ghost use Rattle.rst_block_nodes.specs.LineBlocks.{indented};
 ghost use Rattle.rst_block_nodes.specs.Sections.{filled};
 ghost use Rattle.rst_block_state.specs.Constructs.{enumerated_item};
@@ -10,15 +9,15 @@ ghost use Rattle.rst_block_state.specs.machine.Meanings.{deepest, joining_in, li
 ghost use Rattle.rst_block_state.specs.machine.OpenBlocks.{Adds};
 ghost use Rattle.rst_block_state.specs.machine.Rest.{end_of_run, joining_of_run, open_lines, run_nodes};
 
-use super::fault::{BlockFault, Result};
+use super::fault::Result;
 use super::texts::Pass;
-use rst_block_nodes::{BarText, LineBlockFault, completed, line_block};
+use rst_block_nodes::{BarText, completed, line_block};
 use rst_markup_lines::{
     Enumerator, Format, Ordinals, Sequence, first_reading, is_same_format, ordinal_in,
 };
-use rst_tree::{Node, TreeFault};
+use rst_tree::Node;
 use rst_tree_index::MarkedNodes;
-use std::alloc::Global;
+use std::alloc::{AllocError, Global};
 
 /// How many blocks a block may be inside.
 pub const DEEPEST: usize = 250;
@@ -192,9 +191,9 @@ impl Run {
 }
 
 /// Puts a list between its messages after other nodes.
-fn put_list(alloc: Global, nodes: &mut MarkedNodes, open: OpenList) -> Result<(), TreeFault>
-    ensures { Gives (λ _. nodes.new
-        ≡ nodes.old ++ open.before.items ++ filled open.list open.items ∷ open.messages_after.items) result }
+fn put_list(alloc: Global, nodes: &mut MarkedNodes, open: OpenList) -> Result<(), AllocError>
+    ensures { IfOk result (λ _. nodes.new
+        ≡ nodes.old ++ open.before.items ++ filled open.list open.items ∷ open.messages_after.items) }
 {
     let OpenList {
         before,
@@ -219,12 +218,7 @@ fn put_lines(
         nodes.old nodes.new pass.new.numbers result }
     ensures looks { pass.new.looks ≡ pass.old.looks }
 {
-    match line_block(pass.alloc, lines, depth, DEEPEST, &mut pass.numbers) {
-        Ok(block) => {
-            nodes.push_new(block.element)?;
-            Ok(nodes.append_new(block.notes)?)
-        }
-        Err(LineBlockFault::TooDeep { line }) => Err(BlockFault::TooDeep { line }),
-        Err(LineBlockFault::NoMemory) => Err(BlockFault::NoMemory),
-    }
+    let block = line_block(pass.alloc, lines, depth, DEEPEST, &mut pass.numbers)?;
+    nodes.push_new(block.element)?;
+    Ok(nodes.append_new(block.notes)?)
 }

@@ -2,7 +2,6 @@
 ghost use Rattle.std.specs.Prelude.{◌≡◌, ◌+◌, ◌-◌, ◌<◌, ◌≤◌, [], ◌∷◌, ◌++◌, length, take, drop, slice_range, string_bytes, encode_utf8_all, IfOk, chars};
 ghost use Rattle.rst_markup_blocks.specs.Prelude.{first_number, capped, block_of};
 ghost use Rattle.rst_text.specs.Text.{chars_of};
-ghost use Rattle.rst_tree.specs.Faults.{Gives};
 ghost use Rattle.rst_tree.specs.declared.note.Level.TheVariants.{Warning};
 ghost use Rattle.rst_block_state.specs.LineRuns.{number_or};
 ghost use Rattle.rst_block_state.specs.Texts as spec;
@@ -10,7 +9,7 @@ ghost use Rattle.rst_block_state.specs.Texts as spec;
 use rst_block_nodes::{Numbers, message};
 use rst_markup_lines::Characters;
 use rst_text::{Looks, View, skip};
-use rst_tree::{Level, Node, TreeFault};
+use rst_tree::{Level, Node};
 use rst_tree_index::{MarkedIter, MarkedNodes};
 use std::alloc::{AllocError, Global};
 
@@ -139,8 +138,8 @@ pub fn first_line_or(lines: &View<'_>, line: usize) -> usize
 }
 
 /// The message on a construct that isn't followed by a blank line.
-pub(crate) fn unindent(alloc: Global, line: usize, text: &str) -> Result<Node, TreeFault>
-    ensures { Gives (λ node. node ≡ spec.system_message Warning line text.now) result }
+pub(crate) fn unindent(alloc: Global, line: usize, text: &str) -> Result<Node, AllocError>
+    ensures { IfOk result (λ node. node ≡ spec.system_message Warning line text.now) }
 {
     message(alloc, Level::Warning, line, text, None)
 }
@@ -159,9 +158,9 @@ pub fn split_nodes(
     alloc: Global,
     mut nodes: MarkedIter,
     count: u64,
-) -> Result<(MarkedNodes, MarkedNodes), TreeFault>
-    ensures first { Gives (λ parts. parts.0 ≡ take count nodes) result }
-    ensures second { Gives (λ parts. parts.1 ≡ drop count nodes) result }
+) -> Result<(MarkedNodes, MarkedNodes), AllocError>
+    ensures first { IfOk result (λ parts. parts.0 ≡ take count nodes) }
+    ensures second { IfOk result (λ parts. parts.1 ≡ drop count nodes) }
 {
     let mut first = MarkedNodes::none(alloc);
     let mut second = MarkedNodes::none(alloc);

@@ -10,9 +10,9 @@ use rst_json::{enclose, put_node, put_note, put_record};
 use rst_settings::Settings;
 use rst_text::Counted;
 use rst_transform::Finished;
-use rst_tree::{Note, TreeFault};
+use rst_tree::Note;
 use rst2pseudoxml_run::{End, document_of, halting, is_reported, show, status_of};
-use std::alloc::Global;
+use std::alloc::{AllocError, Global};
 
 /// What the program prints for a text.
 pub fn printed(
@@ -89,7 +89,7 @@ fn bytes_as(
     finished: &Finished,
     settings: &Settings,
     form: Form,
-) -> Result<Vec<u8>, TreeFault>
+) -> Result<Vec<u8>, AllocError>
     ensures { IfOk result (λ bytes. bytes.items ≡ bytes_as form settings.now (finished.now.tree, finished.now.notes.items)) }
 {
     let mut bytes = Vec::new(alloc);
@@ -117,7 +117,7 @@ fn finished_of(alloc: Global, text: &[u8], settings: &Settings) -> Result<Finish
 }
 
 /// The messages that are reported as an array.
-fn notes_json(alloc: Global, notes: &[Note], settings: &Settings) -> Result<Vec<u8>, TreeFault>
+fn notes_json(alloc: Global, notes: &[Note], settings: &Settings) -> Result<Vec<u8>, AllocError>
     ensures { IfOk result (λ json. json.items ≡ json_array (map json_note (filter (run_result.is_reported settings.now) notes.now))) }
 {
     let mut json = Vec::new(alloc);

@@ -1,17 +1,16 @@
 //! Elements of inline markup.
-ghost use Rattle.std.specs.Prelude.{◌≡◌, true, chars};
+ghost use Rattle.std.specs.Prelude.{◌≡◌, true, chars, IfOk};
 ghost use Rattle.rst_tree.specs.Attributes.{are_keys_in_order};
 ghost use Rattle.rst_tree.specs.Forest.{bare};
 ghost use Rattle.rst_tree.specs.declared.node.Node.TheVariants.{Element};
 ghost use Rattle.rst_inline.specs.Elements.{text_children, text_element, problematic_node};
-ghost use Rattle.rst_tree.specs.Faults.{Gives};
 
 use rst_tree::{Attrs, Children, Entry, Key, Node, Result, Tag, Text, Value};
 use std::alloc::Global;
 
 /// The nodes of a text: none where it is empty.
 pub(crate) fn text_nodes(alloc: Global, display_text: &str) -> Result<Children>
-    ensures { Gives (λ nodes. nodes ≡ text_children (chars display_text.now)) result }
+    ensures { IfOk result (λ nodes. nodes ≡ text_children (chars display_text.now)) }
 {
     if display_text.is_empty() {
         return Ok(Children::new(alloc));
@@ -30,7 +29,7 @@ pub(crate) fn element(
     line: usize,
 ) -> Result<Node>
     requires { are_keys_in_order attrs.items ≡ true }
-    ensures { Gives (λ node. node ≡ text_element tag attrs.items (chars display_text.now) line) result }
+    ensures { IfOk result (λ node. node ≡ text_element tag attrs.items (chars display_text.now) line) }
 {
     let children = text_nodes(alloc, display_text)?;
     Ok(Node::Element {
@@ -56,7 +55,7 @@ pub(crate) fn bare_element(alloc: Global, tag: Tag, attrs: Vec<Entry>, line: usi
 
 /// What is wrong as it is written, with the number of its message.
 pub(crate) fn problematic(alloc: Global, number: u64, source: &str, line: usize) -> Result<Node>
-    ensures { Gives (λ node. node ≡ problematic_node number (chars source.now) line) result }
+    ensures { IfOk result (λ node. node ≡ problematic_node number (chars source.now) line) }
 {
     // Registration adds two: its id and the id of its message.
     let mut attrs = Vec::with_capacity(alloc, 3)?;

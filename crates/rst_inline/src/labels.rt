@@ -1,8 +1,7 @@
 //! References to footnotes and citations.
-ghost use Rattle.std.specs.Prelude.{◌≡◌, chars};
+ghost use Rattle.std.specs.Prelude.{◌≡◌, chars, IfOk};
 ghost use Rattle.std.specs.List.{list_all};
 ghost use Rattle.rst_inline.specs.Elements.{is_digit, autonumbered_reference_node};
-ghost use Rattle.rst_tree.specs.Faults.{Gives};
 
 use super::elements::bare_element;
 use super::texts::{name_value, spell, text_value};
@@ -23,7 +22,7 @@ pub(crate) fn numbered_footnote(
     name: &[char],
     line: usize,
 ) -> Result<Node>
-    ensures { Gives (λ node. node ≡ autonumbered_reference_node (chars source.now) name.now line) result }
+    ensures { IfOk result (λ node. node ≡ autonumbered_reference_node (chars source.now) name.now line) }
 {
     let written = text_value(alloc, source)?;
     match name {

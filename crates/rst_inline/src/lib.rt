@@ -1,6 +1,8 @@
 //! Inline markup: the nodes and the messages of a text.
 #![tactic(auto)]
 
+use std::alloc::AllocError;
+
 mod elements;
 mod embedded;
 mod labels;
@@ -14,5 +16,4 @@ mod written;
 
 pub use nodes::{Pieces, inline, inline_from};
 pub use rst_inline_scan::plain_uri;
-pub use rst_tree::TreeFault as InlineFault;
 pub use texts::{part, unescape};

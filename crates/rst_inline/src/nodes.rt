@@ -1,6 +1,5 @@
 //! The nodes and the messages of a text.
-ghost use Rattle.std.specs.Prelude.{All, chars};
-ghost use Rattle.rst_tree.specs.Faults.{Gives};
+ghost use Rattle.std.specs.Prelude.{All, chars, IfOk};
 ghost use Rattle.rst_inline_scan.specs.Pieces.{IsWithin};
 ghost use Rattle.rst_inline.specs.Results.{AreReadFromPieces, IsRead};
 
@@ -22,18 +21,18 @@ pub struct Pieces {
 /// The nodes and the messages of an inline text whose first line has the number `line` (Markup Specification, 'Inline
 /// Markup'). Every text has some. The messages are numbered from 0 on.
 ///
-/// The only refusal is [`InlineFault::NoMemory`].
+/// The only refusal is [`AllocError`].
 pub fn inline(alloc: Global, text: &str, line: usize) -> Result<Pieces>
-    ensures { Gives (IsRead (chars text.now) line 0) result }
+    ensures { IfOk result (IsRead (chars text.now) line 0) }
 {
     inline_from(alloc, text, line, 0)
 }
 
 /// What [`inline`] gives, with the messages numbered from `first` on.
 ///
-/// The only refusal is [`InlineFault::NoMemory`].
+/// The only refusal is [`AllocError`].
 pub fn inline_from(alloc: Global, text: &str, line: usize, first: u64) -> Result<Pieces>
-    ensures { Gives (IsRead (chars text.now) line first) result }
+    ensures { IfOk result (IsRead (chars text.now) line first) }
 {
     // A quiet text is one plain piece, so it is neither made characters nor scanned.
     if is_quiet(text.as_bytes()) {
@@ -55,7 +54,7 @@ impl Written<'_> {
     #[inline(never)]
     fn read(&self, pieces: &[Piece], first: u64) -> Result<Pieces>
         requires { All (IsWithin self.now.characters.items) pieces.now }
-        ensures { Gives (AreReadFromPieces self.now.characters.items self.now.line first pieces.now) result }
+        ensures { IfOk result (AreReadFromPieces self.now.characters.items self.now.line first pieces.now) }
     {
         // A phrase reference may give two nodes, the second a target.
         let phrases = pieces

@@ -1,7 +1,6 @@
 //! What pieces mean.
 ghost use Rattle.std.specs.Prelude.{◌<◌, ◌≤◌, ◌+◌, ◌≡◌, [], length, IfOk, chars};
 ghost use Rattle.std.specs.Cow.{cow_str_bytes};
-ghost use Rattle.rst_tree.specs.Faults.{Gives};
 ghost use Rattle.rst_tree.specs.declared.tag.Tag.TheVariants.{Literal};
 ghost use Rattle.rst_text.specs.Escapes.{unescaped};
 ghost use Rattle.rst_inline_scan.specs.Pieces.{IsWithin};
@@ -38,7 +37,7 @@ impl Written<'_> {
     #[tactic(auto, using(crate::proofs::TextLemmas::spelled_again, crate::proofs::TextLemmas::some_plain, crate::proofs::TextLemmas::no_plain))]
     #[inline(always)]
     pub(crate) fn plain(&self, piece: Piece) -> Result<Option<Text>>
-        ensures { Gives (λ text. plain_meaning text ≡ plain_reading (unescaped (source self.now.characters.items piece))) result }
+        ensures { IfOk result (λ text. plain_meaning text ≡ plain_reading (unescaped (source self.now.characters.items piece))) }
     {
         let display_text = self.unescaped(piece.from, piece.to)?;
         let display_text = display_text.as_str();
@@ -52,7 +51,7 @@ impl Written<'_> {
     /// An element that holds what the markup of a piece encloses, without its escapes.
     #[inline(never)]
     fn text_element_of(&self, tag: Tag, piece: Piece) -> Result<Meaning>
-        ensures { Gives (λ reading. reading ≡ One (text_element tag [] (unescaped (content self.now.characters.items piece)) self.now.line)) result }
+        ensures { IfOk result (λ reading. reading ≡ One (text_element tag [] (unescaped (content self.now.characters.items piece)) self.now.line)) }
     {
         let display_text = self.unescaped(piece.content_from, piece.content_to)?;
         let children = text_nodes(self.alloc, display_text.as_str())?;
@@ -66,7 +65,7 @@ impl Written<'_> {
 
     #[inline(never)]
     fn literal(&self, piece: Piece) -> Result<Meaning>
-        ensures { Gives (λ reading. reading ≡ One (text_element Literal [] (content self.now.characters.items piece) self.now.line)) result }
+        ensures { IfOk result (λ reading. reading ≡ One (text_element Literal [] (content self.now.characters.items piece) self.now.line)) }
     {
         let display_text = self.part(piece.content_from, piece.content_to);
         let attrs = Vec::new(self.alloc);
@@ -76,7 +75,7 @@ impl Written<'_> {
 
     #[inline(never)]
     fn inline_target(&self, piece: Piece) -> Result<Meaning>
-        ensures { Gives (λ reading. reading ≡ One (inline_target_node (unescaped (content self.now.characters.items piece)) self.now.line)) result }
+        ensures { IfOk result (λ reading. reading ≡ One (inline_target_node (unescaped (content self.now.characters.items piece)) self.now.line)) }
     {
         let display_text = self.unescaped(piece.content_from, piece.content_to)?;
         let display_text = display_text.as_str();
@@ -91,7 +90,7 @@ impl Written<'_> {
     #[inline(never)]
     fn substituted(&self, suffix: Suffix, piece: Piece) -> Result<Meaning>
         requires { IsWithin self.now.characters.items piece }
-        ensures { Gives (λ reading. reading ≡ substitution_reading suffix (part self.now.characters.items piece.from (piece.content_to + 1)) (source self.now.characters.items piece) (unescaped (content self.now.characters.items piece)) self.now.line) result }
+        ensures { IfOk result (λ reading. reading ≡ substitution_reading suffix (part self.now.characters.items piece.from (piece.content_to + 1)) (source self.now.characters.items piece) (unescaped (content self.now.characters.items piece)) self.now.line) }
     {
         let display_text = self.unescaped(piece.content_from, piece.content_to)?;
         let display_text = display_text.as_str();
@@ -166,7 +165,7 @@ impl Written<'_> {
         meaning: &str,
         is_alias: bool,
     ) -> Result<Meaning>
-        ensures { Gives (λ reading. reading ≡ embedded_reading suffix (chars source.now) (chars display_text.now) (chars meaning.now) is_alias self.now.line) result }
+        ensures { IfOk result (λ reading. reading ≡ embedded_reading suffix (chars source.now) (chars display_text.now) (chars meaning.now) is_alias self.now.line) }
     {
         if is_alias {
             let own = normalized_value(self.alloc, display_text)?;
@@ -198,7 +197,7 @@ impl Written<'_> {
     /// A phrase that is a reference.
     fn phrase(&self, suffix: Suffix, piece: Piece) -> Result<Meaning>
         requires { IsWithin self.now.characters.items piece }
-        ensures { Gives (λ reading. reading ≡ phrase_reading suffix (source self.now.characters.items piece) (content self.now.characters.items piece) self.now.line) result }
+        ensures { IfOk result (λ reading. reading ≡ phrase_reading suffix (source self.now.characters.items piece) (content self.now.characters.items piece) self.now.line) }
     {
         let source = self.part(piece.from, piece.to);
         let phrase = part(&self.characters, piece.content_from, piece.content_to);
@@ -223,7 +222,7 @@ impl Written<'_> {
     /// Interpreted text with a role.
     #[tactic(auto, using(crate::proofs::TextLemmas::spelled_again))]
     fn with_role(&self, role: &str, piece: Piece) -> Result<Meaning>
-        ensures { Gives (λ reading. reading ≡ role_reading (chars role.now) (unescaped (content self.now.characters.items piece)) self.now.line) result }
+        ensures { IfOk result (λ reading. reading ≡ role_reading (chars role.now) (unescaped (content self.now.characters.items piece)) self.now.line) }
     {
         match role_tag(role) {
             Some(tag) => self.text_element_of(tag, piece),
@@ -238,7 +237,7 @@ impl Written<'_> {
     #[inline(never)]
     fn interpreted(&self, suffix: Suffix, piece: Piece) -> Result<Meaning>
         requires { IsWithin self.now.characters.items piece }
-        ensures { Gives (λ reading. reading ≡ interpreted_reading (has_prefix_role piece) suffix self.now.characters.items piece self.now.line) result }
+        ensures { IfOk result (λ reading. reading ≡ interpreted_reading (has_prefix_role piece) suffix self.now.characters.items piece self.now.line) }
     {
         // A role comes first.
         if piece.from + 1 < piece.content_from {
@@ -268,7 +267,7 @@ impl Written<'_> {
     #[tactic(auto, using(crate::proofs::TextLemmas::chars_of_star))]
     #[inline(never)]
     fn label(&self, piece: Piece) -> Result<Meaning>
-        ensures { Gives (λ reading. reading ≡ One (label_reference_node (source self.now.characters.items piece) (content self.now.characters.items piece) self.now.line)) result }
+        ensures { IfOk result (λ reading. reading ≡ One (label_reference_node (source self.now.characters.items piece) (content self.now.characters.items piece) self.now.line)) }
     {
         let source = self.part(piece.from, piece.to);
         let label = part(&self.characters, piece.content_from, piece.content_to);
@@ -310,7 +309,7 @@ impl Written<'_> {
     /// A reference by a simple name.
     #[inline(never)]
     fn named(&self, suffix: Suffix, piece: Piece) -> Result<Meaning>
-        ensures { Gives (λ reading. let display_text = content self.now.characters.items piece in reading ≡ One (reference_node suffix (source self.now.characters.items piece) display_text display_text self.now.line)) result }
+        ensures { IfOk result (λ reading. let display_text = content self.now.characters.items piece in reading ≡ One (reference_node suffix (source self.now.characters.items piece) display_text display_text self.now.line)) }
     {
         let source = self.part(piece.from, piece.to);
         let name = self.part(piece.content_from, piece.content_to);
@@ -321,7 +320,7 @@ impl Written<'_> {
     /// A standalone URI.
     #[inline(never)]
     fn uri(&self, piece: Piece) -> Result<Meaning>
-        ensures { Gives (λ reading. reading ≡ One (uri_node (source self.now.characters.items piece) self.now.line)) result }
+        ensures { IfOk result (λ reading. reading ≡ One (uri_node (source self.now.characters.items piece) self.now.line)) }
     {
         let source = self.part(piece.from, piece.to);
         let attrs = vec![in self.alloc;
@@ -337,7 +336,7 @@ impl Written<'_> {
     #[inline(always)]
     pub(crate) fn reading(&self, piece: Piece) -> Result<Meaning>
         requires { IsWithin self.now.characters.items piece }
-        ensures { Gives (λ read. read ≡ reading self.now.characters.items self.now.line piece) result }
+        ensures { IfOk result (λ read. read ≡ reading self.now.characters.items self.now.line piece) }
     {
         match piece.kind {
             Kind::Plain => match self.plain(piece)? {

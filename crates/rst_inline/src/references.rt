@@ -1,15 +1,14 @@
 //! References, and the substitutions that they enclose.
-ghost use Rattle.std.specs.Prelude.{◌≡◌, ◌∷◌, [], chars};
+ghost use Rattle.std.specs.Prelude.{◌≡◌, ◌∷◌, [], chars, IfOk};
 ghost use Rattle.rst_inline.specs.Elements.{reference_node, embedded_node, outer_node};
 ghost use Rattle.rst_tree.specs.Attributes.{attr};
-ghost use Rattle.rst_tree.specs.Faults.{Gives};
 ghost use Rattle.rst_tree.specs.declared.key.Key.TheVariants.{Name, Rawsource, Refname};
 
 use super::elements::element;
 use super::texts::{name_value, normalized_value, text_value};
 use rst_inline_scan::Suffix;
 use rst_text::both_borrowed;
-use rst_tree::{Attrs, Children, Entry, Key, Node, Result, Tag, TreeFault, Value};
+use rst_tree::{Attrs, Children, Entry, Key, Node, Result, Tag, Value};
 use std::alloc::Global;
 
 /// The attributes of a reference by a name, with room for the one for its destination, once that is found.
@@ -21,7 +20,7 @@ pub(crate) fn named_attrs(
     written: Value,
     refname: Value,
 ) -> Result<Vec<Entry>>
-    ensures { Gives (λ attrs. attrs.items ≡ attr Name own ∷ attr Rawsource written ∷ attr Refname refname ∷ []) result }
+    ensures { IfOk result (λ attrs. attrs.items ≡ attr Name own ∷ attr Rawsource written ∷ attr Refname refname ∷ []) }
 {
     let mut attrs = Vec::with_capacity(alloc, 4)?;
     attrs.push_reserved(Entry::new(Key::Name, own));
@@ -39,7 +38,7 @@ pub(crate) fn reference(
     display_text: &str,
     line: usize,
 ) -> Result<Node>
-    ensures { Gives (λ node. node ≡ reference_node suffix (chars source.now) (chars display_text.now) (chars display_text.now) line) result }
+    ensures { IfOk result (λ node. node ≡ reference_node suffix (chars source.now) (chars display_text.now) (chars display_text.now) line) }
 {
     let written = text_value(alloc, source)?;
     let attrs = match suffix {
@@ -51,9 +50,7 @@ pub(crate) fn reference(
             attrs
         }
         _ => {
-            let (normalized, name) = both_borrowed(alloc, display_text).map_err(
-                |_| TreeFault::NoMemory,
-            )?;
+            let (normalized, name) = both_borrowed(alloc, display_text)?;
             let own = text_value(alloc, normalized.as_str())?;
             let refname = text_value(alloc, name.as_str())?;
             named_attrs(alloc, own, written, refname)?
@@ -70,7 +67,7 @@ pub(crate) fn embedded_reference(
     uri: &str,
     line: usize,
 ) -> Result<Node>
-    ensures { Gives (λ node. node ≡ embedded_node (chars source.now) (chars display_text.now) (chars uri.now) line) result }
+    ensures { IfOk result (λ node. node ≡ embedded_node (chars source.now) (chars display_text.now) (chars uri.now) line) }
 {
     let name = normalized_value(alloc, display_text)?;
     let written = text_value(alloc, source)?;
@@ -93,7 +90,7 @@ pub(crate) fn outer_reference(
     inner: Node,
     line: usize,
 ) -> Result<Node>
-    ensures { Gives (λ node. node ≡ outer_node suffix (chars source.now) (chars display_text.now) inner line) result }
+    ensures { IfOk result (λ node. node ≡ outer_node suffix (chars source.now) (chars display_text.now) inner line) }
 {
     let written = text_value(alloc, source)?;
     let attrs = match suffix {

@@ -5,18 +5,17 @@ ghost use Rattle.rst_text.specs.Text.{chars_of};
 ghost use Rattle.rst_text.specs.Escapes.{unescaped};
 ghost use Rattle.rst_inline.specs.Parts.{part, text_bytes};
 ghost use Rattle.rst_inline.specs.Elements.{text_value};
-ghost use Rattle.rst_tree.specs.Faults.{Gives};
 
 use rst_text::{characters_of, name_borrowed, normalized_borrowed, unescaped};
-use rst_tree::{Result, Text, TreeFault, Value};
+use rst_tree::{Result, Text, Value};
 use std::alloc::{AllocError, Global};
 
 /// The text without its escapes: a backslash vanishes, and white after one; any other character after one stays
 /// (Markup Specification, 'Escaping Mechanism').
 ///
-/// The only refusal is [`TreeFault::NoMemory`].
+/// The only refusal is [`AllocError`].
 pub fn unescape(alloc: Global, text: &str) -> Result<String>
-    ensures { Gives (λ out. chars_of out ≡ unescaped (chars text.now)) result }
+    ensures { IfOk result (λ out. chars_of out ≡ unescaped (chars text.now)) }
 {
     let characters = characters_of(alloc, text)?;
     let plain = unescaped(alloc, &characters)?;
@@ -39,7 +38,7 @@ pub(crate) fn spell(alloc: Global, characters: &[char]) -> Result<String, AllocE
 /// A value that is a text.
 #[tactic(auto, using(crate::proofs::TextLemmas::spelled_again))]
 pub(crate) fn text_value(alloc: Global, text: &str) -> Result<Value>
-    ensures { Gives (λ value. value ≡ text_value (chars text.now)) result }
+    ensures { IfOk result (λ value. value ≡ text_value (chars text.now)) }
 {
     let text = Text::from_str(alloc, text)?;
     Ok(Value::Text(text))
@@ -47,17 +46,17 @@ pub(crate) fn text_value(alloc: Global, text: &str) -> Result<Value>
 
 /// A value that is the name that a text gives.
 pub(crate) fn name_value(alloc: Global, text: &str) -> Result<Value>
-    ensures { Gives (λ value. value ≡ text_value (names.name_of (chars text.now))) result }
+    ensures { IfOk result (λ value. value ≡ text_value (names.name_of (chars text.now))) }
 {
-    let name = name_borrowed(alloc, text).map_err(|_| TreeFault::NoMemory)?;
+    let name = name_borrowed(alloc, text)?;
     text_value(alloc, name.as_str())
 }
 
 /// A value that is a text with each run of white characters as one space, and none at the ends.
 pub(crate) fn normalized_value(alloc: Global, text: &str) -> Result<Value>
-    ensures { Gives (λ value. value ≡ text_value (names.normalized_white (chars text.now))) result }
+    ensures { IfOk result (λ value. value ≡ text_value (names.normalized_white (chars text.now))) }
 {
-    let name = normalized_borrowed(alloc, text).map_err(|_| TreeFault::NoMemory)?;
+    let name = normalized_borrowed(alloc, text)?;
     text_value(alloc, name.as_str())
 }
 

@@ -1,8 +1,7 @@
 //! Elements with their attributes, and texts.
 
-ghost use Rattle.std.specs.Prelude.{◌≡◌, map, None, Some, flat_map};
+ghost use Rattle.std.specs.Prelude.{◌≡◌, map, None, Some, flat_map, IfOk};
 ghost use Rattle.rst_json.specs.Json.{Adds, after_comma, json_array, json_attr, json_node, json_object, json_string};
-ghost use Rattle.rst_tree.specs.Faults.{Gives};
 ghost use Rattle.rst_tree.specs.KeyNames.{key_name};
 ghost use Rattle.rst_tree.specs.PrintedAttributes.{printed_attrs, with_printed_attrs};
 ghost use Rattle.rst_tree.specs.declared.tag.Tag.TheVariants.{SystemMessage};
@@ -59,7 +58,7 @@ fn put_printed_attrs(
 
 /// The attributes of a message with its line and its type.
 pub fn message_attrs(alloc: Global, attrs: &Attrs, line: usize) -> Result<Attrs>
-    ensures { Gives (λ printed. printed ≡ printed_attrs None SystemMessage attrs.now line) result }
+    ensures { IfOk result (λ printed. printed ≡ printed_attrs None SystemMessage attrs.now line) }
 {
     let mut printed = attrs.copy(alloc)?;
     printed.set(Key::Line, Value::Number(line as u64))?;

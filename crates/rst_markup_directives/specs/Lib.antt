@@ -3,7 +3,6 @@ pub mod Escapes
 pub mod Measure
 pub mod OptionName
 pub mod Kind
-pub mod Faults
 pub mod Lines
 pub mod Layout
 pub mod Target

@@ -1,18 +1,17 @@
 //! The arguments of directives.
-ghost use Rattle.std.specs.Prelude.{◌≡◌, Ok};
+ghost use Rattle.std.specs.Prelude.{◌≡◌, Ok, IfOk};
 ghost use Rattle.rst_text.specs.Characters.{without_white};
 ghost use Rattle.rst_text.specs.Names.{normalized_white};
 ghost use Rattle.rst_markup_directives.specs.Argument as spec;
-ghost use Rattle.rst_markup_directives.specs.Faults.{Gives};
 ghost use Rattle.rst_markup_directives.specs.Lines.{joined_nonempty, texts_of};
 
 use super::characters::{has_character, text_from};
-use super::fault::{Detail, MarkupFault};
+use super::fault::Detail;
 use super::kind::ArgumentKind;
 use super::options::joined_nonempty;
 use rst_markup_blocks::Part;
 use rst_text::{characters_of, normalized_white, without_white};
-use std::alloc::Global;
+use std::alloc::{AllocError, Global};
 
 /// The argument of a directive.
 #[derive(Debug, Drop)]
@@ -33,8 +32,8 @@ pub(crate) fn argument_of(
     kind: ArgumentKind,
     lines: &[&str],
     part: Part,
-) -> Result<Result<Argument, Detail>, MarkupFault>
-    ensures { Gives (λ argument. spec.argument_in argument ≡ spec.argument_of kind (texts_of lines.now) part) result }
+) -> Result<Result<Argument, Detail>, AllocError>
+    ensures { IfOk result (λ argument. spec.argument_in argument ≡ spec.argument_of kind (texts_of lines.now) part) }
 {
     match (kind, lines) {
         (ArgumentKind::Absent, _) | (ArgumentKind::Language, []) => Ok(Ok(Argument::Absent)),
@@ -47,8 +46,8 @@ pub(crate) fn argument_of(
 
 /// A URI, without white characters.
 #[tactic(auto, using(crate::proofs::Joins::joined_alone))]
-fn uri_of(alloc: Global, lines: &[&str]) -> Result<Result<Argument, Detail>, MarkupFault>
-    ensures { Gives (λ argument. spec.argument_in argument ≡ Ok (spec.uri (without_white (joined_nonempty (texts_of lines.now))))) result }
+fn uri_of(alloc: Global, lines: &[&str]) -> Result<Result<Argument, Detail>, AllocError>
+    ensures { IfOk result (λ argument. spec.argument_in argument ≡ Ok (spec.uri (without_white (joined_nonempty (texts_of lines.now))))) }
 {
     let text = joined_nonempty(alloc, Vec::new(alloc), lines, 0)?;
     let uri = without_white(alloc, &text)?;
@@ -58,8 +57,8 @@ fn uri_of(alloc: Global, lines: &[&str]) -> Result<Result<Argument, Detail>, Mar
 
 /// A language, if the lines hold a single word: one space is left between two words.
 #[tactic(auto, using(crate::proofs::Joins::joined_alone), unfolding(crate::specs::Argument::word_of))]
-fn language_of(alloc: Global, lines: &[&str]) -> Result<Result<Argument, Detail>, MarkupFault>
-    ensures { Gives (λ argument. spec.argument_in argument ≡ spec.word_of (normalized_white (joined_nonempty (texts_of lines.now)))) result }
+fn language_of(alloc: Global, lines: &[&str]) -> Result<Result<Argument, Detail>, AllocError>
+    ensures { IfOk result (λ argument. spec.argument_in argument ≡ spec.word_of (normalized_white (joined_nonempty (texts_of lines.now)))) }
 {
     let text = joined_nonempty(alloc, Vec::new(alloc), lines, 0)?;
     let text = text_from(alloc, &text)?;

@@ -1,8 +1,7 @@
 //! Directives as they are called.
-ghost use Rattle.std.specs.Prelude.{◌≡◌, true, ◌+◌, ◌-◌, ◌≤◌, ◌&&◌, length};
+ghost use Rattle.std.specs.Prelude.{◌≡◌, true, ◌+◌, ◌-◌, ◌≤◌, ◌&&◌, length, IfOk};
 ghost use Rattle.rst_markup_blocks.specs.Prelude.{cut, Looked, capped, block_of};
 ghost use Rattle.rst_markup_blocks.specs.Parts.{IsBlock, IsCall};
-ghost use Rattle.rst_markup_directives.specs.Faults.{Gives};
 ghost use Rattle.rst_markup_directives.specs.Call as spec;
 ghost use Rattle.rst_markup_directives.specs.Directive as directives;
 ghost use Rattle.rst_markup_directives.specs.Layout as layouts;
@@ -10,7 +9,7 @@ ghost use Rattle.rst_markup_directives.specs.Lines.{texts_of};
 ghost use Rattle.rst_markup_directives.specs.Wrong.{and_then};
 
 use super::argument::{Argument, argument_of};
-use super::fault::{Detail, DirectiveFault, MarkupFault};
+use super::fault::{Detail, DirectiveFault};
 use super::found::{Content, Directive, Place};
 use super::judgement::{content_fault, permitted};
 use super::kind::{ContentKind, Kind};
@@ -19,20 +18,20 @@ use super::lines::run_of;
 use super::options::{Setting, excerpt, fields_of, settings_of};
 use rst_markup_blocks::{Invocation, LineTest, Part, lines_end};
 use rst_text::{Looks, View};
-use std::alloc::Global;
+use std::alloc::{AllocError, Global};
 
 /// The kind of the directive that is called at line `at` of a view, if there is one of that name.
 ///
-/// The only refusal is [`MarkupFault::NoMemory`].
+/// The only refusal is [`AllocError`].
 pub fn called(
     alloc: Global,
     view: &View<'_>,
     at: usize,
     invocation: &Invocation,
     looks: &mut Looks,
-) -> Result<Option<Kind>, MarkupFault>
+) -> Result<Option<Kind>, AllocError>
     requires call { IsCall (block_of view.now) at invocation.now }
-    ensures kind { Gives (λ kind. kind ≡ spec.called_at true (block_of view.now) at invocation.now) result }
+    ensures kind { IfOk result (λ kind. kind ≡ spec.called_at true (block_of view.now) at invocation.now) }
     ensures looks { looks.new ≡ capped (looks.old + 1) }
 {
     let name = excerpt(alloc, view.line(at, looks), invocation.name)?;
@@ -43,7 +42,7 @@ pub fn called(
 /// is true if the block is a single paragraph, which counts for `replace` alone. It makes at most one look more than the
 /// block has lines.
 ///
-/// The only refusal is [`MarkupFault::NoMemory`].
+/// The only refusal is [`AllocError`].
 #[tactic(auto, unfolding(crate::specs::Directive::directive_of))]
 pub fn directive(
     alloc: Global,
@@ -54,10 +53,10 @@ pub fn directive(
     place: Place,
     paragraph: bool,
     looks: &mut Looks,
-) -> Result<Directive, MarkupFault>
+) -> Result<Directive, AllocError>
     requires block { IsBlock (block_of view.now) block }
-    ensures outcome { Gives (λ found. directives.directive_outcome found ≡ directives.directive_of kind (block_of view.now) at block place paragraph) result }
-    ensures parts { Gives (λ found. spec.IsDirectiveIn (block_of view.now) found) result }
+    ensures outcome { IfOk result (λ found. directives.directive_outcome found ≡ directives.directive_of kind (block_of view.now) at block place paragraph) }
+    ensures parts { IfOk result (λ found. spec.IsDirectiveIn (block_of view.now) found) }
     ensures looked { Looked 0 (1 + (block.to - block.from)) looks.old looks.new }
 {
     let source = Part {
@@ -96,9 +95,9 @@ fn read(
     view: &View<'_>,
     block: Part,
     looks: &mut Looks,
-) -> Result<Result<Reading, Detail>, MarkupFault>
+) -> Result<Result<Reading, Detail>, AllocError>
     requires block { IsBlock (block_of view.now) block }
-    ensures reading { Gives (λ reading. directives.reading_in reading ≡ directives.read_block kind late block (cut (block_of view.now) block.from block.to block.first_cut block.rest_cut)) result }
+    ensures reading { IfOk result (λ reading. directives.reading_in reading ≡ directives.read_block kind late block (cut (block_of view.now) block.from block.to block.first_cut block.rest_cut)) }
     ensures looked { Looked 0 (1 + (block.to - block.from)) looks.old looks.new }
 {
     let lines = view.part(block.from, block.to, block.first_cut, block.rest_cut);
@@ -116,11 +115,11 @@ fn read_run(
     block: Part,
     run: &[&str],
     rest: usize,
-) -> Result<Result<Reading, Detail>, MarkupFault>
+) -> Result<Result<Reading, Detail>, AllocError>
     requires ordered { block.from ≤ block.to }
     requires run { length run.now ≤ block.to - block.from }
     requires rest { rest ≤ block.to - block.from }
-    ensures { Gives (λ reading. directives.reading_in reading ≡ directives.directive_by_layout kind block (block.to - block.from) (texts_of run.now) (layouts.layout_at kind (texts_of run.now) (block.to - block.from) rest)) result }
+    ensures { IfOk result (λ reading. directives.reading_in reading ≡ directives.directive_by_layout kind block (block.to - block.from) (texts_of run.now) (layouts.layout_at kind (texts_of run.now) (block.to - block.from) rest)) }
 {
     let all = block.to - block.from;
     let layout = layout_of(kind, run, all, rest);

@@ -1,42 +1,4 @@
-//! What can be wrong with a directive, and what can hinder its reading.
-ghost use Rattle.std.specs.Prelude.{◌≡◌};
-ghost use Rattle.rst_markup_directives.specs.declared.fault.MarkupFault.TheVariants.{NoMemory};
-
-use rst_text::TextFault;
-use std::alloc::{AllocError, AllocFailed};
-use thiserror::Error;
-
-/// Why markup was not read.
-#[derive(Clone, Copy, Debug, PartialEq, Eq, Error)]
-pub enum MarkupFault {
-    /// A growth was refused.
-    #[error("out of memory")]
-    NoMemory,
-}
-
-impl From<AllocError> for MarkupFault {
-    ghost from_gives = { λ _ fault. fault ≡ NoMemory };
-
-    fn from(_error: AllocError) -> MarkupFault {
-        MarkupFault::NoMemory
-    }
-}
-
-impl<T: Drop> From<AllocFailed<T>> for MarkupFault {
-    ghost from_gives = { λ _ fault. fault ≡ NoMemory };
-
-    fn from(_error: AllocFailed<T>) -> MarkupFault {
-        MarkupFault::NoMemory
-    }
-}
-
-impl From<TextFault> for MarkupFault {
-    ghost from_gives = { λ _ fault. fault ≡ NoMemory };
-
-    fn from(_fault: TextFault) -> MarkupFault {
-        MarkupFault::NoMemory
-    }
-}
+//! What can be wrong with a directive.
 
 /// What is wrong with a directive.
 #[derive(Debug, Drop)]

@@ -20,7 +20,7 @@ mod value;
 
 pub use argument::Argument;
 pub use calls::{called, directive};
-pub use fault::{Detail, DirectiveFault, MarkupFault};
+pub use fault::{Detail, DirectiveFault};
 pub use found::{Content, Directive, Place};
 pub use kind::{Allowed, ArgumentKind, ContentKind, Kind, OptionSet};
 pub use measure::Alignment;

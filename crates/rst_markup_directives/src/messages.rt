@@ -1,18 +1,17 @@
 //! The texts of the messages on directives.
 ghost use Rattle.std.specs.Prelude.{◌≡◌, string_bytes, IfOk};
-ghost use Rattle.rst_markup_directives.specs.Faults.{Gives};
 ghost use Rattle.rst_markup_directives.specs.Message as spec;
 ghost use Rattle.rst_markup_directives.specs.Wrong.{fault_in, wrong_in};
 
-use super::fault::{Detail, DirectiveFault, MarkupFault};
+use super::fault::{Detail, DirectiveFault};
 use std::alloc::{AllocError, Global};
 
 /// The text of the message on a fault of a directive. `name` is the directive's name as it is written, or, of a
 /// directive that isn't allowed in a substitution definition, the name of that definition.
 ///
-/// The only refusal is [`MarkupFault::NoMemory`].
-pub fn message(alloc: Global, fault: &DirectiveFault, name: &str) -> Result<String, MarkupFault>
-    ensures { Gives (λ text. string_bytes text ≡ spec.fault_text (fault_in fault.now) name.now) result }
+/// The only refusal is [`AllocError`].
+pub fn message(alloc: Global, fault: &DirectiveFault, name: &str) -> Result<String, AllocError>
+    ensures { IfOk result (λ text. string_bytes text ≡ spec.fault_text (fault_in fault.now) name.now) }
 {
     match fault {
         DirectiveFault::NotInSubstitution => Ok(format!(in alloc;

@@ -2,12 +2,11 @@
 ghost use Rattle.std.specs.Prelude.{◌≡◌, ◌+◌, ◌≤◌, ◌<◌, ◌∷◌, length, map, drop, slice_range, IfOk, option_map, chars};
 ghost use Rattle.std.specs.List.{prefix_len};
 ghost use Rattle.rst_markup_lines.specs.TextStart as text_start;
-ghost use Rattle.rst_markup_directives.specs.Faults.{Gives};
 ghost use Rattle.rst_markup_directives.specs.Lines.{joined_nonempty, texts_of};
 ghost use Rattle.rst_markup_directives.specs.Options as spec;
 
 use super::characters::{is_same_word, text_from};
-use super::fault::{Detail, MarkupFault};
+use super::fault::Detail;
 use super::kind::OptionSet;
 use super::lines::add_line;
 use super::option::OptionName;
@@ -118,8 +117,8 @@ pub(crate) fn settings_of(
     alloc: Global,
     options: OptionSet,
     fields: &[Field],
-) -> Result<Result<Vec<Setting>, Detail>, MarkupFault>
-    ensures { Gives (λ settings. spec.choices_or_fault settings ≡ spec.settings_in options (spec.field_texts fields.now)) result }
+) -> Result<Result<Vec<Setting>, Detail>, AllocError>
+    ensures { IfOk result (λ settings. spec.choices_or_fault settings ≡ spec.settings_in options (spec.field_texts fields.now)) }
 {
     for field in fields {
         let option = OptionName::of(&field.name);

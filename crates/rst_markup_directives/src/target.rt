@@ -1,16 +1,14 @@
 //! What the text of a target means.
-ghost use Rattle.std.specs.Prelude.{◌≡◌, ◌<◌, ◌&&◌, ◌==◌, Some, option_map, chars};
-ghost use Rattle.rst_markup_directives.specs.Faults.{Gives};
+ghost use Rattle.std.specs.Prelude.{◌≡◌, ◌<◌, ◌&&◌, ◌==◌, Some, option_map, chars, IfOk};
 ghost use Rattle.rst_text.specs.Characters.{without_white};
 ghost use Rattle.rst_text.specs.Escapes.{unescaped};
 ghost use Rattle.rst_markup_directives.specs.Escapes as escapes;
 ghost use Rattle.rst_markup_directives.specs.Target as spec;
 
 use super::characters::{is_empty_text, spaces, text_from};
-use super::fault::MarkupFault;
 use super::lines::add_line;
 use rst_text::{characters_of, escapes, has, is_dark, is_simple_name, unescaped, without_white};
-use std::alloc::Global;
+use std::alloc::{AllocError, Global};
 
 /// What a target leads to.
 #[derive(Debug, Drop)]
@@ -25,9 +23,9 @@ pub enum Target {
 /// and `_`, is a name, and any other text is a URI. The lines of the text lose their indentation, and empty ones don't
 /// count.
 ///
-/// The only refusal is [`MarkupFault::NoMemory`].
-pub fn target_value(alloc: Global, text: &str) -> Result<Option<Target>, MarkupFault>
-    ensures { Gives (λ target. option_map spec.destination_of target ≡ spec.target_value (chars text.now)) result }
+/// The only refusal is [`AllocError`].
+pub fn target_value(alloc: Global, text: &str) -> Result<Option<Target>, AllocError>
+    ensures { IfOk result (λ target. option_map spec.destination_of target ≡ spec.target_value (chars text.now)) }
 {
     // Most texts are ASCII without white characters and escapes, and end in no `_`: such a text is the URI that it means.
     let bytes = text.as_bytes();
@@ -51,8 +49,8 @@ pub fn target_value(alloc: Global, text: &str) -> Result<Option<Target>, MarkupF
 /// What a text means as the text of a target. A phrase in backquotes isn't empty, there is no white at either end, and each
 /// backquote in it is escaped.
 #[tactic(auto, unfolding(crate::specs::Target::destination_in, crate::specs::Target::is_simple_reference, crate::specs::Target::is_phrase_reference, crate::specs::Target::is_phrase, crate::specs::Target::phrase_in))]
-fn destination_in(alloc: Global, text: &[char]) -> Result<Option<Target>, MarkupFault>
-    ensures { Gives (λ target. option_map spec.destination_of target ≡ spec.destination_in text.now) result }
+fn destination_in(alloc: Global, text: &[char]) -> Result<Option<Target>, AllocError>
+    ensures { IfOk result (λ target. option_map spec.destination_of target ≡ spec.destination_in text.now) }
 {
     let n = text.len();
     if 0 < n && (has(text, n - 1, '_') && is_simple_name(&text[..n - 1])) {

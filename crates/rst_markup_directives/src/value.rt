@@ -1,18 +1,16 @@
 //! The values of options.
-ghost use Rattle.std.specs.Prelude.{◌≡◌, option_map};
-ghost use Rattle.rst_markup_directives.specs.Faults.{Gives};
+ghost use Rattle.std.specs.Prelude.{◌≡◌, option_map, IfOk};
 ghost use Rattle.rst_markup_directives.specs.Measure as measures;
 ghost use Rattle.rst_markup_directives.specs.Value as spec;
 
 use super::characters::{is_empty_text, text_from};
-use super::fault::MarkupFault;
 use super::kind::OptionSet;
 use super::measure::{Alignment, alignment_of, measure_of, scale_of};
 use super::option::OptionName;
 use super::target::{Target, target_value};
 use rst_markup_lines::is_blank as is_empty;
 use rst_text::{id_of, is_white, name_of};
-use std::alloc::Global;
+use std::alloc::{AllocError, Global};
 
 /// What the value of an option means.
 #[derive(Debug, Drop)]
@@ -39,8 +37,8 @@ pub(crate) fn option_value(
     options: OptionSet,
     option: OptionName,
     value: &[char],
-) -> Result<Option<OptionValue>, MarkupFault>
-    ensures { Gives (λ meaning. option_map spec.meaning_of meaning ≡ spec.option_meaning options option value.now) result }
+) -> Result<Option<OptionValue>, AllocError>
+    ensures { IfOk result (λ meaning. option_map spec.meaning_of meaning ≡ spec.option_meaning options option value.now) }
 {
     match option {
         OptionName::Alt => Ok(Some(OptionValue::Text(text_from(alloc, value)?))),
@@ -72,8 +70,8 @@ fn measure(
     value: &[char],
     percent: bool,
     wanted: bool,
-) -> Result<Option<OptionValue>, MarkupFault>
-    ensures { Gives (λ meaning. option_map spec.meaning_of meaning ≡ option_map spec.measured (measures.measure_of value.now percent wanted)) result }
+) -> Result<Option<OptionValue>, AllocError>
+    ensures { IfOk result (λ meaning. option_map spec.meaning_of meaning ≡ option_map spec.measured (measures.measure_of value.now percent wanted)) }
 {
     match measure_of(alloc, value, percent, wanted)? {
         Some(measure) => {
@@ -85,8 +83,8 @@ fn measure(
 }
 
 /// The ids of the words of a text, where there are some and none of them is empty.
-fn ids_of(alloc: Global, text: &[char]) -> Result<Option<Vec<String>>, MarkupFault>
-    ensures { Gives (λ ids. option_map (λ v. spec.chars_of_texts v.items) ids ≡ spec.ids_of text.now) result }
+fn ids_of(alloc: Global, text: &[char]) -> Result<Option<Vec<String>>, AllocError>
+    ensures { IfOk result (λ ids. option_map (λ v. spec.chars_of_texts v.items) ids ≡ spec.ids_of text.now) }
 {
     let mut ids = Vec::new(alloc);
     for word in text

@@ -1,8 +1,8 @@
 //! What a table is, or what is wrong with it.
-ghost use Rattle.std.specs.Prelude.{◌≡◌};
+ghost use Rattle.std.specs.Prelude.{◌≡◌, IfOk};
 
-use rst_text::{Lines, TextFault};
-use std::alloc::Global;
+use rst_text::Lines;
+use std::alloc::{AllocError, Global};
 use std::marker::Model;
 
 /// The lines of a cell: the number of the first in the document, how many there are, and the texts of those that aren't
@@ -32,7 +32,6 @@ impl Model for CellLines {
 
 impl CellLines {
     ghost use Rattle.std.specs.Prelude.{◌+◌, ◌^◌, ◌<◌, ◌≤◌};
-    ghost use Rattle.rst_text.specs.Faults.{Gives};
     ghost use Rattle.rst_text.specs.Source.{ArePlaced, spread, texts_with};
 
     /// `count` lines, numbered from `first` on, with these texts at their places.
@@ -51,9 +50,9 @@ impl CellLines {
 
     /// These lines as those of a text of their own.
     ///
-    /// The only refusal is [`TextFault::NoMemory`].
-    pub fn into_lines(self, alloc: Global) -> Result<Lines, TextFault>
-        ensures { Gives (λ lines. lines ≡ self) result }
+    /// The only refusal is [`AllocError`].
+    pub fn into_lines(self, alloc: Global) -> Result<Lines, AllocError>
+        ensures { IfOk result (λ lines. lines ≡ self) }
     {
         Lines::numbered(alloc, self.first, self.count, self.texts.as_slice())
     }

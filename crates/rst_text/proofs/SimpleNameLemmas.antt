@@ -1,8 +1,8 @@
 -- Simple reference names, read place by place.
-use Rattle.std.proofs.Common.{◌≡◌, ℕ, ltb, ◌-◌, ◌<◌, ◌≤◌, Bool, true, false, not, ◌&&◌, Option, None, length, refl, sym, ap, ◌∙◌, arith}
+use Rattle.std.proofs.Common.{◌≡◌, ℕ, ltb, ◌-◌, ◌<◌, ◌≤◌, true, false, not, Option, None, length, refl, sym, ap, ◌∙◌, arith}
 use Rattle.std.proofs.lemmas.Bool.Decides.{nat_tests}
 use Rattle.rst_text.specs.Characters.{Text, is_alnum_at}
-use Rattle.rst_text.specs.Places.{first_from, all_from, IsFirst}
+use Rattle.rst_text.specs.Places.{all_from, IsFirst}
 use Rattle.rst_text.specs.SimpleNames.{is_name_at, is_simple_name, name_stop}
 use Rattle.rst_text.proofs.PlacesLemmas.{first_from-is, all_from-all, all_from-stop}
 

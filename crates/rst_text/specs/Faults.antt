@@ -3,18 +3,10 @@ use Rattle.std.specs.Prelude.{◌≡◌, ℕ, List, Some, None, Result, Ok, Err}
 use Rattle.rst_text.specs.Block.{Block}
 use Rattle.rst_text.specs.Lines.{first_longer, lines_of}
 use Rattle.rst_text.specs.declared.fault.LineFault.{LineFault}
-use Rattle.rst_text.specs.declared.fault.LineFault.TheVariants.{TooLong, NoMemory as OutOfMemory}
-use Rattle.rst_text.specs.declared.fault.TextFault.{TextFault}
-use Rattle.rst_text.specs.declared.fault.TextFault.TheVariants.{NotUtf8, NoMemory}
-
--- a value of which this holds, or a report that memory ran out
-abbrev pub Gives : {A : Type 0} → (A → Type 0) → Result A TextFault → Type 0
-Gives P (Ok value) = P value
-Gives P (Err (NotUtf8 at)) = ⊥
-Gives P (Err NoMemory) = Unit {0}
+use Rattle.rst_text.specs.declared.fault.LineFault.TheVariants.{TooLong, NoMemory}
 
 -- the lines of a text, none longer than the limit, or the first longer one, or a report that memory ran out (Configuration, `line_length_limit`)
 abbrev pub AreWithin : ℕ → ℕ → List ℕ → Result Block LineFault → Type 0
 AreWithin limit tab text (Ok lines) = (lines ≡ lines_of tab text) × (first_longer limit lines ≡ None)
 AreWithin limit tab text (Err (TooLong line)) = first_longer limit (lines_of tab text) ≡ Some line
-AreWithin limit tab text (Err OutOfMemory) = Unit {0}
+AreWithin limit tab text (Err NoMemory) = Unit {0}

@@ -3,10 +3,10 @@ ghost use Rattle.std.specs.Prelude.{◌≡◌};
 ghost use Rattle.rst_text.specs.declared.fault.TextFault.TheVariants.{NoMemory};
 ghost use Rattle.rst_text.specs.declared.fault.LineFault.TheVariants.{NoMemory as OutOfMemory};
 
-use std::alloc::{AllocError, AllocFailed};
+use std::alloc::AllocError;
 use thiserror::Error;
 
-/// Why a call of this crate gave no answer.
+/// Why bytes were not decoded.
 #[derive(Clone, Copy, Debug, PartialEq, Eq, Error)]
 pub enum TextFault {
     /// The bytes are no UTF-8; `at` is how many bytes their longest front has that is.
@@ -28,26 +28,24 @@ pub enum LineFault {
     NoMemory,
 }
 
-impl From<AllocError> for TextFault {
+impl<E: Drop> From<E> for TextFault
+where
+    AllocError: From<E>,
+{
     ghost from_gives = { λ _ fault. fault ≡ NoMemory };
 
-    fn from(_error: AllocError) -> TextFault {
+    fn from(_error: E) -> TextFault {
         TextFault::NoMemory
     }
 }
 
-impl<T: Drop> From<AllocFailed<T>> for TextFault {
-    ghost from_gives = { λ _ fault. fault ≡ NoMemory };
-
-    fn from(_error: AllocFailed<T>) -> TextFault {
-        TextFault::NoMemory
-    }
-}
-
-impl From<AllocError> for LineFault {
+impl<E: Drop> From<E> for LineFault
+where
+    AllocError: From<E>,
+{
     ghost from_gives = { λ _ fault. fault ≡ OutOfMemory };
 
-    fn from(_error: AllocError) -> LineFault {
+    fn from(_error: E) -> LineFault {
         LineFault::NoMemory
     }
 }

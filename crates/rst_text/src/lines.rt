@@ -2,14 +2,14 @@
 ghost use Rattle.std.specs.Prelude.{◌≡◌, ◌+◌, ◌-◌, ◌/◌, ◌≤◌, ◌<◌, ◌^◌, ◌∷◌, ℕ, nat_lt, length, drop, IfOk, IsTrue};
 ghost use Rattle.std.specs.Str.{chars, IsUtf8};
 ghost use Rattle.rst_text.specs.Block.{first_text, first_number};
-ghost use Rattle.rst_text.specs.Faults.{Gives, AreWithin};
+ghost use Rattle.rst_text.specs.Faults.{AreWithin};
 ghost use Rattle.rst_text.specs.Kept.{IsEmptyRun};
 ghost use Rattle.rst_text.specs.Lines.{is_line_end, pieces, line_character, expanded, lines_of};
 ghost use Rattle.rst_text.specs.Ordinary.{AreOrdinary};
 ghost use Rattle.rst_text.specs.Source.{texts_with, spread, ArePlaced};
 ghost use Rattle.rst_text.specs.Text.{chars_of};
 
-use super::fault::{LineFault, TextFault};
+use super::fault::LineFault;
 use super::kept::Kept;
 use super::ordinary::ordinary_len;
 use std::alloc::{AllocError, Global};
@@ -43,16 +43,16 @@ impl Lines {
     /// of `tab` columns, form feeds and vertical tabs made spaces and the white characters at its end dropped (Markup
     /// Specification, 'Whitespace'; Configuration, `tab_width`).
     ///
-    /// The only refusal is [`TextFault::NoMemory`].
-    pub fn of(alloc: Global, text: &str, tab: u8) -> Result<Lines, TextFault>
+    /// The only refusal is [`AllocError`].
+    pub fn of(alloc: Global, text: &str, tab: u8) -> Result<Lines, AllocError>
         requires from { 1 ≤ tab }
         requires to { tab ≤ 99 }
-        ensures { Gives (λ lines. lines ≡ lines_of tab (chars text.now)) result }
+        ensures { IfOk result (λ lines. lines ≡ lines_of tab (chars text.now)) }
     {
         // A line with more characters than can be counted would need more memory than there is.
         match Lines::within(alloc, text, tab, usize::MAX) {
             Ok(lines) => Ok(lines),
-            Err(_) => Err(TextFault::NoMemory),
+            Err(_) => Err(AllocError),
         }
     }
 
@@ -98,17 +98,17 @@ impl Lines {
     /// counted from 0. The places rise and are below `count`; no character of a text ends a line, and its last isn't
     /// white. A line that is given no text takes no memory.
     ///
-    /// The only refusal is [`TextFault::NoMemory`].
+    /// The only refusal is [`AllocError`].
     pub fn numbered(
         alloc: Global,
         first: usize,
         count: usize,
         texts: &[(usize, String)],
-    ) -> Result<Lines, TextFault>
+    ) -> Result<Lines, AllocError>
         requires placed { ArePlaced 0 count (texts_with texts.now) }
         requires few { count < 2 ^ 63 }
         requires numbers { first + count ≤ 2 ^ 64 }
-        ensures { Gives (λ made. made ≡ spread first count (texts_with texts.now)) result }
+        ensures { IfOk result (λ made. made ≡ spread first count (texts_with texts.now)) }
     {
         let mut kept = Kept::with_room(alloc, 0)?;
         let mut places = Vec::new(alloc);

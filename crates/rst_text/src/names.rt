@@ -2,12 +2,10 @@
 ghost use Rattle.std.specs.Prelude.{◌≡◌, ℕ, true, string_bytes, encode_utf8_all, IfOk, map};
 ghost use Rattle.std.specs.Str.{chars};
 ghost use Rattle.std.specs.Cow.{cow_str_bytes};
-ghost use Rattle.rst_text.specs.Faults.{Gives};
 ghost use Rattle.rst_text.specs.Names as spec;
 ghost use Rattle.rst_text.specs.Text.{chars_of};
 
 use super::characters::is_white;
-use super::fault::TextFault;
 use std::alloc::{AllocError, Global};
 use std::borrow::CowStr;
 use unicode::case::simple_fold;
@@ -16,18 +14,18 @@ use unicode_normalization::to_nfkd;
 /// A text with each run of white characters as one space, and none at its ends; case is kept. References show this
 /// as their name.
 ///
-/// The only refusal is [`TextFault::NoMemory`].
-pub fn normalized_white(alloc: Global, text: &str) -> Result<String, TextFault>
-    ensures { Gives (λ normalized. chars_of normalized ≡ spec.normalized_white (chars text.now)) result }
+/// The only refusal is [`AllocError`].
+pub fn normalized_white(alloc: Global, text: &str) -> Result<String, AllocError>
+    ensures { IfOk result (λ normalized. chars_of normalized ≡ spec.normalized_white (chars text.now)) }
 {
     Ok(normalized_borrowed(alloc, text)?.into_owned(alloc)?)
 }
 
 /// What [`normalized_white`] gives, without a copy where the text stays as it is.
 ///
-/// The only refusal is [`TextFault::NoMemory`].
-pub fn normalized_borrowed(alloc: Global, text: &str) -> Result<CowStr<'_, Global>, TextFault>
-    ensures { Gives (λ normalized. chars (cow_str_bytes normalized) ≡ spec.normalized_white (chars text.now)) result }
+/// The only refusal is [`AllocError`].
+pub fn normalized_borrowed(alloc: Global, text: &str) -> Result<CowStr<'_, Global>, AllocError>
+    ensures { IfOk result (λ normalized. chars (cow_str_bytes normalized) ≡ spec.normalized_white (chars text.now)) }
 {
     Ok(spaced::<Written>(alloc, text)?)
 }
@@ -35,31 +33,31 @@ pub fn normalized_borrowed(alloc: Global, text: &str) -> Result<CowStr<'_, Globa
 /// The name that a text gives: each run of white characters is one space, none is at its ends, and case is folded, by
 /// simple folding.
 ///
-/// The only refusal is [`TextFault::NoMemory`].
-pub fn name_of(alloc: Global, text: &str) -> Result<String, TextFault>
-    ensures { Gives (λ name. chars_of name ≡ spec.name_of (chars text.now)) result }
+/// The only refusal is [`AllocError`].
+pub fn name_of(alloc: Global, text: &str) -> Result<String, AllocError>
+    ensures { IfOk result (λ name. chars_of name ≡ spec.name_of (chars text.now)) }
 {
     Ok(name_borrowed(alloc, text)?.into_owned(alloc)?)
 }
 
 /// What [`name_of`] gives, without a copy where the text stays as it is.
 ///
-/// The only refusal is [`TextFault::NoMemory`].
-pub fn name_borrowed(alloc: Global, text: &str) -> Result<CowStr<'_, Global>, TextFault>
-    ensures { Gives (λ name. chars (cow_str_bytes name) ≡ spec.name_of (chars text.now)) result }
+/// The only refusal is [`AllocError`].
+pub fn name_borrowed(alloc: Global, text: &str) -> Result<CowStr<'_, Global>, AllocError>
+    ensures { IfOk result (λ name. chars (cow_str_bytes name) ≡ spec.name_of (chars text.now)) }
 {
     Ok(spaced::<Folded>(alloc, text)?)
 }
 
 /// What [`normalized_borrowed`] and [`name_borrowed`] give. A text that is its own name is looked at once.
 ///
-/// The only refusal is [`TextFault::NoMemory`].
+/// The only refusal is [`AllocError`].
 pub fn both_borrowed(
     alloc: Global,
     text: &str,
-) -> Result<(CowStr<'_, Global>, CowStr<'_, Global>), TextFault>
-    ensures normalized { Gives (λ both. chars (cow_str_bytes both.0) ≡ spec.normalized_white (chars text.now)) result }
-    ensures name { Gives (λ both. chars (cow_str_bytes both.1) ≡ spec.name_of (chars text.now)) result }
+) -> Result<(CowStr<'_, Global>, CowStr<'_, Global>), AllocError>
+    ensures normalized { IfOk result (λ both. chars (cow_str_bytes both.0) ≡ spec.normalized_white (chars text.now)) }
+    ensures name { IfOk result (λ both. chars (cow_str_bytes both.1) ≡ spec.name_of (chars text.now)) }
 {
     if is_settled::<Folded>(text) {
         return Ok((CowStr::Borrowed(text), CowStr::Borrowed(text)));
@@ -74,9 +72,9 @@ pub fn both_borrowed(
 /// than a to z and 0 to 9 as one hyphen, without digits and hyphens at the front and hyphens at the end. It may be
 /// empty.
 ///
-/// The only refusal is [`TextFault::NoMemory`].
-pub fn id_of(alloc: Global, text: &str) -> Result<String, TextFault>
-    ensures { Gives (λ id. chars_of id ≡ spec.id_of (chars text.now)) result }
+/// The only refusal is [`AllocError`].
+pub fn id_of(alloc: Global, text: &str) -> Result<String, AllocError>
+    ensures { IfOk result (λ id. chars_of id ≡ spec.id_of (chars text.now)) }
 {
     let name = name_borrowed(alloc, text)?;
     // ASCII is decomposed.

@@ -2,8 +2,7 @@
 use Rattle.std.specs.Prelude.{◌≡◌, ℕ, Bool, true, false, List, [], ◌++◌, map, Result, Ok, Err}
 use Rattle.rst_settings.specs.Profile.{Profile}
 use Rattle.rst_settings.specs.declared.Settings.{Settings}
-use Rattle.rst_tree.specs.declared.fault.TreeFault.{TreeFault}
-use Rattle.rst_tree.specs.declared.fault.TreeFault.TheVariants.{NoMemory}
+use Rattle.std.specs.declared.alloc.AllocError.{AllocError}
 use Rattle.rst_tree.specs.declared.node.Node.{Node}
 use Rattle.rst_tree.specs.declared.node.Node.TheVariants.{Element, Text}
 use Rattle.rst_tree.specs.declared.note.Note.{Note}
@@ -77,7 +76,7 @@ leaves messages profile settings document =
     left_of_document settings (all_messages registered done.1.reports) done.0
 
 -- what is left of it is given, or memory ran out
-abbrev pub Finishes : ℕ → Profile → Settings → Node → Result Finished TreeFault → Type 0
+abbrev pub Finishes : ℕ → Profile → Settings → Node → Result Finished AllocError → Type 0
 Finishes messages profile settings document (Ok done) =
     let left = leaves messages profile settings document in (done.tree ≡ left.0) × (done.notes.items ≡ left.1)
-Finishes messages profile settings document (Err NoMemory) = Unit {0}
+Finishes messages profile settings document (Err refused) = Unit {0}

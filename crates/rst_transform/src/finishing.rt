@@ -2,7 +2,6 @@
 ghost use Rattle.std.specs.Prelude.{◌≡◌, ◌≤◌, false, IfOk};
 ghost use Rattle.std.specs.List.{list_any};
 ghost use Rattle.rst_settings.specs.Profile.{profile_of};
-ghost use Rattle.rst_tree.specs.Faults.{Gives};
 ghost use Rattle.rst_tree.specs.Walk.{items};
 ghost use Rattle.rst_transform_messages.specs.Early.{is_early};
 ghost use Rattle.rst_transform_work.specs.Known.{Makes};
@@ -87,7 +86,7 @@ fn transformed(
     settings: &Settings,
 ) -> Result<Document>
     requires { early ≡ false → list_any is_early (items document.children) ≡ false }
-    ensures { Gives (Makes (transformed (profile_of settings.now) settings.now document) context.old context.new) result }
+    ensures { IfOk result (Makes (transformed (profile_of settings.now) settings.now document) context.old context.new) }
 {
     let retargeted = with_early(document, early, context)?;
     let titled = if settings.title {
@@ -108,7 +107,7 @@ fn transformed(
 /// A document whose substitution references are replaced, and whose internal targets handed on their ids and names. Most have neither.
 fn with_early(document: Document, early: bool, context: &mut Context) -> Result<Document>
     requires { early ≡ false → list_any is_early (items document.children) ≡ false }
-    ensures { Gives (Makes (λ known. let expanded = with_expansions document known in with_targets expanded.0 expanded.1) context.old context.new) result }
+    ensures { IfOk result (Makes (λ known. let expanded = with_expansions document known in with_targets expanded.0 expanded.1) context.old context.new) }
 {
     if !early {
         return Ok(document);

@@ -1,6 +1,5 @@
 //! The transforms of links, in order.
-ghost use Rattle.std.specs.Prelude.{◌<◌, ◌≤◌, length, map};
-ghost use Rattle.rst_tree.specs.Faults.{Gives};
+ghost use Rattle.std.specs.Prelude.{◌<◌, ◌≤◌, length, map, IfOk};
 ghost use Rattle.rst_transform_references.specs.Linkings.{linked_element};
 ghost use Rattle.rst_transform_work.specs.Known.{Makes};
 ghost use Rattle.rst_transform.specs.Linking.{decision_of, first_changes, linked_in_turn, with_links};
@@ -35,7 +34,7 @@ const ALL: [LinkStep; 4] = [
 
 /// A document after all transforms of links.
 pub fn resolve_links(document: Document, context: &mut Context) -> Result<Document>
-    ensures { Gives (Makes (with_links document) context.old context.new) result }
+    ensures { IfOk result (Makes (with_links document) context.old context.new) }
 {
     resolve_by(document, context, &ALL)
 }
@@ -46,7 +45,7 @@ fn resolve_by(
     context: &mut Context,
     transforms: &[LinkStep],
 ) -> Result<Document>
-    ensures { Gives (Makes (linked_in_turn transforms.now document) context.old context.new) result }
+    ensures { IfOk result (Makes (linked_in_turn transforms.now document) context.old context.new) }
 {
     if transforms.is_empty() {
         return Ok(document);
@@ -66,9 +65,9 @@ fn first_changes(
     linked: &[Linked<'_>],
     transforms: &[LinkStep],
 ) -> Result<(Changes, usize)>
-    ensures changes { Gives (λ done. Makes (first_changes transforms.now (map linked_element linked.now)) context.old context.new (done.0, done.1)) result }
-    ensures some { Gives (λ done. 0 < length transforms.now → 0 < done.1) result }
-    ensures fits { Gives (λ done. done.1 ≤ length transforms.now) result }
+    ensures changes { IfOk result (λ done. Makes (first_changes transforms.now (map linked_element linked.now)) context.old context.new (done.0, done.1)) }
+    ensures some { IfOk result (λ done. 0 < length transforms.now → 0 < done.1) }
+    ensures fits { IfOk result (λ done. done.1 ≤ length transforms.now) }
 {
     let Some((first, more)) = transforms.split_first() else {
         return Ok((Changes::of(Vec::new(context.alloc)), 0));
@@ -88,7 +87,7 @@ fn decided_outcomes(
     linked: &[Linked<'_>],
     transform: LinkStep,
 ) -> Result<Vec<Outcome>>
-    ensures { Gives (λ outcomes. Makes (decision_of transform (map linked_element linked.now)) context.old context.new outcomes.items) result }
+    ensures { IfOk result (λ outcomes. Makes (decision_of transform (map linked_element linked.now)) context.old context.new outcomes.items) }
 {
     match transform {
         LinkStep::Anonymous => anonymous_outcomes(context, linked),

@@ -1,8 +1,7 @@
 //! The authors of a document.
-ghost use Rattle.std.specs.Prelude.{◌≡◌, ◌<◌, ◌==◌, ◌++◌, MatchOption, None, Some};
+ghost use Rattle.std.specs.Prelude.{◌≡◌, ◌<◌, ◌==◌, ◌++◌, MatchOption, None, Some, IfOk};
 ghost use Rattle.std.specs.List.{list_any};
 ghost use Rattle.std.specs.Str.{chars};
-ghost use Rattle.rst_tree.specs.Faults.{Gives};
 ghost use Rattle.rst_tree.specs.Nodes.{nodes_of};
 ghost use Rattle.rst_transform_docinfo.specs.Authors.{all_paragraphs, author, author_named, authors_in, named_by, parted};
 ghost use Rattle.rst_transform_docinfo.specs.Fields.{lone};
@@ -15,7 +14,7 @@ use std::alloc::Global;
 /// The authors that a body names, if it is in its form: one paragraph, or one bullet list (Markup Specification, 'Bibliographic
 /// Fields').
 pub fn authors_in(alloc: Global, body: &Node, line: usize) -> Result<Option<Vec<Node>>>
-    ensures { let wanted = authors_in line body.now in Gives (λ found. MatchOption found (wanted ≡ None) (λ nodes. wanted ≡ Some nodes.items)) result }
+    ensures { let wanted = authors_in line body.now in IfOk result (λ found. MatchOption found (wanted ≡ None) (λ nodes. wanted ≡ Some nodes.items)) }
 {
     let Some(Node::Element { tag, children, .. }) = lone_in(body) else {
         return Ok(None);
@@ -36,7 +35,7 @@ pub fn authors_in(alloc: Global, body: &Node, line: usize) -> Result<Option<Vec<
 /// The authors that the nodes of a paragraph name: those in a text, or all of it as one author. In a text they are parted by
 /// semicolons, or by commas where there is no semicolon.
 fn named_by(alloc: Global, paragraph: &Children, line: usize) -> Result<Vec<Node>>
-    ensures { Gives (λ nodes. nodes.items ≡ named_by line paragraph.now (lone paragraph.now)) result }
+    ensures { IfOk result (λ nodes. nodes.items ≡ named_by line paragraph.now (lone paragraph.now)) }
 {
     if let Some(Node::Text(text)) = lone(paragraph) {
         let text = text.as_str();
@@ -52,7 +51,7 @@ fn named_by(alloc: Global, paragraph: &Children, line: usize) -> Result<Vec<Node
 
 /// The paragraphs in the items of a list as one author each, if each item contains one paragraph alone.
 fn all_paragraphs(alloc: Global, items: &Children, line: usize) -> Result<Option<Vec<Node>>>
-    ensures { let wanted = all_paragraphs line (nodes_of items.now) in Gives (λ found. MatchOption found (wanted ≡ None) (λ nodes. wanted ≡ Some nodes.items)) result }
+    ensures { let wanted = all_paragraphs line (nodes_of items.now) in IfOk result (λ found. MatchOption found (wanted ≡ None) (λ nodes. wanted ≡ Some nodes.items)) }
 {
     let mut nodes = Vec::new(alloc);
     for item in items.as_slice() {
@@ -74,7 +73,7 @@ fn has_semicolon(text: &str) -> bool
 /// The texts between these characters as authors, trimmed, without the empty ones.
 fn parted(alloc: Global, text: &str, separator: char, line: usize) -> Result<Vec<Node>>
     requires { separator < 128 }
-    ensures { Gives (λ nodes. nodes.items ≡ parted line separator text.now) result }
+    ensures { IfOk result (λ nodes. nodes.items ≡ parted line separator text.now) }
 {
     let mut nodes = Vec::new(alloc);
     for piece in text.split(separator) {
@@ -85,7 +84,7 @@ fn parted(alloc: Global, text: &str, separator: char, line: usize) -> Result<Vec
 
 /// Puts the author of a name after others, unless the name is empty.
 fn add_named(alloc: Global, nodes: &mut Vec<Node>, name: &str, line: usize) -> Result<()>
-    ensures { Gives (λ _. nodes.new.items ≡ nodes.old.items ++ author_named line name.now) result }
+    ensures { IfOk result (λ _. nodes.new.items ≡ nodes.old.items ++ author_named line name.now) }
 {
     if name.is_empty() {
         return Ok(());

@@ -1,7 +1,6 @@
 //! What the fields of a document's bibliography become.
-ghost use Rattle.std.specs.Prelude.{◌≡◌, ◌++◌, [], List, None};
+ghost use Rattle.std.specs.Prelude.{◌≡◌, ◌++◌, [], List, None, IfOk};
 ghost use Rattle.std.specs.Option.{option_to_list};
-ghost use Rattle.rst_tree.specs.Faults.{Gives};
 ghost use Rattle.rst_tree.specs.Nodes.{nodes_of};
 ghost use Rattle.rst_transform_work.specs.declared.report.Report.{Report};
 ghost use Rattle.rst_transform_docinfo.specs.Bibliography.{bibliographic_element, fault_node, fault_report, made, bibliography_row, generic_field, title_node, nodes_under_title, topic_title, with_nonempty_class};
@@ -62,7 +61,7 @@ fn bibliography_row(name: &str) -> Row
 
 /// What a field of a row with this name becomes, if it is in its form.
 fn made(alloc: Global, row: Row, name: &str, field: &Field) -> Result<Option<Node>>
-    ensures { Gives (λ node. node ≡ made row name.now field.now) result }
+    ensures { IfOk result (λ node. node ≡ made row name.now field.now) }
 {
     let mut attrs = field.attrs.copy(alloc)?;
     match row {
@@ -108,7 +107,7 @@ fn bibliographic_element(
 
 /// The nodes of the one paragraph in a field's body.
 fn paragraph(alloc: Global, field: &Field) -> Result<Option<Children>>
-    ensures { Gives (λ nodes. nodes ≡ paragraph_in field.now.body) result }
+    ensures { IfOk result (λ nodes. nodes ≡ paragraph_in field.now.body) }
 {
     let nodes = paragraph_in(&field.body);
     nodes.map(|nodes| copies(alloc, nodes)).transpose()
@@ -116,7 +115,7 @@ fn paragraph(alloc: Global, field: &Field) -> Result<Option<Children>>
 
 /// A title, and after it the nodes of a field's body, if that isn't empty.
 fn topic(alloc: Global, title: &str, field: &Field) -> Result<Option<Children>>
-    ensures { Gives (λ nodes. nodes ≡ nodes_under_title (title_node title.now field.now.line) (nodes_of (nodes_in field.now.body))) result }
+    ensures { IfOk result (λ nodes. nodes ≡ nodes_under_title (title_node title.now field.now.line) (nodes_of (nodes_in field.now.body))) }
 {
     let Node::Element { children, .. } = &field.body else {
         return Ok(None);
@@ -145,7 +144,7 @@ impl TopicKind {
 
 /// Gives attributes one class, unless that is empty.
 fn set_class(alloc: Global, attrs: &mut Attrs, class: &str) -> Result<()>
-    ensures { Gives (λ _. attrs.new ≡ with_nonempty_class class.now attrs.old) result }
+    ensures { IfOk result (λ _. attrs.new ≡ with_nonempty_class class.now attrs.old) }
 {
     if class.is_empty() {
         return Ok(());
@@ -156,7 +155,7 @@ fn set_class(alloc: Global, attrs: &mut Attrs, class: &str) -> Result<()>
 
 /// A field of this name that stays one, with a class by the name.
 fn generic_field(alloc: Global, name: &str, field: Field) -> Result<Node>
-    ensures { Gives (λ node. node ≡ generic_field name.now field) result }
+    ensures { IfOk result (λ node. node ≡ generic_field name.now field) }
 {
     let mut attrs = field.attrs;
     let class = identified(alloc, name)?;
@@ -169,9 +168,9 @@ fn generic_field(alloc: Global, name: &str, field: Field) -> Result<Node>
 
 /// A field of the table that isn't in its form: it stays, and its body ends with a WARNING.
 fn out_of_form(name: &str, mut field: Field, context: &mut Context) -> Result<Node>
-    ensures node { let reported = fault_report context.old.first_number context.old.reports.items name.now field.line in Gives (λ node. node ≡ fault_node name.now reported field) result }
-    ensures reports { Gives (λ _. IsReported (fault_report context.old.first_number context.old.reports.items name.now field.line) context.old context.new) result }
-    ensures rest { Gives (λ _. KeepsRest context.old context.new) result }
+    ensures node { let reported = fault_report context.old.first_number context.old.reports.items name.now field.line in IfOk result (λ node. node ≡ fault_node name.now reported field) }
+    ensures reports { IfOk result (λ _. IsReported (fault_report context.old.first_number context.old.reports.items name.now field.line) context.old context.new) }
+    ensures rest { IfOk result (λ _. KeepsRest context.old context.new) }
 {
     let text = Text::of_three(
         context.alloc,
@@ -216,8 +215,8 @@ impl Bibliography {
 
     /// Takes in the next node of the field list. One that is no field stays as it is.
     pub fn add_node(&mut self, node: Node, context: &mut Context) -> Result<()>
-        ensures gathered { Gives (λ _. so_far self.new context.new.reports.items ≡ with_field_node context.old.first_number node (so_far self.old context.old.reports.items)) result }
-        ensures rest { Gives (λ _. KeepsRest context.old context.new) result }
+        ensures gathered { IfOk result (λ _. so_far self.new context.new.reports.items ≡ with_field_node context.old.first_number node (so_far self.old context.old.reports.items)) }
+        ensures rest { IfOk result (λ _. KeepsRest context.old context.new) }
     {
         match Field::of(node) {
             Ok(field) => self.add(field, context),
@@ -230,8 +229,8 @@ impl Bibliography {
 
     /// Takes in the next field.
     fn add(&mut self, field: Field, context: &mut Context) -> Result<()>
-        ensures gathered { Gives (λ _. so_far self.new context.new.reports.items ≡ with_field context.old.first_number field (so_far self.old context.old.reports.items)) result }
-        ensures rest { Gives (λ _. KeepsRest context.old context.new) result }
+        ensures gathered { IfOk result (λ _. so_far self.new context.new.reports.items ≡ with_field context.old.first_number field (so_far self.old context.old.reports.items)) }
+        ensures rest { IfOk result (λ _. KeepsRest context.old context.new) }
     {
         let text = field.name.text_of(context.alloc)?;
         let name = folded(context.alloc, text.as_str())?;
@@ -274,7 +273,7 @@ impl Bibliography {
 
     /// The `docinfo`, if it isn't empty, the dedication and the abstract; `line` is that of the field list.
     pub fn into_nodes(self, alloc: Global, line: usize) -> Result<Vec<Node>>
-        ensures { Gives (λ nodes. nodes.items ≡ docinfo_nodes line (so_far self [])) result }
+        ensures { IfOk result (λ nodes. nodes.items ≡ docinfo_nodes line (so_far self [])) }
     {
         let Bibliography {
             info,
@@ -294,7 +293,7 @@ impl Bibliography {
 
 /// Nodes, and a topic after them, if there is one.
 fn with_topic(mut nodes: Vec<Node>, topic: Option<Node>) -> Result<Vec<Node>>
-    ensures { Gives (λ all. all.items ≡ nodes.items ++ option_to_list topic) result }
+    ensures { IfOk result (λ all. all.items ≡ nodes.items ++ option_to_list topic) }
 {
     if let Some(topic) = topic {
         nodes.push(topic)?;

@@ -1,7 +1,6 @@
 //! A leading field list becomes the bibliography of the document.
-ghost use Rattle.std.specs.Prelude.{◌≡◌, slice_get};
+ghost use Rattle.std.specs.Prelude.{◌≡◌, slice_get, IfOk};
 ghost use Rattle.std.specs.List.{prefix_len};
-ghost use Rattle.rst_tree.specs.Faults.{Gives};
 ghost use Rattle.rst_tree.specs.Nodes.{forest_of, nodes_of};
 ghost use Rattle.rst_transform_docinfo.specs.Docinfo.{first_named, is_list, leading_list, list_place, nodes_with_docinfo, replaced, with_docinfo};
 ghost use Rattle.rst_transform_work.specs.Known.{Makes};
@@ -49,7 +48,7 @@ fn is_list_at(nodes: &[Node], place: usize) -> bool
 
 /// The nodes, the first of them with more ids and names.
 fn with_names(alloc: Global, mut nodes: Vec<Node>, attrs: &Attrs) -> Result<Vec<Node>>
-    ensures { Gives (λ all. all.items ≡ first_named attrs.now nodes.items) result }
+    ensures { IfOk result (λ all. all.items ≡ first_named attrs.now nodes.items) }
 {
     if let Some(first) = nodes.get_mut(0) {
         add_names(alloc, first, attrs)?;
@@ -59,9 +58,9 @@ fn with_names(alloc: Global, mut nodes: Vec<Node>, attrs: &Attrs) -> Result<Vec<
 
 /// What the fields of a field list become, the first of it with the list's ids and names, too.
 fn replaced(list: Node, context: &mut Context) -> Result<Vec<Node>>
-    ensures nodes { Gives (λ nodes. nodes.items ≡ (replaced context.old.first_number context.old.reports.items list).0) result }
-    ensures reports { Gives (λ _. context.new.reports.items ≡ (replaced context.old.first_number context.old.reports.items list).1) result }
-    ensures rest { Gives (λ _. KeepsRest context.old context.new) result }
+    ensures nodes { IfOk result (λ nodes. nodes.items ≡ (replaced context.old.first_number context.old.reports.items list).0) }
+    ensures reports { IfOk result (λ _. context.new.reports.items ≡ (replaced context.old.first_number context.old.reports.items list).1) }
+    ensures rest { IfOk result (λ _. KeepsRest context.old context.new) }
 {
     let Node::Element {
         attrs,
@@ -82,9 +81,9 @@ fn replaced(list: Node, context: &mut Context) -> Result<Vec<Node>>
 
 /// The document's nodes with the bibliography in the place of a leading field list.
 fn with_bibliography(children: Children, context: &mut Context) -> Result<Children>
-    ensures nodes { let list = leading_list (nodes_of children) in Gives (λ all. all ≡ forest_of (nodes_with_docinfo context.old.first_number context.old.reports.items list (nodes_of children)).0) result }
-    ensures reports { let list = leading_list (nodes_of children) in Gives (λ _. context.new.reports.items ≡ (nodes_with_docinfo context.old.first_number context.old.reports.items list (nodes_of children)).1) result }
-    ensures rest { Gives (λ _. KeepsRest context.old context.new) result }
+    ensures nodes { let list = leading_list (nodes_of children) in IfOk result (λ all. all ≡ forest_of (nodes_with_docinfo context.old.first_number context.old.reports.items list (nodes_of children)).0) }
+    ensures reports { let list = leading_list (nodes_of children) in IfOk result (λ _. context.new.reports.items ≡ (nodes_with_docinfo context.old.first_number context.old.reports.items list (nodes_of children)).1) }
+    ensures rest { IfOk result (λ _. KeepsRest context.old context.new) }
 {
     let mut nodes = children.into_list();
     let place = list_place(&nodes);
@@ -128,9 +127,9 @@ fn with_bibliography(children: Children, context: &mut Context) -> Result<Childr
 ///             Ann
 /// ```
 ///
-/// The only refusal is [`TreeFault::NoMemory`].
+/// The only refusal is [`AllocError`].
 pub fn docinfo(mut document: Document, context: &mut Context) -> Result<Document>
-    ensures { Gives (Makes (with_docinfo document) context.old context.new) result }
+    ensures { IfOk result (Makes (with_docinfo document) context.old context.new) }
 {
     document.children = with_bibliography(document.children, context)?;
     Ok(document)

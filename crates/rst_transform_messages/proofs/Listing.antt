@@ -1,5 +1,5 @@
 -- The list of messages, one message after another.
-use Rattle.std.proofs.Common.{◌≡◌, ℕ, List, [], ◌∷◌, ◌++◌, length, Bool, true, false, append_assoc, arith, refl, ap, sym, ◌∙◌, ⊎_elim}
+use Rattle.std.proofs.Common.{◌≡◌, ℕ, List, [], ◌∷◌, ◌++◌, length, Bool, true, false, append_assoc, arith, refl, ap, sym, ◌∙◌, ⊎_elim, IfOk}
 use Rattle.std.specs.Prelude.{◌&&◌, ◌||◌, if◌then◌else◌, slice_get, Option, Some, None, Result}
 use Rattle.std.specs.List.{list_any}
 use Rattle.std.proofs.lemmas.Bool.{cases_Bool}
@@ -13,8 +13,7 @@ use Rattle.rst_tree.specs.declared.node.Node.{Node}
 use Rattle.rst_tree.specs.declared.node.Node.TheVariants.{Element, Text}
 use Rattle.rst_tree.specs.declared.note.Note.{Note}
 use Rattle.rst_tree.specs.declared.tag.Tag.{Tag}
-use Rattle.rst_tree.specs.declared.fault.TreeFault.{TreeFault}
-use Rattle.rst_tree.specs.Faults.{Gives}
+use Rattle.std.specs.declared.alloc.AllocError.{AllocError}
 use Rattle.rst_tree.specs.Forest.{Forest, bare, element, words}
 use Rattle.rst_tree.specs.LevelNames.{level_number}
 use Rattle.rst_tree.specs.Nodes.{nodes_of}
@@ -153,6 +152,6 @@ lone_text (words x (words y r)) t one first = absurd (omega arith)
 lone_text (words x (element tag a c l r)) t one first = absurd (omega arith)
 
 -- a copy of the lone text in an element
-pub gives_lone : (node : Node) (t : Tag) (a : List Attr) (c : Forest) (l : ℕ) (text : List ℕ) (copy : Result (List ℕ) TreeFault) → node ≡ Element t a c l → length (nodes_of c) ≡ 1 → slice_get (nodes_of c) 0 ≡ Some (Text text)
-    → Gives (λ own. own ≡ text) copy → Gives (λ own. own ≡ text_in node) copy
+pub gives_lone : (node : Node) (t : Tag) (a : List Attr) (c : Forest) (l : ℕ) (text : List ℕ) (copy : Result (List ℕ) AllocError) → node ≡ Element t a c l → length (nodes_of c) ≡ 1 → slice_get (nodes_of c) 0 ≡ Some (Text text)
+    → IfOk copy (λ own. own ≡ text) → IfOk copy (λ own. own ≡ text_in node)
 gives_lone node t a c l text copy is one first copied = rw (is, ← lone_text c text one first) copied

@@ -1,6 +1,5 @@
 //! What is printed of a document.
-ghost use Rattle.std.specs.Prelude.{◌≡◌, true, filter};
-ghost use Rattle.rst_tree.specs.Faults.{Gives};
+ghost use Rattle.std.specs.Prelude.{◌≡◌, true, filter, IfOk};
 ghost use Rattle.rst_tree.specs.Nodes.{forest_of, nodes_of};
 ghost use Rattle.rst_transform_messages.specs.Filtered.{filtered, is_unexplained, with_filtered};
 ghost use Rattle.rst_transform_messages.specs.Messages.{is_number_marked};
@@ -36,8 +35,8 @@ pub fn filter(
     report: Threshold,
     reported: &[bool],
 ) -> Result<Document>
-    ensures document { Gives (λ done. done ≡ with_filtered report (is_number_marked reported.now) document) result }
-    ensures reported { Gives (λ done. are_all_reported_in report (document_node done) ≡ true) result }
+    ensures document { IfOk result (λ done. done ≡ with_filtered report (is_number_marked reported.now) document) }
+    ensures reported { IfOk result (λ done. are_all_reported_in report (document_node done) ≡ true) }
 {
     filter_in(alloc, &mut document.children, report, reported)?;
     Ok(document)
@@ -89,7 +88,7 @@ fn filter_in(
     report: Threshold,
     reported: &[bool],
 ) -> Result<()>
-    ensures { Gives (λ _. nodes.new ≡ filtered report (is_number_marked reported.now) nodes.old) result }
+    ensures { IfOk result (λ _. nodes.new ≡ filtered report (is_number_marked reported.now) nodes.old) }
 {
     let mut leaves = false;
     for i in 0..nodes.len() {

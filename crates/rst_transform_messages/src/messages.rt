@@ -1,9 +1,8 @@
 //! The list of messages, and the levels at which they count.
-ghost use Rattle.std.specs.Prelude.{◌≡◌, ◌≤◌, ◌==◌, ◌&&◌, ◌||◌, min, ℕ};
+ghost use Rattle.std.specs.Prelude.{◌≡◌, ◌≤◌, ◌==◌, ◌&&◌, ◌||◌, min, ℕ, IfOk};
 ghost use Rattle.std.specs.List.{list_any};
 ghost use Rattle.rst_tree_index.specs.Kinds.{is_message};
 ghost use Rattle.rst_settings.specs.Threshold.{is_reached};
-ghost use Rattle.rst_tree.specs.Faults.{Gives};
 ghost use Rattle.rst_tree.specs.Tree.{text_in};
 ghost use Rattle.rst_tree.specs.Walk.{item, items};
 ghost use Rattle.rst_transform_messages.specs.Early.{is_early};
@@ -64,10 +63,10 @@ impl Messages {
         halt: Threshold,
         report: Threshold,
     ) -> Result<Messages>
-        ensures halt { Gives (λ messages. messages.halt ≡ halt) result }
-        ensures report { Gives (λ messages. messages.report ≡ report) result }
-        ensures messages { Gives (Lists (messages_among nodes.now)) result }
-        ensures early { Gives (λ messages. messages.early ≡ list_any is_early (items nodes.now)) result }
+        ensures halt { IfOk result (λ messages. messages.halt ≡ halt) }
+        ensures report { IfOk result (λ messages. messages.report ≡ report) }
+        ensures messages { IfOk result (Lists (messages_among nodes.now)) }
+        ensures early { IfOk result (λ messages. messages.early ≡ list_any is_early (items nodes.now)) }
     {
         let mut messages = Messages {
             notes: Vec::with_capacity(alloc, room as usize)?,
@@ -84,7 +83,7 @@ impl Messages {
     /// Adds a message with a number, if it has one: to the list only if no earlier one halts the run.
     fn push(&mut self, note: Note, number: Option<u64>) -> Result<()>
         ensures keeps { KeepsMessages self.old self.new }
-        ensures adds { Gives (λ _. Adds ((note, number) ∷ []) self.old self.new) result }
+        ensures adds { IfOk result (λ _. Adds ((note, number) ∷ []) self.old self.new) }
     {
         let level = note.level.number();
         mark_reported(&mut self.reported, self.report.is_reached(level), number)?;
@@ -108,7 +107,7 @@ impl Messages {
         line: usize,
     ) -> Result<()>
         ensures keeps { KeepsMessages self.old self.new }
-        ensures adds { Gives (λ _. Adds (message_in attrs.now children.now line ∷ []) self.old self.new) result }
+        ensures adds { IfOk result (λ _. Adds (message_in attrs.now children.now line ∷ []) self.old self.new) }
     {
         let note = note_of(alloc, attrs, children, line)?;
         self.push(note, attrs.number(Key::Message))
@@ -117,7 +116,7 @@ impl Messages {
     /// Adds the messages of the transforms, which are the last.
     pub fn add_reports(&mut self, reports: Vec<Report>) -> Result<()>
         ensures levels { KeepsLevels self.old self.new }
-        ensures adds { Gives (λ _. Adds (map numbered_report reports.items) self.old self.new) result }
+        ensures adds { IfOk result (λ _. Adds (map numbered_report reports.items) self.old self.new) }
     {
         self.notes.reserve(reports.len())?;
         for report in reports {
@@ -202,7 +201,7 @@ fn is_message(tag: Tag) -> bool
 
 /// Marks the number of a message that is printed, if it has one.
 fn mark_reported(marks: &mut Vec<bool>, is_reported: bool, number: Option<u64>) -> Result<()>
-    ensures { Gives (λ _. (n : ℕ) → is_number_marked marks.new.items n ≡ (is_number_marked marks.old.items n || (is_reported && has_number n number))) result }
+    ensures { IfOk result (λ _. (n : ℕ) → is_number_marked marks.new.items n ≡ (is_number_marked marks.old.items n || (is_reported && has_number n number))) }
 {
     match number {
         Some(number) if is_reported => mark(marks, number as usize),
@@ -212,7 +211,7 @@ fn mark_reported(marks: &mut Vec<bool>, is_reported: bool, number: Option<u64>) 
 
 /// Marks a number among those up to it or more.
 fn mark(marks: &mut Vec<bool>, number: usize) -> Result<()>
-    ensures { Gives (λ _. (n : ℕ) → is_number_marked marks.new.items n ≡ (is_number_marked marks.old.items n || (n == number))) result }
+    ensures { IfOk result (λ _. (n : ℕ) → is_number_marked marks.new.items n ≡ (is_number_marked marks.old.items n || (n == number))) }
 {
     for _ in marks.len()..number {
         marks.push(false)?;
@@ -227,7 +226,7 @@ fn mark(marks: &mut Vec<bool>, number: usize) -> Result<()>
 
 /// The message of a `system_message` with these attributes and nodes on a line.
 fn note_of(alloc: Global, attrs: &Attrs, children: &Children, line: usize) -> Result<Note>
-    ensures { Gives (λ note. note ≡ note_in attrs.now children.now line) result }
+    ensures { IfOk result (λ note. note ≡ note_in attrs.now children.now line) }
 {
     let text = match children.get(0) {
         Some(paragraph) => words_of(alloc, paragraph)?,
@@ -248,7 +247,7 @@ fn note_of(alloc: Global, attrs: &Attrs, children: &Children, line: usize) -> Re
 
 /// The texts in an element, joined; mostly there is one.
 fn words_of(alloc: Global, element: &Node) -> Result<Text>
-    ensures { Gives (λ text. text ≡ text_in element.now) result }
+    ensures { IfOk result (λ text. text ≡ text_in element.now) }
 {
     if let Node::Element { children, .. } = element {
         if children.len() == 1 {

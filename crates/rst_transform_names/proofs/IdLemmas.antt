@@ -14,8 +14,7 @@ use Rattle.std.proofs.lemmas.Str.{encodes-chars, IsUtf8-string_bytes}
 use Rattle.std.specs.Cmp.Lexicographic.{bytes_decides}
 use Rattle.rst_text.specs.Text.{chars_of}
 use Rattle.rst_text.specs.Names.{identifier}
-use Rattle.rst_tree.specs.declared.fault.TreeFault.{TreeFault}
-use Rattle.rst_tree.specs.declared.fault.TreeFault.TheVariants.{NoMemory}
+use Rattle.std.specs.declared.alloc.AllocError.{AllocError}
 use Rattle.rst_tree.specs.declared.tag.Tag.{Tag}
 use Rattle.rst_transform_names.specs.declared.ids.Ids.{Ids}
 use Rattle.rst_tree.specs.TagNames.{hyphenated, tag_name}
@@ -258,20 +257,20 @@ kind_of_nothing : (taken : List (List ℕ)) (tag : Tag) (wanted : List ℕ) → 
 kind_of_nothing taken tag [] none = refl
 kind_of_nothing taken tag (c ∷ cs) none = absurd (omega (arith, none))
 
-pub gives_kind : (tag : Tag) (name wanted : List ℕ) (old new : Ids) (r : Result (List ℕ) TreeFault) → wanted ≡ identifier name → length wanted ≡ 0
+pub gives_kind : (tag : Tag) (name wanted : List ℕ) (old new : Ids) (r : Result (List ℕ) AllocError) → wanted ≡ identifier name → length wanted ≡ 0
     → GivesNumbered (hyphenated (tag_name tag)) old new r → GivesId tag name old new r
 gives_kind tag name wanted old new (Ok id) is none h = λ taken are.
     let given = h taken are in (given.0 ∙ kind_of_nothing taken tag wanted none ∙ ap (id_by taken tag) is, given.1)
-gives_kind tag name wanted old new (Err NoMemory) is none h = h
+gives_kind tag name wanted old new (Err refused) is none h = h
 
 -- the id that is wanted, where it is free or taken
 by_wanted : (taken : List (List ℕ)) (tag : Tag) (wanted id : List ℕ) → 0 < length wanted → id ≡ (if has_id taken wanted then numbered_id taken wanted else wanted) → id ≡ id_by taken tag wanted
 by_wanted taken tag [] id some is = absurd (omega arith)
 by_wanted taken tag (c ∷ cs) id some is = is
 
-pub gives_after : (tag : Tag) (name wanted : List ℕ) (old mid new : Ids) (r : Result (List ℕ) TreeFault) → wanted ≡ identifier name → 0 < length wanted
+pub gives_after : (tag : Tag) (name wanted : List ℕ) (old mid new : Ids) (r : Result (List ℕ) AllocError) → wanted ≡ identifier name → 0 < length wanted
     → is_taken old wanted ≡ true → TakesId wanted old mid → GivesNumbered wanted mid new r → GivesId tag name old new r
 gives_after tag name wanted old mid new (Ok id) is some was takes h = λ taken are.
     let given = h taken (taken_still old mid taken are (none_by_taken old mid wanted was takes)) in
     (by_wanted taken tag wanted id some (given.0 ∙ sym (cond-true _ _ _ (sym (are wanted) ∙ was))) ∙ ap (id_by taken tag) is, given.1)
-gives_after tag name wanted old mid new (Err NoMemory) is some was takes h = λ other. h other ∙ none_by_taken old mid wanted was takes other
+gives_after tag name wanted old mid new (Err refused) is some was takes h = λ other. h other ∙ none_by_taken old mid wanted was takes other

@@ -7,8 +7,7 @@ use Rattle.std.specs.Str.{bytes_eq}
 use Rattle.std.specs.Str.Parse.{digits_value}
 use Rattle.rst_text.specs.Names.{identifier}
 use Rattle.rst_tree.specs.TagNames.{hyphenated, tag_name}
-use Rattle.rst_tree.specs.declared.fault.TreeFault.{TreeFault}
-use Rattle.rst_tree.specs.declared.fault.TreeFault.TheVariants.{NoMemory}
+use Rattle.std.specs.declared.alloc.AllocError.{AllocError}
 use Rattle.rst_tree.specs.declared.tag.Tag.{Tag}
 use Rattle.rst_transform_names.specs.declared.ids.Ids.{Ids}
 
@@ -94,26 +93,26 @@ abbrev pub TakesNone : Ids → Ids → Type 0
 TakesNone old new = (other : List ℕ) → is_taken new other ≡ is_taken old other
 
 -- an id that a name gave is taken, and the result is whether it was free; or memory ran out and none is
-abbrev pub Tries : List ℕ → Ids → Ids → Result Bool TreeFault → Type 0
+abbrev pub Tries : List ℕ → Ids → Ids → Result Bool AllocError → Type 0
 Tries id old new (Ok was_free) = (is_taken old id ≡ (if was_free then false else true)) × TakesId id old new
-Tries id old new (Err NoMemory) = TakesNone old new
+Tries id old new (Err refused) = TakesNone old new
 
 -- the element's id is given and taken, or memory ran out and none is
-abbrev pub GivesId : Tag → List ℕ → Ids → Ids → Result (List ℕ) TreeFault → Type 0
+abbrev pub GivesId : Tag → List ℕ → Ids → Ids → Result (List ℕ) AllocError → Type 0
 GivesId tag name old new (Ok id) = (taken : List (List ℕ)) → AreTaken old taken → (id ≡ id_for taken tag name) × AreTaken new (id ∷ taken)
-GivesId tag name old new (Err NoMemory) = TakesNone old new
+GivesId tag name old new (Err refused) = TakesNone old new
 
 -- the same of the id of a text and a number, and of the number alone
-abbrev pub GivesNumbered : List ℕ → Ids → Ids → Result (List ℕ) TreeFault → Type 0
+abbrev pub GivesNumbered : List ℕ → Ids → Ids → Result (List ℕ) AllocError → Type 0
 GivesNumbered base old new (Ok id) = (taken : List (List ℕ)) → AreTaken old taken → (id ≡ numbered_id taken base) × AreTaken new (id ∷ taken)
-GivesNumbered base old new (Err NoMemory) = TakesNone old new
+GivesNumbered base old new (Err refused) = TakesNone old new
 
-abbrev pub GivesNumber : List ℕ → Ids → Ids → Result ℕ TreeFault → Type 0
+abbrev pub GivesNumber : List ℕ → Ids → Ids → Result ℕ AllocError → Type 0
 GivesNumber base old new (Ok number) =
     (taken : List (List ℕ)) → AreTaken old taken → (number ≡ least_free taken base) × AreTaken new (id_with_number base number ∷ taken)
-GivesNumber base old new (Err NoMemory) = TakesNone old new
+GivesNumber base old new (Err refused) = TakesNone old new
 
 -- an id is taken, or memory ran out and none is
-abbrev pub TakesOrFails : {A : Type 0} → List ℕ → Ids → Ids → Result A TreeFault → Type 0
+abbrev pub TakesOrFails : {A : Type 0} → List ℕ → Ids → Ids → Result A AllocError → Type 0
 TakesOrFails id old new (Ok done) = TakesId id old new
-TakesOrFails id old new (Err NoMemory) = TakesNone old new
+TakesOrFails id old new (Err refused) = TakesNone old new

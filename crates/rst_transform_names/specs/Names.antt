@@ -2,8 +2,7 @@
 use Rattle.std.specs.Prelude.{ℕ, List, Option, Some, None, if◌then◌else◌, ◌≡◌, Result, Ok, Err}
 use Rattle.std.specs.BTreeMap.{get_by_text}
 use Rattle.std.specs.Str.{bytes_eq}
-use Rattle.rst_tree.specs.declared.fault.TreeFault.{TreeFault}
-use Rattle.rst_tree.specs.declared.fault.TreeFault.TheVariants.{NoMemory}
+use Rattle.std.specs.declared.alloc.AllocError.{AllocError}
 use Rattle.rst_transform_names.specs.declared.names.NameEntry.{NameEntry}
 use Rattle.rst_transform_names.specs.declared.names.Holder.{Holder}
 use Rattle.rst_transform_names.specs.declared.names.Names.{Names}
@@ -25,9 +24,9 @@ abbrev pub AreRegistered : Names → (List ℕ → Option NameEntry) → Type 0
 AreRegistered names known = (name : List ℕ) → entry_named names name ≡ known name
 
 -- what is known of a name was set, or memory ran out and nothing changed
-abbrev pub RemembersName : {A : Type 0} → List ℕ → NameEntry → Names → Names → Result A TreeFault → Type 0
+abbrev pub RemembersName : {A : Type 0} → List ℕ → NameEntry → Names → Names → Result A AllocError → Type 0
 RemembersName name entry old new (Ok done) = Knows name (Some entry) old new
-RemembersName name entry old new (Err NoMemory) = (other : List ℕ) → entry_named new other ≡ entry_named old other
+RemembersName name entry old new (Err refused) = (other : List ℕ) → entry_named new other ≡ entry_named old other
 
 -- the same with another holder
 abbrev pub with_holder : Holder → Option NameEntry → Option NameEntry

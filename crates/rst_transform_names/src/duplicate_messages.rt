@@ -1,6 +1,5 @@
 //! Messages on equal names.
-ghost use Rattle.std.specs.Prelude.{◌≡◌};
-ghost use Rattle.rst_tree.specs.Faults.{Gives};
+ghost use Rattle.std.specs.Prelude.{◌≡◌, IfOk};
 ghost use Rattle.rst_tree_index.specs.Registered.{item_of};
 ghost use Rattle.rst_transform_names.specs.DuplicateMessages as spec;
 
@@ -18,7 +17,7 @@ pub fn duplicate_name(
     new: Element<'_>,
     id: &Text,
 ) -> Result<Node>
-    ensures { Gives (λ made. made ≡ spec.duplicate_name message (item_of new.entry) id.now) result }
+    ensures { IfOk result (λ made. made ≡ spec.duplicate_name message (item_of new.entry) id.now) }
 {
     let words = match message.strength {
         Strength::Implicit => "Duplicate implicit target name: \"",
@@ -32,7 +31,7 @@ pub fn duplicate_name(
 
 /// The message on the name of a substitution definition.
 pub fn duplicate_definition(alloc: Global, new: Element<'_>) -> Result<Node>
-    ensures { Gives (λ made. made ≡ spec.duplicate_definition (item_of new.entry)) result }
+    ensures { IfOk result (λ made. made ≡ spec.duplicate_definition (item_of new.entry)) }
 {
     name_message(
         alloc,
@@ -44,7 +43,7 @@ pub fn duplicate_definition(alloc: Global, new: Element<'_>) -> Result<Node>
 
 /// The message with some words and an element's name.
 fn name_message(alloc: Global, level: Level, words: &str, new: Element<'_>) -> Result<Node>
-    ensures { Gives (λ made. made ≡ spec.name_message level words.now (item_of new.entry)) result }
+    ensures { IfOk result (λ made. made ≡ spec.name_message level words.now (item_of new.entry)) }
 {
     let mut text = Text::from_str(alloc, words)?;
     text.push_str(own_name(new))?;

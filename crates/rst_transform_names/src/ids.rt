@@ -1,14 +1,13 @@
 //! Ids.
-ghost use Rattle.std.specs.Prelude.{◌≡◌, ◌<◌, List, ℕ, false, MatchOption, None, Some, string_bytes, nat_le, slice_index, ◌&&◌};
+ghost use Rattle.std.specs.Prelude.{◌≡◌, ◌<◌, List, ℕ, false, MatchOption, None, Some, string_bytes, nat_le, slice_index, ◌&&◌, IfOk};
 ghost use Rattle.rst_text.specs.Names.{identifier};
-ghost use Rattle.rst_tree.specs.Faults.{Gives};
 ghost use Rattle.rst_tree.specs.TagNames.{hyphenated, tag_name};
 ghost use Rattle.rst_transform_names.specs.Ids.{is_taken, last_number, GivesId, GivesNumber, GivesNumbered, IsLeastFree, TakesOrFails, Tries};
 ghost use Rattle.rst_transform_names.specs.Ids as spec;
 ghost use Rattle.rst_transform_names.specs.Written as written;
 
 use rst_text::id_of;
-use rst_tree::{Result, Tag, Text, TreeFault};
+use rst_tree::{Result, Tag, Text};
 use std::alloc::Global;
 use std::collections::{BTreeMap, BTreeSet};
 
@@ -115,7 +114,7 @@ impl Ids {
     /// Each hindering id hinders one number at most, so no more numbers are passed over than there are of these ids. Ids stay taken,
     /// so a number that was passed over need never be looked at again.
     fn free_number(&self, alloc: Global, base: &str) -> Result<u64>
-        ensures { Gives (λ number. IsLeastFree (is_taken self.now) base.now number) result }
+        ensures { IfOk result (λ number. IsLeastFree (is_taken self.now) base.now number) }
     {
         let first = u64::from(self.last_number(base)) + 1;
         let after_all = first + self.hindering.len() as u64;
@@ -178,18 +177,14 @@ fn begins_from_one(digits: &str) -> bool
 /// The id that a name gives; it may be empty, as that of the empty name is.
 #[tactic(auto, using(rst_text::proofs::TextLemmas::bytes_of_chars))]
 fn id_text(alloc: Global, name: &str) -> Result<String>
-    ensures { Gives (λ id. string_bytes id ≡ identifier name.now) result }
+    ensures { IfOk result (λ id. string_bytes id ≡ identifier name.now) }
 {
-    match id_of(alloc, name) {
-        Ok(id) => Ok(id),
-        // The call fails only if memory runs out.
-        Err(_) => Err(TreeFault::NoMemory),
-    }
+    id_of(alloc, name)
 }
 
 /// The id of a text and a number.
 fn id_with_number(alloc: Global, base: &str, number: u64) -> Result<Text>
-    ensures { Gives (λ id. id ≡ spec.id_with_number base.now number) result }
+    ensures { IfOk result (λ id. id ≡ spec.id_with_number base.now number) }
 {
     let mut buffer = itoa::Buffer::new();
     Text::of_three(alloc, base, "-", buffer.format(number))
@@ -197,14 +192,14 @@ fn id_with_number(alloc: Global, base: &str, number: u64) -> Result<Text>
 
 /// The id of a problematic by its number.
 pub fn problematic_id(alloc: Global, number: u64) -> Result<Text>
-    ensures { Gives (λ id. id ≡ written.problematic_id number) result }
+    ensures { IfOk result (λ id. id ≡ written.problematic_id number) }
 {
     id_with_number(alloc, "problematic", number)
 }
 
 /// The id of a message by its number.
 pub fn message_id(alloc: Global, number: u64) -> Result<Text>
-    ensures { Gives (λ id. id ≡ written.message_id number) result }
+    ensures { IfOk result (λ id. id ≡ written.message_id number) }
 {
     id_with_number(alloc, "system-message", number)
 }

@@ -1,7 +1,6 @@
 //! What is made of the nodes of an element when the messages on equal names get their places.
-ghost use Rattle.std.specs.Prelude.{◌≡◌, ◌++◌, [], if◌then◌else◌};
+ghost use Rattle.std.specs.Prelude.{◌≡◌, ◌++◌, [], if◌then◌else◌, IfOk};
 ghost use Rattle.std.specs.Option.{option_to_list};
-ghost use Rattle.rst_tree.specs.Faults.{Gives};
 ghost use Rattle.rst_transform_names.specs.NameMessages as spec;
 ghost use Rattle.rst_transform_names.specs.NameMessages.{message_on};
 ghost use Rattle.rst_transform_names.specs.PlacingMessages.{seen};
@@ -41,7 +40,7 @@ fn counted(attrs: &Attrs) -> u64
 
 /// The message on the name of an element with these attributes, if there is one.
 fn own_message(alloc: Global, attrs: &Attrs, messages: &[Option<Node>]) -> Result<Option<Node>>
-    ensures { Gives (λ own. option_to_list own ≡ spec.own_message (message_on messages.now) attrs.now) result }
+    ensures { IfOk result (λ own. option_to_list own ≡ spec.own_message (message_on messages.now) attrs.now) }
 {
     if let Some(serial) = attrs.number(Key::Serial) {
         if let Some(Some(message)) = messages.get(serial as usize) {
@@ -61,8 +60,8 @@ pub fn put_first(
     out: &mut Queue,
     first: &mut Queue,
 ) -> Result<()>
-    ensures first { Gives (λ _. first.new.items ≡ first.old.items ++ spec.first_queue tag attrs.now (spec.own_message (message_on messages.now) attrs.now) out.old.items) result }
-    ensures out { Gives (λ _. out.new.items ≡ (if spec.takes_in tag then [] else out.old.items)) result }
+    ensures first { IfOk result (λ _. first.new.items ≡ first.old.items ++ spec.first_queue tag attrs.now (spec.own_message (message_on messages.now) attrs.now) out.old.items) }
+    ensures out { IfOk result (λ _. out.new.items ≡ (if spec.takes_in tag then [] else out.old.items)) }
 {
     match tag {
         Tag::Definition | Tag::FieldBody => first.append(out)?,
@@ -93,7 +92,7 @@ impl Inside {
     /// Before the first node of an element.
     #[inline(never)]
     pub fn beginning(alloc: Global, tag: Tag, attrs: &Attrs) -> Result<Inside>
-        ensures { Gives (λ inside. seen inside ≡ spec.beginning tag attrs.now) result }
+        ensures { IfOk result (λ inside. seen inside ≡ spec.beginning tag attrs.now) }
     {
         let mut queue = Queue::new(alloc);
         if !matches!(tag, Tag::Section) {
@@ -109,9 +108,9 @@ impl Inside {
     /// Puts the messages there that are due before the next node, by the queue that the nodes began with and that of the texts before it.
     #[inline(never)]
     pub fn put_due(&mut self, first: &mut Queue, due: &mut Queue) -> Result<()>
-        ensures made { Gives (λ _. seen self.new ≡ spec.with_due first.old.items due.old.items (seen self.old)) result }
-        ensures first { Gives (λ _. first.new.items ≡ spec.after_next first.old.items) result }
-        ensures due { Gives (λ _. due.new.items ≡ spec.after_next due.old.items) result }
+        ensures made { IfOk result (λ _. seen self.new ≡ spec.with_due first.old.items due.old.items (seen self.old)) }
+        ensures first { IfOk result (λ _. first.new.items ≡ spec.after_next first.old.items) }
+        ensures due { IfOk result (λ _. due.new.items ≡ spec.after_next due.old.items) }
     {
         put_next(due, &mut self.nodes)?;
         put_next(first, &mut self.nodes)
@@ -126,7 +125,7 @@ impl Inside {
         attrs: &Attrs,
         messages: &[Option<Node>],
     ) -> Result<()>
-        ensures { Gives (λ _. seen self.new ≡ spec.with_own tag attrs.now (spec.own_message (message_on messages.now) attrs.now) (seen self.old)) result }
+        ensures { IfOk result (λ _. seen self.new ≡ spec.with_own tag attrs.now (spec.own_message (message_on messages.now) attrs.now) (seen self.old)) }
     {
         if matches!(tag, Tag::Section) {
             return Ok(());
@@ -152,8 +151,8 @@ impl Inside {
         mut inside: Inside,
         due: &mut Queue,
     ) -> Result<()>
-        ensures made { Gives (λ _. seen self.new ≡ spec.with_filled_element parent tag attrs line (seen inside) (seen self.old)) result }
-        ensures due { Gives (λ _. due.new.items ≡ due.old.items ++ (if spec.goes_out parent tag attrs then [] else inside.queue.items)) result }
+        ensures made { IfOk result (λ _. seen self.new ≡ spec.with_filled_element parent tag attrs line (seen inside) (seen self.old)) }
+        ensures due { IfOk result (λ _. due.new.items ≡ due.old.items ++ (if spec.goes_out parent tag attrs then [] else inside.queue.items)) }
     {
         if is_passed_over(parent) {
             self.before.append(&mut inside.before)?;

@@ -1,6 +1,5 @@
 //! Messages and their problematics.
-ghost use Rattle.std.specs.Prelude.{◌≡◌, ◌++◌, [], ◌∷◌, None, replicate};
-ghost use Rattle.rst_tree.specs.Faults.{Gives};
+ghost use Rattle.std.specs.Prelude.{◌≡◌, ◌++◌, [], ◌∷◌, None, replicate, IfOk};
 ghost use Rattle.rst_tree.specs.declared.key.Key.TheVariants.{Message};
 ghost use Rattle.rst_tree_index.specs.Registered.{item_of};
 ghost use Rattle.rst_transform_names.specs.Gathered.{number_at};
@@ -32,8 +31,8 @@ pub struct KnownMessages {
 impl KnownMessages {
     /// What is known before the first message or problematic, with room for `room` of them; `messages` numbers were given to messages.
     pub fn new(alloc: Global, room: usize, messages: u64) -> Result<KnownMessages>
-        ensures numbers { Gives (λ known_messages. known_messages.numbers.items ≡ []) result }
-        ensures messages { Gives (λ known_messages. known_messages.messages.items ≡ replicate messages (record { id = None; problematics = [] })) result }
+        ensures numbers { IfOk result (λ known_messages. known_messages.numbers.items ≡ []) }
+        ensures messages { IfOk result (λ known_messages. known_messages.messages.items ≡ replicate messages (record { id = None; problematics = [] })) }
     {
         let mut known_messages = KnownMessages {
             numbers: Vec::with_capacity(alloc, room)?,
@@ -50,8 +49,8 @@ impl KnownMessages {
 
     /// Adds one more message or problematic, whose id has a number.
     pub fn add(&mut self, alloc: Global, new: Element<'_>, number: u64) -> Result<()>
-        ensures numbers { Gives (λ _. self.new.numbers.items ≡ self.old.numbers.items ++ number ∷ []) result }
-        ensures messages { Gives (λ _. self.new.messages.items ≡ with_message_changed (number_at Message (item_of new.entry).attrs) (with_member (item_of new.entry).tag number) self.old.messages.items) result }
+        ensures numbers { IfOk result (λ _. self.new.numbers.items ≡ self.old.numbers.items ++ number ∷ []) }
+        ensures messages { IfOk result (λ _. self.new.messages.items ≡ with_message_changed (number_at Message (item_of new.entry).attrs) (with_member (item_of new.entry).tag number) self.old.messages.items) }
     {
         self.numbers.push(number)?;
         let Some(message) = new.attrs.number(Key::Message) else {
@@ -68,7 +67,7 @@ impl KnownMessages {
 impl MessageIds {
     /// Adds a problematic of the message, or the message itself, whose id has a number.
     fn add(&mut self, alloc: Global, tag: Tag, number: u64) -> Result<()>
-        ensures { Gives (λ _. self.new ≡ with_member tag number self.old) result }
+        ensures { IfOk result (λ _. self.new ≡ with_member tag number self.old) }
     {
         if matches!(tag, Tag::Problematic) {
             return self.problematics.push(problematic_id(alloc, number)?);

@@ -1,7 +1,6 @@
 //! The places of the messages on equal names.
-ghost use Rattle.std.specs.Prelude.{◌≡◌, [], is_some};
+ghost use Rattle.std.specs.Prelude.{◌≡◌, [], is_some, IfOk};
 ghost use Rattle.std.specs.List.{list_any};
-ghost use Rattle.rst_tree.specs.Faults.{Gives};
 ghost use Rattle.rst_transform_names.specs.NameMessages as spec;
 ghost use Rattle.rst_transform_names.specs.NameMessages.{message_on};
 ghost use Rattle.rst_transform_names.specs.PlacingMessages.{seen};
@@ -28,7 +27,7 @@ fn fill(
     messages: &[Option<Node>],
     made: &mut Inside,
 ) -> Result<()>
-    ensures { Gives (λ _. seen made.new ≡ spec.filled (spec.own_message (message_on messages.now)) parent first.old.items [] (record (seen made.old) { nodes = [] }) nodes) result }
+    ensures { IfOk result (λ _. seen made.new ≡ spec.filled (spec.own_message (message_on messages.now)) parent first.old.items [] (record (seen made.old) { nodes = [] }) nodes) }
 {
     if nodes.are_plain() {
         made.nodes = nodes.into_list();
@@ -65,7 +64,7 @@ fn fill(
 /// name of a target in a text after the messages of this text; and any other before its element, for an image in a reference or
 /// in a substitution definition before the outermost of these.
 pub fn place_name_messages(alloc: Global, document: Node, messages: &[Option<Node>]) -> Result<Node>
-    ensures { Gives (λ placed. placed ≡ spec.with_name_messages (message_on messages.now) document) result }
+    ensures { IfOk result (λ placed. placed ≡ spec.with_name_messages (message_on messages.now) document) }
 {
     if !is_any(messages) {
         return Ok(document);

@@ -1,6 +1,5 @@
 //! The messages that follow texts.
-ghost use Rattle.std.specs.Prelude.{◌≡◌, ◌++◌, replicate};
-ghost use Rattle.rst_tree.specs.Faults.{Gives};
+ghost use Rattle.std.specs.Prelude.{◌≡◌, ◌++◌, replicate, IfOk};
 ghost use Rattle.rst_transform_names.specs.NameMessages as spec;
 ghost use Rattle.rst_transform_names.specs.declared.queue.Queued.TheVariants.{Present};
 
@@ -22,8 +21,8 @@ pub type Queue = VecDeque<Queued>;
 /// Puts those messages of a queue after nodes that come before the next node, and leaves in the queue what is due after this node.
 #[inline(never)]
 pub fn put_next(queue: &mut Queue, nodes: &mut Vec<Node>) -> Result<()>
-    ensures nodes { Gives (λ _. nodes.new.items ≡ nodes.old.items ++ spec.before_next queue.old.items) result }
-    ensures queue { Gives (λ _. queue.new.items ≡ spec.after_next queue.old.items) result }
+    ensures nodes { IfOk result (λ _. nodes.new.items ≡ nodes.old.items ++ spec.before_next queue.old.items) }
+    ensures queue { IfOk result (λ _. queue.new.items ≡ spec.after_next queue.old.items) }
 {
     while let Some(queued) = queue.pop_front() {
         match queued {
@@ -37,7 +36,7 @@ pub fn put_next(queue: &mut Queue, nodes: &mut Vec<Node>) -> Result<()>
 /// Puts a number of a text's own messages at the end of a queue.
 #[inline(never)]
 pub fn push_present(queue: &mut Queue, count: u64) -> Result<()>
-    ensures { Gives (λ _. queue.new.items ≡ queue.old.items ++ replicate count Present) result }
+    ensures { IfOk result (λ _. queue.new.items ≡ queue.old.items ++ replicate count Present) }
 {
     for _done in 0..count {
         queue.push_back(Queued::Present)?;

@@ -1,5 +1,5 @@
 //! The registration of a document's elements.
-ghost use Rattle.rst_tree.specs.Faults.{Gives};
+ghost use Rattle.std.specs.Prelude.{IfOk};
 ghost use Rattle.rst_transform_names.specs.Registering.{registration, IsRegistered};
 
 use super::ids::Ids;
@@ -46,7 +46,7 @@ pub struct Registered {
 ///
 /// Fails only if memory runs out.
 pub fn register(alloc: Global, document: Marked, messages: u64) -> Result<Registered>
-    ensures { Gives (IsRegistered (registration messages document)) result }
+    ensures { IfOk result (IsRegistered (registration messages document)) }
 {
     let elements = document.elements(alloc)?;
     let registry = registry_of(alloc, &elements, messages)?;

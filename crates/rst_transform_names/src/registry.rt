@@ -1,6 +1,5 @@
 //! Names and ids, given one element after the other.
-ghost use Rattle.std.specs.Prelude.{◌≡◌, length, map};
-ghost use Rattle.rst_tree.specs.Faults.{Gives};
+ghost use Rattle.std.specs.Prelude.{◌≡◌, length, map, IfOk};
 ghost use Rattle.rst_tree.specs.PrintedAttributes.{given_source};
 ghost use Rattle.rst_tree_index.specs.Registered.{item_of};
 ghost use Rattle.rst_transform_names.specs.DuplicateMessages.{duplicate_definition, duplicate_name};
@@ -49,7 +48,7 @@ pub struct Registry {
 impl Registry {
     /// What is known before the first of some elements, with room for all; `messages` numbers were given to messages.
     fn new(alloc: Global, elements: &[Element<'_>], messages: u64) -> Result<Registry>
-        ensures { Gives (λ first. Holds first (nothing_known messages)) result }
+        ensures { IfOk result (λ first. Holds first (nothing_known messages)) }
     {
         let unnamed = elements
             .iter()
@@ -68,7 +67,7 @@ impl Registry {
 
     /// Registers one more element.
     fn register(&mut self, alloc: Global, new: Element<'_>) -> Result<()>
-        ensures { Gives (λ _. Makes (with_element (item_of new.entry)) self.old self.new) result }
+        ensures { IfOk result (λ _. Makes (with_element (item_of new.entry)) self.old self.new) }
     {
         match new.tag {
             Tag::Problematic | Tag::SystemMessage => {
@@ -89,7 +88,7 @@ impl Registry {
 
     /// Gives an element its id, and its name if it has one.
     fn name(&mut self, alloc: Global, new: Element<'_>) -> Result<()>
-        ensures { Gives (λ _. Makes (with_named (item_of new.entry)) self.old self.new) result }
+        ensures { IfOk result (λ _. Makes (with_named (item_of new.entry)) self.old self.new) }
     {
         let serial = self.serial();
         let name = own_name(new);
@@ -112,7 +111,7 @@ impl Registry {
 
     /// Registers a substitution definition: of those with equal names the last has it.
     fn define(&mut self, alloc: Global, new: Element<'_>) -> Result<()>
-        ensures { Gives (λ _. Makes (with_definition (item_of new.entry)) self.old self.new) result }
+        ensures { IfOk result (λ _. Makes (with_definition (item_of new.entry)) self.old self.new) }
     {
         let serial = self.serial();
         let name = String::from_str(alloc, own_name(new))?;
@@ -175,7 +174,7 @@ fn follow(
     serial: u64,
     id: &Text,
 ) -> Result<()>
-    ensures { Gives (λ _. Knows (spec.own_name (item_of new.entry)) (known_by now serial (item_of new.entry) id.now (entry_named names.old (spec.own_name (item_of new.entry)))) names.old names.new) result }
+    ensures { IfOk result (λ _. Knows (spec.own_name (item_of new.entry)) (known_by now serial (item_of new.entry) id.now (entry_named names.old (spec.own_name (item_of new.entry)))) names.old names.new) }
 {
     match now {
         Now::Old => Ok(()),
@@ -230,7 +229,7 @@ fn target_uri<'a>(element: Element<'a>) -> Option<&'a Text>
 
 /// A copy of a text, if there is one.
 pub fn copied_text(text: Option<&Text>) -> Result<Option<Text>>
-    ensures { Gives (λ copy. copy ≡ given_source text.entry) result }
+    ensures { IfOk result (λ copy. copy ≡ given_source text.entry) }
 {
     match text {
         Some(text) => Ok(Some(text.copy()?)),
@@ -240,7 +239,7 @@ pub fn copied_text(text: Option<&Text>) -> Result<Option<Text>>
 
 /// Registers elements, in preorder, among which `messages` numbers were given to messages.
 pub fn registry_of(alloc: Global, elements: &[Element<'_>], messages: u64) -> Result<Registry>
-    ensures { Gives (λ registry. Holds registry (all_registered (map item_of elements.entry.now) (nothing_known messages))) result }
+    ensures { IfOk result (λ registry. Holds registry (all_registered (map item_of elements.entry.now) (nothing_known messages))) }
 {
     let mut registry = Registry::new(alloc, elements, messages)?;
     for new in elements {

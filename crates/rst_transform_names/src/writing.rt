@@ -1,6 +1,5 @@
 //! The attributes that registration gives, written at the elements.
-ghost use Rattle.std.specs.Prelude.{◌≡◌, MatchOption, None, Some};
-ghost use Rattle.rst_tree.specs.Faults.{Gives};
+ghost use Rattle.std.specs.Prelude.{◌≡◌, MatchOption, None, Some, IfOk};
 ghost use Rattle.rst_transform_names.specs.Written.{given, with_id, with_name, with_standing, message_ids_of, with_problematic, with_refid, with_message, with_backrefs, left_after, with_given};
 
 use super::ids::{message_id, problematic_id};
@@ -13,7 +12,7 @@ use std::marker::Model;
 
 /// Writes an element's id into attributes, if it has one.
 fn write_id(alloc: Global, attrs: &mut Attrs, id: Option<Text>) -> Result<()>
-    ensures { Gives (λ _. attrs.new ≡ with_id id attrs.old) result }
+    ensures { IfOk result (λ _. attrs.new ≡ with_id id attrs.old) }
 {
     match id {
         Some(id) => attrs.set(Key::Ids, Value::List(Texts::lone(alloc, id))),
@@ -23,7 +22,7 @@ fn write_id(alloc: Global, attrs: &mut Attrs, id: Option<Text>) -> Result<()>
 
 /// Writes an element's name into attributes, if it has one, as a duplicate one where the element lost it.
 fn write_name(alloc: Global, attrs: &mut Attrs, lost: bool, name: Option<Text>) -> Result<()>
-    ensures { Gives (λ _. attrs.new ≡ with_name lost name attrs.old) result }
+    ensures { IfOk result (λ _. attrs.new ≡ with_name lost name attrs.old) }
 {
     match name {
         Some(name) if !name.as_bytes().is_empty() => {
@@ -36,7 +35,7 @@ fn write_name(alloc: Global, attrs: &mut Attrs, lost: bool, name: Option<Text>) 
 
 /// Writes into the attributes of an element what registration gave it.
 fn write(alloc: Global, attrs: &mut Attrs, standing: Standing) -> Result<()>
-    ensures { Gives (λ _. attrs.new ≡ with_standing standing attrs.old) result }
+    ensures { IfOk result (λ _. attrs.new ≡ with_standing standing attrs.old) }
 {
     let name = copied_text(attrs.text(Key::OwnName))?;
     attrs.reserve(if name.is_some() { 3 } else { 2 })?;
@@ -58,7 +57,7 @@ fn message_ids_of<'a>(messages: &'a [MessageIds], attrs: &Attrs) -> Option<&'a M
 
 /// Writes the id of a problematic's message into its attributes, if the message has a number for that id.
 fn write_refid(alloc: Global, attrs: &mut Attrs, message: Option<u64>) -> Result<()>
-    ensures { Gives (λ _. attrs.new ≡ with_refid message attrs.old) result }
+    ensures { IfOk result (λ _. attrs.new ≡ with_refid message attrs.old) }
 {
     match message {
         Some(number) => attrs.set(Key::Refid, Value::Text(message_id(alloc, number)?)),
@@ -68,7 +67,7 @@ fn write_refid(alloc: Global, attrs: &mut Attrs, message: Option<u64>) -> Result
 
 /// Writes the ids of a message's problematics into its attributes, if there are any.
 fn write_backrefs(alloc: Global, attrs: &mut Attrs, ids: &Texts) -> Result<()>
-    ensures { Gives (λ _. attrs.new ≡ with_backrefs ids.now attrs.old) result }
+    ensures { IfOk result (λ _. attrs.new ≡ with_backrefs ids.now attrs.old) }
 {
     if ids.as_slice().is_empty() {
         return Ok(());
@@ -112,7 +111,7 @@ impl Writing {
 
     /// Writes a problematic's id, with this number, into its attributes, and its message's id, if the message is in the document.
     fn write_problematic(&self, attrs: &mut Attrs, number: u64) -> Result<()>
-        ensures { Gives (λ _. attrs.new ≡ with_problematic self.now.messages number attrs.old) result }
+        ensures { IfOk result (λ _. attrs.new ≡ with_problematic self.now.messages number attrs.old) }
     {
         attrs.reserve(2)?;
         if let Some(message) = message_ids_of(&self.messages, attrs) {
@@ -123,7 +122,7 @@ impl Writing {
 
     /// Writes a message's id, with this number, into its attributes, and the ids of its problematics, if there are any.
     fn write_message(&self, attrs: &mut Attrs, number: u64) -> Result<()>
-        ensures { Gives (λ _. attrs.new ≡ with_message self.now.messages number attrs.old) result }
+        ensures { IfOk result (λ _. attrs.new ≡ with_message self.now.messages number attrs.old) }
     {
         attrs.reserve(2)?;
         if let Some(message) = message_ids_of(&self.messages, attrs) {

@@ -1,6 +1,5 @@
 //! Anonymous references.
-ghost use Rattle.std.specs.Prelude.{◌≡◌, drop, map, true};
-ghost use Rattle.rst_tree.specs.Faults.{Gives};
+ghost use Rattle.std.specs.Prelude.{◌≡◌, drop, map, true, IfOk};
 ghost use Rattle.rst_tree.specs.declared.note.Level.TheVariants.{Error};
 ghost use Rattle.rst_transform_references.specs.Anonymous.{anonymous_outcomes, anonymous_references, anonymous_targets, failing_anonymous, first_lead, first_anonymous_line, is_anonymous_reference, is_anonymous_target, mismatch, paired};
 ghost use Rattle.rst_transform_references.specs.Linkings.{linked_element};
@@ -35,7 +34,7 @@ use std::alloc::Global;
 /// One through an indirect target is left to the next transform. If there are more of the ones than of the others, there is
 /// one ERROR, and each reference becomes a problematic.
 pub fn anonymous_outcomes(context: &mut Context, linked: &[Linked<'_>]) -> Result<Vec<Outcome>>
-    ensures { Gives (λ outcomes. Makes (anonymous_outcomes (map linked_element linked.now)) context.old context.new outcomes.items) result }
+    ensures { IfOk result (λ outcomes. Makes (anonymous_outcomes (map linked_element linked.now)) context.old context.new outcomes.items) }
 {
     let references = anonymous_references(context.alloc, linked)?;
     let targets = anonymous_targets(context.alloc, linked)?;
@@ -79,7 +78,7 @@ pub fn is_anonymous_target(node: &Node) -> bool
 
 /// The anonymous references among linked elements, in order.
 fn anonymous_references<'a>(alloc: Global, linked: &[Linked<'a>]) -> Result<Vec<Linked<'a>>>
-    ensures { Gives (λ list. map linked_element list.items ≡ anonymous_references (map linked_element linked.now)) result }
+    ensures { IfOk result (λ list. map linked_element list.items ≡ anonymous_references (map linked_element linked.now)) }
 {
     let mut list = Vec::new(alloc);
     for one in linked {
@@ -92,7 +91,7 @@ fn anonymous_references<'a>(alloc: Global, linked: &[Linked<'a>]) -> Result<Vec<
 
 /// The anonymous targets among linked elements, in order.
 fn anonymous_targets<'a>(alloc: Global, linked: &[Linked<'a>]) -> Result<Vec<Linked<'a>>>
-    ensures { Gives (λ list. map linked_element list.items ≡ anonymous_targets (map linked_element linked.now)) result }
+    ensures { IfOk result (λ list. map linked_element list.items ≡ anonymous_targets (map linked_element linked.now)) }
 {
     let mut list = Vec::new(alloc);
     for one in linked {
@@ -115,7 +114,7 @@ fn first_anonymous_line(references: &[Linked<'_>], targets: &[Linked<'_>]) -> us
 
 /// That there are more of the ones than of the others, in words.
 fn mismatch(alloc: Global, references: usize, targets: usize) -> Result<Text>
-    ensures { Gives (λ text. text ≡ mismatch references targets) result }
+    ensures { IfOk result (λ text. text ≡ mismatch references targets) }
 {
     let text = format!(in alloc;
         "Anonymous hyperlink mismatch: {references} references but {targets} targets."
@@ -125,7 +124,7 @@ fn mismatch(alloc: Global, references: usize, targets: usize) -> Result<Text>
 
 /// What happens to the elements: each anonymous reference takes the next target.
 fn paired(alloc: Global, linked: &[Linked<'_>], targets: &[Linked<'_>]) -> Result<Vec<Outcome>>
-    ensures { Gives (λ outcomes. outcomes.items ≡ paired (map linked_element linked.entry.now) (map linked_element targets.entry.now)) result }
+    ensures { IfOk result (λ outcomes. outcomes.items ≡ paired (map linked_element linked.entry.now) (map linked_element targets.entry.now)) }
 {
     let mut left = targets;
     let mut outcomes = Vec::new(alloc);
@@ -149,7 +148,7 @@ fn after_first<'t, 'a>(targets: &'t [Linked<'a>]) -> &'t [Linked<'a>]
 
 /// What a reference takes from the first of some targets, if there is one: where that leads, or its id, unless it is an indirect one.
 fn first_lead(alloc: Global, targets: &[Linked<'_>]) -> Result<Option<Attr>>
-    ensures { Gives (λ lead. lead ≡ first_lead (map linked_element targets.entry.now)) result }
+    ensures { IfOk result (λ lead. lead ≡ first_lead (map linked_element targets.entry.now)) }
 {
     let Some(target) = targets.first() else {
         return Ok(None);
@@ -168,7 +167,7 @@ fn first_lead(alloc: Global, targets: &[Linked<'_>]) -> Result<Option<Attr>>
 
 /// Where all anonymous references fail for a report, what happens to the elements.
 fn mismatched(alloc: Global, linked: &[Linked<'_>], report: usize) -> Result<Vec<Outcome>>
-    ensures { Gives (λ outcomes. outcomes.items ≡ map (λ one. failing_anonymous report one.element.now) linked.now) result }
+    ensures { IfOk result (λ outcomes. outcomes.items ≡ map (λ one. failing_anonymous report one.element.now) linked.now) }
 {
     let outcomes = linked
         .iter()

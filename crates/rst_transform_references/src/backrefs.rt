@@ -1,7 +1,6 @@
 //! What footnotes and citations list of the references to them.
-ghost use Rattle.std.specs.Prelude.{◌≡◌, [], map, replicate};
+ghost use Rattle.std.specs.Prelude.{◌≡◌, [], map, replicate, IfOk};
 ghost use Rattle.std.specs.List.{list_any};
-ghost use Rattle.rst_tree.specs.Faults.{Gives};
 ghost use Rattle.rst_transform_references.specs.Backrefs.{reference_ids, referent_of, referents_of, referred_to, with_referring_ids, with_reference};
 ghost use Rattle.rst_transform_references.specs.Holders.{place_at};
 ghost use Rattle.rst_transform_references.specs.Linkings.{linked_element};
@@ -24,7 +23,7 @@ fn referent_of(
     element: &Node,
     found: Option<usize>,
 ) -> Result<Option<usize>>
-    ensures { Gives (λ referent. referent ≡ referent_of (place_at holders.now.places.items) (map linked_element holders.now.linked.now) (entry_named names.now) element.now found) result }
+    ensures { IfOk result (λ referent. referent ≡ referent_of (place_at holders.now.places.items) (map linked_element holders.now.linked.now) (entry_named names.now) element.now found) }
 {
     if !refers_to_footnote_or_citation(element) {
         return Ok(None);
@@ -37,7 +36,7 @@ fn referent_of(
 
 /// For each linked element the place of the footnote or citation that it refers to.
 fn referents_of(names: &Names, holders: &Holders<'_>) -> Result<Vec<Option<usize>>>
-    ensures { Gives (λ referents. referents.items ≡ referents_of (place_at holders.now.places.items) (map linked_element holders.now.linked.now) (entry_named names.now)) result }
+    ensures { IfOk result (λ referents. referents.items ≡ referents_of (place_at holders.now.places.items) (map linked_element holders.now.linked.now) (entry_named names.now)) }
 {
     let found = found_by_order(holders.alloc, holders.linked)?;
     let mut referents = Vec::with_capacity(holders.alloc, holders.linked.len())?;
@@ -51,7 +50,7 @@ fn referents_of(names: &Names, holders: &Holders<'_>) -> Result<Vec<Option<usize
 
 /// No id for each of `count` elements.
 fn no_ids(alloc: Global, count: usize) -> Result<Vec<Texts>>
-    ensures { Gives (λ lists. lists.items ≡ replicate count []) result }
+    ensures { IfOk result (λ lists. lists.items ≡ replicate count []) }
 {
     let mut lists = Vec::with_capacity(alloc, count)?;
     for _ in 0..count {
@@ -68,7 +67,7 @@ fn add_reference(
     referent: Option<usize>,
     reference: &Node,
 ) -> Result<()>
-    ensures { Gives (λ _. lists.new.items ≡ with_reference referent reference.now lists.old.items) result }
+    ensures { IfOk result (λ _. lists.new.items ≡ with_reference referent reference.now lists.old.items) }
 {
     let Some(referent) = referent else {
         return Ok(());
@@ -90,7 +89,7 @@ fn reference_ids(
     referents: &[Option<usize>],
     count: usize,
 ) -> Result<Vec<Texts>>
-    ensures { Gives (λ lists. lists.items ≡ reference_ids referents.now (map linked_element holders.now.linked.now) count) result }
+    ensures { IfOk result (λ lists. lists.items ≡ reference_ids referents.now (map linked_element holders.now.linked.now) count) }
 {
     let mut lists = no_ids(holders.alloc, count)?;
     for (place, referent) in referents.iter().enumerate() {
@@ -129,7 +128,7 @@ pub fn with_referring_ids(
     holders: &Holders<'_>,
     outcomes: Vec<Outcome>,
 ) -> Result<Vec<Outcome>>
-    ensures { let all = map linked_element holders.now.linked.now in Gives (λ changed. changed.items ≡ with_referring_ids (referents_of (place_at holders.now.places.items) all (entry_named names.now)) all outcomes.items) result }
+    ensures { let all = map linked_element holders.now.linked.now in IfOk result (λ changed. changed.items ≡ with_referring_ids (referents_of (place_at holders.now.places.items) all (entry_named names.now)) all outcomes.items) }
 {
     if !any_refers_to_footnote_or_citation(holders.linked) {
         return Ok(outcomes);

@@ -1,6 +1,5 @@
 //! The chains of indirect targets: where each ends.
-ghost use Rattle.std.specs.Prelude.{◌≡◌, ◌+◌, map, unwrap_or};
-ghost use Rattle.rst_tree.specs.Faults.{Gives};
+ghost use Rattle.std.specs.Prelude.{◌≡◌, ◌+◌, map, unwrap_or, IfOk};
 ghost use Rattle.rst_transform_references.specs.declared.chains.Answer.TheVariants.{Circular};
 ghost use Rattle.rst_transform_references.specs.Chains.{answers_of, first_step_answer, filled_answers, next_on, KnownBelow};
 ghost use Rattle.rst_transform_work.specs.Lists.{at_place};
@@ -32,7 +31,7 @@ pub enum Step {
 impl Answer {
     /// An equal answer.
     fn copy(&self, alloc: Global) -> Result<Answer>
-        ensures { Gives (λ answer. answer ≡ self.now) result }
+        ensures { IfOk result (λ answer. answer ≡ self.now) }
     {
         match self {
             Answer::Leads(attr) => Ok(Answer::Leads(attr.copy(alloc)?)),
@@ -44,7 +43,7 @@ impl Answer {
 
 /// What each indirect target comes to, by its place and its first step; there is nothing for the other elements.
 pub fn answers(alloc: Global, steps: &[Option<Step>]) -> Result<Vec<Option<Answer>>>
-    ensures { Gives (λ answers. answers.items ≡ answers_of steps.now) result }
+    ensures { IfOk result (λ answers. answers.items ≡ answers_of steps.now) }
 {
     let mut answers = first_step_answer(alloc, steps)?;
     for start in 0..steps.len() {
@@ -55,7 +54,7 @@ pub fn answers(alloc: Global, steps: &[Option<Step>]) -> Result<Vec<Option<Answe
 
 /// The answers of those whose chains end with the first step.
 fn first_step_answer(alloc: Global, steps: &[Option<Step>]) -> Result<Vec<Option<Answer>>>
-    ensures { Gives (λ answers. answers.items ≡ map first_step_answer steps.now) result }
+    ensures { IfOk result (λ answers. answers.items ≡ map first_step_answer steps.now) }
 {
     let mut answers = Vec::with_capacity(alloc, steps.len())?;
     for step in steps {
@@ -78,7 +77,7 @@ fn follow(
     start: usize,
 ) -> Result<()>
     requires { KnownBelow steps.now start answers.old.items }
-    ensures { Gives (λ _. KnownBelow steps.now (start + 1) answers.new.items) result }
+    ensures { IfOk result (λ _. KnownBelow steps.now (start + 1) answers.new.items) }
 {
     let mut chain = Vec::new(alloc);
     let mut place = start;
@@ -107,7 +106,7 @@ fn next_on(steps: &[Option<Step>], answers: &[Option<Answer>], place: usize) -> 
 
 /// The answer at a place where a chain stops; there is none where there is no indirect target.
 fn found_at(alloc: Global, answers: &[Option<Answer>], place: usize) -> Result<Answer>
-    ensures { Gives (λ found. found ≡ unwrap_or (at_place answers.now place) Circular) result }
+    ensures { IfOk result (λ found. found ≡ unwrap_or (at_place answers.now place) Circular) }
 {
     match item_at(answers, place) {
         Some(answer) => answer.copy(alloc),
@@ -122,7 +121,7 @@ fn fill(
     found: &Answer,
     answers: &mut Vec<Option<Answer>>,
 ) -> Result<()>
-    ensures { Gives (λ _. answers.new.items ≡ filled_answers found.now chain.now answers.old.items) result }
+    ensures { IfOk result (λ _. answers.new.items ≡ filled_answers found.now chain.now answers.old.items) }
 {
     for place in chain {
         put_at(answers, *place, Some(found.copy(alloc)?));

@@ -1,6 +1,5 @@
 //! The labels of footnotes.
-ghost use Rattle.std.specs.Prelude.{◌≡◌, ◌+◌, ◌<◌, ◌≤◌, ◌%◌, false, if◌then◌else◌, length, map};
-ghost use Rattle.rst_tree.specs.Faults.{Gives};
+ghost use Rattle.std.specs.Prelude.{◌≡◌, ◌+◌, ◌<◌, ◌≤◌, ◌%◌, false, if◌then◌else◌, length, map, IfOk};
 ghost use Rattle.rst_transform_references.specs.Linkings.{linked_element};
 ghost use Rattle.rst_transform_references.specs.FootnoteLabels.{free_numbers, labels, label_number, symbol_label, symbols, to_number, with_written, TellsWritten};
 ghost use Rattle.rst_transform_references.specs.FootnoteOrders.{written_label};
@@ -30,7 +29,7 @@ fn set_written(written: &mut Vec<bool>, node: &Node)
 
 /// For each number up to that of all linked elements whether a footnote was written with it.
 fn written_numbers(alloc: Global, linked: &[Linked<'_>]) -> Result<Vec<bool>>
-    ensures { Gives (λ written. TellsWritten (map linked_element linked.now) written.items) result }
+    ensures { IfOk result (λ written. TellsWritten (map linked_element linked.now) written.items) }
 {
     let mut written = vec![in alloc; false; linked.len() + 1]?;
     for one in linked {
@@ -42,8 +41,8 @@ fn written_numbers(alloc: Global, linked: &[Linked<'_>]) -> Result<Vec<bool>>
 /// The numbers from 1 on, as many as there are elements, that no footnote was written with. There is one for each footnote
 /// that is to be numbered.
 fn free_numbers(alloc: Global, linked: &[Linked<'_>]) -> Result<Vec<usize>>
-    ensures enough { Gives (λ free. length (to_number (map linked_element linked.now)) ≤ length free.items) result }
-    ensures free { Gives (λ free. free.items ≡ free_numbers (map linked_element linked.now)) result }
+    ensures enough { IfOk result (λ free. length (to_number (map linked_element linked.now)) ≤ length free.items) }
+    ensures free { IfOk result (λ free. free.items ≡ free_numbers (map linked_element linked.now)) }
 {
     let written = written_numbers(alloc, linked)?;
     let mut free = Vec::new(alloc);
@@ -59,7 +58,7 @@ fn free_numbers(alloc: Global, linked: &[Linked<'_>]) -> Result<Vec<usize>>
 /// The label of the n-th symbol footnote, from 0.
 #[tactic(auto, using(crate::proofs::Numbering::repeat_more))]
 fn symbol_label(alloc: Global, n: usize) -> Result<Text>
-    ensures { Gives (λ label. label ≡ symbol_label n) result }
+    ensures { IfOk result (λ label. label ≡ symbol_label n) }
 {
     let symbol = SYMBOLS[n % SYMBOLS.len()];
     let mut label = String::new(alloc);
@@ -72,7 +71,7 @@ fn symbol_label(alloc: Global, n: usize) -> Result<Text>
 /// The label of each footnote, by its place; there is nothing for the other elements. Each footnote that is to be numbered
 /// takes the next free number, and each symbol footnote the next symbol.
 pub fn labels(alloc: Global, linked: &[Linked<'_>]) -> Result<Vec<Option<Text>>>
-    ensures { Gives (λ list. list.items ≡ labels (map linked_element linked.now)) result }
+    ensures { IfOk result (λ list. list.items ≡ labels (map linked_element linked.now)) }
 {
     let mut numbers = free_numbers(alloc, linked)?.into_iter();
     let mut symbols = 0;

@@ -1,6 +1,5 @@
 //! The orders by which references without a name find their footnotes.
-ghost use Rattle.std.specs.Prelude.{◌≡◌, map, MatchOption, None, Some};
-ghost use Rattle.rst_tree.specs.Faults.{Gives};
+ghost use Rattle.std.specs.Prelude.{◌≡◌, map, MatchOption, None, Some, IfOk};
 ghost use Rattle.rst_tree.specs.declared.key.Key.TheVariants.{Auto};
 ghost use Rattle.rst_transform_references.specs.Linkings.{linked_element};
 ghost use Rattle.rst_transform_references.specs.FootnoteOrders.{footnote_order, found_by_order, in_order, is_order, written_label, order_name, reference_order};
@@ -81,7 +80,7 @@ pub fn reference_order(node: &Node) -> Option<Order>
 
 /// The places of the footnotes that references find by an order.
 pub fn in_order(alloc: Global, linked: &[Linked<'_>], order: Order) -> Result<Vec<usize>>
-    ensures { Gives (λ places. places.items ≡ in_order order (map linked_element linked.now)) result }
+    ensures { IfOk result (λ places. places.items ≡ in_order order (map linked_element linked.now)) }
 {
     let mut places = Vec::new(alloc);
     for (place, one) in linked.iter().enumerate() {
@@ -95,7 +94,7 @@ pub fn in_order(alloc: Global, linked: &[Linked<'_>], order: Order) -> Result<Ve
 /// For each linked element the place of the footnote that it finds by the order, if it finds one: each reference takes the next
 /// footnote of its order, where one is left.
 pub fn found_by_order(alloc: Global, linked: &[Linked<'_>]) -> Result<Vec<Option<usize>>>
-    ensures { Gives (λ found. found.items ≡ found_by_order (map linked_element linked.now)) result }
+    ensures { IfOk result (λ found. found.items ≡ found_by_order (map linked_element linked.now)) }
 {
     let mut numbers = in_order(alloc, linked, Order::Numbers)?.into_iter();
     let mut symbols = in_order(alloc, linked, Order::Symbols)?.into_iter();

@@ -1,8 +1,7 @@
 //! Footnotes.
-ghost use Rattle.std.specs.Prelude.{◌≡◌, ℕ, List, MatchOption, None, Some, length, map, slice_get};
+ghost use Rattle.std.specs.Prelude.{◌≡◌, ℕ, List, MatchOption, None, Some, length, map, slice_get, IfOk};
 ghost use Rattle.std.specs.List.{list_all};
 ghost use Rattle.std.specs.Option.{option_or};
-ghost use Rattle.rst_tree.specs.Faults.{Gives};
 ghost use Rattle.rst_transform_names.specs.Names.{entry_named};
 ghost use Rattle.rst_transform_references.specs.Footnotes.{footnote_name_entry, first_left_over, footnote_outcomes, is_no_footnote, is_of_footnotes, label_in, lead_to_footnote, outcomes_by, own_number, leftover, with_number, with_numbers};
 ghost use Rattle.rst_transform_references.specs.Linkings.{linked_element};
@@ -60,7 +59,7 @@ use std::alloc::Global;
 ///
 /// References left over become problematics of one ERROR for each of the two numberings.
 pub fn footnote_outcomes(context: &mut Context, linked: &[Linked<'_>]) -> Result<Vec<Outcome>>
-    ensures { Gives (λ outcomes. Makes (footnote_outcomes (map linked_element linked.now)) context.old context.new outcomes.items) result }
+    ensures { IfOk result (λ outcomes. Makes (footnote_outcomes (map linked_element linked.now)) context.old context.new outcomes.items) }
 {
     if none_is_of_footnotes(linked) {
         return Ok(Vec::new(context.alloc));
@@ -108,7 +107,7 @@ fn hold_numbers(
     linked: &[Linked<'_>],
     labels: &[Option<Text>],
 ) -> Result<()>
-    ensures { Gives (λ _. (name : List ℕ) → entry_named names.new name ≡ with_numbers labels.now (map linked_element linked.now) (entry_named names.old) name) result }
+    ensures { IfOk result (λ _. (name : List ℕ) → entry_named names.new name ≡ with_numbers labels.now (map linked_element linked.now) (entry_named names.old) name) }
 {
     for (place, one) in linked.iter().enumerate() {
         hold_number(alloc, names, one.element, labels, place)?;
@@ -124,7 +123,7 @@ fn hold_number(
     labels: &[Option<Text>],
     place: usize,
 ) -> Result<()>
-    ensures { Gives (λ _. (name : List ℕ) → entry_named names.new name ≡ option_or (entry_named names.old name) (footnote_name_entry name (own_number element.now (at_place labels.now place)) element.now)) result }
+    ensures { IfOk result (λ _. (name : List ℕ) → entry_named names.new name ≡ option_or (entry_named names.old name) (footnote_name_entry name (own_number element.now (at_place labels.now place)) element.now)) }
 {
     let Some(number) = own_number(element, labels, place) else {
         return Ok(());
@@ -167,7 +166,7 @@ fn leftover(
     found: &[Option<usize>],
     order: Order,
 ) -> Result<Option<usize>>
-    ensures { Gives (Makes (leftover (first_left_over order found.now (map linked_element linked.now)) order (length (in_order order (map linked_element linked.now)))) context.old context.new) result }
+    ensures { IfOk result (Makes (leftover (first_left_over order found.now (map linked_element linked.now)) order (length (in_order order (map linked_element linked.now)))) context.old context.new) }
 {
     let Some(line) = first_left_over(linked, found, order) else {
         return Ok(None);
@@ -191,7 +190,7 @@ fn outcomes_by(
     numbers: Option<usize>,
     symbols: Option<usize>,
 ) -> Result<Vec<Outcome>>
-    ensures { Gives (λ list. list.items ≡ outcomes_by (map linked_element linked.now) labels.now found.now numbers symbols) result }
+    ensures { IfOk result (λ list. list.items ≡ outcomes_by (map linked_element linked.now) labels.now found.now numbers symbols) }
 {
     let mut list = Vec::with_capacity(alloc, linked.len())?;
     for (place, one) in linked.iter().enumerate() {
@@ -230,7 +229,7 @@ fn outcomes_by(
 
 /// A copy of the label of a footnote, if there is one.
 fn label_in(labels: &[Option<Text>], footnote: Option<usize>) -> Result<Option<Text>>
-    ensures { Gives (λ new_text. new_text ≡ label_in labels.now footnote) result }
+    ensures { IfOk result (λ new_text. new_text ≡ label_in labels.now footnote) }
 {
     match footnote {
         Some(footnote) => match item_at(labels, footnote) {
@@ -243,7 +242,7 @@ fn label_in(labels: &[Option<Text>], footnote: Option<usize>) -> Result<Option<T
 
 /// What a reference takes from the footnote at a place: its id.
 fn lead_to_footnote(alloc: Global, linked: &[Linked<'_>], footnote: usize) -> Result<Option<Attr>>
-    ensures { Gives (λ lead. lead ≡ lead_to_footnote (slice_get (map linked_element linked.now) footnote)) result }
+    ensures { IfOk result (λ lead. lead ≡ lead_to_footnote (slice_get (map linked_element linked.now) footnote)) }
 {
     let Some(one) = linked.get(footnote) else {
         return Ok(None);
@@ -261,7 +260,7 @@ fn with_number(
     labels: &[Option<Text>],
     place: usize,
 ) -> Result<Option<Attr>>
-    ensures { Gives (λ names. names ≡ with_number node.now (own_number node.now (at_place labels.now place))) result }
+    ensures { IfOk result (λ names. names ≡ with_number node.now (own_number node.now (at_place labels.now place))) }
 {
     let Some(number) = own_number(node, labels, place) else {
         return Ok(None);

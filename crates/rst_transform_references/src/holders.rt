@@ -1,9 +1,8 @@
 //! The holders of names among the elements that references join.
-ghost use Rattle.std.specs.Prelude.{◌≡◌, map};
+ghost use Rattle.std.specs.Prelude.{◌≡◌, map, IfOk};
 ghost use Rattle.rst_tree.specs.declared.attrs.Value.TheVariants.{Text as Words};
 ghost use Rattle.rst_tree.specs.declared.key.Key.TheVariants.{Serial};
 ghost use Rattle.rst_tree.specs.Attributes.{attr};
-ghost use Rattle.rst_tree.specs.Faults.{Gives};
 ghost use Rattle.rst_transform_names.specs.declared.names.Holder.{Holder};
 ghost use Rattle.rst_transform_references.specs.Holders.{element_at, holder_place, name_holder, is_nobody, is_target_node, lead_of, name_lead, place_at, with_place};
 ghost use Rattle.rst_transform_references.specs.Linkings.{linked_element};
@@ -26,8 +25,8 @@ pub struct Holders<'a> {
 impl<'a> Holders<'a> {
     /// The places of some elements, whose numbers are below a bound.
     pub fn of(alloc: Global, linked: &'a [Linked<'a>], serials: u64) -> Result<Holders<'a>>
-        ensures linked { Gives (λ holders. holders.linked.now ≡ linked.now) result }
-        ensures places { Gives (λ holders. (holder : Holder) → place_at holders.places.items holder ≡ holder_place serials (map linked_element linked.now) holder) result }
+        ensures linked { IfOk result (λ holders. holders.linked.now ≡ linked.now) }
+        ensures places { IfOk result (λ holders. (holder : Holder) → place_at holders.places.items holder ≡ holder_place serials (map linked_element linked.now) holder) }
     {
         let mut places = vec![in alloc; None; serials as usize]?;
         for (place, one) in linked.iter().enumerate() {
@@ -78,7 +77,7 @@ pub fn is_lost(known: &NameEntry) -> bool
 /// An attribute that is a text.
 #[inline(always)]
 pub fn text_attr(alloc: Global, key: Key, text: &str) -> Result<Attr>
-    ensures { Gives (λ attribute. attribute ≡ attr key (Words text.now)) result }
+    ensures { IfOk result (λ attribute. attribute ≡ attr key (Words text.now)) }
 {
     let text = Text::from_str(alloc, text)?;
     let value = Value::Text(text);
@@ -89,7 +88,7 @@ pub fn text_attr(alloc: Global, key: Key, text: &str) -> Result<Attr>
 /// it.
 #[inline(always)]
 pub fn lead_of(alloc: Global, target: &Node) -> Result<Option<Attr>>
-    ensures { Gives (λ lead. lead ≡ lead_of target.now) result }
+    ensures { IfOk result (λ lead. lead ≡ lead_of target.now) }
 {
     if let Some(uri) = text_of_attribute(target, Key::Refuri) {
         return Ok(Some(text_attr(alloc, Key::Refuri, uri)?));
@@ -112,7 +111,7 @@ pub fn is_target(node: &Node) -> bool
 /// id of the element that brought the name. A target with a URI leads there though it has left the document.
 #[inline(always)]
 pub fn lead_by_name(alloc: Global, name_entry: &NameEntry, holder: Option<&Node>) -> Result<Attr>
-    ensures { Gives (λ lead. lead ≡ name_lead (name_holder holder.entry) name_entry.now.uri name_entry.now.id) result }
+    ensures { IfOk result (λ lead. lead ≡ name_lead (name_holder holder.entry) name_entry.now.uri name_entry.now.id) }
 {
     if let Some(target) = holder.filter(|holder| is_target(holder)) {
         if let Some(lead) = lead_of(alloc, target)? {

@@ -1,7 +1,6 @@
 //! Indirect targets.
-ghost use Rattle.std.specs.Prelude.{◌≡◌, is_some, map, MatchOption, None, Some};
+ghost use Rattle.std.specs.Prelude.{◌≡◌, is_some, map, MatchOption, None, Some, IfOk};
 ghost use Rattle.std.specs.List.{list_all};
-ghost use Rattle.rst_tree.specs.Faults.{Gives};
 ghost use Rattle.rst_transform_names.specs.Names.{entry_named};
 ghost use Rattle.rst_transform_references.specs.Holders.{place_at};
 ghost use Rattle.rst_transform_references.specs.Indirect.{anonymous_from, failure_of, indirect_outcomes, is_direct, led, missing_text, named_place, outcomes_of_indirect, targets_of, with_reports};
@@ -49,7 +48,7 @@ use std::alloc::Global;
 /// that no element has, gives an ERROR, and the references through it become problematics of that message: message by message,
 /// under each in the order of the document.
 pub fn indirect_outcomes(context: &mut Context, linked: &[Linked<'_>]) -> Result<Vec<Outcome>>
-    ensures { Gives (λ outcomes. Makes (indirect_outcomes (map linked_element linked.now)) context.old context.new outcomes.items) result }
+    ensures { IfOk result (λ outcomes. Makes (indirect_outcomes (map linked_element linked.now)) context.old context.new outcomes.items) }
 {
     if none_is_indirect(linked) {
         return Ok(Vec::new(context.alloc));
@@ -89,7 +88,7 @@ fn indirect_name<'a>(node: &'a Node) -> Option<&'a str>
 
 /// The first step from an element, if it is an indirect target.
 fn own_step(names: &Names, holders: &Holders<'_>, node: &Node) -> Result<Option<Step>>
-    ensures { Gives (λ step. step ≡ own_step (entry_named names.now) (place_at holders.now.places.items) (map linked_element holders.now.linked.now) node.now) result }
+    ensures { IfOk result (λ step. step ≡ own_step (entry_named names.now) (place_at holders.now.places.items) (map linked_element holders.now.linked.now) node.now) }
 {
     let Some(name) = indirect_name(node) else {
         return Ok(None);
@@ -116,7 +115,7 @@ fn own_step(names: &Names, holders: &Holders<'_>, node: &Node) -> Result<Option<
 
 /// The first step from each indirect target, by its place; there is nothing for the other elements.
 fn first_steps(names: &Names, holders: &Holders<'_>) -> Result<Vec<Option<Step>>>
-    ensures { Gives (λ steps. steps.items ≡ steps_of (entry_named names.now) (place_at holders.now.places.items) (map linked_element holders.now.linked.now)) result }
+    ensures { IfOk result (λ steps. steps.items ≡ steps_of (entry_named names.now) (place_at holders.now.places.items) (map linked_element holders.now.linked.now)) }
 {
     let mut steps = Vec::with_capacity(holders.alloc, holders.linked.len())?;
     for one in holders.linked {
@@ -128,7 +127,7 @@ fn first_steps(names: &Names, holders: &Holders<'_>) -> Result<Vec<Option<Step>>
 
 /// The words of the message on a target whose chain breaks at a name that no element has.
 fn missing_text(alloc: Global, name: &str, missing: &str) -> Result<Text>
-    ensures { Gives (λ text. text ≡ missing_text name.now missing.now) result }
+    ensures { IfOk result (λ text. text ≡ missing_text name.now missing.now) }
 {
     let text = format!(in alloc;
         "Indirect hyperlink target \"{name}\" refers to target \"{missing}\", which does not exist."
@@ -143,7 +142,7 @@ fn failure_at(
     answers: &[Option<Answer>],
     place: usize,
 ) -> Result<Option<Text>>
-    ensures { Gives (λ text. text ≡ failure_of node.now (at_place answers.now place)) result }
+    ensures { IfOk result (λ text. text ≡ failure_of node.now (at_place answers.now place)) }
 {
     let name = text_of_attribute(node, Key::OwnName).unwrap_or("");
     match item_at(answers, place) {
@@ -162,9 +161,9 @@ fn reports(
     linked: &[Linked<'_>],
     answers: &[Option<Answer>],
 ) -> Result<Vec<Option<usize>>>
-    ensures places { Gives (λ reports. reports.items ≡ (with_reports (at_place answers.now) context.old.first_number context.old.reports.items 0 (map linked_element linked.now)).0) result }
-    ensures reports { Gives (λ _. context.new.reports.items ≡ (with_reports (at_place answers.now) context.old.first_number context.old.reports.items 0 (map linked_element linked.now)).1) result }
-    ensures rest { Gives (λ _. KeepsRest context.old context.new) result }
+    ensures places { IfOk result (λ reports. reports.items ≡ (with_reports (at_place answers.now) context.old.first_number context.old.reports.items 0 (map linked_element linked.now)).0) }
+    ensures reports { IfOk result (λ _. context.new.reports.items ≡ (with_reports (at_place answers.now) context.old.first_number context.old.reports.items 0 (map linked_element linked.now)).1) }
+    ensures rest { IfOk result (λ _. KeepsRest context.old context.new) }
 {
     let mut reports = Vec::with_capacity(context.alloc, linked.len())?;
     for (place, one) in linked.iter().enumerate() {
@@ -180,7 +179,7 @@ fn reports(
 
 /// The places of the anonymous targets, in order.
 fn anonymous_places(alloc: Global, linked: &[Linked<'_>]) -> Result<Vec<usize>>
-    ensures { Gives (λ places. places.items ≡ anonymous_from 0 (map linked_element linked.now)) result }
+    ensures { IfOk result (λ places. places.items ≡ anonymous_from 0 (map linked_element linked.now)) }
 {
     let mut places = Vec::new(alloc);
     for (place, one) in linked.iter().enumerate() {
@@ -211,7 +210,7 @@ fn named_place(names: &Names, holders: &Holders<'_>, node: &Node) -> Option<usiz
 
 /// For each reference the place of the target that it means, by its name or by the order.
 fn targets_of(names: &Names, holders: &Holders<'_>) -> Result<Vec<Option<usize>>>
-    ensures { Gives (λ targets. targets.items ≡ targets_of (entry_named names.now) (place_at holders.now.places.items) (map linked_element holders.now.linked.now)) result }
+    ensures { IfOk result (λ targets. targets.items ≡ targets_of (entry_named names.now) (place_at holders.now.places.items) (map linked_element holders.now.linked.now)) }
 {
     let anonymous = anonymous_places(holders.alloc, holders.linked)?;
     let mut left = anonymous.as_slice();
@@ -229,7 +228,7 @@ fn targets_of(names: &Names, holders: &Holders<'_>) -> Result<Vec<Option<usize>>
 
 /// What happens to an element that leads where an answer points.
 fn led(alloc: Global, answer: &Answer) -> Result<Outcome>
-    ensures { Gives (λ outcome. outcome ≡ led answer.now) result }
+    ensures { IfOk result (λ outcome. outcome ≡ led answer.now) }
 {
     match answer {
         Answer::Leads(attr) => {
@@ -250,7 +249,7 @@ fn outcomes(
     reports: &[Option<usize>],
     targets: &[Option<usize>],
 ) -> Result<Vec<Outcome>>
-    ensures { Gives (λ outcomes. outcomes.items ≡ outcomes_of_indirect (at_place answers.now) (at_place reports.now) (at_place targets.now) (map linked_element linked.now)) result }
+    ensures { IfOk result (λ outcomes. outcomes.items ≡ outcomes_of_indirect (at_place answers.now) (at_place reports.now) (at_place targets.now) (map linked_element linked.now)) }
 {
     let mut outcomes = Vec::with_capacity(alloc, linked.len())?;
     for (place, one) in linked.iter().enumerate() {

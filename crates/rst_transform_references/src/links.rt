@@ -1,8 +1,7 @@
 //! The elements that references join, and what the transforms of references make of them.
-ghost use Rattle.std.specs.Prelude.{◌≡◌, drop, map, true};
+ghost use Rattle.std.specs.Prelude.{◌≡◌, drop, map, true, IfOk};
 ghost use Rattle.std.specs.List.{list_all};
 ghost use Rattle.rst_tree.specs.declared.node.Node.TheVariants.{Element};
-ghost use Rattle.rst_tree.specs.Faults.{Gives};
 ghost use Rattle.rst_tree.specs.Rewritten.{Turned};
 ghost use Rattle.rst_transform_references.specs.Linkings.{linked_element, linked_of, TakesLinked};
 ghost use Rattle.rst_transform_references.specs.Links.{change_next, change_of, changed_by, changed_document, is_idle};
@@ -100,7 +99,7 @@ impl<'a> Reader<'a> for LinkedReader<'a> {
 
 /// The linked elements in a document, in preorder.
 pub fn linked_in<'a>(alloc: Global, document: &'a Document) -> Result<Vec<Linked<'a>>>
-    ensures { Gives (λ list. map linked_element list.items ≡ linked_of document.now) result }
+    ensures { IfOk result (λ list. map linked_element list.items ≡ linked_of document.now) }
 {
     let mut linked = LinkedReader {
         list: Vec::new(alloc),
@@ -158,8 +157,8 @@ impl Changes {
         children: &mut Children,
         line: usize,
     ) -> Result<bool>
-        ensures state { Gives (λ _. self.new ≡ drop 1 self.old) result }
-        ensures outcome { Gives (λ stays. Turned (changed_by self.old tag.old attrs.old line) (Element tag.old attrs.old children.old line) (Element tag.new attrs.new children.new line) stays) result }
+        ensures state { IfOk result (λ _. self.new ≡ drop 1 self.old) }
+        ensures outcome { IfOk result (λ stays. Turned (changed_by self.old tag.old attrs.old line) (Element tag.old attrs.old children.old line) (Element tag.new attrs.new children.new line) stays) }
     {
         match self.left.pop_front() {
             None | Some(Outcome::Fails(_)) => Ok(true),
@@ -220,7 +219,7 @@ impl Rewriter for Changes {
 /// A document in which its linked elements changed.
 #[tactic(auto, using(crate::proofs::Idle::idle_document))]
 pub fn with_changes(alloc: Global, mut document: Document, mut changes: Changes) -> Result<Document>
-    ensures { Gives (λ after. after ≡ changed_document changes document) result }
+    ensures { IfOk result (λ after. after ≡ changed_document changes document) }
 {
     if changes.are_idle() {
         return Ok(document);

@@ -1,6 +1,5 @@
 //! What names mean to the references by name.
-ghost use Rattle.std.specs.Prelude.{◌≡◌, map, MatchOption, None, Some};
-ghost use Rattle.rst_tree.specs.Faults.{Gives};
+ghost use Rattle.std.specs.Prelude.{◌≡◌, map, MatchOption, None, Some, IfOk};
 ghost use Rattle.rst_transform_names.specs.Names.{entry_named};
 ghost use Rattle.rst_transform_references.specs.Holders.{name_holder, place_at};
 ghost use Rattle.rst_transform_references.specs.Linkings.{linked_element};
@@ -68,7 +67,7 @@ fn referent_place(element: Option<&Node>, place: Option<usize>) -> Option<usize>
 /// What its name means to a reference by name; there is nothing for another element.
 #[inline(always)]
 pub fn meaning_to(names: &Names, holders: &Holders<'_>, element: &Node) -> Result<Option<Meaning>>
-    ensures { Gives (λ meaning. meaning ≡ meaning_to (place_at holders.now.places.items) (map linked_element holders.now.linked.now) (entry_named names.now) element.now) result }
+    ensures { IfOk result (λ meaning. meaning ≡ meaning_to (place_at holders.now.places.items) (map linked_element holders.now.linked.now) (entry_named names.now) element.now) }
 {
     let Some(name) = reference_name(element) else {
         return Ok(None);

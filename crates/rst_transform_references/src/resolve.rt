@@ -1,6 +1,5 @@
 //! References by name.
-ghost use Rattle.std.specs.Prelude.{◌≡◌, ◌||◌, ◌++◌, [], codes, map};
-ghost use Rattle.rst_tree.specs.Faults.{Gives};
+ghost use Rattle.std.specs.Prelude.{◌≡◌, ◌||◌, ◌++◌, [], codes, map, IfOk};
 ghost use Rattle.rst_transform_work.specs.Known.{Makes};
 ghost use Rattle.rst_transform_references.specs.Holders.{place_at};
 ghost use Rattle.rst_transform_references.specs.Linkings.{linked_element};
@@ -48,7 +47,7 @@ use rst_tree::{Key, Level, Node, Result, Text};
 /// A name that means nothing gives an ERROR, and the reference becomes a problematic; the references inside it are gone, and
 /// give no message.
 pub fn reference_outcomes(context: &mut Context, linked: &[Linked<'_>]) -> Result<Vec<Outcome>>
-    ensures { Gives (λ outcomes. Makes (reference_outcomes (map linked_element linked.now)) context.old context.new outcomes.items) result }
+    ensures { IfOk result (λ outcomes. Makes (reference_outcomes (map linked_element linked.now)) context.old context.new outcomes.items) }
 {
     let holders = Holders::of(context.alloc, linked, context.serials)?;
     let outcomes = resolved(context, &holders)?;
@@ -58,7 +57,7 @@ pub fn reference_outcomes(context: &mut Context, linked: &[Linked<'_>]) -> Resul
 
 /// The new text of a reference in place of its content, if it gets the label of the footnote or citation at a place.
 fn label_for(holders: &Holders<'_>, reference: &Node, place: Option<usize>) -> Result<Option<Text>>
-    ensures { Gives (λ new_text. new_text ≡ label_for (map linked_element holders.now.linked.now) reference.now place) result }
+    ensures { IfOk result (λ new_text. new_text ≡ label_for (map linked_element holders.now.linked.now) reference.now place) }
 {
     if !refers_to_footnote_or_citation(reference) || !has(reference, Key::Auto) {
         return Ok(None);
@@ -75,7 +74,7 @@ fn label_for(holders: &Holders<'_>, reference: &Node, place: Option<usize>) -> R
 /// A reference that fails for an ERROR of its own, which has these words before its name.
 #[tactic(auto, using(crate::proofs::Resolves::fails_for))]
 fn failing_reference(context: &mut Context, reference: &Node, words: &str) -> Result<Outcome>
-    ensures { Gives (Makes (failing_reference reference.now (words.now ++ (refname_of_node reference.now ++ codes "\"."))) context.old context.new) result }
+    ensures { IfOk result (Makes (failing_reference reference.now (words.now ++ (refname_of_node reference.now ++ codes "\"."))) context.old context.new) }
 {
     let name = text_of_attribute(reference, Key::Refname).unwrap_or("");
     let text = Text::of_three(context.alloc, words, name, "\".")?;
@@ -94,7 +93,7 @@ fn outcome_of(
     reference: &Node,
     meaning: Meaning,
 ) -> Result<Outcome>
-    ensures { Gives (Makes (outcome_of (map linked_element holders.now.linked.now) reference.now meaning) context.old context.new) result }
+    ensures { IfOk result (Makes (outcome_of (map linked_element holders.now.linked.now) reference.now meaning) context.old context.new) }
 {
     match meaning {
         Meaning::Leads { attr, referent } => {
@@ -121,7 +120,7 @@ fn what_becomes(
     element: &Node,
     gone: bool,
 ) -> Result<Outcome>
-    ensures { Gives (Makes (what_becomes (place_at holders.now.places.items) (map linked_element holders.now.linked.now) gone element.now) context.old context.new) result }
+    ensures { IfOk result (Makes (what_becomes (place_at holders.now.places.items) (map linked_element holders.now.linked.now) gone element.now) context.old context.new) }
 {
     if gone {
         return Ok(Outcome::adds(None));
@@ -135,7 +134,7 @@ fn what_becomes(
 
 /// What happens to all linked elements, where the messages of those that fail are made.
 fn resolved(context: &mut Context, holders: &Holders<'_>) -> Result<Vec<Outcome>>
-    ensures { let all = map linked_element holders.now.linked.now in Gives (λ outcomes. Makes (resolved_from (place_at holders.now.places.items) all [] all) context.old context.new outcomes.items) result }
+    ensures { let all = map linked_element holders.now.linked.now in IfOk result (λ outcomes. Makes (resolved_from (place_at holders.now.places.items) all [] all) context.old context.new outcomes.items) }
 {
     let mut outcomes = Vec::with_capacity(context.alloc, holders.linked.len())?;
     let mut ended: Vec<bool> = Vec::with_capacity(context.alloc, holders.linked.len())?;

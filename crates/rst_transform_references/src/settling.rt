@@ -1,7 +1,6 @@
 //! What failing elements come to: which of them become problematics, in which order, and which elements remain in the end.
-ghost use Rattle.std.specs.Prelude.{◌≡◌, [], map, is_none};
+ghost use Rattle.std.specs.Prelude.{◌≡◌, [], map, is_none, IfOk};
 ghost use Rattle.std.specs.List.{list_all};
-ghost use Rattle.rst_tree.specs.Faults.{Gives};
 ghost use Rattle.rst_transform_references.specs.Linkings.{linked_element};
 ghost use Rattle.rst_transform_references.specs.Outcomes.{stays};
 ghost use Rattle.rst_transform_references.specs.Settling.{by_message, first_in, firsts, remaining, settled, take_turns, turns_of};
@@ -21,7 +20,7 @@ pub fn settle(
     linked: &[Linked<'_>],
     mut outcomes: Vec<Outcome>,
 ) -> Result<Changes>
-    ensures { Gives (Makes (settled (map linked_element linked.now) outcomes.items) context.old context.new) result }
+    ensures { IfOk result (Makes (settled (map linked_element linked.now) outcomes.items) context.old context.new) }
 {
     if all_stay(outcomes.as_slice()) {
         return Ok(Changes::of(outcomes));
@@ -52,7 +51,7 @@ fn first_around(
     linked: &[Linked<'_>],
     outcomes: &[Outcome],
 ) -> Result<Vec<Option<usize>>>
-    ensures { Gives (λ around. around.items ≡ firsts [] outcomes.now (map linked_element linked.now)) result }
+    ensures { IfOk result (λ around. around.items ≡ firsts [] outcomes.now (map linked_element linked.now)) }
 {
     let mut around: Vec<Option<usize>> = Vec::with_capacity(alloc, linked.len())?;
     for one in linked {
@@ -83,7 +82,7 @@ fn turns(
     outcomes: &[Outcome],
     around: &[Option<usize>],
 ) -> Result<Vec<(usize, usize)>>
-    ensures { Gives (λ turns. turns.items ≡ by_message reports (turns_of reports around.now outcomes.now)) result }
+    ensures { IfOk result (λ turns. turns.items ≡ by_message reports (turns_of reports around.now outcomes.now)) }
 {
     let mut turns = Vec::with_capacity(alloc, outcomes.len())?;
     for (place, outcome) in outcomes.iter().enumerate() {
@@ -105,7 +104,7 @@ fn take_turns(
     turns: &[(usize, usize)],
     outcomes: &mut Vec<Outcome>,
 ) -> Result<()>
-    ensures { Gives (λ _. Makes (take_turns turns.now outcomes.old.items) context.old context.new outcomes.new.items) result }
+    ensures { IfOk result (λ _. Makes (take_turns turns.now outcomes.old.items) context.old context.new outcomes.new.items) }
 {
     for turn in turns {
         let problematic = context.next_problematic(turn.0)?;
@@ -116,7 +115,7 @@ fn take_turns(
 
 /// What happens to the elements that remain in the end.
 fn remaining(alloc: Global, outcomes: Vec<Outcome>, around: &[Option<usize>]) -> Result<Changes>
-    ensures { Gives (λ changes. changes ≡ remaining around.now outcomes.items) result }
+    ensures { IfOk result (λ changes. changes ≡ remaining around.now outcomes.items) }
 {
     let mut left = Vec::with_capacity(alloc, outcomes.len())?;
     for (place, outcome) in outcomes.into_iter().enumerate() {

@@ -1,5 +1,5 @@
 -- Lone sections, and the names that move with their titles.
-use Rattle.std.proofs.Common.{◌≡◌, ◌∙◌, ℕ, ◌+◌, ◌-◌, ◌<◌, List, [], ◌∷◌, ◌++◌, length, get_or, take, slice_get, true, false, Some, None, refl, ap, ap₂, sym, subst, arith}
+use Rattle.std.proofs.Common.{◌≡◌, ◌∙◌, ℕ, ◌+◌, ◌-◌, ◌<◌, List, [], ◌∷◌, ◌++◌, length, get_or, take, slice_get, true, false, Some, None, refl, ap, ap₂, sym, subst, arith, IfOk}
 use Rattle.std.proofs.lemmas.Bool.{cond_both}
 use Rattle.std.specs.Prelude.{Result, Ok, Err}
 use Rattle.std.specs.List.{list_all}
@@ -10,11 +10,9 @@ use Rattle.rst_transform_names.specs.Names.{entry_named, with_holder, Knows}
 use Rattle.rst_transform_names.specs.declared.names.Names.{Names}
 use Rattle.rst_transform_names.specs.declared.names.Holder.TheVariants.{Unregistered}
 use Rattle.rst_tree.proofs.Changes.{nodes_of-forest_of}
-use Rattle.rst_tree.specs.declared.fault.TreeFault.{TreeFault}
-use Rattle.rst_tree.specs.declared.fault.TreeFault.TheVariants.{NoMemory}
+use Rattle.std.specs.declared.alloc.AllocError.{AllocError}
 use Rattle.rst_tree.specs.declared.key.Key.TheVariants.{Names as OfNames}
 use Rattle.rst_tree.specs.declared.node.Node.{Node}
-use Rattle.rst_tree.specs.Faults.{Gives}
 use Rattle.rst_tree.specs.Forest.{Forest}
 use Rattle.rst_tree.specs.Nodes.{forest_of, nodes_of}
 use Rattle.rst_transform_structure.specs.declared.title.Section.{Section}
@@ -57,9 +55,9 @@ title_moves nodes s a b c is h k =
     (subst (λ names. Passes names a c) (sym (map-append (λ name. (name, None)) (listed_texts OfNames s.attrs) (subtitle_names (lone_section s.body)))) both)
 
 -- what holds anyway holds if the call gives a value
-pub anyway : {A : Type 0} (P : Type 0) (r : Result A TreeFault) → P → Gives (λ _. P) r
+pub anyway : {A : Type 0} (P : Type 0) (r : Result A AllocError) → P → IfOk r (λ _. P)
 anyway P (Ok done) p = p
-anyway P (Err NoMemory) p = tt
+anyway P (Err refused) p = tt
 
 -- one more name moves
 pub Moves-more : (xs : List (List ℕ)) (i : ℕ) (x y : List ℕ) (a b c : Names) → i < length xs → x ≡ get_or xs i x → y ≡ x → Passes (paired_with_number None (take i xs)) a b

@@ -1,7 +1,6 @@
 //! The last section of a document, with the messages of the transforms.
-ghost use Rattle.std.specs.Prelude.{◌≡◌, ◌∷◌, ◌++◌, [], map};
+ghost use Rattle.std.specs.Prelude.{◌≡◌, ◌∷◌, ◌++◌, [], map, IfOk};
 ghost use Rattle.std.specs.List.{list_any};
-ghost use Rattle.rst_tree.specs.Faults.{Gives};
 ghost use Rattle.rst_tree.specs.Nodes.{forest_of, nodes_of};
 ghost use Rattle.rst_transform_work.specs.Known.{Makes};
 ghost use Rattle.rst_transform_structure.specs.LastSection.{ids_moved, is_reported, own_nodes, messages_section, with_last_section};
@@ -23,7 +22,7 @@ pub fn last_section(
     context: &mut Context,
     report: Threshold,
 ) -> Result<Document>
-    ensures { Gives (Makes (with_last_section report document) context.old context.new) result }
+    ensures { IfOk result (Makes (with_last_section report document) context.old context.new) }
 {
     if !is_any_reported(context.reports.as_slice(), report) {
         return Ok(document);
@@ -42,8 +41,8 @@ fn is_any_reported(reports: &[Report], threshold: Threshold) -> bool
 
 /// The section with its title and the messages in it.
 fn section(alloc: Global, reports: &mut Vec<Report>) -> Result<Node>
-    ensures section { Gives (λ section. section ≡ messages_section reports.old.items) result }
-    ensures reports { Gives (λ _. reports.new.items ≡ map ids_moved reports.old.items) result }
+    ensures section { IfOk result (λ section. section ≡ messages_section reports.old.items) }
+    ensures reports { IfOk result (λ _. reports.new.items ≡ map ids_moved reports.old.items) }
 {
     let classes = Texts::lone(alloc, Text::from_str(alloc, "system-messages")?);
     let attrs = Attrs::lone(alloc, Key::Classes, Value::List(classes))?;
@@ -68,8 +67,8 @@ fn section(alloc: Global, reports: &mut Vec<Report>) -> Result<Node>
 
 /// Adds a message, if it is in the section, and hands over its ids.
 fn add_own(alloc: Global, report: &mut Report, nodes: &mut Children) -> Result<()>
-    ensures nodes { Gives (λ _. nodes.new ≡ forest_of (nodes_of nodes.old ++ own_nodes (report.old ∷ []))) result }
-    ensures report { Gives (λ _. report.new ≡ ids_moved report.old) result }
+    ensures nodes { IfOk result (λ _. nodes.new ≡ forest_of (nodes_of nodes.old ++ own_nodes (report.old ∷ []))) }
+    ensures report { IfOk result (λ _. report.new ≡ ids_moved report.old) }
 {
     if !report.own {
         return Ok(());

@@ -1,6 +1,5 @@
 //! Internal targets.
-ghost use Rattle.std.specs.Prelude.{◌≡◌, ◌++◌, [], drop, reverse};
-ghost use Rattle.rst_tree.specs.Faults.{Gives};
+ghost use Rattle.std.specs.Prelude.{◌≡◌, ◌++◌, [], drop, reverse, IfOk};
 ghost use Rattle.rst_tree.specs.Walk.{item};
 ghost use Rattle.rst_transform_work.specs.States.{elements_of};
 ghost use Rattle.rst_transform_work.specs.Known.{Makes};
@@ -33,7 +32,7 @@ use std::mem;
 ///
 /// A target that no element follows, or one that takes no ids, stays as it is.
 pub fn targets(document: Document, context: &mut Context) -> Result<Document>
-    ensures { Gives (Makes (with_targets document) context.old context.new) result }
+    ensures { IfOk result (Makes (with_targets document) context.old context.new) }
 {
     let takers = takers(context.alloc, &document)?;
     let mut walking = Walking::of(context.alloc, takers);
@@ -54,7 +53,7 @@ fn takes_ids(tag: Tag) -> bool
 
 /// For the document and each element in it, in order, whether it takes the ids and names of a target before it.
 fn takers(alloc: Global, document: &Document) -> Result<Vec<bool>>
-    ensures { Gives (λ list. list.items ≡ takers (elements_of document.now)) result }
+    ensures { IfOk result (λ list. list.items ≡ takers (elements_of document.now)) }
 {
     let mut takers = TakerReader {
         list: Vec::new(alloc),
@@ -144,8 +143,8 @@ impl Walking {
     /// Takes the ids and names from a target, which refers to its first id from now on.
     #[tactic(auto, using(crate::proofs::Retargeting::reversed_after, crate::proofs::Retargeting::listed_still))]
     fn hand_on(&mut self, attrs: &mut Attrs) -> Result<()>
-        ensures attrs { Gives (λ _. attrs.new ≡ referring attrs.old) result }
-        ensures handed { Gives (λ _. self.new ≡ record self.old { handed = handed_by attrs.old self.old.handed }) result }
+        ensures attrs { IfOk result (λ _. attrs.new ≡ referring attrs.old) }
+        ensures handed { IfOk result (λ _. self.new ≡ record self.old { handed = handed_by attrs.old self.old.handed }) }
     {
         let ids = take_list(self.alloc, attrs, Key::Ids);
         let names = take_list(self.alloc, attrs, Key::Names);
@@ -158,8 +157,8 @@ impl Walking {
 
     /// Gives the ids and names that were handed on to an element.
     fn hand_over(&mut self, attrs: &mut Attrs) -> Result<()>
-        ensures attrs { Gives (λ _. attrs.new ≡ with_ids_and_names self.old.handed attrs.old) result }
-        ensures handed { Gives (λ _. self.new ≡ reached self.old.takers (handed [] []) (self.old.got ++ got_by attrs.old self.old.handed.names)) result }
+        ensures attrs { IfOk result (λ _. attrs.new ≡ with_ids_and_names self.old.handed attrs.old) }
+        ensures handed { IfOk result (λ _. self.new ≡ reached self.old.takers (handed [] []) (self.old.got ++ got_by attrs.old self.old.handed.names)) }
     {
         if self.ids.is_empty() && self.names.is_empty() {
             return Ok(());
@@ -192,7 +191,7 @@ impl Visitor for Walking {
 
 /// Writes a reference to the first of some ids, if there is one, into attributes.
 fn refer(attrs: &mut Attrs, ids: &[Text]) -> Result<()>
-    ensures { Gives (λ _. attrs.new ≡ with_first_refid ids.now attrs.old) result }
+    ensures { IfOk result (λ _. attrs.new ≡ with_first_refid ids.now attrs.old) }
 {
     match ids.first() {
         Some(id) => attrs.set(Key::Refid, Value::Text(id.copy()?)),
@@ -202,7 +201,7 @@ fn refer(attrs: &mut Attrs, ids: &[Text]) -> Result<()>
 
 /// Puts texts after others, the last first.
 fn add_backwards(texts: &mut Vec<Text>, more: &[Text]) -> Result<()>
-    ensures { Gives (λ _. texts.new.items ≡ texts.old.items ++ reverse more.now) result }
+    ensures { IfOk result (λ _. texts.new.items ≡ texts.old.items ++ reverse more.now) }
 {
     let mut left = more.len();
     while left > 0 {
@@ -214,7 +213,7 @@ fn add_backwards(texts: &mut Vec<Text>, more: &[Text]) -> Result<()>
 
 /// Adds names that an element with a number, or without, got.
 fn add_got(got: &mut Vec<(Text, Option<u64>)>, names: Vec<Text>, number: Option<u64>) -> Result<()>
-    ensures { Gives (λ _. got.new.items ≡ got.old.items ++ paired_with_number number names.items) result }
+    ensures { IfOk result (λ _. got.new.items ≡ got.old.items ++ paired_with_number number names.items) }
 {
     for name in names {
         got.push((name, number))?;

@@ -1,8 +1,7 @@
 //! The title and the subtitle of a document.
-ghost use Rattle.std.specs.Prelude.{◌≡◌, None};
+ghost use Rattle.std.specs.Prelude.{◌≡◌, None, IfOk};
 ghost use Rattle.std.specs.List.{list_all};
 ghost use Rattle.rst_tree.specs.declared.key.Key.TheVariants.{Names as OfNames};
-ghost use Rattle.rst_tree.specs.Faults.{Gives};
 ghost use Rattle.rst_tree.specs.Nodes.{join_node};
 ghost use Rattle.rst_transform_work.specs.Known.{Makes};
 ghost use Rattle.rst_transform_work.specs.Lists.{with_names, listed_texts};
@@ -36,7 +35,7 @@ use std::alloc::Global;
 ///
 /// Comments, targets, substitution definitions and messages may come before the section.
 pub fn title(mut document: Document, context: &mut Context) -> Result<Document>
-    ensures { Gives (Makes (with_title document) context.old context.new) result }
+    ensures { IfOk result (Makes (with_title document) context.old context.new) }
 {
     let alloc = context.alloc;
     let nodes = document.children;
@@ -46,9 +45,9 @@ pub fn title(mut document: Document, context: &mut Context) -> Result<Document>
 
 /// The nodes of a document with these attributes, once it has a title and a subtitle, if it gets them.
 fn titled(alloc: Global, attrs: &mut Attrs, nodes: Children, names: &mut Names) -> Result<Children>
-    ensures attrs { Gives (λ _. attrs.new ≡ title_attrs (lone_section nodes) attrs.old) result }
-    ensures nodes { Gives (λ all. all ≡ titled_by (lone_section nodes) nodes) result }
-    ensures names { Gives (λ _. Passes (paired_with_number None (title_names (lone_section nodes))) names.old names.new) result }
+    ensures attrs { IfOk result (λ _. attrs.new ≡ title_attrs (lone_section nodes) attrs.old) }
+    ensures nodes { IfOk result (λ all. all ≡ titled_by (lone_section nodes) nodes) }
+    ensures names { IfOk result (λ _. Passes (paired_with_number None (title_names (lone_section nodes))) names.old names.new) }
 {
     match lone_section(nodes)? {
         Ok(section) => {
@@ -63,8 +62,8 @@ fn titled(alloc: Global, attrs: &mut Attrs, nodes: Children, names: &mut Names) 
 
 /// The nodes after a document's title, once the subtitle is the first of them, if it gets one.
 fn subtitled(alloc: Global, nodes: Children, names: &mut Names) -> Result<Children>
-    ensures nodes { Gives (λ all. all ≡ subtitled_by (lone_section nodes) nodes) result }
-    ensures names { Gives (λ _. Passes (paired_with_number None (subtitle_names (lone_section nodes))) names.old names.new) result }
+    ensures nodes { IfOk result (λ all. all ≡ subtitled_by (lone_section nodes) nodes) }
+    ensures names { IfOk result (λ _. Passes (paired_with_number None (subtitle_names (lone_section nodes))) names.old names.new) }
 {
     match lone_section(nodes)? {
         Ok(section) => {
@@ -78,7 +77,7 @@ fn subtitled(alloc: Global, nodes: Children, names: &mut Names) -> Result<Childr
 
 /// The nodes after one more.
 fn with_first(first: Node, nodes: Children) -> Result<Children>
-    ensures { Gives (λ all. all ≡ join_node first nodes) result }
+    ensures { IfOk result (λ all. all ≡ join_node first nodes) }
 {
     let mut nodes = nodes.into_list();
     nodes.insert(0, first)?;
@@ -136,7 +135,7 @@ fn all_may_precede(nodes: &[Node]) -> bool
 
 /// The lone section of some nodes, or the nodes back where they have none: the last node, if all before may precede it.
 fn lone_section(nodes: Children) -> Result<std::result::Result<Section, Children>>
-    ensures { Gives (IsMadeOf nodes (lone_section nodes)) result }
+    ensures { IfOk result (IsMadeOf nodes (lone_section nodes)) }
 {
     let mut before = nodes.into_list();
     let Some(last) = before.pop() else {
@@ -165,8 +164,8 @@ fn lone_section(nodes: Children) -> Result<std::result::Result<Section, Children
 
 /// Adds a section's ids, names and lost names to those of the element that takes its title.
 fn take_names(alloc: Global, attrs: &mut Attrs, section: &Attrs, names: &mut Names) -> Result<()>
-    ensures attrs { Gives (λ _. attrs.new ≡ with_names section.now attrs.old) result }
-    ensures names { Gives (λ _. Passes (paired_with_number None (listed_texts OfNames section.now)) names.old names.new) result }
+    ensures attrs { IfOk result (λ _. attrs.new ≡ with_names section.now attrs.old) }
+    ensures names { IfOk result (λ _. Passes (paired_with_number None (listed_texts OfNames section.now)) names.old names.new) }
 {
     append_names(alloc, attrs, section)?;
     if let Some(ValueRef::List(own_names)) = section.get(Key::Names) {

@@ -1,7 +1,6 @@
 //! The places of transitions.
-ghost use Rattle.std.specs.Prelude.{◌≡◌, ◌≤◌, ◌++◌, length, Some};
+ghost use Rattle.std.specs.Prelude.{◌≡◌, ◌≤◌, ◌++◌, length, Some, IfOk};
 ghost use Rattle.std.specs.List.{list_all};
-ghost use Rattle.rst_tree.specs.Faults.{Gives};
 ghost use Rattle.rst_transform_work.specs.Reports.{KeepsRest};
 ghost use Rattle.rst_transform_work.specs.Known.{Makes};
 ghost use Rattle.rst_tree_index.specs.Kinds.{is_transition};
@@ -34,7 +33,7 @@ use rst_tree::{Attrs, Children, Level, Node, Result, Tag, Text};
 /// One that the document ends with stays, and a message follows it. No element but the document and its sections contains a
 /// transition, so nothing else is gone through.
 pub fn transitions(mut document: Document, context: &mut Context) -> Result<Document>
-    ensures { Gives (Makes (with_transitions document) context.old context.new) result }
+    ensures { IfOk result (Makes (with_transitions document) context.old context.new) }
 {
     let nodes = place_in(document.children, true, context)?;
     document.children = Children::of(nodes);
@@ -70,8 +69,8 @@ impl TransitionFault {
 /// Gives the transitions among the nodes of the document or a section, and in its sections, their places. If the document `ends` with
 /// the nodes, a transition that they end with gets a message after it.
 fn place_in(nodes: Children, ends: bool, context: &mut Context) -> Result<Vec<Node>>
-    ensures placed { Gives (λ placed. (placed.items, context.new.reports.items) ≡ placed_in context.old.first_number ends (Some AtBeginning) nodes context.old.reports.items) result }
-    ensures rest { Gives (λ _. KeepsRest context.old context.new) result }
+    ensures placed { IfOk result (λ placed. (placed.items, context.new.reports.items) ≡ placed_in context.old.first_number ends (Some AtBeginning) nodes context.old.reports.items) }
+    ensures rest { IfOk result (λ _. KeepsRest context.old context.new) }
 {
     let mut left = nodes.len();
     let list = nodes.into_list();
@@ -128,7 +127,7 @@ fn put_section(
     line: usize,
     mut inner: Vec<Node>,
 ) -> Result<()>
-    ensures { Gives (λ _. nodes.new.items ≡ nodes.old.items ++ placed_section tag attrs line inner.items) result }
+    ensures { IfOk result (λ _. nodes.new.items ≡ nodes.old.items ++ placed_section tag attrs line inner.items) }
 {
     let staying = staying(inner.as_slice());
     let mut moving = inner.split_off(staying)?;
@@ -164,8 +163,8 @@ fn put_transition(
     last: bool,
     context: &mut Context,
 ) -> Result<()>
-    ensures nodes { Gives (λ _. let placed = placed_transition context.old.first_number fault last transition line context.old.reports.items in (nodes.new.items ≡ nodes.old.items ++ placed.0) × (context.new.reports.items ≡ placed.1)) result }
-    ensures rest { Gives (λ _. KeepsRest context.old context.new) result }
+    ensures nodes { IfOk result (λ _. let placed = placed_transition context.old.first_number fault last transition line context.old.reports.items in (nodes.new.items ≡ nodes.old.items ++ placed.0) × (context.new.reports.items ≡ placed.1)) }
+    ensures rest { IfOk result (λ _. KeepsRest context.old context.new) }
 {
     put_message(nodes, line, fault, context)?;
     nodes.push(transition)?;
@@ -181,8 +180,8 @@ fn put_message(
     fault: Option<TransitionFault>,
     context: &mut Context,
 ) -> Result<()>
-    ensures nodes { Gives (λ _. let made = transition_message context.old.first_number line fault context.old.reports.items in (nodes.new.items ≡ nodes.old.items ++ made.0) × (context.new.reports.items ≡ made.1)) result }
-    ensures rest { Gives (λ _. KeepsRest context.old context.new) result }
+    ensures nodes { IfOk result (λ _. let made = transition_message context.old.first_number line fault context.old.reports.items in (nodes.new.items ≡ nodes.old.items ++ made.0) × (context.new.reports.items ≡ made.1)) }
+    ensures rest { IfOk result (λ _. KeepsRest context.old context.new) }
 {
     let Some(fault) = fault else {
         return Ok(());

@@ -1,5 +1,5 @@
 -- A reference comes to the same in each definition that the one that it finds doesn't lead to.
-use Rattle.std.proofs.Common.{◌≡◌, ℕ, zero, suc, take, ◌+◌, ◌-◌, ◌<◌, ◌++◌, get_or, below_more, map, subst, ◌==◌, ◌≤◌, ◌&&◌, List, [], ◌∷◌, Bool, true, false, length, eqb-true, true≢false, refl, sym, ◌∙◌, ap, arith}
+use Rattle.std.proofs.Common.{◌≡◌, ℕ, zero, suc, take, ◌+◌, ◌-◌, ◌<◌, ◌++◌, get_or, below_more, map, subst, ◌==◌, ◌≤◌, ◌&&◌, List, [], ◌∷◌, Bool, true, false, length, eqb-true, true≢false, refl, sym, ◌∙◌, ap, arith, IfOk}
 use Rattle.std.specs.Prelude.{if◌then◌else◌, option_map, slice_get, unwrap_or, Option, Some, None, Result, Ok, Err}
 use Rattle.std.specs.Borrow.{Bor}
 use Rattle.std.specs.List.{flat_map, list_all, list_any}
@@ -10,9 +10,7 @@ use Rattle.std.proofs.lemmas.Grind.{flat_map-append}
 use Rattle.std.proofs.lemmas.List.{append-nil, flat_map_more, take_more}
 use Rattle.std.proofs.lemmas.List.Folds.{flat_map-map, list_all-append}
 use Rattle.std.proofs.lemmas.Option.{slice_get-get_or, slice_get-map}
-use Rattle.rst_tree.specs.declared.fault.TreeFault.{TreeFault}
-use Rattle.rst_tree.specs.declared.fault.TreeFault.TheVariants.{NoMemory}
-use Rattle.rst_tree.specs.Faults.{Gives}
+use Rattle.std.specs.declared.alloc.AllocError.{AllocError}
 use Rattle.rst_tree.specs.declared.attrs.Attr.{Attr}
 use Rattle.rst_tree.specs.declared.node.Node.TheVariants.{Element, Text}
 use Rattle.rst_tree.specs.declared.tag.Tag.{Tag}
@@ -130,10 +128,10 @@ same_case known numbers place outer other name false is ordered finds led apart 
 
 -- so it does where another place is taken for that of the definition
 pub gives_standing : (known : Definitions) (numbers : List ℕ) (place outer other : ℕ) (name : List ℕ) → AreOrdered known numbers → known_found known name ≡ Some place → (may_lead_to numbers place outer ≡ true → other ≡ outer)
-    → (may_lead_to numbers place outer ≡ false → may_lead_to numbers place other ≡ false) → (result : Result Outcome TreeFault) → Gives (λ outcome. came outcome ≡ nodes_for (found_by known) (Some other) name) result
-    → Gives (λ outcome. came outcome ≡ nodes_for (found_by known) (Some outer) name) result
+    → (may_lead_to numbers place outer ≡ false → may_lead_to numbers place other ≡ false) → (result : Result Outcome AllocError) → IfOk result (λ outcome. came outcome ≡ nodes_for (found_by known) (Some other) name)
+    → IfOk result (λ outcome. came outcome ≡ nodes_for (found_by known) (Some outer) name)
 gives_standing known numbers place outer other name ordered finds led apart (Ok outcome) gives = gives ∙ same_case known numbers place outer other name (may_lead_to numbers place outer) refl ordered finds led apart
-gives_standing known numbers place outer other name ordered finds led apart (Err NoMemory) gives = tt
+gives_standing known numbers place outer other name ordered finds led apart (Err refused) gives = tt
 
 -- what one more item of a list gives
 pub next_given : {X A : Type 0} (f : X → List A) (xs : List X) (i : ℕ) (d : X) (old new : List A) → i < length xs → new ≡ old ++ f (get_or xs i d) → old ≡ flat_map f (take i xs) → new ≡ flat_map f (take (i + 1) xs)

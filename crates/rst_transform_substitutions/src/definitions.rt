@@ -1,9 +1,8 @@
 //! The substitution definitions of a document, by their names.
-ghost use Rattle.std.specs.Prelude.{◌≡◌, if◌then◌else◌, List, ℕ, Option, Some};
+ghost use Rattle.std.specs.Prelude.{◌≡◌, if◌then◌else◌, List, ℕ, Option, Some, IfOk};
 ghost use Rattle.rst_text.specs.Names.{name_in};
 ghost use Rattle.std.specs.BTreeMap.{get_by_text};
 ghost use Rattle.std.proofs.Props.{props};
-ghost use Rattle.rst_tree.specs.Faults.{Gives};
 
 use crate::listing::Listed;
 use crate::sizes::Size;
@@ -38,7 +37,7 @@ impl Definitions {
 
     /// The definitions among the nodes of a document, and in them.
     pub fn of(alloc: Global, nodes: &Children) -> Result<Definitions>
-        ensures { Gives (AreKnown (definitions_among nodes.now)) result }
+        ensures { IfOk result (AreKnown (definitions_among nodes.now)) }
     {
         let listed = Listed::of(alloc, nodes)?;
         let mut definitions = Definitions {
@@ -59,7 +58,7 @@ impl Definitions {
 
     /// Adds a definition after the last, and forgets what names find.
     fn add(&mut self, alloc: Global, name: &str, content: &Children) -> Result<()>
-        ensures { Gives (λ _. (all : List Definition) → AreKnown all self.old → AreKnown (all ++ (name.now, content.now) ∷ []) self.new) result }
+        ensures { IfOk result (λ _. (all : List Definition) → AreKnown all self.old → AreKnown (all ++ (name.now, content.now) ∷ []) self.new) }
     {
         self.remembered.clear();
         let place = self.contents.len();
@@ -74,7 +73,7 @@ impl Definitions {
 
     /// Remembers what a name finds, if there is no definition of it as it is written.
     fn remember(&mut self, alloc: Global, name: &str) -> Result<()>
-        ensures { Gives (λ _. (all : List Definition) → AreKnown all self.old → AreKnown all self.new) result }
+        ensures { IfOk result (λ _. (all : List Definition) → AreKnown all self.old → AreKnown all self.new) }
     {
         if self.exact.get(name).is_some() {
             return Ok(());
@@ -100,7 +99,7 @@ impl Definitions {
 
     /// The place of the definition that a name finds: the name as it is written comes first, and then the name by `name_of`.
     pub fn find(&self, alloc: Global, name: &str) -> Result<Option<usize>>
-        ensures { Gives (λ place. place ≡ known_found self.now name.now) result }
+        ensures { IfOk result (λ place. place ≡ known_found self.now name.now) }
     {
         if let Some(place) = self.exact.get(name) {
             return Ok(Some(*place));

@@ -1,7 +1,6 @@
 //! Substitution references give way to the contents of their definitions.
-ghost use Rattle.std.specs.Prelude.{◌≡◌, OnOk};
+ghost use Rattle.std.specs.Prelude.{◌≡◌, OnOk, IfOk};
 ghost use Rattle.std.specs.List.{flat_map, list_any};
-ghost use Rattle.rst_tree.specs.Faults.{Gives};
 ghost use Rattle.rst_tree.specs.Nodes.{nodes_of};
 ghost use Rattle.rst_tree_index.specs.Kinds.{is_substitution_reference_node};
 ghost use Rattle.rst_transform_work.specs.Known.{Makes};
@@ -41,9 +40,9 @@ use std::mem;
 ///     b
 /// ```
 ///
-/// The only refusal is [`TreeFault::NoMemory`].
+/// The only refusal is [`AllocError`].
 pub fn expand(mut document: Document, context: &mut Context) -> Result<Document>
-    ensures { Gives (Makes (with_expansions document) context.old context.new) result }
+    ensures { IfOk result (Makes (with_expansions document) context.old context.new) }
 {
     let mut definitions = Definitions::of(context.alloc, &document.children)?;
     let numbering = numbering_of(context.alloc, &definitions)?;
@@ -65,7 +64,7 @@ fn expand_in(
     context: &mut Context,
 ) -> Result<()>
     requires { Remembers definitions.now outcomes.old }
-    ensures expanded { Gives (λ _. Makes (expanded_in (found_by definitions.now) (known_place definitions.now) within nodes.old) context.old context.new (nodes_of nodes.new)) result }
+    ensures expanded { IfOk result (λ _. Makes (expanded_in (found_by definitions.now) (known_place definitions.now) within nodes.old) context.old context.new (nodes_of nodes.new)) }
     ensures remembers { OnOk result (Remembers definitions.now outcomes.new) }
 {
     for i in 0..nodes.len() {
@@ -107,7 +106,7 @@ fn has_reference(nodes: &[Node]) -> bool
 /// Puts the nodes in each reference into its place, in a list made anew.
 #[inline(never)]
 fn open_references(alloc: Global, nodes: &mut Children) -> Result<()>
-    ensures { Gives (λ _. nodes_of nodes.new ≡ flat_map unwrapped_reference (nodes_of nodes.old)) result }
+    ensures { IfOk result (λ _. nodes_of nodes.new ≡ flat_map unwrapped_reference (nodes_of nodes.old)) }
 {
     let list = mem::replace(nodes, Children::new(alloc)).into_list();
     let mut done = Vec::with_capacity(alloc, list.len())?;
@@ -135,7 +134,7 @@ fn replaced(
     context: &mut Context,
 ) -> Result<Children>
     requires { Remembers definitions.now outcomes.old }
-    ensures replaced { Gives (λ nodes. Makes (replaced (found_by definitions.now) within attrs.old line) context.old context.new (nodes_of nodes)) result }
+    ensures replaced { IfOk result (λ nodes. Makes (replaced (found_by definitions.now) within attrs.old line) context.old context.new (nodes_of nodes)) }
     ensures remembers { OnOk result (Remembers definitions.now outcomes.new) }
 {
     let name = text_or_empty(attrs, Key::Refname);

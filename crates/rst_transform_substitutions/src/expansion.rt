@@ -1,6 +1,5 @@
 //! What replaces one substitution reference.
 ghost use Rattle.std.specs.Prelude.{◌≡◌, ◌+◌, ◌≤◌, nat_le, true, take, vec_len, ◌-◌, IfOk, OnOk, Some};
-ghost use Rattle.rst_tree.specs.Faults.{Gives};
 ghost use Rattle.rst_tree_index.specs.Kinds.{is_substitution_reference, is_substitution_reference_node};
 ghost use Rattle.rst_transform_substitutions.specs.declared.expansion.ExpansionFault.TheVariants.{Undefined};
 ghost use Rattle.rst_transform_substitutions.specs.declared.expansion.Halted.TheVariants.{By as HaltedBy, NoMemory as HaltedByMemory};
@@ -11,8 +10,8 @@ ghost use Rattle.rst_transform_substitutions.specs.Sizes.{content_last, AreSized
 use crate::definitions::Definitions;
 use crate::sizes::{are_above, size_at};
 use rst_transform_work::{element, text_or_empty};
-use rst_tree::{Attrs, Children, Key, Node, Result, Tag, Text, TreeFault};
-use std::alloc::{AllocFailed, Global};
+use rst_tree::{Attrs, Children, Key, Node, Result, Tag, Text};
+use std::alloc::{AllocError, Global};
 
 /// The most definitions that are gone into for one reference, each found in the one before.
 const MOST_NESTED: usize = 100;
@@ -40,7 +39,7 @@ pub enum ExpansionFault {
 impl ExpansionFault {
     /// An equal fault.
     pub fn copy(&self) -> Result<ExpansionFault>
-        ensures { Gives (λ equal. equal ≡ self.now) result }
+        ensures { IfOk result (λ equal. equal ≡ self.now) }
     {
         match self {
             ExpansionFault::Undefined(inner) => Ok(ExpansionFault::Undefined(inner.copy()?)),
@@ -51,7 +50,7 @@ impl ExpansionFault {
 
     /// The text of the message on a reference to a name that isn't replaced.
     pub fn text(&self, alloc: Global, name: &str) -> Result<Text>
-        ensures { Gives (λ text. text ≡ expansion_fault_text name.now self.now) result }
+        ensures { IfOk result (λ text. text ≡ expansion_fault_text name.now self.now) }
     {
         let (before, name) = match self {
             ExpansionFault::Undefined(inner) => (UNDEFINED, inner.as_str()),
@@ -71,18 +70,13 @@ pub enum Halted {
     NoMemory,
 }
 
-impl<T: Drop> From<AllocFailed<T>> for Halted {
+impl<E: Drop> From<E> for Halted
+where
+    AllocError: From<E>,
+{
     ghost from_gives = { λ _ halted. halted ≡ HaltedByMemory };
 
-    fn from(_error: AllocFailed<T>) -> Halted {
-        Halted::NoMemory
-    }
-}
-
-impl From<TreeFault> for Halted {
-    ghost from_gives = { λ _ halted. halted ≡ HaltedByMemory };
-
-    fn from(_error: TreeFault) -> Halted {
+    fn from(_error: E) -> Halted {
         Halted::NoMemory
     }
 }
@@ -238,7 +232,7 @@ fn copied_element(
     children: Vec<Node>,
     line: usize,
 ) -> Result<Node>
-    ensures { Gives (λ node. node ≡ copied_element tag attrs.now children.items line) result }
+    ensures { IfOk result (λ node. node ≡ copied_element tag attrs.now children.items line) }
 {
     let mut attrs = attrs.copy(alloc)?;
     attrs.remove(Key::Serial);
@@ -276,7 +270,7 @@ fn entered<'a>(
 
 /// The end of an expansion at a name without definition.
 fn undefined(alloc: Global, name: &str) -> Result<Halted>
-    ensures { Gives (λ halted. halted ≡ HaltedBy (Undefined name.now)) result }
+    ensures { IfOk result (λ halted. halted ≡ HaltedBy (Undefined name.now)) }
 {
     let name = Text::from_str(alloc, name)?;
     Ok(Halted::By(ExpansionFault::Undefined(name)))

@@ -1,6 +1,5 @@
 //! The substitution definitions of a document, and the names in its references.
-ghost use Rattle.std.specs.Prelude.{◌≡◌, map};
-ghost use Rattle.rst_tree.specs.Faults.{Gives};
+ghost use Rattle.std.specs.Prelude.{◌≡◌, map, IfOk};
 ghost use Rattle.rst_transform_substitutions.specs.Definitions.{defined, definitions_among};
 ghost use Rattle.rst_transform_substitutions.specs.Numbering.{refnames_in, TakesListed};
 
@@ -28,8 +27,8 @@ pub struct Listed<'a> {
 impl<'a> Listed<'a> {
     /// The definitions among nodes, and in them, in preorder, and the names in references there.
     pub fn of(alloc: Global, nodes: &'a Children) -> Result<Listed<'a>>
-        ensures definitions { Gives (λ listed. map defined listed.definitions.items ≡ definitions_among nodes.now) result }
-        ensures names { Gives (λ listed. map (λ name. name.now) listed.names.items ≡ refnames_in nodes.now) result }
+        ensures definitions { IfOk result (λ listed. map defined listed.definitions.items ≡ definitions_among nodes.now) }
+        ensures names { IfOk result (λ listed. map (λ name. name.now) listed.names.items ≡ refnames_in nodes.now) }
     {
         let mut listed = Listed {
             definitions: Vec::new(alloc),

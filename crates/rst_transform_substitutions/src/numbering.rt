@@ -1,7 +1,6 @@
 //! Numbers of definitions, which prove that one doesn't lead to another.
-ghost use Rattle.std.specs.Prelude.{◌≡◌, slice_get, true, map, List, ℕ};
+ghost use Rattle.std.specs.Prelude.{◌≡◌, slice_get, true, map, List, ℕ, IfOk};
 ghost use Rattle.std.specs.List.{list_all};
-ghost use Rattle.rst_tree.specs.Faults.{Gives};
 ghost use Rattle.rst_transform_substitutions.specs.Numbering.{may_lead_to, places_found, AreOrdered};
 
 use crate::definitions::Definitions;
@@ -31,7 +30,7 @@ pub struct Numbering {
 ///
 /// That no definition refers to one of a lower number is checked in the end, since what is remembered rests on it.
 pub fn numbering_of(alloc: Global, definitions: &Definitions) -> Result<Numbering>
-    ensures { Gives (λ numbering. AreOrdered definitions.now numbering.numbers.items) result }
+    ensures { IfOk result (λ numbering. AreOrdered definitions.now numbering.numbers.items) }
 {
     let referred = referred(alloc, definitions)?;
     let found = searched(alloc, &referred)?;
@@ -46,7 +45,7 @@ pub fn numbering_of(alloc: Global, definitions: &Definitions) -> Result<Numberin
 
 /// The places that each definition refers to.
 fn referred(alloc: Global, definitions: &Definitions) -> Result<Vec<Vec<usize>>>
-    ensures { Gives (λ referred. map (λ places. places.items) referred.items ≡ map (places_found definitions.now) definitions.now.contents.items) result }
+    ensures { IfOk result (λ referred. map (λ places. places.items) referred.items ≡ map (places_found definitions.now) definitions.now.contents.items) }
 {
     let mut referred = Vec::with_capacity(alloc, definitions.contents.len())?;
     for content in &definitions.contents {
@@ -57,7 +56,7 @@ fn referred(alloc: Global, definitions: &Definitions) -> Result<Vec<Vec<usize>>>
 
 /// The places of the definitions that the references among nodes find, and those in them.
 fn places_found(alloc: Global, definitions: &Definitions, nodes: &Children) -> Result<Vec<usize>>
-    ensures { Gives (λ places. places.items ≡ places_found definitions.now nodes.now) result }
+    ensures { IfOk result (λ places. places.items ≡ places_found definitions.now nodes.now) }
 {
     let listed = Listed::of(alloc, nodes)?;
     let mut places = Vec::new(alloc);

@@ -1,7 +1,6 @@
 //! What references come to, remembered for those that follow.
-ghost use Rattle.std.specs.Prelude.{◌≡◌, if◌then◌else◌, true, false, Option, Some, MatchOption, OnOk};
+ghost use Rattle.std.specs.Prelude.{◌≡◌, if◌then◌else◌, true, false, Option, Some, MatchOption, OnOk, IfOk};
 ghost use Rattle.std.specs.BTreeMap.{get};
-ghost use Rattle.rst_tree.specs.Faults.{Gives};
 ghost use Rattle.rst_transform_substitutions.specs.Definitions.{found_by};
 ghost use Rattle.rst_transform_substitutions.specs.Expansion.{nodes_for};
 ghost use Rattle.rst_transform_substitutions.specs.Numbering.{may_lead_to, AreOrdered};
@@ -13,8 +12,8 @@ use crate::definitions::Definitions;
 use crate::expansion::{ExpansionFault, Halted, expansion};
 use crate::numbering::may_lead_to;
 use rst_transform_work::copies;
-use rst_tree::{Children, Result, TreeFault};
-use std::alloc::Global;
+use rst_tree::{Children, Result};
+use std::alloc::{AllocError, Global};
 use std::collections::BTreeMap;
 
 /// What a reference comes to.
@@ -29,7 +28,7 @@ pub enum Outcome {
 impl Outcome {
     /// An equal outcome.
     fn copy(&self, alloc: Global) -> Result<Outcome>
-        ensures { Gives (λ equal. equal ≡ self.now) result }
+        ensures { IfOk result (λ equal. equal ≡ self.now) }
     {
         match self {
             Outcome::Nodes(nodes) => Ok(Outcome::Nodes(copies(alloc, nodes)?)),
@@ -97,7 +96,7 @@ fn entered_place(
     name: &str,
     within: Option<usize>,
 ) -> Result<Option<usize>>
-    ensures { Gives (λ place. MatchOption place (Unit {0}) (λ place. GoesInto definitions.now within place name.now)) result }
+    ensures { IfOk result (λ place. MatchOption place (Unit {0}) (λ place. GoesInto definitions.now within place name.now)) }
 {
     let Some(place) = definitions.find(alloc, name)? else {
         return Ok(None);
@@ -121,12 +120,12 @@ fn new_outcome(
     within: Option<usize>,
 ) -> Result<Outcome>
     requires { AreSized definitions.now }
-    ensures { Gives (λ outcome. came outcome ≡ nodes_for (found_by definitions.now) within name.now) result }
+    ensures { IfOk result (λ outcome. came outcome ≡ nodes_for (found_by definitions.now) within name.now) }
 {
     match expansion(alloc, definitions, name, within) {
         Ok(nodes) => Ok(Outcome::Nodes(Children::of(nodes))),
         Err(Halted::By(fault)) => Ok(Outcome::Fault(fault)),
-        Err(Halted::NoMemory) => Err(TreeFault::NoMemory),
+        Err(Halted::NoMemory) => Err(AllocError),
     }
 }
 
@@ -143,7 +142,7 @@ fn remembered(
     requires sized { AreSized definitions.now }
     requires goes { GoesInto definitions.now within place name.now }
     requires holds { HoldsTrue definitions.now memory.old }
-    ensures came { Gives (λ outcome. came outcome ≡ nodes_for (found_by definitions.now) within name.now) result }
+    ensures came { IfOk result (λ outcome. came outcome ≡ nodes_for (found_by definitions.now) within name.now) }
     ensures holds { OnOk result (HoldsTrue definitions.now memory.new) }
 {
     if let Some(kept) = memory.get(&place) {
@@ -167,7 +166,7 @@ pub fn reference_outcome(
     outcomes: &mut Outcomes,
 ) -> Result<Outcome>
     requires { Remembers definitions.now outcomes.old }
-    ensures came { Gives (λ outcome. came outcome ≡ nodes_for (found_by definitions.now) within name.now) result }
+    ensures came { IfOk result (λ outcome. came outcome ≡ nodes_for (found_by definitions.now) within name.now) }
     ensures remembers { OnOk result (Remembers definitions.now outcomes.new) }
 {
     let Some(place) = entered_place(alloc, definitions, name, within)? else {

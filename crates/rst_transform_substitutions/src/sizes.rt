@@ -1,7 +1,6 @@
 //! How much the definitions come to when they are expanded, counted once for each.
-ghost use Rattle.std.specs.Prelude.{◌≡◌};
+ghost use Rattle.std.specs.Prelude.{◌≡◌, IfOk};
 ghost use Rattle.std.specs.List.{list_all};
-ghost use Rattle.rst_tree.specs.Faults.{Gives};
 ghost use Rattle.rst_transform_work.specs.Lists.{at_place};
 ghost use Rattle.rst_transform_substitutions.specs.Sizes.{added, deeper_size, is_above, measured, size_found, AreMeasured};
 
@@ -55,7 +54,7 @@ pub fn sizes_of(
     definitions: &Definitions,
     order: &[usize],
 ) -> Result<Vec<Option<Size>>>
-    ensures { Gives (λ sizes. AreMeasured definitions.now sizes.items) result }
+    ensures { IfOk result (λ sizes. AreMeasured definitions.now sizes.items) }
 {
     let mut sizes = vec![in alloc; None; definitions.contents.len()]?;
     for place in order {
@@ -99,7 +98,7 @@ fn measured(
     sizes: &[Option<Size>],
     nodes: &Children,
 ) -> Result<Option<Size>>
-    ensures { Gives (λ size. size ≡ measured (size_found definitions.now sizes.now) nodes.now) result }
+    ensures { IfOk result (λ size. size ≡ measured (size_found definitions.now sizes.now) nodes.now) }
 {
     let mut all = Size {
         visited: 0,
@@ -150,7 +149,7 @@ fn size_found(
     sizes: &[Option<Size>],
     name: &str,
 ) -> Result<Option<Size>>
-    ensures { Gives (λ size. size ≡ size_found definitions.now sizes.now name.now) result }
+    ensures { IfOk result (λ size. size ≡ size_found definitions.now sizes.now name.now) }
 {
     let Some(place) = definitions.find(alloc, name)? else {
         return Ok(None);

@@ -1,20 +1,19 @@
 -- Lists of texts among attributes.
-use Rattle.std.proofs.Common.{◌≡◌, ◌∙◌, ℕ, ◌≤◌, false, List, [], ◌∷◌, ◌++◌, length, take, nat_eq, ap, refl}
+use Rattle.std.proofs.Common.{◌≡◌, ◌∙◌, ℕ, ◌≤◌, false, List, [], ◌∷◌, ◌++◌, length, take, nat_eq, ap, refl, IfOk}
 use Rattle.std.specs.Prelude.{Result, Ok, Err}
 use Rattle.std.proofs.lemmas.List.{take_all}
 use Rattle.rst_tree.specs.Attributes.{with_attr, without_key}
-use Rattle.rst_tree.specs.Faults.{Gives, Becomes}
+use Rattle.rst_tree.specs.Faults.{Becomes}
 use Rattle.rst_tree.specs.declared.attrs.Attr.{Attr}
 use Rattle.rst_tree.specs.declared.attrs.Value.TheVariants.{List as Listed}
-use Rattle.rst_tree.specs.declared.fault.TreeFault.{TreeFault}
-use Rattle.rst_tree.specs.declared.fault.TreeFault.TheVariants.{NoMemory}
+use Rattle.std.specs.declared.alloc.AllocError.{AllocError}
 use Rattle.rst_tree.specs.declared.key.Key.{Key}
 use Rattle.rst_transform_work.specs.Lists.{listed_texts, with_listed}
 
 -- what becomes one thing becomes whatever is the same
-pub becomes_same : {A S : Type 0} (old new wanted same : S) (r : Result A TreeFault) → Becomes old new wanted r → wanted ≡ same → Gives (λ (done : A). new ≡ same) r
+pub becomes_same : {A S : Type 0} (old new wanted same : S) (r : Result A AllocError) → Becomes old new wanted r → wanted ≡ same → IfOk r (λ (done : A). new ≡ same)
 becomes_same old new wanted same (Ok done) h e = h ∙ e
-becomes_same old new wanted same (Err NoMemory) h e = tt
+becomes_same old new wanted same (Err refused) h e = tt
 
 -- some texts come after those that an attribute lists
 pub listed_then : (k : Key) (more : List (List ℕ)) (attrs : List Attr) → nat_eq (length more) 0 ≡ false

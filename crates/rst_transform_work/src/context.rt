@@ -1,6 +1,5 @@
 //! What is known beside the document between two transforms.
-ghost use Rattle.std.specs.Prelude.{◌≡◌, ◌+◌, false, vec_len};
-ghost use Rattle.rst_tree.specs.Faults.{Gives};
+ghost use Rattle.std.specs.Prelude.{◌≡◌, ◌+◌, false, vec_len, IfOk};
 ghost use Rattle.rst_transform_work.specs.Known.{Makes};
 ghost use Rattle.rst_transform_work.specs.Problematics as spec;
 ghost use Rattle.rst_transform_work.specs.Reports.{report_in, report_node, IsReported, KeepsRest};
@@ -49,9 +48,9 @@ impl Context {
     /// Adds a message, and gives its place among the reports. It is in the last section if it is `own`, and else where
     /// the caller puts its `node`.
     pub fn report(&mut self, level: Level, line: usize, text: Text, own: bool) -> Result<usize>
-        ensures place { Gives (λ place. (place ≡ vec_len self.old.reports) × (vec_len self.new.reports ≡ place + 1)) result }
-        ensures reports { Gives (λ _. IsReported (report_in self.old level line text own) self.old self.new) result }
-        ensures rest { Gives (λ _. KeepsRest self.old self.new) result }
+        ensures place { IfOk result (λ place. (place ≡ vec_len self.old.reports) × (vec_len self.new.reports ≡ place + 1)) }
+        ensures reports { IfOk result (λ _. IsReported (report_in self.old level line text own) self.old self.new) }
+        ensures rest { IfOk result (λ _. KeepsRest self.old self.new) }
     {
         let place = self.reports.len();
         let report = self.next_report(level, line, text, own);
@@ -61,9 +60,9 @@ impl Context {
 
     /// Adds a message that is in the tree itself, and returns its node, for the caller to put into its place.
     pub fn report_in_place(&mut self, level: Level, line: usize, text: Text) -> Result<Node>
-        ensures node { Gives (λ node. node ≡ report_node (report_in self.old level line text false)) result }
-        ensures reports { Gives (λ _. IsReported (report_in self.old level line text false) self.old self.new) result }
-        ensures rest { Gives (λ _. KeepsRest self.old self.new) result }
+        ensures node { IfOk result (λ node. node ≡ report_node (report_in self.old level line text false)) }
+        ensures reports { IfOk result (λ _. IsReported (report_in self.old level line text false) self.old self.new) }
+        ensures rest { IfOk result (λ _. KeepsRest self.old self.new) }
     {
         let mut report = self.next_report(level, line, text, false);
         let node = report.node(self.alloc)?;
@@ -74,7 +73,7 @@ impl Context {
     /// The problematic with the source text of a reference that is at fault, for the message at a place among the
     /// reports.
     pub fn problematic(&mut self, report: usize, source: Text, line: usize) -> Result<Node>
-        ensures { Gives (Makes (spec.reported_problematic report source line) self.old self.new) result }
+        ensures { IfOk result (Makes (spec.reported_problematic report source line) self.old self.new) }
     {
         let mut attrs = Attrs::new(self.alloc);
         self.next_problematic(report)?.tell(self.alloc, &mut attrs)?;
@@ -85,7 +84,7 @@ impl Context {
     /// The attributes of the next problematic, for the message at a place among the reports. It gets its id before the message
     /// gets one. A place after the last report gives a problematic without message.
     pub fn next_problematic(&mut self, report: usize) -> Result<ProblematicAttrs>
-        ensures { Gives (Makes (spec.problematic report) self.old self.new) result }
+        ensures { IfOk result (Makes (spec.problematic report) self.old self.new) }
     {
         let id = self.ids.give_kind(self.alloc, Tag::Problematic)?;
         if report >= self.reports.len() {

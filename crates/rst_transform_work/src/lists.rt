@@ -1,7 +1,6 @@
 //! Lists of texts among the attributes, and lists of places.
-ghost use Rattle.std.specs.Prelude.{◌≡◌, slice_set, MatchOption, None, Some};
+ghost use Rattle.std.specs.Prelude.{◌≡◌, slice_set, MatchOption, None, Some, IfOk};
 ghost use Rattle.rst_tree.specs.Attributes.{without_key};
-ghost use Rattle.rst_tree.specs.Faults.{Gives};
 ghost use Rattle.rst_transform_work.specs.Lists.{at_place, listed_texts, with_listed, with_list_of, with_names};
 
 use rst_tree::{Attrs, Key, Result, Text, Texts, Value, ValueRef};
@@ -20,7 +19,7 @@ pub fn take_list(alloc: Global, attrs: &mut Attrs, key: Key) -> Texts
 
 /// Puts texts after those that an attribute lists.
 pub fn append(alloc: Global, attrs: &mut Attrs, key: Key, more: &[Text]) -> Result<()>
-    ensures { Gives (λ _. attrs.new ≡ with_listed key more.now attrs.old) result }
+    ensures { IfOk result (λ _. attrs.new ≡ with_listed key more.now attrs.old) }
 {
     if more.is_empty() {
         return Ok(());
@@ -34,7 +33,7 @@ pub fn append(alloc: Global, attrs: &mut Attrs, key: Key, more: &[Text]) -> Resu
 
 /// Puts the ids, names and lost names of attributes after those of others.
 pub fn append_names(alloc: Global, attrs: &mut Attrs, from: &Attrs) -> Result<()>
-    ensures { Gives (λ _. attrs.new ≡ with_names from.now attrs.old) result }
+    ensures { IfOk result (λ _. attrs.new ≡ with_names from.now attrs.old) }
 {
     append_from(alloc, attrs, Key::Ids, from)?;
     append_from(alloc, attrs, Key::Names, from)?;
@@ -43,7 +42,7 @@ pub fn append_names(alloc: Global, attrs: &mut Attrs, from: &Attrs) -> Result<()
 
 /// Puts the texts that an attribute lists elsewhere after those that it lists here.
 fn append_from(alloc: Global, attrs: &mut Attrs, key: Key, from: &Attrs) -> Result<()>
-    ensures { Gives (λ _. attrs.new ≡ with_list_of key from.now attrs.old) result }
+    ensures { IfOk result (λ _. attrs.new ≡ with_list_of key from.now attrs.old) }
 {
     match from.get(key) {
         Some(ValueRef::List(more)) => append(alloc, attrs, key, more),

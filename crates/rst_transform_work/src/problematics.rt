@@ -1,6 +1,5 @@
 //! The attributes of problematics.
-ghost use Rattle.std.specs.Prelude.{◌≡◌, ◌++◌, Some};
-ghost use Rattle.rst_tree.specs.Faults.{Gives};
+ghost use Rattle.std.specs.Prelude.{◌≡◌, ◌++◌, Some, IfOk};
 ghost use Rattle.rst_transform_work.specs.Problematics.{message_attrs, problematic_attrs};
 
 use rst_tree::{Attrs, Entry, Key, Result, Text, Texts, Value};
@@ -31,7 +30,7 @@ impl ProblematicAttrs {
     /// Writes it into an element in place of its attributes, in the room that they had.
     #[tactic(auto, using(crate::proofs::Orders::problematic_in_order))]
     pub fn tell(self, alloc: Global, attrs: &mut Attrs) -> Result<()>
-        ensures { Gives (λ _. attrs.new ≡ self) result }
+        ensures { IfOk result (λ _. attrs.new ≡ self) }
     {
         let mut list = mem::replace(attrs, Attrs::new(alloc)).into_list();
         list.clear();
@@ -46,7 +45,7 @@ impl ProblematicAttrs {
 
 /// Adds the number and the id of a message, if there is one.
 fn push_message(list: &mut Vec<Entry>, message: Option<(u64, Text)>) -> Result<()>
-    ensures { Gives (λ _. list.new.items ≡ list.old.items ++ message_attrs message) result }
+    ensures { IfOk result (λ _. list.new.items ≡ list.old.items ++ message_attrs message) }
 {
     if let Some((number, own)) = message {
         list.push(Entry::new(Key::Message, Value::Number(number)))?;

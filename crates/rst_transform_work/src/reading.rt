@@ -1,7 +1,6 @@
 //! The values of an element's attributes.
-ghost use Rattle.std.specs.Prelude.{◌≡◌, [], MatchOption, Some, None, is_some, slice_get, unwrap_or};
+ghost use Rattle.std.specs.Prelude.{◌≡◌, [], MatchOption, Some, None, is_some, slice_get, unwrap_or, IfOk};
 ghost use Rattle.rst_tree.specs.Attributes.{value_of, as_text};
-ghost use Rattle.rst_tree.specs.Faults.{Gives};
 ghost use Rattle.rst_tree.specs.Paths.{node_value};
 ghost use Rattle.rst_transform_work.specs.Reading.{text_of_attribute, number_of_attribute, list_of_attribute, line_of, may_precede, is_title};
 
@@ -54,7 +53,7 @@ pub fn first_of_attribute<'a>(node: &'a Node, key: Key) -> Option<&'a str>
 
 /// A copy of an attribute's value, where it is a list, or else an empty list.
 pub fn list_of_attribute(alloc: Global, node: &Node, key: Key) -> Result<Texts>
-    ensures { Gives (λ list. list ≡ list_of_attribute key node.now) result }
+    ensures { IfOk result (λ list. list ≡ list_of_attribute key node.now) }
 {
     match node.value(key) {
         Some(ValueRef::List(list)) => Texts::copy_of(alloc, list),

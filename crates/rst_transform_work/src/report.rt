@@ -1,6 +1,5 @@
 //! The messages of the transforms.
-ghost use Rattle.std.specs.Prelude.{◌≡◌, ◌++◌, List, ℕ};
-ghost use Rattle.rst_tree.specs.Faults.{Gives};
+ghost use Rattle.std.specs.Prelude.{◌≡◌, ◌++◌, List, ℕ, IfOk};
 ghost use Rattle.rst_transform_names.specs.Ids.{AreTaken};
 ghost use Rattle.rst_transform_work.specs.Problematics.{own_id, referring_report, with_own_id};
 ghost use Rattle.rst_transform_work.specs.Reports.{id_attrs, report_attrs, report_node, report_note, without_ids};
@@ -32,8 +31,8 @@ pub struct Report {
 impl Report {
     /// The message as a `system_message`, to which its id and those of its problematics move.
     pub fn node(&mut self, alloc: Global) -> Result<Node>
-        ensures node { Gives (λ node. node ≡ report_node self.old) result }
-        ensures left { Gives (λ _. self.new ≡ without_ids self.old) result }
+        ensures node { IfOk result (λ node. node ≡ report_node self.old) }
+        ensures left { IfOk result (λ _. self.new ≡ without_ids self.old) }
     {
         let note = Note {
             level: self.level,
@@ -49,8 +48,8 @@ impl Report {
     /// and its number.
     #[tactic(auto, using(crate::proofs::Orders::report_in_order))]
     fn take_attrs(&mut self, alloc: Global) -> Result<Attrs>
-        ensures attrs { Gives (λ attrs. attrs ≡ report_attrs self.old) result }
-        ensures left { Gives (λ _. self.new ≡ without_ids self.old) result }
+        ensures attrs { IfOk result (λ attrs. attrs ≡ report_attrs self.old) }
+        ensures left { IfOk result (λ _. self.new ≡ without_ids self.old) }
     {
         let mut list = Vec::with_capacity(alloc, 4)?;
         let backrefs = mem::replace(&mut self.backrefs, Texts::new(alloc));
@@ -77,8 +76,8 @@ impl Report {
 
     /// Adds a problematic by its id, and gives the message's own, which it gets with the first.
     pub(crate) fn refer_back(&mut self, alloc: Global, ids: &mut Ids, id: Text) -> Result<Text>
-        ensures report { Gives (λ own. self.new ≡ referring_report own id self.old) result }
-        ensures ids { (taken : List (List ℕ)) → AreTaken ids.old taken → Gives (λ own. (own ≡ own_id self.old.id taken) × AreTaken ids.new (with_own_id self.old.id taken)) result }
+        ensures report { IfOk result (λ own. self.new ≡ referring_report own id self.old) }
+        ensures ids { (taken : List (List ℕ)) → AreTaken ids.old taken → IfOk result (λ own. (own ≡ own_id self.old.id taken) × AreTaken ids.new (with_own_id self.old.id taken)) }
     {
         self.backrefs.push(id)?;
         if let Some(own) = &self.id {
@@ -92,7 +91,7 @@ impl Report {
 
 /// Adds the id of an element, if it has one.
 fn push_id(alloc: Global, list: &mut Vec<Entry>, id: Option<Text>) -> Result<()>
-    ensures { Gives (λ _. list.new.items ≡ list.old.items ++ id_attrs id) result }
+    ensures { IfOk result (λ _. list.new.items ≡ list.old.items ++ id_attrs id) }
 {
     if let Some(id) = id {
         list.push(Entry::new(Key::Ids, Value::List(Texts::lone(alloc, id))))?;

@@ -1,32 +1,29 @@
 //! What several transforms ask of attributes, names and nodes.
-ghost use Rattle.std.specs.Prelude.{◌≡◌, string_bytes};
+ghost use Rattle.std.specs.Prelude.{◌≡◌, string_bytes, IfOk};
 ghost use Rattle.rst_text.specs.Names.{identifier, name_in};
 ghost use Rattle.rst_tree.specs.declared.node.Node.TheVariants.{Element};
-ghost use Rattle.rst_tree.specs.Faults.{Gives};
 ghost use Rattle.rst_transform_work.specs.Reading.{rawsource_of};
 ghost use Rattle.rst_transform_work.specs.Lists.{named};
 
 use crate::lists::append_names;
 use rst_text::{id_of, name_of};
-use rst_tree::{Attrs, Children, Key, Node, Result, Tag, Text, TreeFault, Value};
+use rst_tree::{Attrs, Children, Key, Node, Result, Tag, Text, Value};
 use std::alloc::Global;
 
 /// The name that a text gives, by `name_of`.
 #[tactic(auto, using(rst_text::proofs::TextLemmas::bytes_of_chars))]
 pub fn folded(alloc: Global, text: &str) -> Result<String>
-    ensures { Gives (λ name. string_bytes name ≡ name_in text.now) result }
+    ensures { IfOk result (λ name. string_bytes name ≡ name_in text.now) }
 {
-    // The call fails only if memory runs out.
-    name_of(alloc, text).map_err(|_| TreeFault::NoMemory)
+    name_of(alloc, text)
 }
 
 /// The id that a text gives, by `id_of`.
 #[tactic(auto, using(rst_text::proofs::TextLemmas::bytes_of_chars))]
 pub fn identified(alloc: Global, text: &str) -> Result<String>
-    ensures { Gives (λ id. string_bytes id ≡ identifier text.now) result }
+    ensures { IfOk result (λ id. string_bytes id ≡ identifier text.now) }
 {
-    // The call fails only if memory runs out.
-    id_of(alloc, text).map_err(|_| TreeFault::NoMemory)
+    id_of(alloc, text)
 }
 
 /// An element with attributes and nodes, on a line.
@@ -43,7 +40,7 @@ pub fn element(tag: Tag, attrs: Attrs, children: Children, line: usize) -> Node
 
 /// Equal nodes.
 pub fn copies(alloc: Global, nodes: &Children) -> Result<Children>
-    ensures { Gives (λ equal. equal ≡ nodes.now) result }
+    ensures { IfOk result (λ equal. equal ≡ nodes.now) }
 {
     let mut copied = Vec::new(alloc);
     for node in nodes.as_slice() {
@@ -54,7 +51,7 @@ pub fn copies(alloc: Global, nodes: &Children) -> Result<Children>
 
 /// Puts the ids, names and lost names of attributes after those of a node.
 pub fn add_names(alloc: Global, node: &mut Node, from: &Attrs) -> Result<()>
-    ensures { Gives (λ _. node.new ≡ named from.now node.old) result }
+    ensures { IfOk result (λ _. node.new ≡ named from.now node.old) }
 {
     match node {
         Node::Element { attrs, .. } => append_names(alloc, attrs, from),
@@ -64,7 +61,7 @@ pub fn add_names(alloc: Global, node: &mut Node, from: &Attrs) -> Result<()>
 
 /// The source text of a reference, taken out of its attributes; the empty text where they have none.
 pub fn take_source(alloc: Global, attrs: &mut Attrs) -> Result<Text>
-    ensures { Gives (λ source. source ≡ rawsource_of attrs.old) result }
+    ensures { IfOk result (λ source. source ≡ rawsource_of attrs.old) }
 {
     match attrs.remove(Key::Rawsource) {
         Some(Value::Text(source)) => Ok(source),

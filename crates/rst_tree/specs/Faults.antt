@@ -1,26 +1,20 @@
 -- What calls do that can fail for lack of memory or at a write. No rule of markup: the standard covers neither.
 use Rattle.std.specs.Prelude.{◌≡◌, ℕ, ◌≤◌, List, length, take, Bool, true, false, Result, Ok, Err}
 use Rattle.rst_text.specs.Counted.{Stream, Gains}
-use Rattle.rst_tree.specs.declared.fault.TreeFault.{TreeFault}
-use Rattle.rst_tree.specs.declared.fault.TreeFault.TheVariants.{NoMemory}
+use Rattle.std.specs.declared.alloc.AllocError.{AllocError}
 use Rattle.rst_tree.specs.declared.fault.PrintFault.{PrintFault}
 use Rattle.rst_tree.specs.declared.fault.PrintFault.TheVariants.{Write}
 use Rattle.rst_tree.specs.Sends.{counted_on}
 
--- the call gives a value of which this holds, or reports that memory ran out
-abbrev pub Gives : {A : Type 0} → (A → Type 0) → Result A TreeFault → Type 0
-Gives P (Ok value) = P value
-Gives P (Err NoMemory) = Unit {0}
-
 -- what is changed becomes the wanted value, or stays the old one if memory runs out
-abbrev pub Becomes : {A S : Type 0} → S → S → S → Result A TreeFault → Type 0
+abbrev pub Becomes : {A S : Type 0} → S → S → S → Result A AllocError → Type 0
 Becomes old new wanted (Ok done) = new ≡ wanted
-Becomes old new wanted (Err NoMemory) = new ≡ old
+Becomes old new wanted (Err refused) = new ≡ old
 
 -- the same for a call that takes a node in, and gives it back if memory runs out
-abbrev pub GivesBack : {A N S : Type 0} → N → S → S → S → Result A (TreeFault × N) → Type 0
+abbrev pub GivesBack : {A N S : Type 0} → N → S → S → S → Result A (AllocError × N) → Type 0
 GivesBack node old new wanted (Ok done) = new ≡ wanted
-GivesBack node old new wanted (Err (NoMemory, back)) = (new ≡ old) × (back ≡ node)
+GivesBack node old new wanted (Err (refused, back)) = (new ≡ old) × (back ≡ node)
 
 -- the first bytes of the text came, and then a write failed; they are counted up to the largest `usize`
 pub record CutShort (writer : Stream) (text : List ℕ) (done : ℕ) : Type 0 where

@@ -1,6 +1,6 @@
 //! The attributes of elements.
-ghost use Rattle.std.specs.Prelude.{◌≡◌, ◌≤◌, ◌∷◌, drop, length, vec_len, [], true, MatchOption, None, Some, is_some};
-ghost use Rattle.rst_tree.specs.Faults.{Gives, Becomes};
+ghost use Rattle.std.specs.Prelude.{◌≡◌, ◌≤◌, ◌∷◌, drop, length, vec_len, [], true, MatchOption, None, Some, is_some, IfOk};
+ghost use Rattle.rst_tree.specs.Faults.{Becomes};
 ghost use Rattle.rst_tree.specs.Attributes.{attr, value_of, as_text, as_number, with_attr, without_key, place_named, places_below, is_at, are_keys_in_order};
 ghost use Rattle.rst_tree.specs.Entries.{as_value};
 
@@ -56,7 +56,7 @@ impl Attrs {
 
     /// One attribute, in a list with room for it alone.
     pub fn lone(alloc: Global, key: Key, value: Value) -> Result<Attrs>
-        ensures { Gives (λ attrs. attrs ≡ attr key value ∷ []) result }
+        ensures { IfOk result (λ attrs. attrs ≡ attr key value ∷ []) }
     {
         let mut list = Vec::with_capacity(alloc, 1)?;
         list.push_reserved(Entry::new(key, value));
@@ -171,7 +171,7 @@ impl Attrs {
 
     /// An equal list of attributes.
     pub fn copy(&self, alloc: Global) -> Result<Attrs>
-        ensures { Gives (λ a. a ≡ self.now) result }
+        ensures { IfOk result (λ a. a ≡ self.now) }
     {
         let mut list = Vec::with_capacity(alloc, self.list.len())?;
         for attr in &self.list {

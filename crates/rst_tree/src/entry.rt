@@ -1,8 +1,7 @@
 //! Attributes as the lists of them hold them.
-ghost use Rattle.std.specs.Prelude.{◌≡◌};
+ghost use Rattle.std.specs.Prelude.{◌≡◌, IfOk};
 ghost use Rattle.rst_tree.specs.Attributes.{attr};
 ghost use Rattle.rst_tree.specs.Entries.{as_value};
-ghost use Rattle.rst_tree.specs.Faults.{Gives};
 
 use crate::attrs::Value;
 use crate::fault::Result;
@@ -103,7 +102,7 @@ impl Entry {
 
     /// An equal attribute.
     pub fn copy(&self, alloc: Global) -> Result<Entry>
-        ensures { Gives (λ e. e ≡ self.now) result }
+        ensures { IfOk result (λ e. e ≡ self.now) }
     {
         let storage = match &self.storage {
             EntryStorage::Text(key, text) => EntryStorage::Text(*key, text.copy()?),

@@ -1,36 +1,9 @@
-//! What can be wrong with a change of a tree, or with printing it.
-ghost use Rattle.std.specs.Prelude.{◌≡◌};
-ghost use Rattle.rst_tree.specs.declared.fault.TreeFault.TheVariants.{NoMemory};
-
-use std::alloc::{AllocError, AllocFailed};
+//! What a call gives, and what can hinder printing.
+use std::alloc::AllocError;
 use thiserror::Error;
 
-/// Why a call gave no answer, or changed nothing.
-#[derive(Clone, Copy, Debug, PartialEq, Eq, Error)]
-pub enum TreeFault {
-    /// A growth was refused.
-    #[error("out of memory")]
-    NoMemory,
-}
-
 /// What a call gives, unless memory ran out.
-pub type Result<T, E = TreeFault> = std::result::Result<T, E>;
-
-impl From<AllocError> for TreeFault {
-    ghost from_gives = { λ _ fault. fault ≡ NoMemory };
-
-    fn from(_error: AllocError) -> TreeFault {
-        TreeFault::NoMemory
-    }
-}
-
-impl<T: Drop> From<AllocFailed<T>> for TreeFault {
-    ghost from_gives = { λ _ fault. fault ≡ NoMemory };
-
-    fn from(_error: AllocFailed<T>) -> TreeFault {
-        TreeFault::NoMemory
-    }
-}
+pub type Result<T, E = AllocError> = std::result::Result<T, E>;
 
 /// Why a text wasn't written whole.
 #[derive(Clone, Copy, Debug, PartialEq, Eq, Error)]

@@ -23,7 +23,7 @@ mod walking;
 
 pub use attrs::{Attr, Attrs, Value};
 pub use entry::{Entry, ValueRef};
-pub use fault::{PrintFault, Result, TreeFault};
+pub use fault::{PrintFault, Result};
 pub use key::Key;
 pub use node::{Children, Node};
 pub use note::{Level, Note};

@@ -1,6 +1,5 @@
 //! Messages as elements.
-ghost use Rattle.std.specs.Prelude.{◌≡◌};
-ghost use Rattle.rst_tree.specs.Faults.{Gives};
+ghost use Rattle.std.specs.Prelude.{◌≡◌, IfOk};
 ghost use Rattle.rst_tree.specs.Messages.{holding, note_node, message_with, numbered_message_node};
 
 use crate::attrs::{Attrs, Value};
@@ -18,7 +17,7 @@ impl Note {
     /// quotes, each on the message's line. Its list of attributes has room for three more: its number, its id and the ids of its
     /// problematics. The line, the source and the type are added when the message is printed.
     pub fn into_node(self, alloc: Global) -> Result<Node>
-        ensures { Gives (λ node. node ≡ note_node self) result }
+        ensures { IfOk result (λ node. node ≡ note_node self) }
     {
         let mut attrs = Vec::with_capacity(alloc, 4)?;
         let level = Value::Number(u64::from(self.level.number()));
@@ -28,7 +27,7 @@ impl Note {
 
     /// The same with the number of the message (`Key::Message`).
     pub fn into_numbered(self, alloc: Global, number: u64) -> Result<Node>
-        ensures { Gives (λ node. node ≡ numbered_message_node number self) result }
+        ensures { IfOk result (λ node. node ≡ numbered_message_node number self) }
     {
         let mut attrs = Vec::with_capacity(alloc, 4)?;
         let grade = Value::Number(u64::from(self.level.number()));
@@ -39,7 +38,7 @@ impl Note {
 
     /// The same with these attributes.
     pub fn into_node_with(self, alloc: Global, attrs: Attrs) -> Result<Node>
-        ensures { Gives (λ node. node ≡ message_with attrs self) result }
+        ensures { IfOk result (λ node. node ≡ message_with attrs self) }
     {
         let Note {
             text,
@@ -70,7 +69,7 @@ impl Note {
 
 /// An element that holds one text.
 fn holding(alloc: Global, tag: Tag, attrs: Attrs, text: Text, line: usize) -> Result<Node>
-    ensures { Gives (λ node. node ≡ holding tag attrs text line) result }
+    ensures { IfOk result (λ node. node ≡ holding tag attrs text line) }
 {
     Ok(Node::Element {
         tag,

@@ -1,17 +1,17 @@
 //! Nodes and lists of them.
-ghost use Rattle.std.specs.Prelude.{◌≡◌, ◌∷◌, ◌++◌, [], ◌<◌, length, slice_get, slice_index_or, MatchOption, None, Some, IsSomeAnd, string_bytes};
+ghost use Rattle.std.specs.Prelude.{◌≡◌, ◌∷◌, ◌++◌, [], ◌<◌, length, slice_get, slice_index_or, MatchOption, None, Some, IsSomeAnd, string_bytes, IfOk};
 ghost use Rattle.std.specs.Borrow.{sem};
 ghost use Rattle.rst_tree.specs.Entries.{as_value};
-ghost use Rattle.rst_tree.specs.Faults.{Gives, Becomes, GivesBack};
+ghost use Rattle.rst_tree.specs.Faults.{Becomes, GivesBack};
 ghost use Rattle.rst_tree.specs.Tree.{text_in};
 
 use crate::attrs::{Attrs, Value};
 use crate::entry::ValueRef;
-use crate::fault::{Result, TreeFault};
+use crate::fault::Result;
 use crate::key::Key;
 use crate::tag::Tag;
 use crate::text::Text;
-use std::alloc::Global;
+use std::alloc::{AllocError, Global};
 use std::marker::Model;
 
 /// An element with what is in it and the number of its first line, or a text.
@@ -72,7 +72,7 @@ impl Children {
 
     /// No node, in a list with room for `room` nodes.
     pub fn with_room(alloc: Global, room: usize) -> Result<Children>
-        ensures { Gives (λ nodes. nodes ≡ bare) result }
+        ensures { IfOk result (λ nodes. nodes ≡ bare) }
     {
         let list = Vec::with_capacity(alloc, room)?;
         Ok(Children { list })
@@ -82,7 +82,7 @@ impl Children {
     // A call would move the node once more.
     #[inline(always)]
     pub fn lone(alloc: Global, node: Node) -> Result<Children>
-        ensures { Gives (λ nodes. nodes ≡ forest_of (node ∷ [])) result }
+        ensures { IfOk result (λ nodes. nodes ≡ forest_of (node ∷ [])) }
     {
         let mut list = Vec::with_capacity(alloc, 1)?;
         list.push_reserved(node);
@@ -190,7 +190,7 @@ impl Node {
 
     /// A text.
     pub fn text(alloc: Global, text: &str) -> Result<Node>
-        ensures { Gives (λ n. n ≡ Words text.now) result }
+        ensures { IfOk result (λ n. n ≡ Words text.now) }
     {
         let text = Text::from_str(alloc, text)?;
         Ok(Node::Text(text))
@@ -221,7 +221,7 @@ impl Node {
     }
 
     /// Puts a node after the last in the element at a path; it is given back if memory runs out.
-    pub fn push_at(&mut self, at: &[usize], child: Node) -> Result<(), (TreeFault, Node)>
+    pub fn push_at(&mut self, at: &[usize], child: Node) -> Result<(), (AllocError, Node)>
         requires path { IsSomeAnd (node_at at.now self.old) IsElement }
         ensures { GivesBack child self.old self.new (changed_at (with_child child) at.now self.old) result }
     {
@@ -229,7 +229,7 @@ impl Node {
             Node::Element { children, .. } => match at.split_first() {
                 None => {
                     if let Err(failed) = children.list.push(child) {
-                        return Err((TreeFault::NoMemory, failed.value));
+                        return Err((AllocError, failed.value));
                     }
                     Ok(())
                 }
@@ -270,7 +270,7 @@ impl Node {
 
     /// The texts in the node in order, joined.
     pub fn text_of(&self, alloc: Global) -> Result<Text>
-        ensures { Gives (λ t. t ≡ text_in self.now) result }
+        ensures { IfOk result (λ t. t ≡ text_in self.now) }
     {
         let string = self.string_of(alloc)?;
         Ok(Text::new(string))
@@ -278,7 +278,7 @@ impl Node {
 
     /// The same as a `String`.
     pub(crate) fn string_of(&self, alloc: Global) -> Result<String>
-        ensures { Gives (λ s. string_bytes s ≡ text_in self.now) result }
+        ensures { IfOk result (λ s. string_bytes s ≡ text_in self.now) }
     {
         let mut string = String::new(alloc);
         add_text(self, &mut string)?;
@@ -287,7 +287,7 @@ impl Node {
 
     /// A node equal to this one.
     pub fn copy(&self, alloc: Global) -> Result<Node>
-        ensures { Gives (λ n. n ≡ self.now) result }
+        ensures { IfOk result (λ n. n ≡ self.now) }
     {
         match self {
             Node::Element {
@@ -315,7 +315,7 @@ impl Node {
 
 /// Puts the texts in a node after a text.
 fn add_text(node: &Node, text: &mut String) -> Result<()>
-    ensures { Gives (λ _. string_bytes text.new ≡ string_bytes text.old ++ text_in node.now) result }
+    ensures { IfOk result (λ _. string_bytes text.new ≡ string_bytes text.old ++ text_in node.now) }
 {
     match node {
         Node::Element { children, .. } => {

@@ -1,7 +1,6 @@
 //! What is gathered from all elements in preorder.
-ghost use Rattle.std.specs.Prelude.{ℕ, Option};
+ghost use Rattle.std.specs.Prelude.{ℕ, Option, IfOk};
 ghost use Rattle.rst_tree.specs.declared.node.Node.{Node};
-ghost use Rattle.rst_tree.specs.Faults.{Gives};
 ghost use Rattle.rst_tree.specs.Read.{AreRead};
 
 use crate::fault::Result;
@@ -20,7 +19,7 @@ pub trait Reader<'a> {
         element: &'a Node,
         level: Option<usize>,
     ) -> Result<Option<usize>>
-        ensures { Gives (λ inner. takes self.old level element.now self.new inner) result };
+        ensures { IfOk result (λ inner. takes self.old level element.now self.new inner) };
 }
 
 /// Nodes at a level that are still to be gone through.
@@ -38,7 +37,7 @@ pub fn read_elements<'a, R: Reader<'a>>(
     level: Option<usize>,
     reader: &mut R,
 ) -> Result<()>
-    ensures { Gives (λ _. AreRead R.takes level nodes.now reader.old reader.new) result }
+    ensures { IfOk result (λ _. AreRead R.takes level nodes.now reader.old reader.new) }
 {
     let mut left: Vec<Left<'a>> = Vec::new(alloc);
     let mut rest = nodes.as_slice();

@@ -1,8 +1,7 @@
 //! Elements turned into others, or changed, in preorder and in place.
-ghost use Rattle.std.specs.Prelude.{◌≡◌};
+ghost use Rattle.std.specs.Prelude.{◌≡◌, IfOk};
 ghost use Rattle.rst_tree.specs.declared.node.Node.{Node};
 ghost use Rattle.rst_tree.specs.declared.rewriting.Rewrite.{Rewrite};
-ghost use Rattle.rst_tree.specs.Faults.{Gives};
 ghost use Rattle.rst_tree.specs.Rewritten.{rewritten, Turned};
 
 use crate::attrs::Attrs;
@@ -30,14 +29,14 @@ pub trait Rewriter {
 
     /// Keeps or replaces an element that is met, and returns whether it stays.
     fn turn(&mut self, alloc: Global, element: &mut Node) -> Result<bool>
-        ensures state { Gives (λ _. self.new ≡ entered self.old element.old) result }
-        ensures outcome { Gives (λ stays. Turned (becomes self.old element.old) element.old element.new stays) result };
+        ensures state { IfOk result (λ _. self.new ≡ entered self.old element.old) }
+        ensures outcome { IfOk result (λ stays. Turned (becomes self.old element.old) element.old element.new stays) };
 }
 
 /// Rewrites nodes and what is in them, in preorder. If memory runs out, some of them are rewritten.
 pub fn rewrite_in<R: Rewriter>(alloc: Global, nodes: &mut Children, rewriter: &mut R) -> Result<()>
-    ensures nodes { Gives (λ _. nodes.new ≡ (rewritten R.entered R.becomes rewriter.old nodes.old).0) result }
-    ensures state { Gives (λ _. rewriter.new ≡ (rewritten R.entered R.becomes rewriter.old nodes.old).1) result }
+    ensures nodes { IfOk result (λ _. nodes.new ≡ (rewritten R.entered R.becomes rewriter.old nodes.old).0) }
+    ensures state { IfOk result (λ _. rewriter.new ≡ (rewritten R.entered R.becomes rewriter.old nodes.old).1) }
 {
     for i in 0..nodes.len() {
         let node = nodes.get_mut(i);

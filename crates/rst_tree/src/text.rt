@@ -1,6 +1,6 @@
 //! Texts and lists of them.
 ghost use Rattle.std.specs.Prelude.{◌≡◌, ◌∷◌, ◌++◌, [], IfOk, string_bytes};
-ghost use Rattle.rst_tree.specs.Faults.{Gives, Becomes};
+ghost use Rattle.rst_tree.specs.Faults.{Becomes};
 ghost use Rattle.rst_tree.specs.Phrases.{phrase_text};
 ghost use Rattle.rst_tree.specs.Tree.{is_lines};
 
@@ -63,7 +63,7 @@ impl Text {
 
     /// A text of its own.
     pub fn from_str(alloc: Global, text: &str) -> Result<Text>
-        ensures { Gives (λ t. t ≡ text.now) result }
+        ensures { IfOk result (λ t. t ≡ text.now) }
     {
         let storage = match ArrayString::from(text) {
             Ok(short) => TextStorage::Short(alloc, short),
@@ -74,7 +74,7 @@ impl Text {
 
     /// Three texts, one after the other, as one.
     pub fn of_three(alloc: Global, beginning: &str, middle: &str, back: &str) -> Result<Text>
-        ensures { Gives (λ t. t ≡ beginning.now ++ (middle.now ++ back.now)) result }
+        ensures { IfOk result (λ t. t ≡ beginning.now ++ (middle.now ++ back.now)) }
     {
         let storage = match short_joined(beginning, middle, back) {
             Ok(short) => TextStorage::Short(alloc, short),
@@ -115,7 +115,7 @@ impl Text {
 
     /// An equal text.
     pub fn copy(&self) -> Result<Text>
-        ensures { Gives (λ t. t ≡ self.now) result }
+        ensures { IfOk result (λ t. t ≡ self.now) }
     {
         match &self.storage {
             TextStorage::Short(alloc, short) => Ok(Text {
@@ -167,7 +167,7 @@ fn short_joined<'a>(
 
 /// Three texts, one after the other, in room for them alone.
 fn concatenated(alloc: Global, beginning: &str, middle: &str, back: &str) -> Result<String>
-    ensures { Gives (λ s. string_bytes s ≡ beginning.now ++ (middle.now ++ back.now)) result }
+    ensures { IfOk result (λ s. string_bytes s ≡ beginning.now ++ (middle.now ++ back.now)) }
 {
     let room = beginning
         .len()
@@ -267,7 +267,7 @@ impl Texts {
 
     /// A list of equal texts.
     pub fn copy_of(alloc: Global, texts: &[Text]) -> Result<Texts>
-        ensures { Gives (λ t. t ≡ texts.now) result }
+        ensures { IfOk result (λ t. t ≡ texts.now) }
     {
         match texts {
             [text] => Ok(Texts::lone(alloc, text.copy()?)),
@@ -277,7 +277,7 @@ impl Texts {
 
     /// An equal list.
     pub fn copy(&self, alloc: Global) -> Result<Texts>
-        ensures { Gives (λ t. t ≡ self.now) result }
+        ensures { IfOk result (λ t. t ≡ self.now) }
     {
         Texts::copy_of(alloc, self.as_slice())
     }
@@ -285,7 +285,7 @@ impl Texts {
 
 /// Equal texts.
 pub(crate) fn copied(alloc: Global, texts: &[Text]) -> Result<Vec<Text>>
-    ensures { Gives (λ list. list.items ≡ texts.now) result }
+    ensures { IfOk result (λ list. list.items ≡ texts.now) }
 {
     let mut list = Vec::with_capacity(alloc, texts.len())?;
     for text in texts {

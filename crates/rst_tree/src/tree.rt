@@ -1,16 +1,16 @@
 //! Documents as trees, and changes of them.
-ghost use Rattle.std.specs.Prelude.{◌≡◌, ◌<◌, IsTrue, MatchOption, Some, None, is_some, string_bytes};
+ghost use Rattle.std.specs.Prelude.{◌≡◌, ◌<◌, IsTrue, MatchOption, Some, None, is_some, string_bytes, IfOk};
 ghost use Rattle.rst_tree.specs.Entries.{as_value};
-ghost use Rattle.rst_tree.specs.Faults.{Gives, Becomes, GivesBack};
+ghost use Rattle.rst_tree.specs.Faults.{Becomes, GivesBack};
 ghost use Rattle.rst_tree.specs.Paths.{node_at, changed_at, with_child, with_value, value_at};
 ghost use Rattle.rst_tree.specs.Tree.{IsTreeOf, is_tree, is_tree_within, fits, is_element, node_text_at};
 
 use crate::attrs::Value;
 use crate::entry::ValueRef;
-use crate::fault::{Result, TreeFault};
+use crate::fault::Result;
 use crate::key::Key;
 use crate::node::Node;
-use std::alloc::Global;
+use std::alloc::{AllocError, Global};
 use std::marker::Model;
 
 /// A document: the attributes of each element are in the order of their names, each name once; no text holds a line end
@@ -110,7 +110,7 @@ impl Tree {
         _alloc: Global,
         at: &[usize],
         node: Node,
-    ) -> Result<(), (TreeFault, Node)>
+    ) -> Result<(), (AllocError, Node)>
         requires { IsTrue (fits at.now node self.old) }
         ensures { GivesBack node self.old self.new (changed_at (with_child node) at.now self.old) result }
     {
@@ -131,7 +131,7 @@ impl Tree {
     /// The text of the node at a path: the texts below it in order, joined.
     pub fn text_of(&self, alloc: Global, at: &[usize]) -> Result<String>
         requires { IsTrue (is_some (node_at at.now self.now)) }
-        ensures { Gives (λ s. string_bytes s ≡ node_text_at at.now self.now) result }
+        ensures { IfOk result (λ s. string_bytes s ≡ node_text_at at.now self.now) }
     {
         match found(&self.root, at) {
             Some(node) => node.string_of(alloc),

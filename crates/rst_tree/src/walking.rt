@@ -1,6 +1,5 @@
 //! Changes of all elements in preorder.
-ghost use Rattle.std.specs.Prelude.{◌≡◌};
-ghost use Rattle.rst_tree.specs.Faults.{Gives};
+ghost use Rattle.std.specs.Prelude.{◌≡◌, IfOk};
 ghost use Rattle.rst_tree.specs.Walk.{Item, item, node_items, after, walked_node};
 
 use crate::attrs::Attrs;
@@ -18,14 +17,14 @@ pub trait Visitor {
 
     /// Changes an element, but for the nodes in it, and the state.
     fn visit(&mut self, tag: &mut Tag, attrs: &mut Attrs, line: &mut usize) -> Result<()>
-        ensures state { Gives (λ _. self.new ≡ next self.old (item tag.old attrs.old line.old)) result }
-        ensures element { Gives (λ _. item tag.new attrs.new line.new ≡ out self.old (item tag.old attrs.old line.old)) result };
+        ensures state { IfOk result (λ _. self.new ≡ next self.old (item tag.old attrs.old line.old)) }
+        ensures element { IfOk result (λ _. item tag.new attrs.new line.new ≡ out self.old (item tag.old attrs.old line.old)) };
 }
 
 /// Visits a node's elements in preorder. If memory runs out, the node is given up.
 pub fn walk<V: Visitor>(mut node: Node, visitor: &mut V) -> Result<Node>
-    ensures node { Gives (λ n. n ≡ walked_node V.next V.out visitor.old node) result }
-    ensures state { Gives (λ _. visitor.new ≡ after V.next V.out visitor.old (node_items node)) result }
+    ensures node { IfOk result (λ n. n ≡ walked_node V.next V.out visitor.old node) }
+    ensures state { IfOk result (λ _. visitor.new ≡ after V.next V.out visitor.old (node_items node)) }
 {
     walk_in(&mut node, visitor)?;
     Ok(node)
@@ -33,8 +32,8 @@ pub fn walk<V: Visitor>(mut node: Node, visitor: &mut V) -> Result<Node>
 
 /// Visits a node's elements in preorder, in place.
 fn walk_in<V: Visitor>(node: &mut Node, visitor: &mut V) -> Result<()>
-    ensures node { Gives (λ _. node.new ≡ walked_node V.next V.out visitor.old node.old) result }
-    ensures state { Gives (λ _. visitor.new ≡ after V.next V.out visitor.old (node_items node.old)) result }
+    ensures node { IfOk result (λ _. node.new ≡ walked_node V.next V.out visitor.old node.old) }
+    ensures state { IfOk result (λ _. visitor.new ≡ after V.next V.out visitor.old (node_items node.old)) }
 {
     if let Node::Element {
         tag,

@@ -1,6 +1,5 @@
 //! A node with the places of the elements that registration needs, these elements, and changes at them.
-ghost use Rattle.std.specs.Prelude.{◌≡◌, ◌++◌, map, if◌then◌else◌, filter};
-ghost use Rattle.rst_tree.specs.Faults.{Gives};
+ghost use Rattle.std.specs.Prelude.{◌≡◌, ◌++◌, map, if◌then◌else◌, filter, IfOk};
 ghost use Rattle.rst_tree.specs.Walk.{item, node_items, after, walked_node};
 ghost use Rattle.rst_tree_index.specs.MarkPaths.{node_paths};
 ghost use Rattle.rst_tree_index.specs.Marks.{marks_of, heeded_next, heeded_out, path_of, places, visited_all, with_elements_at};
@@ -28,7 +27,7 @@ fn add_elements<'a>(
     inner: &Marks,
     list: &mut Vec<Element<'a>>,
 ) -> Result<()>
-    ensures { Gives (λ _. map item_of list.new.items ≡ with_elements_at (node_paths own inner.now) node.now (map item_of list.old.items)) result }
+    ensures { IfOk result (λ _. map item_of list.new.items ≡ with_elements_at (node_paths own inner.now) node.now (map item_of list.old.items)) }
 {
     let Node::Element {
         tag,
@@ -66,8 +65,8 @@ fn visit_own<V: Visitor>(
     line: &mut usize,
     visitor: &mut V,
 ) -> Result<()>
-    ensures state { Gives (λ _. visitor.new ≡ (if own then V.next visitor.old (item tag.old attrs.old line.old) else visitor.old)) result }
-    ensures element { Gives (λ _. item tag.new attrs.new line.new ≡ (if own then V.out visitor.old (item tag.old attrs.old line.old) else item tag.old attrs.old line.old)) result }
+    ensures state { IfOk result (λ _. visitor.new ≡ (if own then V.next visitor.old (item tag.old attrs.old line.old) else visitor.old)) }
+    ensures element { IfOk result (λ _. item tag.new attrs.new line.new ≡ (if own then V.out visitor.old (item tag.old attrs.old line.old) else item tag.old attrs.old line.old)) }
 {
     if own {
         visitor.visit(tag, attrs, line)?;
@@ -77,8 +76,8 @@ fn visit_own<V: Visitor>(
 
 /// Visits the marked ones of a node's elements, in preorder.
 fn visit_in<V: Visitor>(node: &mut Node, own: bool, inner: &Marks, visitor: &mut V) -> Result<()>
-    ensures node { Gives (λ _. node.new ≡ (visited_all V.next V.out (node_paths own inner.now) (visitor.old, node.old)).1) result }
-    ensures state { Gives (λ _. visitor.new ≡ (visited_all V.next V.out (node_paths own inner.now) (visitor.old, node.old)).0) result }
+    ensures node { IfOk result (λ _. node.new ≡ (visited_all V.next V.out (node_paths own inner.now) (visitor.old, node.old)).1) }
+    ensures state { IfOk result (λ _. visitor.new ≡ (visited_all V.next V.out (node_paths own inner.now) (visitor.old, node.old)).0) }
 {
     if let Node::Element {
         tag,
@@ -105,7 +104,7 @@ fn visit_in<V: Visitor>(node: &mut Node, own: bool, inner: &Marks, visitor: &mut
 ///
 /// Most of these nodes are texts or hold texts alone: those cost no list of marks.
 fn add_marks(alloc: Global, nodes: &Children, marks: &mut Marks) -> Result<()>
-    ensures { Gives (λ _. marks.new ≡ marks.old ++ map path_of (places is_registered nodes.now)) result }
+    ensures { IfOk result (λ _. marks.new ≡ marks.old ++ map path_of (places is_registered nodes.now)) }
 {
     let list = nodes.as_slice();
     for place in 0..list.len() {
@@ -133,7 +132,7 @@ fn add_marks(alloc: Global, nodes: &Children, marks: &mut Marks) -> Result<()>
 /// The marks of a node that was made elsewhere, by a pass over it: whether it is marked itself, and those in it.
 #[inline(always)]
 pub(crate) fn marks_of(alloc: Global, node: &Node) -> Result<(bool, Marks)>
-    ensures { Gives (λ marks. node_paths marks.0 marks.1 ≡ marks_of is_registered node.now) result }
+    ensures { IfOk result (λ marks. node_paths marks.0 marks.1 ≡ marks_of is_registered node.now) }
 {
     let mut inner = Marks::none(alloc);
     let Node::Element {
@@ -184,7 +183,7 @@ impl Marked {
     /// A node that was made elsewhere.
     #[inline(always)]
     pub fn of(alloc: Global, root: Node) -> Result<Marked>
-        ensures { Gives (λ m. m ≡ root) result }
+        ensures { IfOk result (λ m. m ≡ root) }
     {
         let (own, inner) = marks_of(alloc, &root)?;
         Ok(Marked { root, own, inner })
@@ -216,7 +215,7 @@ impl Marked {
 
     /// The elements that registration needs, in preorder, found by their marks.
     pub fn elements(&self, alloc: Global) -> Result<Vec<Element<'_>>>
-        ensures { Gives (λ list. map item_of list.items ≡ filter is_registered (node_items self.now)) result }
+        ensures { IfOk result (λ list. map item_of list.items ≡ filter is_registered (node_items self.now)) }
     {
         let mut list = Vec::new(alloc);
         add_elements(&self.root, self.own, &self.inner, &mut list)?;
@@ -225,8 +224,8 @@ impl Marked {
 
     /// Visits the marked elements, in preorder, by their marks.
     pub fn visit<V: Visitor>(self, visitor: &mut V) -> Result<Node>
-        ensures node { Gives (λ n. n ≡ walked_node (heeded_next is_registered V.next) (heeded_out is_registered V.out) visitor.old self) result }
-        ensures state { Gives (λ _. visitor.new ≡ after (heeded_next is_registered V.next) (heeded_out is_registered V.out) visitor.old (node_items self)) result }
+        ensures node { IfOk result (λ n. n ≡ walked_node (heeded_next is_registered V.next) (heeded_out is_registered V.out) visitor.old self) }
+        ensures state { IfOk result (λ _. visitor.new ≡ after (heeded_next is_registered V.next) (heeded_out is_registered V.out) visitor.old (node_items self)) }
     {
         let Marked {
             mut root,

@@ -1,6 +1,5 @@
 //! Neighbouring nodes, and the marks of those that have any.
-ghost use Rattle.std.specs.Prelude.{◌≡◌, ◌<◌, ◌∷◌, ◌++◌, [], map, OnErr, vec_capacity, vec_len};
-ghost use Rattle.rst_tree.specs.Faults.{Gives};
+ghost use Rattle.std.specs.Prelude.{◌≡◌, ◌<◌, ◌∷◌, ◌++◌, [], map, OnErr, vec_capacity, vec_len, IfOk};
 ghost use Rattle.rst_tree.specs.Nodes.{forest_of};
 ghost use Rattle.rst_tree_index.specs.Known.{entry_after, place_and_marks, known_at};
 ghost use Rattle.rst_tree_index.specs.MarkPaths.{node_paths};
@@ -29,7 +28,7 @@ struct Known {
 /// Puts what is known of the node at a place after the rest, if anything is known.
 #[inline(always)]
 fn note(known: &mut Vec<Known>, place: usize, own: bool, inner: Marks) -> Result<()>
-    ensures noted { Gives (λ _. map place_and_marks known.new.items ≡ map place_and_marks known.old.items ++ known_at place (node_paths own inner)) result }
+    ensures noted { IfOk result (λ _. map place_and_marks known.new.items ≡ map place_and_marks known.old.items ++ known_at place (node_paths own inner)) }
     ensures kept { OnErr result (known.new.items ≡ known.old.items) }
 {
     if is_used(own, &inner) {
@@ -40,7 +39,7 @@ fn note(known: &mut Vec<Known>, place: usize, own: bool, inner: Marks) -> Result
 
 /// What is known of some nodes, when they follow `before` others.
 fn known_after(known: Vec<Known>, before: usize) -> Result<Vec<Known>>
-    ensures { Gives (λ moved. map place_and_marks moved.items ≡ map (entry_after before) (map place_and_marks known.items)) result }
+    ensures { IfOk result (λ moved. map place_and_marks moved.items ≡ map (entry_after before) (map place_and_marks known.items)) }
 {
     let mut moved = Vec::with_capacity(*known.allocator(), known.len())?;
     for Known { place, own, inner } in known {
@@ -58,7 +57,7 @@ fn known_after(known: Vec<Known>, before: usize) -> Result<Vec<Known>>
 fn make_room(nodes: &mut Vec<Node>) -> Result<()>
     ensures items { nodes.new.items ≡ nodes.old.items }
     ensures len { vec_len nodes.new ≡ vec_len nodes.old }
-    ensures room { Gives (λ _. vec_len nodes.new < vec_capacity nodes.new) result }
+    ensures room { IfOk result (λ _. vec_len nodes.new < vec_capacity nodes.new) }
 {
     if nodes.is_empty() {
         nodes.reserve_exact(1)?;
@@ -110,7 +109,7 @@ impl MarkedNodes {
 
     /// Nodes that were made elsewhere. They are marked by a pass over them, and stay in their list.
     pub fn of(alloc: Global, nodes: Vec<Node>) -> Result<MarkedNodes>
-        ensures { Gives (λ made. made ≡ nodes.items) result }
+        ensures { IfOk result (λ made. made ≡ nodes.items) }
     {
         let mut known = Vec::new(alloc);
         for (place, root) in nodes.iter().enumerate() {
@@ -123,7 +122,7 @@ impl MarkedNodes {
     /// One node.
     #[inline(always)]
     pub fn alone(alloc: Global, node: Marked) -> Result<MarkedNodes>
-        ensures { Gives (λ made. made ≡ node ∷ []) result }
+        ensures { IfOk result (λ made. made ≡ node ∷ []) }
     {
         let mut made = MarkedNodes::none(alloc);
         made.push(node)?;
@@ -159,7 +158,7 @@ impl MarkedNodes {
     #[inline(always)]
     fn put(&mut self, root: Node, own: bool, inner: Marks) -> Result<()>
         requires { node_paths own inner ≡ marks_of is_registered root }
-        ensures { Gives (λ _. self.new ≡ self.old ++ root ∷ []) result }
+        ensures { IfOk result (λ _. self.new ≡ self.old ++ root ∷ []) }
     {
         // Room first: once something is known of the node, it has to follow.
         make_room(&mut self.nodes)?;
@@ -171,7 +170,7 @@ impl MarkedNodes {
     /// Puts a node after the others.
     #[inline(always)]
     pub fn push(&mut self, node: Marked) -> Result<()>
-        ensures { Gives (λ _. self.new ≡ self.old ++ node ∷ []) result }
+        ensures { IfOk result (λ _. self.new ≡ self.old ++ node ∷ []) }
     {
         let Marked { root, own, inner } = node;
         self.put(root, own, inner)
@@ -179,7 +178,7 @@ impl MarkedNodes {
 
     /// Puts a node that was made elsewhere after the others. It is marked by a pass over it.
     pub fn push_new(&mut self, root: Node) -> Result<()>
-        ensures { Gives (λ _. self.new ≡ self.old ++ root ∷ []) result }
+        ensures { IfOk result (λ _. self.new ≡ self.old ++ root ∷ []) }
     {
         let alloc = *self.nodes.allocator();
         let (own, inner) = marks_of(alloc, &root)?;
@@ -189,7 +188,7 @@ impl MarkedNodes {
     /// Puts nodes that were made elsewhere after the others.
     #[inline(always)]
     pub fn append_new(&mut self, more: Vec<Node>) -> Result<()>
-        ensures { Gives (λ _. self.new ≡ self.old ++ more.items) result }
+        ensures { IfOk result (λ _. self.new ≡ self.old ++ more.items) }
     {
         // Most often there are none, and then nothing is called.
         if more.is_empty() {
@@ -201,7 +200,7 @@ impl MarkedNodes {
     /// The same where there are some.
     #[inline(never)]
     fn append_some(&mut self, more: Vec<Node>) -> Result<()>
-        ensures { Gives (λ _. self.new ≡ self.old ++ more.items) result }
+        ensures { IfOk result (λ _. self.new ≡ self.old ++ more.items) }
     {
         for root in more {
             self.push_new(root)?;
@@ -211,7 +210,7 @@ impl MarkedNodes {
 
     /// Puts nodes after the others. Nobody goes through them: they are moved at once, and what is known of them follows.
     pub fn append(&mut self, more: MarkedNodes) -> Result<()>
-        ensures { Gives (λ _. self.new ≡ self.old ++ more) result }
+        ensures { IfOk result (λ _. self.new ≡ self.old ++ more) }
     {
         if self.is_empty() {
             *self = more;
@@ -228,7 +227,7 @@ impl MarkedNodes {
 
     /// An element with these nodes in it. Their marks are known, so nobody goes through them.
     pub fn into_element(self, tag: Tag, attrs: Attrs, line: usize) -> Result<Marked>
-        ensures { Gives (λ m. m ≡ Tagged tag attrs (forest_of self) line) result }
+        ensures { IfOk result (λ m. m ≡ Tagged tag attrs (forest_of self) line) }
     {
         let own = is_registered(tag, &attrs, line);
         let mut inner = Marks::none(*self.nodes.allocator());

@@ -1,6 +1,5 @@
 //! Where marked elements are among some nodes.
-ghost use Rattle.std.specs.Prelude.{◌≡◌, ◌≢◌, ◌∷◌, ◌++◌, [], true, false, map};
-ghost use Rattle.rst_tree.specs.Faults.{Gives};
+ghost use Rattle.std.specs.Prelude.{◌≡◌, ◌≢◌, ◌∷◌, ◌++◌, [], true, false, map, IfOk};
 ghost use Rattle.rst_tree_index.specs.MarkPaths.{AreUsed, node_paths, paths_in};
 
 use rst_tree::Result;
@@ -79,7 +78,7 @@ impl Marks {
     /// Puts the marks of the node at a place after the others: its own, if it is marked, and those in it.
     #[inline(always)]
     pub fn push(&mut self, place: usize, own: bool, inner: Marks) -> Result<()>
-        ensures { Gives (λ _. self.new ≡ self.old ++ map (λ p. place ∷ p) (node_paths own inner)) result }
+        ensures { IfOk result (λ _. self.new ≡ self.old ++ map (λ p. place ∷ p) (node_paths own inner)) }
     {
         if is_used(own, &inner) {
             self.list.push(Mark { place, own, inner })?;

@@ -1,6 +1,5 @@
 //! A document that was read, before its transforms.
-ghost use Rattle.std.specs.Prelude.{◌≡◌};
-ghost use Rattle.rst_tree.specs.Faults.{Gives};
+ghost use Rattle.std.specs.Prelude.{◌≡◌, IfOk};
 
 use crate::marked::Marked;
 use rst_tree::{Node, Result};
@@ -20,9 +19,9 @@ pub struct Parsed {
 impl Parsed {
     /// A document that was made, and not read from lines: no message in it has a number, and no look at a line was taken.
     pub fn of(alloc: Global, root: Node) -> Result<Parsed>
-        ensures tree { Gives (λ parsed. parsed.tree ≡ root) result }
-        ensures messages { Gives (λ parsed. parsed.messages ≡ 0) result }
-        ensures looks { Gives (λ parsed. parsed.looks ≡ 0) result }
+        ensures tree { IfOk result (λ parsed. parsed.tree ≡ root) }
+        ensures messages { IfOk result (λ parsed. parsed.messages ≡ 0) }
+        ensures looks { IfOk result (λ parsed. parsed.looks ≡ 0) }
     {
         Ok(Parsed {
             tree: Marked::of(alloc, root)?,

@@ -1,18 +1,18 @@
 //! Marks of a small document, and a visit of what they mark.
 ghost use Rattle.rst_tree.specs.Walk.{item};
 
-use rst_tree::{Attrs, Node, Tag, Text, TreeFault, Visitor};
+use rst_tree::{Attrs, Node, Tag, Text, Visitor};
 use rst_tree_index::{Marked, MarkedNodes};
-use std::alloc::Global;
+use std::alloc::{AllocError, Global};
 use std::test::Fail;
 
 /// An element without attributes.
-fn element(alloc: Global, tag: Tag, nodes: MarkedNodes, line: usize) -> Result<Marked, TreeFault> {
+fn element(alloc: Global, tag: Tag, nodes: MarkedNodes, line: usize) -> Result<Marked, AllocError> {
     nodes.into_element(tag, Attrs::new(alloc), line)
 }
 
 /// A document with a paragraph, and after it a section with a title and a target.
-fn document(alloc: Global) -> Result<Marked, TreeFault> {
+fn document(alloc: Global) -> Result<Marked, AllocError> {
     let text = Node::Text(Text::from_str(alloc, "T")?);
     let title = MarkedNodes::of(alloc, vec![in alloc; text]?)?;
     let title = element(alloc, Tag::Title, title, 2)?;
@@ -40,7 +40,7 @@ impl Visitor for Lining {
         _tag: &mut Tag,
         _attrs: &mut Attrs,
         line: &mut usize,
-    ) -> Result<(), TreeFault> {
+    ) -> Result<(), AllocError> {
         *line = 9;
         Ok(())
     }

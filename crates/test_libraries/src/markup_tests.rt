@@ -4,11 +4,11 @@ ghost use Rattle.rst_markup_blocks.specs.Parts.{IsCall};
 
 use rst_markup_blocks::{Explicit, Invocation, explicit, kind_of};
 use rst_markup_directives::{
-    Detail, Directive, DirectiveFault, MarkupFault, Place, called, directive, message, target_value,
+    Detail, Directive, DirectiveFault, Place, called, directive, message, target_value,
 };
 use rst_markup_lines::listed_options;
 use rst_text::{Lines, Looks, View};
-use std::alloc::Global;
+use std::alloc::{AllocError, Global};
 use std::test::Fail;
 
 /// The directive that is called at the first line of a view.
@@ -18,7 +18,7 @@ pub fn first_directive(
     call: &Invocation,
     place: Place,
     paragraph: bool,
-) -> Result<Directive, MarkupFault>
+) -> Result<Directive, AllocError>
     requires { IsCall (block_of view.now) 0 call.now }
 {
     let mut looks = Looks::none();

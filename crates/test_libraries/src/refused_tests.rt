@@ -6,14 +6,14 @@ use super::tables_tests::show;
 use super::transforms_tests::unresolved;
 use super::tree_tests::{text, titled};
 use rst_block::{BlockFault, parse};
-use rst_inline::{InlineFault, inline, unescape};
+use rst_inline::{inline, unescape};
 use rst_markup_blocks::{Explicit, explicit, kind_of};
-use rst_markup_directives::{Argument, Directive, Kind, MarkupFault, Place};
+use rst_markup_directives::{Argument, Directive, Kind, Place};
 use rst_markup_tables::{TableResult, grid, simple};
 use rst_settings::Settings;
 use rst_text::{Counted, Lines, Looks, TextFault, View, decode, id_of, name_of, normalized_white};
 use rst_transform::finish;
-use rst_tree::{Key, Node, Tag, Tree, TreeFault, Value, print};
+use rst_tree::{Key, Node, Tag, Tree, Value, print};
 use rst_tree_index::{Marked, Parsed};
 use std::alloc::{AllocError, Global};
 use std::process::Abort;
@@ -42,12 +42,12 @@ impl Refusals {
 }
 
 /// Compares two answers with the text that is wanted.
-fn judge_texts(rt: &impl Abort, answers: [Result<String, TextFault>; 2], want: &str) {
+fn judge_texts(rt: &impl Abort, answers: [Result<String, AllocError>; 2], want: &str) {
     let mut refusals = Refusals::none();
     for answer in &answers {
         match answer {
             Ok(text) => assert_eq!(rt; text.as_str(), want),
-            Err(fault) => refusals.add(rt, *fault == TextFault::NoMemory),
+            Err(fault) => refusals.add(rt, *fault == AllocError),
         }
     }
     refusals.judge(rt);
@@ -78,7 +78,7 @@ fn cuts_lines(rt: HostRuntime) {
                     assert_eq!(rt; lines.line(i), *want);
                 }
             }
-            Err(fault) => refusals.add(&rt, fault == TextFault::NoMemory),
+            Err(fault) => refusals.add(&rt, fault == AllocError),
         }
     }
     refusals.judge(&rt);
@@ -99,7 +99,7 @@ fn places_lines(rt: HostRuntime) {
                 assert_eq!(rt; view.number(2), 7);
                 assert_eq!(rt; view.line(2, &mut looks), "x");
             }
-            Err(fault) => refusals.add(&rt, fault == TextFault::NoMemory),
+            Err(fault) => refusals.add(&rt, fault == AllocError),
         }
     }
     refusals.judge(&rt);
@@ -158,7 +158,7 @@ fn pushes_nodes(rt: HostRuntime) {
         };
         assert!(rt; tree.fits(&[1], &more));
         if let Err((fault, given)) = tree.push(alloc, &[1], more) {
-            refusals.add(&rt, fault == TreeFault::NoMemory);
+            refusals.add(&rt, fault == AllocError);
             assert!(rt; matches!(&given, Node::Text(pushed) if pushed.as_str() == "more"));
             judge_tree(&rt, alloc, &tree, before.as_str());
         }
@@ -191,7 +191,7 @@ fn sets_attributes(rt: HostRuntime) {
         };
         assert!(rt; tree.has_element(&[1]));
         if let Err(fault) = tree.set(alloc, &[1], key, Value::Number(7)) {
-            refusals.add(&rt, fault == TreeFault::NoMemory);
+            refusals.add(&rt, fault == AllocError);
             assert!(rt; tree.attr(&[1], key).is_none());
             judge_tree(&rt, alloc, &tree, before.as_str());
         } else {
@@ -215,7 +215,7 @@ fn gathers_texts(rt: HostRuntime) {
         assert!(rt; tree.has(&[]));
         match tree.text_of(alloc, &[]) {
             Ok(text) => assert_eq!(rt; text.as_str(), "TitleText."),
-            Err(fault) => refusals.add(&rt, fault == TreeFault::NoMemory),
+            Err(fault) => refusals.add(&rt, fault == AllocError),
         }
     }
     refusals.judge(&rt);
@@ -233,7 +233,7 @@ fn reads_inline_markup(rt: HostRuntime) {
             Ok(read) => {
                 assert_eq!(rt; (read.nodes.len(), read.notes.len()), (29, 1));
             }
-            Err(fault) => refusals.add(&rt, fault == InlineFault::NoMemory),
+            Err(fault) => refusals.add(&rt, fault == AllocError),
         }
     }
     refusals.judge(&rt);
@@ -245,7 +245,7 @@ fn unescapes(rt: HostRuntime) {
     for _ in 0..2 {
         match unescape(rt.alloc(), "a\\ b\\*c\\\\ \u{4E00}\\") {
             Ok(text) => assert_eq!(rt; text.as_str(), "ab*c\\ \u{4E00}"),
-            Err(fault) => refusals.add(&rt, fault == InlineFault::NoMemory),
+            Err(fault) => refusals.add(&rt, fault == AllocError),
         }
     }
     refusals.judge(&rt);
@@ -262,9 +262,9 @@ fn marks_elements(rt: HostRuntime) {
         match Marked::of(alloc, root) {
             Ok(marked) => match marked.elements(alloc) {
                 Ok(elements) => assert!(rt; elements.is_empty()),
-                Err(fault) => refusals.add(&rt, fault == TreeFault::NoMemory),
+                Err(fault) => refusals.add(&rt, fault == AllocError),
             },
-            Err(fault) => refusals.add(&rt, fault == TreeFault::NoMemory),
+            Err(fault) => refusals.add(&rt, fault == AllocError),
         }
     }
     refusals.judge(&rt);
@@ -395,7 +395,7 @@ fn directives(rt: HostRuntime) {
     for _ in 0..2 {
         match first_directive(alloc, &view, &call, Place::Top, false) {
             Ok(found) => judge_note(&rt, &found),
-            Err(fault) => refusals.add(&rt, fault == MarkupFault::NoMemory),
+            Err(fault) => refusals.add(&rt, fault == AllocError),
         }
         judge_view(&rt, &view, text);
     }
@@ -481,7 +481,7 @@ fn finishes_documents(rt: HostRuntime) {
             Ok(finished) => {
                 assert_eq!(rt; (finished.notes.len(), finished.highest), (2, 3));
             }
-            Err(fault) => refusals.add(&rt, fault == TreeFault::NoMemory),
+            Err(fault) => refusals.add(&rt, fault == AllocError),
         }
     }
     refusals.judge(&rt);

@@ -1,7 +1,7 @@
 //! Tables: what they are, and what is wrong with those that are malformed. The answers come from outside.
 use rst_markup_blocks::{Construct, Kind};
 use rst_markup_tables::{Cell, TableResult, grid, malformed_text, simple};
-use rst_text::{Lines, Looks, TextFault, View};
+use rst_text::{Lines, Looks, View};
 use std::alloc::{AllocError, Global};
 use std::test::Fail;
 
@@ -48,7 +48,7 @@ const SIMPLES: &[(&str, &str)] = &[
 ];
 
 /// A cell as `[morerows morecols number:text; ..]`, spaces written as `_`.
-fn show_cell(alloc: Global, out: &mut String, cell: Cell) -> Result<(), TextFault> {
+fn show_cell(alloc: Global, out: &mut String, cell: Cell) -> Result<(), AllocError> {
     out.push_str(" [")?;
     push_number(out, cell.morerows)?;
     out.push_str(" ")?;
@@ -73,7 +73,7 @@ fn push_number(out: &mut String, number: usize) -> Result<(), AllocError> {
 }
 
 /// A table as `T`, its end, widths, head rows and rows, each after a `/`; what is wrong as `E`, the end and the detail.
-pub fn show(alloc: Global, table: TableResult) -> Result<String, TextFault> {
+pub fn show(alloc: Global, table: TableResult) -> Result<String, AllocError> {
     let mut out = String::new(alloc);
     match table {
         TableResult::Malformed { end, note } => {
@@ -144,7 +144,7 @@ fn simples(rt: HostRuntime) -> Result<(), Fail> {
 }
 
 /// The end of the construct of a kind that begins at the first line of a text.
-fn end_by(alloc: Global, kind: Kind, text: &str) -> Result<Option<usize>, TextFault> {
+fn end_by(alloc: Global, kind: Kind, text: &str) -> Result<Option<usize>, AllocError> {
     let lines = Lines::of(alloc, text, 8)?;
     let view = View::whole(&lines);
     let mut looks = Looks::none();

@@ -3,14 +3,14 @@ use super::tree_tests::{Says, element, holding, printed, text};
 use rst_settings::Settings;
 use rst_transform::{Finished, finish};
 use rst_transform_work::Document;
-use rst_tree::{Attrs, Children, Key, Node, Tag, TreeFault};
+use rst_tree::{Attrs, Children, Key, Node, Tag};
 use rst_tree_index::Parsed;
-use std::alloc::Global;
+use std::alloc::{AllocError, Global};
 use std::process::Abort;
 use std::test::Fail;
 
 /// A document without attributes.
-fn document<const N: usize>(alloc: Global, nodes: [Node; N]) -> Result<Document, TreeFault> {
+fn document<const N: usize>(alloc: Global, nodes: [Node; N]) -> Result<Document, AllocError> {
     Ok(Document {
         attrs: Attrs::new(alloc),
         children: Children::of(Vec::from_array(alloc, nodes)?),
@@ -19,7 +19,7 @@ fn document<const N: usize>(alloc: Global, nodes: [Node; N]) -> Result<Document,
 }
 
 /// References to nothing, of two kinds.
-pub fn unresolved(alloc: Global) -> Result<Document, TreeFault> {
+pub fn unresolved(alloc: Global) -> Result<Document, AllocError> {
     let reference = element(
         alloc,
         Tag::Reference,

@@ -8,10 +8,10 @@ ghost use Rattle.rst_tree.specs.declared.tag.Tag.TheVariants.{Transition};
 
 use rst_text::Counted;
 use rst_tree::{
-    Attrs, Children, Key, Level, Node, Note, Rewriter, Tag, Text, Texts, Tree, TreeFault, Value,
-    ValueRef, message_line, print, print_with_source, rewrite_in,
+    Attrs, Children, Key, Level, Node, Note, Rewriter, Tag, Text, Texts, Tree, Value, ValueRef,
+    message_line, print, print_with_source, rewrite_in,
 };
-use std::alloc::Global;
+use std::alloc::{AllocError, Global};
 use std::process::Abort;
 use std::test::Fail;
 
@@ -23,7 +23,7 @@ pub enum Says<'a> {
     List(&'a [&'a str]),
 }
 
-fn value(alloc: Global, given: Says<'_>) -> Result<Value, TreeFault> {
+fn value(alloc: Global, given: Says<'_>) -> Result<Value, AllocError> {
     match given {
         Says::Text(text) => Ok(Value::Text(Text::from_str(alloc, text)?)),
         Says::Number(number) => Ok(Value::Number(number)),
@@ -38,7 +38,7 @@ fn value(alloc: Global, given: Says<'_>) -> Result<Value, TreeFault> {
 }
 
 /// A node that is a text.
-pub fn text(alloc: Global, given: &str) -> Result<Node, TreeFault> {
+pub fn text(alloc: Global, given: &str) -> Result<Node, AllocError> {
     Node::text(alloc, given)
 }
 
@@ -48,7 +48,7 @@ pub fn element<const N: usize>(
     tag: Tag,
     given: &[(Key, Says<'_>)],
     nodes: [Node; N],
-) -> Result<Node, TreeFault> {
+) -> Result<Node, AllocError> {
     let mut attrs = Attrs::new(alloc);
     for (key, says) in given {
         attrs.set(*key, value(alloc, *says)?)?;
@@ -62,12 +62,12 @@ pub fn element<const N: usize>(
 }
 
 /// An element that contains one text.
-pub fn holding(alloc: Global, tag: Tag, given: &str) -> Result<Node, TreeFault> {
+pub fn holding(alloc: Global, tag: Tag, given: &str) -> Result<Node, AllocError> {
     element(alloc, tag, &[], [text(alloc, given)?])
 }
 
 /// The document of a title with its underline, and a paragraph.
-pub fn titled(alloc: Global) -> Result<Node, TreeFault> {
+pub fn titled(alloc: Global) -> Result<Node, AllocError> {
     element(
         alloc,
         Tag::Document,
@@ -98,7 +98,7 @@ pub fn printed(alloc: Global, root: Node) -> Result<String, Fail> {
 }
 
 /// Elements nested so deep, the innermost without nodes.
-fn nested(alloc: Global, levels: usize) -> Result<Node, TreeFault> {
+fn nested(alloc: Global, levels: usize) -> Result<Node, AllocError> {
     let mut node = Node::element(alloc, Tag::BlockQuote, 1);
     for _level in 1..levels {
         node = element(alloc, Tag::BlockQuote, &[], [node])?;
@@ -241,7 +241,7 @@ impl Rewriter for Thinning {
 
     ghost becomes = { λ s n. if s.takes then Replace (Element Transition [] bare 1) else kept n };
 
-    fn turn(&mut self, alloc: Global, element: &mut Node) -> Result<bool, TreeFault> {
+    fn turn(&mut self, alloc: Global, element: &mut Node) -> Result<bool, AllocError> {
         let takes = self.takes;
         self.takes = !takes;
         if takes {

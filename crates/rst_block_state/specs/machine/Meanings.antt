@@ -24,8 +24,8 @@ use Rattle.rst_block_state.specs.Tables.{table_nodes}
 use Rattle.rst_block_state.specs.Texts.{lines_in, span_source}
 use Rattle.rst_block_state.specs.Titles.{Item, plain}
 use Rattle.rst_block_state.specs.Within.{Within}
-use Rattle.rst_block_state.specs.declared.fault.BlockFault.{BlockFault}
-use Rattle.rst_block_state.specs.declared.fault.BlockFault.TheVariants.{TooDeep, NoMemory}
+use Rattle.rst_block_nodes.specs.declared.fault.BlockFault.{BlockFault}
+use Rattle.rst_block_nodes.specs.declared.fault.BlockFault.TheVariants.{TooDeep, NoMemory}
 use Rattle.rst_block_state.specs.declared.frame.Frame.{Frame}
 use Rattle.rst_block_state.specs.declared.open_block.OpenBlock.{OpenBlock}
 use Rattle.rst_block_state.specs.declared.waits.Waits.{Waits}

@@ -8,8 +8,8 @@ use Rattle.rst_block_state.specs.Joins.{Joining}
 use Rattle.rst_block_state.specs.machine.Meanings.{open_run_of, done_of}
 use Rattle.rst_block_state.specs.machine.Rest.{OpenRun, open_list, open_lines, last_indent, with_items}
 use Rattle.rst_block_state.specs.Titles.{Item, plain}
-use Rattle.rst_block_state.specs.declared.fault.BlockFault.{BlockFault}
-use Rattle.rst_block_state.specs.declared.fault.BlockFault.TheVariants.{TooDeep, NoMemory}
+use Rattle.rst_block_nodes.specs.declared.fault.BlockFault.{BlockFault}
+use Rattle.rst_block_nodes.specs.declared.fault.BlockFault.TheVariants.{TooDeep, NoMemory}
 use Rattle.rst_block_state.specs.declared.open_block.OpenBlock.{OpenBlock}
 
 -- ---- open runs

@@ -1,7 +1,6 @@
-use Rattle.std.proofs.Common.{◌≡◌, [], ◌++◌, ap, sym, ◌∙◌, subst}
+use Rattle.std.proofs.Common.{◌≡◌, [], ◌++◌, ap, sym, ◌∙◌, subst, IfOk}
 use Rattle.std.specs.Vec.Iter.{into_iter_items}
 use Rattle.std.proofs.lemmas.List.{nil_from_length}
-use Rattle.rst_tree.specs.Faults.{Gives}
 use Rattle.rst_tree.specs.declared.node.Node.{Node}
 use Rattle.rst_block_nodes.specs.OpenSections.{document_with_items}
 use Rattle.rst_block_nodes.specs.Sections.{document_of, items_of}
@@ -25,6 +24,6 @@ pub returns : goal.returns
 returns c =
     let s = c.loop-heading.sections in
     let none : into_iter_items c.loop-heading.heading-iterator ≡ [] = nil_from_length _ (sym c.loop-heading.heading-iterator.rest.ok.0 ∙ c.in-None.ensures.steps.0) in
-    subst (λ (n : Node). Gives (λ root. root ≡ n) c.completed.result)
+    subst (λ (n : Node). IfOk c.completed.result (λ root. root ≡ n))
     (all_closed (holding s c.append-2.new.self) c.end.new.self c.in_ok-end.ensures.closed c.in_ok-end.ensures.few
     ∙ last_met s c.append-2.new.self c.args.nodes c.in_ok-append-2.ensures ∙ ap (λ hs. document_with_items s (items_of hs c.args.nodes)) (sym none) ∙ c.loop-heading.invariant) c.completed.ensures

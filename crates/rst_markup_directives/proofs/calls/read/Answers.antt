@@ -1,4 +1,4 @@
-use Rattle.std.proofs.Common.{◌≡◌, ◌-◌, ◌&&◌, Result, length, length-drop, drop, arith, rules, cond, [], sym, ap, ◌∙◌, subst}
+use Rattle.std.proofs.Common.{◌≡◌, ◌-◌, ◌&&◌, Result, length, length-drop, drop, arith, rules, cond, [], sym, ap, ◌∙◌, subst, IfOk}
 use Rattle.rst_text.specs.Block.{Block, cut}
 use Rattle.rst_text.specs.ViewBlock.{block_of}
 use Rattle.rst_markup_blocks.specs.Lines.{lines_while}
@@ -6,7 +6,6 @@ use Rattle.rst_markup_blocks.proofs.ReachLaws.{reach_within}
 use Rattle.rst_markup_blocks.proofs.RowLaws.{while_le}
 use Rattle.rst_markup_blocks.specs.declared.lines.LineTest.TheVariants.{Blank}
 use Rattle.rst_markup_directives.specs.Directive.{Read, reading_in, run_in}
-use Rattle.rst_markup_directives.specs.Faults.{Gives}
 use Rattle.rst_markup_directives.specs.Kind.{is_lines}
 use Rattle.rst_markup_directives.specs.Lines.{first_run, texts_of}
 use Rattle.rst_markup_directives.specs.Wrong.{Wrong}
@@ -34,5 +33,5 @@ returns-clause-reading c =
     let same = read-is c.args.kind c.args.late c.args.block (cut (block_of c.args.view.now) c.args.block.from c.args.block.to c.args.block.first_cut c.args.block.rest_cut)
     H (texts_of c.deref.result.now) (c.args.block.to - c.args.block.from) c.len.result c.lines_end-rest.result
     c.part-lines.ensures.block len (ap texts_of c.deref.ensures.value ∙ c.in_ok-run.ensures.texts ∙ ap (λ none. cond none [] (first_run H)) none) (c.len.ensures ∙ sym c.deref.ensures.len ∙ count) c.lines_end-rest.ensures.end in
-    let P : Result Read Wrong → Type 0 = λ r. Gives (λ reading. reading_in reading ≡ r) c.read_run.result in
+    let P : Result Read Wrong → Type 0 = λ r. IfOk c.read_run.result (λ reading. reading_in reading ≡ r) in
     subst P same c.read_run.ensures

@@ -1,4 +1,4 @@
-use Rattle.std.proofs.Common.{◌≡◌, eqb, rules, tests, map, drop, option_map, sym, ap, ap₂, ◌∙◌, subst, Some, [], List, ℕ, Bor}
+use Rattle.std.proofs.Common.{◌≡◌, eqb, rules, tests, map, drop, option_map, sym, ap, ap₂, ◌∙◌, subst, Some, [], List, ℕ, Bor, IfOk}
 use Rattle.std.proofs.lemmas.Iterator.Consumers.{YieldsList-end}
 use Rattle.std.proofs.lemmas.Iterator.{YieldsList-from_slice}
 use Rattle.std.proofs.lemmas.Iterator.Search.{all_from_yields_List}
@@ -9,7 +9,6 @@ use Rattle.std.proofs.lemmas.List.Sums.{fold_push}
 use Rattle.std.specs.Str.{chars}
 use Rattle.rst_text.specs.Text.{chars_of}
 use Rattle.rst_markup_directives.specs.Characters.{unindented}
-use Rattle.rst_markup_directives.specs.Faults.{Gives}
 use Rattle.rst_markup_directives.specs.Lines.{joined_nonempty, with_line}
 use Rattle.rst_markup_directives.specs.Target.{located, destination_of, destination_in, target_text, target_value}
 use Rattle.rst_markup_directives.proofs.Joins.{joined_onto}
@@ -41,5 +40,5 @@ returns c =
     c.deref-2.ensures.value ∙ c.loop-line.invariant
     ∙ sym (fold-map with_line unindented [] lines ∙ fold-map (λ text line. with_line text (unindented line)) (λ (y : Bor (List ℕ)). y.now) [] c.loop-line.yielded)
     ∙ joined_onto [] (map unindented lines) ∙ ap (λ ls. joined_nonempty (map unindented ls)) end.0 ∙ ap target_text (c.deref.ensures.value ∙ c.in_ok-characters.ensures) in
-    let P : List ℕ → Type 0 = λ cs. Gives (λ target. option_map destination_of target ≡ destination_in cs) c.destination_in.result in
+    let P : List ℕ → Type 0 = λ cs. IfOk c.destination_in.result (λ target. option_map destination_of target ≡ destination_in cs) in
     subst P text c.destination_in.ensures

@@ -1,8 +1,7 @@
-use Rattle.std.proofs.Common.{◌≡◌, ◌<◌, ◌+◌, ◌∙◌, length, Some, ap, subst}
+use Rattle.std.proofs.Common.{◌≡◌, ◌<◌, ◌+◌, ◌∙◌, length, Some, ap, subst, IfOk}
 use Rattle.std.specs.Str.{chars}
 use Rattle.rst_text.specs.Characters.{Text}
 use Rattle.rst_inline.specs.Embedded.{embedded_at, enclosed, is_alias, meant, phrase_display_text}
-use Rattle.rst_tree.specs.Faults.{Gives}
 use Rattle.rst_inline.specs.Parts.{content, source}
 use Rattle.rst_inline.proofs.EmbeddedLemmas.{enclosed-part, phrase-embedded}
 use Rattle.rst_inline.proofs.written.Written.phrase.Goals as goal
@@ -20,4 +19,4 @@ returns-in-Some c =
     let alias = c.is_alias-alias.ensures ∙ ap is_alias (c.part.ensures ∙ ap (λ (phrase : Text). enclosed phrase place) phrase) in
     let at : Some place ≡ embedded_at (content t p) = c.in-Some.ensures.exact ∙ ap embedded_at phrase in
     let is = phrase-embedded c.args.suffix (source t p) (content t p) _ _ _ place w.line _ c.part-source.ensures display_text meaning alias at in
-    subst (λ m. Gives (λ reading. reading ≡ m) c.embedded.result) is c.embedded.ensures
+    subst (λ m. IfOk c.embedded.result (λ reading. reading ≡ m)) is c.embedded.ensures
