@@ -68,47 +68,43 @@ pub enum Allowed {
     Anywhere,
 }
 
-/// A kind: its element, argument, options and content, and where it is allowed.
-macro_rules! kind {
-    ($element:ident, $argument:ident, $options:ident, $content:ident, $allowed:ident) => {
-        Kind {
-            element: Tag::$element,
-            argument: ArgumentKind::$argument,
-            options: OptionSet::$options,
-            content: ContentKind::$content,
-            allowed: Allowed::$allowed,
-        }
+/// A directive: its name, and its element, argument, options and content, and where it is allowed.
+macro_rules! row {
+    (
+        $name:literal, $element:ident, $argument:ident, $options:ident, $content:ident, $allowed:ident
+    ) => {
+        (
+            $name,
+            Kind {
+                element: Tag::$element,
+                argument: ArgumentKind::$argument,
+                options: OptionSet::$options,
+                content: ContentKind::$content,
+                allowed: Allowed::$allowed,
+            },
+        )
     };
 }
 
 /// The directives by their names.
 const DIRECTIVES: [(&str, Kind); 17] = [
-    ("code", kind!(LiteralBlock, Language, Common, Lines, Body)),
-    (
-        "code-block",
-        kind!(LiteralBlock, Language, Common, Lines, Body),
-    ),
-    (
-        "sourcecode",
-        kind!(LiteralBlock, Language, Common, Lines, Body),
-    ),
-    ("attention", kind!(Attention, Absent, Common, Blocks, Body)),
-    ("caution", kind!(Caution, Absent, Common, Blocks, Body)),
-    ("danger", kind!(Danger, Absent, Common, Blocks, Body)),
-    ("error", kind!(Error, Absent, Common, Blocks, Body)),
-    ("hint", kind!(Hint, Absent, Common, Blocks, Body)),
-    ("important", kind!(Important, Absent, Common, Blocks, Body)),
-    ("note", kind!(Note, Absent, Common, Blocks, Body)),
-    ("tip", kind!(Tip, Absent, Common, Blocks, Body)),
-    ("warning", kind!(Warning, Absent, Common, Blocks, Body)),
-    ("admonition", kind!(Admonition, Title, Common, Blocks, Body)),
-    ("topic", kind!(Topic, Title, Common, Blocks, Sections)),
-    ("image", kind!(Image, Uri, Image, Empty, Anywhere)),
-    ("figure", kind!(Figure, Uri, Figure, Caption, Body)),
-    (
-        "replace",
-        kind!(Paragraph, Absent, Empty, Paragraph, Substitution),
-    ),
+    row!("code", LiteralBlock, Language, Common, Lines, Body),
+    row!("code-block", LiteralBlock, Language, Common, Lines, Body),
+    row!("sourcecode", LiteralBlock, Language, Common, Lines, Body),
+    row!("attention", Attention, Absent, Common, Blocks, Body),
+    row!("caution", Caution, Absent, Common, Blocks, Body),
+    row!("danger", Danger, Absent, Common, Blocks, Body),
+    row!("error", Error, Absent, Common, Blocks, Body),
+    row!("hint", Hint, Absent, Common, Blocks, Body),
+    row!("important", Important, Absent, Common, Blocks, Body),
+    row!("note", Note, Absent, Common, Blocks, Body),
+    row!("tip", Tip, Absent, Common, Blocks, Body),
+    row!("warning", Warning, Absent, Common, Blocks, Body),
+    row!("admonition", Admonition, Title, Common, Blocks, Body),
+    row!("topic", Topic, Title, Common, Blocks, Sections),
+    row!("image", Image, Uri, Image, Empty, Anywhere),
+    row!("figure", Figure, Uri, Figure, Caption, Body),
+    row!("replace", Paragraph, Absent, Empty, Paragraph, Substitution),
 ];
 
 impl Kind {
