@@ -1,10 +1,8 @@
 -- What is read of a text is what the functions of the text give.
 use Rattle.std.proofs.Common.{◌≡◌, ℕ, List, length, Ok, ap, ap₂, sym, ◌∙◌}
-use Rattle.rst_inline_scan.specs.Pieces.{IsPieces}
 use Rattle.rst_inline_scan.specs.Reading.{pieces_of}
 use Rattle.rst_inline_scan.specs.declared.piece.Piece.{Piece}
-use Rattle.rst_inline_scan.proofs.PieceLemmas.{IsPieces-unique}
-use Rattle.rst_inline_scan.proofs.ReadingLemmas.{pieces_of-pieces}
+use Rattle.rst_inline_scan.proofs.ReadingLemmas.{pieces_of-only}
 use Rattle.rst_inline.specs.Results.{nodes_from, notes_of, IsRead}
 use Rattle.rst_inline.specs.declared.nodes.Pieces.{Pieces}
 use Rattle.rst_tree.specs.Sends.{counted_on}
@@ -18,12 +16,9 @@ use Rattle.rst_block_nodes.specs.Results.{HoldsText, HeadsText}
 use Rattle.rst_block_nodes.specs.Terms.{piece_texts, groups_of, heads_of}
 use Rattle.rst_block_nodes.specs.Texts.{counting, messages_from}
 
-pieces_are : (t : List ℕ) (ps : List Piece) → IsPieces t 0 ps → ps ≡ pieces_of t
-pieces_are t ps h = IsPieces-unique t 0 ps (pieces_of t) h (pieces_of-pieces t)
-
 reading_is : (t : List ℕ) (line first : ℕ) (r : Pieces) → IsRead t line first r → (r.nodes.items ≡ read_nodes t line first) × (messages_from first r.notes.items ≡ read_notes t line first)
 reading_is t line first r h =
-    let same : h.0 ≡ pieces_of t = pieces_are t h.0 h.1 in (
+    let same : h.0 ≡ pieces_of t = pieces_of-only t h.0 h.1 in (
       h.2.nodes ∙ ap (nodes_from t line first) same,
       ap (messages_from first) (h.2.notes ∙ ap (notes_of t line) same),
     )
@@ -45,7 +40,7 @@ termed-is t line first made h =
       h.4.heads
           ∙ ap (λ (ns : List Node). heads_of (length ns) line (groups_of (piece_texts t h.0) h.1.nodes.items)) (h.4.notes ∙ r.1)
           ∙ ap (λ (xs : List Node). heads_of (length (read_notes t line first)) line (groups_of (piece_texts t h.0) xs)) r.0
-          ∙ ap (λ (ps : List Piece). heads_of (length (read_notes t line first)) line (groups_of (piece_texts t ps) (read_nodes t line first))) (pieces_are t h.0 h.2),
+          ∙ ap (λ (ps : List Piece). heads_of (length (read_notes t line first)) line (groups_of (piece_texts t ps) (read_nodes t line first))) (pieces_of-only t h.0 h.2),
       h.4.notes ∙ r.1,
     )
 

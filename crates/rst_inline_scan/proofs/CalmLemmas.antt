@@ -1,23 +1,20 @@
 -- Between calm characters nothing begins.
-use Rattle.std.proofs.Common.{◌≡◌, ⊎_elim, ◌⊎◌, inl, inr, ℕ, zero, suc, ◌+◌, ◌-◌, ◌<◌, ◌≤◌, [], ◌∷◌, map, Bool, true, false, not, ◌&&◌, ◌||◌, ◌==◌, None, length, get_or, true≢false, refl, sym, ap, ◌∙◌, subst, arith}
+use Rattle.std.proofs.Common.{◌≡◌, ⊎_elim, ◌⊎◌, inl, inr, ℕ, zero, suc, ◌+◌, ◌-◌, ◌<◌, ◌≤◌, [], ◌∷◌, map, Bool, true, false, not, ◌&&◌, ◌||◌, ◌==◌, None, length, get_or, true≢false, refl, sym, ap, ap₂, ◌∙◌, subst, arith}
 use Rattle.std.specs.Prelude.{nat_lt}
 use Rattle.std.specs.Char.{is_ascii_alphanumeric}
 use Rattle.std.proofs.lemmas.List.{length-map, get_or_past}
-use Rattle.std.proofs.lemmas.Bool.{lt-ltb, eqb-true, ne_eqb, and_parts, and_left, and_right, or_parts, cases_lt}
+use Rattle.std.proofs.lemmas.Bool.{lt-ltb, le-ltb, eqb-true, and_parts, and_left, and_right, or_parts, cases_lt}
 use Rattle.std.proofs.lemmas.Bool.Decides.{nat_tests}
-use Rattle.std.proofs.Math.Bool.{and-true, and-false}
 use Rattle.rst_text.specs.Runs.{PassBetween}
 use Rattle.rst_text.proofs.PlacesLemmas.{cases_bool, lt_eq_gt}
 use Rattle.rst_text.specs.Characters.{Text, has}
 use Rattle.rst_inline_scan.specs.Characters.{is_free_after}
-use Rattle.rst_text.specs.Escapes.{is_escaped}
 use Rattle.rst_text.specs.SimpleNames.{is_joint, is_name_at}
 use Rattle.rst_inline_scan.specs.Names.{ends_name}
 use Rattle.rst_inline_scan.specs.Tails.{name_tail}
-use Rattle.rst_inline_scan.specs.Calm.{AreBytesOf, byte_of, is_calm, is_calm_at, AreCalm, is_of_name, IsCalmStep}
-use Rattle.rst_inline_scan.specs.Pieces.{piece_at, HasNoStart}
-use Rattle.rst_text.proofs.EscapeLemmas.{other-bare, is_escaped-bare}
-use Rattle.rst_inline_scan.proofs.WordLemmas.{letter-low, differs, absent, letter-may_not_follow, unmarked, no-label, no-letter-at, IsBarred, no-piece-barred}
+use Rattle.rst_inline_scan.specs.Calm.{AreBytesOf, byte_of, is_calm, is_calm_at, AreCalm, is_of_name, IsScanned}
+use Rattle.rst_inline_scan.specs.Pieces.{piece_at}
+use Rattle.rst_inline_scan.proofs.WordLemmas.{escaped-after, differs, absent, letter-may_not_follow, unmarked, no-label, no-letter-at, IsBarred, no-piece-barred}
 use Rattle.rst_inline_scan.proofs.NameLemmas.{no-underscore}
 
 -- from one place up to another all are calm, and the last is none of a name, or the other is the text's end
@@ -130,15 +127,6 @@ none-calm t begin from to i run above less =
     (λ end. none to (bars-calm t i to (omega arith) (AreCalm-past t i to calm end) (λ before. absurd (omega arith))))
     (cases_lt to (length t))
 
--- so they are stepped over
-pub calm-step : (t : Text) (from to : ℕ) → IsCalm t from to → IsCalmStep t from to
-calm-step t from to run = record {
-  above = run.above;
-  within = run.within;
-  none = λ begin i low less. none-calm t begin from to i run low less;
-  bare = λ some same. true≢false (sym (ap (λ c. c == 92) same) ∙ differs is_loose (get_or t (to - 1) 0) 92 (loose t (to - 1) (run.calm (to - 1) (omega arith) (omega arith))) refl);
-}
-
 -- ---- the bytes of a text
 
 bytes-get : (t : Text) (k : ℕ) → get_or (map byte_of t) k 0 ≡ byte_of (get_or t k 0)
@@ -146,81 +134,45 @@ bytes-get [] k = refl
 bytes-get (c ∷ cs) zero = refl
 bytes-get (c ∷ cs) (suc k) = bytes-get cs k
 
-pub bytes-of_text : (t : Text) → AreBytesOf t (map byte_of t)
-bytes-of_text t = record {
-  long = length-map t byte_of;
-  ascii = λ k h. same (get_or t k 0) (get_or (map byte_of t) k 0) (bytes-get t k) h;
-  past = λ k h. past (get_or t k 0) (get_or (map byte_of t) k 0) (bytes-get t k) h;
-}
+-- the byte for a byte is itself
+pub bytes-of_bytes : (t : Text) → map byte_of (map byte_of t) ≡ map byte_of t
+bytes-of_bytes [] = refl
+bytes-of_bytes (c ∷ cs) = ap₂ (λ b bs. b ∷ bs) (grind (arith, nat_tests)) (bytes-of_bytes cs)
+
+-- a test finds a character and its byte alike, if it finds all past ASCII alike
+alike : (p : ℕ → Bool) → ((c : ℕ) → 128 ≤ c → p c ≡ p 128) → (t bytes : Text) (k : ℕ) → AreBytesOf t bytes → p (get_or t k 0) ≡ p (get_or bytes k 0)
+alike p high t bytes k of = sym (by_byte (get_or t k 0)) ∙ ap p (sym (bytes-get t k) ∙ ap (λ l. get_or l k 0) (sym of) ∙ bytes-get bytes k) ∙ by_byte (get_or bytes k 0)
   where
-    same : (c b : ℕ) → b ≡ byte_of c → b < 128 → c ≡ b
-    same c b e h = grind (arith, nat_tests)
+    by_byte : (c : ℕ) → p (byte_of c) ≡ p c
+    by_byte c = ⊎_elim (λ low. rw (lt-ltb c 128 low) refl) (λ past. rw (le-ltb c 128 past) (sym (high c past))) (cases_lt c 128)
 
-    past : (c b : ℕ) → b ≡ byte_of c → 128 ≤ b → 128 ≤ c
-    past c b e h = grind (arith, nat_tests)
+calm-at_same : (t bytes : Text) (k : ℕ) → AreBytesOf t bytes → is_calm_at t k ≡ is_calm_at bytes k
+calm-at_same t bytes k of =
+    ap₂ (λ a b. a || b) (alike is_calm (λ c high. grind (arith, nat_tests)) t bytes k of)
+    (ap₂ (λ a b. a && b) (alike (λ c. c == 95) (λ c high. grind (arith, nat_tests)) t bytes k of) (alike is_ascii_alphanumeric (λ c high. grind (arith, nat_tests)) t bytes (k + 1) of))
 
-pub bytes-of_ascii : (t bytes : Text) → bytes ≡ t → AreBytesOf t bytes
-bytes-of_ascii t bytes e = subst (λ bs. AreBytesOf t bs) (sym e) (record { long = refl; ascii = λ k h. refl; past = λ k h. h })
-
-past-calm : (c : ℕ) → 128 ≤ c → is_calm c ≡ true
-past-calm c h = grind (arith, nat_tests)
-
-calm-at_same : (t bytes : Text) (k : ℕ) → AreBytesOf t bytes → is_calm_at bytes k ≡ true → is_calm_at t k ≡ true
-calm-at_same t bytes k of h = ⊎_elim
-    (λ low.
-    let here = of.ascii k low in
-    ⊎_elim
-    (λ calm. ap (λ b. b || (get_or t k 0 == 95 && is_ascii_alphanumeric (get_or t (k + 1) 0))) (ap is_calm here ∙ calm))
-    (λ inner.
-    let following = of.ascii (k + 1) (letter-low (get_or bytes (k + 1) 0) inner.1) in
-    rw (here ∙ eqb-true (get_or bytes k 0) 95 inner.0, ap is_ascii_alphanumeric following ∙ inner.1) refl)
-    (either bytes k h))
-    (λ high. ap (λ b. b || (get_or t k 0 == 95 && is_ascii_alphanumeric (get_or t (k + 1) 0))) (past-calm (get_or t k 0) (of.past k high)))
-    (cases_lt (get_or bytes k 0) 128)
+pub long-same : (t bytes : Text) → AreBytesOf t bytes → length bytes ≡ length t
+long-same t bytes of = simp length-map at (ap length of)
 
 pub calm-same : (t bytes : Text) (from to : ℕ) → AreBytesOf t bytes → IsCalm bytes from to → IsCalm t from to
-calm-same t bytes from to of run = record {
-  above = run.above;
-  within = let within = run.within in let long = of.long in omega arith;
-  calm = λ k above less. calm-at_same t bytes k of (run.calm k above less);
-  edge = λ some inside.
-      let edge = run.edge some (let long = of.long in omega arith) in
-      ap is_of_name (of.ascii (to - 1) (other (get_or bytes (to - 1) 0) edge).low) ∙ edge;
-}
+calm-same t bytes from to of run =
+    let long = long-same t bytes of in
+    record {
+      above = run.above;
+      within = omega (arith, run.within);
+      calm = λ k above less. calm-at_same t bytes k of ∙ run.calm k above less;
+      edge = λ some inside. alike is_of_name (λ c high. grind (arith, nat_tests)) t bytes (to - 1) of ∙ run.edge some (omega arith);
+    }
 
 -- ---- steps
 
-HasNoStart-step : (t : Text) (from place start : ℕ) → HasNoStart t from from place → IsCalmStep t place start → HasNoStart t from from start
-HasNoStart-step t from place start none over i low less = ⊎_elim (none i low) (λ past. over.none from i past less) (cases_lt i place)
-
--- what precedes a step's end escapes nothing
-escaped-step : (t : Text) (from place start : ℕ) (escaped : Bool) → from ≤ place → IsCalmStep t place start → escaped ≡ is_escaped t from place → (escaped && start == place) ≡ is_escaped t from start
-escaped-step t from place start escaped order over known = ⊎_elim
-    (λ same. let e : start ≡ place = eqb-true start place same in rw same (and-true escaped ∙ known ∙ ap (is_escaped t from) (sym e)))
-    (λ other.
-    let above = over.above in
-    let less : place < start = following above other in
-    let back : start - 1 + 1 ≡ start = omega arith in
-    let bare = other-bare t (start - 1) (ne_eqb _ 92 (over.bare less)) in
-    rw other (and-false escaped ∙ sym (ap (is_escaped t from) (sym back) ∙ is_escaped-bare t from (start - 1) (omega arith) bare)))
-    (cases_bool (start == place))
-  where
-    following : place ≤ start → (start == place) ≡ false → place < start
-    following above differ = grind (arith, nat_tests)
-
--- what is known where the step ends
-pub record Stepped (t : Text) (from place start : ℕ) (after : Bool) : Type 0 where
-  pub above : place ≤ start
-  pub below : start ≤ length t
-  pub none : HasNoStart t from from start
-  pub escaped : after ≡ is_escaped t from start
-
-pub stepped : (t : Text) (from place start : ℕ) (escaped after : Bool) → from ≤ place → HasNoStart t from from place → escaped ≡ is_escaped t from place
-    → IsCalmStep t place start → after ≡ (escaped && start == place) → Stepped t from place start after
-stepped t from place start escaped after order none known step is =
+pub calm-scanned : (t bytes : Text) (from place to : ℕ) (escaped : Bool) → AreBytesOf t bytes → IsCalm bytes place to → IsScanned t from place escaped → IsScanned t from to (escaped && place == to)
+calm-scanned t bytes from place to escaped of calm known =
+    let run = calm-same t bytes place to of calm in
     record {
-      above = step.above;
-      below = step.within;
-      none = HasNoStart-step t from place start none step;
-      escaped = is ∙ escaped-step t from place start escaped order step known;
+      above = omega (arith, known.above, run.above);
+      within = run.within;
+      none = λ i low less. ⊎_elim (λ before. known.none i low before) (λ past. none-calm t from place to i run past less) (cases_lt i place);
+      escaped = escaped-after t from place to escaped known.above run.above known.escaped
+          (λ some. differs is_loose (get_or t (to - 1) 0) 92 (loose t (to - 1) (run.calm (to - 1) (omega arith) (omega arith))) refl);
     }

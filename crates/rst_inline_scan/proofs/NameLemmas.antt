@@ -1,11 +1,9 @@
 -- Roles and references.
-use Rattle.std.proofs.Common.{◌≡◌, ◌==◌, get_or, true≢false, ⊎_elim, ℕ, ltb, ◌+◌, ◌-◌, ◌<◌, ◌≤◌, Bool, true, false, not, ◌&&◌, Option, Some, None, IfSome, length, option_and_then, option_map, refl, sym, ap, ◌∙◌, arith}
-use Rattle.std.proofs.lemmas.Bool.{and_left, and_parts, cases_lt, le-ltb}
-use Rattle.std.specs.Prelude.{nat_lt}
+use Rattle.std.proofs.Common.{◌≡◌, ℕ, ◌+◌, ◌-◌, ◌<◌, ◌≤◌, Bool, true, false, not, cond, Option, Some, None, IfSome, length, option_and_then, option_map, refl, sym, subst, ◌∙◌, arith}
 use Rattle.std.proofs.lemmas.Bool.Decides.{nat_tests}
 use Rattle.std.proofs.Math.Bool.{and-true}
-use Rattle.rst_text.specs.Places.{first_from, last_from, all_from, IsFirst, IsLast}
-use Rattle.rst_text.proofs.PlacesLemmas.{first_from-is, first_from-IsFirst, last_from-is, last_from-IsLast, all_from-at, all_from-all, all_from-stop}
+use Rattle.rst_text.specs.Places.{first_from, last_from, all_from, NoneFrom, IsFirst, IsLast}
+use Rattle.rst_text.proofs.PlacesLemmas.{first_from-IsFirst, NoneFrom-join, last_from-is, last_from-IsLast, IsLast-new, IsLast-one, all_from-at, all_from-all, all_from-more, all_from-stop}
 use Rattle.rst_text.specs.Characters.{Text, has, is_alnum_at}
 use Rattle.rst_inline_scan.specs.Tails.{name_tail}
 use Rattle.rst_text.specs.SimpleNames.{is_name_at, name_stop}
@@ -55,37 +53,68 @@ pub is_reference-none : (t : Text) (i j : ℕ) → is_alnum_at t i ≡ false →
 unfolding is_reference
 is_reference-none t i j a = rw a (grind (arith, nat_tests))
 
-is_reference-ends : (t : Text) (i j : ℕ) → is_reference t i j ≡ true → ends_name t j ≡ true
-unfolding is_reference
-is_reference-ends t i j h = (and_parts (ends_name t j) (is_alnum_at t i && all_from (is_name_at t) i (j - i)) h).0
-
 pub no-underscore : (t : Text) (j : ℕ) → has t j 95 ≡ false → ends_name t j ≡ false
 unfolding ends_name name_tail
 no-underscore t j h = rw h (grind (arith, nat_tests))
-
-ends_name-below : (t : Text) (j : ℕ) → ends_name t j ≡ true → j < length t
-ends_name-below t j h = ⊎_elim
-    (λ inside. inside)
-    (λ past. absurd (true≢false (sym h ∙ no-underscore t j (and_left (nat_lt j (length t)) (get_or t j 0 == 95) (le-ltb j (length t) past)))))
-    (cases_lt j (length t))
-
-pub is_reference-below : (t : Text) (i j : ℕ) → is_reference t i j ≡ true → j < length t
-is_reference-below t i j h = ends_name-below t j (is_reference-ends t i j h)
 
 pub not_reference : (t : Text) (i j : ℕ) → ends_name t j ≡ false → is_reference t i j ≡ false
 unfolding is_reference
 not_reference t i j e = rw e (grind (arith, nat_tests))
 
--- where a run of name characters holds no end of a reference's name, none begins in it
-pub nameless : (t : Text) (start place : ℕ) → start ≤ place → is_alnum_at t start ≡ true → all_from (is_name_at t) start (place - start) ≡ true → IsLast (is_reference t start) (start + 1) (place + 1) None → ((i k : ℕ) → i < place → place < k → k < length t → is_reference t i k ≡ false) → (i : ℕ) → start ≤ i → i < place → name_end t i ≡ None
+-- a run of name characters from i up to the place, and the greatest end of a reference's name that is in it, at its end or before
+pub record IsNamed (t : Text) (i place : ℕ) (found : Option ℕ) : Type 0 where
+  pub above : i ≤ place
+  pub below : place < length t
+  pub alnum : is_alnum_at t i ≡ true
+  pub names : all_from (is_name_at t) i (place - i) ≡ true
+  pub last : IsLast (is_reference t i) (i + 1) (place + 1) found
+
+pub named-start : (t : Text) (i : ℕ) → i < length t → is_alnum_at t i ≡ true → IsNamed t i i None
+named-start t i below alnum = record { above = omega arith; below = below; alnum = alnum; names = all_from-all (is_name_at t) i (i - i) (λ k low high. absurd (omega arith)); last = λ k low high. absurd (omega arith) }
+
+-- one place more, where a name ends or doesn't
+pub named-more : (t : Text) (i place : ℕ) (found : Option ℕ) (b : Bool) → IsNamed t i place found → place + 1 < length t → is_name_at t place ≡ true → ends_name t (place + 1) ≡ b
+    → IsNamed t i (place + 1) (cond b (Some (place + 1)) found)
+named-more t i place found b run below name ends =
+    let above = run.above in
+    let names = all_from-more (is_name_at t) i place above run.names name in
+    let here = is_reference-here t i (place + 1) run.alnum names ∙ ends in
+    record { above = omega arith; below = below; alnum = run.alnum; names = names; last = last b here }
+  where
+    last : (b : Bool) → is_reference t i (place + 1) ≡ b → IsLast (is_reference t i) (i + 1) (place + 1 + 1) (cond b (Some (place + 1)) found)
+    last true here = IsLast-new (is_reference t i) (i + 1) (place + 1) (let above = run.above in omega arith) here
+    last false here = IsLast-one (is_reference t i) (i + 1) (place + 1) found here run.last
+
+-- where the run ends, or only the last character is left
+pub record IsNameEnd (t : Text) (i place : ℕ) (found : Option ℕ) : Type 0 where
+  pub exact : found ≡ name_end t i
+  pub within : IfSome found (λ end. end < length t)
+  pub reach : found ≡ None → (j : ℕ) → i ≤ j → j < place → name_end t j ≡ None
+
+last-more : (p : ℕ → Bool) (low high top : ℕ) (r : Option ℕ) → high ≤ top → NoneFrom p high top → IsLast p low high r → IsLast p low top r
+last-more p low high top (Some k) order none h = (h.0, omega (arith, h.1), h.2, NoneFrom-join p (k + 1) high top h.3 none)
+last-more p low high top None order none h = NoneFrom-join p low high top h none
+
+last-below : (p : ℕ → Bool) (low high : ℕ) (r : Option ℕ) → IsLast p low high r → IfSome r (λ end. end < high)
+last-below p low high (Some k) h = h.1
+last-below p low high None h = tt
+
+pub named-end : (t : Text) (i place : ℕ) (found : Option ℕ) → IsNamed t i place found → (place + 1 < length t → is_name_at t place ≡ false) → IsNameEnd t i place found
 unfolding name_end
-nameless t start place h alnum names none past i above below =
-    let whole : (k : ℕ) → k ≤ place → all_from (is_name_at t) start (k - start) ≡ true = λ k less. all_from-all (is_name_at t) start (k - start) (λ n a b. all_from-at (is_name_at t) start (place - start) names n a (omega arith)) in
-    let no_end : (k : ℕ) → start < k → k ≤ place → ends_name t k ≡ false = λ k more less. sym (is_reference-here t start k alnum (whole k less)) ∙ none k (omega arith) (omega arith) in
-    sym (last_from-is (is_reference t i) (i + 1) (length t) None (λ k more less. ⊎_elim
-    (λ low. not_reference t i k (no_end k (omega arith) (omega arith)))
-    (λ high. past i k below (omega arith) less)
-    (cases_lt k (place + 1))))
+named-end t i place found run stop =
+    let above = run.above in
+    let below = run.below in
+    let past : (j : ℕ) → j ≤ place → NoneFrom (is_reference t j) (place + 1) (length t) = λ j order k more less.
+    is_reference-past t j k (all_from-stop (is_name_at t) j place k order (omega arith) (stop (omega arith))) in
+    let whole = last-more (is_reference t i) (i + 1) (place + 1) (length t) found (omega arith) (past i above) run.last in
+    let no_end : IsLast (is_reference t i) (i + 1) (place + 1) None → NoneFrom (ends_name t) (i + 1) (place + 1) = λ none k more less.
+    sym (is_reference-here t i k run.alnum (all_from-all (is_name_at t) i (k - i) (λ n a b. all_from-at (is_name_at t) i (place - i) run.names n a (omega arith)))) ∙ none k more less in
+    record {
+      exact = last_from-is (is_reference t i) (i + 1) (length t) found whole;
+      within = last-below (is_reference t i) (i + 1) (length t) found whole;
+      reach = λ none j from to. sym (last_from-is (is_reference t j) (j + 1) (length t) None (NoneFrom-join (is_reference t j) (j + 1) (place + 1) (length t)
+          (λ k more less. not_reference t j k (no_end (subst (IsLast (is_reference t i) (i + 1) (place + 1)) none run.last) k (omega arith) less)) (past j (omega arith))));
+    }
 
 -- ---- the piece
 

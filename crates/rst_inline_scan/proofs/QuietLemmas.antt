@@ -9,8 +9,7 @@ use Rattle.rst_inline_scan.specs.Marked.{markup_of}
 use Rattle.std.proofs.lemmas.Bool.Decides.{nat_tests}
 use Rattle.std.proofs.lemmas.List.Elements.{All-from_get_or}
 use Rattle.std.proofs.lemmas.List.Folds.{list_all_at, list_all-append}
-use Rattle.std.proofs.lemmas.List.Sums.{list_all-from_AllPass}
-use Rattle.rst_text.proofs.PlacesLemmas.{cases_bool}
+use Rattle.std.proofs.lemmas.List.Sums.{AllPass-from_list_all, list_all-from_AllPass}
 use Rattle.rst_text.specs.Characters.{Text, has}
 use Rattle.rst_text.specs.Escapes.{has_backslash}
 use Rattle.rst_inline_scan.specs.Footnotes.{label_stop, closes_label, label_piece, label}
@@ -24,14 +23,11 @@ use Rattle.rst_inline_scan.proofs.NameLemmas.{no-underscore}
 abbrev IsQuiet : Text → Type 0
 IsQuiet t = quiet t ≡ true
 
-quiet-at : (t : Text) (i : ℕ) → IsQuiet t → i < length t → is_quiet (get_or t i 0) ≡ true
-quiet-at t i h less = ⊎_elim (λ here. here) (λ loud. absurd (true≢false (sym h ∙ list_all_at is_quiet t i 0 less loud))) (cases_bool (is_quiet (get_or t i 0)))
-
 -- a character that isn't quiet occurs nowhere
 absent : (t : Text) (c : ℕ) → IsQuiet t → is_quiet c ≡ false → (i : ℕ) → has t i c ≡ false
 absent t c h loud i = false_from_ne_true (has t i c) (λ here.
     let parts = and_parts (nat_lt i (length t)) (get_or t i 0 == c) here in
-    true≢false (sym (quiet-at t i h (ltb-true i (length t) parts.0)) ∙ ap is_quiet (eqb-true (get_or t i 0) c parts.1) ∙ loud))
+    true≢false (sym (AllPass-from_list_all is_quiet t h i 0 (ltb-true i (length t) parts.0)) ∙ ap is_quiet (eqb-true (get_or t i 0) c parts.1) ∙ loud))
 
 none-marked : (t : Text) (i : ℕ) → IsQuiet t → markup_of t i ≡ None
 none-marked t i h = unmarked t i (absent t 42 h refl i) (absent t 96 h refl i) (and_left _ _ (absent t 95 h refl i)) (absent t 124 h refl i) (absent t 58 h refl i)

@@ -1,14 +1,15 @@
 -- The pieces that are found one after the other are those of the text.
-use Rattle.std.proofs.Common.{◌≡◌, inl, inr, ℕ, zero, suc, ◌+◌, ◌<◌, ◌≤◌, true, false, ◌∷◌, ◌++◌, Option, Some, None, length, refl, sym, subst, arith, lt-ltb, le-ltb, true≢false}
+use Rattle.std.proofs.Common.{◌≡◌, inl, inr, ℕ, zero, suc, ◌+◌, ◌<◌, ◌≤◌, Bool, true, false, List, [], ◌∷◌, ◌++◌, Option, Some, None, length, append_assoc, ap₂, le_of_lt, refl, sym, ap, ◌∙◌, subst, arith, lt-ltb, le-ltb, true≢false}
 use Rattle.std.specs.Prelude.{is_some}
 use Rattle.std.proofs.lemmas.Bool.{cases_lt}
 use Rattle.rst_text.specs.Places.{IsFirst}
-use Rattle.rst_text.proofs.PlacesLemmas.{first_from-first}
+use Rattle.rst_text.proofs.PlacesLemmas.{first_from-first, first_from-is}
 use Rattle.rst_text.specs.Characters.{Text}
 use Rattle.rst_inline_scan.specs.Pieces.{piece_at, HasNoStart, plain_from, IsPieces, nothing, last, other, plain}
 use Rattle.rst_inline_scan.specs.Reading.{next_start, pieces_by, pieces_from, pieces_of, plain_if}
+use Rattle.rst_inline_scan.specs.Calm.{IsScanned}
 use Rattle.rst_inline_scan.specs.declared.piece.Piece.{Piece}
-use Rattle.rst_inline_scan.proofs.PieceLemmas.{piece_at-fits, is-plain}
+use Rattle.rst_inline_scan.proofs.PieceLemmas.{piece_at-fits, inside_at, is-plain}
 
 some_piece : (o : Option Piece) → is_some o ≡ true → (q : Piece) × (o ≡ Some q)
 some_piece (Some q) h = (q, refl)
@@ -18,10 +19,6 @@ no_piece : (o : Option Piece) → is_some o ≡ false → o ≡ None
 no_piece (Some q) h = absurd (true≢false h)
 no_piece None h = refl
 
--- all pieces after a place later than this one are found so
-abbrev FindsAfter : Text → ℕ → ℕ → Type 0
-FindsAfter t n from = (k : ℕ) → from < k → k ≤ length t → IsPieces t k (pieces_from t n k)
-
 -- no start is left
 at_end : (t : Text) (from : ℕ) → from ≤ length t → HasNoStart t from from (length t) → IsPieces t from (plain_if from (length t))
 at_end t from within h = elim (cases_lt from (length t)) [
@@ -30,19 +27,32 @@ at_end t from within h = elim (cases_lt from (length t)) [
 ]
 
 -- a piece begins at i, and none before
-at_start : (t : Text) (n from i : ℕ) (q : Piece) → from ≤ i → i < length t → HasNoStart t from from i → piece_at t from i ≡ Some q → FindsAfter t n from
-    → IsPieces t from (plain_if from i ++ q ∷ pieces_from t n q.to)
-at_start t n from i q above within h e finds =
-    let fits = piece_at-fits t from i q (omega arith) e in
-    let some = fits.some in
-    let begins = fits.begins in
-    let rest : IsPieces t q.to (pieces_from t n q.to) = finds q.to (omega arith) fits.within in
-    elim (cases_lt from i) [
-      | inl less ↦ rw (lt-ltb from i less) (plain (plain_from from i) q (pieces_from t n q.to) (is-plain t from i less (omega arith) h) e rest)
-      | inr more ↦
-          rw (le-ltb from i more)
-          (let same : i ≡ from = omega arith in other q (pieces_from t n q.to) (subst (λ k. piece_at t from k ≡ Some q) same e) rest)
-    ]
+at_start : (t : Text) (from i : ℕ) (q : Piece) (ps : List Piece) → from ≤ i → i ≤ length t → HasNoStart t from from i → piece_at t from i ≡ Some q → IsPieces t q.to ps → IsPieces t from (plain_if from i ++ q ∷ ps)
+at_start t from i q ps above within h begins rest = elim (cases_lt from i) [
+  | inl less ↦ rw (lt-ltb from i less) (plain (plain_from from i) q ps (is-plain t from i less within h) begins rest)
+  | inr more ↦ rw (le-ltb from i more) (let same : i ≡ from = omega arith in other q ps (subst (λ k. piece_at t from k ≡ Some q) same begins) rest)
+]
+
+-- ---- the pieces so far
+
+-- whatever completes the rest completes the whole
+abbrev pub Gathered : Text → ℕ → List Piece → Type 0
+Gathered t from items = (ps : List Piece) → IsPieces t from ps → IsPieces t 0 (items ++ ps)
+
+pub gathered-more : (t : Text) (from i : ℕ) (escaped : Bool) (items : List Piece) (q : Piece) → Gathered t from items → IsScanned t from i escaped → piece_at t from i ≡ Some q → Gathered t q.to ((items ++ plain_if from i) ++ q ∷ [])
+gathered-more t from i escaped items q gathered known begins ps h =
+    rw (append_assoc, append_assoc) (gathered (plain_if from i ++ q ∷ ps) (at_start t from i q ps known.above known.within known.none begins h))
+
+pub gathered-all : (t : Text) (from i : ℕ) (escaped : Bool) (items : List Piece) → Gathered t from items → IsScanned t from i escaped → length t ≤ i → IsPieces t 0 (items ++ plain_if from i)
+gathered-all t from i escaped items gathered known end =
+    let same : i ≡ length t = omega (arith, known.within) in
+    rw same (gathered (plain_if from (length t)) (at_end t from (omega (arith, known.above)) (subst (HasNoStart t from from) same known.none)))
+
+-- ---- from left to right
+
+-- all pieces after a place later than this one are found so
+abbrev FindsAfter : Text → ℕ → ℕ → Type 0
+FindsAfter t n from = (k : ℕ) → from < k → k ≤ length t → IsPieces t k (pieces_from t n k)
 
 -- by the next start
 by_start : (t : Text) (n from : ℕ) → from ≤ length t → FindsAfter t n from → (r : Option ℕ) → IsFirst (λ i. is_some (piece_at t from i)) from (length t) r
@@ -50,7 +60,10 @@ by_start : (t : Text) (n from : ℕ) → from ≤ length t → FindsAfter t n fr
 by_start t n from within finds None h = at_end t from within (λ i low high. no_piece (piece_at t from i) (h i low high))
 by_start t n from within finds (Some i) h =
     let q = some_piece (piece_at t from i) h.2 in
-    rw q.1 (at_start t n from i q.0 h.0 h.1 (λ k low high. no_piece (piece_at t from k) (h.3 k low high)) q.1 finds)
+    let within : i ≤ length t = omega (arith, h.1) in
+    let fits = piece_at-fits t from i q.0 within q.1 in
+    let rest = finds q.0.to (omega (arith, fits.some, h.0)) fits.within in
+    rw q.1 (at_start t from i q.0 (pieces_from t n q.0.to) h.0 within (λ k low high. no_piece (piece_at t from k) (h.3 k low high)) q.1 rest)
 
 found_from : (t : Text) (n from : ℕ) → length t < from + n → from ≤ length t → IsPieces t from (pieces_from t n from)
 found_from t zero from e within = absurd (omega arith)
@@ -60,3 +73,31 @@ found_from t (suc n) from e within =
 pub pieces_of-pieces : (t : Text) → IsPieces t 0 (pieces_of t)
 unfolding pieces_of
 pieces_of-pieces t = found_from t (suc (length t)) 0 (omega arith) (omega arith)
+
+-- ---- no others are
+
+by_next : (t : Text) (n from : ℕ) (ps : List Piece) (r : Option ℕ) → IsFirst (λ i. is_some (piece_at t from i)) from (length t) r
+    → ps ≡ pieces_by t from r (λ following. pieces_from t n following) → ps ≡ pieces_from t (suc n) from
+by_next t n from ps r h e =
+    subst (λ r. ps ≡ pieces_by t from r (λ following. pieces_from t n following)) (first_from-is (λ i. is_some (piece_at t from i)) from (length t) r h) e
+
+only_from : (t : Text) (n from : ℕ) (ps : List Piece) → length t < from + n → from ≤ length t → IsPieces t from ps → ps ≡ pieces_from t n from
+only_from t zero from ps e within h = absurd (omega arith)
+only_from t (suc n) from _ e within (nothing end) = by_next t n from [] None (λ i low high. absurd (omega arith)) (rw (le-ltb from (length t) (omega arith)) refl)
+only_from t (suc n) from _ e within (last p a end) =
+    by_next t n from (p ∷ []) None (λ i low high. ap is_some (a.none i low (omega arith)))
+    (rw (lt-ltb from (length t) (omega (arith, a.some))) (ap (λ q. q ∷ []) (a.is_plain ∙ ap (plain_from from) end)))
+only_from t (suc n) from _ e within (other p ps begins rest) =
+    let fits = piece_at-fits t from from p within begins in
+    let later = only_from t n p.to ps (omega (arith, fits.some)) fits.within rest in
+    by_next t n from (p ∷ ps) (Some from) (omega arith, inside_at t from from p within begins, ap is_some begins, λ i low high. absurd (omega arith))
+    (rw (le-ltb from from (omega arith), begins) (ap (λ l. p ∷ l) later))
+only_from t (suc n) from _ e within (plain p q ps a begins rest) =
+    let fits = piece_at-fits t from p.to q a.within begins in
+    let later = only_from t n q.to ps (omega (arith, fits.some, a.some)) fits.within rest in
+    by_next t n from (p ∷ q ∷ ps) (Some p.to) (le_of_lt a.some, inside_at t from p.to q a.within begins, ap is_some begins, λ i low high. ap is_some (a.none i low high))
+    (rw (lt-ltb from p.to a.some, begins) (ap₂ (λ p ps. p ∷ q ∷ ps) a.is_plain later))
+
+pub pieces_of-only : (t : Text) (ps : List Piece) → IsPieces t 0 ps → ps ≡ pieces_of t
+unfolding pieces_of
+pieces_of-only t ps h = only_from t (suc (length t)) 0 ps (omega arith) (omega arith) h

@@ -1,5 +1,5 @@
 -- Standalone URIs.
-use Rattle.std.proofs.Common.{◌≡◌, ◌↔◌, ⊎_elim, inl, inr, ℕ, ◌+◌, ◌-◌, ◌<◌, ◌≤◌, Bool, true, false, not, ◌&&◌, ◌==◌, cond, List, [], ◌∷◌, ◌++◌, Option, Some, None, length, option_and_then, option_map, get_or, unwrap_or, true≢false, refl, sym, ap, ap₂, ◌∙◌, subst, arith}
+use Rattle.std.proofs.Common.{◌≡◌, ◌↔◌, ⊎_elim, inl, inr, ℕ, ◌+◌, ◌-◌, ◌<◌, ◌≤◌, Bool, true, false, not, ◌&&◌, ◌==◌, cond, List, [], ◌∷◌, ◌++◌, Option, Some, None, length, option_and_then, option_map, get_or, unwrap_or, true≢false, refl, sym, ap, ◌∙◌, subst, arith}
 use Rattle.std.specs.Prelude.{nat_lt, find}
 use Rattle.std.specs.List.{list_all}
 use Rattle.std.specs.Char.{to_ascii_lowercase}
@@ -14,7 +14,7 @@ use Rattle.rst_text.specs.Places.{first_from, last_from, NoneFrom, IsFirst, IsLa
 use Rattle.rst_text.proofs.PlacesLemmas.{cases_bool, lt_eq_gt, first_from-is, first_from-IsFirst, last_from-is, last_from-last, NoneFrom-within}
 use Rattle.rst_text.specs.Characters.{Text}
 use Rattle.rst_inline_scan.specs.Characters.{is_free_after}
-use Rattle.rst_inline_scan.specs.Uri.{has_letter, has_any_case, schemes, scheme_end, is_uri_char, is_uri_trail, uri_stop, uri_close, uri_after_scheme, if_free, uri_end, uri_piece, uri, IsUri}
+use Rattle.rst_inline_scan.specs.Uri.{has_letter, has_any_case, schemes, scheme_end, is_uri_char, is_uri_trail, uri_stop, uri_close, uri_after_scheme, if_free, uri_end, uri_piece, uri, IsUri, is_uri_from, is_ascii_uri}
 use Rattle.rst_inline_scan.proofs.FitLemmas.{Fit, Fit-none, Fit-some}
 use Rattle.rst_text.proofs.Choices.{some_is, none_is, chosen}
 
@@ -250,17 +250,7 @@ chars-bytes bytes good h = sym (encodes-uri (chars bytes) h) ∙ encodes-chars b
 free-at-end : (t : Text) → is_free_after t (length t) ≡ true
 free-at-end t = grind (arith, nat_tests)
 
--- the bytes are a URI with its scheme's end at the place: more follows that, each is a character of a URI, and the last
--- may end one
-abbrev is_ascii_uri_from : List ℕ → Option ℕ → Bool
-is_ascii_uri_from bytes (Some i) = nat_lt i (length bytes) && (list_all is_uri_char bytes && not (is_uri_trail (get_or bytes (length bytes - 1) 0)))
-is_ascii_uri_from bytes None = false
-
--- the bytes of a text show at once whether it is one URI, as each character of a URI is one byte
-abbrev pub is_ascii_uri : List ℕ → Bool
-is_ascii_uri bytes = is_ascii_uri_from bytes (scheme_end bytes 0)
-
-IsUri-from : (t : Text) (r : Option ℕ) → scheme_end t 0 ≡ r → is_ascii_uri_from t r ≡ true → IsUri t
+IsUri-from : (t : Text) (r : Option ℕ) → scheme_end t 0 ≡ r → is_uri_from t r ≡ true → IsUri t
 IsUri-from t (Some m) scheme h =
     let first = and_parts (nat_lt m (length t)) (list_all is_uri_char t && not (is_uri_trail (get_or t (length t - 1) 0))) h in
     let second = and_parts (list_all is_uri_char t) (not (is_uri_trail (get_or t (length t - 1) 0))) first.1 in
@@ -271,7 +261,7 @@ IsUri-from t (Some m) scheme h =
     uri_end-found t 0 m (length t) scheme close (free-at-end t)
 IsUri-from t None scheme h = absurd (cc)
 
-after_scheme-uri : (t : Text) (r : Option ℕ) → scheme_end t 0 ≡ r → option_and_then (uri_after_scheme t) r ≡ Some (length t) → is_ascii_uri_from t r ≡ true
+after_scheme-uri : (t : Text) (r : Option ℕ) → scheme_end t 0 ≡ r → option_and_then (uri_after_scheme t) r ≡ Some (length t) → is_uri_from t r ≡ true
 after_scheme-uri t (Some m) scheme h =
     let begins = scheme_end-begins t 0 m scheme in
     let run = uri_stop-stops t m (begins.within (omega arith)) in
@@ -289,7 +279,7 @@ from-IsUri : (t : Text) → IsUri t → is_ascii_uri t ≡ true
 unfolding uri_end
 from-IsUri t h = after_scheme-uri t (scheme_end t 0) refl (if_free-some t (option_and_then (uri_after_scheme t) (scheme_end t 0)) (length t) h)
 
-all-of-uri : (t : Text) (r : Option ℕ) → is_ascii_uri_from t r ≡ true → AllUri t
+all-of-uri : (t : Text) (r : Option ℕ) → is_uri_from t r ≡ true → AllUri t
 all-of-uri t (Some m) h =
     let first = and_parts (nat_lt m (length t)) (list_all is_uri_char t && not (is_uri_trail (get_or t (length t - 1) 0))) h in
     (and_parts (list_all is_uri_char t) (not (is_uri_trail (get_or t (length t - 1) 0))) first.1).0
@@ -303,23 +293,6 @@ IsUri-ascii bytes good h =
     let found = from-IsUri (chars bytes) h in
     subst (λ t. is_ascii_uri t ≡ true) (chars-bytes bytes good (all-of-uri (chars bytes) (scheme_end (chars bytes) 0) found)) found
 
--- ---- the answer by what the bytes were found to be
-
-ascii-by : (bytes : List ℕ) (answer : Bool) (r : Option ℕ) → r ≡ scheme_end bytes 0 → answer ≡ is_ascii_uri_from bytes r → IsUtf8 bytes → (answer ≡ true) ↔ IsUri (chars bytes)
-ascii-by bytes answer r scheme same good =
-    let is : answer ≡ is_ascii_uri bytes = same ∙ ap (is_ascii_uri_from bytes) scheme in
-    (λ h. is_ascii_uri-is bytes good (sym is ∙ h), λ h. is ∙ IsUri-ascii bytes good h)
-
-pub ascii-none : (bytes : List ℕ) → None ≡ scheme_end bytes 0 → IsUtf8 bytes → (false ≡ true) ↔ IsUri (chars bytes)
-ascii-none bytes scheme = ascii-by bytes false None scheme refl
-
-pub ascii-short : (bytes : List ℕ) (answer : Bool) (i : ℕ) → Some i ≡ scheme_end bytes 0 → answer ≡ false → length bytes ≤ i → IsUtf8 bytes → (answer ≡ true) ↔ IsUri (chars bytes)
-ascii-short bytes answer i scheme fails past = ascii-by bytes answer (Some i) scheme (fails ∙ short)
-  where
-    short : false ≡ is_ascii_uri_from bytes (Some i)
-    short = grind (arith, nat_tests)
-
-pub ascii-found : (bytes : List ℕ) (answer fit : Bool) (i : ℕ) → Some i ≡ scheme_end bytes 0 → i < length bytes → fit ≡ list_all is_uri_char bytes → answer ≡ (fit && not (is_uri_trail (get_or bytes (length bytes - 1) 0))) → IsUtf8 bytes → (answer ≡ true) ↔ IsUri (chars bytes)
-ascii-found bytes answer fit i scheme less fits same =
-    ascii-by bytes answer (Some i) scheme (same
-    ∙ sym (ap₂ (λ x y. x && (y && not (is_uri_trail (get_or bytes (length bytes - 1) 0)))) (lt-ltb i (length bytes) less) (sym fits)))
+-- so the bytes show at once whether the text is one URI
+pub plain-bytes : (bytes : List ℕ) (answer : Bool) → answer ≡ is_ascii_uri bytes → IsUtf8 bytes → (answer ≡ true) ↔ IsUri (chars bytes)
+plain-bytes bytes answer is good = (λ h. is_ascii_uri-is bytes good (sym is ∙ h), λ h. is ∙ IsUri-ascii bytes good h)

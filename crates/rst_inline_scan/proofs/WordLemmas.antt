@@ -1,11 +1,9 @@
 -- Inside words nothing begins.
-use Rattle.std.proofs.Common.{◌≡◌, ⊎_elim, ℕ, ◌+◌, ◌-◌, ◌<◌, ◌≤◌, Bool, true, false, not, ◌&&◌, ◌||◌, ◌==◌, cond, List, [], ◌∷◌, Option, Some, None, length, option_and_then, option_map, get_or, true≢false, refl, sym, ap, ◌∙◌, subst, arith}
+use Rattle.std.proofs.Common.{◌≡◌, inl, inr, ⊎_elim, ℕ, ◌+◌, ◌-◌, ◌<◌, ◌≤◌, Bool, true, false, not, ◌&&◌, ◌||◌, ◌==◌, cond, List, [], ◌∷◌, Some, None, length, option_and_then, option_map, get_or, true≢false, refl, sym, ap, ◌∙◌, subst, arith}
 use Rattle.std.specs.Prelude.{nat_lt, find}
 use Rattle.std.specs.List.{list_all}
-use Rattle.std.specs.Option.{option_or}
-use Rattle.rst_inline_scan.specs.declared.piece.Piece.{Piece}
 use Rattle.std.specs.Char.{is_ascii_alphanumeric, to_ascii_lowercase}
-use Rattle.std.proofs.lemmas.Bool.{cond_both, ne_eqb, lt-ltb, eqb-true, not-true, false_from_ne_true, and_parts, and_left, or_parts, cases_lt}
+use Rattle.std.proofs.lemmas.Bool.{cond_both, ne_eqb, lt-ltb, eqb-true, eq-eqb, not-true, and_parts, and_left, or_parts, cases_lt}
 use Rattle.std.proofs.lemmas.Bool.Decides.{nat_tests}
 use Rattle.std.proofs.Math.Bool.{and-true, and-false}
 use Rattle.rst_text.specs.Characters.{is_white, Text, has, is_alnum_at}
@@ -13,17 +11,17 @@ use Rattle.rst_text.specs.Places.{all_from}
 use Rattle.rst_text.proofs.CharacterLemmas.{is_alphanumeric-ascii}
 use Rattle.rst_text.proofs.PlacesLemmas.{cases_bool, lt_eq_gt, all_from-at, all_from-stop, last_from-is}
 use Rattle.rst_inline_scan.specs.Characters.{may_precede_start, may_follow}
-use Rattle.rst_text.specs.Escapes.{is_escaped}
+use Rattle.rst_text.specs.Escapes.{is_escaped, escapes}
 use Rattle.rst_text.specs.SimpleNames.{is_joint, is_name_at}
-use Rattle.rst_inline_scan.specs.Names.{role_end, ends_name, is_reference, name_end, reference_to, reference}
-use Rattle.rst_inline_scan.specs.Marked.{has_start, markup_of, start_of, starts, marked_from, marked}
+use Rattle.rst_inline_scan.specs.Names.{ends_name, is_reference, name_end, reference_to, reference}
+use Rattle.rst_inline_scan.specs.Marked.{markup_of}
 use Rattle.rst_inline_scan.specs.Footnotes.{label}
 use Rattle.rst_inline_scan.specs.Uri.{has_letter, has_any_case, schemes, scheme_end, uri_piece, uri}
+use Rattle.std.proofs.Math.Nat.{eq-or-lt_of_le}
 use Rattle.rst_inline_scan.specs.Words.{IsWord, goes_on}
+use Rattle.rst_inline_scan.specs.Calm.{IsScanned}
 use Rattle.rst_inline_scan.specs.Pieces.{markup_at, is_free, piece_at, HasNoStart}
-use Rattle.rst_inline_scan.specs.declared.piece.Markup.{Markup}
-use Rattle.rst_inline_scan.specs.declared.piece.Markup.TheVariants.{Strong, Emphasis, Literal, Target, Substitution, Interpreted}
-use Rattle.rst_text.proofs.EscapeLemmas.{IsBare, other-bare, is_escaped-bare}
+use Rattle.rst_text.proofs.EscapeLemmas.{other-bare, is_escaped-bare, is_escaped-more, is_escaped-start}
 use Rattle.rst_inline_scan.proofs.NameLemmas.{no-underscore, not_reference, is_reference-past}
 use Rattle.rst_inline_scan.proofs.UriLemmas.{letter_at, uri_end-none}
 
@@ -178,54 +176,13 @@ pub unmarked : (t : Text) (i : ℕ) → has t i 42 ≡ false → has t i 96 ≡ 
 unfolding markup_of
 unmarked t i star grave target bar colon = rw (star, grave, target, bar, colon) refl
 
--- where a start-string is, only its markup begins
-starts-by : (markup : Markup) (t : Text) (i : ℕ) → has_start markup t i ≡ true → markup_of t i ≡ Some markup
-unfolding markup_of
-starts-by Strong t i h = grind (arith, nat_tests)
-starts-by Emphasis t i h = grind (arith, nat_tests)
-starts-by Literal t i h = grind (arith, nat_tests)
-starts-by Target t i h = grind (arith, nat_tests)
-starts-by Substitution t i h = grind (arith, nat_tests)
-starts-by Interpreted t i h = grind (arith, nat_tests)
-
-no-mark : (markup : Markup) (t : Text) (i : ℕ) → (markup_of t i ≡ Some markup → ⊥) → marked_from markup t i i ≡ None
-unfolding starts
-no-mark markup t i h = rw (false_from_ne_true (has_start markup t i) (λ stands. h (starts-by markup t i stands))) refl
-
-no-role : (t : Text) (i : ℕ) → (markup_of t i ≡ Some Interpreted → ⊥) → role_end t i ≡ None
-unfolding markup_of role_end
-no-role t i h = rw (false_from_ne_true (has t i 58) (λ colon. h (grind (arith, nat_tests)))) refl
-
-no-other : (t : Text) (i : ℕ) (markup : Markup) → (markup_of t i ≡ Some markup → ⊥) → marked markup t i ≡ None
-unfolding marked start_of
-no-other t i Strong h = no-mark Strong t i h
-no-other t i Emphasis h = no-mark Emphasis t i h
-no-other t i Literal h = no-mark Literal t i h
-no-other t i Target h = no-mark Target t i h
-no-other t i Substitution h = no-mark Substitution t i h
-no-other t i Interpreted h = rw (no-role t i h) (no-mark Interpreted t i h)
-
--- the first of all markup that gives a piece, if only this may
-one-of : (f : Markup → Option Piece) (m : Option Markup) (rest : Option Piece) → ((markup : Markup) → (m ≡ Some markup → ⊥) → f markup ≡ None)
-    → option_or (f Strong) (option_or (f Emphasis) (option_or (f Literal) (option_or (f Target) (option_or (f Substitution) (option_or (f Interpreted) rest))))) ≡ option_or (option_and_then f m) rest
-one-of f None rest none = rw (none Strong (λ e. cc), none Emphasis (λ e. cc), none Literal (λ e. cc), none Target (λ e. cc), none Substitution (λ e. cc), none Interpreted (λ e. cc)) refl
-one-of f (Some Strong) rest none = rw (none Emphasis (λ e. cc), none Literal (λ e. cc), none Target (λ e. cc), none Substitution (λ e. cc), none Interpreted (λ e. cc)) refl
-one-of f (Some Emphasis) rest none = rw (none Strong (λ e. cc), none Literal (λ e. cc), none Target (λ e. cc), none Substitution (λ e. cc), none Interpreted (λ e. cc)) refl
-one-of f (Some Literal) rest none = rw (none Strong (λ e. cc), none Emphasis (λ e. cc), none Target (λ e. cc), none Substitution (λ e. cc), none Interpreted (λ e. cc)) refl
-one-of f (Some Target) rest none = rw (none Strong (λ e. cc), none Emphasis (λ e. cc), none Literal (λ e. cc), none Substitution (λ e. cc), none Interpreted (λ e. cc)) refl
-one-of f (Some Substitution) rest none = rw (none Strong (λ e. cc), none Emphasis (λ e. cc), none Literal (λ e. cc), none Target (λ e. cc), none Interpreted (λ e. cc)) refl
-one-of f (Some Interpreted) rest none = rw (none Strong (λ e. cc), none Emphasis (λ e. cc), none Literal (λ e. cc), none Target (λ e. cc), none Substitution (λ e. cc)) refl
-
-pub markup_at_by : (t : Text) (i : ℕ) → markup_at t i ≡ option_or (option_and_then (λ markup. marked markup t i) (markup_of t i)) (option_or (label t i) (option_or (reference t i) (uri t i)))
-unfolding markup_at
-markup_at_by t i = one-of (λ markup. marked markup t i) (markup_of t i) (option_or (label t i) (option_or (reference t i) (uri t i))) (no-other t i)
-
 pub no-label : (t : Text) (i : ℕ) → has t i 91 ≡ false → label t i ≡ None
 unfolding label
 no-label t i h = rw h refl
 
 no-markup : (t : Text) (i e : ℕ) → IsBarred t i e → markup_of t i ≡ None → label t i ≡ None → markup_at t i ≡ None
-no-markup t i e bar none no_label = rw (markup_at_by t i, none, no_label, no-reference t i e bar, no-uri t i e bar) refl
+unfolding markup_at
+no-markup t i e bar none no_label = rw (none, no_label, no-reference t i e bar, no-uri t i e bar) refl
 
 -- nothing begins at a place where none of these does
 pub no-piece-barred : (t : Text) (from i e : ℕ) → IsBarred t i e → markup_of t i ≡ None → label t i ≡ None → piece_at t from i ≡ None
@@ -246,8 +203,8 @@ inside-word t from i to k run above upto =
     let before : may_precede_start (get_or t (k - 1) 0) ≡ false = letter-before _ (run.letters (k - 1) (omega arith) (omega arith)) in
     rw before (grind (arith, nat_tests))
 
-pub HasNoStart-word : (t : Text) (from i to : ℕ) → IsWord t i to → HasNoStart t from from i → piece_at t from i ≡ None → HasNoStart t from from (to + 1)
-HasNoStart-word t from i to run none here k low high =
+none-word : (t : Text) (from i to : ℕ) → IsWord t i to → HasNoStart t from from i → piece_at t from i ≡ None → HasNoStart t from from (to + 1)
+none-word t from i to run none here k low high =
     ⊎_elim
     (λ before. none k low before)
     (λ rest. ⊎_elim
@@ -256,24 +213,44 @@ HasNoStart-word t from i to run none here k low high =
     rest)
     (lt_eq_gt k i)
 
-letter-bare : (t : Text) (k : ℕ) → IsLetter (get_or t k 0) → IsBare t k
-letter-bare t k h = other-bare t k (differs is_ascii_alphanumeric (get_or t k 0) 92 h refl)
+-- whether what follows a run is escaped, which doesn't end with a backslash
+pub escaped-after : (t : Text) (from i to : ℕ) (escaped : Bool) → from ≤ i → i ≤ to → escaped ≡ is_escaped t from i → (i < to → (get_or t (to - 1) 0 == 92) ≡ false) → (escaped && i == to) ≡ is_escaped t from to
+escaped-after t from i to escaped order above known other = elim (eq-or-lt_of_le above) [
+  | inl same ↦ rw (eq-eqb i to same) (and-true escaped ∙ known ∙ ap (is_escaped t from) same)
+  | inr less ↦
+      let back : to - 1 + 1 ≡ to = omega arith in
+      rw (ne_eqb i to (λ same. omega arith)) (and-false escaped ∙ sym (ap (is_escaped t from) (sym back) ∙ is_escaped-bare t from (to - 1) (omega arith) (other-bare t (to - 1) (other less))))
+]
 
--- a word escapes nothing
-pub unescaped-word : (t : Text) (from i to : ℕ) → from ≤ i → i < to → IsWord t i to → false ≡ is_escaped t from to
-unescaped-word t from i to order some run =
-    let e : to - 1 + 1 ≡ to = omega arith in
-    sym (ap (is_escaped t from) (sym e) ∙ is_escaped-bare t from (to - 1) (omega arith) (letter-bare t (to - 1) (run.letters (to - 1) (omega arith) (omega arith))))
+-- no plain text yet
+pub scanned-none : (t : Text) (from : ℕ) → from ≤ length t → IsScanned t from from false
+scanned-none t from within = record { above = omega arith; within = within; none = λ i low high. absurd (omega arith); escaped = sym (is_escaped-start t from) }
 
--- whether what follows a word is escaped
-pub unescaped-after : (t : Text) (from i to : ℕ) (escaped : Bool) → from ≤ i → IsWord t i to → escaped ≡ is_escaped t from i → (escaped && i == to) ≡ is_escaped t from to
-unescaped-after t from i to escaped order run known = ⊎_elim
-    (λ same. let e : i ≡ to = eqb-true i to same in rw same (and-true escaped ∙ known ∙ ap (is_escaped t from) e))
-    (λ other. rw other (and-false escaped ∙ unescaped-word t from i to order (some_of (run.above) other) run))
-    (cases_bool (i == to))
-  where
-    some_of : i ≤ to → (i == to) ≡ false → i < to
-    some_of above differ = grind (arith, nat_tests)
+-- so a word is passed
+word-over : (t : Text) (from i to : ℕ) (escaped : Bool) → IsWord t i to → piece_at t from i ≡ None → IsScanned t from i escaped → IsScanned t from to (escaped && i == to)
+word-over t from i to escaped run here known = record {
+  above = omega (arith, known.above, run.above);
+  within = run.within;
+  none = λ k low high. none-word t from i to run known.none here k low (omega arith);
+  escaped = escaped-after t from i to escaped known.above run.above known.escaped
+      (λ some. differs is_ascii_alphanumeric (get_or t (to - 1) 0) 92 (run.letters (to - 1) (omega arith) (omega arith)) refl);
+}
+
+pub word-scanned : (t : Text) (from i to : ℕ) (escaped : Bool) → IsWord t i to → piece_at t from i ≡ None → IsScanned t from i escaped → i < to → IsScanned t from to false
+word-scanned t from i to escaped run here known some = subst (IsScanned t from to) (ap (λ b. escaped && b) (ne_eqb i to (λ same. omega arith)) ∙ and-false escaped) (word-over t from i to escaped run here known)
+
+-- and the character after it, where nothing begins either
+pub word-passed : (t : Text) (from i to : ℕ) (escaped : Bool) → IsWord t i to → piece_at t from i ≡ None → IsScanned t from i escaped → to < length t
+    → IsScanned t from (to + 1) (escapes (get_or t to 0) (escaped && i == to))
+word-passed t from i to escaped run here known inside =
+    let word = word-over t from i to escaped run here known in
+    let above = word.above in
+    record {
+      above = omega arith;
+      within = omega arith;
+      none = none-word t from i to run known.none here;
+      escaped = ap (escapes (get_or t to 0)) word.escaped ∙ sym (is_escaped-more t from to above);
+    }
 
 -- ---- what goes on with no word
 

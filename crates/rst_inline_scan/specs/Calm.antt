@@ -1,19 +1,18 @@
 -- Steps over what holds no markup. No rule of markup: the scanner is faster by them.
-use Rattle.std.specs.Prelude.{◌≡◌, ℕ, ◌+◌, ◌-◌, ◌<◌, ◌≤◌, Bool, true, not, ◌&&◌, ◌||◌, ◌==◌, nat_lt, [], ◌∷◌, ◌≢◌, slice_index, length, if◌then◌else◌}
+use Rattle.std.specs.Prelude.{◌≡◌, ℕ, ◌+◌, ◌<◌, ◌≤◌, Bool, true, not, ◌&&◌, ◌||◌, ◌==◌, nat_lt, [], ◌∷◌, map, slice_index, length, if◌then◌else◌}
 use Rattle.std.specs.Char.{is_ascii_alphanumeric}
 use Rattle.rst_text.specs.Characters.{Text, is_among}
 use Rattle.rst_text.specs.SimpleNames.{is_joint}
+use Rattle.rst_text.specs.Escapes.{is_escaped}
 use Rattle.rst_inline_scan.specs.Pieces.{HasNoStart}
 
--- each byte is the text's character at its place where that is ASCII, and past ASCII where the character is
-pub record AreBytesOf (t bytes : Text) : Type 0 where
-  pub long : length bytes ≡ length t
-  pub ascii : (k : ℕ) → slice_index bytes k < 128 → slice_index t k ≡ slice_index bytes k
-  pub past : (k : ℕ) → 128 ≤ slice_index bytes k → 128 ≤ slice_index t k
-
--- the byte for a character
+-- the byte for a character: any past ASCII are one
 abbrev pub byte_of : ℕ → ℕ
 byte_of c = if nat_lt c 128 then c else 128
+
+-- each byte is the text's character at its place where that is ASCII, and past ASCII where the character is
+abbrev pub AreBytesOf : Text → Text → Type 0
+AreBytesOf t bytes = map byte_of bytes ≡ map byte_of t
 
 -- none of * : [ \ _ ` |
 abbrev pub is_calm : ℕ → Bool
@@ -31,10 +30,9 @@ AreCalm t from to = (k : ℕ) → from ≤ k → k < to → is_calm_at t k ≡ t
 abbrev pub is_of_name : ℕ → Bool
 is_of_name c = not (nat_lt c 128) || (is_ascii_alphanumeric c || is_joint c)
 
--- From one place up to another, which may be the same, there is no start, wherever plain text before them begins. No backslash
--- comes before the other.
-pub record IsCalmStep (t : Text) (from to : ℕ) : Type 0 where
-  pub above : from ≤ to
-  pub within : to ≤ length t
-  pub none : (begin : ℕ) → HasNoStart t begin from to
-  pub bare : from < to → slice_index t (to - 1) ≢ 92
+-- Plain text goes from one place on up to another: there is no start between, and it is known whether the character at the other is escaped.
+pub record IsScanned (t : Text) (from place : ℕ) (known : Bool) : Type 0 where
+  pub above : from ≤ place
+  pub within : place ≤ length t
+  pub none : HasNoStart t from from place
+  pub escaped : known ≡ is_escaped t from place

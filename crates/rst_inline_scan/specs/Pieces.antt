@@ -1,22 +1,19 @@
 -- The pieces of an inline text (Markup Specification, 'Inline markup recognition rules', 'Recognition order').
-use Rattle.std.specs.Prelude.{◌≡◌, ℕ, ◌-◌, ◌<◌, ◌≤◌, Bool, not, ◌&&◌, ◌||◌, ◌==◌, List, [], ◌∷◌, Option, None, Some, slice_index, length, if◌then◌else◌}
+use Rattle.std.specs.Prelude.{◌≡◌, ℕ, ◌-◌, ◌<◌, ◌≤◌, Bool, not, ◌&&◌, ◌||◌, ◌==◌, List, [], ◌∷◌, Option, None, Some, slice_index, length, option_and_then, if◌then◌else◌}
 use Rattle.std.specs.Option.{option_or}
 use Rattle.rst_text.specs.Characters.{Text}
 use Rattle.rst_inline_scan.specs.Characters.{may_precede_start}
 use Rattle.rst_text.specs.Escapes.{is_escaped}
-use Rattle.rst_inline_scan.specs.Marked.{marked}
+use Rattle.rst_inline_scan.specs.Marked.{markup_of, marked}
 use Rattle.rst_inline_scan.specs.Names.{reference}
 use Rattle.rst_inline_scan.specs.Footnotes.{label}
 use Rattle.rst_inline_scan.specs.Uri.{uri}
-use Rattle.rst_inline_scan.specs.declared.piece.Markup.TheVariants.{Strong, Emphasis, Literal, Target, Substitution, Interpreted}
 use Rattle.rst_inline_scan.specs.declared.piece.Kind.TheVariants.{Plain}
 use Rattle.rst_inline_scan.specs.declared.piece.Piece.{Piece}
 
 -- the piece that the first kind of markup gives that holds at the place
 unfoldable pub markup_at : Text → ℕ → Option Piece
-markup_at t i =
-    option_or (marked Strong t i) (option_or (marked Emphasis t i) (option_or (marked Literal t i) (option_or (marked Target t i)
-    (option_or (marked Substitution t i) (option_or (marked Interpreted t i) (option_or (label t i) (option_or (reference t i) (uri t i))))))))
+markup_at t i = option_or (option_and_then (λ markup. marked markup t i) (markup_of t i)) (option_or (label t i) (option_or (reference t i) (uri t i)))
 
 -- A start may occur at i: it is not escaped, and what precedes it fits. Plain text before i begins at `from`: no backslash
 -- before that counts.

@@ -1,5 +1,6 @@
 -- Standalone hyperlinks (Markup Specification, 'Standalone Hyperlinks').
-use Rattle.std.specs.Prelude.{◌≡◌, ℕ, ◌+◌, ◌-◌, Bool, true, not, ◌&&◌, ◌||◌, ◌==◌, nat_lt, List, [], ◌∷◌, Option, None, Some, slice_index, length, find, unwrap_or, option_map, option_and_then, codes, if◌then◌else◌}
+use Rattle.std.specs.Prelude.{◌≡◌, ℕ, ◌+◌, ◌-◌, Bool, true, false, not, ◌&&◌, ◌||◌, ◌==◌, nat_lt, List, [], ◌∷◌, Option, None, Some, slice_index, length, find, unwrap_or, option_map, option_and_then, codes, if◌then◌else◌}
+use Rattle.std.specs.List.{list_all}
 use Rattle.std.specs.Char.{to_ascii_lowercase, is_ascii_alphanumeric}
 use Rattle.rst_text.specs.Characters.{Text, is_among}
 use Rattle.rst_inline_scan.specs.Characters.{is_free_after}
@@ -64,3 +65,12 @@ uri t i = option_map (uri_piece i) (uri_end t i)
 -- the whole text is one URI
 abbrev pub IsUri : Text → Type 0
 IsUri t = uri_end t 0 ≡ Some (length t)
+
+-- more follows the scheme, which ends at the place, each character is one of a URI, and the last may end one
+abbrev pub is_uri_from : Text → Option ℕ → Bool
+is_uri_from t (Some i) = nat_lt i (length t) && (list_all is_uri_char t && not (is_uri_trail (slice_index t (length t - 1))))
+is_uri_from t None = false
+
+-- the bytes are one URI, each a character
+abbrev pub is_ascii_uri : Text → Bool
+is_ascii_uri bytes = is_uri_from bytes (scheme_end bytes 0)

@@ -1,6 +1,6 @@
 //! Calm characters, which are stepped over: at them no markup begins but a name or a URI, and none of these ends.
 ghost use Rattle.std.specs.Prelude.{◌≡◌, ℕ, ◌-◌, ◌<◌, ◌≤◌, ◌&&◌, ◌==◌, false, List, slice_index, length, IfOk, map};
-ghost use Rattle.rst_inline_scan.specs.Calm.{AreBytesOf, byte_of, is_of_name, IsCalmStep};
+ghost use Rattle.rst_inline_scan.specs.Calm.{AreBytesOf, byte_of, is_of_name, IsScanned};
 
 use rst_text::{ByteTest, is_joint, run_end};
 use std::alloc::{AllocError, Global};
@@ -69,8 +69,8 @@ fn name_start(bytes: &[u8], from: usize, to: usize) -> usize
 /// looked, so there nothing is looked for again.
 pub(crate) fn step(bytes: &[u8], place: usize, escaped: bool, searched: &mut usize) -> (usize, bool)
     requires { place < length bytes.now }
-    ensures over { (text : List ℕ) → AreBytesOf text bytes.now → IsCalmStep text place result.0 }
-    ensures escaped { result.1 ≡ (escaped && result.0 == place) }
+    ensures above { place ≤ result.0 }
+    ensures over { (text : List ℕ) (from : ℕ) → AreBytesOf text bytes.now → IsScanned text from place escaped → IsScanned text from result.0 result.1 }
 {
     if place < *searched {
         return (place, escaped);
@@ -81,8 +81,8 @@ pub(crate) fn step(bytes: &[u8], place: usize, escaped: bool, searched: &mut usi
     }
     *searched = at;
     if at == bytes.len() {
-        return (at, escaped & (at == place));
+        return (at, escaped & (place == at));
     }
     let start = name_start(bytes, place, at);
-    (start, escaped & (start == place))
+    (start, escaped & (place == start))
 }

@@ -51,7 +51,7 @@ pub(crate) fn name_end(text: &[char], start: usize) -> (Option<usize>, usize)
     }
     let mut found = None;
     let mut place = start;
-    while place < text.len() && is_name_at(text, place) {
+    while place + 1 < text.len() && is_name_at(text, place) {
         place += 1;
         if ends_name(text, place) {
             found = Some(place);

@@ -1,9 +1,10 @@
 //! The scanner.
-ghost use Rattle.std.specs.Prelude.{◌≡◌, ℕ, ◌<◌, length, IfOk};
+ghost use Rattle.std.specs.Prelude.{◌≡◌, ℕ, ◌<◌, ◌++◌, length, IfOk};
 ghost use Rattle.rst_inline_scan.specs.Calm.{AreBytesOf};
 ghost use Rattle.rst_text.specs.Escapes.{is_escaped};
 ghost use Rattle.rst_inline_scan.specs.Marked.{markup_of};
-ghost use Rattle.rst_inline_scan.specs.Pieces.{markup_at, piece_at, plain_from, IsPieces};
+ghost use Rattle.rst_inline_scan.specs.Pieces.{markup_at, piece_at, IsPieces};
+ghost use Rattle.rst_inline_scan.specs.Reading.{plain_if};
 ghost use Rattle.rst_inline_scan.specs.Missing.{IsMissing};
 ghost use Rattle.rst_inline_scan.specs.Words.{IsWord};
 
@@ -36,7 +37,7 @@ fn markup_of(text: &[char], place: usize) -> Option<Markup>
 }
 
 /// The piece that the first kind of markup gives that holds at the place.
-#[tactic(auto, using(crate::proofs::WordLemmas::markup_at_by))]
+#[tactic(auto, unfolding(crate::specs::Pieces::markup_at))]
 fn markup_at(text: &[char], place: usize, missing: &mut Missing) -> Option<Piece>
     requires place { place < length text.now }
     requires known { IsMissing text.now missing.old place }
@@ -123,9 +124,7 @@ fn pieces_by(alloc: Global, text: &[char], bytes: &[u8]) -> Result<Vec<Piece>, A
         let end = word_end(text, start);
         match piece_at(text, start, end, start_escaped, &mut missing) {
             Some(piece) => {
-                if from < start {
-                    pieces.push(plain_piece(from, start))?;
-                }
+                push_plain(&mut pieces, from, start)?;
                 pieces.push(piece)?;
                 from = piece.to;
                 place = piece.to;
@@ -138,25 +137,27 @@ fn pieces_by(alloc: Global, text: &[char], bytes: &[u8]) -> Result<Vec<Piece>, A
                     escaped = false;
                     continue;
                 }
-                escaped = escapes(text[end], start_escaped && start == end);
+                escaped = escapes(text[end], start_escaped & (start == end));
                 place = end + 1;
             }
         }
     }
-    if from < place {
-        pieces.push(plain_piece(from, place))?;
-    }
+    push_plain(&mut pieces, from, place)?;
     Ok(pieces)
 }
 
-fn plain_piece(from: usize, to: usize) -> Piece
-    ensures { result ≡ plain_from from to }
+/// Pushes a plain piece, unless it is empty.
+fn push_plain(pieces: &mut Vec<Piece>, from: usize, to: usize) -> Result<(), AllocError>
+    ensures { IfOk result (λ done. pieces.new.items ≡ pieces.old.items ++ plain_if from to) }
 {
-    Piece {
-        kind: Kind::Plain,
-        from,
-        content_from: from,
-        content_to: to,
-        to,
+    if from < to {
+        pieces.push(Piece {
+            kind: Kind::Plain,
+            from,
+            content_from: from,
+            content_to: to,
+            to,
+        })?;
     }
+    Ok(())
 }

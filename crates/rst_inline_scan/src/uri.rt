@@ -2,7 +2,7 @@
 ghost use Rattle.std.specs.Prelude.{◌≡◌, ◌<◌, ◌≤◌, ◌↔◌, ℕ, length, IsTrue};
 ghost use Rattle.std.specs.Str.{chars};
 ghost use Rattle.std.specs.List.{list_all};
-ghost use Rattle.rst_inline_scan.specs.Uri.{has_letter, has_any_case, scheme_end, is_uri_char, is_uri_trail, uri_stop, uri_close, uri_end, uri, IsUri};
+ghost use Rattle.rst_inline_scan.specs.Uri.{has_letter, has_any_case, scheme_end, is_uri_char, is_uri_trail, uri_stop, uri_close, uri_end, uri, IsUri, is_ascii_uri};
 ghost use Rattle.rst_inline_scan.specs.Missing.{IsMissing};
 
 use super::characters::is_free_after;
@@ -134,6 +134,7 @@ fn uri_close(text: &[char], start: usize, stop: usize) -> Option<usize>
 }
 
 /// The end of the URI that begins at the place, and the place below which none begins where there is none.
+#[tactic(auto, unfolding(crate::specs::Uri::uri_end))]
 pub(crate) fn uri_end(text: &[char], start: usize) -> (Option<usize>, usize)
     requires { start ≤ length text.now }
     ensures exact { result.0 ≡ uri_end text.now start }
@@ -175,8 +176,13 @@ pub(crate) fn uri(text: &[char], place: usize, missing: &mut Missing) -> Option<
 pub fn plain_uri(text: &str) -> bool
     ensures { IsTrue result ↔ IsUri (chars text.now) }
 {
-    // Each character of a URI is one byte.
-    let bytes = text.as_bytes();
+    is_ascii_uri(text.as_bytes())
+}
+
+/// Whether the bytes, which are characters of their own in a URI, are one.
+fn is_ascii_uri(bytes: &[u8]) -> bool
+    ensures { result ≡ is_ascii_uri bytes.now }
+{
     match ascii_scheme_end(bytes) {
         Some(after_scheme) => after_scheme < bytes.len()
             && are_uri_chars(bytes)

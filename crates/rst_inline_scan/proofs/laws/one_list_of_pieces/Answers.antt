@@ -1,7 +1,7 @@
+use Rattle.std.proofs.Common.{◌∙◌, sym}
 use Rattle.rst_inline_scan.specs.Reading.{pieces_of}
-use Rattle.rst_inline_scan.proofs.PieceLemmas.{IsPieces-unique}
-use Rattle.rst_inline_scan.proofs.ReadingLemmas.{pieces_of-pieces}
+use Rattle.rst_inline_scan.proofs.ReadingLemmas.{pieces_of-pieces, pieces_of-only}
 use Rattle.rst_inline_scan.proofs.laws.one_list_of_pieces.Goals as goal
 
 pub returns : goal.returns
-returns c = record { some = λ t. (pieces_of t, pieces_of-pieces t); one = λ t ps qs h k. IsPieces-unique t 0 ps qs h k }
+returns c = record { some = λ t. (pieces_of t, pieces_of-pieces t); one = λ t ps qs h k. pieces_of-only t ps h ∙ sym (pieces_of-only t qs k) }
