@@ -1,5 +1,5 @@
+pub mod LinkSteps
 pub mod Computing
-pub mod Skipping
 pub mod Left
 pub mod Looking
 pub mod Sequence

@@ -1,21 +1,19 @@
 -- There is a free number for each footnote that is to be numbered.
-use Rattle.std.proofs.Common.{◌≡◌, ℕ, zero, suc, ◌+◌, ◌<◌, ◌≤◌, List, [], ◌∷◌, ◌++◌, length, map, drop, refl, sym, ◌∙◌, ap, arith, Bool, true, false, not, ◌&&◌, codes, nat_le, nat_eq}
+use Rattle.std.proofs.Common.{◌≡◌, ℕ, zero, suc, ◌+◌, ◌<◌, ◌≤◌, List, [], ◌∷◌, length, refl, sym, ◌∙◌, ap, arith, Bool, true, false, not, ◌&&◌, codes, nat_le, nat_eq}
 use Rattle.std.specs.Prelude.{if◌then◌else◌, Option, Some, None}
-use Rattle.std.specs.List.{cons_option, filter, list_any, range_with_len, starts_with, AllByRecursion, IsDistinct}
+use Rattle.std.specs.List.{cons_option, filter, filter_map, list_any, range_with_len, starts_with, AllByRecursion, IsDistinct}
 use Rattle.std.proofs.lemmas.Bool.{and_parts, eqb-true}
 use Rattle.std.proofs.lemmas.Bool.Decides.{nat_tests}
 use Rattle.std.proofs.lemmas.Cmp.{nat_eq_equiv}
-use Rattle.std.proofs.lemmas.List.{append-nil, drop_all}
 use Rattle.std.proofs.lemmas.List.Filters.{length-filter_both}
 use Rattle.std.proofs.lemmas.List.FromFn.{length-range_with_len}
 use Rattle.std.proofs.lemmas.Map.Made.{length-le_from_is_member}
 use Rattle.std.proofs.lemmas.Map.Views.{any-filter_same}
 use Rattle.rst_transform_names.specs.Ids.{number_in}
 use Rattle.rst_transform_names.proofs.IdNumbers.{no_first}
-use Rattle.rst_transform_references.specs.declared.links.Linked.{Linked}
-use Rattle.rst_transform_references.specs.Linkings.{LinkedElement, linked_element}
-use Rattle.rst_transform_references.specs.FootnoteOrders.{written_label}
-use Rattle.rst_transform_references.specs.FootnoteLabels.{free_numbers, is_to_number, is_written, label_number, numbers_in, to_number}
+use Rattle.rst_tree.specs.declared.node.Node.{Node}
+use Rattle.rst_transform_references.specs.Orders.{written_label}
+use Rattle.rst_transform_references.specs.FootnoteLabels.{free_numbers, is_to_number, is_written, to_number}
 
 -- ---- no more numbers are written than elements have
 
@@ -42,7 +40,10 @@ passing : (p : ℕ → Bool) (xs : List ℕ) (q : ℕ) → list_any (nat_eq q) (
 passing p xs q h =
     (and_parts (p q) (list_any (nat_eq q) xs) (sym (any-filter_same (nat_eq q) p (p q) (λ k is. ap p (sym (eqb-true q k is))) xs) ∙ h)).0
 
-written_within : (linked : List LinkedElement) → length (filter (λ number. is_written number linked) (range_with_len 1 (length linked))) ≤ length (numbers_in linked)
+abbrev numbers_in : List Node → List ℕ
+numbers_in = filter_map (λ node. number_in (written_label node))
+
+written_within : (linked : List Node) → length (filter (λ number. is_written number linked) (range_with_len 1 (length linked))) ≤ length (numbers_in linked)
 written_within linked =
     length-le_from_is_member nat_eq_equiv (filter (λ number. is_written number linked) (range_with_len 1 (length linked))) (numbers_in linked)
     (distinct (λ number. is_written number linked) (length linked) 1) (passing (λ number. is_written number linked) (range_with_len 1 (length linked)))
@@ -59,28 +60,18 @@ no_number : (mark : List ℕ) → starts_with nat_eq mark (codes "#") ≡ true �
 no_number [] h = absurd (cc)
 no_number (c ∷ cs) h = no_first (c ∷ cs) (sign_first c (signed c true h))
 
-unnumbered : (mark : Option (List ℕ)) → is_to_number mark ≡ true → label_number mark ≡ None
-unnumbered None h = refl
-unnumbered (Some mark) h = no_number mark h
-
-one_more : (b : Bool) (found_number : Option ℕ) (one : LinkedElement) (rest : List LinkedElement) (numbers : List ℕ) (count : ℕ) → (b ≡ true → found_number ≡ None) → length numbers + length rest ≤ count
+one_more : (b : Bool) (found_number : Option ℕ) (one : Node) (rest : List Node) (numbers : List ℕ) (count : ℕ) → (b ≡ true → found_number ≡ None) → length numbers + length rest ≤ count
     → length (cons_option found_number numbers) + length (if b then one ∷ rest else rest) ≤ suc count
 one_more true None one rest numbers count none h = omega (arith, h)
 one_more true (Some n) one rest numbers count none h = absurd (let e : Some n ≡ None = none refl in cc)
 one_more false None one rest numbers count none h = omega (arith, h)
 one_more false (Some n) one rest numbers count none h = omega (arith, h)
 
-numbers_apart : (linked : List LinkedElement) → length (numbers_in linked) + length (to_number linked) ≤ length linked
+numbers_apart : (linked : List Node) → length (numbers_in linked) + length (to_number linked) ≤ length linked
 numbers_apart [] = omega arith
-numbers_apart (one ∷ more) = one_more (is_to_number (written_label one.0)) (label_number (written_label one.0)) one (to_number more) (numbers_in more) (length more) (unnumbered (written_label one.0)) (numbers_apart more)
+numbers_apart (one ∷ more) = one_more (is_to_number one) (number_in (written_label one)) one (to_number more) (numbers_in more) (length more) (no_number (written_label one)) (numbers_apart more)
 
-enough_of_all : (linked : List LinkedElement) → length (to_number linked) ≤ length (free_numbers linked)
-enough_of_all linked =
+pub enough : (linked : List Node) → length (to_number linked) ≤ length (free_numbers linked)
+enough linked =
     let parts = length-filter_both (λ number. is_written number linked) (λ number. not (is_written number linked)) (λ number. refl) (range_with_len 1 (length linked)) in
     omega (arith, parts, length-range_with_len 1 (length linked), written_within linked, numbers_apart linked)
-
--- the same of the numbers found free, once there is no further element
-pub enough : (linked : List Linked) (free : List ℕ) (place : ℕ) → length linked ≤ place
-    → free ++ filter (λ number. not (is_written number (map linked_element linked))) (range_with_len (place + 1) (length (map linked_element (drop place linked)))) ≡ free_numbers (map linked_element linked)
-    → length (to_number (map linked_element linked)) ≤ length free
-enough linked free place past is = rw (sym (append-nil free) ∙ (rw (drop_all place linked past) at is)) (enough_of_all (map linked_element linked))

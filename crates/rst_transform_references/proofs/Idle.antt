@@ -1,44 +1,29 @@
--- Where every element stays as it is, the document does.
-use Rattle.std.proofs.Common.{◌≡◌, ℕ, List, [], ◌∷◌, drop, refl, ap, Bool, true, false, Option}
-use Rattle.std.specs.Prelude.{if◌then◌else◌, Some, None}
-use Rattle.std.specs.List.{list_all}
+-- Where no element is linked, the document stays as it is.
+use Rattle.std.proofs.Common.{◌≡◌, ◌∙◌, ℕ, List, [], ◌∷◌, length, refl, ap, Bool, true, false}
+use Rattle.std.specs.Prelude.{if◌then◌else◌}
 use Rattle.rst_tree.specs.declared.attrs.Attr.{Attr}
-use Rattle.rst_tree.specs.declared.node.Node.TheVariants.{Element}
-use Rattle.rst_tree.specs.declared.rewriting.Rewrite.TheVariants.{Keep}
 use Rattle.rst_tree.specs.declared.tag.Tag.{Tag}
 use Rattle.rst_tree.specs.Forest.{Forest, bare, element, words}
-use Rattle.rst_tree.specs.Rewritten.{rewritten}
+use Rattle.rst_tree.specs.Rewritten.{go_on, rewritten}
+use Rattle.rst_tree.specs.declared.rewriting.Rewrite.TheVariants.{Keep}
 use Rattle.rst_tree_index.specs.LinkedTags.{is_linked_tag}
 use Rattle.rst_transform_work.specs.declared.document.Document.{Document}
-use Rattle.rst_transform_references.specs.declared.links.Outcome.{Outcome}
-use Rattle.rst_transform_references.specs.declared.links.Outcome.TheVariants.{Stays, Fails, Failed}
-use Rattle.rst_transform_references.specs.Links.{change_next, change_of, changed_by, changed_document, is_idle}
+use Rattle.rst_transform_references.specs.declared.links.Change.{Change}
+use Rattle.rst_transform_references.specs.Changes.{change_next, change_of, changed_document}
 
--- a linked element stays
-idle_first : (s : List Outcome) (t : Tag) (a : List Attr) (l : ℕ) → list_all is_idle s ≡ true → (changed_by s t a l ≡ Keep t a l) × (list_all is_idle (drop 1 s) ≡ true)
-idle_first [] t a l h = (refl, refl)
-idle_first (Stays None None ∷ rest) t a l h = (refl, h)
-idle_first (Stays None (Some text) ∷ rest) t a l h = absurd (cc)
-idle_first (Stays (Some more) None ∷ rest) t a l h = absurd (cc)
-idle_first (Stays (Some more) (Some text) ∷ rest) t a l h = absurd (cc)
-idle_first (Fails report ∷ rest) t a l h = (refl, h)
-idle_first (Failed p ∷ rest) t a l h = absurd (cc)
+abbrev left : Forest → Forest × List Change
+left f = rewritten change_next change_of [] f
 
--- any element stays
-idle_element : (linked : Bool) (s : List Outcome) (t : Tag) (a : List Attr) (l : ℕ) → list_all is_idle s ≡ true
-    → ((if linked then changed_by s t a l else Keep t a l) ≡ Keep t a l) × (list_all is_idle (if linked then drop 1 s else s) ≡ true)
-idle_element true s t a l h = idle_first s t a l h
-idle_element false s t a l h = (refl, h)
+stays : (b : Bool) (t : Tag) (a : List Attr) (c : Forest) (l : ℕ) (r : Forest) → go_on (if b then Keep t a l else Keep t a l) (if b then [] else []) (λ u. rewritten change_next change_of u c) (λ u. rewritten change_next change_of u r)
+    ≡ (element t a (left c).0 l (rewritten change_next change_of (left c).1 r).0, (rewritten change_next change_of (left c).1 r).1)
+stays true t a c l r = refl
+stays false t a c l r = refl
 
-idle_nodes : (s : List Outcome) (f : Forest) → list_all is_idle s ≡ true → ((rewritten change_next change_of s f).0 ≡ f) × (list_all is_idle (rewritten change_next change_of s f).1 ≡ true)
-idle_nodes s bare h = (refl, h)
-idle_nodes s (words t r) h = let following = idle_nodes s r h in (ap (words t) following.0, following.1)
-idle_nodes s (element t a c l r) h =
-    let own = idle_element (is_linked_tag t) s t a l h in
-    let s' : List Outcome = change_next s (Element t a c l) in
-    let inside = idle_nodes s' c own.1 in
-    let following = idle_nodes (rewritten change_next change_of s' c).1 r inside.1 in
-    rw (own.0) (rw (inside.0, following.0) refl, following.1)
+unlinked_nodes : (f : Forest) → left f ≡ (f, [])
+unlinked_nodes bare = refl
+unlinked_nodes (words t r) = ap (λ done. (words t done.0, done.1)) (unlinked_nodes r)
+unlinked_nodes (element t a c l r) = stays (is_linked_tag t) t a c l r ∙ rw (unlinked_nodes c) (ap (λ done. (element t a c l done.0, done.1)) (unlinked_nodes r))
 
-pub idle_document : (s : List Outcome) (document : Document) → list_all is_idle s ≡ true → changed_document s document ≡ document
-idle_document s document h = ap (λ f. record document { children = f }) (idle_nodes s document.children h).0
+pub unlinked_document : (changes : List Change) (document : Document) → length changes ≡ 0 → changed_document changes document ≡ document
+unlinked_document [] document none = ap (λ done. record document { children = done.0 }) (unlinked_nodes document.children)
+unlinked_document (change ∷ more) document none = absurd (cc)

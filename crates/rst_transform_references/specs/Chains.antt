@@ -1,17 +1,18 @@
 -- The chains of indirect targets, each of which refers to the name of the next, and what they come to (Markup Specification, 'Hyperlink
 -- Targets').
-use Rattle.std.specs.Prelude.{◌≡◌, ◌⊎◌, ℕ, zero, suc, ◌<◌, Bool, true, false, List, [], ◌∷◌, length, map, if◌then◌else◌, is_some, option_and_then, option_map, slice_get, slice_set, unwrap_or, Option, Some, None}
+use Rattle.std.specs.Prelude.{◌≡◌, ◌⊎◌, ℕ, zero, suc, ◌<◌, Bool, true, false, List, [], ◌∷◌, length, map, if◌then◌else◌, is_some, option_map, slice_set, unwrap_or, Option, Some, None}
 use Rattle.rst_tree.specs.declared.attrs.Attr.{Attr}
 use Rattle.rst_tree.specs.declared.key.Key.TheVariants.{Refname}
 use Rattle.rst_tree.specs.declared.node.Node.{Node}
-use Rattle.rst_transform_names.specs.declared.names.Holder.{Holder}
 use Rattle.rst_transform_names.specs.declared.names.NameEntry.{NameEntry}
-use Rattle.rst_transform_references.specs.Holders.{element_at, is_nobody, is_target_node, name_lead}
-use Rattle.rst_transform_references.specs.Linkings.{LinkedElement}
 use Rattle.rst_transform_references.specs.declared.chains.Answer.{Answer}
 use Rattle.rst_transform_references.specs.declared.chains.Answer.TheVariants.{Leads, Missing, Circular}
 use Rattle.rst_transform_references.specs.declared.chains.Step.{Step}
 use Rattle.rst_transform_references.specs.declared.chains.Step.TheVariants.{To, Ends}
+use Rattle.rst_transform_references.specs.Holders.{holder_place, is_nobody}
+use Rattle.rst_transform_references.specs.Leads.{is_target_node, name_lead}
+use Rattle.rst_transform_references.specs.Links.{node_at, places_of}
+use Rattle.rst_transform_references.specs.Table.{Links}
 use Rattle.rst_transform_work.specs.Lists.{at_place}
 use Rattle.rst_transform_work.specs.Reading.{text_of_attribute}
 
@@ -21,27 +22,29 @@ use Rattle.rst_transform_work.specs.Reading.{text_of_attribute}
 abbrev pub indirect_name : Node → Option (List ℕ)
 indirect_name node = if is_target_node node then text_of_attribute Refname node else None
 
--- on to another indirect target, if one holds the name, or else to where the name leads
+-- an indirect target is at a place, if there is one
+abbrev pub is_indirect_at : Option ℕ → Links → Bool
+is_indirect_at None links = false
+is_indirect_at (Some place) links = is_some (indirect_name (node_at place links))
+
+-- on to another indirect target, if one has the name, or else to where the name leads
 abbrev pub step_on : Bool → Option ℕ → Attr → Step
 step_on true (Some place) lead = To place
 step_on _ _ lead = Ends (Leads lead)
 
--- the step to a name, by the place of its holder and by what is known of it
-abbrev pub step_to : List LinkedElement → Option ℕ → NameEntry → Step
-step_to linked place entry =
-    let holder : Option Node = element_at linked place in step_on (is_some (option_and_then indirect_name holder)) place (name_lead holder entry.uri entry.id)
+-- the step to a name, by the places of the elements and by what is known of it; nowhere, if no element has the name
+abbrev pub step_to : List (Option ℕ) → Links → List ℕ → Option NameEntry → Step
+step_to places links name None = Ends (Missing name)
+step_to places links name (Some entry) =
+    let holder : Option ℕ = holder_place places entry.holder in
+    if is_nobody entry.holder then Ends (Missing name) else step_on (is_indirect_at holder links) holder (name_lead holder entry links)
 
--- the same by the places of the holders of names; nowhere, if no element holds the name
-abbrev pub step_by : List LinkedElement → (Holder → Option ℕ) → List ℕ → Option NameEntry → Step
-step_by linked places name None = Ends (Missing name)
-step_by linked places name (Some entry) = if is_nobody entry.holder then Ends (Missing name) else step_to linked (places entry.holder) entry
+-- the first step from each indirect target
+abbrev pub own_step : (List ℕ → Option NameEntry) → List (Option ℕ) → Links → Node → Option Step
+own_step known places links node = option_map (λ name. step_to places links name (known name)) (indirect_name node)
 
--- the first step from an element, if it is an indirect target
-abbrev pub own_step : (List ℕ → Option NameEntry) → (Holder → Option ℕ) → List LinkedElement → Node → Option Step
-own_step known places linked node = option_map (λ name. step_by linked places name (known name)) (indirect_name node)
-
-abbrev pub steps_of : (List ℕ → Option NameEntry) → (Holder → Option ℕ) → List LinkedElement → List (Option Step)
-steps_of known places linked = map (λ one. own_step known places linked one.0) linked
+abbrev pub steps_of : (List ℕ → Option NameEntry) → List (Option ℕ) → Links → List (Option Step)
+steps_of known places links = map (λ place. own_step known places links (node_at place links)) (places_of links)
 
 -- ---- what a chain comes to, step by step
 

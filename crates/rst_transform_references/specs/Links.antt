@@ -1,54 +1,65 @@
--- What the outcomes of linked elements, taken in turn, make of the elements of a tree.
-use Rattle.std.specs.Prelude.{◌≡◌, Bool, true, false, ℕ, List, [], ◌∷◌, drop, if◌then◌else◌, Option, Some, None}
-use Rattle.rst_tree.specs.declared.attrs.Attr.{Attr}
+-- The links of a document: the elements that references join, in document order, and what becomes of each (Markup Specification, 'Hyperlink
+-- References').
+use Rattle.std.specs.Prelude.{◌≡◌, ℕ, Bool, List, [], ◌∷◌, ◌++◌, filter, length, map, replicate, if◌then◌else◌, slice_get, slice_set, unwrap_or, Option, None}
+use Rattle.std.specs.Borrow.{Bor}
+use Rattle.std.specs.List.{fold, range_with_len}
 use Rattle.rst_tree.specs.declared.node.Node.{Node}
 use Rattle.rst_tree.specs.declared.node.Node.TheVariants.{Element, Text}
-use Rattle.rst_tree.specs.declared.rewriting.Rewrite.{Rewrite}
-use Rattle.rst_tree.specs.declared.rewriting.Rewrite.TheVariants.{Keep, Replace}
-use Rattle.rst_tree.specs.declared.tag.Tag.{Tag}
-use Rattle.rst_tree.specs.declared.tag.Tag.TheVariants.{Problematic}
-use Rattle.rst_tree.specs.Attributes.{with_attr}
-use Rattle.rst_tree.specs.Forest.{Forest, bare, words}
-use Rattle.rst_tree.specs.Rewritten.{kept, rewritten}
+use Rattle.rst_tree.specs.Forest.{Forest, bare, element, words}
 use Rattle.rst_tree_index.specs.LinkedTags.{is_linked_tag}
 use Rattle.rst_transform_work.specs.declared.document.Document.{Document}
-use Rattle.rst_transform_references.specs.declared.links.Outcome.{Outcome}
-use Rattle.rst_transform_references.specs.declared.links.Outcome.TheVariants.{Stays, Fails, Failed}
-use Rattle.rst_transform_work.specs.Reading.{rawsource_of}
+use Rattle.rst_transform_work.specs.Known.{Known}
+use Rattle.rst_transform_references.specs.declared.links.Change.{Change}
+use Rattle.rst_transform_references.specs.declared.links.LinkedReader.{LinkedReader}
+use Rattle.rst_transform_references.specs.declared.links.Change.TheVariants.{Stays}
+use Rattle.rst_transform_references.specs.Table.{Links}
 
--- the attributes, and one more if there is one
-abbrev pub with_more : Option Attr → List Attr → List Attr
-with_more None attrs = attrs
-with_more (Some more) attrs = with_attr more.key more.value attrs
+-- a node, if it is linked
+abbrev pub own_linked : Node → List Node
+own_linked (Element t a c l) = if is_linked_tag t then Element t a c l ∷ [] else []
+own_linked (Text t) = []
 
--- an element that stays, or gets a text in place of its content
-abbrev pub with_new_text : Option (List ℕ) → Tag → List Attr → ℕ → Rewrite
-with_new_text None t a l = Keep t a l
-with_new_text (Some text) t a l = Replace (Element t a (words text bare) l)
+-- the linked elements among nodes and in them
+abbrev pub linked_among : Forest → List Node
+linked_among bare = []
+linked_among (words t r) = linked_among r
+linked_among (element t a c l r) = own_linked (Element t a c l) ++ (linked_among c ++ linked_among r)
 
--- what the first outcome makes of an element; what failed becomes a problematic of its source text
-abbrev pub changed_by : List Outcome → Tag → List Attr → ℕ → Rewrite
-changed_by [] t a l = Keep t a l
-changed_by (Stays attr new_text ∷ more) t a l = with_new_text new_text t (with_more attr a) l
-changed_by (Fails report ∷ more) t a l = Keep t a l
-changed_by (Failed p ∷ more) t a l = Replace (Element Problematic p (words (rawsource_of a) bare) l)
+-- nodes that are borrowed
+abbrev pub nodes_now : List (Bor Node) → List Node
+nodes_now = map (λ node. node.now)
 
--- what happens to an element
-abbrev pub change_of : List Outcome → Node → Rewrite
-change_of s (Element t a c l) = if is_linked_tag t then changed_by s t a l else Keep t a l
-change_of s (Text t) = kept (Text t)
+-- those that were read, and one more
+abbrev pub TakesLinked : LinkedReader → Option ℕ → Node → LinkedReader → Option ℕ → Type 0
+TakesLinked old level node new inner = nodes_now new.list.items ≡ nodes_now old.list.items ++ own_linked node
 
--- the outcomes that are left after an element
-abbrev pub change_next : List Outcome → Node → List Outcome
-change_next s (Element t a c l) = if is_linked_tag t then drop 1 s else s
-change_next s (Text t) = s
+-- those of a document; at first each stays as it is
+abbrev pub links_of : Document → Links
+links_of document = let linked : List Node = linked_among document.children in record { linked = linked; changes = replicate (length linked) (Stays None None) }
 
--- an element of which this becomes stays as it is
-abbrev pub is_idle : Outcome → Bool
-is_idle (Stays None None) = true
-is_idle (Fails report) = true
-is_idle _ = false
+-- the element at a place, or an empty text if that became a problematic or is inside one
+abbrev pub node_at : ℕ → Links → Node
+node_at place links = unwrap_or (slice_get links.linked place) (Text [])
 
--- a document whose elements changed
-abbrev pub changed_document : List Outcome → Document → Document
-changed_document s document = record document { children = (rewritten change_next change_of s document.children).0 }
+-- what becomes of it
+abbrev pub change_at : ℕ → Links → Change
+change_at place links = unwrap_or (slice_get links.changes place) (Stays None None)
+
+-- all places, and those of elements of which a test holds
+abbrev pub places_of : Links → List ℕ
+places_of links = range_with_len 0 (length links.linked)
+
+abbrev pub places_where : (Node → Bool) → Links → List ℕ
+places_where test links = filter (λ place. test (node_at place links)) (places_of links)
+
+-- this becomes of the element at a place
+abbrev pub puts : ℕ → Change → Links → Links
+puts place change links = record links { changes = slice_set links.changes place change }
+
+-- something is done for one thing after another: to a list or to the links
+abbrev pub all : {A S : Type 0} → (A → S → S) → List A → S → S
+all step list state = fold (λ done one. step one done) state list
+
+-- to the links and to what is known
+abbrev pub each : {A : Type 0} → (A → Links → Known → Links × Known) → List A → Links → Known → Links × Known
+each step list links known = fold (λ done one. step one done.0 done.1) (links, known) list

@@ -1,87 +1,111 @@
--- References by name (Markup Specification, 'Hyperlink References'): each leads where its name leads, or else fails.
-use Rattle.std.specs.Prelude.{ℕ, ◌&&◌, ◌||◌, Bool, true, false, List, [], ◌∷◌, ◌++◌, codes, length, if◌then◌else◌, is_some, option_and_then, option_map, slice_get, unwrap_or, Option, Some, None}
-use Rattle.rst_transform_names.specs.declared.names.Holder.{Holder}
-use Rattle.rst_tree.specs.declared.key.Key.TheVariants.{Auto, Refname}
+-- References by name (Markup Specification, 'Hyperlink References', 'Footnotes', 'Citations'): each leads where its name leads, or else fails.
+use Rattle.std.specs.Prelude.{ℕ, ◌&&◌, ◌||◌, Bool, true, false, List, [], ◌∷◌, ◌++◌, codes, map, if◌then◌else◌, is_none, is_some, option_and_then, slice_get, Option, Some, None}
+use Rattle.std.specs.List.{list_any}
+use Rattle.rst_transform_names.specs.declared.names.NameEntry.{NameEntry}
+use Rattle.rst_tree.specs.declared.key.Key.TheVariants.{Auto, Ids, Refname}
 use Rattle.rst_tree.specs.declared.node.Node.{Node}
-use Rattle.rst_tree.specs.declared.node.Node.TheVariants.{Element, Text}
-use Rattle.rst_tree.specs.declared.note.Level.TheVariants.{Error}
-use Rattle.rst_tree.specs.Nodes.{nodes_of}
+use Rattle.rst_tree.specs.declared.node.Node.TheVariants.{Element}
+use Rattle.rst_tree.specs.declared.tag.Tag.TheVariants.{Citation, CitationReference, Footnote, FootnoteReference}
 use Rattle.rst_tree.specs.Paths.{node_value}
-use Rattle.rst_tree.specs.Tree.{text_in}
-use Rattle.rst_transform_references.specs.declared.links.Outcome.{Outcome}
-use Rattle.rst_transform_references.specs.declared.links.Outcome.TheVariants.{Stays, Fails}
-use Rattle.rst_transform_references.specs.declared.meanings.Meaning.{Meaning}
-use Rattle.rst_transform_references.specs.declared.meanings.Meaning.TheVariants.{Leads, Unknown, Duplicate}
+use Rattle.rst_transform_references.specs.declared.links.Change.{Change}
+use Rattle.rst_transform_references.specs.declared.links.Change.TheVariants.{Lists, Stays}
+use Rattle.rst_transform_references.specs.declared.orders.Order.TheVariants.{Numbers, Symbols}
+use Rattle.rst_transform_references.specs.Failing.{fail_for}
+use Rattle.rst_transform_references.specs.Footnotes.{label_at}
+use Rattle.rst_transform_references.specs.Holders.{holder_place, is_nobody, named_place, places_by_number}
+use Rattle.rst_transform_references.specs.Indirect.{is_reference_node, with_pairs}
+use Rattle.rst_transform_references.specs.Leads.{name_lead}
+use Rattle.rst_transform_references.specs.Links.{all, change_at, each, node_at, places_of, puts}
+use Rattle.rst_transform_references.specs.Orders.{pairs_by}
+use Rattle.rst_transform_references.specs.Table.{Links}
 use Rattle.rst_transform_work.specs.Known.{Known}
-use Rattle.rst_transform_references.specs.Holders.{element_at, holder_place}
-use Rattle.rst_transform_references.specs.Linkings.{LinkedElement}
-use Rattle.rst_transform_references.specs.Backrefs.{referents_of, with_referring_ids}
-use Rattle.rst_transform_references.specs.Meanings.{meaning_to, refers_to_footnote_or_citation}
-use Rattle.rst_transform_references.specs.Outcomes.{adds, fails}
-use Rattle.rst_transform_work.specs.Reading.{line_of, text_of_attribute}
-use Rattle.rst_transform_work.specs.Reports.{reported}
+use Rattle.rst_transform_work.specs.Lists.{at_place}
+use Rattle.rst_transform_work.specs.Reading.{line_of, list_of_attribute, text_of_attribute}
 
--- the label of a footnote or a citation: the text of its first node
-abbrev pub printed_label : Node → Option (List ℕ)
-printed_label (Element t a c l) = option_map text_in (slice_get (nodes_of c) 0)
-printed_label (Text t) = None
+-- ---- references to footnotes and citations
 
--- a reference to a footnote that gets the footnote's label
-abbrev pub shows_label : Node → Bool
-shows_label node = refers_to_footnote_or_citation node && is_some (node_value Auto node)
+abbrev pub is_noted : Node → Bool
+is_noted (Element Footnote a c l) = true
+is_noted (Element Citation a c l) = true
+is_noted _ = false
 
--- the text of a reference that leads to an element: the label of that, or its own content
-abbrev pub label_for : List LinkedElement → Node → Option ℕ → Option (List ℕ)
-label_for linked node place = if shows_label node then option_and_then printed_label (element_at linked place) else None
+abbrev pub refers_to_note : Node → Bool
+refers_to_note (Element FootnoteReference a c l) = true
+refers_to_note (Element CitationReference a c l) = true
+refers_to_note _ = false
 
--- the words of the ERROR on a name that means nothing
+-- a place, if there is one and a footnote or a citation is there
+abbrev pub note_at : Option ℕ → Links → Option ℕ
+note_at place links = option_and_then (λ at. if is_noted (node_at at links) then Some at else None) place
+
+-- the place of the footnote or citation that an element refers to by its name
+abbrev pub named_note : (List ℕ → Option NameEntry) → List (Option ℕ) → Links → Node → Option ℕ
+named_note known places links node = if refers_to_note node then note_at (named_place known places node) links else None
+
+-- the same for all, by their names or by the orders
+abbrev pub notes_of : (List ℕ → Option NameEntry) → List (Option ℕ) → Links → List (Option ℕ)
+notes_of known places links =
+    with_pairs (pairs_by Symbols links) (with_pairs (pairs_by Numbers links) (map (λ place. named_note known places links (node_at place links)) (places_of links)))
+
+-- what happens to a footnote or a citation: it lists one more reference to it
+abbrev pub with_backref : List ℕ → Change → Change
+with_backref id (Lists names backrefs) = Lists names (backrefs ++ id ∷ [])
+with_backref id _ = Lists [] (id ∷ [])
+
+abbrev pub refers_back : Option ℕ → Option (List ℕ) → Links → Links
+refers_back (Some note) (Some id) links = puts note (with_backref id (change_at note links)) links
+refers_back _ _ links = links
+
+-- ---- what becomes of references
+
+-- a reference to a footnote that gets the footnote's label as its text
+abbrev pub label_for : Node → Option ℕ → Links → Option (List ℕ)
+label_for node note links = if refers_to_note node && is_some (node_value Auto node) then option_and_then (λ place. label_at place links) note else None
+
+-- the text of the ERROR on a name that means nothing, and on one that elements with equal names lost
 abbrev pub unknown : List ℕ → List ℕ
 unknown name = codes "Unknown target name: \"" ++ (name ++ codes "\".")
 
--- the words of the ERROR on a name that elements with equal names lost
 abbrev pub duplicate : List ℕ → List ℕ
 duplicate name = codes "Duplicate target name, cannot be used as a unique reference: \"" ++ (name ++ codes "\".")
 
-abbrev pub refname_of_node : Node → List ℕ
-refname_of_node node = unwrap_or (text_of_attribute Refname node) []
+-- the reference at a place fails for an ERROR of its own
+abbrev pub fails_alone : ℕ → List ℕ → Links → Known → Links × Known
+fails_alone place text links = fail_for (place ∷ []) (line_of (node_at place links)) text links
 
--- a reference fails for an ERROR of its own, which is in the last section
-abbrev pub failing_reference : Node → List ℕ → Known → Outcome × Known
-failing_reference node text known = (Fails (length known.reports), reported Error (line_of node) text true known)
+-- What becomes of the reference at a place, by its name and what is known of it: it leads where the name leads, but one to a footnote or a citation
+-- may lead nowhere else.
+abbrev pub resolves_to : List (Option ℕ) → ℕ → List ℕ → Option NameEntry → Links → Known → Links × Known
+resolves_to places place name None links known = fails_alone place (unknown name) links known
+resolves_to places place name (Some entry) links known =
+    let node : Node = node_at place links in
+    let holder : Option ℕ = holder_place places entry.holder in
+    let note : Option ℕ = note_at holder links in
+    if is_nobody entry.holder then fails_alone place (duplicate name) links known
+    else if refers_to_note node && is_none note then fails_alone place (unknown name) links known
+    else (puts place (Stays (Some (name_lead holder entry links)) (label_for node note links)) links, known)
 
--- what happens to a reference whose name means something
-abbrev pub outcome_of : List LinkedElement → Node → Meaning → Known → Outcome × Known
-outcome_of linked node (Leads attr place) known = (Stays (Some attr) (label_for linked node place), known)
-outcome_of linked node Unknown known = failing_reference node (unknown (refname_of_node node)) known
-outcome_of linked node Duplicate known = failing_reference node (duplicate (refname_of_node node)) known
+-- the same of any element: one that is no reference, or has no name, stays as it is
+abbrev pub resolves_by : List (Option ℕ) → ℕ → Option (List ℕ) → Links → Known → Links × Known
+resolves_by places place None links known = (links, known)
+resolves_by places place (Some name) links known = resolves_to places place name (known.names name) links known
 
--- what happens to an element that may be gone with the one that it is inside
-abbrev pub outcome_unless : Bool → List LinkedElement → Node → Option Meaning → Known → Outcome × Known
-outcome_unless false linked node (Some meaning) known = outcome_of linked node meaning known
-outcome_unless _ linked node _ known = (adds None, known)
+abbrev pub resolves : List (Option ℕ) → ℕ → Links → Known → Links × Known
+resolves places place links =
+    let node : Node = node_at place links in
+    resolves_by places place (if is_reference_node node || refers_to_note node then text_of_attribute Refname node else None) links
 
--- an element is gone if the one that it is inside is gone or fails, as is known of the elements before it
-abbrev pub is_gone : List Bool → Option ℕ → Bool
-is_gone ended None = false
-is_gone ended (Some outer) = unwrap_or (slice_get ended outer) false
+-- each footnote and citation lists the references to it, in their order, if there are some
+abbrev pub with_backrefs : (List ℕ → Option NameEntry) → List (Option ℕ) → Links → Links
+with_backrefs known places links =
+    let notes : List (Option ℕ) = notes_of known places links in
+    if list_any (λ place. refers_to_note (node_at place links)) (places_of links)
+    then all (λ place state. refers_back (at_place notes place) (slice_get (list_of_attribute Ids (node_at place state)) 0) state) (places_of links) links
+    else links
 
--- the places of holders among the linked elements of a document, and these
-module _ (places : Holder → Option ℕ) (linked : List LinkedElement) where
-  abbrev pub what_becomes : Bool → Node → Known → Outcome × Known
-  what_becomes gone node known = outcome_unless gone linked node (meaning_to places linked known.names node) known
-
-  -- the same of some elements in preorder; of each element before them it is known whether it is gone or fails
-  abbrev pub resolved_from : List Bool → List LinkedElement → Known → List Outcome × Known
-  resolved_from ended [] known = ([], known)
-  resolved_from ended (one ∷ more) known =
-      let gone : Bool = is_gone ended one.1 in
-      let own : Outcome × Known = what_becomes gone one.0 known in
-      let rest : List Outcome × Known = resolved_from (ended ++ (gone || fails own.0) ∷ []) more own.1 in
-      (own.0 ∷ rest.0, rest.1)
-
--- What happens to linked elements. In the end each footnote and citation lists the references to it; the names are as before.
-abbrev pub reference_outcomes : List LinkedElement → Known → List Outcome × Known
-reference_outcomes linked known =
-    let places : Holder → Option ℕ = holder_place known.serials linked in
-    let done : List Outcome × Known = resolved_from places linked [] linked known in
-    (with_referring_ids (referents_of places linked done.1.names) linked done.0, done.1)
+-- then each reference by name leads where its name leads, or fails
+unfoldable pub references : Links → Known → Links × Known
+references links known =
+    let places : List (Option ℕ) = places_by_number known.serials links in
+    let listed : Links = with_backrefs known.names places links in
+    each (resolves places) (places_of listed) listed known

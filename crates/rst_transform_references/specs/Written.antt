@@ -4,10 +4,9 @@ use Rattle.std.specs.Prelude.{List, [], ◌∷◌}
 use Rattle.rst_transform_work.specs.declared.document.Document.{Document}
 use Rattle.rst_transform_work.specs.Known.{Known}
 use Rattle.rst_transform_work.specs.Written.{knowing}
-use Rattle.rst_transform_references.specs.declared.links.Outcome.{Outcome}
-use Rattle.rst_transform_references.specs.Linkings.{LinkedElement, linked_of}
-use Rattle.rst_transform_references.specs.Links.{changed_document}
-use Rattle.rst_transform_references.specs.Settling.{link_changes}
+use Rattle.rst_transform_references.specs.Changes.{changed_document}
+use Rattle.rst_transform_references.specs.Links.{links_of}
+use Rattle.rst_transform_references.specs.Table.{Links}
 use Rattle.rst_tree.specs.declared.attrs.Attr.{Attr}
 use Rattle.rst_tree.specs.declared.key.Key.TheVariants.{Mark}
 use Rattle.rst_tree.specs.declared.node.Node.{Node}
@@ -19,6 +18,6 @@ abbrev pub footnote : String → List Attr → Node
 footnote label attrs = element Footnote (says Mark label ∷ attrs) (element Label [] (text label ∷ []) ∷ [])
 
 -- what a transform of links makes of a document and of what is known
-abbrev pub transformed_by : (List LinkedElement → Known → List Outcome × Known) → List String → Document → Document × Known
-transformed_by decides names document =
-    let changes : List Outcome × Known = link_changes decides (linked_of document) (knowing names) in (changed_document changes.0 document, changes.1)
+abbrev pub transformed_by : (Links → Known → Links × Known) → List String → Document → Document × Known
+transformed_by transform names document =
+    let done : Links × Known = transform (links_of document) (knowing names) in (changed_document done.0.changes document, done.1)

@@ -1,5 +1,5 @@
 //! The chains of indirect targets: where each ends.
-ghost use Rattle.std.specs.Prelude.{◌≡◌, ◌+◌, map, unwrap_or, IfOk};
+ghost use Rattle.std.specs.Prelude.{IfOk, ◌≡◌, ◌+◌, map, unwrap_or, IfOk};
 ghost use Rattle.rst_transform_references.specs.declared.chains.Answer.TheVariants.{Circular};
 ghost use Rattle.rst_transform_references.specs.Chains.{answers_of, first_step_answer, filled_answers, next_on, KnownBelow};
 ghost use Rattle.rst_transform_work.specs.Lists.{at_place};

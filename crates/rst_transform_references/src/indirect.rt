@@ -1,22 +1,22 @@
 //! Indirect targets.
-ghost use Rattle.std.specs.Prelude.{◌≡◌, is_some, map, MatchOption, None, Some, IfOk};
-ghost use Rattle.std.specs.List.{list_all};
+ghost use Rattle.std.specs.Prelude.{IfOk, ◌≡◌, [], ◌∷◌, filter, is_some, length, map, replicate, option_map, MatchOption, None, Some};
+ghost use Rattle.std.specs.List.{list_any, range_with_len};
 ghost use Rattle.rst_transform_names.specs.Names.{entry_named};
-ghost use Rattle.rst_transform_references.specs.Holders.{place_at};
-ghost use Rattle.rst_transform_references.specs.Indirect.{anonymous_from, failure_of, indirect_outcomes, is_direct, led, missing_text, named_place, outcomes_of_indirect, targets_of, with_reports};
 ghost use Rattle.rst_transform_references.specs.Chains.{indirect_name, own_step, steps_of};
-ghost use Rattle.rst_transform_references.specs.Linkings.{linked_element};
+ghost use Rattle.rst_transform_references.specs.Indirect.{all_lead, circular_text, concludes, indirect, is_anonymous_at, is_reference_node, lists_now, missing_text, named_target, with_reference, references_to, targets_of};
+ghost use Rattle.rst_transform_references.specs.Links.{each, node_at, places_of};
 ghost use Rattle.rst_transform_work.specs.Known.{Makes};
-ghost use Rattle.rst_transform_work.specs.Reports.{KeepsRest};
 ghost use Rattle.rst_transform_work.specs.Lists.{at_place};
 
-use crate::anonymous::{is_anonymous_reference, is_anonymous_target};
 use crate::chains::{Answer, Step, answers};
-use crate::holders::{Holders, element_at, is_lost, is_target, lead_by_name};
-use crate::links::{Linked, Outcome};
+use crate::failing::fail_for;
+use crate::holders::{holder_place, is_lost, named_place, places_by_number};
+use crate::leads::{is_target, name_lead};
+use crate::links::{Change, Links};
+use crate::orders::{Order, add_pairs};
 use rst_transform_names::Names;
-use rst_transform_work::{Context, at_place, has, item_at, line_of, text_of_attribute};
-use rst_tree::{Attr, Entry, Key, Level, Node, Result, Tag, Text};
+use rst_transform_work::{Context, has, item_at, line_of, text_of_attribute};
+use rst_tree::{Entry, Key, Node, Result, Tag, Text};
 use std::alloc::Global;
 
 /// Lets each target that refers to a name lead where that name leads, through further such targets (Markup Specification,
@@ -47,26 +47,29 @@ use std::alloc::Global;
 /// References by name are left to the last of these transforms. A target whose chain runs into a circle, or breaks at a name
 /// that no element has, gives an ERROR, and the references through it become problematics of that message: message by message,
 /// under each in the order of the document.
-pub fn indirect_outcomes(context: &mut Context, linked: &[Linked<'_>]) -> Result<Vec<Outcome>>
-    ensures { IfOk result (λ outcomes. Makes (indirect_outcomes (map linked_element linked.now)) context.old context.new outcomes.items) }
+pub fn resolve_indirect(context: &mut Context, links: &mut Links<'_>) -> Result<()>
+    ensures { IfOk result (λ _. Makes (indirect links.old) context.old context.new links.new) }
 {
-    if none_is_indirect(linked) {
-        return Ok(Vec::new(context.alloc));
+    if !any_is_indirect(links) {
+        return Ok(());
     }
-    let holders = Holders::of(context.alloc, linked, context.serials)?;
-    let steps = first_steps(&context.names, &holders)?;
-    let targets = targets_of(&context.names, &holders)?;
-    let answers = answers(context.alloc, steps.as_slice())?;
-    let reports = reports(context, linked, answers.as_slice())?;
-    let outcomes = outcomes(context.alloc, linked, &answers, &reports, &targets)?;
-    Ok(outcomes)
+    let alloc = context.alloc;
+    let places = places_by_number(alloc, links, context.serials)?;
+    let steps = steps_of(alloc, &context.names, &places, links)?;
+    let answers = answers(alloc, &steps)?;
+    let targets = targets_of(alloc, &context.names, &places, links)?;
+    let references = references_to_each(alloc, &targets)?;
+    for (place, list) in references.iter().enumerate() {
+        conclude(context, links, place, list, item_at(&answers, place))?;
+    }
+    Ok(())
 }
 
-/// Whether no element is an indirect target.
-fn none_is_indirect(linked: &[Linked<'_>]) -> bool
-    ensures { result ≡ list_all (λ one. is_direct (linked_element one)) linked.now }
+/// Whether an element is an indirect target.
+fn any_is_indirect(links: &Links<'_>) -> bool
+    ensures { result ≡ list_any (λ place. is_some (indirect_name (node_at place links.now))) (places_of links.now) }
 {
-    linked.iter().all(|one| !is_indirect(one.element))
+    (0..links.len()).any(|place| is_indirect(links.node(place)))
 }
 
 /// Whether a node is an indirect target.
@@ -87,42 +90,190 @@ fn indirect_name<'a>(node: &'a Node) -> Option<&'a str>
 }
 
 /// The first step from an element, if it is an indirect target.
-fn own_step(names: &Names, holders: &Holders<'_>, node: &Node) -> Result<Option<Step>>
-    ensures { IfOk result (λ step. step ≡ own_step (entry_named names.now) (place_at holders.now.places.items) (map linked_element holders.now.linked.now) node.now) }
+fn own_step(
+    alloc: Global,
+    names: &Names,
+    places: &[Option<usize>],
+    links: &Links<'_>,
+    node: &Node,
+) -> Result<Option<Step>>
+    ensures { IfOk result (λ step. step ≡ own_step (entry_named names.now) places.now links.now node.now) }
 {
     let Some(name) = indirect_name(node) else {
         return Ok(None);
     };
     match names.get(name) {
         Some(known) if !is_lost(known) => {
-            let place = holders.place(known.holder);
-            let holder = element_at(holders.linked, place);
-            match (place, holder) {
-                (Some(place), Some(node)) if is_indirect(node) => { Ok(Some(Step::To(place))) }
+            let holder = holder_place(places, known.holder);
+            match holder {
+                Some(place) if is_indirect(links.node(place)) => Ok(Some(Step::To(place))),
                 _ => {
-                    let lead = lead_by_name(holders.alloc, known, holder)?;
-                    let attr = Entry::new(lead.key, lead.value);
-                    Ok(Some(Step::Ends(Answer::Leads(attr))))
+                    let lead = name_lead(alloc, links, holder, known)?;
+                    Ok(Some(Step::Ends(Answer::Leads(lead))))
                 }
             }
         }
         _ => {
-            let name = Text::from_str(holders.alloc, name)?;
+            let name = Text::from_str(alloc, name)?;
             Ok(Some(Step::Ends(Answer::Missing(name))))
         }
     }
 }
 
 /// The first step from each indirect target, by its place; there is nothing for the other elements.
-fn first_steps(names: &Names, holders: &Holders<'_>) -> Result<Vec<Option<Step>>>
-    ensures { IfOk result (λ steps. steps.items ≡ steps_of (entry_named names.now) (place_at holders.now.places.items) (map linked_element holders.now.linked.now)) }
+fn steps_of(
+    alloc: Global,
+    names: &Names,
+    places: &[Option<usize>],
+    links: &Links<'_>,
+) -> Result<Vec<Option<Step>>>
+    ensures { IfOk result (λ steps. steps.items ≡ steps_of (entry_named names.now) places.now links.now) }
 {
-    let mut steps = Vec::with_capacity(holders.alloc, holders.linked.len())?;
-    for one in holders.linked {
-        let step = own_step(names, holders, one.element)?;
+    let mut steps = Vec::with_capacity(alloc, links.len())?;
+    for place in 0..links.len() {
+        let step = own_step(alloc, names, places, links, links.node(place))?;
         steps.push(step)?;
     }
     Ok(steps)
+}
+
+/// Whether a node is a reference that is none to a footnote or a citation.
+pub fn is_reference(node: &Node) -> bool
+    ensures { result ≡ is_reference_node node.now }
+{
+    match node {
+        Node::Element { tag, .. } => matches!(tag, Tag::Reference),
+        Node::Text(_) => false,
+    }
+}
+
+/// The place of the element that a reference refers to by its name, if it does.
+fn named_target(names: &Names, places: &[Option<usize>], node: &Node) -> Option<usize>
+    ensures { result ≡ named_target (entry_named names.now) places.now node.now }
+{
+    if !is_reference(node) {
+        return None;
+    }
+    named_place(names, places, node)
+}
+
+/// The same for all.
+fn named_targets(
+    alloc: Global,
+    names: &Names,
+    places: &[Option<usize>],
+    links: &Links<'_>,
+) -> Result<Vec<Option<usize>>>
+    ensures { IfOk result (λ targets. targets.items ≡ map (λ place. named_target (entry_named names.now) places.now (node_at place links.now)) (places_of links.now)) }
+{
+    let targets = (0..links.len()).map(|place| named_target(names, places, links.node(place)));
+    Ok(targets.collect(alloc)?)
+}
+
+/// For each reference the place of the target that it refers to, by its name or by the order.
+fn targets_of(
+    alloc: Global,
+    names: &Names,
+    places: &[Option<usize>],
+    links: &Links<'_>,
+) -> Result<Vec<Option<usize>>>
+    ensures { IfOk result (λ targets. targets.items ≡ targets_of (entry_named names.now) places.now links.now) }
+{
+    let mut targets = named_targets(alloc, names, places, links)?;
+    add_pairs(alloc, links, Order::Anonymous, &mut targets)?;
+    Ok(targets)
+}
+
+/// For each place those of the references to the target there, by what each refers to.
+fn references_to_each(alloc: Global, targets: &[Option<usize>]) -> Result<Vec<Vec<usize>>>
+    ensures { IfOk result (λ lists. lists_now lists.items ≡ map (references_to targets.now) (range_with_len 0 (length targets.now))) }
+{
+    let mut lists = no_places(alloc, targets.len())?;
+    for (place, target) in targets.iter().enumerate() {
+        add_reference(&mut lists, *target, place)?;
+    }
+    Ok(lists)
+}
+
+/// No place for each of `count` targets.
+fn no_places(alloc: Global, count: usize) -> Result<Vec<Vec<usize>>>
+    ensures { IfOk result (λ lists. lists_now lists.items ≡ replicate count []) }
+{
+    let mut lists = Vec::with_capacity(alloc, count)?;
+    for _ in 0..count {
+        lists.push(Vec::new(alloc))?;
+    }
+    Ok(lists)
+}
+
+/// Adds the place of a reference to those for its target, if it has one.
+fn add_reference(lists: &mut Vec<Vec<usize>>, target: Option<usize>, place: usize) -> Result<()>
+    ensures { IfOk result (λ _. lists_now lists.new.items ≡ with_reference target place (lists_now lists.old.items)) }
+{
+    if let Some(target) = target {
+        if target < lists.len() {
+            lists[target].push(place)?;
+        }
+    }
+    Ok(())
+}
+
+/// Lets an indirect target and the references to it lead where it leads, by what it comes to, or lets the references fail.
+fn conclude(
+    context: &mut Context,
+    links: &mut Links<'_>,
+    target: usize,
+    references: &[usize],
+    answer: Option<&Answer>,
+) -> Result<()>
+    ensures { IfOk result (λ _. Makes (concludes target references.now (option_map (λ a. a.now) answer.entry) links.old) context.old context.new links.new) }
+{
+    let node = links.node(target);
+    let name = text_of_attribute(node, Key::OwnName).unwrap_or("");
+    let line = line_of(node);
+    match answer {
+        None => {}
+        Some(Answer::Leads(lead)) => lead_all(context.alloc, links, lead, target, references)?,
+        Some(Answer::Missing(missing)) => {
+            let text = missing_text(context.alloc, name, missing.as_str())?;
+            fail_for(context, links, references, line, text)?;
+        }
+        Some(Answer::Circular) => {
+            let text = circular_text(context.alloc, name)?;
+            fail_for(context, links, references, line, text)?;
+        }
+    }
+    Ok(())
+}
+
+/// Lets a target and the anonymous ones of the references to it lead somewhere.
+fn lead_all(
+    alloc: Global,
+    links: &mut Links<'_>,
+    lead: &Entry,
+    target: usize,
+    references: &[usize],
+) -> Result<()>
+    ensures { IfOk result (λ _. links.new ≡ all_lead lead.now (target ∷ filter (is_anonymous_at links.old) references.now) links.old) }
+{
+    let anonymous = references
+        .iter()
+        .copied()
+        .filter(|place| has(links.node(*place), Key::Anonymous));
+    let anonymous: Vec<usize> = anonymous.collect(alloc)?;
+    let own = Some(lead.copy(alloc)?);
+    links.put(
+        target,
+        Change::Stays {
+            lead: own,
+            text: None,
+        },
+    );
+    for place in &anonymous {
+        let lead = Some(lead.copy(alloc)?);
+        links.put(*place, Change::Stays { lead, text: None });
+    }
+    Ok(())
 }
 
 /// The words of the message on a target whose chain breaks at a name that no element has.
@@ -135,142 +286,10 @@ fn missing_text(alloc: Global, name: &str, missing: &str) -> Result<Text>
     Ok(Text::new(text))
 }
 
-/// The text of the message on the element at a place, if it fails.
-fn failure_at(
-    alloc: Global,
-    node: &Node,
-    answers: &[Option<Answer>],
-    place: usize,
-) -> Result<Option<Text>>
-    ensures { IfOk result (λ text. text ≡ failure_of node.now (at_place answers.now place)) }
+/// The words of the message on a target whose chain is a circle.
+fn circular_text(alloc: Global, name: &str) -> Result<Text>
+    ensures { IfOk result (λ text. text ≡ circular_text name.now) }
 {
-    let name = text_of_attribute(node, Key::OwnName).unwrap_or("");
-    match item_at(answers, place) {
-        Some(Answer::Missing(missing)) => { Ok(Some(missing_text(alloc, name, missing.as_str())?)) }
-        Some(Answer::Circular) => {
-            let text = format!(in alloc; "Indirect hyperlink target \"{name}\" is circular.")?;
-            Ok(Some(Text::new(text)))
-        }
-        Some(Answer::Leads(_)) | None => Ok(None),
-    }
-}
-
-/// The message of each target that fails, by its place.
-fn reports(
-    context: &mut Context,
-    linked: &[Linked<'_>],
-    answers: &[Option<Answer>],
-) -> Result<Vec<Option<usize>>>
-    ensures places { IfOk result (λ reports. reports.items ≡ (with_reports (at_place answers.now) context.old.first_number context.old.reports.items 0 (map linked_element linked.now)).0) }
-    ensures reports { IfOk result (λ _. context.new.reports.items ≡ (with_reports (at_place answers.now) context.old.first_number context.old.reports.items 0 (map linked_element linked.now)).1) }
-    ensures rest { IfOk result (λ _. KeepsRest context.old context.new) }
-{
-    let mut reports = Vec::with_capacity(context.alloc, linked.len())?;
-    for (place, one) in linked.iter().enumerate() {
-        let Some(text) = failure_at(context.alloc, one.element, answers, place)? else {
-            reports.push(None)?;
-            continue;
-        };
-        let report = context.report(Level::Error, line_of(one.element), text, true)?;
-        reports.push(Some(report))?;
-    }
-    Ok(reports)
-}
-
-/// The places of the anonymous targets, in order.
-fn anonymous_places(alloc: Global, linked: &[Linked<'_>]) -> Result<Vec<usize>>
-    ensures { IfOk result (λ places. places.items ≡ anonymous_from 0 (map linked_element linked.now)) }
-{
-    let mut places = Vec::new(alloc);
-    for (place, one) in linked.iter().enumerate() {
-        if is_anonymous_target(one.element) {
-            places.push(place)?;
-        }
-    }
-    Ok(places)
-}
-
-/// The place of the element that a reference means by its name, if it does.
-fn named_place(names: &Names, holders: &Holders<'_>, node: &Node) -> Option<usize>
-    ensures { result ≡ named_place (entry_named names.now) (place_at holders.now.places.items) node.now }
-{
-    if !matches!(
-        node,
-        Node::Element {
-            tag: Tag::Reference,
-            ..
-        }
-    ) {
-        return None;
-    }
-    let name = text_of_attribute(node, Key::Refname)?;
-    let known = names.get(name)?;
-    holders.place(known.holder)
-}
-
-/// For each reference the place of the target that it means, by its name or by the order.
-fn targets_of(names: &Names, holders: &Holders<'_>) -> Result<Vec<Option<usize>>>
-    ensures { IfOk result (λ targets. targets.items ≡ targets_of (entry_named names.now) (place_at holders.now.places.items) (map linked_element holders.now.linked.now)) }
-{
-    let anonymous = anonymous_places(holders.alloc, holders.linked)?;
-    let mut left = anonymous.as_slice();
-    let mut targets = Vec::with_capacity(holders.alloc, holders.linked.len())?;
-    for one in holders.linked {
-        if is_anonymous_reference(one.element) {
-            targets.push(left.first().copied())?;
-            left = &left[left.len().min(1)..];
-            continue;
-        }
-        targets.push(named_place(names, holders, one.element))?;
-    }
-    Ok(targets)
-}
-
-/// What happens to an element that leads where an answer points.
-fn led(alloc: Global, answer: &Answer) -> Result<Outcome>
-    ensures { IfOk result (λ outcome. outcome ≡ led answer.now) }
-{
-    match answer {
-        Answer::Leads(attr) => {
-            let attr = attr.copy(alloc)?;
-            let key = attr.key();
-            let value = attr.into_value();
-            Ok(Outcome::adds(Some(Attr { key, value })))
-        }
-        Answer::Missing(_) | Answer::Circular => Ok(Outcome::adds(None)),
-    }
-}
-
-/// What happens to the linked elements.
-fn outcomes(
-    alloc: Global,
-    linked: &[Linked<'_>],
-    answers: &[Option<Answer>],
-    reports: &[Option<usize>],
-    targets: &[Option<usize>],
-) -> Result<Vec<Outcome>>
-    ensures { IfOk result (λ outcomes. outcomes.items ≡ outcomes_of_indirect (at_place answers.now) (at_place reports.now) (at_place targets.now) (map linked_element linked.now)) }
-{
-    let mut outcomes = Vec::with_capacity(alloc, linked.len())?;
-    for (place, one) in linked.iter().enumerate() {
-        if let Some(answer) = item_at(answers, place) {
-            outcomes.push(led(alloc, answer)?)?;
-            continue;
-        }
-        let Some(target) = at_place(targets, place) else {
-            outcomes.push(Outcome::adds(None))?;
-            continue;
-        };
-        if let Some(report) = at_place(reports, target) {
-            outcomes.push(Outcome::Fails(report))?;
-            continue;
-        }
-        match item_at(answers, target) {
-            Some(answer) if has(one.element, Key::Anonymous) => {
-                outcomes.push(led(alloc, answer)?)?;
-            }
-            _ => outcomes.push(Outcome::adds(None))?,
-        }
-    }
-    Ok(outcomes)
+    let text = format!(in alloc; "Indirect hyperlink target \"{name}\" is circular.")?;
+    Ok(Text::new(text))
 }

@@ -3,23 +3,22 @@
 #![tactic(auto)]
 
 mod anonymous;
-mod backrefs;
 mod chains;
+mod changes;
+mod failing;
 mod footnote_labels;
-mod footnote_orders;
 mod footnotes;
 mod holders;
 mod indirect;
-pub mod laws;
+mod leads;
 mod links;
-mod meanings;
+mod orders;
 mod resolve;
 pub mod rows;
-mod settling;
 
-pub use anonymous::anonymous_outcomes;
-pub use footnotes::footnote_outcomes;
-pub use indirect::indirect_outcomes;
-pub use links::{Changes, Linked, Outcome, linked_in, with_changes};
-pub use resolve::reference_outcomes;
-pub use settling::settle;
+pub use anonymous::resolve_anonymous;
+pub use changes::with_changes;
+pub use footnotes::resolve_footnotes;
+pub use indirect::resolve_indirect;
+pub use links::{Change, Links};
+pub use resolve::resolve_names;

@@ -1,74 +1,44 @@
-//! The elements that references join, and what the transforms of references make of them.
-ghost use Rattle.std.specs.Prelude.{◌≡◌, drop, map, true, IfOk};
-ghost use Rattle.std.specs.List.{list_all};
-ghost use Rattle.rst_tree.specs.declared.node.Node.TheVariants.{Element};
-ghost use Rattle.rst_tree.specs.Rewritten.{Turned};
-ghost use Rattle.rst_transform_references.specs.Linkings.{linked_element, linked_of, TakesLinked};
-ghost use Rattle.rst_transform_references.specs.Links.{change_next, change_of, changed_by, changed_document, is_idle};
-ghost use Rattle.rst_transform_references.specs.Outcomes.{adds, fails, stays};
+//! The elements that references join, and what becomes of them.
+ghost use Rattle.std.specs.Prelude.{IfOk, ◌≡◌, ◌+◌, [], length, replicate, slice_get, MatchOption, None, Some};
+ghost use Rattle.rst_tree.specs.declared.node.Node.TheVariants.{Text as Words};
+ghost use Rattle.rst_transform_references.specs.declared.links.Change.TheVariants.{Stays};
+ghost use Rattle.rst_transform_references.specs.Failing.{fails, without};
+ghost use Rattle.rst_transform_references.specs.Footnotes.{new_text};
+ghost use Rattle.rst_transform_references.specs.Links.{change_at, linked_among, links_of, node_at, nodes_now, puts, TakesLinked};
+ghost use Rattle.rst_transform_references.specs.Resolving.{with_backref};
+ghost use Rattle.rst_transform_work.specs.Known.{Makes};
 
-use rst_transform_work::{Document, ProblematicAttrs, take_source};
-use rst_tree::{
-    Attr, Attrs, Children, Node, Reader, Result, Rewriter, Tag, Text, read_elements, rewrite_in,
-};
+use rst_transform_work::{Context, Document, ProblematicAttrs, put_at};
+use rst_tree::{Children, Entry, Node, Reader, Result, Text, Texts, read_elements};
 use rst_tree_index::is_linked_tag;
 use std::alloc::Global;
-use std::collections::VecDeque;
 use std::marker::Model;
 
-/// An element at one of the two ends of a link.
-#[derive(Clone, Copy)]
-pub struct Linked<'a> {
-    pub element: &'a Node,
-    /// The place, in the list of all, of the innermost of these elements that it is inside.
-    pub outer: Option<usize>,
-}
-
-/// What happens to a linked element.
+/// What becomes of a linked element.
 #[derive(Drop)]
-pub enum Outcome {
-    /// It stays. In the end it has this attribute, and this text in place of its content, if there are any. What gets a text,
+pub enum Change {
+    /// It stays. In the end it leads there, and has this text in place of its content, if there are any. What gets a text,
     /// a label or a reference to a footnote, contains no linked element.
     Stays {
-        attr: Option<Attr>,
-        new_text: Option<Text>,
+        lead: Option<Entry>,
+        text: Option<Text>,
     },
-    /// It becomes a problematic of the message at this place among the reports once its turn comes, and stays till then.
-    Fails(usize),
-    /// It has become a problematic with these attributes.
-    Failed(ProblematicAttrs),
-}
-
-impl Outcome {
-    /// It stays, and gets this attribute, if there is one.
-    pub fn adds(attr: Option<Attr>) -> Outcome
-        ensures { result ≡ adds attr }
-    {
-        Outcome::Stays {
-            attr,
-            new_text: None,
-        }
-    }
-
-    /// Whether it becomes a problematic once its turn comes.
-    pub fn fails(&self) -> bool
-        ensures { result ≡ fails self.now }
-    {
-        matches!(self, Outcome::Fails(_))
-    }
-
-    /// Whether it stays.
-    pub fn stays(&self) -> bool
-        ensures { result ≡ stays self.now }
-    {
-        matches!(self, Outcome::Stays { .. })
-    }
+    /// It is a footnote or a citation, and has these names and lists these references to it, if there are some.
+    Lists {
+        names: Texts,
+        backrefs: Texts,
+    },
+    /// It has become a problematic with these attributes. So many linked elements are inside it.
+    Failed {
+        attrs: ProblematicAttrs,
+        inside: usize,
+    },
 }
 
 /// The linked elements that were read.
 #[derive(Drop)]
 struct LinkedReader<'a> {
-    list: Vec<Linked<'a>>,
+    list: Vec<&'a Node>,
 }
 
 impl<'a> Reader<'a> for LinkedReader<'a> {
@@ -82,148 +52,188 @@ impl<'a> Reader<'a> for LinkedReader<'a> {
         element: &'a Node,
         level: Option<usize>,
     ) -> Result<Option<usize>> {
-        let Node::Element { tag, .. } = element else {
-            return Ok(None);
-        };
-        if is_linked_tag(*tag) {
-            let place = self.list.len();
-            self.list.push(Linked {
-                element,
-                outer: level,
-            })?;
-            return Ok(Some(place));
+        if let Node::Element { tag, .. } = element {
+            if is_linked_tag(*tag) {
+                self.list.push(element)?;
+            }
         }
         Ok(level)
     }
 }
 
-/// The linked elements in a document, in preorder.
-pub fn linked_in<'a>(alloc: Global, document: &'a Document) -> Result<Vec<Linked<'a>>>
-    ensures { IfOk result (λ list. map linked_element list.items ≡ linked_of document.now) }
+/// The linked elements among nodes and in them, in the order of the document.
+fn linked_among<'a>(alloc: Global, nodes: &'a Children) -> Result<Vec<&'a Node>>
+    ensures { IfOk result (λ list. nodes_now list.items ≡ linked_among nodes.now) }
 {
     let mut linked = LinkedReader {
         list: Vec::new(alloc),
     };
-    read_elements(alloc, &document.children, None, &mut linked)?;
+    read_elements(alloc, nodes, None, &mut linked)?;
     Ok(linked.list)
 }
 
-/// What happens to the linked elements of a tree, in preorder, which contracts see as the list of
-/// that.
-#[derive(Drop)]
-pub struct Changes {
-    left: VecDeque<Outcome>,
+/// That `count` elements stay as they are.
+fn no_changes(alloc: Global, count: usize) -> Result<Vec<Change>>
+    ensures { IfOk result (λ changes. changes.items ≡ replicate count (Stays None None)) }
+{
+    let mut changes = Vec::with_capacity(alloc, count)?;
+    for _ in 0..count {
+        changes.push(Change::Stays {
+            lead: None,
+            text: None,
+        })?;
+    }
+    Ok(changes)
 }
 
-impl Model for Changes {
-    ghost use Rattle.std.specs.Prelude.{List};
-    ghost use Rattle.rst_transform_references.specs.declared.links.Outcome.{Outcome};
+/// The linked elements of a document, each at its place, and what becomes of them.
+#[derive(Drop)]
+pub struct Links<'a> {
+    /// An empty text, which takes the places of those that fail and of those inside them.
+    nothing: &'a Node,
+    linked: Vec<&'a Node>,
+    changes: Vec<Change>,
+}
 
-    ghost Value = { List Outcome };
+impl<'a> Model for Links<'a> {
+    ghost use Rattle.std.specs.Prelude.{◌≡◌, []};
+    ghost use Rattle.rst_tree.specs.declared.node.Node.TheVariants.{Text as Words};
+    ghost use Rattle.rst_transform_references.specs.Links.{nodes_now};
+    ghost use Rattle.rst_transform_references.specs.Table.{Links};
+
+    ghost Value = { Links };
 
     ghost use Rattle.std.specs.Coded.{codes};
-    ghost use Rattle.rst_transform_references.specs.contracts.links.Outcome as outcome;
+    ghost use Rattle.rst_tree.specs.contracts.node.Node as node;
+    ghost use Rattle.rst_transform_references.specs.contracts.links.Change as row;
 
-    ghost coded = { Prim.hlevel (codes, outcome.the_row.coded) };
+    ghost coded = { Prim.hlevel (codes, node.the_row.coded, row.the_row.coded) };
 
-    ghost view = { λ s. s.left.items };
+    ghost view = { λ s. record { linked = nodes_now s.linked.items; changes = s.changes.items } };
+
+    ghost invariant = { λ s. s.nothing.now ≡ Words [] };
 }
 
-impl Changes {
-    /// The changes in a list.
-    pub fn of(list: Vec<Outcome>) -> Changes
-        ensures { result ≡ list.items }
+impl<'a> Links<'a> {
+    /// Those of a document, which stay as they are at first.
+    pub fn of(alloc: Global, document: &'a Document, nothing: &'a Node) -> Result<Links<'a>>
+        requires { nothing.now ≡ Words [] }
+        ensures { IfOk result (λ links. links ≡ links_of document.now) }
     {
-        Changes {
-            left: VecDeque::from_vec(list),
+        let linked = linked_among(alloc, &document.children)?;
+        let changes = no_changes(alloc, linked.len())?;
+        Ok(Links {
+            nothing,
+            linked,
+            changes,
+        })
+    }
+
+    /// How many there are.
+    #[inline(always)]
+    pub fn len(&self) -> usize
+        ensures { result ≡ length self.now.linked }
+    {
+        self.linked.len()
+    }
+
+    /// The element at a place, or an empty text if that has failed or is inside one that has.
+    #[inline(always)]
+    pub fn node(&self, place: usize) -> &'a Node
+        ensures { result.now ≡ node_at place self.now }
+    {
+        match self.linked.get(place) {
+            Some(node) => node,
+            None => self.nothing,
         }
     }
 
-    /// Whether every element stays as it is.
-    pub fn are_idle(&self) -> bool
-        ensures { result ≡ list_all is_idle self.now }
+    /// What becomes of the element at a place.
+    pub fn change(&self, place: usize) -> Option<&Change>
+        ensures { MatchOption result (slice_get self.now.changes place ≡ None) (λ change. slice_get self.now.changes place ≡ Some change.now) }
     {
-        self.left.iter().all(|change| is_idle(change))
+        self.changes.get(place)
     }
 
-    /// Changes the parts of a linked element on a line, and returns whether its content is to be gone through.
-    // Few elements are linked: the others are passed without this call.
-    #[inline(never)]
-    fn change(
-        &mut self,
-        alloc: Global,
-        tag: &mut Tag,
-        attrs: &mut Attrs,
-        children: &mut Children,
-        line: usize,
-    ) -> Result<bool>
-        ensures state { IfOk result (λ _. self.new ≡ drop 1 self.old) }
-        ensures outcome { IfOk result (λ stays. Turned (changed_by self.old tag.old attrs.old line) (Element tag.old attrs.old children.old line) (Element tag.new attrs.new children.new line) stays) }
+    /// The text that the element after the one at a place gets.
+    pub fn text_after(&self, place: usize) -> Option<&Text>
+        ensures { let text = new_text (change_at (place + 1) self.now) in MatchOption result (text ≡ None) (λ found. text ≡ Some found.now) }
     {
-        match self.left.pop_front() {
-            None | Some(Outcome::Fails(_)) => Ok(true),
-            Some(Outcome::Stays { attr, new_text }) => {
-                if let Some(attr) = attr {
-                    attrs.set(attr.key, attr.value)?;
-                }
-                let Some(text) = new_text else {
-                    return Ok(true);
-                };
-                children.set_lone(Node::Text(text))?;
-                Ok(false)
-            }
-            Some(Outcome::Failed(problematic)) => {
-                let source = take_source(alloc, attrs)?;
-                *tag = Tag::Problematic;
-                problematic.tell(alloc, attrs)?;
-                children.set_lone(Node::Text(source))?;
-                Ok(false)
-            }
+        if place >= self.changes.len() {
+            return None;
         }
+        match self.changes.get(place + 1) {
+            Some(Change::Stays { text, .. }) => text.as_ref(),
+            _ => None,
+        }
+    }
+
+    /// Lets this become of the element at a place.
+    pub fn put(&mut self, place: usize, change: Change)
+        ensures { self.new ≡ puts place change self.old }
+    {
+        put_at(&mut self.changes, place, change);
+    }
+
+    /// Lets the footnote or citation at a place list one more reference to it.
+    pub fn list(&mut self, alloc: Global, place: usize, id: Text) -> Result<()>
+        ensures { IfOk result (λ _. self.new ≡ puts place (with_backref id (change_at place self.old)) self.old) }
+    {
+        if place < self.changes.len() {
+            add_backref(alloc, &mut self.changes[place], id)?;
+        }
+        Ok(())
+    }
+
+    /// What became of all.
+    pub fn into_changes(self) -> Vec<Change>
+        ensures { result.items ≡ self.entry.changes }
+    {
+        self.changes
+    }
+
+    /// Lets the element at a place become a problematic of a message, if it is still there. Those inside it are gone with it.
+    pub fn fail(&mut self, context: &mut Context, message: usize, place: usize) -> Result<()>
+        ensures { IfOk result (λ _. Makes (fails message place self.old) context.old context.new self.new) }
+    {
+        let Node::Element { children, .. } = self.node(place) else {
+            return Ok(());
+        };
+        let attrs = context.next_problematic(message)?;
+        let inside = linked_among(context.alloc, children)?.len();
+        remove(&mut self.linked, self.nothing, place, inside);
+        put_at(&mut self.changes, place, Change::Failed { attrs, inside });
+        Ok(())
     }
 }
 
-/// Whether an element of which this becomes stays as it is.
-fn is_idle(outcome: &Outcome) -> bool
-    ensures { result ≡ is_idle outcome.now }
+/// Adds the id of a reference to those that a footnote or a citation lists.
+fn add_backref(alloc: Global, change: &mut Change, id: Text) -> Result<()>
+    ensures { IfOk result (λ _. change.new ≡ with_backref id change.old) }
 {
-    match outcome {
-        Outcome::Stays { attr, new_text } => attr.is_none() && new_text.is_none(),
-        Outcome::Fails(_) => true,
-        Outcome::Failed(_) => false,
+    if let Change::Lists { backrefs, .. } = change {
+        return backrefs.push(id);
     }
+    *change = Change::Lists {
+        names: Texts::new(alloc),
+        backrefs: Texts::lone(alloc, id),
+    };
+    Ok(())
 }
 
-impl Rewriter for Changes {
-    ghost entered = { change_next };
-
-    ghost becomes = { change_of };
-
-    fn turn(&mut self, alloc: Global, element: &mut Node) -> Result<bool> {
-        if let Node::Element {
-            tag,
-            attrs,
-            children,
-            line,
-        } = element
-        {
-            if !is_linked_tag(*tag) {
-                return Ok(true);
-            }
-            return self.change(alloc, tag, attrs, children, *line);
-        }
-        Ok(false)
-    }
-}
-
-/// A document in which its linked elements changed.
-#[tactic(auto, using(crate::proofs::Idle::idle_document))]
-pub fn with_changes(alloc: Global, mut document: Document, mut changes: Changes) -> Result<Document>
-    ensures { IfOk result (λ after. after ≡ changed_document changes document) }
+/// Puts an empty text in the place of an element and of a number of those after it.
+fn remove<'a>(linked: &mut Vec<&'a Node>, nothing: &'a Node, place: usize, inside: usize)
+    requires { nothing.now ≡ Words [] }
+    ensures { nodes_now linked.new.items ≡ without place inside (nodes_now linked.old.items) }
 {
-    if changes.are_idle() {
-        return Ok(document);
+    let mut at = place;
+    let mut left = inside;
+    while at < linked.len() {
+        linked[at] = nothing;
+        if left == 0 {
+            return;
+        }
+        at += 1;
+        left -= 1;
     }
-    rewrite_in(alloc, &mut document.children, &mut changes)?;
-    Ok(document)
 }

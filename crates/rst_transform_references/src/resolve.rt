@@ -1,17 +1,22 @@
 //! References by name.
-ghost use Rattle.std.specs.Prelude.{◌≡◌, ◌||◌, ◌++◌, [], codes, map, IfOk};
+ghost use Rattle.std.specs.Prelude.{IfOk, ◌≡◌, ◌++◌, codes, map, option_map};
+ghost use Rattle.std.specs.List.{list_any};
+ghost use Rattle.rst_transform_names.specs.Names.{entry_named};
+ghost use Rattle.rst_transform_references.specs.Links.{node_at, places_of};
+ghost use Rattle.rst_transform_references.specs.Resolving.{fails_alone, is_noted, label_for, named_note, note_at, notes_of, refers_back, refers_to_note, references, resolves, with_backrefs};
 ghost use Rattle.rst_transform_work.specs.Known.{Makes};
-ghost use Rattle.rst_transform_references.specs.Holders.{place_at};
-ghost use Rattle.rst_transform_references.specs.Linkings.{linked_element};
-ghost use Rattle.rst_transform_references.specs.Outcomes.{fails};
-ghost use Rattle.rst_transform_references.specs.Resolving.{failing_reference, is_gone, refname_of_node, outcome_of, reference_outcomes, resolved_from, label_for, what_becomes};
 
-use crate::backrefs::with_referring_ids;
-use crate::holders::{Holders, element_at};
-use crate::links::{Linked, Outcome};
-use crate::meanings::{Meaning, meaning_to, refers_to_footnote_or_citation};
-use rst_transform_work::{Context, has, line_of, text_of_attribute};
-use rst_tree::{Key, Level, Node, Result, Text};
+use crate::failing::fail_for;
+use crate::footnotes::label_at;
+use crate::holders::{holder_place, is_lost, named_place, places_by_number};
+use crate::indirect::is_reference;
+use crate::leads::name_lead;
+use crate::links::{Change, Links};
+use crate::orders::{Order, add_pairs};
+use rst_transform_names::Names;
+use rst_transform_work::{Context, at_place, first_of_attribute, has, line_of, text_of_attribute};
+use rst_tree::{Key, Node, Result, Tag, Text, Texts};
+use std::alloc::Global;
 
 /// Lets each reference by name refer to what the name means, and each footnote and citation list its references (Markup
 /// Specification, 'Hyperlink References').
@@ -46,103 +51,206 @@ use rst_tree::{Key, Level, Node, Result, Text};
 ///
 /// A name that means nothing gives an ERROR, and the reference becomes a problematic; the references inside it are gone, and
 /// give no message.
-pub fn reference_outcomes(context: &mut Context, linked: &[Linked<'_>]) -> Result<Vec<Outcome>>
-    ensures { IfOk result (λ outcomes. Makes (reference_outcomes (map linked_element linked.now)) context.old context.new outcomes.items) }
+pub fn resolve_names(context: &mut Context, links: &mut Links<'_>) -> Result<()>
+    ensures { IfOk result (λ _. Makes (references links.old) context.old context.new links.new) }
 {
-    let holders = Holders::of(context.alloc, linked, context.serials)?;
-    let outcomes = resolved(context, &holders)?;
-    let outcomes = with_referring_ids(&context.names, &holders, outcomes)?;
-    Ok(outcomes)
+    let places = places_by_number(context.alloc, links, context.serials)?;
+    list_references(context.alloc, &context.names, &places, links)?;
+    for place in 0..links.len() {
+        resolve(context, &places, links, place)?;
+    }
+    Ok(())
 }
 
-/// The new text of a reference in place of its content, if it gets the label of the footnote or citation at a place.
-fn label_for(holders: &Holders<'_>, reference: &Node, place: Option<usize>) -> Result<Option<Text>>
-    ensures { IfOk result (λ new_text. new_text ≡ label_for (map linked_element holders.now.linked.now) reference.now place) }
+/// Whether a node is a footnote or a citation.
+fn is_noted(node: &Node) -> bool
+    ensures { result ≡ is_noted node.now }
 {
-    if !refers_to_footnote_or_citation(reference) || !has(reference, Key::Auto) {
+    match node {
+        Node::Element { tag, .. } => matches!(tag, Tag::Footnote | Tag::Citation),
+        Node::Text(_) => false,
+    }
+}
+
+/// Whether a node is a reference to a footnote or a citation.
+fn refers_to_note(node: &Node) -> bool
+    ensures { result ≡ refers_to_note node.now }
+{
+    match node {
+        Node::Element { tag, .. } => {
+            matches!(tag, Tag::FootnoteReference | Tag::CitationReference)
+        }
+        Node::Text(_) => false,
+    }
+}
+
+/// A place, if there is one and a footnote or a citation is there.
+fn note_at(links: &Links<'_>, place: Option<usize>) -> Option<usize>
+    ensures { result ≡ note_at place links.now }
+{
+    let place = place?;
+    is_noted(links.node(place)).then_some(place)
+}
+
+/// The place of the footnote or citation that an element refers to by its name, if it does.
+fn named_note(
+    names: &Names,
+    places: &[Option<usize>],
+    links: &Links<'_>,
+    node: &Node,
+) -> Option<usize>
+    ensures { result ≡ named_note (entry_named names.now) places.now links.now node.now }
+{
+    if !refers_to_note(node) {
+        return None;
+    }
+    note_at(links, named_place(names, places, node))
+}
+
+/// The same for all.
+fn named_notes(
+    alloc: Global,
+    names: &Names,
+    places: &[Option<usize>],
+    links: &Links<'_>,
+) -> Result<Vec<Option<usize>>>
+    ensures { IfOk result (λ notes. notes.items ≡ map (λ place. named_note (entry_named names.now) places.now links.now (node_at place links.now)) (places_of links.now)) }
+{
+    let notes = (0..links.len()).map(|place| named_note(names, places, links, links.node(place)));
+    Ok(notes.collect(alloc)?)
+}
+
+/// For each element the place of the footnote or citation that it refers to, by its name or by the orders.
+fn notes_of(
+    alloc: Global,
+    names: &Names,
+    places: &[Option<usize>],
+    links: &Links<'_>,
+) -> Result<Vec<Option<usize>>>
+    ensures { IfOk result (λ notes. notes.items ≡ notes_of (entry_named names.now) places.now links.now) }
+{
+    let mut notes = named_notes(alloc, names, places, links)?;
+    add_pairs(alloc, links, Order::Numbers, &mut notes)?;
+    add_pairs(alloc, links, Order::Symbols, &mut notes)?;
+    Ok(notes)
+}
+
+/// Whether an element refers to a footnote or a citation.
+fn any_refers_to_note(links: &Links<'_>) -> bool
+    ensures { result ≡ list_any (λ place. refers_to_note (node_at place links.now)) (places_of links.now) }
+{
+    (0..links.len()).any(|place| refers_to_note(links.node(place)))
+}
+
+/// Lets each footnote and citation list the ids of the references to it.
+fn list_references(
+    alloc: Global,
+    names: &Names,
+    places: &[Option<usize>],
+    links: &mut Links<'_>,
+) -> Result<()>
+    ensures { IfOk result (λ _. links.new ≡ with_backrefs (entry_named names.now) places.now links.old) }
+{
+    if !any_refers_to_note(links) {
+        return Ok(());
+    }
+    let notes = notes_of(alloc, names, places, links)?;
+    for place in 0..links.len() {
+        let id = first_of_attribute(links.node(place), Key::Ids);
+        refer_back(alloc, links, at_place(&notes, place), id)?;
+    }
+    Ok(())
+}
+
+/// Lets a footnote or a citation list the id of one more reference to it.
+fn refer_back(
+    alloc: Global,
+    links: &mut Links<'_>,
+    note: Option<usize>,
+    id: Option<&str>,
+) -> Result<()>
+    ensures { IfOk result (λ _. links.new ≡ refers_back note (option_map (λ i. i.now) id.entry) links.old) }
+{
+    let (Some(note), Some(id)) = (note, id) else {
+        return Ok(());
+    };
+    let id = Text::from_str(alloc, id)?;
+    links.list(alloc, note, id)?;
+    Ok(())
+}
+
+/// The text of a reference in place of its content, if it gets the label of the footnote or citation at a place.
+fn label_for(
+    alloc: Global,
+    links: &Links<'_>,
+    reference: &Node,
+    note: Option<usize>,
+) -> Result<Option<Text>>
+    ensures { IfOk result (λ text. text ≡ label_for reference.now note links.now) }
+{
+    if !refers_to_note(reference) || !has(reference, Key::Auto) {
         return Ok(None);
     }
-    let Some(Node::Element { children, .. }) = element_at(holders.linked, place) else {
-        return Ok(None);
-    };
-    match children.get(0) {
-        Some(label) => Ok(Some(label.text_of(holders.alloc)?)),
+    match note {
+        Some(note) => label_at(alloc, links, note),
         None => Ok(None),
     }
 }
 
-/// A reference that fails for an ERROR of its own, which has these words before its name.
-#[tactic(auto, using(crate::proofs::Resolves::fails_for))]
-fn failing_reference(context: &mut Context, reference: &Node, words: &str) -> Result<Outcome>
-    ensures { IfOk result (Makes (failing_reference reference.now (words.now ++ (refname_of_node reference.now ++ codes "\"."))) context.old context.new) }
-{
-    let name = text_of_attribute(reference, Key::Refname).unwrap_or("");
-    let text = Text::of_three(context.alloc, words, name, "\".")?;
-    let line = line_of(reference);
-    let report = context.report(Level::Error, line, text, true)?;
-    Ok(Outcome::Fails(report))
-}
+/// The words of the ERROR on a name that means nothing, before the name.
+const UNKNOWN: &str = "Unknown target name: \"";
 
-/// The words of the ERROR on a name that elements with equal names lost, before the name.
+/// The same on a name that elements with equal names lost.
 const DUPLICATE: &str = "Duplicate target name, cannot be used as a unique reference: \"";
 
-/// What happens to a reference whose name means this.
-fn outcome_of(
+/// Lets the reference at a place fail for an ERROR of its own, which has these words before its name.
+fn fail_by_name(
     context: &mut Context,
-    holders: &Holders<'_>,
-    reference: &Node,
-    meaning: Meaning,
-) -> Result<Outcome>
-    ensures { IfOk result (Makes (outcome_of (map linked_element holders.now.linked.now) reference.now meaning) context.old context.new) }
+    links: &mut Links<'_>,
+    place: usize,
+    words: &str,
+    name: &str,
+) -> Result<()>
+    ensures { IfOk result (λ _. Makes (fails_alone place (words.now ++ (name.now ++ codes "\".")) links.old) context.old context.new links.new) }
 {
-    match meaning {
-        Meaning::Leads { attr, referent } => {
-            let new_text = label_for(holders, reference, referent)?;
-            let attr = Some(attr);
-            Ok(Outcome::Stays { attr, new_text })
-        }
-        Meaning::Unknown => failing_reference(context, reference, "Unknown target name: \""),
-        Meaning::Duplicate => failing_reference(context, reference, DUPLICATE),
-    }
+    let text = Text::of_three(context.alloc, words, name, "\".")?;
+    let line = line_of(links.node(place));
+    fail_for(context, links, &[place], line, text)?;
+    Ok(())
 }
 
-/// Whether an element is gone: the one that it is inside is gone or fails.
-fn is_gone(ended: &[bool], outer: Option<usize>) -> bool
-    ensures { result ≡ is_gone ended.now outer }
-{
-    outer.is_some_and(|outer| ended.get(outer).copied().unwrap_or(false))
-}
-
-/// What happens to an element that may be gone.
-fn what_becomes(
+/// Lets the element at a place lead where its name leads, if it is a reference by name, or fail.
+fn resolve(
     context: &mut Context,
-    holders: &Holders<'_>,
-    element: &Node,
-    gone: bool,
-) -> Result<Outcome>
-    ensures { IfOk result (Makes (what_becomes (place_at holders.now.places.items) (map linked_element holders.now.linked.now) gone element.now) context.old context.new) }
+    places: &[Option<usize>],
+    links: &mut Links<'_>,
+    place: usize,
+) -> Result<()>
+    ensures { IfOk result (λ _. Makes (resolves places.now place links.old) context.old context.new links.new) }
 {
-    if gone {
-        return Ok(Outcome::adds(None));
+    let node = links.node(place);
+    if !is_reference(node) && !refers_to_note(node) {
+        return Ok(());
     }
-    let Some(meaning) = meaning_to(&context.names, holders, element)? else {
-        return Ok(Outcome::adds(None));
+    let Some(name) = text_of_attribute(node, Key::Refname) else {
+        return Ok(());
     };
-    let outcome = outcome_of(context, holders, element, meaning)?;
-    Ok(outcome)
-}
-
-/// What happens to all linked elements, where the messages of those that fail are made.
-fn resolved(context: &mut Context, holders: &Holders<'_>) -> Result<Vec<Outcome>>
-    ensures { let all = map linked_element holders.now.linked.now in IfOk result (λ outcomes. Makes (resolved_from (place_at holders.now.places.items) all [] all) context.old context.new outcomes.items) }
-{
-    let mut outcomes = Vec::with_capacity(context.alloc, holders.linked.len())?;
-    let mut ended: Vec<bool> = Vec::with_capacity(context.alloc, holders.linked.len())?;
-    for one in holders.linked {
-        let gone = is_gone(ended.as_slice(), one.outer);
-        let outcome = what_becomes(context, holders, one.element, gone)?;
-        ended.push(gone || outcome.fails())?;
-        outcomes.push(outcome)?;
+    let Some(known) = context.names.get(name) else {
+        fail_by_name(context, links, place, UNKNOWN, name)?;
+        return Ok(());
+    };
+    if is_lost(known) {
+        fail_by_name(context, links, place, DUPLICATE, name)?;
+        return Ok(());
     }
-    Ok(outcomes)
+    let holder = holder_place(places, known.holder);
+    let note = note_at(links, holder);
+    if refers_to_note(node) && note.is_none() {
+        fail_by_name(context, links, place, UNKNOWN, name)?;
+        return Ok(());
+    }
+    let lead = Some(name_lead(context.alloc, links, holder, known)?);
+    let text = label_for(context.alloc, links, node, note)?;
+    links.put(place, Change::Stays { lead, text });
+    Ok(())
 }

@@ -12,12 +12,11 @@ ghost use Rattle.rst_transform_names.specs.Trees.{counts, element, lists, says, 
 ghost use Rattle.rst_transform_work.specs.declared.document.Document.{Document};
 ghost use Rattle.rst_transform_work.specs.Known.{Known};
 ghost use Rattle.rst_transform_work.specs.Written.{plain_document, Shows};
-ghost use Rattle.rst_transform_references.specs.declared.footnote_orders.Order.TheVariants.{Numbers, Symbols};
-ghost use Rattle.rst_transform_references.specs.FootnoteOrders.{found_by_order};
-ghost use Rattle.rst_transform_references.specs.Linkings.{linked_of};
-ghost use Rattle.rst_transform_references.specs.Written.{transformed_by, footnote};
+ghost use Rattle.rst_transform_references.specs.declared.orders.Order.TheVariants.{Numbers, Symbols};
 ghost use Rattle.rst_transform_references.specs.FootnoteLabels.{labels, symbol_label};
-ghost use Rattle.rst_transform_references.specs.Footnotes.{footnote_name_entry, first_left_over, footnote_outcomes, order_report, too_many};
+ghost use Rattle.rst_transform_references.specs.Footnotes.{footnotes, too_many, with_number};
+ghost use Rattle.rst_transform_references.specs.Links.{links_of};
+ghost use Rattle.rst_transform_references.specs.Written.{transformed_by, footnote};
 
 /// The labels of symbol footnotes (Markup Specification, 'Auto-Symbol Footnotes').
 pub fn symbols()
@@ -28,35 +27,35 @@ pub fn symbols()
 
 /// The labels of footnotes (Markup Specification, 'Auto-Numbered Footnotes').
 pub fn numbers()
-    ensures written_numbers { labels (linked_of (plain_document (footnote "#" [] ∷ footnote "1" [] ∷ footnote "#a" [] ∷ footnote "3" []
+    ensures written_numbers { labels (links_of (plain_document (footnote "#" [] ∷ footnote "1" [] ∷ footnote "#a" [] ∷ footnote "3" []
         ∷ footnote "#" [] ∷ [])))
-        ≡ Some (codes "2") ∷ None ∷ Some (codes "1") ∷ None ∷ Some (codes "4") ∷ None ∷ Some (codes "3") ∷ None ∷ Some (codes "5") ∷ None ∷ [] }
-    ensures leading_zero { labels (linked_of (plain_document (element Footnote (says Mark "01" ∷ []) [] ∷ element Footnote (says Mark "#" ∷ []) []
+        ≡ Some (codes "2") ∷ None ∷ None ∷ None ∷ Some (codes "4") ∷ None ∷ None ∷ None ∷ Some (codes "5") ∷ None ∷ [] }
+    ensures leading_zero { labels (links_of (plain_document (element Footnote (says Mark "01" ∷ []) [] ∷ element Footnote (says Mark "#" ∷ []) []
         ∷ [])))
-        ≡ Some (codes "01") ∷ Some (codes "1") ∷ [] }
-    ensures named_by_a_number { labels (linked_of (plain_document (element Footnote (says Mark "#1" ∷ []) [] ∷ element Footnote (says Mark "#" ∷ []) []
+        ≡ None ∷ Some (codes "1") ∷ [] }
+    ensures named_by_a_number { labels (links_of (plain_document (element Footnote (says Mark "#1" ∷ []) [] ∷ element Footnote (says Mark "#" ∷ []) []
         ∷ [])))
         ≡ Some (codes "1") ∷ Some (codes "2") ∷ [] }
-    ensures citation { labels (linked_of (plain_document (element Citation [] [] ∷ element Footnote (says Mark "*" ∷ []) []
+    ensures citation { labels (links_of (plain_document (element Citation [] [] ∷ element Footnote (says Mark "*" ∷ []) []
         ∷ element Footnote (says Mark "#" ∷ []) [] ∷ [])))
         ≡ None ∷ Some (codes "*") ∷ Some (codes "1") ∷ [] }
 {}
 
 /// References without names, and the footnotes that they find (Markup Specification, 'Auto-Numbered Footnotes').
 pub fn references()
-    ensures numbered { Shows (transformed_by footnote_outcomes [] (plain_document (element FootnoteReference (says Auto "1" ∷ lists Ids ("footnote-reference-1" ∷ []) ∷ []) []
+    ensures numbered { Shows (transformed_by footnotes [] (plain_document (element FootnoteReference (says Auto "1" ∷ lists Ids ("footnote-reference-1" ∷ []) ∷ []) []
         ∷ footnote "#" (says Auto "1" ∷ lists Ids ("footnote-1" ∷ []) ∷ []) ∷ footnote "1" (lists Ids ("footnote-2" ∷ []) ∷ lists Names ("1" ∷ [])
         ∷ []) ∷ []))).0
         ("<document>" ∷ "    <footnote_reference auto=\"1\" ids=\"footnote-reference-1\" refid=\"footnote-1\">" ∷ "        2"
         ∷ "    <footnote auto=\"1\" ids=\"footnote-1\" names=\"2\">" ∷ "        <label>" ∷ "            2"
         ∷ "    <footnote ids=\"footnote-2\" names=\"1\">" ∷ "        <label>" ∷ "            1" ∷ []) }
-    ensures symbol { Shows (transformed_by footnote_outcomes [] (plain_document (element FootnoteReference (says Auto "*" ∷ []) [] ∷ footnote "*" (says Auto "*"
+    ensures symbol { Shows (transformed_by footnotes [] (plain_document (element FootnoteReference (says Auto "*" ∷ []) [] ∷ footnote "*" (says Auto "*"
         ∷ lists Ids ("footnote-1" ∷ "x" ∷ []) ∷ []) ∷ []))).0
         ("<document>" ∷ "    <footnote_reference auto=\"*\" refid=\"footnote-1\">" ∷ "        *" ∷ "    <footnote auto=\"*\" ids=\"footnote-1 x\">"
         ∷ "        <label>" ∷ "            *" ∷ []) }
-    ensures of_a_name { Shows (transformed_by footnote_outcomes [] (plain_document (footnote "#a" (says Auto "1" ∷ lists Names ("a" ∷ []) ∷ []) ∷ []))).0
+    ensures of_a_name { Shows (transformed_by footnotes [] (plain_document (footnote "#a" (says Auto "1" ∷ lists Names ("a" ∷ []) ∷ []) ∷ []))).0
         ("<document>" ∷ "    <footnote auto=\"1\" names=\"a\">" ∷ "        <label>" ∷ "            1" ∷ []) }
-    ensures further_name { Shows (transformed_by footnote_outcomes [] (plain_document (footnote "#" (lists Names ("x" ∷ []) ∷ []) ∷ []))).0
+    ensures further_name { Shows (transformed_by footnotes [] (plain_document (footnote "#" (lists Names ("x" ∷ []) ∷ []) ∷ []))).0
         ("<document>" ∷ "    <footnote names=\"x 1\">" ∷ "        <label>" ∷ "            1" ∷ []) }
 {}
 
@@ -64,14 +63,9 @@ pub fn references()
 pub fn left_over()
     ensures numbered { too_many Numbers 1 ≡ codes "Too many autonumbered footnote references: only 1 corresponding footnotes available." }
     ensures symbol { too_many Symbols 0 ≡ codes "Too many symbol footnote references: only 0 corresponding footnotes available." }
-    ensures first { let linked = linked_of (plain_document (footnote "#" [] ∷ Element FootnoteReference (says Auto "1" ∷ []) bare 3
-        ∷ Element FootnoteReference (says Auto "*" ∷ []) bare 4 ∷ Element FootnoteReference (says Auto "1" ∷ []) bare 5
-        ∷ Element FootnoteReference (says Auto "1" ∷ []) bare 6 ∷ []))
-        in first_left_over Numbers (found_by_order linked) linked ≡ Some 5 }
-    ensures message { order_report (Some Symbols) (Some 0) (Some 1) ≡ Some 1 }
-    ensures known_number { footnote_name_entry (codes "1") (Some (codes "1")) (footnote "#" (lists Ids ("footnote-1" ∷ []) ∷ counts Serial 4 ∷ []))
+    ensures known_number { with_number (codes "1") (footnote "#" (lists Ids ("footnote-1" ∷ []) ∷ counts Serial 4 ∷ [])) (λ name. None) (codes "1")
         ≡ Some (record { holder = By 4; strength = Explicit; id = codes "footnote-1"; uri = None }) }
-    ensures problematics { let done : Document × Known = transformed_by footnote_outcomes [] (plain_document (Element FootnoteReference (says Auto "*"
+    ensures problematics { let done : Document × Known = transformed_by footnotes [] (plain_document (Element FootnoteReference (says Auto "*"
         ∷ says Rawsource "[*]_" ∷ []) bare 2 ∷ element FootnoteReference (says Auto "1" ∷ []) [] ∷ footnote "#" (lists Ids ("footnote-1" ∷ []) ∷ [])
         ∷ Element FootnoteReference (says Auto "1" ∷ says Rawsource "[#]_" ∷ []) bare 4 ∷ [])) in
         Shows done.0 ("<document>" ∷ "    <problematic ids=\"problematic-2\" refid=\"system-message-2\">" ∷ "        [*]_"
@@ -84,7 +78,7 @@ pub fn left_over()
 
 /// Numbers that footnotes hold as names (Markup Specification, 'Auto-Numbered Footnotes').
 pub fn numbers_as_names()
-    ensures registered { map (transformed_by footnote_outcomes ("2" ∷ []) (plain_document (footnote "#" (lists Ids ("footnote-1" ∷ []) ∷ counts Serial 4 ∷ [])
+    ensures registered { map (transformed_by footnotes ("2" ∷ []) (plain_document (footnote "#" (lists Ids ("footnote-1" ∷ []) ∷ counts Serial 4 ∷ [])
         ∷ footnote "#a" (lists Ids ("a" ∷ []) ∷ counts Serial 5 ∷ []) ∷ footnote "#" (lists Ids ("footnote-2" ∷ []) ∷ counts Serial 6 ∷ [])
         ∷ []))).1.names (codes "1" ∷ codes "2" ∷ codes "3" ∷ [])
         ≡ Some (record { holder = By 4; strength = Explicit; id = codes "footnote-1"; uri = None })

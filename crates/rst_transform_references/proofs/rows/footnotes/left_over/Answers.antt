@@ -7,8 +7,6 @@ unfolding rst_transform_references
 returns c = record {
   numbered = refl;
   symbol = refl;
-  first = refl;
-  message = refl;
   known_number = refl;
   problematics = (refl, refl, refl);
 }

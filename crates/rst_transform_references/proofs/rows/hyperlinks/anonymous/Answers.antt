@@ -9,7 +9,6 @@ returns c = record {
   in_order = refl;
   to_itself = refl;
   to_an_indirect_one = refl;
-  too_few = refl;
   mismatched = (refl, refl, refl);
   message = refl;
   line_of_a_reference = refl;

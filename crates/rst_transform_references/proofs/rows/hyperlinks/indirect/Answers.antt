@@ -11,8 +11,6 @@ returns c = record {
   circle = refl;
   anonymous_target = refl;
   one_message_each = refl;
-  places_of_messages = refl;
-  target = refl;
-  failed_target = refl;
-  reference_to_a_failed_one = refl;
+  references = refl;
+  message_by_message = refl;
 }

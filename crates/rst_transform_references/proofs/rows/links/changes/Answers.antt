@@ -5,5 +5,6 @@ use Rattle.rst_transform_references.proofs.rows.links.changes.Goals as goal
 pub returns : goal.returns
 unfolding rst_transform_references
 returns c = record {
-  document = refl;
+  addition = refl;
+  problematic = refl;
 }

@@ -5,7 +5,6 @@ use Rattle.rst_transform_references.proofs.rows.links.failing.Goals as goal
 pub returns : goal.returns
 unfolding rst_transform_references
 returns c = record {
-  message_by_message = refl;
   gone_with_the_outer = refl;
   before_the_outer = (refl, refl);
 }

@@ -6,7 +6,7 @@ pub returns : goal.returns
 unfolding rst_transform_references
 returns c = record {
   each_kind = refl;
-  kinds_in_words = refl;
   left_over = refl;
+  of_all = refl;
   with_names = refl;
 }

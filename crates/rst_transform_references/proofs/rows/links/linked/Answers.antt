@@ -6,5 +6,5 @@ pub returns : goal.returns
 unfolding rst_transform_references
 returns c = record {
   in_order = refl;
-  innermost = refl;
+  stay = refl;
 }

@@ -6,6 +6,4 @@ pub returns : goal.returns
 unfolding rst_transform_references
 returns c = record {
   in_order = refl;
-  by_name = refl;
-  by_order = refl;
 }

@@ -11,4 +11,5 @@ returns c = record {
   of_a_paragraph = refl;
   of_a_citation = refl;
   no_footnote = refl;
+  line = refl;
 }

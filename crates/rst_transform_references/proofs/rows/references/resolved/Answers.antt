@@ -8,4 +8,6 @@ returns c = record {
   by_name = refl;
   to_a_footnote = refl;
   without_meaning = refl;
+  shows_the_label = refl;
+  inside_one_that_fails = (refl, refl);
 }

@@ -1,0 +1,85 @@
+-- The references to each target, one reference after another.
+use Rattle.std.proofs.Common.{◌≡◌, ◌∙◌, ℕ, ◌+◌, ◌<◌, List, [], ◌∷◌, ◌++◌, length, map, zero, suc, get_or, replicate, refl, sym, ap, arith, inl, inr, append-nil}
+use Rattle.std.specs.Prelude.{filter, slice_set, if◌then◌else◌, Option, Some, None}
+use Rattle.std.specs.List.{range_with_len}
+use Rattle.std.specs.declared.vec.Vec.{Vec}
+use Rattle.std.proofs.lemmas.Bool.{cases_eq, eq-eqb, ne_eqb}
+use Rattle.std.proofs.lemmas.List.{get_or-replicate, get_or-set_other, get_or-set_same, length-map, length-replicate, length-set}
+use Rattle.std.proofs.lemmas.List.Elements.{filter-append}
+use Rattle.std.proofs.lemmas.List.FromFn.{fill_by_all, get_or-map-range_with_len, length-map-range_with_len}
+use Rattle.rst_transform_work.specs.Lists.{at_place}
+use Rattle.rst_transform_references.specs.Indirect.{is_this_place, lists_now, references_to, with_reference}
+use Rattle.rst_transform_references.proofs.Each.{range_more}
+
+abbrev found : List (Option ℕ) → ℕ → ℕ → List ℕ
+found targets place target = filter (λ p. is_this_place target (at_place targets p)) (range_with_len 0 place)
+
+-- the references before a place
+pub record Grouped (targets : List (Option ℕ)) (lists : List (List ℕ)) (place : ℕ) : Type 0 where
+  pub all : length lists ≡ length targets
+  pub each : (target : ℕ) → target < length targets → get_or lists target [] ≡ found targets place target
+
+pub Grouped-init : (targets : List (Option ℕ)) → Grouped targets (replicate (length targets) []) 0
+Grouped-init targets = record {
+  all = length-replicate (length targets) [];
+  each = λ target within. get_or-replicate (length targets) target [] [] within;
+}
+
+found_more : (targets : List (Option ℕ)) (place target : ℕ) → found targets (place + 1) target ≡ found targets place target ++ (if is_this_place target (at_place targets place) then place ∷ [] else [])
+found_more targets place target =
+    let same : 0 + place ≡ place = omega arith in
+    ap (filter (λ p. is_this_place target (at_place targets p))) (range_more 0 place ∙ ap (λ (b : ℕ). range_with_len 0 place ++ b ∷ []) same) ∙ filter-append (λ p. is_this_place target (at_place targets p)) (range_with_len 0 place) (place ∷ [])
+
+with_length : (meant : Option ℕ) (place : ℕ) (lists : List (List ℕ)) → length (with_reference meant place lists) ≡ length lists
+with_length None place lists = refl
+with_length (Some target) place lists = length-set lists target (get_or lists target [] ++ place ∷ [])
+
+with_at : (meant : Option ℕ) (place target : ℕ) (lists : List (List ℕ)) → target < length lists → get_or (with_reference meant place lists) target [] ≡ get_or lists target [] ++ (if is_this_place target meant then place ∷ [] else [])
+with_at None place target lists within = sym (append-nil (get_or lists target []))
+with_at (Some other) place target lists within =
+    elim (cases_eq other target) [
+      | inl is ↦
+          let here : get_or (slice_set lists other (get_or lists other [] ++ place ∷ [])) target [] ≡ get_or lists other [] ++ place ∷ [] =
+          ap (λ n. get_or (slice_set lists other (get_or lists other [] ++ place ∷ [])) n []) (sym is) ∙ get_or-set_same lists other (get_or lists other [] ++ place ∷ []) [] (omega (arith, within, is)) in
+          rw (eq-eqb other target is) (here ∙ ap (λ n. get_or lists n [] ++ place ∷ []) is)
+      | inr differs ↦
+          rw (ne_eqb other target differs) (get_or-set_other lists other target (get_or lists other [] ++ place ∷ []) [] (λ same. differs (sym same)) ∙ sym (append-nil (get_or lists target [])))
+    ]
+
+pub Grouped-more : (targets : List (Option ℕ)) (lists : List (List ℕ)) (place : ℕ) (meant : Option ℕ) → Grouped targets lists place → meant ≡ at_place targets place → Grouped targets (with_reference meant place lists) (place + 1)
+Grouped-more targets lists place meant g is = record {
+  all = with_length meant place lists ∙ g.all;
+  each = λ target within.
+      with_at meant place target lists (omega (arith, within, g.all)) ∙ ap (λ list. list ++ (if is_this_place target meant then place ∷ [] else [])) (g.each target within)
+      ∙ ap (λ m. found targets place target ++ (if is_this_place target m then place ∷ [] else [])) is ∙ sym (found_more targets place target);
+}
+
+-- what a list has for a place, by the item there
+pub at_item : {A : Type 0} (list : List (Option A)) (place : ℕ) (one : Option A) → place < length list → one ≡ get_or list place one → one ≡ at_place list place
+at_item [] place one within is = absurd (omega (arith, within))
+at_item (x ∷ xs) zero one within is = is
+at_item (x ∷ xs) (suc place) one within is = at_item xs place one (omega (arith, within)) is
+
+-- one more place in a list
+pub one_referred : {A : Type 0} (lists : List (Vec ℕ A)) (target place : ℕ) (list more : Vec ℕ A) → target < length lists → list ≡ get_or lists target list → more.items ≡ list.items ++ place ∷ []
+    → lists_now (slice_set lists target more) ≡ slice_set (lists_now lists) target (get_or (lists_now lists) target [] ++ place ∷ [])
+one_referred [] target place list more within at is = absurd (omega (arith, within))
+one_referred (first ∷ rest) zero place list more within at is = ap (λ (l : List ℕ). l ∷ lists_now rest) (is ∙ ap (λ l. l.items ++ place ∷ []) at)
+one_referred (first ∷ rest) (suc target) place list more within at is = ap (λ (ls : List (List ℕ)). first.items ∷ ls) (one_referred rest target place list more (omega (arith, within)) at is)
+
+-- the list at a place, where each is a function of its place
+pub list_at : {A : Type 0} (f : ℕ → List ℕ) (n : ℕ) (lists : List (Vec ℕ A)) (place : ℕ) (one : Vec ℕ A) → lists_now lists ≡ map f (range_with_len 0 n) → place < length lists → one ≡ get_or lists place one → one.items ≡ f place
+list_at f n lists place one is within at =
+    let same : length lists ≡ n = sym (length-map lists (λ list. list.items)) ∙ ap length is ∙ length-map-range_with_len f 0 n in
+    ap (λ list. list.items) at ∙ own lists place one within ∙ ap (λ (ls : List (List ℕ)). get_or ls place []) is ∙ get_or-map-range_with_len f 0 n place place [] (omega (arith, within, same)) (omega arith)
+  where
+    own : {B : Type 0} (ls : List (Vec ℕ B)) (i : ℕ) (d : Vec ℕ B) → i < length ls → (get_or ls i d).items ≡ get_or (lists_now ls) i []
+    own [] i d low = absurd (omega (arith, low))
+    own (x ∷ xs) zero d low = refl
+    own (x ∷ xs) (suc i) d low = own xs i d (omega (arith, low))
+
+pub lists_length : {A : Type 0} (f : ℕ → List ℕ) (n : ℕ) (lists : List (Vec ℕ A)) → lists_now lists ≡ map f (range_with_len 0 n) → length lists ≡ n
+lists_length f n lists is = sym (length-map lists (λ list. list.items)) ∙ ap length is ∙ length-map-range_with_len f 0 n
+
+pub Grouped-end : (targets : List (Option ℕ)) (lists : List (List ℕ)) (place : ℕ) → Grouped targets lists place → place ≡ length targets → lists ≡ map (references_to targets) (range_with_len 0 (length targets))
+Grouped-end targets lists place g is = fill_by_all (references_to targets) lists (length targets) [] g.all (λ target within. g.each target within ∙ ap (λ n. found targets n target) is)

@@ -1,0 +1,35 @@
+use Rattle.std.proofs.Common.{◌≡◌, ◌∙◌, length, ap, true, rules}
+use Rattle.std.specs.List.{list_any}
+use Rattle.std.specs.Prelude.{is_some, option_map}
+use Rattle.rst_transform_names.specs.Names.{entry_named}
+use Rattle.rst_transform_work.specs.Lists.{at_place}
+use Rattle.rst_transform_references.specs.Chains.{answers_of, indirect_name, steps_of}
+use Rattle.rst_transform_references.specs.Indirect.{concludes, references_to, targets_of}
+use Rattle.rst_transform_references.specs.Links.{node_at, places_of}
+use Rattle.rst_transform_references.proofs.Each.{each_next, now_is}
+use Rattle.rst_transform_references.proofs.Grouping.{list_at, lists_length}
+use Rattle.rst_transform_references.proofs.Leading.{all_conclude, none_indirect, targets_length}
+use Rattle.rst_transform_references.proofs.indirect.resolve_indirect.Goals as goal
+
+pub returns-then-not-any_is_indirect : goal.returns-then-not-any_is_indirect
+returns-then-not-any_is_indirect c = none_indirect c.args.links.now c.args.context.now (search rules)
+
+pub loop-place-preserved : goal.loop-place-preserved
+loop-place-preserved c =
+    let answer : option_map (λ a. a.now) c.item_at.result ≡ at_place c.in_ok-answers.answers.items c.loop-place.place = now_is _ _ (search rules) in
+    let list : c.list-item.result.items ≡ references_to c.in_ok-targets.targets.items c.loop-place.place =
+    list_at (references_to c.in_ok-targets.targets.items) (length c.in_ok-targets.targets.items) c.in_ok-references.references.items c.loop-place.place c.list-item.result (search rules) (search rules) (search rules) in
+    each_next (λ place. concludes place (references_to c.in_ok-targets.targets.items place) (at_place c.in_ok-answers.answers.items place)) c.loop-place.place c.args.context.now c.loop-place.context c.conclude.new.context c.args.links.now
+    c.loop-place.links c.conclude.new.links c.loop-place.invariant (rw (← answer, ← list) (search rules))
+
+pub returns : goal.returns
+returns c =
+    let some : list_any (λ place. is_some (indirect_name (node_at place c.args.links.now))) (places_of c.args.links.now) ≡ true = search rules in
+    let answered : c.in_ok-answers.answers.items ≡ answers_of (steps_of (entry_named c.args.context.now.names) c.in_ok-places.places.items c.args.links.now) = search rules in
+    let meant : c.in_ok-targets.targets.items ≡ targets_of (entry_named c.args.context.now.names) c.in_ok-places.places.items c.args.links.now = search rules in
+    let count : c.loop-place.place ≡ length c.in_ok-references.references.items = search rules in
+    let every : c.loop-place.place ≡ length c.args.links.now.linked =
+    count ∙ lists_length (references_to c.in_ok-targets.targets.items) (length c.in_ok-targets.targets.items) c.in_ok-references.references.items (search rules)
+    ∙ ap length meant ∙ targets_length (entry_named c.args.context.now.names) c.in_ok-places.places.items c.args.links.now in
+    all_conclude c.args.links.now c.loop-place.links c.args.context.now c.loop-place.context c.in_ok-places.places.items c.in_ok-answers.answers.items c.in_ok-targets.targets.items some (search rules) answered meant
+    (rw every at c.loop-place.invariant)
