@@ -26,7 +26,7 @@ BELOW = "rst_markup_lines rst_markup_blocks rst_markup_directives rst_markup_tab
 HARMLESS = set(
     "Self usize u64 u128 bool Option Result Ok Err Some None Vec Box ArrayVec Global Model Drop"  # numbers, lists, what is free
     " Attrs Level Marked MarkedIter MarkedNodes Node Note Parsed Tag Value"  # elements
-    " View Placement Looks AllocError AllocFailed TextFault TreeFault".split()  # each line of a view costs a look
+    " View Placement Looks AllocError AllocFailed TextFault".split()  # each line of a view costs a look
 )
 SMALL = "char u8 u16 u32"  # one of them is harmless, a list of them may be a text
 RENAMED = {"Level as Gravity"}
