@@ -1,21 +1,21 @@
 -- The lines of a cell.
-use Rattle.std.proofs.Common.{◌≡◌, ℕ, zero, suc, ◌+◌, ◌-◌, ◌<◌, ◌≤◌, true, false, cond, ◌&&◌, eqb, List, [], ◌∷◌, ◌++◌, length, drop, take, get_or, refl, sym, ap, ◌∙◌, subst, arith, map, Option, Some, None, length-append}
-use Rattle.std.specs.Char.{is_whitespace}
+use Rattle.std.proofs.Common.{◌≡◌, ℕ, zero, suc, ◌-◌, ◌<◌, true, false, List, [], ◌∷◌, drop, take, refl, sym, ap, ◌∙◌, subst, arith, map, Option, Some, None, chars}
 use Rattle.std.specs.List.{list_any}
-use Rattle.std.specs.Str.{drop_trailing_whitespace, all_scalars, IsAscii}
-use Rattle.std.proofs.lemmas.List.{append-nil, take_more}
-use Rattle.std.proofs.lemmas.Bool.{ne_eqb, and_right, cond_both}
-use Rattle.rst_markup_tables.specs.Places.{places_of, is_double}
-use Rattle.rst_markup_tables.specs.Cells.{characters, cut_places, is_trimmable_place}
-use Rattle.rst_markup_tables.specs.declared.places.Place.{Place}
-use Rattle.rst_markup_tables.specs.declared.places.Place.TheVariants.{Character, Second}
+use Rattle.std.specs.Str.{drop_trailing_whitespace, all_scalars, encode_utf8_all, trim_end, IsAscii, IsUtf8}
+use Rattle.std.proofs.lemmas.Bool.{cond_both}
+use Rattle.std.proofs.lemmas.Bool.Decides.{nat_tests}
+use Rattle.std.proofs.lemmas.Str.{chars-encodes}
 use Rattle.unicode_width.specs.Width.{char_width}
 use Rattle.rst_text.specs.Block.{Line, Block, indentation, is_blank}
+use Rattle.rst_text.specs.Lines.{is_line_end, is_line_text}
 use Rattle.rst_text.proofs.Cuts.{scalars-drop, scalars-take}
 use Rattle.rst_text.proofs.Least.{least_from, lower}
-use Rattle.rst_text.specs.Lines.{is_line_end}
-use Rattle.rst_text.proofs.LineTexts.{none-parts}
-use Rattle.std.proofs.lemmas.Bool.Decides.{nat_tests}
+use Rattle.rst_text.proofs.LineTexts.{none-parts, is_line_text-trimmed}
+use Rattle.rst_text.proofs.LinesLemmas.{chars-trim_end}
+use Rattle.rst_markup_tables.specs.Places.{places_of, is_double}
+use Rattle.rst_markup_tables.specs.Cells.{characters, cut_places, AreOfLine}
+use Rattle.rst_markup_tables.specs.declared.places.Place.{Place}
+use Rattle.rst_markup_tables.specs.declared.places.Place.TheVariants.{Character, Second}
 
 pub least_from-blank : (m : Option ℕ) (l : Line) (ls : Block) → is_blank l.text ≡ true → least_from m (l ∷ ls) ≡ least_from m ls
 unfolding least_from
@@ -29,26 +29,7 @@ pub least_from-none : (m : Option ℕ) → least_from m [] ≡ m
 unfolding least_from
 least_from-none m = refl
 
--- a white character at the end is dropped, and nothing is after another one
-dropped-white : (xs : List ℕ) (c : ℕ) → is_whitespace c ≡ true → drop_trailing_whitespace (xs ++ c ∷ []) ≡ drop_trailing_whitespace xs
-dropped-white [] c e = rw e refl
-dropped-white (x ∷ xs) c e = ap (λ l. cond (is_whitespace x && eqb (length l) 0) [] (x ∷ l)) (dropped-white xs c e)
-
-stays : (x c : ℕ) (xs rest : List ℕ) → rest ≡ xs ++ c ∷ [] → cond (is_whitespace x && eqb (length rest) 0) [] (x ∷ rest) ≡ x ∷ rest
-stays x c xs rest e =
-    let some : eqb (length rest) 0 ≡ false = ne_eqb (length rest) 0 (λ none. omega (arith, ap length e, length-append xs (c ∷ []))) in
-    let test : (is_whitespace x && eqb (length rest) 0) ≡ false = and_right _ _ some in
-    rw test refl
-
-dropped-dark : (xs : List ℕ) (c : ℕ) → is_whitespace c ≡ false → drop_trailing_whitespace (xs ++ c ∷ []) ≡ xs ++ c ∷ []
-dropped-dark [] c e = rw e refl
-dropped-dark (x ∷ xs) c e = stays x c xs (drop_trailing_whitespace (xs ++ c ∷ [])) (dropped-dark xs c e) ∙ ap (λ l. x ∷ l) (dropped-dark xs c e)
-
 -- ---- characters that a text can hold
-
-pub scalars-trimmed : (cs : List ℕ) → all_scalars cs ≡ true → all_scalars (drop_trailing_whitespace cs) ≡ true
-scalars-trimmed [] h = refl
-scalars-trimmed (c ∷ cs) h = grind (arith, scalars-trimmed cs)
 
 pub characters-places : (cs : List ℕ) → characters (places_of cs) ≡ cs
 characters-places [] = refl
@@ -85,41 +66,13 @@ cut-keeps P prefixes rests left (Some right) ps h =
     subst P (sym prefix.1) (prefixes prefix.0 (characters (drop left ps)) (subst P (sym rest.1) (rests rest.0 (characters ps) h)))
 cut-keeps P prefixes rests left None ps h = let rest = characters-drop left ps in subst P (sym rest.1) (rests rest.0 (characters ps) h)
 
-pub scalars-cut : (left : ℕ) (right : Option ℕ) (ps : List Place) → all_scalars (characters ps) ≡ true → all_scalars (characters (cut_places left right ps)) ≡ true
-scalars-cut left right ps h = cut-keeps (λ cs. all_scalars cs ≡ true) scalars-take scalars-drop left right ps h
+-- ---- the text of a cell in a line
 
--- ---- characters of a line
-
-pub unended-cut : (left : ℕ) (right : Option ℕ) (ps : List Place) → list_any is_line_end (characters ps) ≡ false → list_any is_line_end (characters (cut_places left right ps)) ≡ false
-unended-cut left right ps h = cut-keeps (λ cs. list_any is_line_end cs ≡ false) (λ n cs h. (none-parts is_line_end n cs h).0) (λ n cs h. (none-parts is_line_end n cs h).1) left right ps h
-
--- ---- trimming from the end
-
-characters-append : (xs ys : List Place) → characters (xs ++ ys) ≡ characters xs ++ characters ys
-characters-append [] ys = refl
-characters-append (Character c ∷ xs) ys = ap (λ l. c ∷ l) (characters-append xs ys)
-characters-append (Second ∷ xs) ys = characters-append xs ys
-
-ends_with : (ps : List Place) (n : ℕ) (p : Place) → 0 < n → n ≤ length ps → p ≡ get_or ps (n - 1) (Character 0) → characters (take n ps) ≡ characters (take (n - 1) ps) ++ characters (p ∷ [])
-ends_with ps n p some fits is =
-    let same : n ≡ (n - 1) + 1 = omega arith in
-    ap (λ m. characters (take m ps)) same ∙ ap characters (take_more ps (n - 1) (Character 0) (omega arith)) ∙ ap (λ q. characters (take (n - 1) ps ++ q ∷ [])) (sym is)
-    ∙ characters-append (take (n - 1) ps) (p ∷ [])
-
-white_last : (xs : List ℕ) (p : Place) → is_trimmable_place p ≡ true → drop_trailing_whitespace (xs ++ characters (p ∷ [])) ≡ drop_trailing_whitespace xs
-white_last xs (Character c) e = dropped-white xs c e
-white_last xs Second e = ap drop_trailing_whitespace (append-nil xs)
-
-dark_last : (xs : List ℕ) (p : Place) → is_trimmable_place p ≡ false → drop_trailing_whitespace (xs ++ characters (p ∷ [])) ≡ xs ++ characters (p ∷ [])
-dark_last xs (Character c) e = dropped-dark xs c e
-dark_last xs Second e = absurd (cc)
-
-pub trimmed-white : (ps : List Place) (n : ℕ) (p : Place) → 0 < n → n ≤ length ps → p ≡ get_or ps (n - 1) (Character 0) → is_trimmable_place p ≡ true
-    → drop_trailing_whitespace (characters (take n ps)) ≡ drop_trailing_whitespace (characters (take (n - 1) ps))
-trimmed-white ps n p some fits is e = ap drop_trailing_whitespace (ends_with ps n p some fits is) ∙ white_last (characters (take (n - 1) ps)) p e
-
-pub trimmed-dark : (ps : List Place) (n : ℕ) (p : Place) → 0 < n → n ≤ length ps → p ≡ get_or ps (n - 1) (Character 0) → is_trimmable_place p ≡ false
-    → drop_trailing_whitespace (characters (take n ps)) ≡ characters (take n ps)
-trimmed-dark ps n p some fits is e =
-    let split = ends_with ps n p some fits is in
-    ap drop_trailing_whitespace split ∙ dark_last (characters (take (n - 1) ps)) p e ∙ sym split
+pub read_text : (left : ℕ) (right : Option ℕ) (row places : List Place) (bytes trimmed : List ℕ) → places ≡ cut_places left right row → AreOfLine row → bytes ≡ encode_utf8_all (characters places) → IsUtf8 trimmed → trimmed ≡ trim_end bytes
+    → (chars trimmed ≡ drop_trailing_whitespace (characters (cut_places left right row))) × (is_line_text (chars trimmed) ≡ true)
+read_text left right row places bytes trimmed cut of_line written good trims =
+    let cs : List ℕ = characters (cut_places left right row) in
+    let scalars : all_scalars cs ≡ true = cut-keeps (λ cs. all_scalars cs ≡ true) scalars-take scalars-drop left right row of_line.scalars in
+    let unended = cut-keeps (λ cs. list_any is_line_end cs ≡ false) (λ n cs h. (none-parts is_line_end n cs h).0) (λ n cs h. (none-parts is_line_end n cs h).1) left right row of_line.unended in
+    let text = chars-trim_end bytes trimmed good trims ∙ ap drop_trailing_whitespace (ap chars (written ∙ ap (λ ps. encode_utf8_all (characters ps)) cut) ∙ chars-encodes cs scalars) in
+    (text, ap is_line_text text ∙ is_line_text-trimmed cs unended)

@@ -1,20 +1,22 @@
 -- Where tables end.
 use Rattle.std.proofs.Common.{◌≡◌, ℕ, ◌+◌, ◌*◌, ◌≤◌, List, length, drop, take, length-take, refl, sym, ap, ◌∙◌, arith, Option, Some, None}
-use Rattle.std.proofs.lemmas.List.{length-map, take-map}
-use Rattle.rst_text.specs.Block.{Block}
+use Rattle.std.proofs.lemmas.List.{length-map}
+use Rattle.rst_text.specs.Block.{Block, first_number}
 use Rattle.std.specs.Prelude.{unwrap_or, IfNone}
 use Rattle.std.specs.Option.{option_or}
-use Rattle.rst_markup_blocks.specs.TableRows.{lines_through, head_border, simple_bottom, simple_size, simple_scan}
+use Rattle.rst_markup_blocks.specs.TableRows.{lines_through, grid_bottom, grid_size, head_border, simple_bottom, simple_size, simple_scan}
+use Rattle.rst_markup_blocks.specs.declared.lines.LineTest.TheVariants.{Drawn}
+use Rattle.rst_markup_blocks.proofs.RowLaws.{while_le}
+use Rattle.rst_markup_blocks.proofs.TableLaws.{grid_size_le, simple_size_le}
 use Rattle.rst_markup_blocks.proofs.TableLemmas.{border_below-below, scan-is, scan_some, simple_size-is}
 use Rattle.rst_markup_tables.specs.Places.{Grid, row_of_line, rows_of}
-use Rattle.rst_markup_tables.specs.GridTable.{head_of, with_dashes, tiled, IsOfRows}
+use Rattle.rst_markup_tables.specs.GridTable.{head_of, with_dashes, tiled, grid_fault, IsOfRows, IsGridTable}
 use Rattle.rst_markup_tables.specs.Ends.{end_of}
 use Rattle.rst_markup_tables.specs.declared.drawn.Rectangle.{Rectangle}
 use Rattle.rst_markup_tables.specs.declared.results.TableDetail.{TableDetail}
 use Rattle.rst_markup_tables.specs.declared.results.TableResult.{TableResult}
 use Rattle.rst_markup_tables.proofs.RowLemmas.{dashes-length}
-use Rattle.rst_markup_tables.specs.SimpleTable.{simple_by, border_fault}
-use Rattle.rst_markup_tables.proofs.GridLemmas.{drop_rows}
+use Rattle.rst_markup_tables.specs.SimpleTable.{simple_by, simple_fault, simple_table, border_fault}
 
 pub rows_end : (line i : ℕ) (T : Grid) (fault : Option TableDetail) (r : TableResult) → IsOfRows line i T fault r → end_of r ≡ i + length T
 rows_end line i T (Some detail) r h = ap end_of h
@@ -32,9 +34,16 @@ simple_by_end line i head T None = refl
 pub rows-size : (n : ℕ) (X : Block) → n ≤ length X → length (rows_of (take n X)) ≡ n
 rows-size n X h = omega (arith, length-map (take n X) row_of_line, length-take n X)
 
--- the rows of a block's n lines from line i on
-pub rows-taken : (B : Block) (i n : ℕ) → take n (drop i (rows_of B)) ≡ rows_of (take n (drop i B))
-rows-taken B i n = ap (take n) (drop_rows B i) ∙ take-map row_of_line n (drop i B)
+pub grid_end : (B : Block) (i : ℕ) (r : TableResult) → IsGridTable B i r → end_of r ≡ i + grid_size (drop i B)
+grid_end B i r h =
+    let X : Block = drop i B in
+    rows_end (first_number X) i (rows_of (take (grid_size X) X)) (grid_fault (grid_bottom X) (rows_of (take (grid_size X) X))) r h ∙ ap (λ n. i + n) (rows-size (grid_size X) X (omega (arith, grid_size_le X, while_le Drawn X)))
+
+pub simple_end : (B : Block) (i : ℕ) → end_of (simple_table B i) ≡ i + simple_size (drop i B)
+simple_end B i =
+    let X : Block = drop i B in
+    let T : Grid = rows_of (take (simple_size X) X) in
+    simple_by_end (first_number X) i (head_border X) T (simple_fault X T) ∙ ap (λ n. i + n) (rows-size (simple_size X) X (simple_size_le X))
 
 -- how many lines a simple table has, by its borders
 pub table-size : (X : Block) (n all : ℕ) (head bottom : Option ℕ) → n ≡ lines_through all (option_or bottom head) → all ≡ length X → head ≡ head_border X → bottom ≡ simple_bottom X → n ≡ simple_size X

@@ -1,8 +1,6 @@
 -- Lists that are read an item at a time.
-use Rattle.std.proofs.Common.{◌≡◌, ℕ, zero, suc, ◌+◌, ◌-◌, ◌<◌, ◌≤◌, Bool, true, false, cond, List, [], ◌∷◌, ◌++◌, get_or, length, drop, take, map, filter, count_by, refl, sym, ap, ap₂, ◌∙◌, arith, append_assoc, add-one, Option, Some, None}
+use Rattle.std.proofs.Common.{◌≡◌, ℕ, zero, suc, ◌+◌, ◌-◌, ◌<◌, ◌≤◌, Bool, true, false, cond, List, [], ◌∷◌, ◌++◌, get_or, length, drop, map, filter, refl, sym, ap, ◌∙◌, arith, append_assoc, add-one, Option, Some, None}
 use Rattle.std.proofs.lemmas.List.{drop_more}
-use Rattle.std.proofs.lemmas.List.Sums.{sum_by_push}
-use Rattle.std.proofs.Math.Seq.{take-append_seam}
 use Rattle.rst_text.specs.Places.{first_from}
 use Rattle.rst_text.proofs.PlacesLemmas.{first_from-is}
 use Rattle.std.specs.Option.{MatchOption}
@@ -33,38 +31,18 @@ all_from-more p k high h e = ap (λ n. filter p (range_with_len k n)) (left_more
 pub each_from-more : {X : Type 0} (f : ℕ → X) (k high : ℕ) → k < high → map f (range_with_len k (high - k)) ≡ f k ∷ map f (range_with_len (k + 1) (high - (k + 1)))
 each_from-more f k high h = ap (λ n. map f (range_with_len k n)) (left_more k high h)
 
-pub range_more : (a n j : ℕ) → a + n ≡ j → range_with_len a (suc n) ≡ range_with_len a n ++ j ∷ []
-range_more a zero j e = let same : a ≡ j = omega arith in ap (λ k. k ∷ []) same
-range_more a (suc n) j e = ap (λ l. a ∷ l) (range_more (a + 1) n j (omega arith))
-
-pub below_more : (p : ℕ → Bool) (k : ℕ) → below p (suc k) ≡ below p k + cond (p k) 1 0
-below_more p k = ap (count_by p) (range_more 0 k k (omega arith)) ∙ sum_by_push (λ j. cond (p j) 1 0) (range_with_len 0 k) k
-
-pub below_yes : (p : ℕ → Bool) (k : ℕ) → p k ≡ true → below p (k + 1) ≡ below p k + 1
-below_yes p k e = ap (below p) (add-one k) ∙ below_more p k ∙ ap (λ b. below p k + cond b 1 0) e
-
-pub below_no : (p : ℕ → Bool) (k : ℕ) → p k ≡ false → below p (k + 1) ≡ below p k
-below_no p k e = let none : below p k + 0 ≡ below p k = omega arith in ap (below p) (add-one k) ∙ below_more p k ∙ ap (λ b. below p k + cond b 1 0) e ∙ none
+pub below_more : (p : ℕ → Bool) (k : ℕ) → below p (k + 1) ≡ below p k + cond (p k) 1 0
+below_more p k = rw add-one refl
 
 -- tests that agree on the numbers that are looked at
 pub all_from-same : (p q : ℕ → Bool) (low n : ℕ) → ((k : ℕ) → low ≤ k → k < low + n → p k ≡ q k) → filter p (range_with_len low n) ≡ filter q (range_with_len low n)
 all_from-same p q low zero same = refl
-all_from-same p q low (suc n) same =
-    let rest : filter p (range_with_len (low + 1) n) ≡ filter q (range_with_len (low + 1) n) = all_from-same p q (low + 1) n (λ k above under. same k (omega arith) (omega arith)) in
-    let here : p low ≡ q low = same low (omega arith) (omega arith) in
-    ap (λ b. cond b (low ∷ filter p (range_with_len (low + 1) n)) (filter p (range_with_len (low + 1) n))) here ∙ ap (λ l. cond (q low) (low ∷ l) l) rest
+all_from-same p q low (suc n) same = rw (same low (omega arith) (omega arith), all_from-same p q (low + 1) n (λ k above under. same k (omega arith) (omega arith))) refl
 
 pub below_same : (p q : ℕ → Bool) (n : ℕ) → ((k : ℕ) → k < n → p k ≡ q k) → below p n ≡ below q n
 below_same p q zero same = refl
-below_same p q (suc n) same =
-    let rest : below p n ≡ below q n = below_same p q n (λ k under. same k (omega arith)) in
-    let here : p n ≡ q n = same n (omega arith) in
-    below_more p n ∙ ap₂ (λ a b. a + cond b 1 0) rest here ∙ sym (below_more q n)
+below_same p q (suc n) same = rw (below_same p q n (λ k under. same k (omega arith)), same n (omega arith)) refl
 
 -- pushed onto what precedes
 pub onto : {X : Type 0} (prefix rest new all : List X) (x : X) → new ≡ prefix ++ x ∷ [] → prefix ++ (x ∷ rest) ≡ all → new ++ rest ≡ all
 onto prefix rest new all x is e = ap (λ l. l ++ rest) is ∙ append_assoc prefix (x ∷ []) rest ∙ e
-
--- what a `Vec` holds after a write to all of it
-pub whole : {X : Type 0} (n : ℕ) (xs ys : List X) → n ≡ length xs → take n (xs ++ ys) ≡ xs
-whole n xs ys e = ap (λ m. take m (xs ++ ys)) e ∙ take-append_seam xs ys

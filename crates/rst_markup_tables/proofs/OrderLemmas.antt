@@ -1,17 +1,17 @@
 -- Spans in order.
-use Rattle.std.proofs.Common.{◌≡◌, ℕ, zero, suc, ◌+◌, ◌-◌, ◌≤◌, true, cond, eqb, List, [], ◌∷◌, length, drop, take, map, filter, unwrap_or, Option, Some, None, refl, ap, ◌∙◌, subst, arith, IfSome, ◌<◌}
-use Rattle.std.specs.Prelude.{option_map, option_and_then, position}
-use Rattle.std.specs.List.{list_all, range_with_len}
-use Rattle.std.proofs.Math.ListN.{drop_of_length-le}
-use Rattle.std.proofs.lemmas.Bool.{and_from, eq-eqb, cond_both}
+use Rattle.std.proofs.Common.{◌≡◌, ℕ, zero, suc, ◌+◌, ◌-◌, ◌≤◌, true, eqb, List, [], ◌∷◌, length, drop, map, filter, unwrap_or, Option, Some, None, refl, subst, arith, IfSome, ◌<◌}
+use Rattle.std.specs.Prelude.{option_map, option_and_then}
+use Rattle.std.specs.List.{range_with_len}
+use Rattle.std.proofs.lemmas.List.{drop_all}
+use lib.Seq.{take-nil}
+use Rattle.std.proofs.lemmas.Bool.{and_from, cond_both}
 use Rattle.rst_text.specs.Places.{first_from, IsFirst}
 use Rattle.rst_text.proofs.PlacesLemmas.{first_from-first}
 use Rattle.rst_markup_tables.specs.Places.{Grid, row_at}
-use Rattle.rst_markup_tables.specs.SimpleTable.{AreInOrder, is_space, begins_span, span_end, span_at, spans_of, columns_of, last_joined, joining, spans_with_columns, rule_spans, row_spans, is_white_place, is_clear, are_clear, span_of}
+use Rattle.rst_markup_tables.specs.SimpleTable.{AreInOrder, is_space, begins_span, span_end, span_at, spans_of, columns_of, last_joined, joining, spans_with_columns, rule_spans, row_spans, is_clear, are_clear, span_of}
 use Rattle.rst_markup_tables.specs.declared.places.Place.{Place}
 use Rattle.rst_markup_tables.specs.declared.simple_rows.RowLines.{RowLines}
 use Rattle.rst_markup_tables.specs.declared.spans.RuleSpan.{RuleSpan}
-use Rattle.rst_markup_tables.proofs.SimpleLemmas.{position_at}
 
 order-from : (low high : ℕ) (ss : List RuleSpan) → low ≤ high → AreInOrder high ss → AreInOrder low ss
 order-from low high [] h order = order
@@ -44,37 +44,20 @@ spans_with_columns-order columns low (s ∷ ss) h = by (last_joined columns s) (
     by None rest = tt
     by (Some last) rest = joined last (spans_with_columns (drop (last + 1) columns) ss) (rest last)
 
+columns-order : (row : List Place) → AreInOrder 0 (spans_of row)
+columns-order row = spans-order row 0 (length row) (omega arith)
+
 pub row_spans-order : (T : Grid) (r : RowLines) → AreInOrder 0 (row_spans T r)
-row_spans-order T r = by (rule_spans T r.rule) (spans_with_columns-order (columns_of T) 0 (spans_of (row_at T r.rule)) (spans-order (row_at T r.rule) 0 (length (row_at T r.rule)) (omega arith)))
+row_spans-order T r = cond_both (eqb r.rule 0) (columns_of T) (unwrap_or (rule_spans T r.rule) []) (AreInOrder 0) (λ _. columns-order (row_at T 0))
+    (λ _. by (rule_spans T r.rule) (spans_with_columns-order (columns_of T) 0 (spans_of (row_at T r.rule)) (columns-order (row_at T r.rule))))
   where
     by : (o : Option (List RuleSpan)) → IfSome o (AreInOrder 0) → AreInOrder 0 (unwrap_or o [])
     by None h = tt
     by (Some wide) h = h
 
--- the columns cover themselves
-last_joined-self : (s : RuleSpan) (ss : List RuleSpan) → last_joined (s ∷ ss) s ≡ Some 0
-last_joined-self s ss =
-    ap (λ b. cond b (position (λ (d : RuleSpan). eqb d.to s.to) (s ∷ ss)) None) (eq-eqb s.from s.from refl)
-    ∙ position_at (λ (d : RuleSpan). eqb d.to s.to) (s ∷ ss) 0 s (omega arith) (eq-eqb s.to s.to refl) (λ k less. absurd (omega (arith, less)))
-
-spans_with_columns-self : (row : List Place) (ks : List ℕ) → spans_with_columns (map (span_at row) ks) (map (span_at row) ks) ≡ Some (map (span_at row) ks)
-spans_with_columns-self row [] = refl
-spans_with_columns-self row (k ∷ ks) =
-    ap (λ o. option_and_then (λ last. option_map (λ others. joining (span_at row k) (last + 1) ∷ others) (spans_with_columns (drop (last + 1) (span_at row k ∷ map (span_at row) ks)) (map (span_at row) ks))) o) (last_joined-self (span_at row k) (map (span_at row) ks))
-    ∙ ap (λ o. option_map (λ others. joining (span_at row k) 1 ∷ others) o) (spans_with_columns-self row ks)
-
-pub row_spans-columns : (T : Grid) (r : RowLines) → r.rule ≡ 0 → row_spans T r ≡ columns_of T
-row_spans-columns T r e =
-    ap (λ n. unwrap_or (rule_spans T n) []) e
-    ∙ ap (λ o. unwrap_or o []) (spans_with_columns-self (row_at T 0) (filter (begins_span (row_at T 0)) (range_with_len 0 (length (row_at T 0)))))
-
 -- past its end a row is clear
 clear-past : (row : List Place) (from to : ℕ) → length row ≤ from → is_clear from to row ≡ true
-clear-past row from to h = ap (λ l. list_all is_white_place (take (to - from) l)) (drop_of_length-le row h) ∙ by (to - from)
-  where
-    by : (n : ℕ) → let none : List Place = [] in list_all is_white_place (take n none) ≡ true
-    by zero = refl
-    by (suc n) = refl
+clear-past row from to h = rw (drop_all from row h, take-nil {A = Place} (to - from)) refl
 
 pub are_clear-past : (row : List Place) (low : ℕ) (s : RuleSpan) (ss : List RuleSpan) → AreInOrder low (s ∷ ss) → length row ≤ s.from → are_clear (s ∷ ss) row ≡ true
 are_clear-past row low s [] order h = refl

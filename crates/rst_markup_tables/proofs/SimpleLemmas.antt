@@ -1,21 +1,14 @@
 -- Simple tables.
-use Rattle.std.proofs.Common.{◌≡◌, ℕ, suc, ◌+◌, ◌-◌, ◌<◌, ◌≤◌, Bool, true, false, cond, List, [], ◌∷◌, ◌++◌, get_or, length, drop, take, append_assoc, option_map, map, filter, refl, sym, ap, ap₂, ◌∙◌, arith, Option, Some, None}
-use Rattle.std.proofs.lemmas.Bool.{ne_eqb, lt-ltb}
-use Rattle.std.proofs.lemmas.List.Sums.{position_or_len_is}
-use Rattle.std.specs.Prelude.{position, option_and_then, flat_map}
-use Rattle.std.specs.List.{position_or_len, range_with_len}
+use Rattle.std.proofs.Common.{◌≡◌, ℕ, ◌+◌, ◌-◌, ◌<◌, ◌≤◌, true, false, cond, List, [], ◌∷◌, ◌++◌, drop, append_assoc, option_map, map, filter, refl, sym, ap, ap₂, ◌∙◌, arith, Option, Some, None}
+use Rattle.std.proofs.lemmas.Bool.{ne_eqb}
+use Rattle.std.specs.Prelude.{option_and_then, flat_map}
+use Rattle.std.specs.List.{range_with_len}
 use Rattle.rst_markup_tables.specs.Neighbours.{neighbours}
 use Rattle.rst_markup_tables.specs.declared.simple_rows.RowLines.{RowLines}
-use Rattle.rst_markup_tables.proofs.Lists.{left_more, all_from-take, all_from-more}
-use Rattle.rst_markup_tables.specs.Places.{Grid, Row}
+use Rattle.rst_markup_tables.proofs.Lists.{all_from-take, all_from-more}
+use Rattle.rst_markup_tables.specs.Places.{Grid}
 use Rattle.rst_markup_tables.specs.SimpleTable.{begins_row, row_lines, row_between, section_rows, last_joined, joining, spans_with_columns}
 use Rattle.rst_markup_tables.specs.declared.spans.RuleSpan.{RuleSpan}
-
--- ---- the place of the first item that passes
-
-pub position_at : {X : Type 0} (p : X → Bool) (xs : List X) (i : ℕ) (d : X) → i < length xs → p (get_or xs i d) ≡ true → ((k : ℕ) → k < i → p (get_or xs k d) ≡ false) → position p xs ≡ Some i
-position_at p xs i d inside hit before =
-    let e : position_or_len p xs ≡ i = position_or_len_is p xs i d (omega arith) before (λ there. hit) in rw (e, lt-ltb i (length xs) inside) refl
 
 -- ---- the spans of a rule
 
@@ -52,8 +45,3 @@ sections_left-more T low rule rules h =
     let before : low - 1 + 1 ≡ low = omega arith in
     let after_rule : rule ≡ rule + 1 - 1 = omega arith in
     ap₂ (λ n m. section_rows T n rule ++ flat_map (λ (p : ℕ × ℕ). section_rows T (p.0 + 1) p.1) (neighbours (m ∷ rules))) before after_rule
-
--- ---- lines that were read
-
-pub take-more : (G : Grid) (k to : ℕ) (r : Row) → k < to → drop k G ≡ r ∷ drop (k + 1) G → take (to - k) (drop k G) ≡ r ∷ take (to - (k + 1)) (drop (k + 1) G)
-take-more G k to r h e = ap (λ n. take n (drop k G)) (left_more k to h) ∙ ap (take (suc (to - (k + 1)))) e

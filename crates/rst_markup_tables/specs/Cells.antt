@@ -1,6 +1,5 @@
 -- What is in the cells of a table (Markup Specification, 'Grid Tables', 'Simple Tables').
 use Rattle.std.specs.Prelude.{◌≡◌, ℕ, ◌-◌, Bool, true, false, not, nat_lt, List, [], ◌∷◌, take, drop, map, filter, get_or, length, Option, Some, None}
-use Rattle.std.specs.Char.{is_whitespace}
 use Rattle.std.specs.List.{list_any, range_with_len}
 use Rattle.std.specs.Str.{all_scalars, drop_trailing_whitespace}
 use Rattle.rst_text.specs.Block.{Line, Block, is_blank, shorten}
@@ -20,11 +19,6 @@ characters (Second ∷ ps) = characters ps
 pub record AreOfLine (ps : List Place) : Type 0 where
   pub scalars : all_scalars (characters ps) ≡ true
   pub unended : list_any is_line_end (characters ps) ≡ false
-
--- no character begins at a place, or a white one
-abbrev pub is_trimmable_place : Place → Bool
-is_trimmable_place (Character c) = is_whitespace c
-is_trimmable_place Second = true
 
 -- the places from `left` on and before `right`, or all from `left` on
 abbrev pub cut_places : ℕ → Option ℕ → List Place → List Place

@@ -1,7 +1,7 @@
 -- How many numbers pass a test. No rule of markup: the rows and columns of tables are counted by it.
-use Rattle.std.specs.Prelude.{ℕ, Bool, count_by}
-use Rattle.std.specs.List.{range_with_len}
+use Rattle.std.specs.Prelude.{ℕ, zero, suc, ◌+◌, Bool, if◌then◌else◌}
 
 -- how many numbers below n pass
 abbrev pub below : (ℕ → Bool) → ℕ → ℕ
-below p n = count_by p (range_with_len 0 n)
+below p zero = 0
+below p (suc n) = below p n + (if p n then 1 else 0)

@@ -1,11 +1,10 @@
 -- Numbers that are marked in a list. No rule of markup: the bounds of a grid table's rows and columns are kept so.
 use Rattle.std.specs.Prelude.{◌≡◌, ℕ, ◌<◌, ◌≤◌, Bool, false, ◌||◌, List, get_or, length}
 
--- Of the numbers from `low` through `high` those are marked, too, that pass.
-pub record Marks (p : ℕ → Bool) (low high : ℕ) (old new : List Bool) : Type 0 where
+-- the numbers that pass are marked, too
+pub record Marks (p : ℕ → Bool) (old new : List Bool) : Type 0 where
   pub size : length new ≡ length old
-  pub inside : (k : ℕ) → low ≤ k → k ≤ high → get_or new k false ≡ (get_or old k false || p k)
-  pub outside : (k : ℕ) → (low ≤ k → k ≤ high → ⊥) → get_or new k false ≡ get_or old k false
+  pub at : (k : ℕ) → get_or new k false ≡ (get_or old k false || p k)
 
 -- just the numbers below n that pass are marked
 pub record AreMarked (p : ℕ → Bool) (n : ℕ) (marks : List Bool) : Type 0 where

@@ -150,9 +150,9 @@ sections T rules = flat_map (λ (p : ℕ × ℕ). section_rows T (p.0 + 1) p.1) 
 abbrev pub simple_rows : Grid → List RowLines
 simple_rows T = sections T (rules_of T)
 
--- the spans of a row, by the rule that ends it
+-- the spans of a row: those of the rule that ends it, or the columns of the table
 abbrev pub row_spans : Grid → RowLines → List RuleSpan
-row_spans T r = unwrap_or (rule_spans T r.rule) []
+row_spans T r = if r.rule == 0 then columns_of T else unwrap_or (rule_spans T r.rule) []
 
 -- there is nothing but white between neighbouring spans
 abbrev pub are_clear : List RuleSpan → List Place → Bool

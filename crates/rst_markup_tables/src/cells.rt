@@ -1,12 +1,11 @@
 //! The lines of a cell.
 ghost use Rattle.std.specs.Prelude.{◌≡◌, ◌-◌, ℕ, List, drop, filter, length, IfOk, IsTrue, map};
 ghost use Rattle.std.specs.List.{range_with_len};
-ghost use Rattle.std.specs.Str.{drop_trailing_whitespace};
 ghost use Rattle.rst_text.specs.Extent.{least_indent};
 ghost use Rattle.rst_text.specs.Lines.{are_lines, is_line_text};
 ghost use Rattle.rst_text.specs.Text.{chars_of};
 ghost use Rattle.rst_text.specs.Source.{texts_with};
-ghost use Rattle.rst_markup_tables.specs.Cells.{as_lines, characters, cut_places, cell_text, cell_block, reaches, reaching, texts_among};
+ghost use Rattle.rst_markup_tables.specs.Cells.{as_lines, cut_places, cell_text, cell_block, reaches, reaching, texts_among};
 ghost use Rattle.rst_markup_tables.specs.Places.{AreNumbered};
 
 use super::Result;
@@ -15,22 +14,6 @@ use super::results::CellLines;
 use rst_markup_lines::is_blank;
 use rst_text::{indentation, skip};
 use std::alloc::Global;
-
-/// Places without those after the last character that isn't white.
-fn trimmed(row: &[Place]) -> &[Place]
-    ensures { characters result.now ≡ drop_trailing_whitespace (characters row.now) }
-{
-    let mut size = row.len();
-    while size > 0 {
-        if let Place::Character(c) = row[size - 1]
-            && !c.is_whitespace()
-        {
-            break;
-        }
-        size -= 1;
-    }
-    &row[..size]
-}
 
 /// The places from `left` on and before `right`.
 fn cut_places(row: &[Place], left: usize, right: Option<usize>) -> &[Place]
@@ -49,11 +32,9 @@ fn cell_text(
     left: usize,
     right: Option<usize>,
 ) -> Result<String>
-    ensures text { IfOk result (λ text. chars_of text ≡ cell_text left right lines.now k) }
-    ensures line { IfOk result (λ text. IsTrue (is_line_text (chars_of text))) }
+    ensures { IfOk result (λ text. (chars_of text ≡ cell_text left right lines.now k) × IsTrue (is_line_text (chars_of text))) }
 {
-    let row = row_at(lines, k);
-    let places = trimmed(cut_places(row, left, right));
+    let places = cut_places(row_at(lines, k), left, right);
     let mut text = String::with_capacity(alloc, places.len())?;
     for place in places {
         if let Place::Character(c) = place {
@@ -61,7 +42,7 @@ fn cell_text(
             continue;
         }
     }
-    Ok(text)
+    String::from_str(alloc, text.trim_end())
 }
 
 /// The texts of a cell in the lines at some places, with these places. Empty ones are left out.
@@ -122,14 +103,11 @@ fn least_indent(texts: &[(usize, String)]) -> usize
 }
 
 /// Texts without their first `n` characters.
-fn shortened(alloc: Global, texts: Vec<(usize, String)>, n: usize) -> Result<Vec<(usize, String)>>
-    ensures { IfOk result (λ short. texts_with short.items ≡ map (λ (t : ℕ × List ℕ). (t.0, drop n t.1)) (texts_with texts.items)) }
+fn shortened(alloc: Global, texts: &[(usize, String)], n: usize) -> Result<Vec<(usize, String)>>
+    ensures { IfOk result (λ short. texts_with short.items ≡ map (λ (t : ℕ × List ℕ). (t.0, drop n t.1)) (texts_with texts.now)) }
 {
-    if n == 0 {
-        return Ok(texts);
-    }
     let mut short = Vec::with_capacity(alloc, texts.len())?;
-    for (k, text) in &texts {
+    for (k, text) in texts {
         let text = String::from_str(alloc, skip(text.as_str(), n))?;
         short.push((*k, text))?;
     }
@@ -152,10 +130,19 @@ pub(crate) fn cell_lines(
 {
     let texts = cell_texts(alloc, lines, among, left, right)?;
     let least = least_indent(&texts);
-    let short = shortened(alloc, texts, least)?;
+    let short = shortened(alloc, &texts, least)?;
     let Some(last) = lines.last() else {
-        return Ok(CellLines::of(0, 0, short));
+        return Ok(CellLines {
+            first: 0,
+            count: 0,
+            texts: short,
+        });
     };
     let count = lines.len();
-    Ok(CellLines::of(last.number() - (count - 1), count, short))
+    let first = last.number() - (count - 1);
+    Ok(CellLines {
+        first,
+        count,
+        texts: short,
+    })
 }

@@ -17,7 +17,7 @@ pub(crate) fn marked(alloc: Global, marks: &[bool]) -> Result<Vec<usize>>
 }
 
 /// For each place and the one past the end how many marks before it are set.
-#[tactic(auto, using(crate::proofs::Lists::below_yes, crate::proofs::Lists::below_no))]
+#[tactic(auto, using(crate::proofs::Lists::below_more))]
 pub(crate) fn ranks(alloc: Global, marks: &[bool]) -> Result<Vec<usize>>
     ensures { IfOk result (λ ranks. AreRanks (below (λ j. get_or marks.now j false)) (length marks.now) ranks.items) }
 {

@@ -1,11 +1,11 @@
 //! The rectangles that a grid table draws, and the tiling by them.
-ghost use Rattle.std.specs.Prelude.{◌≡◌, ◌<◌, IfOk, option_map, map, vec_items};
-ghost use Rattle.rst_markup_tables.specs.Places.{width, place};
-ghost use Rattle.rst_markup_tables.specs.Drawn.{is_across, is_upright, Tiles};
-ghost use Rattle.rst_markup_tables.specs.Search.{are_upright, begin_at, IsBottom, Tells, IsLeastBottom, AreBegins, HasBegins, Draws};
+ghost use Rattle.std.specs.Prelude.{◌≡◌, ◌<◌, true, IfOk, IfSome, option_map, map, vec_items};
+ghost use Rattle.rst_markup_tables.specs.Places.{width};
+ghost use Rattle.rst_markup_tables.specs.Drawn.{is_upright, is_side, bottom_of, drawn_at, Tiles};
+ghost use Rattle.rst_markup_tables.specs.Search.{begins_of, begin_at};
 
 use super::Result;
-use super::places::{Place, TableLine, mark, mark_at, width};
+use super::places::{TableLine, mark, mark_at, width};
 use std::alloc::Global;
 
 /// A rectangle, by the places of its corners.
@@ -17,13 +17,6 @@ pub(crate) struct Rectangle {
     pub(crate) right: usize,
 }
 
-#[tactic(auto, unfolding(crate::specs::Drawn::is_across))]
-fn is_across(c: char) -> bool
-    ensures { result ≡ is_across c }
-{
-    c == '-' || c == '+'
-}
-
 #[tactic(auto, unfolding(crate::specs::Drawn::is_upright))]
 pub(crate) fn is_upright(c: char) -> bool
     ensures { result ≡ is_upright c }
@@ -32,13 +25,14 @@ pub(crate) fn is_upright(c: char) -> bool
 }
 
 // For each place of the row where the run of `-` and `+` that ends there begins.
-fn begins_of(alloc: Global, row: &[Place]) -> Result<Vec<usize>>
-    ensures { IfOk result (λ begins. AreBegins row.now begins.items) }
+fn begins_of(alloc: Global, line: &TableLine) -> Result<Vec<usize>>
+    ensures { IfOk result (λ begins. begins.items ≡ begins_of line.now) }
 {
+    let row = line.places();
     let mut begins = Vec::with_capacity(alloc, row.len())?;
     let mut begin = 0;
     for column in 0..row.len() {
-        if !is_across(mark_at(row, column)) {
+        if mark_at(row, column) != '-' && mark_at(row, column) != '+' {
             begin = column + 1;
         }
         begins.push(begin)?;
@@ -51,7 +45,7 @@ fn begins_of(alloc: Global, row: &[Place]) -> Result<Vec<usize>>
 struct Runs<'a> {
     rows: &'a [TableLine],
     begins: Vec<Vec<usize>>,
-    ghost are_begins: { HasBegins rows.now (map vec_items begins.items) },
+    ghost are_begins: { map vec_items begins.items ≡ map begins_of rows.now },
 }
 
 impl Runs<'_> {
@@ -66,35 +60,26 @@ impl Runs<'_> {
         }
     }
 
-    // Whether the row has a bottom side between the columns.
-    fn is_bottom(&self, row: usize, left: usize, right: usize) -> bool
-        ensures { Tells result (IsBottom self.now.rows.now row left right) }
+    // Whether the row has a side from `left` to `right`.
+    fn is_side(&self, row: usize, left: usize, right: usize) -> bool
+        ensures { result ≡ is_side self.now.rows.now row left right }
     {
-        if mark(self.rows, row, left) != '+' {
-            return false;
-        }
-        if mark(self.rows, row, right) != '+' {
-            return false;
-        }
-        if self.begin_at(row, right) > left {
-            return false;
-        }
-        true
+        mark(self.rows, row, left) == '+'
+            && mark(self.rows, row, right) == '+'
+            && self.begin_at(row, right) <= left
     }
 
-    // The least bottom edge of a rectangle with these other edges.
-    #[tactic(auto, unfolding(crate::specs::Search::are_upright))]
+    // The least bottom side of a rectangle with these other sides.
     fn bottom(&self, top: usize, left: usize, right: usize) -> Option<usize>
-        requires top_left { place self.now.rows.now top left ≡ 43 }
-        requires top_right { place self.now.rows.now top right ≡ 43 }
-        ensures { IsLeastBottom self.now.rows.now top left right result }
+        requires { is_side self.now.rows.now top left right ≡ true }
+        ensures { result ≡ bottom_of self.now.rows.now top left right }
     {
         let height = self.rows.len();
         for row in top + 1..height {
             if !is_upright(mark(self.rows, row, left)) || !is_upright(mark(self.rows, row, right)) {
                 return None;
             }
-            if self.is_bottom(row, left, right) {
+            if self.is_side(row, left, right) {
                 return Some(row);
             }
         }
@@ -104,18 +89,12 @@ impl Runs<'_> {
     // The rectangle that is drawn from the place.
     fn drawn_from(&self, top: usize, left: usize) -> Option<Rectangle>
         requires { left < width self.now.rows.now }
-        ensures { Draws self.now.rows.now top left result }
+        ensures value { result ≡ drawn_at self.now.rows.now top left }
+        ensures within { IfSome result (λ r. (r.left < r.right) × (r.right < width self.now.rows.now)) }
     {
-        if mark(self.rows, top, left) != '+' {
-            return None;
-        }
         let columns = width(self.rows);
         for right in left + 1..columns {
-            let mark = mark(self.rows, top, right);
-            if !is_across(mark) {
-                return None;
-            }
-            if mark != '+' {
+            if !self.is_side(top, left, right) {
                 continue;
             }
             if let Some(bottom) = self.bottom(top, left, right) {
@@ -137,8 +116,7 @@ pub(crate) fn tiling(alloc: Global, rows: &[TableLine]) -> Result<Option<Vec<Rec
 {
     let mut begins = Vec::with_capacity(alloc, rows.len())?;
     for line in rows {
-        let row = begins_of(alloc, line.places())?;
-        begins.push(row)?;
+        begins.push(begins_of(alloc, line)?)?;
     }
     let runs = Runs { rows, begins };
     let mut rectangles = Vec::new(alloc);

@@ -1,6 +1,9 @@
 //! The cells of a grid table.
-ghost use Rattle.std.specs.Prelude.{◌≡◌, ◌+◌, ◌-◌, ◌<◌, ℕ, Some, length, get_or, IfOk, IfSome, map, vec_items};
-ghost use Rattle.rst_markup_tables.specs.Drawn.{IsTiling};
+ghost use Rattle.std.specs.Prelude.{◌≡◌, ◌<◌, ◌≤◌, length, IfOk, IfSome, map, vec_items};
+ghost use Rattle.rst_markup_tables.specs.Counts.{below};
+ghost use Rattle.rst_markup_tables.specs.Drawn.{IsWithin};
+ghost use Rattle.rst_markup_tables.specs.Marks.{AreRanks};
+ghost use Rattle.rst_markup_tables.specs.Places.{width};
 ghost use Rattle.rst_markup_tables.specs.GridTable as spec;
 
 use super::Result;
@@ -10,94 +13,102 @@ use super::counts::{marked, ranks};
 use super::drawn::Rectangle;
 use super::results::{Cell, Rows, TableResult, Widths};
 
-/// How many bounds come before each row and column.
+/// A tiled grid, and how many bounds come before each row and column and the end.
 #[derive(Drop)]
-struct Ranks {
+struct Ranks<'a> {
+    tiling: Tiling<'a>,
     rows: Vec<usize>,
     columns: Vec<usize>,
+    ghost row_ranks: { AreRanks (below (spec.is_row tiling.lines.now tiling.rectangles.now)) (length tiling.lines.now) rows.items },
+    ghost column_ranks: { AreRanks (below (spec.is_column tiling.lines.now tiling.rectangles.now)) (width tiling.lines.now) columns.items },
 }
 
-impl Ranks {
+impl Ranks<'_> {
     fn row(&self, row: usize) -> usize
-        ensures { result ≡ get_or self.now.rows.items row 0 }
+        requires { row ≤ length self.now.tiling.lines.now }
+        ensures { result ≡ below (spec.is_row self.now.tiling.lines.now self.now.tiling.rectangles.now) row }
     {
-        self.rows.get(row).copied().unwrap_or(0)
+        self.rows[row]
     }
 
     fn column(&self, column: usize) -> usize
-        ensures { result ≡ get_or self.now.columns.items column 0 }
+        requires { column ≤ width self.now.tiling.lines.now }
+        ensures { result ≡ below (spec.is_column self.now.tiling.lines.now self.now.tiling.rectangles.now) column }
     {
-        self.columns.get(column).copied().unwrap_or(0)
+        self.columns[column]
     }
 
     /// How many rows lie above the rule between head and body.
     fn head_size(&self, head: Option<usize>) -> usize
-        ensures { result ≡ spec.head_size (λ k. get_or self.now.rows.items k 0) head }
+        requires { IfSome head (λ k. k < length self.now.tiling.lines.now) }
+        ensures { result ≡ spec.head_size (below (spec.is_row self.now.tiling.lines.now self.now.tiling.rectangles.now)) head }
     {
-        head.map_or(0, |rule| self.row(rule))
+        match head {
+            Some(rule) => self.row(rule),
+            None => 0,
+        }
     }
-}
 
-impl Tiling<'_> {
     /// The cell in a rectangle.
-    fn cell(&self, ranks: &Ranks, rectangle: Rectangle) -> Result<Cell>
-        requires high { rectangle.top < rectangle.bottom }
-        requires within { rectangle.bottom < length self.now.lines.now }
-        requires wide { rectangle.left < rectangle.right }
-        ensures { IfOk result (λ cell. cell ≡ spec.cell_of (λ k. get_or ranks.now.rows.items k 0) (λ k. get_or ranks.now.columns.items k 0) self.now.lines.now rectangle) }
+    fn cell(&self, rectangle: Rectangle) -> Result<Cell>
+        requires { IsWithin self.now.tiling.lines.now rectangle }
+        ensures { IfOk result (λ cell. cell ≡ spec.cell_of (below (spec.is_row self.now.tiling.lines.now self.now.tiling.rectangles.now)) (below (spec.is_column self.now.tiling.lines.now self.now.tiling.rectangles.now)) self.now.tiling.lines.now rectangle) }
     {
-        let lines = &self.lines[rectangle.top + 1..rectangle.bottom];
+        let alloc = self.tiling.alloc;
+        let lines = &self.tiling.lines[rectangle.top + 1..rectangle.bottom];
         let left = rectangle.left + 1;
-        let among = reaching(self.alloc, lines, &all_places(self.alloc, lines)?, left)?;
-        let lines = cell_lines(self.alloc, lines, &among, left, Some(rectangle.right))?;
+        let among = reaching(alloc, lines, &all_places(alloc, lines)?, left)?;
+        let lines = cell_lines(alloc, lines, &among, left, Some(rectangle.right))?;
+        let rows = self
+            .row(rectangle.bottom)
+            .saturating_sub(self.row(rectangle.top));
+        let columns = self
+            .column(rectangle.right)
+            .saturating_sub(self.column(rectangle.left));
         Ok(Cell {
-            morerows: ranks
-                .row(rectangle.bottom)
-                .saturating_sub(ranks.row(rectangle.top))
-                .saturating_sub(1),
-            morecols: ranks
-                .column(rectangle.right)
-                .saturating_sub(ranks.column(rectangle.left))
-                .saturating_sub(1),
+            morerows: rows.saturating_sub(1),
+            morecols: columns.saturating_sub(1),
             lines,
         })
     }
 
     /// Each rectangle's cell in its row.
-    fn cell_rows(&self, ranks: &Ranks, count: usize) -> Result<Vec<Vec<Cell>>>
-        requires tiling { IsTiling self.now.lines.now self.now.rectangles.now }
-        requires few { (k : ℕ) → k < length self.now.rectangles.now → get_or ranks.now.rows.items (get_or self.now.rectangles.now k (record { top = 0; left = 0; bottom = 0; right = 0 })).top 0 < count }
-        ensures { IfOk result (λ rows. map vec_items rows.items ≡ spec.cell_rows (λ k. get_or ranks.now.rows.items k 0) (λ k. get_or ranks.now.columns.items k 0) self.now.lines.now self.now.rectangles.now count) }
+    fn cell_rows(&self) -> Result<Vec<Vec<Cell>>>
+        ensures { IfOk result (λ rows. map vec_items rows.items ≡ spec.table_rows self.now.tiling.lines.now self.now.tiling.rectangles.now) }
     {
-        let mut rows = Vec::with_capacity(self.alloc, count)?;
+        let alloc = self.tiling.alloc;
+        let count = self.row(self.tiling.lines.len()).saturating_sub(1);
+        let mut rows = Vec::with_capacity(alloc, count)?;
         for _ in 0..count {
-            rows.push(Vec::new(self.alloc))?;
+            rows.push(Vec::new(alloc))?;
         }
-        for rectangle in self.rectangles {
-            let cell = self.cell(ranks, *rectangle)?;
-            rows[ranks.row(rectangle.top)].push(cell)?;
+        for rectangle in self.tiling.rectangles {
+            let cell = self.cell(*rectangle)?;
+            rows[self.row(rectangle.top)].push(cell)?;
         }
         Ok(rows)
     }
+}
 
+impl Tiling<'_> {
     /// The table that the tiling makes; `head` is the rule between head and body, `end` the place after the table.
     pub(crate) fn tiled(&self, head: Option<usize>, end: usize) -> Result<TableResult>
-        requires tiling { IsTiling self.now.lines.now self.now.rectangles.now }
-        requires head { IfSome head (λ k. k < length self.now.lines.now) }
+        requires { IfSome head (λ k. k < length self.now.lines.now) }
         ensures { IfOk result (λ table. table ≡ spec.tiled_table head self.now.lines.now self.now.rectangles.now end) }
     {
         let (row_bounds, column_bounds) = self.bounds()?;
         let bounds = marked(self.alloc, &column_bounds)?;
         let widths = gaps(self.alloc, &bounds)?;
-        let rows = ranks(self.alloc, &row_bounds)?;
-        let columns = ranks(self.alloc, &column_bounds)?;
-        let ranks = Ranks { rows, columns };
-        let count = ranks.row(self.lines.len()).saturating_sub(1);
-        let cells = self.cell_rows(&ranks, count)?;
+        let ranks = Ranks {
+            tiling: *self,
+            rows: ranks(self.alloc, &row_bounds)?,
+            columns: ranks(self.alloc, &column_bounds)?,
+        };
+        let rows = ranks.cell_rows()?;
         Ok(TableResult::Table {
-            cols: Widths::of(widths),
+            cols: Widths { widths },
             head: ranks.head_size(head),
-            rows: Rows::of(cells),
+            rows: Rows { rows },
             end,
         })
     }

@@ -1,7 +1,7 @@
 //! Lines of a table as rows of places.
-ghost use Rattle.std.specs.Prelude.{◌≡◌, ◌+◌, ◌<◌, ◌∷◌, length, drop, IfOk, chars};
+ghost use Rattle.std.specs.Prelude.{◌≡◌, ◌+◌, ◌<◌, get_or, length, drop, IfOk, chars};
 ghost use Rattle.rst_markup_tables.specs.Cells.{AreOfLine};
-ghost use Rattle.rst_markup_tables.specs.Places.{consists_of, mark_of, places_of, mark_at, place, row_at, width, rows_of};
+ghost use Rattle.rst_markup_tables.specs.Places.{consists_of, mark_of, places_of, mark_at, place, row_at, width, no_row, rows_of};
 ghost use Rattle.rst_markup_blocks.specs.Prelude.{first_number, first_text, block_of};
 
 use super::Result;
@@ -105,7 +105,7 @@ fn places_of(alloc: Global, text: &str) -> Result<Vec<Place>>
 pub(crate) fn line_of(alloc: Global, view: &View<'_>, k: usize, text: &str) -> Result<TableLine>
     requires inside { k < length (block_of view.now) }
     requires text { chars text.now ≡ first_text (drop k (block_of view.now)) }
-    ensures line { IfOk result (λ line. rows_of (drop k (block_of view.now)) ≡ line ∷ rows_of (drop (k + 1) (block_of view.now))) }
+    ensures line { IfOk result (λ line. line ≡ get_or (rows_of (block_of view.now)) k no_row) }
     ensures number { IfOk result (λ line. line.number ≡ first_number (block_of view.now) + k) }
 {
     let number = view.number(k);

@@ -10,9 +10,9 @@ use std::marker::Model;
 /// as a block.
 #[derive(Debug, Drop)]
 pub struct CellLines {
-    first: usize,
-    count: usize,
-    texts: Vec<(usize, String)>,
+    pub(crate) first: usize,
+    pub(crate) count: usize,
+    pub(crate) texts: Vec<(usize, String)>,
 }
 
 impl Model for CellLines {
@@ -31,23 +31,6 @@ impl Model for CellLines {
 }
 
 impl CellLines {
-    ghost use Rattle.std.specs.Prelude.{◌+◌, ◌^◌, ◌<◌, ◌≤◌};
-    ghost use Rattle.rst_text.specs.Source.{ArePlaced, spread, texts_with};
-
-    /// `count` lines, numbered from `first` on, with these texts at their places.
-    pub(crate) fn of(first: usize, count: usize, texts: Vec<(usize, String)>) -> CellLines
-        requires placed { ArePlaced 0 count (texts_with texts.items) }
-        requires few { count < 2 ^ 63 }
-        requires numbers { first + count ≤ 2 ^ 64 }
-        ensures { result ≡ spread first count (texts_with texts.items) }
-    {
-        CellLines {
-            first,
-            count,
-            texts,
-        }
-    }
-
     /// These lines as those of a text of their own.
     ///
     /// The only refusal is [`AllocError`].
@@ -69,7 +52,7 @@ pub struct Cell {
 /// The widths of a table's columns, in places.
 #[derive(Debug, Drop)]
 pub struct Widths {
-    widths: Vec<usize>,
+    pub(crate) widths: Vec<usize>,
 }
 
 impl Model for Widths {
@@ -81,13 +64,6 @@ impl Model for Widths {
 }
 
 impl Widths {
-    /// These widths.
-    pub(crate) fn of(widths: Vec<usize>) -> Widths
-        ensures { result ≡ widths.items }
-    {
-        Widths { widths }
-    }
-
     /// The widths, from the left column to the right one.
     pub fn as_slice(&self) -> &[usize]
         ensures { result.now ≡ self.now }
@@ -99,7 +75,7 @@ impl Widths {
 /// The rows of a table, each with the cells that begin in it, from left to right.
 #[derive(Debug, Drop)]
 pub struct Rows {
-    rows: Vec<Vec<Cell>>,
+    pub(crate) rows: Vec<Vec<Cell>>,
 }
 
 impl Model for Rows {
@@ -113,13 +89,6 @@ impl Model for Rows {
 
 impl Rows {
     ghost use Rattle.std.specs.Prelude.{map, vec_items};
-
-    /// These rows.
-    pub(crate) fn of(rows: Vec<Vec<Cell>>) -> Rows
-        ensures { result ≡ map vec_items rows.items }
-    {
-        Rows { rows }
-    }
 
     /// The rows, from the top down.
     pub fn into_rows(self) -> Vec<Vec<Cell>>

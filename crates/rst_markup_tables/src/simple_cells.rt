@@ -79,7 +79,7 @@ impl SimpleLines<'_> {
     {
         let longest = self.longest_of(rows);
         let widths = column_widths(self.alloc, self.columns, longest)?;
-        Ok(Widths::of(widths))
+        Ok(Widths { widths })
     }
 
     /// The cells of all rows, or the fault of the first line with text between the columns of its row.
@@ -99,7 +99,7 @@ impl SimpleLines<'_> {
             let cells = entries(self.alloc, self.lines_of(*row), &spans)?;
             all.push(cells)?;
         }
-        Ok(Ok(Rows::of(all)))
+        Ok(Ok(Rows { rows: all }))
     }
 }
 

@@ -3,13 +3,13 @@ use Rattle.rst_text.specs.Extent.{least_indent}
 use Rattle.rst_text.specs.Source.{texts_with}
 use Rattle.rst_markup_tables.specs.Cells.{as_lines, texts_among}
 use Rattle.rst_markup_tables.specs.Places.{Grid, no_row}
-use Rattle.rst_markup_tables.proofs.Texts.{cell_block-is, cell-placed}
+use Rattle.rst_markup_tables.proofs.Texts.{cell_block-is, cell-placed, drop_each}
 use Rattle.rst_markup_tables.proofs.cells.cell_lines.Goals as goal
 
-pub of-requires-2-clause-placed : goal.of-requires-2-clause-placed
-of-requires-2-clause-placed c =
+pub invariant_of-result-2 : goal.invariant_of-result-2
+invariant_of-result-2 c =
     let texts = c.in_ok-texts.ensures.texts ∙ ap (texts_among c.args.left c.args.right c.args.lines.now) c.requires.among in
-    cell-placed c.args.left c.args.right c.args.lines.now c.least_indent-least.result _ _ texts c.in_ok-texts.ensures.lines c.in_ok-short.ensures
+    (cell-placed c.args.left c.args.right c.args.lines.now c.least_indent-least.result _ _ texts c.in_ok-texts.ensures.lines (c.in_ok-short.ensures ∙ ap (λ ts. drop_each c.least_indent-least.result (texts_with ts)) c.deref-2.ensures.value), search rules, search rules)
 
 pub returns : goal.returns
 returns c =
@@ -18,4 +18,4 @@ returns c =
     let texts = c.in_ok-texts.ensures.texts ∙ ap (texts_among c.args.left c.args.right G) c.requires.among in
     let indent = c.least_indent-least.ensures ∙ ap (λ ts. least_indent (as_lines (texts_with ts))) c.deref.ensures.value in
     let first : c.number.result - (length G - 1) ≡ (get_or G 0 no_row).number = search rules in
-    c.of-2.ensures ∙ cell_block-is c.args.left c.args.right G _ least _ _ c.requires.numbered first texts indent c.in_ok-short.ensures
+    cell_block-is c.args.left c.args.right G _ least _ _ c.requires.numbered first texts indent (c.in_ok-short.ensures ∙ ap (λ ts. drop_each least (texts_with ts)) c.deref-2.ensures.value)

@@ -1,6 +1,6 @@
-use Rattle.rst_markup_tables.specs.Places.{row_at}
-use Rattle.rst_markup_tables.specs.Search.{AreBegins}
-use Rattle.std.proofs.Common.{◌≡◌, ℕ, ◌<◌, ◌≤◌, length, get_or, [], map, vec_items}
+use Rattle.std.proofs.Common.{◌≡◌, ℕ, ◌<◌, ◌≤◌, ◌++◌, length, get_or, map, drop}
+use Rattle.std.specs.Prelude.{vec_items}
+use Rattle.rst_markup_tables.specs.Search.{begins_of}
 use Rattle.rst_markup_tables.proofs.Scan.{Stands}
 use Rattle.rst_markup_tables.proofs.drawn.tiling.Given as goal
 
@@ -11,10 +11,7 @@ abbrev pub invariant-loop-left : goal.invariant-loop-left
 invariant-loop-left l = Stands l.rows l.top l.left l.depths.items l.rectangles.items
 
 abbrev pub invariant-loop-line : goal.invariant-loop-line
-invariant-loop-line l = record {
-  size : length (map vec_items l.begins.items) ≡ l.line-index;
-  at : (i : ℕ) → i < l.line-index → AreBegins (row_at l.rows i) (get_or (map vec_items l.begins.items) i []);
-}
+invariant-loop-line l = map vec_items l.begins.items ++ map begins_of (drop l.line-index l.rows) ≡ map begins_of l.rows
 
 abbrev pub invariant-loop-column : goal.invariant-loop-column
 invariant-loop-column l = record {

@@ -1,6 +1,6 @@
 use Rattle.std.proofs.lemmas.Bool.Decides.{nat_tests}
-use Rattle.std.proofs.Common.{◌≡◌, ◌+◌, ◌-◌, ◌∙◌, ◌++◌, ◌&&◌, true, false, cond, leb, Some, Option, ℕ, ap, sym, subst, drop, length-drop, arith}
-use Rattle.rst_text.specs.Block.{Block, first_number, first_text}
+use Rattle.std.proofs.Common.{◌≡◌, ◌+◌, ◌-◌, ◌∙◌, ◌&&◌, true, false, cond, leb, Some, Option, ℕ, ap, sym, subst, take, drop, length-drop, arith}
+use Rattle.rst_text.specs.Block.{Block, first_text}
 use Rattle.rst_text.specs.Places.{IsLast}
 use Rattle.rst_text.specs.ViewBlock.{block_of}
 use Rattle.rst_markup_lines.specs.Border.{is_grid_border}
@@ -10,11 +10,9 @@ use Rattle.rst_markup_blocks.specs.TableRows.{is_border_at}
 use Rattle.rst_markup_blocks.specs.Lines.{lines_while}
 use Rattle.rst_markup_blocks.proofs.LineLemmas.{while_more, while_stop, while_end}
 use Rattle.rst_markup_blocks.proofs.TableLemmas.{grid_bottom-is}
-use Rattle.rst_markup_tables.specs.Places.{Row, no_row}
-use Rattle.rst_markup_tables.proofs.Begins.{pushed, pushed_size}
-use Rattle.rst_markup_tables.proofs.Lists.{onto}
-use Rattle.rst_markup_tables.proofs.Numbered.{numbered-from}
-use Rattle.rst_markup_tables.proofs.GridLemmas.{drawn_rows, drawn-row, drawn-none, border-more, scan-over, scan-here}
+use Rattle.rst_markup_tables.specs.Places.{AreNumbered, rows_of}
+use Rattle.rst_markup_tables.proofs.Numbered.{line_more, numbered-lines}
+use Rattle.rst_markup_tables.proofs.GridLemmas.{rows-taken, border-more, scan-over, scan-here}
 use Rattle.rst_markup_tables.proofs.grid_lines.drawn_lines.Goals as goal
 
 pub returns-then-not-is_drawn : goal.returns-then-not-is_drawn
@@ -24,8 +22,8 @@ returns-then-not-is_drawn c =
     let X : Block = drop c.args.i B in
     let all : c.loop-k.k - c.args.i - 2 ≡ lines_while Drawn X - 2 = omega (arith, c.loop-k.invariant.among, (while_stop c.loop-k.k Drawn B (omega arith) stop).0) in
     record {
-      lines = drawn-none (drop c.loop-k.k B) c.loop-k.lines.items (drawn_rows (drop c.args.i B)) (while_stop c.loop-k.k Drawn B (omega arith) stop).0 c.loop-k.invariant.lines;
-      numbered = numbered-from _ _ c.loop-k.invariant.numbered;
+      lines = c.loop-k.invariant.lines ∙ rows-taken B c.args.i (c.loop-k.k - c.args.i) ∙ ap (λ n. rows_of (take n X)) (omega (arith, c.loop-k.invariant.among, (while_stop c.loop-k.k Drawn B (omega arith) stop).0));
+      numbered = subst AreNumbered (sym c.loop-k.invariant.lines) (numbered-lines B c.args.i c.loop-k.k c.loop-k.invariant.numbered);
       bottom = grid_bottom-is X (c.loop-k.k - c.args.i) c.loop-k.bottom all c.loop-k.invariant.last;
       looked = search (arith, scan-here (block_of c.args.view.now) c.args.i c.loop-k.k (omega arith) (omega arith) c.loop-k.invariant.among, c.loop-k.invariant.looked.1, c.line-text.ensures.looks);
       each = omega (arith, (while_stop c.loop-k.k Drawn B (omega arith) stop).0, c.loop-k.invariant.among, c.loop-k.invariant.looked.0, c.line-text.ensures.looks);
@@ -42,20 +40,21 @@ loop-k-preserved c =
     let B : Block = block_of c.args.view.now in
     let n : ℕ = c.loop-k.k - c.args.i in
     let drawn : is_drawn (first_text (drop c.loop-k.k B)) ≡ true = sym (c.is_drawn.ensures ∙ ap is_drawn c.line-text.ensures.text) ∙ c.if-not-is_drawn.false in
-    let rows = drawn-row B c.loop-k.k c.in_ok-line.line c.in_ok-line.ensures.line drawn in
-    let more = while_more c.loop-k.k Drawn B (omega arith) drawn in
+    let more = line_more B c.args.i c.loop-k.k c.in_ok-line.line c.loop-k.lines.items (omega arith) (omega arith) c.in_ok-line.ensures.line c.in_ok-line.ensures.number c.loop-k.invariant.lines c.loop-k.invariant.numbered in
     let step = border-more B c.args.i c.loop-k.k c.loop-k.bottom (omega arith) c.loop-k.invariant.last in
-    let size = pushed_size c.loop-k.lines.items c.push.new.self.items c.in_ok-line.line n c.in_ok-push.ensures.items c.loop-k.invariant.size in
     let new : c.if-k-i-ge2.bottom ≡ cond (leb 2 n && is_grid_border (first_text (drop c.loop-k.k B))) (Some n) c.loop-k.bottom = grind (arith, nat_tests, c.line-text.ensures.text) in
     record {
-      lines = onto _ _ _ _ _ c.in_ok-push.ensures.items (sym (ap (λ l. c.loop-k.lines.items ++ l) rows) ∙ c.loop-k.invariant.lines);
-      among = sym more ∙ c.loop-k.invariant.among;
-      numbered = λ j inside. pushed (λ i (r : Row). r.number ≡ first_number B + c.args.i + i) c.loop-k.lines.items c.push.new.self.items c.in_ok-line.line no_row n c.in_ok-push.ensures.items c.loop-k.invariant.size
-          (λ i less. c.loop-k.invariant.numbered i (omega (arith, less, c.loop-k.invariant.size))) (omega (arith, c.in_ok-line.ensures.number)) j (omega (arith, inside, size));
-      size = omega (arith, size);
+      lines = c.in_ok-push.ensures.items ∙ more.0;
+      among = sym (while_more c.loop-k.k Drawn B (omega arith) drawn) ∙ c.loop-k.invariant.among;
+      numbered = more.1;
       last = subst (λ (o : Option ℕ). IsLast (is_border_at (drop c.args.i B)) 2 (c.loop-k.k + 1 - c.args.i) o) (sym new) step;
       looked = search (arith, c.line-text.ensures.looks);
     }
+
+pub returns-clause-lines : goal.returns-clause-lines
+returns-clause-lines c =
+    let B : Block = block_of c.args.view.now in
+    c.loop-k.invariant.lines ∙ rows-taken B c.args.i (c.loop-k.k - c.args.i) ∙ ap (λ n. rows_of (take n (drop c.args.i B))) (omega (arith, c.loop-k.invariant.among, while_end c.loop-k.k Drawn B (omega arith)))
 
 pub returns-clause-bottom : goal.returns-clause-bottom
 returns-clause-bottom c =
@@ -77,4 +76,4 @@ returns-clause-each c =
     omega (arith, while_end c.loop-k.k Drawn B (omega arith), c.loop-k.invariant.among, c.loop-k.invariant.looked.0)
 
 pub returns-clause-numbered : goal.returns-clause-numbered
-returns-clause-numbered c = numbered-from _ _ c.loop-k.invariant.numbered
+returns-clause-numbered c = subst AreNumbered (sym c.loop-k.invariant.lines) (numbered-lines _ _ _ c.loop-k.invariant.numbered)

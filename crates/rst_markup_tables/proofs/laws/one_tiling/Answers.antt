@@ -1,4 +1,4 @@
-use Rattle.rst_markup_tables.proofs.Rectangles.{one_tiling_of}
+use Rattle.rst_markup_tables.proofs.TilingLemmas.{one_tiling_of}
 use Rattle.rst_markup_tables.proofs.laws.one_tiling.Goals as goal
 
 pub returns : goal.returns

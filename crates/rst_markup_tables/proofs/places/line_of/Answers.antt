@@ -10,7 +10,7 @@ use Rattle.rst_markup_tables.specs.Cells.{characters}
 use Rattle.rst_markup_tables.specs.Places.{Row, places_of}
 use Rattle.rst_markup_tables.specs.declared.places.Place.{Place}
 use Rattle.rst_markup_tables.proofs.CellLemmas.{characters-places}
-use Rattle.rst_markup_tables.proofs.GridLemmas.{rows_more}
+use Rattle.rst_markup_tables.proofs.GridLemmas.{row_here}
 use Rattle.rst_markup_tables.proofs.places.line_of.Goals as goal
 
 pub invariant_of-result : goal.invariant_of-result
@@ -24,7 +24,7 @@ invariant_of-result c =
 pub returns-clause-line : goal.returns-clause-line
 returns-clause-line c =
     let row : ℕ → List Place → Row = λ n ps. record { number = n; places = ps } in
-    rows_more (block_of c.args.view.now) c.args.k (row c.number-number.result c.in_ok-places.places.items) c.requires.inside
+    row_here (block_of c.args.view.now) c.args.k (row c.number-number.result c.in_ok-places.places.items) c.requires.inside
     (ap₂ row c.number-number.ensures.value (c.in_ok-places.ensures ∙ ap places_of c.requires.text))
 
 pub returns-clause-number : goal.returns-clause-number

@@ -1,13 +1,10 @@
-use Rattle.std.proofs.Common.{◌∙◌, ◌+◌, ◌≤◌, ap, subst, drop, take, length, arith, ℕ, Option}
+use Rattle.std.proofs.Common.{drop, take, subst, ℕ, Option}
 use Rattle.rst_text.specs.Block.{Block}
 use Rattle.rst_text.specs.ViewBlock.{block_of}
-use Rattle.rst_markup_blocks.specs.declared.lines.LineTest.TheVariants.{Drawn}
-use Rattle.rst_markup_blocks.proofs.RowLaws.{while_le}
-use Rattle.rst_markup_blocks.proofs.TableLaws.{grid_size_le}
 use Rattle.rst_markup_blocks.specs.TableRows.{grid_bottom, grid_size}
 use Rattle.rst_markup_tables.specs.Places.{Grid, rows_of}
 use Rattle.rst_markup_tables.specs.GridTable.{grid_fault, IsOfRows}
-use Rattle.rst_markup_tables.proofs.EndLemmas.{rows_end, rows-size}
+use Rattle.rst_markup_tables.proofs.EndLemmas.{grid_end}
 use Rattle.rst_markup_tables.proofs.table.grid.Goals as goal
 
 pub returns-clause-table : goal.returns-clause-table
@@ -19,9 +16,4 @@ returns-clause-table c =
     subst (λ (n : ℕ). IsOfRows n c.args.i T (grid_fault (grid_bottom X) T) c.in_ok-table.table) c.number.ensures.value bottom
 
 pub returns-clause-end : goal.returns-clause-end
-returns-clause-end c =
-    let X : Block = drop c.args.i (block_of c.args.view.now) in
-    let L : Grid = c.in_ok-found.found.lines.items in
-    let inside : grid_size X ≤ length X = omega (arith, grid_size_le X, while_le Drawn X) in
-    rows_end c.number.result c.args.i L (grid_fault c.in_ok-found.found.bottom L) c.in_ok-table.table c.in_ok-table.ensures
-    ∙ ap (λ n. c.args.i + n) (ap length c.in_ok-found.ensures.lines ∙ rows-size (grid_size X) X inside)
+returns-clause-end c = grid_end (block_of c.args.view.now) c.args.i c.in_ok-table.table (returns-clause-table c)

@@ -3,8 +3,22 @@ use Rattle.rst_markup_tables.specs.Places.{Grid}
 use Rattle.rst_markup_tables.specs.Drawn.{IsTiling, Tiles}
 use Rattle.rst_markup_tables.specs.GridTable.{grid_fault, head_of, head_from, with_dashes, tiled_table}
 use Rattle.rst_markup_tables.specs.declared.drawn.Rectangle.{Rectangle}
+use Rattle.rst_markup_tables.proofs.BoundLemmas.{all_within}
+use Rattle.rst_markup_tables.proofs.RowLemmas.{in_rows}
 use Rattle.rst_markup_tables.proofs.TableLemmas.{with_tiling}
 use Rattle.rst_markup_tables.proofs.table.grid_of.Goals as goal
+
+pub invariant_of-tiling-clause-within : goal.invariant_of-tiling-clause-within
+invariant_of-tiling-clause-within c =
+    let tiles = subst (λ (o : Option (Vec Rectangle Global)). Tiles c.deref-3.result.now (option_map vec_items o)) c.in-Some-2.is c.in_ok-rectangles.ensures in
+    let lines : c.deref-3.result.now ≡ c.deref-4.result.now = c.deref-3.ensures.value ∙ sym c.deref-4.ensures.value in
+    all_within _ _ (subst (λ (X : Grid). IsTiling X c.deref-5.result.now) lines (subst (IsTiling c.deref-3.result.now) (sym c.deref-5.ensures.value) tiles)).drawn
+
+pub invariant_of-tiling-clause-in_rows : goal.invariant_of-tiling-clause-in_rows
+invariant_of-tiling-clause-in_rows c =
+    let tiles = subst (λ (o : Option (Vec Rectangle Global)). Tiles c.deref-3.result.now (option_map vec_items o)) c.in-Some-2.is c.in_ok-rectangles.ensures in
+    let lines : c.deref-3.result.now ≡ c.deref-4.result.now = c.deref-3.ensures.value ∙ sym c.deref-4.ensures.value in
+    in_rows _ _ (subst (λ (X : Grid). IsTiling X c.deref-5.result.now) lines (subst (IsTiling c.deref-3.result.now) (sym c.deref-5.ensures.value) tiles)).drawn
 
 pub returns : goal.returns
 returns c =
@@ -12,8 +26,7 @@ returns c =
     let G : Grid = c.put_dashes.new.lines.items in
     let none : grid_fault c.args.found.bottom T ≡ None = sym (ap (grid_fault c.args.found.bottom) c.deref.ensures.value) ∙ sym c.grid_fault.ensures ∙ c.in_default.is in
     let head : c.head_from-head.result ≡ head_of T = c.head_from-head.ensures.value ∙ ap (λ (X : Grid). head_from X 0) c.deref-2.ensures.value in
-    let tiles : Tiles G (option_map vec_items c.in_ok-rectangles.field-0) = subst (λ (X : Grid). Tiles X (option_map vec_items c.in_ok-rectangles.field-0)) c.deref-3.ensures.value c.in_ok-rectangles.ensures in
-    let tiling : IsTiling G c.in-Some-2.rectangles.items = subst (λ (o : Option (Vec Rectangle Global)). Tiles G (option_map vec_items o)) c.in-Some-2.is tiles in
+    let tiling : IsTiling G c.in-Some-2.rectangles.items = subst (λ (X : Grid). IsTiling X c.in-Some-2.rectangles.items) c.deref-3.ensures.value (subst (λ (o : Option (Vec Rectangle Global)). Tiles c.deref-3.result.now (option_map vec_items o)) c.in-Some-2.is c.in_ok-rectangles.ensures) in
     let table = c.in_ok-table.ensures ∙ ap₂ (λ (X : Grid) (rs : List Rectangle). tiled_table c.head_from-head.result X rs (c.args.first + c.len-size.result)) c.deref-4.ensures.value c.deref-5.ensures.value in
     with_tiling c.args.line c.args.first T G c.head_from-head.result c.in-Some-2.rectangles.items c.in_ok-table.table (grid_fault c.args.found.bottom T) none (c.in_ok-put_dashes.ensures ∙ ap (with_dashes T) head) head tiling
     (table ∙ ap (λ n. tiled_table c.head_from-head.result G c.in-Some-2.rectangles.items (c.args.first + n)) (omega arith))
