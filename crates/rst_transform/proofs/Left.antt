@@ -27,7 +27,6 @@ ends_at_halt halt (note ∷ more) = by (halts halt note) refl (ends_at_halt halt
 
 pub reported_messages : ShowsWhatIsAsked
 reported_messages messages profile settings document =
-    let registered = registration messages document in
-    let done = sectioned messages profile settings registered in
-    let all = all_messages registered done.1.reports in
+    let done = sectioned messages profile settings (registration messages document) in
+    let all = all_messages (registration messages document) done.1.reports in
     (filtered_reported settings.report (is_number_reported settings.report all) done.0.children, ends_at_halt settings.halt (unnumbered_notes all))

@@ -1,4 +1,3 @@
-pub mod LinkSteps
 pub mod Computing
 pub mod Left
 pub mod Looking

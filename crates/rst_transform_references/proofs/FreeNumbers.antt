@@ -1,12 +1,13 @@
 -- There is a free number for each footnote that is to be numbered.
-use Rattle.std.proofs.Common.{◌≡◌, ℕ, zero, suc, ◌+◌, ◌<◌, ◌≤◌, List, [], ◌∷◌, length, refl, sym, ◌∙◌, ap, arith, Bool, true, false, not, ◌&&◌, codes, nat_le, nat_eq}
+use Rattle.std.proofs.Common.{get_or, ◌≡◌, ℕ, suc, ◌+◌, ◌≤◌, List, [], ◌∷◌, length, refl, sym, ◌∙◌, ap, arith, Bool, true, false, not, codes, nat_eq}
 use Rattle.std.specs.Prelude.{if◌then◌else◌, Option, Some, None}
-use Rattle.std.specs.List.{cons_option, filter, filter_map, list_any, range_with_len, starts_with, AllByRecursion, IsDistinct}
-use Rattle.std.proofs.lemmas.Bool.{and_parts, eqb-true}
-use Rattle.std.proofs.lemmas.Bool.Decides.{nat_tests}
+use Rattle.std.specs.List.{cons_option, filter, filter_map, list_any, range_with_len, starts_with, IsDistinct}
+use Rattle.std.proofs.lemmas.Bool.{and_parts, eqb-true, ne_eqb}
 use Rattle.std.proofs.lemmas.Cmp.{nat_eq_equiv}
 use Rattle.std.proofs.lemmas.List.Filters.{length-filter_both}
-use Rattle.std.proofs.lemmas.List.FromFn.{length-range_with_len}
+use Rattle.std.proofs.lemmas.List.FromFn.{get_or-range_with_len, length-range_with_len}
+use Rattle.std.proofs.lemmas.List.Kept.{AllPairs-filter}
+use Rattle.std.proofs.lemmas.Map.Keys.{IsDistinct-from_apart}
 use Rattle.std.proofs.lemmas.Map.Made.{length-le_from_is_member}
 use Rattle.std.proofs.lemmas.Map.Views.{any-filter_same}
 use Rattle.rst_transform_names.specs.Ids.{number_in}
@@ -17,23 +18,10 @@ use Rattle.rst_transform_references.specs.FootnoteLabels.{free_numbers, is_to_nu
 
 -- ---- no more numbers are written than elements have
 
-one_apart : (passes : Bool) (a b : ℕ) (rest : List ℕ) → b < a → AllByRecursion (λ y. nat_eq b y ≡ false) rest → AllByRecursion (λ y. nat_eq b y ≡ false) (if passes then a ∷ rest else rest)
-one_apart true a b rest low h = (grind (arith, nat_tests), h)
-one_apart false a b rest low h = h
-
-apart : (p : ℕ → Bool) (n a b : ℕ) → b < a → AllByRecursion (λ y. nat_eq b y ≡ false) (filter p (range_with_len a n))
-apart p zero a b low = tt
-apart p (suc n) a b low = one_apart (p a) a b (filter p (range_with_len (a + 1) n)) low (apart p n (a + 1) b (omega (arith, low)))
-
-one_distinct : (passes : Bool) (a : ℕ) (rest : List ℕ) → AllByRecursion (λ y. nat_eq a y ≡ false) rest → IsDistinct nat_eq rest → IsDistinct nat_eq (if passes then a ∷ rest else rest)
-unfolding IsDistinct
-one_distinct true a rest h d = (h, d)
-one_distinct false a rest h d = d
-
 distinct : (p : ℕ → Bool) (n a : ℕ) → IsDistinct nat_eq (filter p (range_with_len a n))
-unfolding IsDistinct
-distinct p zero a = tt
-distinct p (suc n) a = one_distinct (p a) a (filter p (range_with_len (a + 1) n)) (apart p n (a + 1) a (omega arith)) (distinct p n (a + 1))
+distinct p n a =
+    IsDistinct-from_apart nat_eq (filter p (range_with_len a n)) (AllPairs-filter (λ x y. nat_eq x y ≡ false) p (range_with_len a n) (λ i j d low past.
+    ne_eqb (get_or (range_with_len a n) i d) (get_or (range_with_len a n) j d) (λ same. absurd (omega (arith, low, past, length-range_with_len a n, same, get_or-range_with_len a n i d (omega (arith, low, past, length-range_with_len a n)), get_or-range_with_len a n j d (omega (arith, past, length-range_with_len a n)))))))
 
 -- what is among those that pass a test passes it
 passing : (p : ℕ → Bool) (xs : List ℕ) (q : ℕ) → list_any (nat_eq q) (filter p xs) ≡ true → p q ≡ true
@@ -50,15 +38,9 @@ written_within linked =
 
 -- ---- what is to be numbered was written with no number
 
-sign_first : (c : ℕ) → nat_eq 35 c ≡ true → (nat_le 49 c && nat_le c 57) ≡ false
-sign_first c h = grind (arith, h)
-
-signed : (c : ℕ) (b : Bool) → (nat_eq 35 c && b) ≡ true → nat_eq 35 c ≡ true
-signed c b h = grind (arith, h)
-
 no_number : (mark : List ℕ) → starts_with nat_eq mark (codes "#") ≡ true → number_in mark ≡ None
 no_number [] h = absurd (cc)
-no_number (c ∷ cs) h = no_first (c ∷ cs) (sign_first c (signed c true h))
+no_number (c ∷ cs) h = no_first (c ∷ cs) (grind (arith, h))
 
 one_more : (b : Bool) (found_number : Option ℕ) (one : Node) (rest : List Node) (numbers : List ℕ) (count : ℕ) → (b ≡ true → found_number ≡ None) → length numbers + length rest ≤ count
     → length (cons_option found_number numbers) + length (if b then one ∷ rest else rest) ≤ suc count

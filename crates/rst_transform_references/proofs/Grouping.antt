@@ -1,10 +1,10 @@
 -- The references to each target, one reference after another.
-use Rattle.std.proofs.Common.{◌≡◌, ◌∙◌, ℕ, ◌+◌, ◌<◌, List, [], ◌∷◌, ◌++◌, length, map, zero, suc, get_or, replicate, refl, sym, ap, arith, inl, inr, append-nil}
+use Rattle.std.proofs.Common.{◌≡◌, ◌∙◌, ℕ, ◌+◌, ◌<◌, List, [], ◌∷◌, ◌++◌, length, map, get_or, replicate, refl, sym, ap, arith, inl, inr, append-nil}
 use Rattle.std.specs.Prelude.{filter, slice_set, if◌then◌else◌, Option, Some, None}
 use Rattle.std.specs.List.{range_with_len}
 use Rattle.std.specs.declared.vec.Vec.{Vec}
 use Rattle.std.proofs.lemmas.Bool.{cases_eq, eq-eqb, ne_eqb}
-use Rattle.std.proofs.lemmas.List.{get_or-replicate, get_or-set_other, get_or-set_same, length-map, length-replicate, length-set}
+use Rattle.std.proofs.lemmas.List.{get_or-map, get_or-replicate, get_or-set_other, get_or-set_same, length-map, length-replicate, length-set, map-set}
 use Rattle.std.proofs.lemmas.List.Elements.{filter-append}
 use Rattle.std.proofs.lemmas.List.FromFn.{fill_by_all, get_or-map-range_with_len, length-map-range_with_len}
 use Rattle.rst_transform_work.specs.Lists.{at_place}
@@ -27,8 +27,7 @@ Grouped-init targets = record {
 
 found_more : (targets : List (Option ℕ)) (place target : ℕ) → found targets (place + 1) target ≡ found targets place target ++ (if is_this_place target (at_place targets place) then place ∷ [] else [])
 found_more targets place target =
-    let same : 0 + place ≡ place = omega arith in
-    ap (filter (λ p. is_this_place target (at_place targets p))) (range_more 0 place ∙ ap (λ (b : ℕ). range_with_len 0 place ++ b ∷ []) same) ∙ filter-append (λ p. is_this_place target (at_place targets p)) (range_with_len 0 place) (place ∷ [])
+    ap (filter (λ p. is_this_place target (at_place targets p))) (range_more 0 place place (omega arith)) ∙ filter-append (λ p. is_this_place target (at_place targets p)) (range_with_len 0 place) (place ∷ [])
 
 with_length : (meant : Option ℕ) (place : ℕ) (lists : List (List ℕ)) → length (with_reference meant place lists) ≡ length lists
 with_length None place lists = refl
@@ -54,29 +53,17 @@ Grouped-more targets lists place meant g is = record {
       ∙ ap (λ m. found targets place target ++ (if is_this_place target m then place ∷ [] else [])) is ∙ sym (found_more targets place target);
 }
 
--- what a list has for a place, by the item there
-pub at_item : {A : Type 0} (list : List (Option A)) (place : ℕ) (one : Option A) → place < length list → one ≡ get_or list place one → one ≡ at_place list place
-at_item [] place one within is = absurd (omega (arith, within))
-at_item (x ∷ xs) zero one within is = is
-at_item (x ∷ xs) (suc place) one within is = at_item xs place one (omega (arith, within)) is
-
 -- one more place in a list
 pub one_referred : {A : Type 0} (lists : List (Vec ℕ A)) (target place : ℕ) (list more : Vec ℕ A) → target < length lists → list ≡ get_or lists target list → more.items ≡ list.items ++ place ∷ []
     → lists_now (slice_set lists target more) ≡ slice_set (lists_now lists) target (get_or (lists_now lists) target [] ++ place ∷ [])
-one_referred [] target place list more within at is = absurd (omega (arith, within))
-one_referred (first ∷ rest) zero place list more within at is = ap (λ (l : List ℕ). l ∷ lists_now rest) (is ∙ ap (λ l. l.items ++ place ∷ []) at)
-one_referred (first ∷ rest) (suc target) place list more within at is = ap (λ (ls : List (List ℕ)). first.items ∷ ls) (one_referred rest target place list more (omega (arith, within)) at is)
+one_referred lists target place list more within at is =
+    map-set (λ list. list.items) lists target more ∙ ap (slice_set (lists_now lists) target) (is ∙ ap (λ l. l ++ place ∷ []) (ap (λ l. l.items) at ∙ sym (get_or-map (λ list. list.items) lists target list [] within)))
 
 -- the list at a place, where each is a function of its place
 pub list_at : {A : Type 0} (f : ℕ → List ℕ) (n : ℕ) (lists : List (Vec ℕ A)) (place : ℕ) (one : Vec ℕ A) → lists_now lists ≡ map f (range_with_len 0 n) → place < length lists → one ≡ get_or lists place one → one.items ≡ f place
 list_at f n lists place one is within at =
     let same : length lists ≡ n = sym (length-map lists (λ list. list.items)) ∙ ap length is ∙ length-map-range_with_len f 0 n in
-    ap (λ list. list.items) at ∙ own lists place one within ∙ ap (λ (ls : List (List ℕ)). get_or ls place []) is ∙ get_or-map-range_with_len f 0 n place place [] (omega (arith, within, same)) (omega arith)
-  where
-    own : {B : Type 0} (ls : List (Vec ℕ B)) (i : ℕ) (d : Vec ℕ B) → i < length ls → (get_or ls i d).items ≡ get_or (lists_now ls) i []
-    own [] i d low = absurd (omega (arith, low))
-    own (x ∷ xs) zero d low = refl
-    own (x ∷ xs) (suc i) d low = own xs i d (omega (arith, low))
+    ap (λ list. list.items) at ∙ sym (get_or-map (λ list. list.items) lists place one [] within) ∙ ap (λ (ls : List (List ℕ)). get_or ls place []) is ∙ get_or-map-range_with_len f 0 n place place [] (omega (arith, within, same)) (omega arith)
 
 pub lists_length : {A : Type 0} (f : ℕ → List ℕ) (n : ℕ) (lists : List (Vec ℕ A)) → lists_now lists ≡ map f (range_with_len 0 n) → length lists ≡ n
 lists_length f n lists is = sym (length-map lists (λ list. list.items)) ∙ ap length is ∙ length-map-range_with_len f 0 n

@@ -1,12 +1,8 @@
-pub mod Agreeing
 pub mod Computing
 pub mod Each
-pub mod Fails
 pub mod Following
 pub mod FreeNumbers
 pub mod Grouping
-pub mod Idle
-pub mod Leading
 pub mod Linked
 pub mod Naming
 pub mod Numbering

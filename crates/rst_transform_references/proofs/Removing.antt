@@ -1,16 +1,14 @@
 -- Elements that are gone, one after another.
-use Rattle.std.proofs.Common.{◌≡◌, ℕ, zero, suc, ◌+◌, ◌-◌, ◌<◌, ◌≤◌, List, [], ◌∷◌, length, refl, sym, ◌∙◌, ap, arith, Bor}
+use Rattle.std.proofs.Common.{◌≡◌, ℕ, zero, suc, ◌+◌, ◌-◌, ◌<◌, ◌≤◌, List, [], length, sym, ◌∙◌, ap, arith, Bor}
 use Rattle.std.specs.Prelude.{slice_set}
-use Rattle.std.proofs.lemmas.List.{set_past}
+use Rattle.std.proofs.lemmas.List.{length-map, map-set, set_past}
 use Rattle.rst_tree.specs.declared.node.Node.{Node}
 use Rattle.rst_tree.specs.declared.node.Node.TheVariants.{Text}
 use Rattle.rst_transform_references.specs.Failing.{without}
 use Rattle.rst_transform_references.specs.Links.{nodes_now}
 
 set_nodes : (linked : List (Bor Node)) (at : ℕ) (nothing : Bor Node) → nothing.now ≡ Text [] → nodes_now (slice_set linked at nothing) ≡ slice_set (nodes_now linked) at (Text [])
-set_nodes [] at nothing is = refl
-set_nodes (one ∷ more) zero nothing is = ap (λ n. n ∷ nodes_now more) is
-set_nodes (one ∷ more) (suc at) nothing is = ap (λ rest. one.now ∷ rest) (set_nodes more at nothing is)
+set_nodes linked at nothing is = map-set (λ node. node.now) linked at nothing ∙ ap (slice_set (nodes_now linked) at) is
 
 -- the last of them
 pub removed_last : (linked : List (Bor Node)) (at left : ℕ) (nothing : Bor Node) (all : List Node) → nothing.now ≡ Text [] → left ≡ 0 → without at left (nodes_now linked) ≡ all → nodes_now (slice_set linked at nothing) ≡ all
@@ -28,10 +26,6 @@ past at zero linked high = set_past linked at (Text []) high
 past at (suc left) linked high =
     ap (without (at + 1) left) (set_past linked at (Text []) high) ∙ past (at + 1) left linked (omega (arith, high))
 
-pub nodes_length : (linked : List (Bor Node)) → length (nodes_now linked) ≡ length linked
-nodes_length [] = refl
-nodes_length (one ∷ more) = ap suc (nodes_length more)
-
 -- there is no further one
 pub removed_all : (linked : List (Bor Node)) (at left : ℕ) (all : List Node) → length linked ≤ at → without at left (nodes_now linked) ≡ all → nodes_now linked ≡ all
-removed_all linked at left all high before = sym (past at left (nodes_now linked) (omega (arith, high, nodes_length linked))) ∙ before
+removed_all linked at left all high before = sym (past at left (nodes_now linked) (omega (arith, high, length-map linked (λ node. node.now)))) ∙ before

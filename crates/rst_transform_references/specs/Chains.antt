@@ -1,6 +1,7 @@
 -- The chains of indirect targets, each of which refers to the name of the next, and what they come to (Markup Specification, 'Hyperlink
 -- Targets').
-use Rattle.std.specs.Prelude.{◌≡◌, ◌⊎◌, ℕ, zero, suc, ◌<◌, Bool, true, false, List, [], ◌∷◌, length, map, if◌then◌else◌, is_some, option_map, slice_set, unwrap_or, Option, Some, None}
+use Rattle.std.specs.Prelude.{ℕ, zero, suc, Bool, true, false, List, get_or, length, map, if◌then◌else◌, is_some, option_map, Option, Some, None}
+use Rattle.std.specs.List.{range_with_len}
 use Rattle.rst_tree.specs.declared.attrs.Attr.{Attr}
 use Rattle.rst_tree.specs.declared.key.Key.TheVariants.{Refname}
 use Rattle.rst_tree.specs.declared.node.Node.{Node}
@@ -48,49 +49,34 @@ steps_of known places links = map (λ place. own_step known places links (node_a
 
 -- ---- what a chain comes to, step by step
 
--- the step from a place; where there is none, a chain stays
-abbrev pub step_at : List (Option Step) → ℕ → Step
-step_at steps place = unwrap_or (at_place steps place) (To place)
-
--- what a chain comes to that begins with a step, within a number of steps: its end, or a circle if these are too few
-abbrev pub comes_to : List (Option Step) → ℕ → Step → Answer
-comes_to steps zero step = Circular
-comes_to steps (suc more) (Ends answer) = answer
-comes_to steps (suc more) (To place) = comes_to steps more (step_at steps place)
+-- what a chain comes to that begins with a step, within a number of further ones: its end, or a circle if these are too few; nothing without a step
+abbrev pub comes_to : List (Option Step) → ℕ → Option Step → Option Answer
+comes_to steps count None = None
+comes_to steps count (Some (Ends answer)) = Some answer
+comes_to steps zero (Some (To place)) = Some Circular
+comes_to steps (suc more) (Some (To place)) = comes_to steps more (at_place steps place)
 
 -- what each comes to; a chain of more steps than there are places comes to one of them twice
-abbrev pub answer_of : List (Option Step) → Option Step → Option Answer
-answer_of steps = option_map (comes_to steps (length steps))
-
 abbrev pub answers_of : List (Option Step) → List (Option Answer)
-answers_of steps = map (answer_of steps) steps
+answers_of steps = map (λ place. comes_to steps (length steps) (at_place steps place)) (range_with_len 0 (length steps))
 
 -- ---- how that is found
-
--- the end of a chain that ends with its first step
-abbrev pub first_step_answer : Option Step → Option Answer
-first_step_answer (Some (Ends answer)) = Some answer
-first_step_answer _ = None
 
 abbrev pub next_of : Option Step → Option ℕ
 next_of (Some (To next)) = Some next
 next_of _ = None
 
--- the next place in the chain from one whose answer isn't known
-abbrev pub next_on : List (Option Step) → List (Option Answer) → ℕ → Option ℕ
-next_on steps answers place = if is_some (at_place answers place) then None else next_of (at_place steps place)
+-- the next place in a chain, from one that no chain came to before; given is where the first chain began that came to each
+abbrev pub next_on : List (Option Step) → List (Option ℕ) → ℕ → Option ℕ
+next_on steps starts place = if is_some (at_place starts place) then None else next_of (at_place steps place)
 
--- the answers, with one for each of some places
-abbrev pub filled_answers : Answer → List ℕ → List (Option Answer) → List (Option Answer)
-filled_answers found [] answers = answers
-filled_answers found (place ∷ more) answers = filled_answers found more (slice_set answers place (Some found))
+-- what a chain comes to that stops with a step to another place: what the chain comes to that began at a start, or a circle if it is the same one, of
+-- which no answer is known
+abbrev pub joined : Option ℕ → List (Option Answer) → Option Answer
+joined None answers = Some Circular
+joined (Some start) answers = get_or answers start (Some Circular)
 
--- the answer of a place is known
-abbrev pub IsKnown : List (Option Step) → List (Option Answer) → ℕ → Type 0
-IsKnown steps answers place = at_place answers place ≡ answer_of steps (at_place steps place)
-
--- of each place the answer is known, or only if the chain from there ends at once; those of the places below one are known
-pub record KnownBelow (steps : List (Option Step)) (start : ℕ) (answers : List (Option Answer)) : Type 0 where
-  pub all : length answers ≡ length steps
-  pub each : (place : ℕ) → IsKnown steps answers place ⊎ (at_place answers place ≡ first_step_answer (at_place steps place))
-  pub below : (place : ℕ) → place < start → IsKnown steps answers place
+abbrev pub stopped : Option Step → Option ℕ → List (Option Answer) → Option Answer
+stopped None start answers = None
+stopped (Some (Ends answer)) start answers = Some answer
+stopped (Some (To next)) start answers = joined start answers

@@ -1,5 +1,5 @@
 -- The document that links leave: what became of each of them is written into it.
-use Rattle.std.specs.Prelude.{ℕ, List, [], ◌∷◌, drop, if◌then◌else◌, Option, Some, None}
+use Rattle.std.specs.Prelude.{ℕ, List, [], ◌∷◌, drop, length, nat_eq, if◌then◌else◌, Option, Some, None}
 use Rattle.rst_tree.specs.declared.attrs.Attr.{Attr}
 use Rattle.rst_tree.specs.declared.attrs.Value.TheVariants.{List as Listed}
 use Rattle.rst_tree.specs.declared.key.Key.{Key}
@@ -53,6 +53,6 @@ abbrev pub change_next : List Change → Node → List Change
 change_next s (Element t a c l) = if is_linked_tag t then changes_left s else s
 change_next s (Text t) = s
 
--- a document whose elements changed
+-- a document whose elements changed, if some are linked
 abbrev pub changed_document : List Change → Document → Document
-changed_document s document = record document { children = (rewritten change_next change_of s document.children).0 }
+changed_document s document = if nat_eq (length s) 0 then document else record document { children = (rewritten change_next change_of s document.children).0 }

@@ -23,7 +23,6 @@ use Rattle.rst_transform_references.specs.Links.{all, change_at, each, node_at, 
 use Rattle.rst_transform_references.specs.Orders.{is_order, pairs_by, references_by, target_order, targets_by}
 use Rattle.rst_transform_references.specs.Table.{Links}
 use Rattle.rst_transform_work.specs.Known.{Known}
-use Rattle.rst_transform_work.specs.Lists.{at_place}
 use Rattle.rst_transform_work.specs.Reading.{line_of, list_of_attribute, number_of_attribute}
 
 -- ---- the labels
@@ -37,15 +36,14 @@ entry_by _ _ = None
 abbrev pub with_number : List ℕ → Node → (List ℕ → Option NameEntry) → List ℕ → Option NameEntry
 with_number number node known name = option_or (known name) (if bytes_eq name number then entry_by (number_of_attribute Serial node) (slice_get (list_of_attribute Ids node) 0) else None)
 
--- a footnote gets a label, which is the next of the linked elements; one that was written with `#` alone has its number as a name
-abbrev pub labelled : ℕ → Option (List ℕ) → Links → Known → Links × Known
-labelled place None links known = (links, known)
-labelled place (Some label) links known =
-    let node : Node = node_at place links in
-    let shown : Links = puts (place + 1) (Stays None (Some label)) links in
+-- a footnote shows a label, which is the next of the linked elements; one that was written with `#` alone has its number as a name
+abbrev pub labelled : ℕ × List ℕ → Links → Known → Links × Known
+labelled pair links known =
+    let node : Node = node_at pair.0 links in
+    let showing : Links = puts (pair.0 + 1) (Stays None (Some pair.1)) links in
     if is_order Numbers (target_order node)
-    then (puts place (Lists (list_of_attribute Names node ++ label ∷ []) []) shown, record known { names = with_number label node known.names })
-    else (shown, known)
+    then (puts pair.0 (Lists (list_of_attribute Names node ++ pair.1 ∷ []) []) showing, record known { names = with_number pair.1 node known.names })
+    else (showing, known)
 
 -- ---- the references
 
@@ -79,7 +77,8 @@ abbrev pub left_over : Order → ℕ → List ℕ → Links → Known → Links 
 left_over order footnotes [] links known = (links, known)
 left_over order footnotes (first ∷ more) links known = fail_for (first ∷ more) (line_of (node_at first links)) (too_many order footnotes) links known
 
--- the n-th reference of an order takes the n-th footnote of it, and those without a footnote are left over
+-- The n-th reference with `#` and no name takes the n-th footnote that was written with `#` alone, and the n-th with `*` the n-th symbol footnote.
+-- References without a footnote are left over.
 unfoldable pub refer_by : Order → Links → Known → Links × Known
 refer_by order links known =
     let footnotes : List ℕ = targets_by order links in
@@ -90,9 +89,9 @@ is_of_footnotes (Element Footnote a c l) = true
 is_of_footnotes (Element FootnoteReference a c l) = true
 is_of_footnotes _ = false
 
--- footnotes get their labels, and references without names find them by their orders, if there are some
+-- footnotes get their labels, and then references without names find them: first those to numbered ones, then those to symbol footnotes
 unfoldable pub footnotes : Links → Known → Links × Known
 footnotes links known =
-    let got : Links × Known = each (λ place. labelled place (at_place (labels links) place)) (places_of links) links known in
-    if list_any (λ place. is_of_footnotes (node_at place links)) (places_of links) then each refer_by (Numbers ∷ Symbols ∷ []) got.0 got.1
+    let showing : Links × Known = each labelled (labels links) links known in
+    if list_any (λ place. is_of_footnotes (node_at place links)) (places_of links) then each refer_by (Numbers ∷ Symbols ∷ []) showing.0 showing.1
     else (links, known)

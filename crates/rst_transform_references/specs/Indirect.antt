@@ -87,12 +87,12 @@ concludes target references (Some (Missing missing)) links known =
 concludes target references (Some Circular) links known =
     let node : Node = node_at target links in fail_for references (line_of node) (circular_text (own_name node)) links known
 
--- one indirect target after another, if there is one
+-- what each indirect target comes to happens to it and to the references to it, one target after another, if there is one
 unfoldable pub indirect : Links → Known → Links × Known
 indirect links known =
     let places : List (Option ℕ) = places_by_number known.serials links in
     let answers : List (Option Answer) = answers_of (steps_of known.names places links) in
     let targets : List (Option ℕ) = targets_of known.names places links in
     if list_any (λ place. is_some (indirect_name (node_at place links))) (places_of links)
-    then each (λ place. concludes place (references_to targets place) (at_place answers place)) (places_of links) links known
+    then each (λ place. concludes place (references_to targets place) (at_place answers place)) (range_with_len 0 (length targets)) links known
     else (links, known)

@@ -1,10 +1,9 @@
 //! The chains of indirect targets: where each ends.
-ghost use Rattle.std.specs.Prelude.{IfOk, ◌≡◌, ◌+◌, map, unwrap_or, IfOk};
-ghost use Rattle.rst_transform_references.specs.declared.chains.Answer.TheVariants.{Circular};
-ghost use Rattle.rst_transform_references.specs.Chains.{answers_of, first_step_answer, filled_answers, next_on, KnownBelow};
+ghost use Rattle.std.specs.Prelude.{IfOk, ◌≡◌};
+ghost use Rattle.rst_transform_references.specs.Chains.{answers_of, joined, next_on, stopped};
 ghost use Rattle.rst_transform_work.specs.Lists.{at_place};
 
-use rst_transform_work::{item_at, put_at};
+use rst_transform_work::{at_place, item_at, put_at};
 use rst_tree::{Entry, Result, Text};
 use std::alloc::Global;
 
@@ -42,89 +41,66 @@ impl Answer {
 }
 
 /// What each indirect target comes to, by its place and its first step; there is nothing for the other elements.
+///
+/// Each chain is followed to its end, or to the first place that a chain came to before. No step is taken twice.
 pub fn answers(alloc: Global, steps: &[Option<Step>]) -> Result<Vec<Option<Answer>>>
     ensures { IfOk result (λ answers. answers.items ≡ answers_of steps.now) }
 {
-    let mut answers = first_step_answer(alloc, steps)?;
-    for start in 0..steps.len() {
-        follow(alloc, steps, &mut answers, start)?;
-    }
-    Ok(answers)
-}
-
-/// The answers of those whose chains end with the first step.
-fn first_step_answer(alloc: Global, steps: &[Option<Step>]) -> Result<Vec<Option<Answer>>>
-    ensures { IfOk result (λ answers. answers.items ≡ map first_step_answer steps.now) }
-{
     let mut answers = Vec::with_capacity(alloc, steps.len())?;
-    for step in steps {
-        match step {
-            Some(Step::Ends(answer)) => answers.push(Some(answer.copy(alloc)?))?,
-            _ => answers.push(None)?,
+    // For each place where the first chain began that came to it.
+    let mut starts = vec![in alloc; None; steps.len()]?;
+    for start in 0..steps.len() {
+        let mut place = start;
+        while let Some(next) = next_on(steps, &starts, place) {
+            put_at(&mut starts, place, Some(start));
+            place = next;
         }
+        let answer = stopped(alloc, steps, &starts, answers.as_slice(), place)?;
+        answers.push(answer)?;
     }
     Ok(answers)
 }
 
-/// Follows the chain from an indirect target to the first whose answer is known, and sets that answer for all in the chain.
-///
-/// A target in the chain counts as circular until its answer is known, so that a chain which comes back to one of its own is
-/// found to be a circle. None is followed twice, since the answer of each is known afterwards.
-fn follow(
-    alloc: Global,
-    steps: &[Option<Step>],
-    answers: &mut Vec<Option<Answer>>,
-    start: usize,
-) -> Result<()>
-    requires { KnownBelow steps.now start answers.old.items }
-    ensures { IfOk result (λ _. KnownBelow steps.now (start + 1) answers.new.items) }
+/// The next place in a chain, if there is one and no chain came to this one before.
+fn next_on(steps: &[Option<Step>], starts: &[Option<usize>], place: usize) -> Option<usize>
+    ensures { result ≡ next_on steps.now starts.now place }
 {
-    let mut chain = Vec::new(alloc);
-    let mut place = start;
-    while let Some(next) = next_on(steps, answers.as_slice(), place) {
-        put_at(answers, place, Some(Answer::Circular));
-        chain.push(place)?;
-        place = next;
-    }
-    let found = found_at(alloc, answers.as_slice(), place)?;
-    fill(alloc, chain.as_slice(), &found, answers)?;
-    Ok(())
-}
-
-/// The next place in the chain from one whose answer isn't known, if there is a next one.
-fn next_on(steps: &[Option<Step>], answers: &[Option<Answer>], place: usize) -> Option<usize>
-    ensures { result ≡ next_on steps.now answers.now place }
-{
-    if item_at(answers, place).is_some() {
+    if at_place(starts, place).is_some() {
         return None;
     }
-    match steps.get(place) {
-        Some(Some(Step::To(next))) => Some(*next),
+    match item_at(steps, place) {
+        Some(Step::To(next)) => Some(*next),
         _ => None,
     }
 }
 
-/// The answer at a place where a chain stops; there is none where there is no indirect target.
-fn found_at(alloc: Global, answers: &[Option<Answer>], place: usize) -> Result<Answer>
-    ensures { IfOk result (λ found. found ≡ unwrap_or (at_place answers.now place) Circular) }
+/// What a chain comes to that stops at a place.
+fn stopped(
+    alloc: Global,
+    steps: &[Option<Step>],
+    starts: &[Option<usize>],
+    answers: &[Option<Answer>],
+    place: usize,
+) -> Result<Option<Answer>>
+    ensures { IfOk result (λ answer. answer ≡ stopped (at_place steps.now place) (at_place starts.now place) answers.now) }
 {
-    match item_at(answers, place) {
-        Some(answer) => answer.copy(alloc),
-        None => Ok(Answer::Circular),
+    match item_at(steps, place) {
+        None => Ok(None),
+        Some(Step::Ends(answer)) => Ok(Some(answer.copy(alloc)?)),
+        Some(Step::To(_)) => joined(alloc, answers, at_place(starts, place)),
     }
 }
 
-/// Sets an answer for all in a chain.
-fn fill(
-    alloc: Global,
-    chain: &[usize],
-    found: &Answer,
-    answers: &mut Vec<Option<Answer>>,
-) -> Result<()>
-    ensures { IfOk result (λ _. answers.new.items ≡ filled_answers found.now chain.now answers.old.items) }
+/// What the chain from a start comes to. It is a circle if that isn't known yet.
+fn joined(alloc: Global, answers: &[Option<Answer>], start: Option<usize>) -> Result<Option<Answer>>
+    ensures { IfOk result (λ answer. answer ≡ joined start answers.now) }
 {
-    for place in chain {
-        put_at(answers, *place, Some(found.copy(alloc)?));
+    let Some(start) = start else {
+        return Ok(Some(Answer::Circular));
+    };
+    match answers.get(start) {
+        Some(Some(answer)) => Ok(Some(answer.copy(alloc)?)),
+        Some(None) => Ok(None),
+        None => Ok(Some(Answer::Circular)),
     }
-    Ok(())
 }

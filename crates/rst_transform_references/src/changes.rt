@@ -64,16 +64,11 @@ impl Changes {
                 set_texts(attrs, Key::Backrefs, backrefs)?;
                 Ok(true)
             }
-            Some(
-                Change::Failed {
-                    attrs: problematic,
-                    inside,
-                },
-            ) => {
+            Some(Change::Failed { attrs: own, inside }) => {
                 skip(&mut self.left, inside);
                 let source = take_source(alloc, attrs)?;
                 *tag = Tag::Problematic;
-                problematic.tell(alloc, attrs)?;
+                own.tell(alloc, attrs)?;
                 children.set_lone(Node::Text(source))?;
                 Ok(false)
             }

@@ -1,41 +1,21 @@
 //! The labels of footnotes.
-ghost use Rattle.std.specs.Prelude.{IfOk, ◌≡◌, ◌+◌, ◌<◌, ◌≤◌, ◌%◌, ◌++◌, ◌∷◌, [], decimal, false, length, option_map, replicate, slice_get};
-ghost use Rattle.rst_transform_names.specs.Ids.{number_in};
-ghost use Rattle.rst_transform_references.specs.FootnoteLabels.{free_numbers, labels, symbol_label, symbols, to_number, with_written, TellsWritten};
-ghost use Rattle.rst_transform_references.specs.Orders.{written_label};
+ghost use Rattle.std.specs.Prelude.{IfOk, ◌≡◌, ◌≤◌, ◌-◌, filter, get_or, length, not, true};
+ghost use Rattle.std.specs.List.{range_with_len, zip};
+ghost use Rattle.rst_transform_references.specs.declared.orders.Order.TheVariants.{Symbols};
+ghost use Rattle.rst_transform_references.specs.FootnoteLabels.{free_numbers, is_to_number, labels, symbol_label, to_number};
+ghost use Rattle.rst_transform_references.specs.Links.{places_where};
+ghost use Rattle.rst_transform_references.specs.Orders.{targets_by};
 
 use crate::links::Links;
-use crate::orders::written_label;
+use crate::orders::{Order, target_order, written_label};
 use rst_transform_names::number_in;
 use rst_transform_work::put_at;
-use rst_tree::{Result, Text};
+use rst_tree::{Node, Result, Text};
 use std::alloc::Global;
 
 /// The labels of symbol footnotes; the further ones are these doubled, tripled and so on (Markup Specification, 'Auto-Symbol
 /// Footnotes').
 const SYMBOLS: [char; 10] = ['*', '†', '‡', '§', '¶', '#', '♠', '♥', '♦', '♣'];
-
-/// That no footnote was written with one of the numbers up to `count`.
-fn none_written(alloc: Global, count: usize) -> Result<Vec<bool>>
-    ensures { IfOk result (λ written. written.items ≡ replicate count false ++ false ∷ []) }
-{
-    let mut written = vec![in alloc; false; count]?;
-    written.push(false)?;
-    Ok(written)
-}
-
-/// For each number up to that of all linked elements whether a footnote was written with it.
-fn written_numbers(alloc: Global, links: &Links<'_>) -> Result<Vec<bool>>
-    ensures { IfOk result (λ written. TellsWritten links.now.linked written.items) }
-{
-    let mut written = none_written(alloc, links.len())?;
-    for place in 0..links.len() {
-        if let Some(number) = number_in(written_label(links.node(place))) {
-            put_at(&mut written, number as usize, true);
-        }
-    }
-    Ok(written)
-}
 
 /// The numbers from 1 on, as many as there are elements, that no footnote was written with. There is one for each footnote
 /// that is to be numbered.
@@ -43,15 +23,24 @@ fn free_numbers(alloc: Global, links: &Links<'_>) -> Result<Vec<usize>>
     ensures enough { IfOk result (λ free. length (to_number links.now.linked) ≤ length free.items) }
     ensures free { IfOk result (λ free. free.items ≡ free_numbers links.now.linked) }
 {
-    let written = written_numbers(alloc, links)?;
-    let mut free = Vec::new(alloc);
+    // For each number up to that of all elements whether a footnote was written with it.
+    let mut written = vec![in alloc; false; links.len()]?;
+    written.push(false)?;
     for place in 0..links.len() {
-        let number = place + 1;
-        if !written[number] {
-            free.push(number)?;
+        if let Some(number) = number_in(written_label(links.node(place))) {
+            put_at(&mut written, number as usize, true);
         }
     }
+    let free = free_among(alloc, &written)?;
     Ok(free)
+}
+
+/// The numbers from 1 on that aren't taken. The list says of each number, from 0 on, whether it is.
+fn free_among(alloc: Global, taken: &[bool]) -> Result<Vec<usize>>
+    ensures { IfOk result (λ free. free.items ≡ filter (λ number. not (get_or taken.now number true)) (range_with_len 1 (length taken.now - 1))) }
+{
+    let free = (1..taken.len()).filter(|number| matches!(taken.get(*number), Some(false)));
+    Ok(free.collect(alloc)?)
 }
 
 /// The label of the n-th symbol footnote, from 0.
@@ -67,38 +56,43 @@ fn symbol_label(alloc: Global, n: usize) -> Result<Text>
     Ok(Text::new(label))
 }
 
-/// One of some numbers as a label, if there is that.
-fn numeral(alloc: Global, numbers: &[usize], place: usize) -> Result<Option<Text>>
-    ensures { IfOk result (λ label. label ≡ option_map decimal (slice_get numbers.now place)) }
+/// The places of the footnotes that are to be numbered, each with its number, which is the next free one.
+fn numbered(alloc: Global, links: &Links<'_>, free: &[usize]) -> Result<Vec<(usize, usize)>>
+    ensures { IfOk result (λ pairs. pairs.items ≡ zip (places_where is_to_number links.now) free.now) }
 {
-    match numbers.get(place) {
-        Some(number) => Ok(Some(Text::new(number.to_string(alloc)?))),
-        None => Ok(None),
-    }
+    let places = (0..links.len()).filter(|place| is_to_number(links.node(*place)));
+    Ok(places.zip(free.iter().copied()).collect(alloc)?)
 }
 
-/// The label that each footnote gets, by its place; there is nothing for the other elements. Each footnote that is to be numbered
-/// takes the next free number, and each symbol footnote the next symbol.
-pub fn labels(alloc: Global, links: &Links<'_>) -> Result<Vec<Option<Text>>>
+/// Whether a node is a footnote that is to be numbered.
+fn is_to_number(node: &Node) -> bool
+    ensures { result ≡ is_to_number node.now }
+{
+    written_label(node).as_bytes().starts_with(b"#")
+}
+
+/// The places of the symbol footnotes, numbered from 0.
+fn marked(alloc: Global, links: &Links<'_>) -> Result<Vec<(usize, usize)>>
+    ensures { IfOk result (λ pairs. pairs.items ≡ zip (targets_by Symbols links.now) (range_with_len 0 (length links.now.linked))) }
+{
+    let order = Order::Symbols;
+    let places = (0..links.len()).filter(|place| order.is(target_order(links.node(*place))));
+    Ok(places.zip(0..links.len()).collect(alloc)?)
+}
+
+/// The places of the footnotes that get labels, and these: a number, or a symbol.
+pub fn labels(alloc: Global, links: &Links<'_>) -> Result<Vec<(usize, Text)>>
     ensures { IfOk result (λ list. list.items ≡ labels links.now) }
 {
+    let mut labels = Vec::new(alloc);
     let free = free_numbers(alloc, links)?;
-    let mut numbered = 0;
-    let mut symbols = 0;
-    let mut list = Vec::with_capacity(alloc, links.len())?;
-    for place in 0..links.len() {
-        let mark = written_label(links.node(place));
-        if mark == "*" {
-            list.push(Some(symbol_label(alloc, symbols)?))?;
-            symbols += 1;
-            continue;
-        }
-        if !mark.as_bytes().starts_with(b"#") {
-            list.push(None)?;
-            continue;
-        }
-        list.push(numeral(alloc, &free, numbered)?)?;
-        numbered += 1;
+    let numbers = numbered(alloc, links, &free)?;
+    for number in &numbers {
+        labels.push((number.0, Text::new(number.1.to_string(alloc)?)))?;
     }
-    Ok(list)
+    let symbols = marked(alloc, links)?;
+    for symbol in &symbols {
+        labels.push((symbol.0, symbol_label(alloc, symbol.1)?))?;
+    }
+    Ok(labels)
 }

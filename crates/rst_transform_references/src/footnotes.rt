@@ -1,5 +1,5 @@
 //! Footnotes.
-ghost use Rattle.std.specs.Prelude.{IfOk, ◌≡◌, ◌<◌, ◌-◌, ◌^◌, ℕ, List, length, option_map, drop};
+ghost use Rattle.std.specs.Prelude.{IfOk, ◌≡◌, ℕ, List, drop};
 ghost use Rattle.std.specs.List.{list_any, zip};
 ghost use Rattle.rst_transform_names.specs.Names.{entry_named};
 ghost use Rattle.rst_transform_references.specs.Footnotes.{footnotes, is_of_footnotes, label_at, labelled, leads_to_footnote, left_over, order_name, refer_by, with_number};
@@ -13,7 +13,7 @@ use crate::links::{Change, Links};
 use crate::orders::{Order, paired, references_by, target_order, targets_by};
 use rst_transform_names::{Holder, NameEntry, Names, Strength};
 use rst_transform_work::{
-    Context, first_of_attribute, item_at, line_of, list_of_attribute, number_of_attribute,
+    Context, first_of_attribute, line_of, list_of_attribute, number_of_attribute,
 };
 use rst_tree::{Key, Node, Result, Tag, Text, Texts};
 use std::alloc::Global;
@@ -63,8 +63,8 @@ pub fn resolve_footnotes(context: &mut Context, links: &mut Links<'_>) -> Result
         return Ok(());
     }
     let labels = labels(context.alloc, links)?;
-    for place in 0..links.len() {
-        label_footnote(context, links, place, item_at(&labels, place))?;
+    for label in &labels {
+        label_footnote(context, links, label.0, &label.1)?;
     }
     refer_by(context, links, Order::Numbers)?;
     refer_by(context, links, Order::Symbols)?;
@@ -88,22 +88,17 @@ fn is_of_footnotes(node: &Node) -> bool
     }
 }
 
-/// Lets the footnote at a place show a label, if it gets one, and have it as a name if it was written with `#` alone.
+/// Lets the footnote at a place show a label, and have it as a name if it was written with `#` alone.
 fn label_footnote(
     context: &mut Context,
     links: &mut Links<'_>,
     place: usize,
-    label: Option<&Text>,
+    label: &Text,
 ) -> Result<()>
-    requires { place < 2 ^ 64 - 1 }
-    ensures { IfOk result (λ _. Makes (labelled place (option_map (λ l. l.now) label.entry) links.old) context.old context.new links.new) }
+    ensures { IfOk result (λ _. Makes (labelled (place, label.now) links.old) context.old context.new links.new) }
 {
-    let Some(label) = label else {
-        return Ok(());
-    };
     let node = links.node(place);
-    let text = Some(label.copy()?);
-    links.put(place + 1, Change::Stays { lead: None, text });
+    links.show_after(place, label.copy()?);
     if !Order::Numbers.is(target_order(node)) {
         return Ok(());
     }

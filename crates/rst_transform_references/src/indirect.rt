@@ -15,7 +15,7 @@ use crate::leads::{is_target, name_lead};
 use crate::links::{Change, Links};
 use crate::orders::{Order, add_pairs};
 use rst_transform_names::Names;
-use rst_transform_work::{Context, has, item_at, line_of, text_of_attribute};
+use rst_transform_work::{Context, at_place, has, item_at, line_of, text_of_attribute};
 use rst_tree::{Entry, Key, Node, Result, Tag, Text};
 use std::alloc::Global;
 
@@ -189,8 +189,8 @@ fn references_to_each(alloc: Global, targets: &[Option<usize>]) -> Result<Vec<Ve
     ensures { IfOk result (λ lists. lists_now lists.items ≡ map (references_to targets.now) (range_with_len 0 (length targets.now))) }
 {
     let mut lists = no_places(alloc, targets.len())?;
-    for (place, target) in targets.iter().enumerate() {
-        add_reference(&mut lists, *target, place)?;
+    for place in 0..targets.len() {
+        add_reference(&mut lists, at_place(targets, place), place)?;
     }
     Ok(lists)
 }

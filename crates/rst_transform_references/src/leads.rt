@@ -31,6 +31,7 @@ pub fn lead_to_id(alloc: Global, node: &Node) -> Result<Option<Entry>>
 
 /// Where the element at a place leads, as an attribute for what refers to it: where a transform found, or else its `refuri` or its
 /// `refid`.
+#[inline(always)]
 pub fn lead_at(alloc: Global, links: &Links<'_>, place: usize) -> Result<Option<Entry>>
     ensures { IfOk result (λ lead. lead ≡ lead_at place links.now) }
 {

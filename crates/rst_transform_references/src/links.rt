@@ -169,10 +169,22 @@ impl<'a> Links<'a> {
     }
 
     /// Lets this become of the element at a place.
+    #[inline(always)]
     pub fn put(&mut self, place: usize, change: Change)
         ensures { self.new ≡ puts place change self.old }
     {
         put_at(&mut self.changes, place, change);
+    }
+
+    /// Lets the element after the one at a place get this text.
+    #[tactic(auto, using(std::proofs::lemmas::List::set_past))]
+    pub fn show_after(&mut self, place: usize, text: Text)
+        ensures { self.new ≡ puts (place + 1) (Stays None (Some text)) self.old }
+    {
+        if place < self.changes.len() {
+            let (lead, text) = (None, Some(text));
+            put_at(&mut self.changes, place + 1, Change::Stays { lead, text });
+        }
     }
 
     /// Lets the footnote or citation at a place list one more reference to it.

@@ -29,16 +29,16 @@ pub fn symbols()
 pub fn numbers()
     ensures written_numbers { labels (links_of (plain_document (footnote "#" [] ∷ footnote "1" [] ∷ footnote "#a" [] ∷ footnote "3" []
         ∷ footnote "#" [] ∷ [])))
-        ≡ Some (codes "2") ∷ None ∷ None ∷ None ∷ Some (codes "4") ∷ None ∷ None ∷ None ∷ Some (codes "5") ∷ None ∷ [] }
+        ≡ (0, codes "2") ∷ (4, codes "4") ∷ (8, codes "5") ∷ [] }
     ensures leading_zero { labels (links_of (plain_document (element Footnote (says Mark "01" ∷ []) [] ∷ element Footnote (says Mark "#" ∷ []) []
         ∷ [])))
-        ≡ None ∷ Some (codes "1") ∷ [] }
+        ≡ (1, codes "1") ∷ [] }
     ensures named_by_a_number { labels (links_of (plain_document (element Footnote (says Mark "#1" ∷ []) [] ∷ element Footnote (says Mark "#" ∷ []) []
         ∷ [])))
-        ≡ Some (codes "1") ∷ Some (codes "2") ∷ [] }
+        ≡ (0, codes "1") ∷ (1, codes "2") ∷ [] }
     ensures citation { labels (links_of (plain_document (element Citation [] [] ∷ element Footnote (says Mark "*" ∷ []) []
         ∷ element Footnote (says Mark "#" ∷ []) [] ∷ [])))
-        ≡ None ∷ Some (codes "*") ∷ Some (codes "1") ∷ [] }
+        ≡ (2, codes "1") ∷ (1, codes "*") ∷ [] }
 {}
 
 /// References without names, and the footnotes that they find (Markup Specification, 'Auto-Numbered Footnotes').

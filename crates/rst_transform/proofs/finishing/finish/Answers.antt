@@ -28,8 +28,7 @@ returns-clause-finishes c =
     let known = known_at_first c.args.parsed.messages r in
     let start : c.of-start.result ≡ document_in r.root = ap document_in c.of-start.ensures ∙ ap document_in c.in_ok-registered.ensures.root in
     let after : Document → Document × Known = λ d. let done = transformed profile settings d known in with_last_section settings.report done.0 done.1 in
-    let made = makes_then (transformed profile settings c.of-start.result) (with_last_section settings.report) _ c.transformed.new.context
-    c.last_section.new.context _ c.in_ok-sectioned.sectioned c.in_ok-after.ensures c.in_ok-sectioned.ensures known (search rules) in
+    let made = makes_then (transformed profile settings c.of-start.result) (with_last_section settings.report) _ c.transformed.new.context c.last_section.new.context _ c.in_ok-sectioned.sectioned c.in_ok-after.ensures c.in_ok-sectioned.ensures known (search rules) in
     let done = subst (λ d. (c.in_ok-sectioned.sectioned ≡ (after d).0) × Holds c.last_section.new.context (after d).1) start made in
     let first : List NumberedNote = messages_among (document_in r.root).children in
     let listed : Lists first c.in_ok-list.list = subst (λ (d : Document). Lists (messages_among d.children) c.in_ok-list.list) start c.in_ok-list.ensures.messages in

@@ -9,12 +9,9 @@ use Rattle.rst_transform.proofs.finishing.with_early.Goals as goal
 
 pub returns-then-not-early : goal.returns-then-not-early
 returns-then-not-early c =
-    let d = c.args.document in
-    let now = c.args.context.now in
-    let none = neither (items d.children) (c.requires c.if-not-early.true) in
-    makes_then (with_expansions d) with_targets now now now d d (stays_expanded d now none.0) (without_targets d now none.1)
+    let none = neither (items c.args.document.children) (c.requires c.if-not-early.true) in
+    makes_then (with_expansions c.args.document) with_targets _ _ _ _ _ (stays_expanded c.args.document c.args.context.now none.0) (without_targets c.args.document c.args.context.now none.1)
 
 pub returns : goal.returns
 returns c =
-    makes_then (with_expansions c.args.document) with_targets c.args.context.now c.expand.new.context c.targets.new.context c.in_ok-expanded.expanded c.in_ok-retargeted.retargeted
-    c.in_ok-expanded.ensures c.in_ok-retargeted.ensures
+    makes_then (with_expansions c.args.document) with_targets _ _ _ _ _ c.in_ok-expanded.ensures c.in_ok-retargeted.ensures

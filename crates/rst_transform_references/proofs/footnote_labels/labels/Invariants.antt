@@ -1,5 +1,10 @@
-use Rattle.rst_transform_references.proofs.Numbering.{Labelling}
+use Rattle.std.proofs.Common.{◌≡◌, ◌++◌, map, take}
+use Rattle.std.specs.Prelude.{decimal}
+use Rattle.rst_transform_references.specs.FootnoteLabels.{numbered, symbol_label}
 use Rattle.rst_transform_references.proofs.footnote_labels.labels.Given as goal
 
-abbrev pub invariant-loop-place : goal.invariant-loop-place
-invariant-loop-place l = Labelling l.links l.free.items l.list.items l.numbered l.symbols l.place
+abbrev pub invariant-loop-number : goal.invariant-loop-number
+invariant-loop-number l = l.labels.items ≡ map (λ pair. (pair.0, decimal pair.1)) (take l.number-index l.number-items)
+
+abbrev pub invariant-loop-symbol : goal.invariant-loop-symbol
+invariant-loop-symbol l = l.labels.items ≡ map (λ pair. (pair.0, decimal pair.1)) (numbered l.links) ++ map (λ pair. (pair.0, symbol_label pair.1)) (take l.symbol-index l.symbol-items)

@@ -1,25 +1,26 @@
-use Rattle.std.proofs.Common.{◌≡◌, length, true, rules}
+use Rattle.std.proofs.Common.{◌≡◌, false, refl, rules, take, true}
 use Rattle.std.specs.List.{list_any}
-use Rattle.std.specs.Prelude.{option_map}
-use Rattle.rst_transform_work.specs.Lists.{at_place}
-use Rattle.rst_transform_references.specs.Footnotes.{is_of_footnotes, labelled}
+use Rattle.std.proofs.lemmas.List.{take_all}
+use Rattle.rst_transform_references.specs.Footnotes.{footnotes, is_of_footnotes, labelled}
 use Rattle.rst_transform_references.specs.Links.{node_at, places_of}
-use Rattle.rst_transform_references.proofs.Each.{each_next, now_is}
-use Rattle.rst_transform_references.proofs.Numbers.{all_refer, none_of_footnotes}
+use Rattle.rst_transform_references.proofs.Each.{each_more}
 use Rattle.rst_transform_references.proofs.footnotes.resolve_footnotes.Goals as goal
 
 pub returns-then-not-any_is_of_footnotes : goal.returns-then-not-any_is_of_footnotes
-returns-then-not-any_is_of_footnotes c = none_of_footnotes c.args.links.now c.args.context.now (search rules)
+unfolding footnotes
+returns-then-not-any_is_of_footnotes c known h =
+    let none : list_any (λ place. is_of_footnotes (node_at place c.args.links.now)) (places_of c.args.links.now) ≡ false = search rules in rw none (refl, h)
 
-pub loop-place-preserved : goal.loop-place-preserved
-loop-place-preserved c =
-    let label : option_map (λ a. a.now) c.item_at.result ≡ at_place c.in_ok-labels.labels.items c.loop-place.place = now_is _ _ (search rules) in
-    each_next (λ place. labelled place (at_place c.in_ok-labels.labels.items place)) c.loop-place.place c.args.context.now c.loop-place.context c.label_footnote.new.context c.args.links.now c.loop-place.links c.label_footnote.new.links
-    c.loop-place.invariant (rw (← label) (search rules))
+pub loop-label-preserved : goal.loop-label-preserved
+loop-label-preserved c =
+    each_more labelled c.deref-label-items.result.now c.loop-label.label-index c.label-item.result c.args.context.now c.loop-label.context c.label_footnote.new.context c.args.links.now c.loop-label.links c.label_footnote.new.links
+    c.loop-label-test.true c.label-item.is c.loop-label.invariant c.in_ok-label_footnote.ensures
 
 pub returns : goal.returns
-returns c =
+unfolding footnotes
+returns c known h =
     let some : list_any (λ place. is_of_footnotes (node_at place c.args.links.now)) (places_of c.args.links.now) ≡ true = search rules in
-    let past : c.loop-place.place ≡ length c.args.links.now.linked = search rules in
-    all_refer c.args.links.now c.loop-place.links c.refer_by.new.links c.refer_by-2.new.links c.args.context.now c.loop-place.context c.refer_by.new.context c.refer_by-2.new.context c.in_ok-labels.labels.items c.loop-place.place
-    c.in_ok-labels.ensures past some c.loop-place.invariant c.in_ok-refer_by.ensures c.in_ok-refer_by-2.ensures
+    let every : take c.loop-label.label-index c.in_ok-labels.labels.items ≡ c.in_ok-labels.labels.items = take_all c.loop-label.label-index c.in_ok-labels.labels.items (search rules) in
+    let shown = rw (c.deref-label-items.ensures.value, every) at c.loop-label.invariant known h in
+    let numbers = c.in_ok-refer_by.ensures _ shown.1 in
+    rw (some, ← c.in_ok-labels.ensures, ← shown.0, ← numbers.0) (c.in_ok-refer_by-2.ensures _ numbers.1)

@@ -1,9 +1,8 @@
-use Rattle.std.specs.List.{range_with_len}
+use Rattle.std.proofs.Common.{take}
 use Rattle.rst_transform_work.specs.Known.{Makes}
-use Rattle.rst_transform_work.specs.Lists.{at_place}
 use Rattle.rst_transform_references.specs.Footnotes.{labelled}
 use Rattle.rst_transform_references.specs.Links.{each}
 use Rattle.rst_transform_references.proofs.footnotes.resolve_footnotes.Given as goal
 
-abbrev pub invariant-loop-place : goal.invariant-loop-place
-invariant-loop-place l = Makes (each (λ place. labelled place (at_place l.labels.items place)) (range_with_len 0 l.place) l.initial.links) l.initial.context l.context l.links
+abbrev pub invariant-loop-label : goal.invariant-loop-label
+invariant-loop-label l = Makes (each labelled (take l.label-index l.label-items) l.initial.links) l.initial.context l.context l.links

@@ -1,14 +1,21 @@
-use Rattle.std.proofs.Common.{rules}
-use Rattle.std.specs.Prelude.{option_map}
-use Rattle.rst_transform_references.proofs.Leading.{breaks, circles}
+use Rattle.std.proofs.Common.{◌≡◌, rules}
+use Rattle.std.specs.Prelude.{option_map, Some}
+use Rattle.rst_transform_work.specs.Reading.{line_of}
+use Rattle.rst_transform_references.specs.declared.chains.Answer.TheVariants.{Circular, Missing}
+use Rattle.rst_transform_references.specs.Indirect.{circular_text, missing_text, own_name}
+use Rattle.rst_transform_references.specs.Links.{node_at}
 use Rattle.rst_transform_references.proofs.indirect.conclude.Goals as goal
 
 pub returns-in_ok-fail_for-in-Some-Missing : goal.returns-in_ok-fail_for-in-Some-Missing
-returns-in_ok-fail_for-in-Some-Missing c =
-    breaks c.args.target c.args.references.now c.as_str.result.now (option_map (λ a. a.now) c.args.answer) c.line_of-line.result c.in_ok-text-in-Some-Missing.text c.args.links.now c.fail_for.new.links c.args.context.now
-    c.fail_for.new.context (search rules) (search rules) (search rules) c.in_ok-fail_for-in-Some-Missing.ensures
+returns-in_ok-fail_for-in-Some-Missing c known h =
+    let is : option_map (λ a. a.now) c.args.answer ≡ Some (Missing c.as_str.result.now) = search rules in
+    let line : c.line_of-line.result ≡ line_of (node_at c.args.target c.args.links.now) = search rules in
+    let text : c.in_ok-text-in-Some-Missing.text ≡ missing_text (own_name (node_at c.args.target c.args.links.now)) c.as_str.result.now = search rules in
+    rw (is, ← line, ← text) (c.in_ok-fail_for-in-Some-Missing.ensures known h)
 
 pub returns-in_ok-fail_for-in-Some-Circular : goal.returns-in_ok-fail_for-in-Some-Circular
-returns-in_ok-fail_for-in-Some-Circular c =
-    circles c.args.target c.args.references.now (option_map (λ a. a.now) c.args.answer) c.line_of-line.result c.in_ok-text-in-Some-Circular.text c.args.links.now c.fail_for-in-Some-Circular.new.links c.args.context.now
-    c.fail_for-in-Some-Circular.new.context (search rules) (search rules) (search rules) c.in_ok-fail_for-in-Some-Circular.ensures
+returns-in_ok-fail_for-in-Some-Circular c known h =
+    let is : option_map (λ a. a.now) c.args.answer ≡ Some Circular = search rules in
+    let line : c.line_of-line.result ≡ line_of (node_at c.args.target c.args.links.now) = search rules in
+    let text : c.in_ok-text-in-Some-Circular.text ≡ circular_text (own_name (node_at c.args.target c.args.links.now)) = search rules in
+    rw (is, ← line, ← text) (c.in_ok-fail_for-in-Some-Circular.ensures known h)

@@ -1,18 +1,20 @@
-use Rattle.std.proofs.Common.{◌≡◌, ◌∙◌, length, ap, true, rules}
+use Rattle.std.proofs.Common.{◌≡◌, ◌∙◌, ℕ, length, ap, false, refl, true, rules}
 use Rattle.std.specs.List.{list_any}
 use Rattle.std.specs.Prelude.{is_some, option_map}
 use Rattle.rst_transform_names.specs.Names.{entry_named}
 use Rattle.rst_transform_work.specs.Lists.{at_place}
 use Rattle.rst_transform_references.specs.Chains.{answers_of, indirect_name, steps_of}
-use Rattle.rst_transform_references.specs.Indirect.{concludes, references_to, targets_of}
+use Rattle.rst_transform_references.specs.Holders.{places_by_number}
+use Rattle.rst_transform_references.specs.Indirect.{concludes, indirect, references_to, targets_of}
 use Rattle.rst_transform_references.specs.Links.{node_at, places_of}
 use Rattle.rst_transform_references.proofs.Each.{each_next, now_is}
 use Rattle.rst_transform_references.proofs.Grouping.{list_at, lists_length}
-use Rattle.rst_transform_references.proofs.Leading.{all_conclude, none_indirect, targets_length}
 use Rattle.rst_transform_references.proofs.indirect.resolve_indirect.Goals as goal
 
 pub returns-then-not-any_is_indirect : goal.returns-then-not-any_is_indirect
-returns-then-not-any_is_indirect c = none_indirect c.args.links.now c.args.context.now (search rules)
+unfolding indirect
+returns-then-not-any_is_indirect c known h =
+    let none : list_any (λ place. is_some (indirect_name (node_at place c.args.links.now))) (places_of c.args.links.now) ≡ false = search rules in rw none (refl, h)
 
 pub loop-place-preserved : goal.loop-place-preserved
 loop-place-preserved c =
@@ -23,13 +25,16 @@ loop-place-preserved c =
     c.loop-place.links c.conclude.new.links c.loop-place.invariant (rw (← answer, ← list) (search rules))
 
 pub returns : goal.returns
-returns c =
+unfolding indirect
+returns c known h =
     let some : list_any (λ place. is_some (indirect_name (node_at place c.args.links.now))) (places_of c.args.links.now) ≡ true = search rules in
+    let at : c.in_ok-places.places.items ≡ places_by_number c.args.context.now.serials c.args.links.now = search rules in
+    let places : c.in_ok-places.places.items ≡ places_by_number known.serials c.args.links.now = at ∙ ap (λ (n : ℕ). places_by_number n c.args.links.now) h.serials in
     let answered : c.in_ok-answers.answers.items ≡ answers_of (steps_of (entry_named c.args.context.now.names) c.in_ok-places.places.items c.args.links.now) = search rules in
     let meant : c.in_ok-targets.targets.items ≡ targets_of (entry_named c.args.context.now.names) c.in_ok-places.places.items c.args.links.now = search rules in
+    let answers : c.in_ok-answers.answers.items ≡ answers_of (steps_of known.names c.in_ok-places.places.items c.args.links.now) = answered ∙ (λ i. answers_of (steps_of (λ name. h.names name i) c.in_ok-places.places.items c.args.links.now)) in
+    let targets : c.in_ok-targets.targets.items ≡ targets_of known.names c.in_ok-places.places.items c.args.links.now = meant ∙ (λ i. targets_of (λ name. h.names name i) c.in_ok-places.places.items c.args.links.now) in
     let count : c.loop-place.place ≡ length c.in_ok-references.references.items = search rules in
-    let every : c.loop-place.place ≡ length c.args.links.now.linked =
-    count ∙ lists_length (references_to c.in_ok-targets.targets.items) (length c.in_ok-targets.targets.items) c.in_ok-references.references.items (search rules)
-    ∙ ap length meant ∙ targets_length (entry_named c.args.context.now.names) c.in_ok-places.places.items c.args.links.now in
-    all_conclude c.args.links.now c.loop-place.links c.args.context.now c.loop-place.context c.in_ok-places.places.items c.in_ok-answers.answers.items c.in_ok-targets.targets.items some (search rules) answered meant
-    (rw every at c.loop-place.invariant)
+    let every : c.loop-place.place ≡ length c.in_ok-targets.targets.items =
+    count ∙ lists_length (references_to c.in_ok-targets.targets.items) (length c.in_ok-targets.targets.items) c.in_ok-references.references.items (search rules) in
+    rw (some, ← places, ← answers, ← targets) (rw every at c.loop-place.invariant known h)

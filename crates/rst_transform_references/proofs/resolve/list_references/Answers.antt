@@ -1,26 +1,22 @@
-use Rattle.std.proofs.Common.{◌≡◌, ◌∙◌, length, sym, ap, true, rules}
+use Rattle.std.proofs.Common.{◌≡◌, length, true, rules}
 use Rattle.std.specs.List.{list_any}
 use Rattle.std.specs.Prelude.{option_map, slice_get}
 use Rattle.rst_tree.specs.declared.key.Key.TheVariants.{Ids}
-use Rattle.rst_transform_names.specs.Names.{entry_named}
 use Rattle.rst_transform_work.specs.Lists.{at_place}
 use Rattle.rst_transform_work.specs.Reading.{list_of_attribute}
 use Rattle.rst_transform_references.specs.Links.{node_at, places_of}
 use Rattle.rst_transform_references.specs.Resolving.{refers_back, refers_to_note}
-use Rattle.rst_transform_references.specs.Table.{Links}
 use Rattle.rst_transform_references.proofs.Each.{all_next, now_is}
-use Rattle.rst_transform_references.proofs.Naming.{listed}
 use Rattle.rst_transform_references.proofs.resolve.list_references.Goals as goal
 
 pub loop-place-preserved : goal.loop-place-preserved
 loop-place-preserved c =
     let id : option_map (λ i. i.now) c.first_of_attribute-id.result ≡ slice_get (list_of_attribute Ids (node_at c.loop-place.place c.loop-place.links)) 0 = now_is _ _ (search rules) in
     let step : c.refer_back.new.links ≡ refers_back (at_place c.in_ok-notes.notes.items c.loop-place.place) (slice_get (list_of_attribute Ids (node_at c.loop-place.place c.loop-place.links)) 0) c.loop-place.links = search rules in
-    step ∙ ap (λ (state : Links). refers_back (at_place c.in_ok-notes.notes.items c.loop-place.place) (slice_get (list_of_attribute Ids (node_at c.loop-place.place state)) 0) state) c.loop-place.invariant
-    ∙ sym (all_next (λ place state. refers_back (at_place c.in_ok-notes.notes.items place) (slice_get (list_of_attribute Ids (node_at place state)) 0) state) c.loop-place.place c.args.links.now)
+    rw (all_next (λ place state. refers_back (at_place c.in_ok-notes.notes.items place) (slice_get (list_of_attribute Ids (node_at place state)) 0) state) c.loop-place.place c.args.links.now, ← c.loop-place.invariant) step
 
 pub returns : goal.returns
 returns c =
     let some : list_any (λ place. refers_to_note (node_at place c.args.links.now)) (places_of c.args.links.now) ≡ true = search rules in
     let past : c.loop-place.place ≡ length c.args.links.now.linked = search rules in
-    listed (entry_named c.args.names.now) c.args.places.now c.in_ok-notes.notes.items c.loop-place.place c.args.links.now c.loop-place.links some c.in_ok-notes.ensures past c.loop-place.invariant
+    rw (some, ← c.in_ok-notes.ensures) (rw past at c.loop-place.invariant)

@@ -1,11 +1,10 @@
-use Rattle.std.proofs.Common.{◌≡◌, ◌∙◌, ℕ, List, length, replicate, ap, ap₂, sym, rules}
+use Rattle.std.proofs.lemmas.List.{length-map}
+use Rattle.std.proofs.Common.{Bor, ◌≡◌, ◌∙◌, ℕ, List, length, replicate, ap, ap₂, sym, rules}
 use Rattle.std.specs.Prelude.{None}
 use Rattle.rst_tree.specs.declared.node.Node.{Node}
 use Rattle.rst_transform_references.specs.declared.links.Change.{Change}
 use Rattle.rst_transform_references.specs.declared.links.Change.TheVariants.{Stays}
-use Rattle.rst_transform_references.specs.Links.{nodes_now}
 use Rattle.rst_transform_references.specs.Table.{Links}
-use Rattle.rst_transform_references.proofs.Removing.{nodes_length}
 use Rattle.rst_transform_references.proofs.links.Links.of.Goals as goal
 
 abbrev table : List Node → List Change → Links
@@ -14,5 +13,4 @@ table linked changes = record { linked = linked; changes = changes }
 pub returns : goal.returns
 returns c =
     let own : c.len.result ≡ length c.in_ok-linked.linked.items = search rules in
-    let count : c.len.result ≡ length (nodes_now c.in_ok-linked.linked.items) = own ∙ sym (nodes_length c.in_ok-linked.linked.items) in
-    ap₂ table c.in_ok-linked.ensures (c.in_ok-changes.ensures ∙ ap (λ (n : ℕ). replicate n (Stays None None)) (count ∙ ap length c.in_ok-linked.ensures))
+    ap₂ table c.in_ok-linked.ensures (c.in_ok-changes.ensures ∙ ap (λ (n : ℕ). replicate n (Stays None None)) (own ∙ sym (length-map c.in_ok-linked.linked.items (λ (node : Bor Node). node.now)) ∙ ap length c.in_ok-linked.ensures))
