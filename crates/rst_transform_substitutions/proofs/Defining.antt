@@ -1,5 +1,5 @@
 -- The definitions of a document, found one node after another, and then known by their names.
-use Rattle.std.proofs.Common.{◌≡◌, ℕ, ◌+◌, ◌<◌, ◌≤◌, List, [], ◌∷◌, ◌++◌, length, map, get_or, take, refl, sym, ◌∙◌, ap, arith, Bool}
+use Rattle.std.proofs.Common.{◌≡◌, ℕ, ◌+◌, ◌<◌, List, [], ◌∷◌, ◌++◌, length, map, get_or, take, refl, sym, ◌∙◌, ap, arith, Bool}
 use Rattle.std.specs.Prelude.{if◌then◌else◌, Option, Some, None}
 use Rattle.rst_text.specs.Names.{name_in}
 use Rattle.std.specs.BTreeMap.{get_by_text}
@@ -12,20 +12,14 @@ use Rattle.rst_tree.specs.Read.{AreRead}
 use Rattle.rst_transform_substitutions.specs.declared.listing.Defined.{Defined}
 use Rattle.rst_transform_substitutions.specs.declared.listing.Listed.{Listed}
 use Rattle.rst_transform_substitutions.specs.declared.definitions.Definitions.{Definitions}
-use Rattle.rst_transform_substitutions.specs.Definitions.{defined, definitions_among, found_among, found_by, known_place, last_place, own_definition, place_of_name, place_of_normalized, AreKnown, Definition}
-use Rattle.rst_transform_substitutions.specs.Numbering.{refnames_in, referenced_names, TakesListed}
+use Rattle.rst_transform_substitutions.specs.Definitions.{defined, definitions_among, found_among, found_by, known_place, last_place, own_definition, place_of_name, AreAlike, AreKnown, Definition, TakesListed}
 
 -- those among nodes come after the others
-pub listed_read : (level : Option ℕ) (f : Forest) (old new : Listed) → AreRead TakesListed level f old new
-    → (map defined new.definitions.items ≡ map defined old.definitions.items ++ definitions_among f) × (map (λ name. name.now) new.names.items ≡ map (λ name. name.now) old.names.items ++ refnames_in f)
-listed_read level bare old new read = rw read (sym (append-nil (map defined old.definitions.items)), sym (append-nil (map (λ name. name.now) old.names.items)))
+pub listed_read : (level : Option ℕ) (f : Forest) (old new : Listed) → AreRead TakesListed level f old new → map defined new.definitions.items ≡ map defined old.definitions.items ++ definitions_among f
+listed_read level bare old new read = rw read (sym (append-nil (map defined old.definitions.items)))
 listed_read level (words t r) old new read = listed_read level r old new read
 listed_read level (element t a c l r) old new read =
-    let inside = listed_read read.1 c read.0 read.2 read.4 in
-    let following = listed_read level r read.2 new read.5 in (
-      three_added (map defined old.definitions.items) (own_definition t a c) (definitions_among c) (definitions_among r) _ _ _ read.3.0 inside.0 following.0,
-      three_added (map (λ name. name.now) old.names.items) (referenced_names t a) (refnames_in c) (refnames_in r) _ _ _ read.3.1 inside.1 following.1,
-    )
+    three_added (map defined old.definitions.items) (own_definition t a c) (definitions_among c) (definitions_among r) _ _ _ read.3 (listed_read read.1 c read.0 read.2 read.4) (listed_read level r read.2 new read.5)
 
 -- one definition more is the last
 pub last_more : (passes : List ℕ → Bool) (place : ℕ) (before : Option ℕ) (all : List Definition) (one : Definition)
@@ -62,6 +56,14 @@ pub known_next : (list : List Defined) (i : ℕ) (one : Defined) (next : Definit
 known_next list i one next within at known =
     let more : take (i + 1) list ≡ take i list ++ one ∷ [] = take_more list i one within ∙ ap (λ last. take i list ++ last ∷ []) (sym at) in
     rw (more, map-append defined (take i list) (one ∷ [])) known
+
+-- definitions are known as well where others are measured
+pub known_alike : (all : List Definition) (old new : Definitions) → AreKnown all old → AreAlike old new → AreKnown all new
+known_alike all old new are alike = record {
+  contents = ap (λ contents. contents.items) alike.0 ∙ are.contents;
+  exact = λ name. ap (λ places. get_by_text places name) alike.1.0 ∙ are.exact name;
+  normalized = λ name. ap (λ places. get_by_text places name) alike.1.1 ∙ are.normalized name;
+}
 
 -- what a name finds among definitions, and the place of one, are what is known of them
 pub found_known : (all : List Definition) (known : Definitions) → AreKnown all known → found_by known ≡ found_among all

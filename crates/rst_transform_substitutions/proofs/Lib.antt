@@ -1,7 +1,7 @@
 pub mod Computing
+pub mod Copying
 pub mod Defining
 pub mod Expanding
-pub mod Leading
 pub mod Measuring
 pub mod NoReferences
 pub mod Remembering

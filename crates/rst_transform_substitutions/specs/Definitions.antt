@@ -6,11 +6,14 @@ use Rattle.std.specs.Option.{option_or}
 use Rattle.std.specs.Str.{bytes_eq}
 use Rattle.rst_tree.specs.declared.attrs.Attr.{Attr}
 use Rattle.rst_tree.specs.declared.key.Key.TheVariants.{OwnName}
+use Rattle.rst_tree.specs.declared.node.Node.{Node}
+use Rattle.rst_tree.specs.declared.node.Node.TheVariants.{Element, Text}
 use Rattle.rst_tree.specs.declared.tag.Tag.{Tag}
 use Rattle.rst_tree.specs.declared.tag.Tag.TheVariants.{SubstitutionDefinition}
 use Rattle.rst_tree.specs.Attributes.{as_text, value_of}
 use Rattle.rst_tree.specs.Forest.{Forest, bare, element, words}
 use Rattle.rst_transform_substitutions.specs.declared.listing.Defined.{Defined}
+use Rattle.rst_transform_substitutions.specs.declared.listing.Listed.{Listed}
 use Rattle.rst_transform_substitutions.specs.declared.definitions.Definitions.{Definitions}
 
 -- a definition: its name as it was written, and the nodes that replace a reference
@@ -63,6 +66,10 @@ pub record AreKnown (all : List Definition) (known : Definitions) : Type 0 where
   pub exact : (name : List ℕ) → get_by_text known.exact name ≡ place_of_name all name
   pub normalized : (name : List ℕ) → get_by_text known.normalized name ≡ place_of_normalized all name
 
+-- two are equal but for what is measured
+abbrev pub AreAlike : Definitions → Definitions → Type 0
+AreAlike old new = (new.contents ≡ old.contents) × ((new.exact ≡ old.exact) × (new.normalized ≡ old.normalized))
+
 -- the place that known definitions have for a name as it was written, and the place that a name finds
 abbrev pub known_place : Definitions → List ℕ → Option ℕ
 known_place known name = get_by_text known.exact name
@@ -73,3 +80,8 @@ known_found known name = option_or (get_by_text known.exact name) (get_by_text k
 -- the definition that a name finds among them
 abbrev pub found_by : Definitions → List ℕ → Option (ℕ × Forest)
 found_by known name = placed known.contents.items (known_found known name)
+
+-- what is listed, and of one more element the definition that it is
+abbrev pub TakesListed : Listed → Option ℕ → Node → Listed → Option ℕ → Type 0
+TakesListed old level (Text t) new inner = Unit {0}
+TakesListed old level (Element t a c l) new inner = map defined new.definitions.items ≡ map defined old.definitions.items ++ own_definition t a c

@@ -1,6 +1,6 @@
 -- What replaces a substitution reference (Markup Specification, 'Substitution References', 'Substitution Definitions'). How much may be visited
 -- for one is no rule of markup.
-use Rattle.std.specs.Prelude.{◌≡◌, ℕ, zero, suc, ◌+◌, ◌-◌, ◌==◌, nat_le, Bool, true, false, List, [], ◌∷◌, ◌++◌, codes, length, if◌then◌else◌, unwrap_or, Option, Some, None, Result, Ok, Err}
+use Rattle.std.specs.Prelude.{◌≡◌, ℕ, zero, suc, ◌+◌, ◌-◌, ◌==◌, nat_le, List, [], ◌∷◌, ◌++◌, codes, length, if◌then◌else◌, unwrap_or, Option, Some, None, Result, Ok, Err}
 use Rattle.std.specs.List.{list_any}
 use Rattle.std.specs.Str.{chars}
 use Rattle.rst_tree.specs.declared.attrs.Attr.{Attr}
@@ -120,3 +120,15 @@ abbrev pub Enters : {A : Type 0} → (ℕ → Expansion) → (A → ℕ → Expa
 Enters reference content (Ok done) = (left : ℕ) → reference left ≡ content done left
 Enters reference content (Err (By fault)) = (left : ℕ) → reference left ≡ Err fault
 Enters reference content (Err NoMemory) = Unit {0}
+
+-- if the call tells a fault, it is that of an expansion
+abbrev pub TellsFault : {A : Type 0} → Expansion → Result A Halted → Type 0
+TellsFault wanted (Err (By fault)) = wanted ≡ Err fault
+TellsFault wanted result = Unit {0}
+
+-- what replaces a reference, or the fault of an expansion; if it is counted at once
+abbrev pub CopiesAtOnce : {A : Type 0} → Expansion → ℕ → ℕ → (A → List Node) → Result (Option A) Halted → Type 0
+CopiesAtOnce wanted old new nodes (Ok (Some copy)) = wanted ≡ Ok (nodes copy, new)
+CopiesAtOnce wanted old new nodes (Ok None) = new ≡ old
+CopiesAtOnce wanted old new nodes (Err (By fault)) = wanted ≡ Err fault
+CopiesAtOnce wanted old new nodes (Err NoMemory) = Unit {0}

@@ -5,7 +5,8 @@ ghost use Rattle.std.specs.BTreeMap.{get_by_text};
 ghost use Rattle.std.proofs.Props.{props};
 
 use crate::listing::Listed;
-use crate::sizes::Size;
+use crate::order::order_of;
+use crate::sizes::{Measured, measure};
 use rst_transform_work::{copies, folded, text_or_empty};
 use rst_tree::{Attrs, Children, Key, Result, Tag};
 use std::alloc::Global;
@@ -19,8 +20,8 @@ use std::collections::BTreeMap;
 pub struct Definitions {
     /// The nodes that replace references.
     pub contents: Vec<Children>,
-    /// Their sizes, once they are measured.
-    pub sizes: Vec<Option<Size>>,
+    /// What is measured of each.
+    pub measured: Vec<Option<Measured>>,
     /// The place of the last definition of a name as it was written.
     exact: BTreeMap<String, usize>,
     /// The place of the last definition of a name by `name_of`.
@@ -34,15 +35,17 @@ impl Definitions {
     ghost use Rattle.std.specs.Prelude.{◌∷◌, ◌++◌, [], slice_get, MatchOption, None};
     ghost use Rattle.rst_transform_substitutions.specs.Definitions.{definitions_among, known_found, known_place, AreKnown, Definition};
     ghost use Rattle.rst_transform_substitutions.specs.Expanded.{within_element};
+    ghost use Rattle.rst_transform_substitutions.specs.Sizes.{AreSized};
 
-    /// The definitions among the nodes of a document, and in them.
+    /// The definitions among the nodes of a document, and in them, measured.
     pub fn of(alloc: Global, nodes: &Children) -> Result<Definitions>
-        ensures { IfOk result (AreKnown (definitions_among nodes.now)) }
+        ensures known { IfOk result (AreKnown (definitions_among nodes.now)) }
+        ensures sized { IfOk result AreSized }
     {
         let listed = Listed::of(alloc, nodes)?;
         let mut definitions = Definitions {
             contents: Vec::with_capacity(alloc, listed.definitions.len())?,
-            sizes: Vec::new(alloc),
+            measured: Vec::new(alloc),
             exact: BTreeMap::new(alloc),
             normalized: BTreeMap::new(alloc),
             remembered: BTreeMap::new(alloc),
@@ -53,6 +56,8 @@ impl Definitions {
         for name in &listed.names {
             definitions.remember(alloc, name)?;
         }
+        let order = order_of(alloc, &definitions, &listed.names)?;
+        measure(alloc, &mut definitions, &order)?;
         Ok(definitions)
     }
 

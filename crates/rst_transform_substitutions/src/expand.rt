@@ -1,21 +1,20 @@
 //! Substitution references give way to the contents of their definitions.
-ghost use Rattle.std.specs.Prelude.{◌≡◌, OnOk, IfOk};
+ghost use Rattle.std.specs.Prelude.{◌≡◌, IfOk};
 ghost use Rattle.std.specs.List.{flat_map, list_any};
 ghost use Rattle.rst_tree.specs.Nodes.{nodes_of};
 ghost use Rattle.rst_tree_index.specs.Kinds.{is_substitution_reference_node};
 ghost use Rattle.rst_transform_work.specs.Known.{Makes};
 ghost use Rattle.rst_transform_substitutions.specs.Definitions.{found_by, known_place};
 ghost use Rattle.rst_transform_substitutions.specs.Expanded.{expanded_in, unwrapped_reference, replaced, with_expansions, within_element};
-ghost use Rattle.rst_transform_substitutions.specs.Outcomes.{Remembers};
+ghost use Rattle.rst_transform_substitutions.specs.Sizes.{AreSized};
 
 use crate::definitions::Definitions;
-use crate::expansion::{is_substitution_reference, is_substitution_reference_node};
-use crate::numbering::numbering_of;
-use crate::outcomes::{Outcome, Outcomes, reference_outcome};
-use crate::sizes::sizes_of;
+use crate::expansion::{
+    Halted, expansion, is_substitution_reference, is_substitution_reference_node,
+};
 use rst_transform_work::{Context, Document, take_source, text_or_empty};
 use rst_tree::{Attrs, Children, Key, Level, Node, Result};
-use std::alloc::Global;
+use std::alloc::{AllocError, Global};
 use std::mem;
 
 /// Replaces each substitution reference, in document order, by the content of its definition, expanded in turn (Markup
@@ -44,13 +43,8 @@ use std::mem;
 pub fn expand(mut document: Document, context: &mut Context) -> Result<Document>
     ensures { IfOk result (Makes (with_expansions document) context.old context.new) }
 {
-    let mut definitions = Definitions::of(context.alloc, &document.children)?;
-    let numbering = numbering_of(context.alloc, &definitions)?;
-    let sizes = sizes_of(context.alloc, &definitions, &numbering.order)?;
-    definitions.sizes = sizes;
-    let mut outcomes = Outcomes::new(context.alloc, numbering.numbers);
-    let nodes = &mut document.children;
-    expand_in(&definitions, nodes, None, &mut outcomes, context)?;
+    let definitions = Definitions::of(context.alloc, &document.children)?;
+    expand_in(&definitions, &mut document.children, None, context)?;
     Ok(document)
 }
 
@@ -60,12 +54,10 @@ fn expand_in(
     definitions: &Definitions,
     nodes: &mut Children,
     within: Option<usize>,
-    outcomes: &mut Outcomes,
     context: &mut Context,
 ) -> Result<()>
-    requires { Remembers definitions.now outcomes.old }
-    ensures expanded { IfOk result (λ _. Makes (expanded_in (found_by definitions.now) (known_place definitions.now) within nodes.old) context.old context.new (nodes_of nodes.new)) }
-    ensures remembers { OnOk result (Remembers definitions.now outcomes.new) }
+    requires { AreSized definitions.now }
+    ensures { IfOk result (λ _. Makes (expanded_in (found_by definitions.now) (known_place definitions.now) within nodes.old) context.old context.new (nodes_of nodes.new)) }
 {
     for i in 0..nodes.len() {
         match nodes.get_mut(i) {
@@ -77,14 +69,14 @@ fn expand_in(
                 line,
             } => {
                 if is_substitution_reference(*tag) {
-                    *children = replaced(definitions, attrs, *line, within, outcomes, context)?;
+                    *children = replaced(definitions, attrs, *line, within, context)?;
                     continue;
                 }
                 if children.are_plain() {
                     continue;
                 }
                 let within = definitions.within_element(*tag, attrs, within);
-                expand_in(definitions, children, within, outcomes, context)?;
+                expand_in(definitions, children, within, context)?;
             }
         }
     }
@@ -130,22 +122,21 @@ fn replaced(
     attrs: &mut Attrs,
     line: usize,
     within: Option<usize>,
-    outcomes: &mut Outcomes,
     context: &mut Context,
 ) -> Result<Children>
-    requires { Remembers definitions.now outcomes.old }
-    ensures replaced { IfOk result (λ nodes. Makes (replaced (found_by definitions.now) within attrs.old line) context.old context.new (nodes_of nodes)) }
-    ensures remembers { OnOk result (Remembers definitions.now outcomes.new) }
+    requires { AreSized definitions.now }
+    ensures { IfOk result (λ nodes. Makes (replaced (found_by definitions.now) within attrs.old line) context.old context.new (nodes_of nodes)) }
 {
     let name = text_or_empty(attrs, Key::Refname);
-    match reference_outcome(context.alloc, definitions, name, within, outcomes)? {
-        Outcome::Nodes(nodes) => Ok(nodes),
-        Outcome::Fault(fault) => {
+    match expansion(context.alloc, definitions, name, within) {
+        Ok(nodes) => Ok(nodes),
+        Err(Halted::By(fault)) => {
             let text = fault.text(context.alloc, name)?;
             let report = context.report(Level::Error, line, text, true)?;
             let source = take_source(context.alloc, attrs)?;
             let node = context.problematic(report, source, line)?;
             Children::lone(context.alloc, node)
         }
+        Err(Halted::NoMemory) => Err(AllocError),
     }
 }

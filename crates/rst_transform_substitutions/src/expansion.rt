@@ -1,23 +1,24 @@
 //! What replaces one substitution reference.
-ghost use Rattle.std.specs.Prelude.{◌≡◌, ◌+◌, ◌≤◌, nat_le, true, take, vec_len, ◌-◌, IfOk, OnOk, Some};
+ghost use Rattle.std.specs.Prelude.{◌≡◌, ◌+◌, ◌≤◌, ℕ, List, nat_le, true, take, vec_len, ◌-◌, IfOk, OnOk, MatchOption, Some};
+ghost use Rattle.rst_tree.specs.Nodes.{nodes_of};
 ghost use Rattle.rst_tree_index.specs.Kinds.{is_substitution_reference, is_substitution_reference_node};
 ghost use Rattle.rst_transform_substitutions.specs.declared.expansion.ExpansionFault.TheVariants.{Undefined};
 ghost use Rattle.rst_transform_substitutions.specs.declared.expansion.Halted.TheVariants.{By as HaltedBy, NoMemory as HaltedByMemory};
 ghost use Rattle.rst_transform_substitutions.specs.Definitions.{found_by};
-ghost use Rattle.rst_transform_substitutions.specs.Expansion.{after_nodes, copied_element, expanded_copies, expansion_fault_text, given, remaining_visits, most_visited, nodes_for, size_of, ComesTo, Enters};
-ghost use Rattle.rst_transform_substitutions.specs.Sizes.{content_last, AreSized, CountsAtOnce};
+ghost use Rattle.rst_transform_substitutions.specs.Expansion.{after_nodes, copied_element, expanded_copies, expansion_fault_text, given, given_within, most_visited, nodes_for, path_from, size_of, ComesTo, CopiesAtOnce, Enters, TellsFault};
+ghost use Rattle.rst_transform_substitutions.specs.Sizes.{content_last, AreSized, Fits, GivesCopy};
 
 use crate::definitions::Definitions;
-use crate::sizes::{are_above, size_at};
-use rst_transform_work::{element, text_or_empty};
+use crate::sizes::{Measured, are_above};
+use rst_transform_work::{copies, element, item_at, text_or_empty};
 use rst_tree::{Attrs, Children, Key, Node, Result, Tag, Text};
 use std::alloc::{AllocError, Global};
 
 /// The most definitions that are gone into for one reference, each found in the one before.
-const MOST_NESTED: usize = 100;
+pub const MOST_NESTED: usize = 100;
 
 /// The most nodes and characters that are visited for one reference.
-const MOST_VISITED: usize = 10_000;
+pub const MOST_VISITED: usize = 10_000;
 
 /// The words of the message on a name without definition, before the name.
 const UNDEFINED: &str = "Undefined substitution referenced: \"";
@@ -37,17 +38,6 @@ pub enum ExpansionFault {
 }
 
 impl ExpansionFault {
-    /// An equal fault.
-    pub fn copy(&self) -> Result<ExpansionFault>
-        ensures { IfOk result (λ equal. equal ≡ self.now) }
-    {
-        match self {
-            ExpansionFault::Undefined(inner) => Ok(ExpansionFault::Undefined(inner.copy()?)),
-            ExpansionFault::Circular(inner) => Ok(ExpansionFault::Circular(inner.copy()?)),
-            ExpansionFault::TooLarge => Ok(ExpansionFault::TooLarge),
-        }
-    }
-
     /// The text of the message on a reference to a name that isn't replaced.
     pub fn text(&self, alloc: Global, name: &str) -> Result<Text>
         ensures { IfOk result (λ text. text ≡ expansion_fault_text name.now self.now) }
@@ -91,6 +81,20 @@ struct Progress {
 }
 
 impl Progress {
+    /// Nothing is visited yet for a reference; `within` is the definition that it is in.
+    fn new(alloc: Global, within: Option<usize>) -> Result<Progress>
+        ensures { IfOk result (λ progress. (progress.path.items ≡ path_from within) × (progress.left ≡ most_visited)) }
+    {
+        let mut path = Vec::new(alloc);
+        if let Some(place) = within {
+            path.push(place)?;
+        }
+        Ok(Progress {
+            path,
+            left: MOST_VISITED,
+        })
+    }
+
     /// Counts a node that is visited, and the characters of a text, if that many may still be visited.
     fn visit(&mut self, node: &Node) -> bool
         ensures fits { result ≡ nat_le (size_of node.now) self.old.left }
@@ -105,33 +109,48 @@ impl Progress {
         true
     }
 
-    /// Counts at once what is visited in the definition that was gone into last, if nothing is copied or no node is left of it, its size
-    /// is known and it can't lead to one on the path; whether it does.
-    fn passes(&mut self, definitions: &Definitions, copies: bool) -> Result<bool, Halted>
+    /// What is measured of the definition that was gone into last, if it can't lead to one on the path.
+    fn measured<'a>(&self, definitions: &'a Definitions) -> Result<Option<&'a Measured>, Halted>
+        requires sized { AreSized definitions.now }
+        requires left { self.now.left ≤ most_visited }
+        ensures fits { IfOk result (λ one. MatchOption one (Unit {0}) (λ one. Fits (given (found_by definitions.now) self.now.path.items) (expanded_copies (given (found_by definitions.now) self.now.path.items) (content_last definitions.now self.now.path.items) self.now.left) self.now.left one.now)) }
+        ensures fault { TellsFault (expanded_copies (given (found_by definitions.now) self.now.path.items) (content_last definitions.now self.now.path.items) self.now.left) result }
+    {
+        let Some(last) = self.path.last() else {
+            return Ok(None);
+        };
+        let Some(one) = item_at(&definitions.measured, *last) else {
+            return Ok(None);
+        };
+        if !are_above(&definitions.measured, one.size.nested, &self.path) {
+            return Ok(None);
+        }
+        let more = MOST_NESTED.saturating_sub(self.path.len());
+        if one.size.nested > more || one.size.visited > self.left {
+            return Err(Halted::By(ExpansionFault::TooLarge));
+        }
+        Ok(Some(one))
+    }
+
+    /// The nodes of the definition that was gone into last, counted at once, if they are known and it can't lead to one on the path.
+    fn copy<'a>(&mut self, definitions: &'a Definitions) -> Result<Option<&'a Children>, Halted>
         requires sized { AreSized definitions.now }
         requires left { self.old.left ≤ most_visited }
-        ensures passes { CountsAtOnce copies (expanded_copies (given (found_by definitions.now) self.old.path.items) (content_last definitions.now self.old.path.items) self.old.left) self.old.left self.new.left result }
+        ensures copy { CopiesAtOnce (expanded_copies (given (found_by definitions.now) self.old.path.items) (content_last definitions.now self.old.path.items) self.old.left) self.old.left self.new.left (λ copy. nodes_of copy.now) result }
         ensures path { self.new.path ≡ self.old.path }
         ensures left { self.new.left ≤ self.old.left }
     {
-        let Some(last) = self.path.last() else {
-            return Ok(false);
+        let Some(one) = self.measured(definitions)? else {
+            return Ok(None);
         };
-        let Some(size) = size_at(&definitions.sizes, *last) else {
-            return Ok(false);
+        let Some(copy) = &one.copy else {
+            return Ok(None);
         };
-        if copies && !size.is_empty {
-            return Ok(false);
+        if one.stuck.is_some() {
+            return Ok(None);
         }
-        if !are_above(&definitions.sizes, size.nested, &self.path) {
-            return Ok(false);
-        }
-        let more = MOST_NESTED.saturating_sub(self.path.len());
-        if size.nested > more || size.visited > self.left {
-            return Err(Halted::By(ExpansionFault::TooLarge));
-        }
-        self.left -= size.visited;
-        Ok(true)
+        self.left -= one.size.visited;
+        Ok(Some(copy))
     }
 }
 
@@ -162,19 +181,17 @@ pub fn is_substitution_reference(tag: Tag) -> bool
     matches!(tag, Tag::SubstitutionReference)
 }
 
-/// Visits the nodes and, if it copies them, puts the copies after those that are there, with the references in them replaced in turn.
+/// Puts copies of nodes after those that are there, with the references in them replaced in turn.
 fn add_expanded(
     alloc: Global,
     definitions: &Definitions,
     content: &Children,
-    copies: bool,
     progress: &mut Progress,
     nodes: &mut Vec<Node>,
 ) -> Result<(), Halted>
     requires sized { AreSized definitions.now }
     requires left { progress.old.left ≤ most_visited }
-    ensures visits { ComesTo (remaining_visits (expanded_copies (given (found_by definitions.now) progress.old.path.items) content.now progress.old.left)) (λ _. progress.new.left) result }
-    ensures nodes { copies ≡ true → ComesTo (after_nodes nodes.old.items (expanded_copies (given (found_by definitions.now) progress.old.path.items) content.now progress.old.left)) (λ _. (nodes.new.items, progress.new.left)) result }
+    ensures nodes { ComesTo (after_nodes nodes.old.items (expanded_copies (given (found_by definitions.now) progress.old.path.items) content.now progress.old.left)) (λ _. (nodes.new.items, progress.new.left)) result }
     ensures path { OnOk result (progress.new.path.items ≡ progress.old.path.items) }
     ensures left { OnOk result (progress.new.left ≤ progress.old.left) }
 {
@@ -184,9 +201,6 @@ fn add_expanded(
         }
         match node {
             Node::Text(text) => {
-                if !copies {
-                    continue;
-                }
                 nodes.push(Node::Text(text.copy()?))?;
                 continue;
             }
@@ -197,25 +211,19 @@ fn add_expanded(
                 line,
             } => {
                 if is_substitution_reference(*tag) {
-                    let inner = entered(
-                        alloc,
-                        definitions,
-                        text_or_empty(attrs, Key::Refname),
-                        progress,
-                    )?;
-                    if progress.passes(definitions, copies)? {
+                    let name = text_or_empty(attrs, Key::Refname);
+                    let inner = entered(alloc, definitions, name, progress)?;
+                    if let Some(copy) = progress.copy(definitions)? {
+                        nodes.append(&mut copies(alloc, copy)?.into_list())?;
                         progress.path.pop();
                         continue;
                     }
-                    add_expanded(alloc, definitions, inner, copies, progress, nodes)?;
+                    add_expanded(alloc, definitions, inner, progress, nodes)?;
                     progress.path.pop();
                     continue;
                 }
                 let mut inner = Vec::new(alloc);
-                add_expanded(alloc, definitions, children, copies, progress, &mut inner)?;
-                if !copies {
-                    continue;
-                }
+                add_expanded(alloc, definitions, children, progress, &mut inner)?;
                 nodes.push(copied_element(alloc, *tag, attrs, inner, *line)?)?;
                 continue;
             }
@@ -276,37 +284,69 @@ fn undefined(alloc: Global, name: &str) -> Result<Halted>
     Ok(Halted::By(ExpansionFault::Undefined(name)))
 }
 
+/// Ends with the fault of a reference of a name that isn't replaced, if what is measured tells it; `within` is the definition that it is in.
+fn find_fault(
+    alloc: Global,
+    definitions: &Definitions,
+    name: &str,
+    within: Option<usize>,
+) -> Result<(), Halted>
+    requires { AreSized definitions.now }
+    ensures { TellsFault (given (found_by definitions.now) (path_from within) name.now most_visited) result }
+{
+    let mut progress = Progress::new(alloc, within)?;
+    entered(alloc, definitions, name, &mut progress)?;
+    for _step in 0..MOST_NESTED {
+        let Some(one) = progress.measured(definitions)? else {
+            break;
+        };
+        let Some(stuck) = &one.stuck else {
+            break;
+        };
+        progress.left -= one.size.visited;
+        entered(alloc, definitions, stuck.as_str(), &mut progress)?;
+    }
+    Ok(())
+}
+
 /// The nodes for a reference of a name; `within` is the definition that it is in.
+///
+/// If they aren't known, it is first looked for a fault, so that nothing is copied in vain.
 pub fn expansion(
     alloc: Global,
     definitions: &Definitions,
     name: &str,
     within: Option<usize>,
-) -> Result<Vec<Node>, Halted>
+) -> Result<Children, Halted>
     requires { AreSized definitions.now }
-    ensures { ComesTo (nodes_for (found_by definitions.now) within name.now) (λ nodes. nodes.items) result }
+    ensures { ComesTo (nodes_for (found_by definitions.now) within name.now) (λ nodes. nodes_of nodes) result }
 {
-    let mut progress = Progress {
-        path: Vec::new(alloc),
-        left: MOST_VISITED,
-    };
-    if let Some(place) = within {
-        progress.path.push(place)?;
-    }
+    let mut progress = Progress::new(alloc, within)?;
     let content = entered(alloc, definitions, name, &mut progress)?;
-    if !progress.passes(definitions, false)? {
-        let mut nodes = Vec::new(alloc);
-        add_expanded(
-            alloc,
-            definitions,
-            content,
-            false,
-            &mut progress,
-            &mut nodes,
-        )?;
+    if let Some(copy) = progress.copy(definitions)? {
+        return Ok(copies(alloc, copy)?);
     }
-    progress.left = MOST_VISITED;
+    find_fault(alloc, definitions, name, within)?;
     let mut nodes = Vec::new(alloc);
-    add_expanded(alloc, definitions, content, true, &mut progress, &mut nodes)?;
-    Ok(nodes)
+    add_expanded(alloc, definitions, content, &mut progress, &mut nodes)?;
+    Ok(Children::of(nodes))
+}
+
+/// The nodes for a reference to the definition at a place, unless that is at fault.
+pub fn expanded_alone(
+    alloc: Global,
+    definitions: &Definitions,
+    place: usize,
+    content: &Children,
+) -> Result<Option<Children>>
+    requires { AreSized definitions.now }
+    ensures { IfOk result (λ copy. MatchOption copy (Unit {0}) (λ nodes. (more left : ℕ) (path : List ℕ) → GivesCopy nodes (expanded_copies (given_within (found_by definitions.now) more path) content.now left))) }
+{
+    let mut progress = Progress::new(alloc, Some(place))?;
+    let mut nodes = Vec::new(alloc);
+    match add_expanded(alloc, definitions, content, &mut progress, &mut nodes) {
+        Ok(()) => Ok(Some(Children::of(nodes))),
+        Err(Halted::By(_)) => Ok(None),
+        Err(Halted::NoMemory) => Err(AllocError),
+    }
 }

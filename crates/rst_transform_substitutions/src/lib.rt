@@ -5,7 +5,6 @@ mod definitions;
 pub mod expand;
 mod expansion;
 mod listing;
-mod numbering;
-mod outcomes;
+mod order;
 pub mod rows;
 mod sizes;

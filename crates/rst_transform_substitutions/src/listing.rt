@@ -1,7 +1,6 @@
 //! The substitution definitions of a document, and the names in its references.
 ghost use Rattle.std.specs.Prelude.{◌≡◌, map, IfOk};
-ghost use Rattle.rst_transform_substitutions.specs.Definitions.{defined, definitions_among};
-ghost use Rattle.rst_transform_substitutions.specs.Numbering.{refnames_in, TakesListed};
+ghost use Rattle.rst_transform_substitutions.specs.Definitions.{defined, definitions_among, TakesListed};
 
 use crate::expansion::is_substitution_reference;
 use rst_transform_work::text_or_empty;
@@ -27,8 +26,7 @@ pub struct Listed<'a> {
 impl<'a> Listed<'a> {
     /// The definitions among nodes, and in them, in preorder, and the names in references there.
     pub fn of(alloc: Global, nodes: &'a Children) -> Result<Listed<'a>>
-        ensures definitions { IfOk result (λ listed. map defined listed.definitions.items ≡ definitions_among nodes.now) }
-        ensures names { IfOk result (λ listed. map (λ name. name.now) listed.names.items ≡ refnames_in nodes.now) }
+        ensures { IfOk result (λ listed. map defined listed.definitions.items ≡ definitions_among nodes.now) }
     {
         let mut listed = Listed {
             definitions: Vec::new(alloc),

@@ -1,117 +1,103 @@
-//! How much the definitions come to when they are expanded, counted once for each.
-ghost use Rattle.std.specs.Prelude.{◌≡◌, IfOk};
+//! How much the definitions come to when they are expanded, measured once for each.
+ghost use Rattle.std.specs.Prelude.{◌≡◌, ◌≤◌, MatchOption, IfOk, OnOk};
 ghost use Rattle.std.specs.List.{list_all};
-ghost use Rattle.rst_transform_work.specs.Lists.{at_place};
-ghost use Rattle.rst_transform_substitutions.specs.Sizes.{added, deeper_size, is_above, measured, size_found, AreMeasured};
+ghost use Rattle.rst_transform_substitutions.specs.Definitions.{AreAlike};
+ghost use Rattle.rst_transform_substitutions.specs.Sizes.{is_above, AreSized, IsMeasured, IsSize, IsSizeOfReference};
 
 use crate::definitions::Definitions;
-use crate::expansion::{characters_in, is_substitution_reference, is_substitution_reference_node};
-use rst_transform_work::{put_at, text_or_empty};
-use rst_tree::{Children, Key, Node, Result};
+use crate::expansion::{
+    MOST_NESTED, MOST_VISITED, characters_in, expanded_alone, is_substitution_reference,
+};
+use rst_transform_work::{item_at, put_at, text_or_empty};
+use rst_tree::{Children, Key, Node, Result, Text};
 use std::alloc::Global;
 
-/// How much nodes come to when they are expanded, if no reference in them comes to a fault but for the limits.
+/// How much nodes come to.
 #[derive(Clone, Copy)]
 pub struct Size {
     /// How many nodes and characters are visited.
     pub visited: usize,
     /// How many definitions are gone into, each found in the one before.
     pub nested: usize,
-    /// Whether no node is left.
-    pub is_empty: bool,
 }
 
-impl Size {
-    /// The size of nodes of these two sizes.
-    fn and(self, other: Size) -> Size
-        ensures { result ≡ added self other }
-    {
-        Size {
-            visited: self.visited.saturating_add(other.visited),
-            nested: self.nested.max(other.nested),
-            is_empty: self.is_empty && other.is_empty,
-        }
-    }
-
-    /// The size of a reference to a definition of this size, if it fits a `usize`.
-    fn deeper_size(self) -> Option<Size>
-        ensures { result ≡ deeper_size self }
-    {
-        if self.nested == usize::MAX {
-            return None;
-        }
-        Some(Size {
-            nested: self.nested + 1,
-            ..self
-        })
-    }
+/// What is measured of a definition.
+#[derive(Drop)]
+pub struct Measured {
+    /// How much its nodes come to, up to the first reference that isn't known to be replaced.
+    pub size: Size,
+    /// The name in that reference, if there is one.
+    pub stuck: Option<Text>,
+    /// The nodes that replace a reference to it, if they are known.
+    pub copy: Option<Children>,
 }
 
-/// The sizes of the definitions, each by its place, if it is known: no reference in the definition leads to a name without definition or
-/// to a definition that leads back to itself. The order names the places, each after those that it refers to.
-pub fn sizes_of(
-    alloc: Global,
-    definitions: &Definitions,
-    order: &[usize],
-) -> Result<Vec<Option<Size>>>
-    ensures { IfOk result (λ sizes. AreMeasured definitions.now sizes.items) }
+/// Measures the definitions at some places, of which each comes after those that it refers to.
+pub fn measure(alloc: Global, definitions: &mut Definitions, order: &[usize]) -> Result<()>
+    ensures alike { OnOk result (AreAlike definitions.old definitions.new) }
+    ensures sized { IfOk result (λ _. AreSized definitions.new) }
 {
-    let mut sizes = vec![in alloc; None; definitions.contents.len()]?;
+    let count = definitions.contents.len();
+    definitions.measured = Vec::with_capacity(alloc, count)?;
+    for _done in 0..count {
+        definitions.measured.push(None)?;
+    }
     for place in order {
+        if item_at(&definitions.measured, *place).is_some() {
+            continue;
+        }
         let Some(content) = definitions.content(*place) else {
             continue;
         };
-        let size = measured(alloc, definitions, &sizes, content)?;
-        put_at(&mut sizes, *place, size);
+        let one = measure_one(alloc, definitions, *place, content)?;
+        put_at(&mut definitions.measured, *place, Some(one));
     }
-    Ok(sizes)
+    Ok(())
 }
 
-/// The size of the definition at a place, if it is known.
-pub fn size_at(sizes: &[Option<Size>], place: usize) -> Option<Size>
-    ensures { result ≡ at_place sizes.now place }
-{
-    *sizes.get(place)?
-}
-
-/// Whether at least `nested` definitions are nested in each of those at some places whose size is known.
-pub fn are_above(sizes: &[Option<Size>], nested: usize, places: &[usize]) -> bool
-    ensures { result ≡ list_all (is_above sizes.now nested) places.now }
-{
-    places.iter().all(|place| is_above(sizes, nested, *place))
-}
-
-/// Whether at least `nested` ones are nested in the definition at a place, if its size is known.
-fn is_above(sizes: &[Option<Size>], nested: usize, place: usize) -> bool
-    ensures { result ≡ is_above sizes.now nested place }
-{
-    match size_at(sizes, place) {
-        Some(size) => nested <= size.nested,
-        None => true,
-    }
-}
-
-/// The size of nodes, if that of each definition is known that a reference among them or in them finds.
-fn measured(
+/// What is measured of the definition at a place, by those that are measured already.
+fn measure_one(
     alloc: Global,
     definitions: &Definitions,
-    sizes: &[Option<Size>],
-    nodes: &Children,
-) -> Result<Option<Size>>
-    ensures { IfOk result (λ size. size ≡ measured (size_found definitions.now sizes.now) nodes.now) }
+    place: usize,
+    content: &Children,
+) -> Result<Measured>
+    requires { AreSized definitions.now }
+    ensures { IfOk result (IsMeasured definitions.now content.now) }
 {
-    let mut all = Size {
+    let mut size = Size {
         visited: 0,
         nested: 0,
-        is_empty: true,
     };
+    let stuck = add_size(alloc, definitions, content, &mut size)?;
+    let fits = stuck.is_none() && size.visited <= MOST_VISITED && size.nested < MOST_NESTED;
+    if !fits {
+        return Ok(Measured {
+            size,
+            stuck,
+            copy: None,
+        });
+    }
+    let copy = expanded_alone(alloc, definitions, place, content)?;
+    Ok(Measured { size, stuck, copy })
+}
+
+/// Adds the size of nodes to that of others, up to the first reference that isn't known to be replaced, and gives the name in it.
+fn add_size(
+    alloc: Global,
+    definitions: &Definitions,
+    nodes: &Children,
+    size: &mut Size,
+) -> Result<Option<Text>>
+    requires { AreSized definitions.now }
+    ensures size { IfOk result (IsSize definitions.now size.old nodes.now size.new) }
+    ensures nested { OnOk result (size.old.nested ≤ size.new.nested) }
+{
     for node in nodes.as_slice() {
-        let own = Size {
-            visited: characters_in(node).saturating_add(1),
-            nested: 0,
-            is_empty: is_substitution_reference_node(node),
-        };
-        all = all.and(own);
+        size.visited = size
+            .visited
+            .saturating_add(characters_in(node))
+            .saturating_add(1);
         let Node::Element {
             tag,
             attrs,
@@ -121,41 +107,59 @@ fn measured(
         else {
             continue;
         };
-        if is_substitution_reference(*tag) {
-            let Some(inner) = size_found(
-                alloc,
-                definitions,
-                sizes,
-                text_or_empty(attrs, Key::Refname),
-            )?
-            else {
-                return Ok(None);
-            };
-            all = all.and(inner);
+        if !is_substitution_reference(*tag) {
+            let stuck = add_size(alloc, definitions, children, size)?;
+            if stuck.is_some() {
+                return Ok(stuck);
+            }
             continue;
         }
-        let Some(inner) = measured(alloc, definitions, sizes, children)? else {
-            return Ok(None);
+        let name = text_or_empty(attrs, Key::Refname);
+        let Some(inner) = size_of_reference(alloc, definitions, name)? else {
+            let stuck = Text::from_str(alloc, name)?;
+            return Ok(Some(stuck));
         };
-        all = all.and(inner);
+        size.visited = size.visited.saturating_add(inner.visited);
+        size.nested = size.nested.max(inner.nested);
     }
-    Ok(Some(all))
+    Ok(None)
 }
 
-/// The size of a reference to a name: that of the definition that it finds, which is gone into.
-fn size_found(
-    alloc: Global,
-    definitions: &Definitions,
-    sizes: &[Option<Size>],
-    name: &str,
-) -> Result<Option<Size>>
-    ensures { IfOk result (λ size. size ≡ size_found definitions.now sizes.now name.now) }
+/// The size of a reference to a name, if it is known to be replaced.
+fn size_of_reference(alloc: Global, definitions: &Definitions, name: &str) -> Result<Option<Size>>
+    requires { AreSized definitions.now }
+    ensures { IfOk result (λ size. MatchOption size (Unit {0}) (IsSizeOfReference definitions.now name.now)) }
 {
     let Some(place) = definitions.find(alloc, name)? else {
         return Ok(None);
     };
-    let Some(size) = size_at(sizes, place) else {
+    let Some(one) = item_at(&definitions.measured, place) else {
         return Ok(None);
     };
-    Ok(size.deeper_size())
+    if one.stuck.is_some() || one.size.nested >= MOST_NESTED {
+        return Ok(None);
+    }
+    Ok(Some(Size {
+        nested: one.size.nested + 1,
+        ..one.size
+    }))
+}
+
+/// Whether at least `nested` definitions are nested in each of those at some places that are known to be replaced.
+pub fn are_above(measured: &[Option<Measured>], nested: usize, places: &[usize]) -> bool
+    ensures { result ≡ list_all (is_above measured.now nested) places.now }
+{
+    places
+        .iter()
+        .all(|place| is_above(measured, nested, *place))
+}
+
+/// Whether at least `nested` ones are nested in the definition at a place, if that is known to be replaced.
+fn is_above(measured: &[Option<Measured>], nested: usize, place: usize) -> bool
+    ensures { result ≡ is_above measured.now nested place }
+{
+    match item_at(measured, place) {
+        Some(one) => one.stuck.is_some() || nested <= one.size.nested,
+        None => true,
+    }
 }

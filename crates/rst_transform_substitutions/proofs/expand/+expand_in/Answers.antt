@@ -13,64 +13,55 @@ use Rattle.rst_transform_substitutions.proofs.Replacing.{element_holds, none_ope
 use Rattle.rst_transform_substitutions.proofs.expand.+expand_in.Goals as goal
 
 pub loop-i-init : goal.loop-i-init
-loop-i-init t c = record { replacing = Replacing-init (found_by c.args.definitions.now) (known_place c.args.definitions.now) c.args.within c.args.nodes.now c.args.context.now; remembers = c.requires }
+loop-i-init t c = Replacing-init (found_by c.args.definitions.now) (known_place c.args.definitions.now) c.args.within c.args.nodes.now c.args.context.now
 
 pub loop-i-preserved-in-Text : goal.loop-i-preserved-in-Text
-loop-i-preserved-in-Text t c = record {
-  replacing = Replacing-more (found_by c.args.definitions.now) (known_place c.args.definitions.now) c.args.within c.args.nodes.now c.args.context.now c.loop-i.context c.loop-i.context c.loop-i.nodes c.loop-i.i c.get_mut.result.now c.get_mut.result.now c.loop-i.invariant.replacing
-      (omega (arith, c.loop-i.invariant.replacing.same.same_len, c.len-i-end.ensures)) c.get_mut.ensures.value (text_stays (found_by c.args.definitions.now) (known_place c.args.definitions.now) c.args.within c.loop-i.context c.get_mut.result.now c.in-Text.field-0 c.in-Text.is);
-  remembers = c.loop-i.invariant.remembers;
-}
+loop-i-preserved-in-Text t c =
+    Replacing-more (found_by c.args.definitions.now) (known_place c.args.definitions.now) c.args.within c.args.nodes.now c.args.context.now c.loop-i.context c.loop-i.context c.loop-i.nodes c.loop-i.i c.get_mut.result.now c.get_mut.result.now c.loop-i.invariant
+    (omega (arith, c.loop-i.invariant.same.same_len, c.len-i-end.ensures)) c.get_mut.ensures.value (text_stays (found_by c.args.definitions.now) (known_place c.args.definitions.now) c.args.within c.loop-i.context c.get_mut.result.now c.in-Text.field-0 c.in-Text.is)
 
 pub loop-i-preserved-then-is_substitution_reference : goal.loop-i-preserved-then-is_substitution_reference
-loop-i-preserved-then-is_substitution_reference t c = record {
-  replacing = Replacing-more (found_by c.args.definitions.now) (known_place c.args.definitions.now) c.args.within c.args.nodes.now c.args.context.now c.loop-i.context c.replaced.new.context c.loop-i.nodes c.loop-i.i c.get_mut.result.now _ c.loop-i.invariant.replacing
-      (omega (arith, c.loop-i.invariant.replacing.same.same_len, c.len-i-end.ensures)) c.get_mut.ensures.value
-      (reference_gives (found_by c.args.definitions.now) (known_place c.args.definitions.now) c.args.within c.loop-i.context c.replaced.new.context c.get_mut.result.now c.in-Element.tag c.in-Element.attrs c.replaced.new.attrs c.in-Element.children c.in_ok-children-in-Element.field-0 c.in-Element.line
-      c.in-Element.is (sym c.is_substitution_reference.ensures ∙ c.if-is_substitution_reference.true) c.in_ok-children-in-Element.ensures.replaced);
-  remembers = c.in_ok-children-in-Element.ensures.remembers;
-}
+loop-i-preserved-then-is_substitution_reference t c =
+    Replacing-more (found_by c.args.definitions.now) (known_place c.args.definitions.now) c.args.within c.args.nodes.now c.args.context.now c.loop-i.context c.replaced.new.context c.loop-i.nodes c.loop-i.i c.get_mut.result.now _ c.loop-i.invariant
+    (omega (arith, c.loop-i.invariant.same.same_len, c.len-i-end.ensures)) c.get_mut.ensures.value
+    (reference_gives (found_by c.args.definitions.now) (known_place c.args.definitions.now) c.args.within c.loop-i.context c.replaced.new.context c.get_mut.result.now c.in-Element.tag c.in-Element.attrs c.replaced.new.attrs c.in-Element.children c.in_ok-children-in-Element.field-0 c.in-Element.line
+    c.in-Element.is (sym c.is_substitution_reference.ensures ∙ c.if-is_substitution_reference.true) c.in_ok-children-in-Element.ensures)
 
 pub loop-i-preserved-then-are_plain : goal.loop-i-preserved-then-are_plain
 loop-i-preserved-then-are_plain t c =
     let found = found_by c.args.definitions.now in
     let place = known_place c.args.definitions.now in
     let stay = plain_stays found place (within_element place c.in-Element.tag c.in-Element.attrs c.args.within) c.in-Element.children c.loop-i.context (sym c.are_plain.ensures ∙ c.if-are_plain.true) in
-    record {
-      replacing = Replacing-more found place c.args.within c.args.nodes.now c.args.context.now c.loop-i.context c.loop-i.context c.loop-i.nodes c.loop-i.i c.get_mut.result.now _ c.loop-i.invariant.replacing
-          (omega (arith, c.loop-i.invariant.replacing.same.same_len, c.len-i-end.ensures)) c.get_mut.ensures.value
-          (element_holds found place c.args.within c.loop-i.context c.loop-i.context c.get_mut.result.now c.in-Element.tag c.in-Element.attrs c.in-Element.children c.in-Element.children c.in-Element.line
-          c.in-Element.is (sym c.is_substitution_reference.ensures ∙ c.if-is_substitution_reference.false) stay);
-      remembers = c.loop-i.invariant.remembers;
-    }
+    Replacing-more found place c.args.within c.args.nodes.now c.args.context.now c.loop-i.context c.loop-i.context c.loop-i.nodes c.loop-i.i c.get_mut.result.now _ c.loop-i.invariant
+    (omega (arith, c.loop-i.invariant.same.same_len, c.len-i-end.ensures)) c.get_mut.ensures.value
+    (element_holds found place c.args.within c.loop-i.context c.loop-i.context c.get_mut.result.now c.in-Element.tag c.in-Element.attrs c.in-Element.children c.in-Element.children c.in-Element.line
+    c.in-Element.is (sym c.is_substitution_reference.ensures ∙ c.if-is_substitution_reference.false) stay)
 
 pub expand_in-requires : goal.expand_in-requires
 expand_in-requires t c =
     let m : node_height c.get_mut.result.now ≡ height c.in-Element.children + 1 = ap node_height c.in-Element.is in
     let k : node_height c.get_mut.result.now ≤ height c.args.nodes.now =
-    Same-child _ c.loop-i.nodes c.loop-i.i c.get_mut.result.now c.loop-i.invariant.replacing.same (omega (arith, c.loop-i.invariant.replacing.same.same_len, c.len-i-end.ensures)) c.get_mut.ensures.value in
+    Same-child _ c.loop-i.nodes c.loop-i.i c.get_mut.result.now c.loop-i.invariant.same (omega (arith, c.loop-i.invariant.same.same_len, c.len-i-end.ensures)) c.get_mut.ensures.value in
     let h : height c.in-Element.children + 1 ≤ height c.args.nodes.now = omega (arith, m, k) in
-    search (rules, h, c.loop-i.invariant.remembers)
+    search (rules, h)
 
 pub loop-i-preserved : goal.loop-i-preserved
-loop-i-preserved t c = record {
-  replacing = Replacing-more (found_by c.args.definitions.now) (known_place c.args.definitions.now) c.args.within c.args.nodes.now c.args.context.now c.loop-i.context c.expand_in.new.context c.loop-i.nodes c.loop-i.i c.get_mut.result.now _ c.loop-i.invariant.replacing
-      (omega (arith, c.loop-i.invariant.replacing.same.same_len, c.len-i-end.ensures)) c.get_mut.ensures.value
-      (element_holds (found_by c.args.definitions.now) (known_place c.args.definitions.now) c.args.within c.loop-i.context c.expand_in.new.context c.get_mut.result.now c.in-Element.tag c.in-Element.attrs c.in-Element.children c.expand_in.new.nodes c.in-Element.line
-      c.in-Element.is (sym c.is_substitution_reference.ensures ∙ c.if-is_substitution_reference.false) (rw (c.within_element-within.ensures) at c.in_ok-expand_in-in-Element.ensures.expanded));
-  remembers = c.in_ok-expand_in-in-Element.ensures.remembers;
-}
+loop-i-preserved t c =
+    Replacing-more (found_by c.args.definitions.now) (known_place c.args.definitions.now) c.args.within c.args.nodes.now c.args.context.now c.loop-i.context c.expand_in.new.context c.loop-i.nodes c.loop-i.i c.get_mut.result.now _ c.loop-i.invariant
+    (omega (arith, c.loop-i.invariant.same.same_len, c.len-i-end.ensures)) c.get_mut.ensures.value
+    (element_holds (found_by c.args.definitions.now) (known_place c.args.definitions.now) c.args.within c.loop-i.context c.expand_in.new.context c.get_mut.result.now c.in-Element.tag c.in-Element.attrs c.in-Element.children c.expand_in.new.nodes c.in-Element.line
+    c.in-Element.is (sym c.is_substitution_reference.ensures ∙ c.if-is_substitution_reference.false) (rw (c.within_element-within.ensures) at c.in_ok-expand_in-in-Element.ensures))
 
 -- all references are opened
-pub returns-in_ok-open_references-clause-expanded : goal.returns-in_ok-open_references-clause-expanded
-returns-in_ok-open_references-clause-expanded t c =
+pub returns-in_ok-open_references : goal.returns-in_ok-open_references
+returns-in_ok-open_references t c =
     subst (λ xs. Makes (expanded_in (found_by c.args.definitions.now) (known_place c.args.definitions.now) c.args.within c.args.nodes.now) c.args.context.now c.loop-i.context xs) (sym c.in_ok-open_references.ensures)
-    (Replacing-all (found_by c.args.definitions.now) (known_place c.args.definitions.now) c.args.within c.args.nodes.now c.args.context.now c.loop-i.context c.loop-i.nodes c.loop-i.i c.loop-i.invariant.replacing (omega (arith, c.loop-i.invariant.replacing.same.same_len, c.len-i-end.ensures)))
+    (Replacing-all (found_by c.args.definitions.now) (known_place c.args.definitions.now) c.args.within c.args.nodes.now c.args.context.now c.loop-i.context c.loop-i.nodes c.loop-i.i c.loop-i.invariant (omega (arith, c.loop-i.invariant.same.same_len, c.len-i-end.ensures)))
 
 -- or there are none
-pub returns-else-has_reference-clause-expanded : goal.returns-else-has_reference-clause-expanded
-returns-else-has_reference-clause-expanded t c =
+pub returns-else-has_reference : goal.returns-else-has_reference
+returns-else-has_reference t c =
     let are = ap nodes_of c.as_slice.ensures ∙ nodes_of-forest_of c.as_slice.result.now in
     let none = none_opened (nodes_of c.loop-i.nodes) (ap (list_any is_substitution_reference_node) are ∙ sym c.has_reference.ensures ∙ c.if-has_reference.false) in
     subst (λ xs. Makes (expanded_in (found_by c.args.definitions.now) (known_place c.args.definitions.now) c.args.within c.args.nodes.now) c.args.context.now c.loop-i.context xs) none
-    (Replacing-all (found_by c.args.definitions.now) (known_place c.args.definitions.now) c.args.within c.args.nodes.now c.args.context.now c.loop-i.context c.loop-i.nodes c.loop-i.i c.loop-i.invariant.replacing (omega (arith, c.loop-i.invariant.replacing.same.same_len, c.len-i-end.ensures)))
+    (Replacing-all (found_by c.args.definitions.now) (known_place c.args.definitions.now) c.args.within c.args.nodes.now c.args.context.now c.loop-i.context c.loop-i.nodes c.loop-i.i c.loop-i.invariant (omega (arith, c.loop-i.invariant.same.same_len, c.len-i-end.ensures)))

@@ -1,9 +1,6 @@
 use Rattle.rst_transform_substitutions.proofs.Replacing.{document_expanded}
 use Rattle.rst_transform_substitutions.proofs.expand.expand.Goals as goal
 
-pub expand_in-requires : goal.expand_in-requires
-expand_in-requires c = c.new-outcomes.ensures _ c.in_ok-numbering.ensures c.in_ok-sizes.ensures
-
 pub returns : goal.returns
 returns c =
-    document_expanded c.args.document c.args.context.now c.expand_in.new.context c.in_ok-definitions.definitions c.expand_in.new.nodes c.in_ok-definitions.ensures c.in_ok-expand_in.ensures.expanded
+    document_expanded c.args.document c.args.context.now c.expand_in.new.context c.in_ok-definitions.definitions c.expand_in.new.nodes c.in_ok-definitions.ensures.known c.in_ok-expand_in.ensures
