@@ -17,7 +17,7 @@ use Rattle.rst_markup_directives.specs.Call.{part_of, content_of, is_empty, IsCo
 use Rattle.rst_markup_directives.specs.Characters.{Text}
 use Rattle.rst_markup_directives.specs.Directive.{Read, Outcome, found, wrong, run_in, directive_options, read_parts, directive_by_layout, read_block, directive_outcome_at, of_block, judged_directive, directive_outcome}
 use Rattle.rst_markup_directives.specs.Judgement.{content_fault}
-use Rattle.rst_markup_directives.specs.Layout.{begins_field, before_field, parts_with_argument, parts_without_argument, layout_by, layout_at, layout_of}
+use Rattle.rst_markup_directives.specs.Layout.{begins_field, before_field, parts_without_argument, layout_by, layout_at, layout_of}
 use Rattle.rst_markup_directives.specs.Lines.{first_run, blank_len, after_blank, joined_nonempty}
 use Rattle.rst_markup_directives.specs.Options.{OptionSetting}
 use Rattle.rst_markup_directives.specs.Wrong.{Wrong as WrongInside, and_then, unless, fault_in}
@@ -78,9 +78,6 @@ pub run_in-le : (kind : Kind) (late : Bool) (H : Block) → length (run_in kind 
 unfolding run_in
 run_in-le kind late H = grind (arith, first_run-le H)
 
-with_within : (run : List Text) (all rest : ℕ) → length run ≤ all → rest ≤ all → IsWithin (parts_with_argument run rest) all
-with_within run all rest h k = record { argument = omega (arith, before_field-le run); first = omega arith; second = omega arith }
-
 without_within : (run : List Text) (all rest : ℕ) → length run ≤ all → rest ≤ all → IsWithin (parts_without_argument run all rest) all
 without_within run all rest h k =
     cond_both (before_field run == length run) _ _ (λ layout. IsWithin layout all)
@@ -90,7 +87,7 @@ without_within run all rest h k =
 parts_within : (content : ContentKind) (argument : ArgumentKind) (run : List Text) (all rest : ℕ) → length run ≤ all → rest ≤ all → IsWithin (layout_by content argument run all rest) all
 parts_within Paragraph argument run all rest h k = record { argument = omega arith; first = omega arith; second = omega arith }
 parts_within _ NoArgument run all rest h k = without_within run all rest h k
-parts_within _ _ run all rest h k = with_within run all rest h k
+parts_within _ _ run all rest h k = record { argument = omega (arith, before_field-le run); first = omega arith; second = omega arith }
 
 layout_within : (kind : Kind) (run : List Text) (all rest : ℕ) → length run ≤ all → rest ≤ all → IsWithin (layout_at kind run all rest) all
 unfolding layout_at

@@ -22,13 +22,9 @@ name_text B at call = slice_range (first_text (drop at B)) call.name.from call.n
 abbrev pub called_at : Bool → Block → ℕ → Invocation → Option Kind
 called_at code B at call = directive_named (name_text B at call) code
 
--- how many characters the line at this place of a block loses, which may be another number for the first line
-abbrev pub first_cut : Part → ℕ → ℕ
-first_cut block from = if from == 0 then block.first_cut else block.rest_cut
-
--- lines of a block as a part of what the block is a part of
+-- lines of a block as a part of what the block is a part of; the block's first line may lose another number of characters than the others
 abbrev pub part_of : Part → ℕ → ℕ → Part
-part_of block from to = record { from = block.from + from; to = block.from + to; first_cut = first_cut block from; rest_cut = block.rest_cut }
+part_of block from to = record { from = block.from + from; to = block.from + to; first_cut = if from == 0 then block.first_cut else block.rest_cut; rest_cut = block.rest_cut }
 
 -- the two parts of a directive's content: before its options, and after them
 abbrev pub content_of : Part → Layout → ℕ → Content

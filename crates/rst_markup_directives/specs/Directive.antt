@@ -42,13 +42,9 @@ pub record Read : Type 0 where
 abbrev pub directive_options : OptionSet → List Text → Result (List OptionSetting) Wrong
 directive_options options lines = and_then (settings_in options) (ok_or (fields_in lines) option_block)
 
--- a directive whose options are right, by its argument
-abbrev pub with_argument : Kind → Content → List OptionSetting → Result ArgumentMeaning Wrong → Result Read Wrong
-with_argument kind content options given = and_then (λ argument. Ok (record { kind = kind; argument = argument; options = options; content = content })) given
-
 -- a directive by its argument and its options, where what is wrong with an option counts first
 abbrev pub read_parts : Kind → Content → Result ArgumentMeaning Wrong → Result (List OptionSetting) Wrong → Result Read Wrong
-read_parts kind content given choices = and_then (λ options. with_argument kind content options given) choices
+read_parts kind content given choices = and_then (λ options. and_then (λ argument. Ok (record { kind = kind; argument = argument; options = options; content = content })) given) choices
 
 -- a directive by the run of lines that its block of `all` lines begins with, and by where the parts of the block are
 unfoldable pub directive_by_layout : Kind → Part → ℕ → List Text → Layout → Result Read Wrong

@@ -18,11 +18,6 @@ abbrev pub is_definition_place : Place → Bool
 is_definition_place Substitution = true
 is_definition_place _ = false
 
--- the place is at the level of sections
-abbrev pub is_top : Place → Bool
-is_top Top = true
-is_top _ = false
-
 -- a substitution definition may hold it
 abbrev pub is_substitutable : Allowed → Bool
 is_substitutable SubstitutionAlone = true
@@ -40,8 +35,10 @@ permitted kind place = permitted_by kind (is_definition_place place)
 
 -- a topic is allowed at the level of sections alone, a replacement text in a substitution definition alone
 abbrev pub place_fault : Allowed → Place → Option DirectiveFault
-place_fault Sections place = if is_top place then None else Some TopicNotHere
-place_fault SubstitutionAlone place = if is_definition_place place then None else Some ReplaceNotHere
+place_fault Sections Top = None
+place_fault Sections _ = Some TopicNotHere
+place_fault SubstitutionAlone Substitution = None
+place_fault SubstitutionAlone _ = Some ReplaceNotHere
 place_fault _ place = None
 
 -- The fault of a content by what it has to be, whether it is empty, and whether it is a single paragraph. A figure's is judged once its

@@ -27,10 +27,6 @@ before_field ts = prefix_len (λ t. not (begins_field t)) ts
 abbrev pub content_alone : List Text → ℕ → Layout
 content_alone run all = record { argument = 0; first = all; options = length run; second = all }
 
--- A block whose argument ends where the options begin. Its content begins at `rest`.
-abbrev pub parts_with_argument : List Text → ℕ → Layout
-parts_with_argument run rest = record { argument = before_field run; first = 0; options = before_field run; second = rest }
-
 -- A block without an argument: the lines before the options are content, and so are those from `rest` on. Without options it
 -- is content alone.
 abbrev pub parts_without_argument : List Text → ℕ → ℕ → Layout
@@ -38,11 +34,12 @@ parts_without_argument run all rest =
     if before_field run == length run then content_alone run all
     else record { argument = 0; first = before_field run; options = before_field run; second = rest }
 
--- a block by the content and the argument that its directive takes: a paragraph alone leaves no room for options
+-- a block by the content and the argument that its directive takes: a paragraph alone leaves no room for options, and an argument ends where
+-- the options begin
 abbrev pub layout_by : ContentKind → ArgumentKind → List Text → ℕ → ℕ → Layout
 layout_by Paragraph argument run all rest = content_alone run all
 layout_by _ Absent run all rest = parts_without_argument run all rest
-layout_by _ _ run all rest = parts_with_argument run rest
+layout_by _ _ run all rest = record { argument = before_field run; first = 0; options = before_field run; second = rest }
 
 -- the parts of a block of `all` lines that begins with this run; `rest` is the place of the first line after the run that
 -- isn't blank

@@ -16,31 +16,19 @@ digits_after_point t i = if has t i 46 then digit_count (drop (i + 1) t) else 0
 unfoldable pub number_len : Text → ℕ
 number_len t = if digit_count t == 0 || digits_after_point t (digit_count t) == 0 then digit_count t else digit_count t + 1 + digits_after_point t (digit_count t)
 
--- the units of lengths
-abbrev pub length_units : List Text
-length_units = codes "em" ∷ codes "ex" ∷ codes "px" ∷ codes "in" ∷ codes "cm" ∷ codes "mm" ∷ codes "pt" ∷ codes "pc" ∷ []
-
 -- the units of measures: those of lengths, and a percent sign where that is allowed
 abbrev pub units : Bool → List Text
-units percent = length_units ++ (if percent then codes "%" ∷ [] else [])
-
--- the text is one of the units
-unfoldable pub is_unit : Text → Bool → Bool
-is_unit t percent = list_any (is_exactly t) (units percent)
+units percent = codes "em" ∷ codes "ex" ∷ codes "px" ∷ codes "in" ∷ codes "cm" ∷ codes "mm" ∷ codes "pt" ∷ codes "pc" ∷ (if percent then codes "%" ∷ [] else [])
 
 -- the unit of a measure: what follows the number and the spaces after it
 abbrev pub unit_in : Text → Text
 unit_in t = unindented (drop (number_len t) t)
 
--- the unit, or `px` where there is none and one is wanted
-abbrev pub unit_or : Bool → Text → Text
-unit_or wanted unit = if wanted && is_blank unit then codes "px" else unit
-
--- a measure, without the spaces in it: a number, and a unit or nothing
+-- a measure, without the spaces in it: a number, and a unit or nothing, which is `px` where there is no unit and one is wanted
 unfoldable pub measure_of : Text → Bool → Bool → Option Text
 measure_of t percent wanted =
-    if number_len t == 0 || not (is_blank (unit_in t) || is_unit (unit_in t) percent) then None
-    else Some (take (number_len t) t ++ unit_or wanted (unit_in t))
+    if number_len t == 0 || not (is_blank (unit_in t) || list_any (is_exactly (unit_in t)) (units percent)) then None
+    else Some (take (number_len t) t ++ (if wanted && is_blank (unit_in t) then codes "px" else unit_in t))
 
 -- a scale: one to nine digits, maybe a percent sign with or without spaces before it
 unfoldable pub scale_of : Text → Option ℕ
@@ -50,17 +38,11 @@ scale_of t =
     then Some (number_of (digit_count t) t)
     else None
 
--- the horizontal alignments by their words
-abbrev pub horizontal_alignments : List (Text × Alignment)
-horizontal_alignments = (codes "left", Left) ∷ (codes "center", Center) ∷ (codes "right", Right) ∷ []
-
--- the vertical alignments by their words
-abbrev pub vertical_alignments : List (Text × Alignment)
-vertical_alignments = (codes "top", Top) ∷ (codes "middle", Middle) ∷ (codes "bottom", Bottom) ∷ []
-
 -- the alignments by their words, the vertical ones only where they are allowed
 abbrev pub alignments : Bool → List (Text × Alignment)
-alignments vertical = horizontal_alignments ++ (if vertical then vertical_alignments else [])
+alignments vertical =
+    (codes "left", Left) ∷ (codes "center", Center) ∷ (codes "right", Right)
+    ∷ (if vertical then (codes "top", Top) ∷ (codes "middle", Middle) ∷ (codes "bottom", Bottom) ∷ [] else [])
 
 -- the alignment that a word names
 unfoldable pub alignment_of : Text → Bool → Option Alignment

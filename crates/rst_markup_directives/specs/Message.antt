@@ -13,15 +13,11 @@ wrong_text many_arguments = codes "at most 1 argument permitted."
 wrong_text content_not_permitted = codes "no content permitted."
 wrong_text not_one_paragraph = codes "may contain a single paragraph only."
 
--- a line that names the directive, and one for what is wrong in it
-abbrev pub error_in : List ℕ → Wrong → List ℕ
-error_in name wrong = codes "Error in \"" ++ name ++ codes "\" directive:\n" ++ wrong_text wrong
-
 -- the text of the message on a wrong directive of this name; where a substitution definition may not hold it, the name is that of the definition
 abbrev pub fault_text : Fault → List ℕ → List ℕ
 fault_text not_in_substitution name = codes "Substitution definition \"" ++ name ++ codes "\" may hold only image or replace."
 fault_text unknown_directive name = codes "Unknown directive type \"" ++ name ++ codes "\"."
-fault_text (inside wrong) name = error_in name wrong
+fault_text (inside wrong) name = codes "Error in \"" ++ name ++ codes "\" directive:\n" ++ wrong_text wrong
 fault_text no_content name = codes "Content block expected for the \"" ++ name ++ codes "\" directive; none found."
 fault_text topic_not_here name = codes "The \"topic\" directive may not be used within topics or body elements."
 fault_text replace_not_here name = codes "Invalid context: the \"replace\" directive can only be used within a substitution definition."

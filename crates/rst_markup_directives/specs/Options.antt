@@ -62,13 +62,9 @@ fields_in ts = fields_of (groups ts)
 
 -- ---- what is wrong with them
 
--- the directive has no option of this name
-abbrev pub is_unknown : OptionSet → Text → Bool
-is_unknown options name = not (option_map_or (has_option options) (option_named name) false)
-
 -- the name of the first field that names no option of the directive
 abbrev pub first_unknown : OptionSet → List FieldText → Option Text
-first_unknown options fs = option_map (λ f. f.0) (find (λ f. is_unknown options f.0) fs)
+first_unknown options fs = option_map (λ f. f.0) (find (λ f. not (option_map_or (has_option options) (option_named f.0) false)) fs)
 
 -- the name is that of one of the fields
 abbrev pub is_field_name : Text → List FieldText → Bool
@@ -96,14 +92,10 @@ abbrev pub choices_of : OptionSet → List FieldText → Result (List OptionSett
 choices_of options [] = Ok []
 choices_of options (f ∷ fs) = onto_choices (option_setting options f) f.0 (choices_of options fs)
 
--- what is wrong with the names of fields: of all of them an unknown one, then a duplicate one
-abbrev pub wrong_name : OptionSet → List FieldText → Option Wrong
-wrong_name options fs = option_or (option_map unknown (first_unknown options fs)) (option_map duplicate (first_again [] fs))
-
 -- What the fields of a directive choose, or what is wrong: of all fields an unknown option, then a duplicate one, then a
 -- value that an option can't have.
 unfoldable pub settings_in : OptionSet → List FieldText → Result (List OptionSetting) Wrong
-settings_in options fs = unless (wrong_name options fs) (choices_of options fs)
+settings_in options fs = unless (option_or (option_map unknown (first_unknown options fs)) (option_map duplicate (first_again [] fs))) (choices_of options fs)
 
 -- ---- as they are kept
 

@@ -39,11 +39,7 @@ ids_of t = all_filled (map id_of (words_of t))
 
 -- ---- values
 
--- the name that a text gives: each run of white is one space, and case doesn't count
-abbrev pub called_by : Text → Meaning
-called_by t = called (name_of t)
-
--- the meaning of an option's value, if the option can have it
+-- The meaning of an option's value, if the option can have it. In a name each run of white is one space, and case doesn't count.
 abbrev pub option_meaning : OptionSet → OptionName → Text → Option Meaning
 option_meaning options Alt t = Some (plain t)
 option_meaning options Height t = option_map measured (measure_of t false false)
@@ -52,7 +48,7 @@ option_meaning options Scale t = option_map numbered (scale_of t)
 option_meaning options Align t = option_map placed (alignment_of t (has_vertical options))
 option_meaning options Target t = option_map (λ to. linked to t) (target_value t)
 option_meaning options Class t = option_map classed (ids_of t)
-option_meaning options NameOption t = Some (called_by t)
+option_meaning options NameOption t = Some (called (name_of t))
 option_meaning options FigureWidth t = option_map measured (measure_of t true true)
 option_meaning options FigureClass t = option_map classed (ids_of t)
 

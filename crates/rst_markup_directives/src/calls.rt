@@ -13,7 +13,7 @@ use super::fault::{Detail, DirectiveFault};
 use super::found::{Content, Directive, Place};
 use super::judgement::{content_fault, permitted};
 use super::kind::{ContentKind, Kind};
-use super::layout::{Layout, layout_of};
+use super::layout::layout_of;
 use super::lines::run_of;
 use super::options::{Setting, excerpt, fields_of, settings_of};
 use rst_markup_blocks::{Invocation, LineTest, Part, lines_end};
@@ -123,7 +123,10 @@ fn read_run(
 {
     let all = block.to - block.from;
     let layout = layout_of(kind, run, all, rest);
-    let content = content_of(block, layout, all);
+    let content = Content {
+        first: part_of(block, 0, layout.first),
+        second: part_of(block, layout.second, all),
+    };
     let part = part_of(block, 0, layout.argument);
     let Some(fields) = fields_of(alloc, &run[layout.options..])? else {
         return Ok(Err(Detail::InvalidOptionBlock));
@@ -161,25 +164,6 @@ fn part_of(block: Part, from: usize, to: usize) -> Part
     }
 }
 
-/// The content of a block with `all` lines.
-fn content_of(block: Part, layout: Layout, all: usize) -> Content
-    requires all { block.from + all ≤ block.to }
-    requires first { layout.first ≤ all }
-    requires second { layout.second ≤ all }
-    ensures { result ≡ spec.content_of block layout all }
-{
-    Content {
-        first: part_of(block, 0, layout.first),
-        second: part_of(block, layout.second, all),
-    }
-}
-
-fn is_empty(content: Content) -> bool
-    ensures { result ≡ spec.is_empty content }
-{
-    content.first.from == content.first.to && content.second.from == content.second.to
-}
-
 /// What was read of a directive, judged by its content.
 fn judged_directive(
     reading: Result<Reading, Detail>,
@@ -201,7 +185,8 @@ fn judged_directive(
             return Directive::Wrong { fault, source };
         }
     };
-    match content_fault(kind, is_empty(content), place, paragraph) {
+    let empty = content.first.from == content.first.to && content.second.from == content.second.to;
+    match content_fault(kind, empty, place, paragraph) {
         Some(fault) => Directive::Wrong { fault, source },
         None => Directive::Found {
             kind,

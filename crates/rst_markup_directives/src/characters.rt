@@ -1,7 +1,7 @@
 //! Characters of texts that are given as slices, and tables of words.
-ghost use Rattle.std.specs.Prelude.{◌≡◌, ◌≤◌, IfOk, length};
-ghost use Rattle.rst_text.specs.Block.{indentation, is_blank};
+ghost use Rattle.std.specs.Prelude.{◌≡◌, ◌≤◌, IfOk, length, if◌then◌else◌};
 ghost use Rattle.rst_text.specs.Text.{chars_of};
+ghost use Rattle.rst_text.specs.Block.{indentation, is_blank};
 ghost use Rattle.rst_text.specs.Characters.{is_among};
 ghost use Rattle.rst_markup_directives.specs.Characters as spec;
 
@@ -13,14 +13,7 @@ pub(crate) fn digit_count(text: &[char]) -> usize
     ensures value { result ≡ spec.digit_count text.now }
     ensures within { result ≤ length text.now }
 {
-    let mut n = 0;
-    for c in text {
-        if !c.is_ascii_digit() {
-            break;
-        }
-        n += 1;
-    }
-    n
+    text.iter().take_while(|c| c.is_ascii_digit()).count()
 }
 
 /// How many spaces a text begins with.
@@ -53,28 +46,15 @@ pub(crate) fn has_character(text: &[char], character: char) -> bool
     text.iter().any(|c| character == *c)
 }
 
-/// Whether a text is a word of ASCII, which is in lower case, without regard to the case of letters of ASCII.
-#[tactic(auto, unfolding(crate::specs::Characters::is_word))]
-pub(crate) fn is_word(text: &[char], word: &str) -> bool
-    ensures { result ≡ spec.is_word text.now word.now }
+/// Whether a text is a word of ASCII in lower case, exactly or without regard to the case of letters of ASCII.
+pub(crate) fn is_word(text: &[char], word: &str, exactly: bool) -> bool
+    ensures { result ≡ (if exactly then spec.is_exactly text.now else spec.is_word text.now) word.now }
 {
     text.len() == word.len()
-        && text
-            .iter()
-            .zip(word.as_bytes())
-            .all(|(c, b)| c.to_ascii_lowercase() == char::from(*b))
-}
-
-/// Whether a text is exactly a word of ASCII.
-#[tactic(auto, unfolding(crate::specs::Characters::is_exactly))]
-pub(crate) fn is_exactly(text: &[char], word: &str) -> bool
-    ensures { result ≡ spec.is_exactly text.now word.now }
-{
-    text.len() == word.len()
-        && text
-            .iter()
-            .zip(word.as_bytes())
-            .all(|(c, b)| *c == char::from(*b))
+        && text.iter().zip(word.as_bytes()).all(|(c, b)| {
+            let c = if exactly { *c } else { c.to_ascii_lowercase() };
+            c == char::from(*b)
+        })
 }
 
 /// Whether two texts are the same without regard to the case of letters of ASCII.
@@ -88,12 +68,12 @@ pub(crate) fn is_same_word(text: &[char], other: &[char]) -> bool
             .all(|(c, d)| c.to_ascii_lowercase() == d.to_ascii_lowercase())
 }
 
-/// What a table has for a text, without regard to the case of letters of ASCII.
-pub(crate) fn lookup<T: Copy>(text: &[char], table: &[(&str, T)]) -> Option<T>
-    ensures { result ≡ spec.lookup (spec.is_word text.now) (spec.table_of table.now) }
+/// What a table has for a text, exactly or without regard to the case of letters of ASCII.
+pub(crate) fn lookup<T: Copy>(text: &[char], table: &[(&str, T)], exactly: bool) -> Option<T>
+    ensures { result ≡ spec.lookup (if exactly then spec.is_exactly text.now else spec.is_word text.now) (spec.table_of table.now) }
 {
     for (word, value) in table {
-        if is_word(text, word) {
+        if is_word(text, word, exactly) {
             return Some(*value);
         }
     }

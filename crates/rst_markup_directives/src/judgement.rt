@@ -21,7 +21,7 @@ pub(crate) fn permitted(kind: Option<Kind>, place: Place) -> Result<Kind, Direct
     }
 }
 
-/// The fault of a directive's content, which is empty or not, and maybe a single paragraph.
+/// The fault of a directive's content, which is empty or not, and maybe a single paragraph; or else of its place.
 #[tactic(auto, unfolding(crate::specs::Judgement::content_fault))]
 pub(crate) fn content_fault(
     kind: Kind,
@@ -39,18 +39,11 @@ pub(crate) fn content_fault(
         (ContentKind::Paragraph, false) if !paragraph => {
             Some(DirectiveFault::Inside(Detail::NotOneParagraph))
         }
-        _ => place_fault(kind.allowed, place),
-    }
-}
-
-/// The fault of a directive's place.
-fn place_fault(allowed: Allowed, place: Place) -> Option<DirectiveFault>
-    ensures { result ≡ spec.place_fault allowed place }
-{
-    match (allowed, place) {
-        (Allowed::Sections, Place::Top) | (Allowed::Substitution, Place::Substitution) => None,
-        (Allowed::Sections, _) => Some(DirectiveFault::TopicNotHere),
-        (Allowed::Substitution, _) => Some(DirectiveFault::ReplaceNotHere),
-        _ => None,
+        _ => match (kind.allowed, place) {
+            (Allowed::Sections, Place::Top) | (Allowed::Substitution, Place::Substitution) => None,
+            (Allowed::Sections, _) => Some(DirectiveFault::TopicNotHere),
+            (Allowed::Substitution, _) => Some(DirectiveFault::ReplaceNotHere),
+            _ => None,
+        },
     }
 }

@@ -113,7 +113,7 @@ impl Kind {
     pub(crate) fn of(text: &[char]) -> Option<Kind>
         ensures { result ≡ spec.directive_named text.now true }
     {
-        lookup(text, &DIRECTIVES)
+        lookup(text, &DIRECTIVES, false)
     }
 }
 

@@ -1,8 +1,11 @@
 //! Measures, scales and alignments.
 ghost use Rattle.std.specs.Prelude.{◌≡◌, ◌≤◌, length, IfOk, option_map};
+ghost use Rattle.std.specs.List.{list_any};
+ghost use Rattle.rst_text.specs.Text.{chars_of};
+ghost use Rattle.rst_markup_directives.specs.Characters.{is_exactly};
 ghost use Rattle.rst_markup_directives.specs.Measure as spec;
 
-use super::characters::{digit_count, is_empty_text, is_exactly, spaces, text_from};
+use super::characters::{digit_count, is_empty_text, is_word, lookup, spaces, text_from};
 use rst_markup_lines::number_of;
 use rst_text::has;
 use std::alloc::{AllocError, Global};
@@ -17,6 +20,16 @@ pub enum Alignment {
     Center,
     Right,
 }
+
+/// The alignments by their words, the vertical ones last.
+const ALIGNMENTS: [(&str, Alignment); 6] = [
+    ("left", Alignment::Left),
+    ("center", Alignment::Center),
+    ("right", Alignment::Right),
+    ("top", Alignment::Top),
+    ("middle", Alignment::Middle),
+    ("bottom", Alignment::Bottom),
+];
 
 /// How many characters the number has that a measure begins with: digits, maybe a point and digits; 0 if there is
 /// none.
@@ -34,19 +47,18 @@ fn number_len(text: &[char]) -> usize
 }
 
 /// Whether a text is the unit of a length, or a percent sign where that is allowed.
-#[tactic(auto, unfolding(crate::specs::Measure::is_unit))]
 fn is_unit(text: &[char], percent: bool) -> bool
-    ensures { result ≡ spec.is_unit text.now percent }
+    ensures { result ≡ list_any (is_exactly text.now) (spec.units percent) }
 {
-    is_exactly(text, "em")
-        || (is_exactly(text, "ex")
-            || (is_exactly(text, "px")
-                || (is_exactly(text, "in")
-                    || (is_exactly(text, "cm")
-                        || (is_exactly(text, "mm")
-                            || (is_exactly(text, "pt")
-                                || (is_exactly(text, "pc")
-                                    || (percent && is_exactly(text, "%")))))))))
+    is_word(text, "em", true)
+        || (is_word(text, "ex", true)
+            || (is_word(text, "px", true)
+                || (is_word(text, "in", true)
+                    || (is_word(text, "cm", true)
+                        || (is_word(text, "mm", true)
+                            || (is_word(text, "pt", true)
+                                || (is_word(text, "pc", true)
+                                    || (percent && is_word(text, "%", true)))))))))
 }
 
 /// A measure without its spaces, where it is right: a number and maybe a unit, which is `px` if there is none and one
@@ -57,8 +69,8 @@ pub(crate) fn measure_of(
     text: &[char],
     percent: bool,
     wanted: bool,
-) -> Result<Option<Vec<char>>, AllocError>
-    ensures { IfOk result (λ measure. option_map (λ v. v.items) measure ≡ spec.measure_of text.now percent wanted) }
+) -> Result<Option<String>, AllocError>
+    ensures { IfOk result (λ measure. option_map chars_of measure ≡ spec.measure_of text.now percent wanted) }
 {
     let n = number_len(text);
     let after_number = &text[n..];
@@ -72,7 +84,7 @@ pub(crate) fn measure_of(
     } else {
         measure.extend_from_slice(unit)?;
     }
-    Ok(Some(measure))
+    Ok(Some(text_from(alloc, &measure)?))
 }
 
 /// The number of a scale: one to nine digits, maybe a percent sign with or without spaces before it.
@@ -85,7 +97,7 @@ pub(crate) fn scale_of(alloc: Global, text: &[char]) -> Result<Option<u64>, Allo
         return Ok(None);
     }
     let after_number = &text[n..];
-    if !is_empty_text(after_number) && !is_exactly(&after_number[spaces(after_number)..], "%") {
+    if !is_empty_text(after_number) && !is_word(&after_number[spaces(after_number)..], "%", true) {
         return Ok(None);
     }
     let text = text_from(alloc, text)?;
@@ -97,21 +109,10 @@ pub(crate) fn scale_of(alloc: Global, text: &[char]) -> Result<Option<u64>, Allo
 pub(crate) fn alignment_of(text: &[char], vertical: bool) -> Option<Alignment>
     ensures { result ≡ spec.alignment_of text.now vertical }
 {
-    if is_exactly(text, "left") {
-        Some(Alignment::Left)
-    } else if is_exactly(text, "center") {
-        Some(Alignment::Center)
-    } else if is_exactly(text, "right") {
-        Some(Alignment::Right)
-    } else if !vertical {
-        None
-    } else if is_exactly(text, "top") {
-        Some(Alignment::Top)
-    } else if is_exactly(text, "middle") {
-        Some(Alignment::Middle)
-    } else if is_exactly(text, "bottom") {
-        Some(Alignment::Bottom)
+    let alignments = if vertical {
+        &ALIGNMENTS[..]
     } else {
-        None
-    }
+        &ALIGNMENTS[..3]
+    };
+    lookup(text, alignments, true)
 }

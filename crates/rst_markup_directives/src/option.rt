@@ -39,6 +39,6 @@ impl OptionName {
     pub fn of(text: &[char]) -> Option<OptionName>
         ensures { result ≡ spec.option_named text.now }
     {
-        lookup(text, &OPTIONS)
+        lookup(text, &OPTIONS, false)
     }
 }

@@ -1,6 +1,5 @@
 //! The values of options.
 ghost use Rattle.std.specs.Prelude.{◌≡◌, option_map, IfOk};
-ghost use Rattle.rst_markup_directives.specs.Measure as measures;
 ghost use Rattle.rst_markup_directives.specs.Value as spec;
 
 use super::characters::{is_empty_text, text_from};
@@ -42,9 +41,12 @@ pub(crate) fn option_value(
 {
     match option {
         OptionName::Alt => Ok(Some(OptionValue::Text(text_from(alloc, value)?))),
-        OptionName::Height => measure(alloc, value, false, false),
-        OptionName::Width => measure(alloc, value, true, false),
-        OptionName::FigureWidth => measure(alloc, value, true, true),
+        OptionName::Height | OptionName::Width | OptionName::FigureWidth => {
+            let percent = option != OptionName::Height;
+            let wanted = option == OptionName::FigureWidth;
+            let measure = measure_of(alloc, value, percent, wanted)?;
+            Ok(measure.map(|measure| OptionValue::Measure(measure)))
+        }
         OptionName::Scale => Ok(scale_of(alloc, value)?.map(|number| OptionValue::Number(number))),
         OptionName::Align => {
             let vertical = options != OptionSet::Figure;
@@ -62,23 +64,6 @@ pub(crate) fn option_value(
             let text = text_from(alloc, value)?;
             Ok(Some(OptionValue::Name(name_of(alloc, text.as_str())?)))
         }
-    }
-}
-
-fn measure(
-    alloc: Global,
-    value: &[char],
-    percent: bool,
-    wanted: bool,
-) -> Result<Option<OptionValue>, AllocError>
-    ensures { IfOk result (λ meaning. option_map spec.meaning_of meaning ≡ option_map spec.measured (measures.measure_of value.now percent wanted)) }
-{
-    match measure_of(alloc, value, percent, wanted)? {
-        Some(measure) => {
-            let measure = text_from(alloc, &measure)?;
-            Ok(Some(OptionValue::Measure(measure)))
-        }
-        None => Ok(None),
     }
 }
 
