@@ -1,29 +1,17 @@
 -- Line blocks that are being made.
-use Rattle.std.proofs.Common.{◌≡◌, ℕ, suc, ◌+◌, ◌<◌, Bool, true, false, min, List, [], ◌∷◌, ◌++◌, length, map, fold, take, drop, get_or, drop-cons, add-one, Some, Result, Ok, Err, refl, sym, ap, ap₂, subst, ◌∙◌, arith, append_assoc}
-use Rattle.std.specs.Prelude.{slice_get, nat_lt, if◌then◌else◌}
+use Rattle.std.proofs.Common.{◌≡◌, ℕ, suc, ◌+◌, ◌<◌, Bool, true, false, List, [], ◌∷◌, ◌++◌, length, map, take, drop, get_or, drop-cons, add-one, Result, Ok, Err, refl, sym, ap, ap₂, subst, ◌∙◌, arith, append_assoc}
+use Rattle.std.specs.Prelude.{nat_lt, if◌then◌else◌}
 use Rattle.std.specs.List.{flat_map}
 use Rattle.std.proofs.lemmas.List.{append-nil}
 use Rattle.rst_tree.specs.declared.node.Node.{Node}
 use Rattle.rst_tree.specs.declared.tag.Tag.TheVariants.{Line, LineBlock}
 use Rattle.rst_block_nodes.specs.Elements.{element_of}
-use Rattle.rst_block_nodes.specs.LineBlocks.{IndentedLine, LinePart, level_line, deeper_lines, least_indent, deeper_len, with_deeper, line_parts, part_node, line_block, MakesLineBlock}
+use Rattle.rst_block_nodes.specs.LineBlocks.{IndentedLine, LinePart, level_line, deeper_lines, deeper_len, with_deeper, line_parts, part_node, line_block, MakesLineBlock}
 use Rattle.rst_block_nodes.specs.Numbered.{then_read, ◌>>=◌, just, each}
 use Rattle.rst_block_nodes.specs.Readings.{texted}
 use Rattle.rst_block_nodes.specs.declared.fault.BlockFault.{BlockFault}
 use Rattle.rst_block_nodes.specs.declared.fault.BlockFault.TheVariants.{TooDeep, NoMemory}
 use Rattle.rst_block_nodes.specs.declared.texted.Texted.{Texted}
-
--- the least of n and the indentations of lines
-abbrev pub least_with : ℕ → List IndentedLine → ℕ
-least_with n lines = fold min n (map (λ (l : IndentedLine). l.indent) lines)
-
--- of lines of which this is the first
-pub least_of : (lines : List IndentedLine) (l : IndentedLine) → slice_get lines 0 ≡ Some l → least_with l.indent lines ≡ least_indent lines
-least_of [] l h = cc
-least_of (m ∷ ms) l h =
-    let same : l ≡ m = cc in
-    let least : min m.indent m.indent ≡ m.indent = omega arith in
-    rw same (ap (λ n. least_with n ms) least)
 
 -- the line at a place, and those after it
 pub line_at : (lines : List IndentedLine) (place : ℕ) (l : IndentedLine) → place < length lines → l ≡ get_or lines place l → drop place lines ≡ l ∷ drop (place + 1) lines

@@ -97,28 +97,20 @@ delimiter_text Space = codes " "
 delimiter_text Equals = codes "="
 
 -- an option's argument, which has what comes before it as an attribute
-abbrev pub option_argument_node : Delimiter → List ℕ → ℕ → Node
-option_argument_node delimiter text line =
-    element_of OptionArgument (attr DelimiterKey (TextValue (delimiter_text delimiter)) ∷ []) (text_nodes text) line
-
--- the string of an option and its argument, if it has one
-abbrev pub option_nodes : List ℕ → Option (Delimiter × List ℕ) → ℕ → List Node
-option_nodes string None line = plain_node OptionString line string ∷ []
-option_nodes string (Some (delimiter, text)) line = plain_node OptionString line string ∷ option_argument_node delimiter text line ∷ []
+abbrev pub argument_nodes : Option (Delimiter × List ℕ) → ℕ → List Node
+argument_nodes None line = []
+argument_nodes (Some (delimiter, text)) line =
+    element_of OptionArgument (attr DelimiterKey (TextValue (delimiter_text delimiter)) ∷ []) (text_nodes text) line ∷ []
 
 -- an option with its string and its argument, if it has one
 abbrev pub option_node : List ℕ → Option (Delimiter × List ℕ) → ℕ → Node
-option_node string argument line = element_of OptionTag [] (option_nodes string argument line) line
+option_node string argument line = element_of OptionTag [] (plain_node OptionString line string ∷ argument_nodes argument line) line
 
 -- ---- labels
 
 -- an element that begins with a label
 abbrev pub labelled_node : Tag → List Attr → List ℕ → ℕ → Node
 labelled_node tag attrs label_text line = element_of tag attrs (plain_node Label line label_text ∷ []) line
-
--- named by its digits, which it shows
-abbrev pub named_node : List ℕ → ℕ → Node
-named_node label line = labelled_node Footnote (attr Mark (TextValue label) ∷ attr OwnName (TextValue (name_in label)) ∷ []) label line
 
 -- `#` alone, or with a name
 abbrev pub numbered_attrs : List ℕ → List ℕ → List Attr
@@ -127,20 +119,13 @@ numbered_attrs label name =
     then attr Auto (Number 1) ∷ attr Mark (TextValue label) ∷ []
     else attr Auto (Number 1) ∷ attr Mark (TextValue label) ∷ attr OwnName (TextValue (encode_utf8_all (name_of name))) ∷ []
 
--- a footnote that gets its number; it shows no label yet
-abbrev pub numbered_node : List ℕ → ℕ → Node
-numbered_node label line = labelled_node Footnote (numbered_attrs label (drop 1 (chars label))) [] line
-
--- `*`
-abbrev pub symbol_node : List ℕ → ℕ → Node
-symbol_node label line = labelled_node Footnote (attr Auto (TextValue (codes "*")) ∷ attr Mark (TextValue label) ∷ []) [] line
-
--- a footnote by its label, which `#` or `*` may begin
+-- A footnote by its label: one that begins with `#` or `*` gets its number or its symbol, and shows no label yet; any other is digits, which it
+-- shows and is named by.
 abbrev pub footnote_node : List ℕ → ℕ → Node
 footnote_node label line =
-    if begins_with 35 (chars label) then numbered_node label line
-    else if begins_with 42 (chars label) then symbol_node label line
-    else named_node label line
+    if begins_with 35 (chars label) then labelled_node Footnote (numbered_attrs label (drop 1 (chars label))) [] line
+    else if begins_with 42 (chars label) then labelled_node Footnote (attr Auto (TextValue (codes "*")) ∷ attr Mark (TextValue label) ∷ []) [] line
+    else labelled_node Footnote (attr Mark (TextValue label) ∷ attr OwnName (TextValue (name_in label)) ∷ []) label line
 
 -- a citation, named by its label, which it shows
 abbrev pub citation_node : List ℕ → ℕ → Node

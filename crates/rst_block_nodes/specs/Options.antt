@@ -1,5 +1,6 @@
 -- What the options of directives do to elements (Directives, 'Common Options', 'Image', 'Figure', 'Code').
-use Rattle.std.specs.Prelude.{ℕ, Bool, true, false, List, [], ◌∷◌, ◌++◌, map, codes, Option, Some, None, encode_utf8_all}
+use Rattle.std.specs.Prelude.{ℕ, Bool, if◌then◌else◌, List, [], ◌∷◌, ◌++◌, map, codes, Option, Some, None, encode_utf8_all}
+use Rattle.std.specs.Option.{option_or, option_to_list}
 use Rattle.rst_text.specs.Names.{name_of, normalized_white}
 use Rattle.rst_tree.specs.Attributes.{attr, value_of, with_attr, without_key}
 use Rattle.rst_tree.specs.Forest.{bare}
@@ -25,36 +26,21 @@ use Rattle.rst_block_nodes.specs.Elements.{element_of, preserving, text_nodes}
 
 -- ---- options as attributes
 
--- the attribute that an option gives a figure
-abbrev pub figure_key : OptionName → Option Key
-figure_key AlignOption = Some Align
-figure_key FigureWidth = Some Width
-figure_key FigureClass = Some Classes
-figure_key _ = None
-
--- the attribute that an option gives any other directive that has a body
-abbrev pub body_key : OptionName → Option Key
-body_key ClassOption = Some Classes
-body_key NameOption = Some OwnName
-body_key _ = None
-
--- of an image, whose alignment may be the figure's
-abbrev pub image_key : Option Key → OptionName → Option Key
-image_key align ClassOption = Some Classes
-image_key align NameOption = Some OwnName
-image_key align AltOption = Some Alt
-image_key align HeightOption = Some Height
-image_key align WidthOption = Some Width
-image_key align ScaleOption = Some Scale
-image_key align AlignOption = align
-image_key align _ = None
-
--- the attribute that an option gives an element
+-- the attribute that an option gives an element; the alignment of an image in a figure is the figure's
 abbrev pub option_key : Holder → OptionName → Option Key
-option_key Image option = image_key (Some Align) option
-option_key FigureImage option = image_key None option
-option_key Figure option = figure_key option
-option_key Body option = body_key option
+option_key Figure AlignOption = Some Align
+option_key Figure FigureWidth = Some Width
+option_key Figure FigureClass = Some Classes
+option_key Figure _ = None
+option_key _ ClassOption = Some Classes
+option_key _ NameOption = Some OwnName
+option_key Body _ = None
+option_key _ AltOption = Some Alt
+option_key _ HeightOption = Some Height
+option_key _ WidthOption = Some Width
+option_key _ ScaleOption = Some Scale
+option_key Image AlignOption = Some Align
+option_key _ _ = None
 
 -- what an alignment is called
 abbrev pub alignment_name : Alignment → List ℕ
@@ -97,15 +83,10 @@ directive_element element choices line = Element element (with_choices Body choi
 
 -- ---- program code
 
--- the classes that a language gives program code
-abbrev pub language_classes : Option (List ℕ) → List (List ℕ)
-language_classes (Some word) = codes "code" ∷ word ∷ []
-language_classes None = codes "code" ∷ []
-
 -- `code`, the language, and then the classes of the options
 abbrev pub code_classes : Option (List ℕ) → Option Value → Value
-code_classes language (Some (Listed more)) = Listed (language_classes language ++ more)
-code_classes language _ = Listed (language_classes language)
+code_classes language (Some (Listed more)) = Listed (codes "code" ∷ option_to_list language ++ more)
+code_classes language _ = Listed (codes "code" ∷ option_to_list language)
 
 -- attributes with the classes of program code in a language
 abbrev pub code_attrs : Option (List ℕ) → List Attr → List Attr
@@ -122,15 +103,10 @@ abbrev pub with_alt : Option (List ℕ) → List Attr → List Attr
 with_alt (Some text) attrs = with_attr Alt (TextValue text) attrs
 with_alt None attrs = attrs
 
--- what an image is, in a figure or not, to its options
-abbrev pub image_holder : Bool → Holder
-image_holder true = FigureImage
-image_holder false = Image
-
 -- the image by itself, with an alternate text unless the choices have one
 abbrev pub image_node : List ℕ → List OptionSetting → ℕ → Bool → Option (List ℕ) → Node
 image_node uri choices line in_figure alt =
-    Element ImageTag (with_choices (image_holder in_figure) choices (with_alt alt (attr Uri (TextValue uri) ∷ []))) bare line
+    Element ImageTag (with_choices (if in_figure then FigureImage else Image) choices (with_alt alt (attr Uri (TextValue uri) ∷ []))) bare line
 
 -- the attributes of a reference to a name, or to a URI, which also has its source
 abbrev pub link_attrs : Destination → List ℕ → List Attr
@@ -147,15 +123,10 @@ abbrev pub link_meant : Meaning → Option (Destination × List ℕ)
 link_meant (linked to source) = Some (to, encode_utf8_all source)
 link_meant _ = None
 
--- the first of two links, or the second where the first is missing
-abbrev pub first_link : Option (Destination × List ℕ) → Option (Destination × List ℕ) → Option (Destination × List ℕ)
-first_link (Some link) more = Some link
-first_link None more = more
-
 -- what the first `target` among choices refers to
 abbrev pub link_chosen : List OptionSetting → Option (Destination × List ℕ)
 link_chosen [] = None
-link_chosen (ch ∷ more) = first_link (link_meant ch.1) (link_chosen more)
+link_chosen (ch ∷ more) = option_or (link_meant ch.1) (link_chosen more)
 
 -- an image, with the reference round it, if it leads anywhere
 abbrev pub linked_by : Option (Destination × List ℕ) → Node → ℕ → Node

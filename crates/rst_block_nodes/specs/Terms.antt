@@ -15,17 +15,13 @@ use Rattle.rst_block_nodes.specs.declared.terms.Unfinished.{Unfinished}
 use Rattle.rst_block_nodes.specs.Elements.{element_of, text_nodes}
 use Rattle.rst_block_nodes.specs.Texts.{counting}
 
--- a character, and whether it was escaped
-abbrev pub letter_of : ℕ → Bool → Letter
-letter_of c escaped = record { character = c; escaped = escaped }
-
 -- the characters that are left when escapes are gone
 abbrev pub letters_from : Bool → List ℕ → List Letter
 letters_from escaped [] = []
 letters_from escaped (c ∷ cs) =
     if escapes c escaped then letters_from true cs
     else if escaped && is_white c then letters_from false cs
-    else letter_of c escaped ∷ letters_from false cs
+    else record { character = c; escaped = escaped } ∷ letters_from false cs
 
 -- the letter is this character, and not escaped
 abbrev pub is_bare : Letter → ℕ → Bool

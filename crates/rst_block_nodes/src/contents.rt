@@ -16,9 +16,7 @@ pub fn append(nodes: &mut Vec<Node>, mut more: Vec<Node>) -> Result<()>
         *nodes = more;
         return Ok(());
     }
-    if !more.is_empty() {
-        nodes.append(&mut more)?;
-    }
+    nodes.append(&mut more)?;
     Ok(())
 }
 

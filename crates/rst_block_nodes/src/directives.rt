@@ -2,7 +2,7 @@
 ghost use Rattle.std.specs.Prelude.{◌≡◌, option_map, IfOk};
 ghost use Rattle.rst_block_nodes.specs.Admonitions.{title_class, with_title_class};
 ghost use Rattle.rst_markup_directives.specs.Options.{choices_in};
-ghost use Rattle.rst_block_nodes.specs.Options.{directive_element, code_element, code_classes};
+ghost use Rattle.rst_block_nodes.specs.Options.{directive_element, code_element};
 
 use super::nodes::{element_of, preserving, text_nodes};
 use super::settings::{Holder, set_options};
@@ -32,10 +32,9 @@ pub fn directive_element(
 /// word `admonition-` with the id of the title's text (Docutils, Directives, 'Generic Admonition').
 ///
 /// The only refusal is [`AllocError`].
-pub fn with_title_class(alloc: Global, admonition: Node, title: &Node) -> Result<Node>
+pub fn with_title_class(alloc: Global, mut admonition: Node, title: &Node) -> Result<Node>
     ensures { IfOk result (λ node. node ≡ with_title_class admonition title.now) }
 {
-    let mut admonition = admonition;
     if let Node::Element { attrs, .. } = &mut admonition {
         if !attrs.has(Key::Classes) {
             attrs.set(Key::Classes, title_class(alloc, title)?)?;
@@ -73,26 +72,17 @@ pub fn code_block(
 {
     let mut attrs = preserving(alloc)?;
     set_options(alloc, &mut attrs, Holder::Body, options)?;
-    let own = attrs.remove(Key::Classes);
-    attrs.set(Key::Classes, code_classes(alloc, language, own)?)?;
-    let nodes = text_nodes(alloc, text)?;
-    Ok(element_of(Tag::LiteralBlock, attrs, nodes, line))
-}
-
-/// The classes of program code.
-fn code_classes(alloc: Global, language: Option<&str>, own: Option<Value>) -> Result<Value>
-    ensures { IfOk result (λ classes. classes ≡ code_classes (option_map (λ word. word.now) language.entry) own) }
-{
     let mut classes = Texts::new(alloc);
     classes.push(Text::from_str(alloc, "code")?)?;
     if let Some(word) = language {
         classes.push(Text::from_str(alloc, word)?)?;
     }
-    let Some(Value::List(more)) = own else {
-        return Ok(Value::List(classes));
-    };
-    for class in more.as_slice() {
-        classes.push(class.copy()?)?;
+    if let Some(Value::List(own)) = attrs.remove(Key::Classes) {
+        for class in own.as_slice() {
+            classes.push(class.copy()?)?;
+        }
     }
-    Ok(Value::List(classes))
+    attrs.set(Key::Classes, Value::List(classes))?;
+    let nodes = text_nodes(alloc, text)?;
+    Ok(element_of(Tag::LiteralBlock, attrs, nodes, line))
 }

@@ -6,8 +6,9 @@ ghost use Rattle.rst_block_nodes.specs.Options.{image_element, link_chosen, link
 
 use super::nodes::element_of;
 use super::settings::{Holder, set_options};
-use super::values::{name_value, normalized, text_value};
+use super::values::{name_value, text_value};
 use rst_markup_directives::{OptionValue, Setting, Target};
+use rst_text::normalized_white;
 use rst_tree::{Attrs, Key, Node, Result, Tag, Text, Value};
 use std::alloc::Global;
 
@@ -56,7 +57,7 @@ fn link_of(options: &[Setting]) -> Option<(&Target, &str)>
 }
 
 /// A reference round an image: what it leads to, and how it is written.
-#[tactic(auto, using(rst_text::proofs::TextLemmas::bytes_encoded))]
+#[tactic(auto, using(rst_text::proofs::TextLemmas::bytes_encoded, rst_text::proofs::TextLemmas::bytes_of_chars))]
 fn linked(alloc: Global, image: Node, to: &Target, source: &str, line: usize) -> Result<Node>
     ensures { IfOk result (λ node. node ≡ linked_node image (destination_of to.now) source.now line) }
 {
@@ -65,7 +66,7 @@ fn linked(alloc: Global, image: Node, to: &Target, source: &str, line: usize) ->
     match to {
         Target::Uri(uri) => attrs.set(Key::Refuri, text_value(alloc, uri.as_str())?)?,
         Target::Name(name) => {
-            let normalized_name = normalized(alloc, name.as_str())?;
+            let normalized_name = normalized_white(alloc, name.as_str())?;
             attrs.set(Key::Name, Value::Text(Text::new(normalized_name)))?;
             attrs.set(Key::Refname, name_value(alloc, name.as_str())?)?;
         }

@@ -16,11 +16,10 @@ use std::alloc::Global;
 pub fn footnote(alloc: Global, label: &str, line: usize) -> Result<Node>
     ensures { IfOk result (λ node. node ≡ footnote_node label.now line) }
 {
-    let mut attrs = Attrs::new(alloc);
+    let mut attrs = Attrs::lone(alloc, Key::Mark, text_value(alloc, label)?)?;
     if begins_with('#', label) {
         let name = skip(label, 1);
         attrs.set(Key::Auto, Value::Number(1))?;
-        attrs.set(Key::Mark, text_value(alloc, label)?)?;
         if !is_blank(name) {
             attrs.set(Key::OwnName, name_value(alloc, name)?)?;
         }
@@ -28,10 +27,8 @@ pub fn footnote(alloc: Global, label: &str, line: usize) -> Result<Node>
     }
     if begins_with('*', label) {
         attrs.set(Key::Auto, text_value(alloc, "*")?)?;
-        attrs.set(Key::Mark, text_value(alloc, label)?)?;
         return labelled(alloc, Tag::Footnote, attrs, "", line);
     }
-    attrs.set(Key::Mark, text_value(alloc, label)?)?;
     attrs.set(Key::OwnName, name_value(alloc, label)?)?;
     labelled(alloc, Tag::Footnote, attrs, label, line)
 }

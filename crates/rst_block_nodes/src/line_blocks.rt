@@ -39,36 +39,6 @@ impl Model for IndentedText {
     ghost view = { λ l. record { indent = l.indent; line = l.line; text_line = l.text_line; text = chars (string_bytes l.text) } };
 }
 
-impl IndentedText {
-    ghost use Rattle.rst_block_nodes.specs.LineBlocks.{indented_by};
-
-    /// A line that has this indentation.
-    fn of(indent: usize, bar: BarText) -> IndentedText
-        ensures { result ≡ indented_by indent bar }
-    {
-        IndentedText {
-            indent,
-            line: bar.line,
-            text_line: bar.text_line,
-            text: bar.text,
-        }
-    }
-
-    /// The indentation.
-    fn indent(&self) -> usize
-        ensures { result ≡ self.now.indent }
-    {
-        self.indent
-    }
-
-    /// The number of the line with the bar.
-    fn line(&self) -> usize
-        ensures { result ≡ self.now.line }
-    {
-        self.line
-    }
-}
-
 /// The line block of some lines, of a level of nesting (Markup Specification, 'Line Blocks'), and the messages of their
 /// texts. Lines that are deeper than the least indentation form line blocks of the next level, as many neighbours as there
 /// are in each. A line with nothing after its bar is as deep as the one before it, the first not at all.
@@ -88,7 +58,12 @@ pub fn line_block(
     let mut last = 0;
     for bar in lines {
         last = bar.indent.unwrap_or(last);
-        texts.push(IndentedText::of(last, bar))?;
+        texts.push(IndentedText {
+            indent: last,
+            line: bar.line,
+            text_line: bar.text_line,
+            text: bar.text,
+        })?;
     }
     if deepest < level {
         return Err(BlockFault::TooDeep {
@@ -102,24 +77,17 @@ pub fn line_block(
 fn first_line(lines: &[IndentedText]) -> usize
     ensures { result ≡ first_line lines.now }
 {
-    match lines.first() {
-        Some(first) => first.line(),
-        None => 0,
-    }
+    lines.first().map_or(0, |first| first.line)
 }
 
 /// The least indentation, 0 where there is no line.
 fn least_indent(lines: &[IndentedText]) -> usize
     ensures { result ≡ least_indent lines.now }
 {
-    let Some(first) = lines.first() else {
-        return 0;
-    };
-    let mut least = first.indent();
-    for line in lines {
-        least = least.min(line.indent());
-    }
-    least
+    let indents = lines.iter().map(|line| line.indent);
+    indents
+        .reduce(|least, indent| least.min(indent))
+        .unwrap_or(0)
 }
 
 /// How many lines at the front are deeper than `least`.
@@ -127,10 +95,7 @@ fn deeper_len(lines: &[IndentedText], least: usize) -> usize
     ensures value { result ≡ deeper_len least lines.now }
     ensures within { result ≤ length lines.now }
 {
-    lines
-        .iter()
-        .take_while(|line| line.indent() > least)
-        .count()
+    lines.iter().take_while(|line| line.indent > least).count()
 }
 
 /// The line block of some lines, inside which `levels` more may nest.
@@ -152,8 +117,8 @@ fn block_of(
     let mut place = 0;
     while place < lines.len() {
         let run = deeper_len(&lines[place..], least);
+        let bar = &lines[place];
         if run == 0 {
-            let bar = &lines[place];
             let text = bar.text.as_str();
             let mut made = with_text(alloc, Tag::Line, bar.line, text, bar.text_line, numbers)?;
             nodes.push(made.element)?;
@@ -162,9 +127,7 @@ fn block_of(
             continue;
         }
         if levels == 0 {
-            return Err(BlockFault::TooDeep {
-                line: lines[place].line(),
-            });
+            return Err(BlockFault::TooDeep { line: bar.line });
         }
         let inner = &lines[place..place + run];
         let mut made = block_of(alloc, inner, levels - 1, numbers)?;

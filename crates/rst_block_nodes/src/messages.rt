@@ -19,10 +19,7 @@ pub fn message(
     ensures { IfOk result (λ node. node ≡ message_node level line text.now (option_map (λ lines. lines.now) block.entry)) }
 {
     let text = Text::from_str(alloc, text)?;
-    let block = match block {
-        Some(lines) => Some(Text::from_str(alloc, lines)?),
-        None => None,
-    };
+    let block = block.map(|lines| Text::from_str(alloc, lines)).transpose()?;
     let note = Note {
         level,
         line,

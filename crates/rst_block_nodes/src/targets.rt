@@ -1,15 +1,15 @@
 //! Targets and substitution definitions.
-ghost use Rattle.std.specs.Prelude.{◌≡◌, ◌∷◌, [], string_bytes, option_map, IfOk};
+ghost use Rattle.std.specs.Prelude.{◌≡◌, string_bytes, option_map, IfOk};
 ghost use Rattle.std.specs.List.{list_any};
 ghost use Rattle.rst_tree_index.specs.Kinds.{is_substitution_reference_node};
-ghost use Rattle.rst_markup_directives.specs.Target.{destination_of};
 ghost use Rattle.rst_block_nodes.specs.Values.{normalized, unescaped};
 ghost use Rattle.rst_block_nodes.specs.Elements.{substitution_definition_node};
-ghost use Rattle.rst_block_nodes.specs.Targets.{target_node, name_attrs, leading_attrs, may_replace, may_stand};
+ghost use Rattle.rst_block_nodes.specs.Targets.{target_node, may_replace, may_stand};
 
 use super::nodes::element_of;
-use super::values::{name_value, normalized, text_value, unescaped};
+use super::values::{name_value, text_value, unescaped};
 use rst_markup_directives::{Target, target_value};
+use rst_text::normalized_white;
 use rst_tree::{Attrs, Entry, Key, Node, Result, Tag, Text, Value};
 use std::alloc::Global;
 
@@ -18,50 +18,39 @@ use std::alloc::Global;
 /// to a URI, or marks its own place where nothing is left of its text. One without a name is anonymous.
 ///
 /// The only refusal is [`AllocError`].
+#[tactic(auto, using(rst_text::proofs::TextLemmas::bytes_encoded))]
 pub fn target(alloc: Global, name: Option<&str>, text: &str, line: usize) -> Result<Node>
     ensures { IfOk result (λ node. node ≡ target_node (option_map (λ written. written.now) name.entry) text.now line) }
 {
     let destination = target_value(alloc, text)?;
     // Registration gives it up to three attributes more.
     let mut list = Vec::with_capacity(alloc, 5)?;
-    list.push(name_attr(alloc, name)?)?;
+    list.push(match name {
+        Some(written) => {
+            let name = unescaped(alloc, written)?;
+            Entry::new(Key::OwnName, name_value(alloc, name.as_str())?)
+        }
+        None => Entry::new(Key::Anonymous, Value::Number(1)),
+    })?;
     let mut attrs = Attrs::of(list);
-    add_lead(alloc, &mut attrs, destination)?;
-    Ok(element_of(Tag::Target, attrs, Vec::new(alloc), line))
-}
-
-/// The attribute with a target's name, or the one of a target without a name.
-fn name_attr(alloc: Global, name: Option<&str>) -> Result<Entry>
-    ensures { IfOk result (λ attr. attr ∷ [] ≡ name_attrs (option_map (λ written. written.now) name.entry)) }
-{
-    let Some(written) = name else {
-        return Ok(Entry::new(Key::Anonymous, Value::Number(1)));
-    };
-    let name = unescaped(alloc, written)?;
-    Ok(Entry::new(Key::OwnName, name_value(alloc, name.as_str())?))
-}
-
-/// Adds to a target's attributes what it leads to.
-#[tactic(auto, using(rst_text::proofs::TextLemmas::bytes_encoded))]
-fn add_lead(alloc: Global, attrs: &mut Attrs, destination: Option<Target>) -> Result<()>
-    ensures { IfOk result (λ _. attrs.new ≡ leading_attrs attrs.old (option_map destination_of destination)) }
-{
     match destination {
-        Some(Target::Name(name)) => attrs.set(Key::Refname, name_value(alloc, name.as_str())?),
-        Some(Target::Uri(uri)) => attrs.set(Key::Refuri, Value::Text(Text::new(uri))),
-        None => Ok(()),
+        Some(Target::Name(name)) => attrs.set(Key::Refname, name_value(alloc, name.as_str())?)?,
+        Some(Target::Uri(uri)) => attrs.set(Key::Refuri, Value::Text(Text::new(uri)))?,
+        None => {}
     }
+    Ok(element_of(Tag::Target, attrs, Vec::new(alloc), line))
 }
 
 /// The name of a substitution definition that is written in this way: without escapes, each run of white characters as one
 /// space, and none at the ends. Case is kept.
 ///
 /// The only refusal is [`AllocError`].
+#[tactic(auto, using(rst_text::proofs::TextLemmas::bytes_of_chars))]
 pub fn substitution_name(alloc: Global, written: &str) -> Result<String>
     ensures { IfOk result (λ name. string_bytes name ≡ normalized (unescaped written.now)) }
 {
     let name = unescaped(alloc, written)?;
-    normalized(alloc, name.as_str())
+    normalized_white(alloc, name.as_str())
 }
 
 /// A substitution definition, without its content; the name is that of [`substitution_name`] (Document Tree,

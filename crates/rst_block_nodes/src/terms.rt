@@ -79,19 +79,14 @@ fn letters_of(alloc: Global, text: &[char]) -> Result<Vec<Letter>, AllocError>
     let mut letters = Vec::new(alloc);
     let mut escaped = false;
     for c in text {
-        if escapes(*c, escaped) {
-            escaped = true;
-            continue;
+        let begins = escapes(*c, escaped);
+        if !begins && !(escaped && is_white(*c)) {
+            letters.push(Letter {
+                character: *c,
+                escaped,
+            })?;
         }
-        if escaped && is_white(*c) {
-            escaped = false;
-            continue;
-        }
-        letters.push(Letter {
-            character: *c,
-            escaped,
-        })?;
-        escaped = false;
+        escaped = begins;
     }
     Ok(letters)
 }
@@ -157,10 +152,10 @@ fn dark_len(letters: &[Letter]) -> usize
 fn letter_bytes(alloc: Global, letters: &[Letter]) -> Result<Text, AllocError>
     ensures { IfOk result (λ text. text ≡ letter_bytes letters.now) }
 {
-    let mut text = String::new(alloc);
-    for letter in letters {
-        text.push(letter.character)?;
-    }
+    let text: String = letters
+        .iter()
+        .map(|letter| letter.character)
+        .collect(alloc)?;
     Ok(Text::new(text))
 }
 
@@ -230,16 +225,12 @@ fn closed_head(alloc: Global, heads: Unfinished, notes: usize, line: usize) -> R
     ensures nodes { IfOk result (λ closed_head. closed_head.nodes.items ≡ []) }
 {
     let Unfinished { mut done, nodes } = heads;
-    if done.is_empty() {
-        let term = element_of(Tag::Term, counting(alloc, notes)?, nodes, line);
-        done.push(term)?;
-        return Ok(Unfinished {
-            done,
-            nodes: Vec::new(alloc),
-        });
-    }
-    let classifier = element_of(Tag::Classifier, Attrs::new(alloc), nodes, line);
-    done.push(classifier)?;
+    let head = if done.is_empty() {
+        element_of(Tag::Term, counting(alloc, notes)?, nodes, line)
+    } else {
+        element_of(Tag::Classifier, Attrs::new(alloc), nodes, line)
+    };
+    done.push(head)?;
     Ok(Unfinished {
         done,
         nodes: Vec::new(alloc),

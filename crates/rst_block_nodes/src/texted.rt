@@ -38,12 +38,6 @@ pub fn with_text(
 {
     let first = numbers.given();
     let Pieces { nodes, notes } = inline_from(alloc, text, text_line, first)?;
-    if notes.is_empty() {
-        return Ok(Texted {
-            element: element_of(tag, Attrs::new(alloc), nodes, line),
-            notes: Vec::new(alloc),
-        });
-    }
     numbers.give(notes.len());
     let notes = messages_of(alloc, notes, first)?;
     let attrs = counting(alloc, notes.len())?;

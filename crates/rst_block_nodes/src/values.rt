@@ -1,12 +1,12 @@
 //! Texts as values of attributes.
-ghost use Rattle.std.specs.Prelude.{◌≡◌, string_bytes, IfOk};
+ghost use Rattle.std.specs.Prelude.{◌≡◌, IfOk};
 ghost use Rattle.rst_text.specs.Names.{name_in};
 ghost use Rattle.std.specs.Cow.{cow_str_bytes};
 ghost use Rattle.rst_tree.specs.declared.attrs.Value.TheVariants.{Text as TextValue};
-ghost use Rattle.rst_block_nodes.specs.Values.{normalized, unescaped, list_of_texts};
+ghost use Rattle.rst_block_nodes.specs.Values.{unescaped, list_of_texts};
 
 use rst_inline::unescape;
-use rst_text::{name_of, normalized_white};
+use rst_text::name_of;
 use rst_tree::{Result, Text, Texts, Value};
 use std::alloc::Global;
 use std::borrow::CowStr;
@@ -26,14 +26,6 @@ pub(crate) fn name_value(alloc: Global, text: &str) -> Result<Value>
 {
     let name = name_of(alloc, text)?;
     Ok(Value::Text(Text::new(name)))
-}
-
-/// A text with each run of white characters as one space, and none at its ends.
-#[tactic(auto, using(rst_text::proofs::TextLemmas::bytes_of_chars))]
-pub(crate) fn normalized(alloc: Global, text: &str) -> Result<String>
-    ensures { IfOk result (λ plain. string_bytes plain ≡ normalized text.now) }
-{
-    normalized_white(alloc, text)
 }
 
 /// A text without its escapes. Most texts have none, and aren't copied for them.
