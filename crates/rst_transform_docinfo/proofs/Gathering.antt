@@ -14,13 +14,13 @@ use Rattle.rst_tree.specs.Nodes.{forest_of, nodes_of}
 use Rattle.rst_transform_docinfo.specs.Authors.{all_paragraphs, and_author}
 use Rattle.rst_transform_docinfo.specs.Docinfo.{after_titles, is_list, leading_list, list_place, nodes_with_docinfo, replaced}
 use Rattle.rst_transform_docinfo.specs.Gathered.{Gathered, gathered, with_field_node}
-use Rattle.rst_transform_docinfo.specs.Fields.{field, docinfo_field, lone, paragraph_in}
+use Rattle.rst_transform_docinfo.specs.Fields.{docinfo_field, lone, paragraph_in}
 use Rattle.rst_transform_work.specs.Reading.{is_title}
 use Rattle.rst_transform_work.specs.declared.report.Report.{Report}
 
 -- two nodes are the name and the body of a field
 pub two_parts : (a : List Attr) (xs : List Node) (l : ℕ) (name body : Node) → length xs ≡ 2 → body ≡ slice_index_or xs 1 body → name ≡ slice_index_or (remove xs 1) 0 name
-    → docinfo_field a xs l ≡ Some (field a name body l)
+    → docinfo_field a xs l ≡ Some (record { attrs = a; name = name; body = body; line = l })
 two_parts a [] l name body two b n = absurd (omega arith)
 two_parts a (x ∷ []) l name body two b n = absurd (omega arith)
 two_parts a (x ∷ y ∷ []) l name body two b n = rw (n, b) refl

@@ -1,32 +1,22 @@
 -- Fields and their parts (Document Tree, 'field').
 use Rattle.std.specs.Prelude.{ℕ, List, [], ◌∷◌, Option, Some, None}
-use Rattle.rst_text.specs.Names.{name_in}
 use Rattle.rst_tree.specs.declared.attrs.Attr.{Attr}
 use Rattle.rst_tree.specs.declared.node.Node.{Node}
 use Rattle.rst_tree.specs.declared.node.Node.TheVariants.{Element, Text}
 use Rattle.rst_tree.specs.declared.tag.Tag.TheVariants.{Paragraph, Field as IsField}
 use Rattle.rst_tree.specs.Forest.{Forest, bare, element, words}
 use Rattle.rst_tree.specs.Nodes.{nodes_of}
-use Rattle.rst_tree.specs.Tree.{text_in}
 use Rattle.rst_transform_docinfo.specs.declared.field.Field.{Field}
-
--- a field's attributes, its name, its body and its line
-abbrev pub field : List Attr → Node → Node → ℕ → Field
-field a name body l = record { attrs = a; name = name; body = body; line = l }
 
 -- the field with these attributes and nodes, if those are a name and a body
 abbrev pub docinfo_field : List Attr → List Node → ℕ → Option Field
-docinfo_field a (name ∷ body ∷ []) l = Some (field a name body l)
+docinfo_field a (name ∷ body ∷ []) l = Some (record { attrs = a; name = name; body = body; line = l })
 docinfo_field a _ l = None
 
 -- a node as a field, if it is one
 abbrev pub field_in : Node → Option Field
 field_in (Element IsField a c l) = docinfo_field a (nodes_of c) l
 field_in _ = None
-
--- the name of a field, which determines what it is for
-abbrev pub docinfo_field_name : Field → List ℕ
-docinfo_field_name f = name_in (text_in f.name)
 
 -- the nodes in a node; a text has none
 abbrev pub nodes_in : Node → Forest

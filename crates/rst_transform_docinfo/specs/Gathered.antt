@@ -2,10 +2,12 @@
 -- 'docinfo').
 use Rattle.std.specs.Prelude.{ℕ, Bool, true, false, List, [], ◌∷◌, ◌++◌, Option, Some, None, if◌then◌else◌}
 use Rattle.std.specs.Option.{option_to_list}
+use Rattle.rst_text.specs.Names.{name_in}
 use Rattle.rst_tree.specs.declared.node.Node.{Node}
 use Rattle.rst_tree.specs.declared.node.Node.TheVariants.{Element}
 use Rattle.rst_tree.specs.declared.tag.Tag.TheVariants.{Docinfo}
 use Rattle.rst_tree.specs.Nodes.{forest_of}
+use Rattle.rst_tree.specs.Tree.{text_in}
 use Rattle.rst_transform_docinfo.specs.declared.bibliography.Bibliography.{Bibliography}
 use Rattle.rst_transform_docinfo.specs.declared.bibliography.Row.{Row}
 use Rattle.rst_transform_docinfo.specs.declared.bibliography.Row.TheVariants.{Generic, Topic}
@@ -13,7 +15,7 @@ use Rattle.rst_transform_docinfo.specs.declared.bibliography.TopicKind.TheVarian
 use Rattle.rst_transform_docinfo.specs.declared.field.Field.{Field}
 use Rattle.rst_transform_work.specs.declared.report.Report.{Report}
 use Rattle.rst_transform_docinfo.specs.Bibliography.{fault_node, fault_report, made, bibliography_row, generic_field}
-use Rattle.rst_transform_docinfo.specs.Fields.{field_in, docinfo_field_name}
+use Rattle.rst_transform_docinfo.specs.Fields.{field_in}
 
 -- What the fields became so far: the elements of the `docinfo`, and the topics, and whether there was a field for each; and the messages so far.
 pub record Gathered : Type 0 where
@@ -54,22 +56,18 @@ with_docinfo_element (Topic Dedication) n g = record g { dedication = Some n }
 with_docinfo_element (Topic Abstract) n g = record g { abstract = Some n }
 with_docinfo_element _ n g = with_info n g
 
--- a field that isn't in its form, with the next message on it
-abbrev pub with_fault : ℕ → List ℕ → Field → Gathered → Gathered
-with_fault first name f g =
-    let next = fault_report first g.reports name f.line in record g { info = g.info ++ fault_node name next f ∷ []; reports = g.reports ++ next ∷ [] }
-
+-- what a field of a row became, if it is in its form; one that stays a field; or one that isn't in its form, with the next message on it
 abbrev pub gathered_by_form : ℕ → Row → List ℕ → Field → Option Node → Gathered → Gathered
 gathered_by_form first row name f (Some n) g = with_docinfo_element row n g
 gathered_by_form first Generic name f None g = with_info (generic_field name f) g
-gathered_by_form first row name f None g = with_fault first name f g
+gathered_by_form first row name f None g =
+    let next = fault_report first g.reports name f.line in record g { info = g.info ++ fault_node name next f ∷ []; reports = g.reports ++ next ∷ [] }
 
--- one more field, of a row with this name
-abbrev pub with_row : ℕ → Row → List ℕ → Field → Gathered → Gathered
-with_row first row name f g = gathered_by_form first row name f (if is_further row g then None else made row name f) (with_seen row g)
-
+-- one more field, whose name determines what it is for
 abbrev pub with_field : ℕ → Field → Gathered → Gathered
-with_field first f g = with_row first (bibliography_row (docinfo_field_name f)) (docinfo_field_name f) f g
+with_field first f g =
+    let name = name_in (text_in f.name) in
+    let row = bibliography_row name in gathered_by_form first row name f (if is_further row g then None else made row name f) (with_seen row g)
 
 -- one more node of the field list, which is a field or stays as it is
 abbrev pub if_field : ℕ → Node → Option Field → Gathered → Gathered

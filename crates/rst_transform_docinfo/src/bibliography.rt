@@ -3,7 +3,7 @@ ghost use Rattle.std.specs.Prelude.{◌≡◌, ◌++◌, [], List, None, IfOk};
 ghost use Rattle.std.specs.Option.{option_to_list};
 ghost use Rattle.rst_tree.specs.Nodes.{nodes_of};
 ghost use Rattle.rst_transform_work.specs.declared.report.Report.{Report};
-ghost use Rattle.rst_transform_docinfo.specs.Bibliography.{bibliographic_element, fault_node, fault_report, made, bibliography_row, generic_field, title_node, nodes_under_title, topic_title, with_nonempty_class};
+ghost use Rattle.rst_transform_docinfo.specs.Bibliography.{fault_node, fault_report, made, bibliography_row, generic_field, title_node, nodes_under_title, topic_title, with_nonempty_class};
 ghost use Rattle.rst_transform_docinfo.specs.Gathered.{docinfo_nodes, is_further, none_yet, so_far, with_field, with_field_node, with_seen};
 ghost use Rattle.rst_transform_docinfo.specs.Fields.{nodes_in, paragraph_in};
 ghost use Rattle.rst_transform_work.specs.Reports.{IsReported, KeepsRest};
@@ -64,45 +64,24 @@ fn made(alloc: Global, row: Row, name: &str, field: &Field) -> Result<Option<Nod
     ensures { IfOk result (λ node. node ≡ made row name.now field.now) }
 {
     let mut attrs = field.attrs.copy(alloc)?;
-    match row {
-        Row::Simple(tag) => Ok(bibliographic_element(
-            tag,
-            attrs,
-            field.line,
-            paragraph(alloc, field)?,
-        )),
+    let (tag, nodes) = match row {
+        Row::Simple(tag) => (tag, paragraph(alloc, field)?),
         Row::Address => {
             let preserve = Text::from_str(alloc, "preserve")?;
             attrs.set(Key::XmlSpace, Value::Text(preserve))?;
-            let nodes = paragraph(alloc, field)?;
-            Ok(bibliographic_element(Tag::Address, attrs, field.line, nodes))
+            (Tag::Address, paragraph(alloc, field)?)
         }
-        Row::Authors => match authors_in(alloc, &field.body, field.line)? {
-            Some(nodes) => {
-                let nodes = Some(Children::of(nodes));
-                Ok(bibliographic_element(Tag::Authors, attrs, field.line, nodes))
-            }
-            None => Ok(None),
-        },
+        Row::Authors => {
+            let authors = authors_in(alloc, &field.body, field.line)?;
+            (Tag::Authors, authors.map(|nodes| Children::of(nodes)))
+        }
         Row::Topic(kind) => {
             set_class(alloc, &mut attrs, name)?;
-            let nodes = topic(alloc, kind.title(), field)?;
-            Ok(bibliographic_element(Tag::Topic, attrs, field.line, nodes))
+            (Tag::Topic, topic(alloc, kind, field)?)
         }
-        Row::Generic => Ok(None),
-    }
-}
-
-/// An element with these nodes, if there are such.
-fn bibliographic_element(
-    tag: Tag,
-    attrs: Attrs,
-    line: usize,
-    nodes: Option<Children>,
-) -> Option<Node>
-    ensures { result ≡ bibliographic_element tag attrs line nodes }
-{
-    nodes.map(|children| element(tag, attrs, children, line))
+        Row::Generic => return Ok(None),
+    };
+    Ok(nodes.map(|children| element(tag, attrs, children, field.line)))
 }
 
 /// The nodes of the one paragraph in a field's body.
@@ -113,9 +92,9 @@ fn paragraph(alloc: Global, field: &Field) -> Result<Option<Children>>
     nodes.map(|nodes| copies(alloc, nodes)).transpose()
 }
 
-/// A title, and after it the nodes of a field's body, if that isn't empty.
-fn topic(alloc: Global, title: &str, field: &Field) -> Result<Option<Children>>
-    ensures { IfOk result (λ nodes. nodes ≡ nodes_under_title (title_node title.now field.now.line) (nodes_of (nodes_in field.now.body))) }
+/// The title of a topic, and after it the nodes of a field's body, if that isn't empty.
+fn topic(alloc: Global, kind: TopicKind, field: &Field) -> Result<Option<Children>>
+    ensures { IfOk result (λ nodes. nodes ≡ nodes_under_title (title_node (topic_title kind) field.now.line) (nodes_of (nodes_in field.now.body))) }
 {
     let Node::Element { children, .. } = &field.body else {
         return Ok(None);
@@ -124,22 +103,14 @@ fn topic(alloc: Global, title: &str, field: &Field) -> Result<Option<Children>>
     if nodes.is_empty() {
         return Ok(None);
     }
+    let title = match kind {
+        TopicKind::Dedication => "Dedication",
+        TopicKind::Abstract => "Abstract",
+    };
     let title = Children::lone(alloc, Node::text(alloc, title)?)?;
     let title = element(Tag::Title, Attrs::new(alloc), title, field.line);
     nodes.insert(0, title)?;
     Ok(Some(Children::of(nodes)))
-}
-
-impl TopicKind {
-    /// The topic's title.
-    fn title(self) -> &'static str
-        ensures { result.now ≡ topic_title self }
-    {
-        match self {
-            TopicKind::Dedication => "Dedication",
-            TopicKind::Abstract => "Abstract",
-        }
-    }
 }
 
 /// Gives attributes one class, unless that is empty.

@@ -6,7 +6,7 @@ ghost use Rattle.rst_transform_work.specs.Known.{Makes};
 ghost use Rattle.rst_transform_structure.specs.LastSection.{ids_moved, is_reported, own_nodes, messages_section, with_last_section};
 
 use rst_settings::Threshold;
-use rst_transform_work::{Context, Document, Report};
+use rst_transform_work::{Context, Document, Report, element};
 use rst_tree::{Attrs, Children, Key, Node, Result, Tag, Text, Texts, Value};
 use std::alloc::Global;
 
@@ -47,25 +47,16 @@ fn section(alloc: Global, reports: &mut Vec<Report>) -> Result<Node>
     let classes = Texts::lone(alloc, Text::from_str(alloc, "system-messages")?);
     let attrs = Attrs::lone(alloc, Key::Classes, Value::List(classes))?;
     let mut children = Children::with_room(alloc, reports.len().saturating_add(1))?;
-    let title = Node::text(alloc, "Docutils System Messages")?;
-    children.push(Node::Element {
-        tag: Tag::Title,
-        attrs: Attrs::new(alloc),
-        children: Children::lone(alloc, title)?,
-        line: 0,
-    })?;
+    let title = Children::lone(alloc, Node::text(alloc, "Docutils System Messages")?)?;
+    children.push(element(Tag::Title, Attrs::new(alloc), title, 0))?;
     for i in 0..reports.len() {
         add_own(alloc, &mut reports[i], &mut children)?;
     }
-    Ok(Node::Element {
-        tag: Tag::Section,
-        attrs,
-        children,
-        line: 0,
-    })
+    Ok(element(Tag::Section, attrs, children, 0))
 }
 
 /// Adds a message, if it is in the section, and hands over its ids.
+#[tactic(auto, using(crate::proofs::LastNodes::none_added))]
 fn add_own(alloc: Global, report: &mut Report, nodes: &mut Children) -> Result<()>
     ensures nodes { IfOk result (λ _. nodes.new ≡ forest_of (nodes_of nodes.old ++ own_nodes (report.old ∷ []))) }
     ensures report { IfOk result (λ _. report.new ≡ ids_moved report.old) }
@@ -73,7 +64,5 @@ fn add_own(alloc: Global, report: &mut Report, nodes: &mut Children) -> Result<(
     if !report.own {
         return Ok(());
     }
-    let node = report.node(alloc)?;
-    nodes.push(node)?;
-    Ok(())
+    nodes.push(report.node(alloc)?)
 }

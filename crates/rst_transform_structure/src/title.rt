@@ -11,7 +11,7 @@ ghost use Rattle.rst_transform_structure.specs.Passing.{paired_with_number, Pass
 ghost use Rattle.rst_transform_work.specs.Reading.{may_precede};
 
 use rst_transform_names::{Holder, Names};
-use rst_transform_work::{Context, Document, append_names, may_precede};
+use rst_transform_work::{Context, Document, append_names, element, may_precede};
 use rst_tree::{Attrs, Children, Key, Node, Result, Tag, Text, Value, ValueRef};
 use std::alloc::Global;
 
@@ -107,12 +107,7 @@ impl Section {
             } => {
                 let mut content = children.into_list();
                 if content.is_empty() {
-                    return Err(Node::Element {
-                        tag: Tag::Section,
-                        attrs,
-                        children: Children::of(content),
-                        line,
-                    });
+                    return Err(element(Tag::Section, attrs, Children::of(content), line));
                 }
                 let title = content.remove(0);
                 Ok(Section {
@@ -188,12 +183,7 @@ fn subtitle(attrs: Attrs, title: Node) -> Node
     ensures { result ≡ subtitle attrs title }
 {
     match title {
-        Node::Element { children, line, .. } => Node::Element {
-            tag: Tag::Subtitle,
-            attrs,
-            children,
-            line,
-        },
+        Node::Element { children, line, .. } => element(Tag::Subtitle, attrs, children, line),
         Node::Text(text) => Node::Text(text),
     }
 }

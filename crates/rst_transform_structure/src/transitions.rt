@@ -8,7 +8,7 @@ ghost use Rattle.rst_transform_names.specs.NameMessages.{is_section};
 ghost use Rattle.rst_transform_structure.specs.declared.transitions.TransitionFault.TheVariants.{AtBeginning};
 ghost use Rattle.rst_transform_structure.specs.Transitions.{fault_after, transition_fault_text, is_one, keeps_place, transition_message, placed_in, placed_section, placed_transition, staying, with_transitions};
 
-use rst_transform_work::{Context, Document, is_title};
+use rst_transform_work::{Context, Document, element, is_title};
 use rst_tree::{Attrs, Children, Level, Node, Result, Tag, Text};
 
 /// Looks at the places of the transitions in document order (Markup Specification, 'Transitions'): each that begins a section
@@ -101,18 +101,12 @@ fn place_in(nodes: Children, ends: bool, context: &mut Context) -> Result<Vec<No
                     put_section(&mut placed, tag, attrs, line, inner)?;
                     continue;
                 }
-                let element = Node::Element {
-                    tag,
-                    attrs,
-                    children,
-                    line,
-                };
+                let node = element(tag, attrs, children, line);
                 if is_transition(tag) {
-                    put_transition(&mut placed, element, line, fault, last, context)?;
+                    put_transition(&mut placed, node, line, fault, last, context)?;
                     continue;
                 }
-                placed.push(element)?;
-                continue;
+                placed.push(node)?;
             }
         }
     }
@@ -131,12 +125,7 @@ fn put_section(
 {
     let staying = staying(inner.as_slice());
     let mut moving = inner.split_off(staying)?;
-    nodes.push(Node::Element {
-        tag,
-        attrs,
-        children: Children::of(inner),
-        line,
-    })?;
+    nodes.push(element(tag, attrs, Children::of(inner), line))?;
     nodes.append(&mut moving)?;
     Ok(())
 }

@@ -46,7 +46,7 @@ loop-node-preserved-then-is_transition t c =
     placing_more c.args.context.now c.args.ends c.args.nodes c.loop-node.left _ c.loop-node.yielded c.loop-node.next_fault _ c.loop-node.placed.items _ c.loop-node.context _ c.in-Some.node _ _
     c.loop-node.invariant c.saturating_sub-left.ensures c.fault_after-next_fault.ensures ended
     (own_transition _ _ _ _ _ _ _ _ _ c.in-Element.is (sym c.is_section.ensures ∙ c.if-is_section.false) (sym c.is_transition.ensures ∙ c.if-is_transition.true))
-    (rw c.in-Element.is c.in_ok-put_transition-in-Element.ensures.nodes.0) (rw c.in-Element.is c.in_ok-put_transition-in-Element.ensures.nodes.1) c.in_ok-put_transition-in-Element.ensures.rest
+    (rw (c.in-Element.is, ← c.element-node.ensures) c.in_ok-put_transition-in-Element.ensures.nodes.0) (rw (c.in-Element.is, ← c.element-node.ensures) c.in_ok-put_transition-in-Element.ensures.nodes.1) c.in_ok-put_transition-in-Element.ensures.rest
 
 pub loop-node-preserved : goal.loop-node-preserved
 loop-node-preserved t c =
@@ -55,7 +55,7 @@ loop-node-preserved t c =
     let keeps : keeps_place c.in-Some.node ≡ true = rw (c.in-Element.is, section, transition) refl in
     placing_more c.args.context.now c.args.ends c.args.nodes c.loop-node.left _ c.loop-node.yielded c.loop-node.next_fault _ c.loop-node.placed.items _ c.loop-node.context _ c.in-Some.node _ _
     c.loop-node.invariant c.saturating_sub-left.ensures c.fault_after-next_fault.ensures refl (own_kept _ _ _ _ _ keeps)
-    (rw c.in-Element.is c.in_ok-push-in-Element.ensures.items) refl refl
+    (rw (c.in-Element.is, ← c.element-node.ensures) c.in_ok-push-in-Element.ensures.items) refl refl
 
 pub returns-then-all_keep_places-clause-placed : goal.returns-then-all_keep_places-clause-placed
 returns-then-all_keep_places-clause-placed t c =
