@@ -36,10 +36,11 @@ RENAMED = {"Level as Gravity"}
 # it ends, since it isn't known sooner which lines nest. They are then gone over once for each line block, which needs no look at the document.
 HOLD = {
     # marks
-    "Adornment": "char", "Begun": "Adornment char", "Class": "char", "LineTest": "char", "Letter": "char", "ListKind": "char", "Style": "char",
+    "Adornment": "char", "Begun": "Adornment char", "Class": "char", "Item": "char", "LineTest": "char", "Letter": "char", "ListKind": "char",
+    "Style": "char",
     # tables
-    "Cell": "CellLines", "CellLines": "String", "GridLines": "TableLine", "Place": "char", "Rows": "Cell", "Runs": "TableLine",
-    "SimpleLines": "TableLine", "TableLine": "Place", "TableResult": "Rows", "Tiling": "TableLine",
+    "Cell": "CellLines", "CellLines": "String", "GridLines": "TableLine", "Place": "char", "Ranks": "Tiling", "Rows": "Cell",
+    "Runs": "TableLine", "SimpleLines": "TableLine", "TableLine": "Place", "TableResult": "Rows", "Tiling": "TableLine",
     # directives
     "Argument": "String", "Detail": "String", "Directive": "Argument DirectiveFault Setting", "DirectiveFault": "Detail", "Field": "char",
     "Found": "Argument Setting", "OptionMark": "Argument", "OptionValue": "String Target", "Reading": "Argument Setting", "Setting": "OptionValue",
@@ -50,7 +51,7 @@ HOLD = {
     "Step": "TableResult Waits", "Waits": "OpenReplacement", "WrongForm": "str",
     # functions
     "add_line": "char", "alone": "N", "definition_or_error": "String", "from": "E", "heading_of": "String", "heads_of": "Text",
-    "joined_nonempty": "char", "of": "String", "option": "str", "push": "N", "replacement": "String", "shortened": "String", "with_parts": "Text",
+    "joined_nonempty": "char", "option": "str", "push": "N", "replacement": "String", "with_parts": "Text",
     MACHINE: "Begun Cell Ended Frame Frames LineTest Lines OpenBlock Rows Step TableResult Waits",
 }
 # How many lines there are, their numbers, and where they are; how views and lines are made.

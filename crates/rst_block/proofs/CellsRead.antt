@@ -20,8 +20,7 @@ use Rattle.rst_block_nodes.specs.declared.fault.BlockFault.TheVariants.{TooDeep,
 use Rattle.rst_block_state.specs.declared.open_block.OpenBlock.{OpenBlock}
 use Rattle.rst_block_state.specs.declared.step.Step.TheVariants.{Cells}
 use Rattle.rst_block_state.proofs.Changes.{more_more, moved_more, more_is_read}
-use Rattle.rst_block.proofs.LastLevel.{last_level}
-use Rattle.rst_block_state.proofs.MeaningLemmas.{within_is, inner_is}
+use Rattle.rst_block_state.proofs.MeaningLemmas.{text_inside}
 use Rattle.rst_block_state.proofs.NumberedLemmas.{same_after, after_after, then_just, at_number}
 use Rattle.rst_block_state.proofs.RestLemmas.{nodes_among_plain}
 use Rattle.rst_block.proofs.Waiting.{among_done}
@@ -72,27 +71,11 @@ then_keeps r f NoMemory g h k = tt
 
 -- ---- cells
 
-text_as : (d k : ℕ) (B : Block) (n : ℕ) → d ≤ deepest → deepest - d ≡ k → (text_with k (suc d) B >>= λ items. just (nodes_among items)) n ≡ inner_nodes true k B n
-text_as d zero B n h e =
-    after_after (below_last_level B n) (λ nodes. just (map plain nodes)) (λ items. just (nodes_among items))
-    ∙ same_after (below_last_level B n) (λ nodes. just (nodes_among (map plain nodes))) just (λ nodes k. ap (λ (ns : List Node). just ns k) (nodes_among_plain nodes))
-    ∙ then_just (below_last_level B n)
-    ∙ at_number n (sym (last_level true B))
-text_as d (suc k) B n h e =
-    let j : deepest - suc d ≡ k = omega (arith, e) in
-    ap (λ c. (block_items c B >>= λ items. just (nodes_among items)) n) (within_is d (omega (arith, e)))
-    ∙ sym (inner_is (deepest - suc d) B n)
-    ∙ ap (λ left. inner_nodes true (suc left) B n) j
-
 -- the nodes of a cell's lines
-text_inside : (depth : ℕ) (B : Block) (n : ℕ) → 1 ≤ depth → depth ≤ 251 → (text_items depth B >>= λ items. just (nodes_among items)) n ≡ (within_at (depth - 1)).inner B n
-text_inside depth B n low high =
-    let d : ℕ = depth - 1 in
+cell_inside : (depth : ℕ) (B : Block) (n : ℕ) → 1 ≤ depth → depth ≤ 251 → (text_items depth B >>= λ items. just (nodes_among items)) n ≡ (within_at (depth - 1)).inner B n
+cell_inside depth B n low high =
     let e : depth ≡ suc (depth - 1) = omega (arith, low) in
-    let k : suc deepest - depth ≡ deepest - (depth - 1) = omega (arith, low) in
-    ap (λ levels. (text_with levels depth B >>= λ items. just (nodes_among items)) n) k
-    ∙ ap (λ depth. (text_with (deepest - d) depth B >>= λ items. just (nodes_among items)) n) e
-    ∙ text_as d (deepest - d) B n (omega (arith, high)) refl
+    ap (λ depth. (text_items depth B >>= λ items. just (nodes_among items)) n) e ∙ text_inside (depth - 1) B n (omega (arith, high))
 
 entry_reads : (depth : ℕ) (cell : Cell) (B : Block) (level : OpenBlock) (node : Node) (n m : ℕ) → 1 ≤ depth → depth ≤ 251 → level.depth ≡ depth → B ≡ cell.lines
     → just (done_of level) m ≡ text_items depth B n → node ≡ filled (entry_node cell.morerows cell.morecols 0) level.nodes
@@ -100,7 +83,7 @@ entry_reads : (depth : ℕ) (cell : Cell) (B : Block) (level : OpenBlock) (node 
 entry_reads depth cell B level node n m low high d b h e =
     let F : List Node → Node = λ ns. filled (entry_node cell.morerows cell.morecols 0) ns in
     ap (λ X. ((within_at (depth - 1)).inner X >>= λ nodes. just (F nodes)) n) (sym b)
-    ∙ ap (then_read (λ nodes. just (F nodes))) (sym (text_inside depth B n low high) ∙ ap (then_read (λ items. just (nodes_among items))) (sym h))
+    ∙ ap (then_read (λ nodes. just (F nodes))) (sym (cell_inside depth B n low high) ∙ ap (then_read (λ items. just (nodes_among items))) (sym h))
     ∙ ap (λ (ns : List Node). Ok (F ns, m)) (among_done level (omega (arith, low, d)))
     ∙ ap (λ made. Ok (made, m)) (sym e)
 
@@ -109,7 +92,7 @@ entry_keeps : {A C : Type 0} (depth : ℕ) (cell : Cell) (B : Block) (n : ℕ) (
 entry_keeps depth cell B n (TooDeep line) f g low high b h =
     let F : List Node → Node = λ ns. filled (entry_node cell.morerows cell.morecols 0) ns in
     ap (λ X. ((within_at (depth - 1)).inner X >>= λ nodes. just (F nodes)) n) (sym b)
-    ∙ ap (then_read (λ nodes. just (F nodes))) (sym (text_inside depth B n low high) ∙ ap (then_read (λ items. just (nodes_among items))) h)
+    ∙ ap (then_read (λ nodes. just (F nodes))) (sym (cell_inside depth B n low high) ∙ ap (then_read (λ items. just (nodes_among items))) h)
 entry_keeps depth cell B n NoMemory f g low high b h = tt
 
 -- ---- rows

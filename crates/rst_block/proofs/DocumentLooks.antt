@@ -24,14 +24,6 @@ lines_trimmed (l ∷ ls) h =
     let white : ends_white l.text ≡ false = (is_line_text-parts l.text p.0).1 in
     rw (white, lines_trimmed ls p.1) refl
 
-none : (code : Bool) (levels : ℕ) (titles : Bool) → total code levels titles [] ≡ 0
-unfolding total sum_of spans_from
-none code zero titles = refl
-none code (suc levels) titles = omega arith
-
-pub empty_text : (depth : ℕ) → total_at depth [] ≡ 0
-empty_text depth = none true (suc deepest - depth) (depth == 0)
-
 pub last_text : (B : Block) → total_at (suc deepest) B ≡ length B
 unfolding total
 last_text B = refl

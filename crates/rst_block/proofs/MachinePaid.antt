@@ -1,5 +1,5 @@
 -- The looks that the machine takes: at the cells of tables, in the blocks that wait, and in whole texts.
-use Rattle.std.proofs.Common.{◌≡◌, ◌⊎◌, inl, inr, ℕ, suc, ◌+◌, ◌-◌, ◌*◌, ◌<◌, ◌≤◌, true, false, List, [], ◌∷◌, ◌++◌, length, map, Option, Some, None, append-nil, arith, refl, ap, sym, subst, ◌∙◌, vec_items}
+use Rattle.std.proofs.Common.{◌≡◌, ℕ, suc, ◌+◌, ◌-◌, ◌*◌, ◌<◌, ◌≤◌, true, false, List, [], ◌∷◌, ◌++◌, length, map, Option, Some, None, append-nil, arith, refl, ap, sym, subst, ◌∙◌, vec_items}
 use Rattle.std.specs.Prelude.{Vec, IsTrue}
 use Rattle.std.proofs.lemmas.List.{nil_from_length}
 use Rattle.rst_settings.specs.Profile.{profile_of}
@@ -26,10 +26,10 @@ use Rattle.rst_block_state.specs.declared.waits.Waits.{Waits}
 use Rattle.rst_block_state.specs.declared.run.Run.{Run}
 use Rattle.rst_block_state.specs.declared.run.Run.TheVariants.{None as NoRun, List as ListRun, Lines, Explicit}
 use Rattle.rst_block_state.specs.declared.step.Step.{Step}
-use Rattle.rst_block_state.specs.declared.step.Step.TheVariants.{Next, Open, Cells, Done}
-use Rattle.rst_block.proofs.DocumentLooks.{empty_text, last_text, bounded}
-use Rattle.rst_block_state.proofs.LedgerLemmas.{begun, counted, opened, second_opened}
-use Rattle.rst_block_state.proofs.WaitingLooks.{cell_text, rows_cells, table_read}
+use Rattle.rst_block_state.specs.declared.step.Step.TheVariants.{Begin, Next, Open, Cells, Done}
+use Rattle.rst_block.proofs.DocumentLooks.{last_text, bounded}
+use Rattle.rst_block_state.proofs.LedgerLemmas.{begun, cell_text, counted, opened, second_opened}
+use Rattle.rst_block_state.proofs.WaitingLooks.{rows_cells, table_read}
 
 -- ---- some lines, one after another
 
@@ -131,16 +131,22 @@ abbrev pub IsPaidFor : (most least : ℕ) (S : Block) (fs : List Frame) (l : Ope
 IsPaidFor most least S fs l B s before now = Takes most least before (most_in S fs + most_left l B s) (least_in S fs + least_left l B s) now
 
 -- before the first line of a text all is left
-pub text_begins : (S : Block) (fs : List Frame) (l : OpenBlock) (B : Block) (depth before : ℕ) → fs ≡ [] → IsNew l → l.depth ≡ depth → depth ≤ deepest
-    → IsPaidFor (128 * total_at depth B) (total_at depth B) S fs l B Next before before
-unfolding most_in least_in sum_of
-text_begins S fs l B depth before e new d h =
-    let b = begun depth B h in
-    let m : most_from l.depth B l.at ≡ most_from depth B 0 = ap (λ k. most_from k B l.at) d ∙ ap (most_from depth B) new.at in
-    let n : least_from l.depth B l.at ≡ least_from depth B 0 = ap (λ k. least_from k B l.at) d ∙ ap (least_from depth B) new.at in
+pub text_begins : (S : Block) (fs : List Frame) (l : OpenBlock) (B : Block) (before : ℕ) → fs ≡ [] → IsPaidFor (128 * total_at l.depth B) (total_at l.depth B) S fs l B Begin before before
+unfolding most_in least_in
+text_begins S fs l B before e = record { no_more = omega (arith, ap (most_in S) e); no_less = omega (arith, ap (least_in S) e) }
+
+-- before the first line of a block that isn't below the last level all is left
+pub first_line : (old new : OpenBlock) (B : Block) (s : Step) (before after : ℕ) → IsNew old → old.depth ≤ deepest
+    → Takes (most_left old B Next) (least_left old B Next) before (most_left new B s) (least_left new B s) after
+    → Takes (most_left old B Begin) (least_left old B Begin) before (most_left new B s) (least_left new B s) after
+unfolding sum_of
+first_line old new B s before after new_old h t =
+    let b = begun old.depth B h in
+    let m : most_from old.depth B old.at ≡ most_from old.depth B 0 = ap (most_from old.depth B) new_old.at in
+    let n : least_from old.depth B old.at ≡ least_from old.depth B 0 = ap (least_from old.depth B) new_old.at in
     record {
-      no_more = omega (arith, b.most, m, ap run_looks (none_open l.run new.run), ap (most_in S) e);
-      no_less = omega (arith, b.least, n, ap (least_in S) e);
+      no_more = omega (arith, t.no_more, b.most, m, ap run_looks (none_open old.run new_old.run));
+      no_less = omega (arith, t.no_less, b.least, n);
     }
 
 -- the block that is read takes looks
@@ -153,19 +159,19 @@ block_goes_on most least S fs old new B s t before now after h k = record {
 
 -- it waits for a block inside, which is read next
 pub block_opens : (most least : ℕ) (S : Block) (fs : List Frame) (f : Frame) (old l : OpenBlock) (B X : Block) (w : Waits) (first : Part) (second : Option Part) (before now : ℕ)
-    → f.level ≡ old → placement_block S f.placement ≡ B → f.waits ≡ w → f.second ≡ second → X ≡ lines_in B first → l.depth ≡ suc old.depth → old.depth < deepest → IsNew l
-    → IsPaidFor most least S fs old B (Open w first second) before now → IsPaidFor most least S (fs ++ f ∷ []) l X Next before now
-block_opens most least S fs f old l B X w first second before now a b c d x i j new h =
+    → f.level ≡ old → placement_block S f.placement ≡ B → f.waits ≡ w → f.second ≡ second → X ≡ lines_in B first → l.depth ≡ suc old.depth
+    → IsPaidFor most least S fs old B (Open w first second) before now → IsPaidFor most least S (fs ++ f ∷ []) l X Begin before now
+block_opens most least S fs f old l B X w first second before now a b c d x i h =
     let P : Block = placement_block S f.placement in
     let k = counted S fs f in
-    let o = opened old l B w first second j i new.at (none_open l.run new.run) in
+    let o = opened old l B w first second i in
     let m : most_after f.level P f.waits f.second ≡ most_after old B w second =
     ap (λ o. most_after o P f.waits f.second) a ∙ ap (λ C. most_after old C f.waits f.second) b ∙ ap (λ w. most_after old B w f.second) c ∙ ap (most_after old B w) d in
     let n : least_after f.level P f.waits f.second ≡ least_after old B w second =
     ap (λ o. least_after o P f.waits f.second) a ∙ ap (λ C. least_after old C f.waits f.second) b ∙ ap (λ w. least_after old B w f.second) c ∙ ap (least_after old B w) d in
     record {
-      no_more = omega (arith, h.no_more, k.most, m, o.0, ap (λ Y. most_left l Y Next) x);
-      no_less = omega (arith, h.no_less, k.least, n, o.1, ap (λ Y. least_left l Y Next) x);
+      no_more = omega (arith, h.no_more, k.most, m, o.0, ap (λ Y. most_left l Y Begin) x);
+      no_less = omega (arith, h.no_less, k.least, n, o.1, ap (λ Y. least_left l Y Begin) x);
     }
 
 -- a block was read, and the one that waited for it goes on
@@ -182,8 +188,8 @@ block_ends most least S fs f old new B C s before now after h t =
 -- or it waits for another part, which is read next
 pub block_waits : (most least : ℕ) (S : Block) (fs : List Frame) (f g : Frame) (old new : OpenBlock) (B C : Block) (before now after : ℕ) → IsPaidFor most least S (fs ++ f ∷ []) old B Done before now
     → Takes (most_after f.level (placement_block S f.placement) f.waits f.second) (least_after f.level (placement_block S f.placement) f.waits f.second) now
-    (most_after g.level (placement_block S g.placement) g.waits g.second + most_left new C Next) (least_after g.level (placement_block S g.placement) g.waits g.second + least_left new C Next) after
-    → IsPaidFor most least S (fs ++ g ∷ []) new C Next before after
+    (most_after g.level (placement_block S g.placement) g.waits g.second + most_left new C Begin) (least_after g.level (placement_block S g.placement) g.waits g.second + least_left new C Begin) after
+    → IsPaidFor most least S (fs ++ g ∷ []) new C Begin before after
 block_waits most least S fs f g old new B C before now after h t =
     let k = counted S fs f in
     let j = counted S fs g in
@@ -204,15 +210,15 @@ text_ends all S fs l B before now e h = record {
 
 -- its second part is read next
 pub second_waits : (S : Block) (f : Frame) (level l : OpenBlock) (p : Part) (X : Block) (now : ℕ) → f.second ≡ Some p → level ≡ f.level → X ≡ lines_in (placement_block S f.placement) p
-    → f.level.depth < deepest → l.depth ≡ suc f.level.depth → IsNew l
+    → l.depth ≡ suc f.level.depth
     → Takes (most_after f.level (placement_block S f.placement) f.waits f.second) (least_after f.level (placement_block S f.placement) f.waits f.second) now
-    (most_after level (placement_block S f.placement) f.waits None + most_left l X Next) (least_after level (placement_block S f.placement) f.waits None + least_left l X Next) now
-second_waits S f level l p X now e a x h d new =
+    (most_after level (placement_block S f.placement) f.waits None + most_left l X Begin) (least_after level (placement_block S f.placement) f.waits None + least_left l X Begin) now
+second_waits S f level l p X now e a x d =
     let B : Block = placement_block S f.placement in
-    let o = second_opened f.level l B f.waits p h d new.at (none_open l.run new.run) in
+    let o = second_opened f.level l B f.waits p d in
     record {
-      no_more = omega (arith, o.0, ap (most_after f.level B f.waits) e, ap (λ o. most_after o B f.waits None) a, ap (λ Y. most_left l Y Next) x);
-      no_less = omega (arith, o.1, ap (least_after f.level B f.waits) e, ap (λ o. least_after o B f.waits None) a, ap (λ Y. least_left l Y Next) x);
+      no_more = omega (arith, o.0, ap (most_after f.level B f.waits) e, ap (λ o. most_after o B f.waits None) a, ap (λ Y. most_left l Y Begin) x);
+      no_less = omega (arith, o.1, ap (least_after f.level B f.waits) e, ap (λ o. least_after o B f.waits None) a, ap (λ Y. least_left l Y Begin) x);
     }
 
 -- it has no part left, and goes on
@@ -227,15 +233,12 @@ last_waits S f level X before most least after e a x t =
 
 -- ---- texts
 
--- a text without lines, or below the last level, has no lines inside
-flat_total : (depth : ℕ) (B : Block) → (length B ≡ 0) ⊎ (depth ≡ suc deepest) → total_at depth B ≡ length B
-flat_total depth B (inl e) = ap (total_at depth) (nil_from_length B e) ∙ empty_text depth ∙ sym e
-flat_total depth B (inr e) = ap (λ d. total_at d B) e ∙ last_text B
-
-pub flat_paid : (depth : ℕ) (X B : Block) (before after : ℕ) → (length B ≡ 0) ⊎ (depth ≡ suc deepest) → X ≡ B → after ≤ before + length X → capped (before + length X) ≤ after → TakesFor (total_at depth B) before after
-flat_paid depth X B before after flat x few some =
-    let t = flat_total depth B flat in
-    record { no_more = omega (arith, few, t, ap length x); no_less = omega (arith, some, t, ap length x) }
+-- a text below the last level, all of whose lines were looked at
+pub flat_paid : (old new : OpenBlock) (B : Block) (before after : ℕ) → old.depth ≡ suc deepest → after ≤ before + length B → capped (before + length B) ≤ after
+    → Takes (most_left old B Begin) (least_left old B Begin) before (most_left new B Done) (least_left new B Done) after
+flat_paid old new B before after d few some =
+    let t : total_at old.depth B ≡ length B = ap (λ depth. total_at depth B) d ∙ last_text B in
+    record { no_more = omega (arith, few, t); no_less = omega (arith, some, t) }
 
 -- a document
 pub document_paid : (settings : Settings) (B : Block) (before after : ℕ) → IsTrue (are_lines B) → before ≡ 0 → TakesFor (total_at 0 B) before after → IsWithinBounds (profile_of settings) B after

@@ -7,8 +7,10 @@ use Rattle.rst_markup_blocks.specs.declared.part.Part.{Part}
 use Rattle.rst_block_state.specs.machine.Frames.{IsFrame, AreFrames, AreNested, IsNow, HasSecond}
 use Rattle.rst_block_state.specs.machine.Steps.{IsTable, IsStep, IsNext, IsResumed}
 use Rattle.rst_block_state.specs.declared.frame.Frame.{Frame}
+use Rattle.rst_block_state.specs.machine.Meanings.{deepest}
+use Rattle.rst_block_state.specs.declared.open_block.OpenBlock.{OpenBlock}
 use Rattle.rst_block_state.specs.declared.step.Step.{Step}
-use Rattle.rst_block_state.specs.declared.step.Step.TheVariants.{Next, Open, Cells, Done}
+use Rattle.rst_block_state.specs.declared.step.Step.TheVariants.{Begin, Next, Open, Cells, Done}
 use Rattle.rst_block.specs.Reading.{cost, parts_left, left, all_left}
 use Rattle.rst_block.proofs.Work.{less, more, last}
 
@@ -21,34 +23,39 @@ still h k = omega (arith, h, k)
 
 -- a step after others
 pub next_of_step : (B : Block) (at on to : ℕ) (s : Step) → at ≤ on → on < length B → IsStep B on to s → IsNext B at to s
+next_of_step B at on to Begin i j h = absurd h
 next_of_step B at on to Next i j h = (omega (arith, i, j), omega (arith, i, h))
 next_of_step B at on to (Open w first second) i j h = (omega (arith, i, j), omega (arith, i, h.0), h.1, h.2, h.3)
 next_of_step B at on to (Cells table) i j h = (omega (arith, i, h.0), omega (arith, h.0, h.1), subst (λ k. IsTable k table) (sym h.0) h.2)
 next_of_step B at on to Done i j h = tt
 
-pub now_of_next : (B : Block) (at to : ℕ) (s : Step) → IsNext B at to s → IsNow B to s
-now_of_next B at to Next h = tt
-now_of_next B at to (Open w first second) h = (h.2, h.3, h.4)
-now_of_next B at to (Cells table) h = (h.1, h.2)
-now_of_next B at to Done h = tt
+pub now_of_next : (B : Block) (at : ℕ) (l : OpenBlock) (s : Step) → l.depth ≤ deepest → IsNext B at l.at s → IsNow B l s
+now_of_next B at l Begin d h = absurd h
+now_of_next B at l Next d h = d
+now_of_next B at l (Open w first second) d h = (d, h.2, h.3, h.4)
+now_of_next B at l (Cells table) d h = (d, h.1, h.2)
+now_of_next B at l Done d h = tt
 
-pub now_of_resumed : (B : Block) (at to : ℕ) (s : Step) → IsResumed B at to s → IsNow B to s
-now_of_resumed B at to Next h = tt
-now_of_resumed B at to (Open w first second) h = (h.2, h.3, h.4)
-now_of_resumed B at to (Cells table) h = absurd h
-now_of_resumed B at to Done h = tt
+pub now_of_resumed : (B : Block) (at : ℕ) (l : OpenBlock) (s : Step) → l.depth ≤ deepest → IsResumed B at l.at s → IsNow B l s
+now_of_resumed B at l Begin d h = absurd h
+now_of_resumed B at l Next d h = d
+now_of_resumed B at l (Open w first second) d h = (d, h.2, h.3, h.4)
+now_of_resumed B at l (Cells table) d h = absurd h
+now_of_resumed B at l Done d h = tt
 
 pub cost_of_resumed : (B : Block) (at to : ℕ) (s : Step) → IsResumed B at to s → cost (length B) to s < 5 * (length B - at) + 3
+cost_of_resumed B at to Begin h = absurd h
 cost_of_resumed B at to Next h = omega (arith, h)
 cost_of_resumed B at to (Open w first second) h = omega (arith, h.0, h.1)
 cost_of_resumed B at to (Cells table) h = absurd h
 cost_of_resumed B at to Done h = absurd h
 
 cost_of_next : (B : Block) (at to : ℕ) (s : Step) → IsNext B at to s → cost (length B) to s < 5 * (length B - at) + 2
+cost_of_next B at to Begin h = absurd h
 cost_of_next B at to Done h = omega arith
 cost_of_next B at to _ h = omega (arith, h.0, h.1)
 
-cost_of_begin : (n m : ℕ) → m ≤ n → cost m 0 Next < 5 * n + 6
+cost_of_begin : (n m : ℕ) → m ≤ n → cost m 0 Begin < 5 * n + 6
 cost_of_begin n m i = omega arith
 
 fewer : (S : Block) (fs : List Frame) → length (map (left S) fs) ≡ length fs
@@ -60,14 +67,14 @@ pub goes_on : (n room : ℕ) (S : Block) (fs : List Frame) (k at j to : ℕ) (s 
 goes_on n room S fs k at j to s t h = less (5 * n + 6) room (map (left S) fs) (omega arith) h
 
 -- what comes next
-pub stepped : (n room : ℕ) (S : Block) (fs : List Frame) (B : Block) (at to : ℕ) (s : Step) → IsNext B at to s
-    → all_left n room S fs (length B) to s < all_left n room S fs (length B) at Next
-stepped n room S fs B at to s h = goes_on n room S fs (length B) at (length B) to Next s (cost_of_next B at to s h)
+pub stepped : (n room : ℕ) (S : Block) (fs : List Frame) (B : Block) (at to : ℕ) (now s : Step) → 5 * (length B - at) + 2 ≤ cost (length B) at now → IsNext B at to s
+    → all_left n room S fs (length B) to s < all_left n room S fs (length B) at now
+stepped n room S fs B at to now s first h = goes_on n room S fs (length B) at (length B) to now s (omega (arith, first, cost_of_next B at to s h))
 
 -- a block inside is opened
 pub opens : (n room : ℕ) (S : Block) (fs : List Frame) (B : Block) (at : ℕ) (s : Step) (f : Frame) (m : ℕ)
     → length fs < room → placement_block S f.placement ≡ B → left S f < cost (length B) at s → m ≤ n
-    → all_left n room S (fs ++ f ∷ []) m 0 Next < all_left n room S fs (length B) at s
+    → all_left n room S (fs ++ f ∷ []) m 0 Begin < all_left n room S fs (length B) at s
 opens n room S fs B at s f m r e h i =
     rw (map-append (left S) fs (f ∷ [])) (more (5 * n + 6) room (map (left S) fs) (omega (arith, fewer S fs, r)) h (cost_of_begin n m i))
 
@@ -82,7 +89,7 @@ resumes n room S fs f k at j to s t r h =
 
 -- a block that waited waits for another part
 pub waits_again : (n room : ℕ) (S : Block) (fs : List Frame) (f g : Frame) (k at m : ℕ) (s : Step)
-    → length fs < room → left S g < left S f → m ≤ n → all_left n room S (fs ++ g ∷ []) m 0 Next < all_left n room S (fs ++ f ∷ []) k at s
+    → length fs < room → left S g < left S f → m ≤ n → all_left n room S (fs ++ g ∷ []) m 0 Begin < all_left n room S (fs ++ f ∷ []) k at s
 waits_again n room S fs f g k at m s r h i =
     rw (map-append (left S) fs (f ∷ [])) (rw (map-append (left S) fs (g ∷ [])) (
     let a = more (5 * n + 6) room (map (left S) fs) (omega (arith, fewer S fs, r)) h (cost_of_begin n m i) in

@@ -8,7 +8,7 @@ use Rattle.rst_markup_blocks.specs.declared.part.Part.{Part}
 use Rattle.rst_block_nodes.specs.Sections.{items_of}
 use Rattle.rst_block_state.specs.machine.Frames.{ended_as}
 use Rattle.rst_block_state.specs.machine.Meanings.{IsNew, Keeps, after, comes, deepest, done_of, open_run_of, plug, reads, reads_from, resumed, with_item, within_at}
-use Rattle.rst_block_state.specs.Nodes.{block_items, nodes_among}
+use Rattle.rst_block_state.specs.Nodes.{nodes_among}
 use Rattle.rst_block_state.specs.Numbered.{Numbered, ◌>>=◌, just}
 use Rattle.rst_block_state.specs.machine.OpenBlocks.{HasMore, HasItem}
 use Rattle.rst_block_state.specs.Texts.{lines_in}
@@ -20,11 +20,11 @@ use Rattle.rst_block_state.specs.declared.frame.Frame.{Frame}
 use Rattle.rst_block_state.specs.declared.open_block.OpenBlock.{OpenBlock}
 use Rattle.rst_block_state.specs.declared.waits.Waits.{Waits}
 use Rattle.rst_block_state.specs.declared.step.Step.{Step}
-use Rattle.rst_block_state.specs.declared.step.Step.TheVariants.{Open}
+use Rattle.rst_block_state.specs.declared.step.Step.TheVariants.{Begin, Open}
 use Rattle.rst_block_state.specs.declared.texts.Pass.{Pass}
 use Rattle.rst_block.specs.Reading.{Continues}
 use Rattle.rst_block_state.proofs.Changes.{more_is_read, item_is_read}
-use Rattle.rst_block_state.proofs.MeaningLemmas.{part_means, done_means, plug_none, plug_same, plug_refused, reads_all}
+use Rattle.rst_block_state.proofs.MeaningLemmas.{part_means, done_means, plug_none, plug_same, plug_refused}
 use Rattle.rst_block_state.proofs.NumberedLemmas.{at_number}
 use Rattle.rst_block_state.proofs.RestLemmas.{nodes_among_plain}
 
@@ -85,11 +85,11 @@ plug_fails S fs r n all NoMemory f g inv h = tt
 -- the block that is read waits for a part, which is read next
 pub plug_opens : (S : Block) (fs : List Frame) (f : Frame) (old l : OpenBlock) (B X : Block) (w : Waits) (first : Part) (second : Option Part) (n : ℕ)
     → f.level ≡ old → placement_block S f.placement ≡ B → f.waits ≡ w → f.second ≡ second → f.nodes ≡ [] → X ≡ lines_in B first
-    → l.depth ≡ suc old.depth → suc old.depth ≤ deepest → IsNew l
-    → plug S (fs ++ f ∷ []) (reads l X) n ≡ plug S fs (comes old B (Open w first second)) n
-plug_opens S fs f old l B X w first second n a b c d e x i j k =
+    → l.depth ≡ suc old.depth → old.depth ≤ deepest
+    → plug S (fs ++ f ∷ []) (comes l X Begin) n ≡ plug S fs (comes old B (Open w first second)) n
+plug_opens S fs f old l B X w first second n a b c d e x i j =
     let depth : f.level.depth ≡ old.depth = ap (λ (o : OpenBlock). o.depth) a in
-    part_means S fs f l X n (i ∙ ap suc (sym depth)) (omega (arith, depth, j)) k
+    part_means S fs f l X n (omega (arith, depth, j)) (i ∙ ap suc (sym depth))
     ∙ ap (λ Y. plug S fs (waiting_for f.level (placement_block S f.placement) Y f.waits f.second f.nodes) n) x
     ∙ ap (λ o. plug S fs (waiting_for o (placement_block S f.placement) (lines_in B first) f.waits f.second f.nodes) n) a
     ∙ ap (λ C. plug S fs (waiting_for old C (lines_in B first) f.waits f.second f.nodes) n) b
@@ -100,10 +100,10 @@ plug_opens S fs f old l B X w first second n a b c d e x i j k =
 -- a block was read, and the one that waits for it reads another part
 pub plug_waits : (S : Block) (fs : List Frame) (f g : Frame) (old l : OpenBlock) (part : View) (m n : ℕ) (all : Result (List Item × ℕ) ℕ)
     → ended_as S l (Waiting g part) m ≡ after f.level (placement_block S f.placement) f.waits f.second f.nodes (nodes_among (done_of old)) n
-    → l.depth ≡ suc g.level.depth → suc g.level.depth ≤ deepest → IsNew l → plug S (fs ++ f ∷ []) (just (done_of old)) n ≡ all
-    → plug S (fs ++ g ∷ []) (reads l (block_of part)) m ≡ all
-plug_waits S fs f g old l part m n all h d i k inv =
-    part_means S fs g l (block_of part) m d i k
+    → l.depth ≡ suc g.level.depth → g.level.depth ≤ deepest → plug S (fs ++ f ∷ []) (just (done_of old)) n ≡ all
+    → plug S (fs ++ g ∷ []) (comes l (block_of part) Begin) m ≡ all
+plug_waits S fs f g old l part m n all h d i inv =
+    part_means S fs g l (block_of part) m i d
     ∙ plug_same S fs (ended_as S l (Waiting g part)) (after f.level (placement_block S f.placement) f.waits f.second f.nodes (nodes_among (done_of old))) m n h
     ∙ sym (done_means S fs f (done_of old) n)
     ∙ inv
@@ -126,17 +126,9 @@ plug_end_fails S fs f old n all e g k inv h =
 
 -- ---- a text begins and ends
 
--- where no block waits, a text is what its first block gives
-pub plug_begins : (S : Block) (fs : List Frame) (l : OpenBlock) (B : Block) (depth n : ℕ) → fs ≡ [] → IsNew l → l.depth ≡ depth → plug S fs (reads l B) n ≡ block_items (within_at depth) B n
-plug_begins S fs l B depth n e k d =
-    ap (λ fs. plug S fs (reads l B) n) e
-    ∙ at_number n (plug_none S (reads l B))
-    ∙ reads_all l B n k
-    ∙ ap (λ d. block_items (within_at d) B n) d
-
-pub plug_over : (S : Block) (fs : List Frame) (l : OpenBlock) (n : ℕ) (all : Result (List Item × ℕ) ℕ) → fs ≡ [] → plug S fs (just (done_of l)) n ≡ all → just (done_of l) n ≡ all
-plug_over S fs l n all e h =
-    at_number n (sym (plug_none S (just (done_of l)))) ∙ ap (λ fs. plug S fs (just (done_of l)) n) (sym e) ∙ h
+-- where no block waits, a text gives what its first block does
+pub plug_alone : (S : Block) (fs : List Frame) (read : Numbered (List Item)) (n : ℕ) → fs ≡ [] → plug S fs read n ≡ read n
+plug_alone S fs read n e = ap (λ fs. plug S fs read n) e ∙ at_number n (plug_none S read)
 
 -- ---- the nodes that a block gets once one inside it is read
 

@@ -14,7 +14,7 @@ use Rattle.rst_block_nodes.specs.declared.fault.BlockFault.{BlockFault}
 use Rattle.rst_block_state.specs.declared.frame.Frame.{Frame}
 use Rattle.rst_block_state.specs.declared.open_block.OpenBlock.{OpenBlock}
 use Rattle.rst_block_state.specs.declared.step.Step.{Step}
-use Rattle.rst_block_state.specs.declared.step.Step.TheVariants.{Next, Open, Cells, Done}
+use Rattle.rst_block_state.specs.declared.step.Step.TheVariants.{Begin, Next, Open, Cells, Done}
 use Rattle.rst_block_state.specs.declared.texts.Pass.{Pass}
 
 -- what comes next: the cells of a table that was found, or nothing
@@ -37,10 +37,10 @@ ContinuesFrom B old s before new after result = Continues B old before (comes ol
 pub record IsReading (outer first : ℕ) (S : Block) (fs : List Frame) (l : OpenBlock) (view : View) (step : Step) : Type 0 where
   pub base : first ≤ length fs
   pub under : first ≤ outer
-  pub room : outer + (length fs - first) ≤ 250
+  pub room : outer + (length fs - first) ≤ 251
   pub waiting : AreFrames S (drop first fs)
   pub text : source_of view ≡ S
-  pub now : IsNow (block_of view) l.at step
+  pub now : IsNow (block_of view) l step
   pub depth : l.depth ≡ outer + (length fs - first)
   pub nested : AreNested outer (drop first fs)
 
@@ -59,6 +59,7 @@ work m (suc l) (v ∷ ws) w = scale m (suc l) v + work m l ws w
 
 -- what is left in a block of n lines that goes on at a place, by what comes next
 abbrev pub cost : ℕ → ℕ → Step → ℕ
+cost n at Begin = 5 * (n - at) + 3
 cost n at Next = 5 * (n - at) + 2
 cost n at (Open w first second) = 5 * (n - at) + 5
 cost n at (Cells table) = 5 * (n - at) + 1
@@ -79,4 +80,4 @@ all_left n room S fs lines at now = work (5 * n + 6) room (map (left S) fs) (cos
 
 -- the same for a text of any length
 abbrev pub text_left : ℕ → ℕ → Block → List Frame → OpenBlock → View → Step → ℕ
-text_left depth base S fs l view now = all_left (2 ^ 64) (250 - depth) S (drop base fs) (length (block_of view)) l.at now
+text_left depth base S fs l view now = all_left (2 ^ 64) (251 - depth) S (drop base fs) (length (block_of view)) l.at now

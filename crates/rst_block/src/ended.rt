@@ -1,5 +1,5 @@
 //! The end of a block inside another.
-ghost use Rattle.std.specs.Prelude.{◌≡◌, suc, ◌-◌, ◌<◌, IfOk};
+ghost use Rattle.std.specs.Prelude.{◌≡◌, suc, ◌-◌, ◌<◌, ◌≤◌, IfOk};
 ghost use Rattle.rst_text.specs.ViewBlock.{source_of, placement_block};
 ghost use Rattle.rst_block_state.specs.machine.Frames as frames;
 ghost use Rattle.rst_block_state.specs.machine.Meanings.{Keeps, after, deepest, done_of};
@@ -22,7 +22,7 @@ pub(crate) fn closed<'a>(
 ) -> Result<Ended<'a>>
     requires frame { frames.IsFrame (source_of whole.now) frame }
     requires depth { depth ≡ suc frame.level.depth }
-    requires deepest { frame.level.depth < deepest }
+    requires deepest { frame.level.depth ≤ deepest }
     requires inner { 0 < level.old.depth }
     ensures ended { IfOk result (frames.IsEnded (source_of whole.now) frame level.new.at) }
     ensures kept { IfOk result (frames.KeepsFrame frame depth level.new) }

@@ -10,7 +10,7 @@ use std::marker::Model;
 /// The blocks that wait for one inside them, the outermost first: each on the heap, so an array for as many as may wait is small.
 #[derive(Drop)]
 pub(crate) struct Frames {
-    places: ArrayVec<Option<Box<Frame>>, 250, Global>,
+    places: ArrayVec<Option<Box<Frame>>, 251, Global>,
 }
 
 impl Model for Frames {
@@ -49,7 +49,7 @@ impl Frames {
 
     /// Adds one after them. There must be room.
     pub(crate) fn push(&mut self, alloc: Global, frame: Frame) -> Result<()>
-        requires { length self.old < 250 }
+        requires { length self.old < 251 }
         ensures { Gives (λ _. self.new ≡ self.old ++ frame ∷ []) result }
     {
         self.places.push(Some(Box::new(alloc, frame)?));

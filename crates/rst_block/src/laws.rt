@@ -60,13 +60,6 @@ pub(crate) fn waiting_blocks_go_on()
     ensures item { meaning.ItemIsRead }
 {}
 
-/// Below the last level a block that waits goes on without nodes if the parts that it waits for are blank, and else it is
-/// refused.
-pub(crate) fn last_blocks_are_flat()
-    ensures flat { meaning.LastBlockIsFlat }
-    ensures refused { meaning.LastBlockIsRefused }
-{}
-
 /// What calls change of the block that is read, in what it gives: more nodes, one more item of a list, a title.
 pub(crate) fn changes_are_read()
     ensures nodes { meaning.NodesAreRead }
@@ -104,14 +97,13 @@ pub fn looks_are_paid()
     ensures second { ledger.SecondIsPaid }
 {}
 
-/// What blocks that wait may still take of looks, and have to take: as they go on, wait for the next quote, are below the last
-/// level, or have read the cells of a table.
+/// What blocks that wait may still take of looks, and have to take: as they go on, wait for the next quote, or have read the
+/// cells of a table.
 pub(crate) fn waiting_blocks_are_paid()
     ensures quote { ledger.QuoteIsOne }
     ensures quotes { ledger.QuotesAreSplit }
     ensures resumed { ledger.ResumedIsPaid }
     ensures next_quote { ledger.QuotesArePaid }
-    ensures flat { ledger.LastBlockIsPaid }
     ensures cell { ledger.CellIsText }
     ensures rows { ledger.CellsAreOfRows }
     ensures table { ledger.TableIsPaid }
@@ -123,10 +115,9 @@ pub fn inside_is_read()
     ensures { inside.InsideIsRead }
 {}
 
-/// What a text takes: none without lines, and one for each line below the last level. A document takes no more looks than its
+/// What a text takes: one for each line below the last level. A document takes no more looks than its
 /// budget allows and no fewer than its floor asks for, where it takes one to 128 for each line of it and of all inside.
 pub fn documents_are_bounded()
-    ensures empty { ledger.EmptyTextIsFree }
     ensures flat { ledger.LastTextIsFlat }
     ensures bounded { ledger.DocumentIsBounded }
 {}

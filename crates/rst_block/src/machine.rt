@@ -7,10 +7,11 @@ ghost use Rattle.rst_markup_blocks.specs.Parts.{IsBlock};
 ghost use Rattle.rst_tree.specs.declared.tag.Tag.TheVariants.{Row};
 ghost use Rattle.rst_block_nodes.specs.Elements.{element_of, entry_node};
 ghost use Rattle.rst_block_nodes.specs.Sections.{filled};
+ghost use Rattle.rst_block_state.specs.machine.Frames.{IsNow};
 ghost use Rattle.rst_block_state.specs.machine.Meanings.{IsNew, Keeps, TellsBlank, comes, deepest, done_of, plug, reads, text_items, within_at};
 ghost use Rattle.rst_block_state.specs.machine.OpenBlocks.{Gives, HasMore};
 ghost use Rattle.rst_block_state.specs.machine.Steps as spec;
-ghost use Rattle.rst_block_state.specs.declared.step.Step.TheVariants.{Next, Open, Cells};
+ghost use Rattle.rst_block_state.specs.declared.step.Step.TheVariants.{Begin, Next, Cells};
 ghost use Rattle.rst_block_state.specs.Nodes.{block_items};
 ghost use Rattle.rst_block_state.specs.Numbered.{each, just};
 ghost use Rattle.rst_block_state.specs.Tables as tables;
@@ -21,7 +22,6 @@ ghost use Rattle.rst_markup_tables.specs.declared.results.TableResult.TheVariant
 
 use super::ended::closed;
 use super::frames::Frames;
-use super::resume::resume;
 use super::step::step_at;
 use rst_block_body::table::{after_table, entry_of, table_of};
 use rst_block_state::{
@@ -53,39 +53,17 @@ pub(crate) fn read(
     ensures lines { IfOk result (λ _. IsTrue (are_lines lines.now)) }
 {
     let whole = View::whole(lines);
-    if 0 < whole.len() && level.depth <= DEEPEST {
-        return read_blocks(&whole, level, frames, pass);
-    }
-    not_blank(&whole, pass)?;
-    Ok(())
-}
-
-/// The same where there are lines, and not too deep.
-#[cycle(machine)]
-fn read_blocks(
-    whole: &View<'_>,
-    level: &mut OpenBlock,
-    frames: &mut Frames,
-    pass: &mut Pass,
-) -> Result<()>
-    requires depth { level.old.depth ≤ 250 }
-    requires new { IsNew level.old }
-    requires room { length frames.old ≤ level.old.depth }
-    ensures frames { IfOk result (λ _. frames.new ≡ frames.old) }
-    ensures depth { IfOk result (λ _. level.new.depth ≡ level.old.depth) }
-    ensures read { Keeps result (λ _. just (done_of level.new) pass.new.numbers)
-        (block_items (within_at level.old.depth) (block_of whole.now) pass.old.numbers) }
-    ensures paid { IfOk result (λ _. TakesFor (total_at level.old.depth (block_of whole.now)) pass.old.looks pass.new.looks) }
-{
     let depth = level.depth;
     let base = frames.len();
-    let mut view = *whole;
+    let mut view = whole;
+    let mut now = Step::Begin;
     loop {
-        match read_on(whole, &mut view, level, depth, base, frames, pass)? {
+        match read_on(&whole, &mut view, level, now, depth, base, frames, pass)? {
             None => return Ok(()),
             Some(table) => {
                 let inner = level.depth + 1;
                 cells(&view, level, table, inner, frames, pass)?;
+                now = Step::Next;
             }
         }
     }
@@ -99,31 +77,32 @@ fn read_on<'a>(
     whole: &View<'a>,
     view: &mut View<'a>,
     level: &mut OpenBlock,
+    mut now: Step,
     depth: usize,
     base: usize,
     frames: &mut Frames,
     pass: &mut Pass,
 ) -> Result<Option<TableResult>>
-    requires reading { IsReading depth base (source_of whole.now) frames.old level.old view.old Next }
+    requires reading { IsReading depth base (source_of whole.now) frames.old level.old view.old now }
     ensures reading { IfOk result (λ found. IsReading depth base (source_of whole.now) frames.new level.new view.new (found_step found)) }
     ensures outer { IfOk result (λ _. take base frames.new ≡ take base frames.old) }
     ensures last { IfOk result (λ found. IfNone found (length frames.new ≡ base)) }
     ensures less { let S = source_of whole.now in
-        IfOk result (λ found. text_left depth base S frames.new level.new view.new (found_step found) ≤ text_left depth base S frames.old level.old view.old Next) }
+        IfOk result (λ found. text_left depth base S frames.new level.new view.new (found_step found) ≤ text_left depth base S frames.old level.old view.old now) }
     ensures read { let S = source_of whole.now in
         Keeps result (λ found. plug S (drop base frames.new) (comes level.new (block_of view.new) (found_step found)) pass.new.numbers)
-        (plug S (drop base frames.old) (reads level.old (block_of view.old)) pass.old.numbers) }
+        (plug S (drop base frames.old) (comes level.old (block_of view.old) now) pass.old.numbers) }
     ensures paid { let S = source_of whole.now in
-        let most = most_in S (drop base frames.old) + most_left level.old (block_of view.old) Next in
-        let least = least_in S (drop base frames.old) + least_left level.old (block_of view.old) Next in
+        let most = most_in S (drop base frames.old) + most_left level.old (block_of view.old) now in
+        let least = least_in S (drop base frames.old) + least_left level.old (block_of view.old) now in
         IfOk result (λ found. let B = block_of view.new in
         let s = found_step found in
         Takes most least pass.old.looks (most_in S (drop base frames.new) + most_left level.new B s) (least_in S (drop base frames.new) + least_left level.new B s) pass.new.looks) }
 {
-    let mut now = Step::Next;
     loop {
         let inner = depth + (frames.len() - base) + 1;
         now = match now {
+            Step::Begin => begin(view, level, pass)?,
             Step::Next => next(view, level, pass)?,
             Step::Cells(table) => return Ok(Some(table)),
             Step::Open {
@@ -131,14 +110,10 @@ fn read_on<'a>(
                 first,
                 second,
             } => {
-                if inner > DEEPEST {
-                    flat(view, level, waits, first, second, pass)?
-                } else {
-                    let frame = opened(pass.alloc, view, level, waits, second, inner);
-                    frames.push(pass.alloc, frame)?;
-                    *view = inside(view, first);
-                    Step::Next
-                }
+                let frame = opened(pass.alloc, view, level, waits, second, inner);
+                frames.push(pass.alloc, frame)?;
+                *view = inside(view, first);
+                Step::Begin
             }
             Step::Done => match frames.pop(base) {
                 None => return Ok(None),
@@ -146,7 +121,7 @@ fn read_on<'a>(
                     Ended::Waiting(frame, part) => {
                         frames.push(pass.alloc, frame)?;
                         *view = part;
-                        Step::Next
+                        Step::Begin
                     }
                     Ended::GoesOn(outer, next) => {
                         *view = outer;
@@ -156,6 +131,21 @@ fn read_on<'a>(
             },
         };
     }
+}
+
+/// What comes first in a block of which nothing was read. Below the last level it must be blank.
+fn begin(view: &View<'_>, level: &mut OpenBlock, pass: &mut Pass) -> Result<Step>
+    requires new { IsNew level.old }
+    requires depth { level.old.depth ≤ 251 }
+    ensures now { IfOk result (λ s. IsNow (block_of view.now) level.new s) }
+    ensures next { IfOk result (λ s. spec.IsNext (block_of view.now) level.old.at level.new.at s) }
+    ensures goes { ContinuesFrom (block_of view.now) level.old Begin pass.old level.new pass.new result }
+{
+    if level.depth <= DEEPEST {
+        return next(view, level, pass);
+    }
+    not_blank(view, pass)?;
+    Ok(Step::Done)
 }
 
 /// What comes in a block after the constructs that are read at once: one that waits for a block inside, or the block's end.
@@ -188,29 +178,6 @@ fn not_blank(view: &View<'_>, pass: &mut Pass) -> Result<()>
         });
     }
     Ok(())
-}
-
-/// Goes on with a block so deep that those inside it must be blank.
-fn flat(
-    view: &View<'_>,
-    level: &mut OpenBlock,
-    waits: Waits,
-    first: Part,
-    second: Option<Part>,
-    pass: &mut Pass,
-) -> Result<Step>
-    requires first { IsBlock (block_of view.now) first }
-    requires second { spec.IsBlockIf (block_of view.now) second }
-    requires waits { spec.IsWaiting (block_of view.now) level.old.at waits }
-    requires deepest { level.old.depth ≡ deepest }
-    ensures step { IfOk result (λ s. spec.IsResumed (block_of view.now) level.old.at level.new.at s) }
-    ensures goes { ContinuesFrom (block_of view.now) level.old (Open waits first second) pass.old level.new pass.new result }
-{
-    not_blank(&inside(view, first), pass)?;
-    if let Some(second) = second {
-        not_blank(&inside(view, second), pass)?;
-    }
-    resume(view, level, waits, MarkedNodes::none(pass.alloc), pass)
 }
 
 /// Puts a table, whose cells are inside `depth` blocks, after the last node, and goes on.

@@ -1,12 +1,10 @@
 -- A line of one punctuation character at the next line of a block: its form decides the construct.
-use Rattle.std.proofs.Common.{◌≡◌, ℕ, Bool, true, false, cond, List, Result, codes, drop, Option, Some, unwrap_or, refl, sym, ◌∙◌, ap}
+use Rattle.std.proofs.Common.{◌≡◌, ℕ, Bool, true, false, cond, List, drop, Some, unwrap_or, refl, sym, ◌∙◌, ap}
 use Rattle.std.proofs.lemmas.Bool.{eqb-true}
 use Rattle.std.specs.Prelude.{◌==◌, ◌&&◌, nat_le}
 use Rattle.std.specs.Option.{option_map_or}
-use Rattle.rst_text.specs.Block.{Block, first_number}
-use Rattle.rst_tree.specs.declared.node.Node.{Node}
+use Rattle.rst_text.specs.Block.{Block}
 use Rattle.rst_tree.specs.declared.note.Level.{Level}
-use Rattle.rst_markup_lines.specs.TextStart.{unindented}
 use Rattle.rst_markup_lines.specs.declared.adornment.Adornment.{Adornment}
 use Rattle.rst_markup_blocks.specs.Begun.{IsBegun}
 use Rattle.rst_markup_blocks.specs.Conditions.{next_text}
@@ -15,13 +13,10 @@ use Rattle.rst_markup_blocks.specs.Sizes.{adornment_size, adorned_size, fixed_si
 use Rattle.rst_markup_blocks.specs.declared.begun.Begun.TheVariants as begun
 use Rattle.rst_markup_blocks.specs.declared.form.Adorned.{Adorned}
 use Rattle.rst_markup_blocks.specs.declared.form.Adorned.TheVariants.{Title as AdornedTitle, Text, Unexpected, ShortAdornment}
-use Rattle.rst_block_nodes.specs.declared.heading.Style.{Style}
 use Rattle.rst_block_state.specs.Constructs.{adorned_by, misplaced_lines}
 use Rattle.rst_block_state.specs.machine.NextLine.{IsNextConstruct, IsMessageOn}
-use Rattle.rst_block_state.specs.Texts.{span_source}
-use Rattle.rst_block_state.specs.Titles.{Item, short_warning, title_item, overlined_nodes}
 use Rattle.rst_block_state.specs.declared.open_block.OpenBlock.{OpenBlock}
-use Rattle.rst_block_state.proofs.NextConstructs.{next_of, span_to}
+use Rattle.rst_block_state.proofs.NextConstructs.{next_of}
 
 -- the form of a line of one punctuation character at the next line
 abbrev pub form_at : OpenBlock → Block → Adornment → Adorned
@@ -72,20 +67,3 @@ wrong_next l B {mark} level text h e m s =
       construct = next.construct ∙ m (l.depth == 0) mark (drop l.at B);
       size = next.size ∙ ap (λ o. unwrap_or o (text_size (drop l.at B))) s;
     }
-
--- ---- titles with an overline
-
--- the title that is made is that of the lines
-pub overlined_reads : (mark : Adornment) (short : Bool) (B : Block) (at stop line m : ℕ) (text bytes : List ℕ) (warning : Option Node) (read : Result (List Item × ℕ) ℕ)
-    → text ≡ unindented (next_text (drop at B)) → line ≡ first_number (drop 1 (drop at B)) → warning ≡ short_warning short (first_number (drop at B)) (codes "Title overline too short.") bytes
-    → bytes ≡ span_source B (span_to at stop) → title_item (record { character = mark.character; overlined = true }) text line warning bytes m ≡ read
-    → overlined_nodes mark short (span_source B (span_to at stop)) (drop at B) m ≡ read
-overlined_reads mark short B at stop line m text bytes warning read t n w b h =
-    let X : Block = drop at B in
-    let style : Style = record { character = mark.character; overlined = true } in
-    sym (
-    ap (λ u. title_item style u line warning bytes m) t
-    ∙ ap (λ i. title_item style (unindented (next_text X)) i warning bytes m) n
-    ∙ ap (λ o. title_item style (unindented (next_text X)) (first_number (drop 1 X)) o bytes m) w
-    ∙ ap (λ x. title_item style (unindented (next_text X)) (first_number (drop 1 X)) (short_warning short (first_number X) (codes "Title overline too short.") x) x m) b)
-    ∙ h

@@ -11,12 +11,12 @@ use Rattle.rst_block_nodes.specs.LineBlocks.{IndentedLine, indented_by, indented
 use Rattle.rst_block_nodes.specs.declared.line_blocks.BarText.{BarText}
 use Rattle.rst_block_state.specs.Constructs.{bar_line, Found}
 use Rattle.rst_block_state.specs.Joins.{lines_from, joining_after}
-use Rattle.rst_block_state.specs.LineRuns.{below_bar, bar_lines, number_or, indentation_of, indented_line, indented_lines}
+use Rattle.rst_block_state.specs.LineRuns.{below_bar, number_or, indentation_of, indented_line, indented_lines}
 use Rattle.rst_block_body.specs.TextSteps.{text_over}
 use Rattle.rst_block_state.specs.machine.Meanings.{joining_in, open_run_of, within_at, done_of, reads}
 use Rattle.rst_block_state.specs.machine.NextLine.{IsNextConstruct}
 use Rattle.rst_block_state.specs.Numbered.{Numbered, ◌>>=◌, before}
-use Rattle.rst_block_state.specs.machine.OpenBlocks.{IsMoved, HasRun, HasLine, line_added, lines_end_at}
+use Rattle.rst_block_state.specs.machine.OpenBlocks.{HasRun, HasLine, line_added, lines_end_at}
 use Rattle.rst_block_state.specs.machine.Rest.{OpenRun, no_run, open_lines, joining_with, last_indent, rest, rest_with}
 use Rattle.rst_block_state.specs.machine.RestLaws.{found_as}
 use Rattle.rst_block_state.specs.Texts.{joined}
@@ -63,43 +63,17 @@ line_cut B at f h =
     let one : at + 1 - at ≡ 1 = omega arith in
     ap (λ n. shorten_all f 0 (take n (drop at B))) one ∙ first_cut f (drop at B) (omega (arith, length-drop at B, h))
 
--- the lines of a bar's text
-full_lines : (B : Block) (m : Marker) (s : Span) → m.bare ≡ false → s.start < length B
-    → bar_lines B m s ≡ (record { number = first_number (drop s.start B); text = drop m.cut (first_text (drop s.start B)) }) ∷ below_bar B s
-full_lines B m s bare h =
-    ap (λ (b : Bool). if b then below_bar B s else cut B s.start (s.start + 1) m.cut 0 ++ below_bar B s) bare
-    ∙ ap (λ X. X ++ below_bar B s) (line_cut B s.start m.cut h)
-
-bare_lines : (B : Block) (m : Marker) (s : Span) → m.bare ≡ true → bar_lines B m s ≡ below_bar B s
-bare_lines B m s bare = ap (λ (b : Bool). if b then below_bar B s else cut B s.start (s.start + 1) m.cut 0 ++ below_bar B s) bare
-
-line_is : (i j line m n k : ℕ) (t u : List ℕ) → i ≡ j → line ≡ m → n ≡ k → t ≡ u
-    → record { indent = i; line = line; text_line = n; text = t } ≡ (let l : IndentedLine = record { indent = j; line = m; text_line = k; text = u } in l)
-line_is i j line m n k t u a b c d = rw (a, b, c, d) refl
-
 -- a line with text after its bar
 pub full_line : (B : Block) (m : Marker) (s : Span) (indent line last : ℕ) (t : List ℕ) (below : Block) → m.bare ≡ false → s.start < length B → indent ≡ m.cut - 2 → line ≡ first_number (drop s.start B)
     → below ≡ below_bar B s → t ≡ text_over (drop m.cut (first_text (drop s.start B))) below
     → (let l : IndentedLine = record { indent = indent; line = line; text_line = line; text = t } in l) ≡ indented_line (indentation_of last m) B m s
-full_line B m s indent line last t below bare h i n b e =
-    let lines = full_lines B m s bare h in
-    line_is indent (indentation_of last m) line (first_number (drop s.start B)) line (number_or (first_number (drop s.start B)) (bar_lines B m s)) t (joined (bar_lines B m s))
-    (i ∙ sym (ap (λ (c : Bool). if c then last else m.cut - 2) bare))
-    n
-    (n ∙ sym (ap (number_or (first_number (drop s.start B))) lines))
-    (e ∙ ap (text_over (drop m.cut (first_text (drop s.start B)))) b ∙ sym (ap joined lines))
+full_line B m s indent line last t below bare h i n b e = rw (e, b, i, n, bare, line_cut B s.start m.cut h) refl
 
 -- a line whose bar is alone
 pub bare_line : (B : Block) (m : Marker) (s : Span) (line text_line last : ℕ) (t : List ℕ) (below : Block) → m.bare ≡ true → line ≡ first_number (drop s.start B)
     → below ≡ below_bar B s → text_line ≡ number_or line below → t ≡ joined below
     → (let l : IndentedLine = record { indent = last; line = line; text_line = text_line; text = t } in l) ≡ indented_line (indentation_of last m) B m s
-bare_line B m s line text_line last t below bare n b k e =
-    let lines = bare_lines B m s bare in
-    line_is last (indentation_of last m) line (first_number (drop s.start B)) text_line (number_or (first_number (drop s.start B)) (bar_lines B m s)) t (joined (bar_lines B m s))
-    (sym (ap (λ (c : Bool). if c then last else m.cut - 2) bare))
-    n
-    (k ∙ ap (λ i. number_or i below) n ∙ ap (number_or (first_number (drop s.start B))) (b ∙ sym lines))
-    (e ∙ ap joined (b ∙ sym lines))
+bare_line B m s line text_line last t below bare n b k e = rw (e, k, b, n, bare) refl
 
 -- ---- lines as they are kept
 
@@ -184,9 +158,3 @@ line_begun {old} {mid} {new} {B} {m} {lines} {n} {k} opened bar e h next line en
 pub line_refused : {l : OpenBlock} {B : Block} {m : Marker} {lines line : ℕ} (n : ℕ) → lines_end_at l.at (open_run_of l.run) ≡ false → IsNextConstruct l B (bar_line m) lines → run_of l B n ≡ Err line → reads l B n ≡ Err line
 unfolding after_begin
 line_refused {l} {B} {m} {lines} {line} n h next e = run_then_line n h next ∙ close_refused l B n line (λ done. before done (after_begin l B m lines)) e
-
--- ---- what a step keeps
-
--- a line that was put, where the block then goes on
-pub line_gone : {old mid new : OpenBlock} {o : OpenRun} → HasLine old mid o → IsMoved mid new → HasLine old new o
-line_gone g m = record { depth = m.depth ∙ g.depth; nodes = m.nodes ∙ g.nodes; headings = m.headings ∙ g.headings; run = ap open_run_of m.run ∙ g.run }

@@ -1,27 +1,25 @@
 -- Literal blocks and the paragraphs that announce them, and doctest blocks.
-use Rattle.std.proofs.Common.{◌≡◌, ℕ, zero, suc, ◌+◌, ◌-◌, ◌*◌, ◌<◌, ◌≤◌, ◌==◌, ◌⊎◌, inl, inr, Bool, true, false, List, [], ◌∷◌, ◌++◌, length, length-append, length-drop, get_or, take, drop, None, Some, refl, sym, ap, ◌∙◌, arith, lt-ltb, le-ltb, le-leb, get_or-append-add}
-use Rattle.std.specs.Prelude.{codes, if◌then◌else◌, slice_range}
+use Rattle.std.proofs.Common.{◌≡◌, ℕ, zero, suc, ◌+◌, ◌-◌, ◌<◌, ◌≤◌, ◌==◌, ◌⊎◌, inl, inr, Bool, true, false, List, [], ◌∷◌, ◌++◌, length, length-append, length-drop, get_or, take, drop, Option, None, Some, refl, sym, ap, ◌∙◌, arith, lt-ltb, le-ltb, le-leb, get_or-append-add}
+use Rattle.std.specs.Prelude.{codes, if◌then◌else◌}
 use Rattle.std.proofs.lemmas.Bool.{eqb-true}
 use Rattle.std.proofs.lemmas.List.{drop_all}
 use Rattle.rst_text.specs.Block.{Block, first_text, first_number, indentation, is_blank}
 use Rattle.rst_text.specs.Extent.{extent, past_blank}
-use Rattle.rst_text.specs.Looked.{capped}
-use Rattle.rst_text.specs.Reach.{reach}
 use Rattle.rst_tree.specs.declared.node.Node.{Node}
-use Rattle.rst_tree.specs.declared.tag.Tag.TheVariants.{LiteralBlock, DoctestBlock}
+use Rattle.rst_tree.specs.declared.tag.Tag.TheVariants.{LiteralBlock}
 use Rattle.rst_text.specs.Escapes.{is_escaped}
 use Rattle.rst_markup_lines.specs.Adornment.{is_punctuation}
 use Rattle.rst_markup_lines.specs.Closing.{ends_in_colons}
 use Rattle.rst_markup_lines.specs.TextStart.{first, begins_with}
 use Rattle.rst_markup_blocks.specs.Lines.{lines_while}
-use Rattle.rst_markup_blocks.specs.Sizes.{quoted_size, quoted_len, literal_size, doctest_size}
-use Rattle.rst_markup_blocks.specs.declared.lines.LineTest.TheVariants.{Blank, Begins, Filled}
+use Rattle.rst_markup_blocks.specs.Sizes.{quoted_size, quoted_len, literal_size}
+use Rattle.rst_markup_blocks.specs.declared.lines.LineTest.TheVariants.{Blank, Begins}
 use Rattle.rst_block_nodes.specs.Elements.{preserved_node}
-use Rattle.rst_block_state.specs.Literals.{quoting_text, literal_node, indented_literal, quoted_literal, no_literal, literal_by, literal_nodes, doctest_node}
+use Rattle.rst_block_state.specs.Literals.{quoting_text, literal_node, indented_literal, quoted_literal, no_literal, literal_by, literal_nodes}
 use Rattle.rst_block_state.specs.Texts.{joined, lines_in, system_message, span_source, spelled, unless_blank, warned}
 use Rattle.rst_tree.specs.declared.note.Level.TheVariants.{Warning, Error}
 use Rattle.rst_block_state.specs.Within.{indented_part}
-use Rattle.rst_block_state.proofs.RestLemmas.{lines_after, span_to}
+use Rattle.rst_block_state.proofs.RestLemmas.{lines_after}
 
 -- ---- how many lines a literal block has
 
@@ -81,18 +79,14 @@ stopped (l ∷ ls) h = by (is_blank l.text) refl (stopped ls) h
     by true e more h = rw e (more (rw e at h))
     by false e more h = absurd (let no : is_blank l.text ≡ true = rw e at h in let both : true ≡ false = sym no ∙ e in cc)
 
--- what a paragraph announces, by the line after the blank ones
+-- what comes after the blank lines
 abbrev pub after_blanks : Block → Block
 after_blanks Y = drop (lines_while Blank Y) Y
 
-size_indented : (Y : Block) → begins_with 32 (first_text (after_blanks Y)) ≡ true → literal_size Y ≡ lines_while Blank Y + extent 1 (after_blanks Y)
-unfolding literal_size
-size_indented Y h =
-    let some = extent_some (after_blanks Y) h in
-    let all : extent 1 Y ≡ lines_while Blank Y + extent 1 (after_blanks Y) =
-    extent_after_blanks Y ∙ ap (with_blanks (lines_while Blank Y)) some.1 ∙ ap (λ n. lines_while Blank Y + n) (sym some.1) in
-    let positive : 0 < extent 1 Y = omega (arith, all, some.1) in
-    rw (lt-ltb 0 (extent 1 Y) positive) all
+-- the lines of a literal block, by the first character after the blank lines before it
+abbrev pub size_by : Option ℕ → ℕ → Block → ℕ
+size_by None blanks Z = 0
+size_by (Some c) blanks Z = if c == 32 then blanks + extent 1 Z else if is_punctuation c then blanks + lines_while (Begins c) Z else 0
 
 no_extent : (Y : Block) → extent 1 (after_blanks Y) ≡ 0 → literal_size Y ≡ quoted_size (lines_while Blank Y) Y
 unfolding literal_size
@@ -104,19 +98,6 @@ not_blank : (t : List ℕ) (c : ℕ) → first t ≡ Some c → is_blank t ≡ f
 not_blank [] c h = cc
 not_blank (d ∷ ds) c h = refl
 
-size_quoted : (Y : Block) (c : ℕ) → begins_with 32 (first_text (after_blanks Y)) ≡ false → first (first_text (after_blanks Y)) ≡ Some c → is_punctuation c ≡ true
-    → literal_size Y ≡ lines_while Blank Y + lines_while (Begins c) (after_blanks Y)
-unfolding quoted_size
-size_quoted Y c h f p =
-    no_extent Y (extent_none (after_blanks Y) h (not_blank (first_text (after_blanks Y)) c f))
-    ∙ ap (λ o. quoted_len o (lines_while Blank Y) Y) f ∙ rw p refl
-
-size_other : (Y : Block) (c : ℕ) → begins_with 32 (first_text (after_blanks Y)) ≡ false → first (first_text (after_blanks Y)) ≡ Some c → is_punctuation c ≡ false → literal_size Y ≡ 0
-unfolding quoted_size
-size_other Y c h f p =
-    no_extent Y (extent_none (after_blanks Y) h (not_blank (first_text (after_blanks Y)) c f))
-    ∙ ap (λ o. quoted_len o (lines_while Blank Y) Y) f ∙ rw p refl
-
 is_none : (t : List ℕ) → first t ≡ None → is_blank t ≡ true
 is_none [] h = refl
 is_none (c ∷ cs) h = cc
@@ -125,41 +106,26 @@ no_lines : extent 1 [] ≡ 0
 unfolding extent
 no_lines = refl
 
-size_none : (Y : Block) → first (first_text (after_blanks Y)) ≡ None → literal_size Y ≡ 0
-unfolding quoted_size
-size_none Y f =
+begins_by : (t : List ℕ) (c : ℕ) → first t ≡ Some c → begins_with 32 t ≡ (c == 32)
+begins_by [] c h = cc
+begins_by (d ∷ ds) c h = let same : d ≡ c = cc in ap (λ x. x == 32) same
+
+sized : (Y : Block) (o : Option ℕ) → first (first_text (after_blanks Y)) ≡ o → literal_size Y ≡ size_by o (lines_while Blank Y) (after_blanks Y)
+unfolding literal_size quoted_size
+sized Y None f =
     no_extent Y (ap (extent 1) (stopped Y (is_none (first_text (after_blanks Y)) f)) ∙ no_lines)
     ∙ ap (λ o. quoted_len o (lines_while Blank Y) Y) f
-
--- ---- what a literal block gives
-
-begins_first : (t : List ℕ) (c : ℕ) → begins_with c t ≡ true → first t ≡ Some c
-begins_first [] c h = absurd (let no : false ≡ true = h in cc)
-begins_first (d ∷ ds) c h = ap Some (eqb-true d c h)
-
-other_first : (t : List ℕ) (c : ℕ) → begins_with 32 t ≡ false → first t ≡ Some c → (c == 32) ≡ false
-other_first [] c h f = cc
-other_first (d ∷ ds) c h f = let same : d ≡ c = cc in ap (λ x. x == 32) (sym same) ∙ h
-
-nodes_indented : (last : ℕ) (Y : Block) → begins_with 32 (first_text (after_blanks Y)) ≡ true → literal_nodes last Y ≡ indented_literal (after_blanks Y)
-nodes_indented last Y h = ap (λ o. literal_by o last (after_blanks Y)) (begins_first (first_text (after_blanks Y)) 32 h)
-
-nodes_quoted : (last : ℕ) (Y : Block) (c : ℕ) → begins_with 32 (first_text (after_blanks Y)) ≡ false → first (first_text (after_blanks Y)) ≡ Some c → is_punctuation c ≡ true
-    → literal_nodes last Y ≡ quoted_literal (lines_while (Begins c) (after_blanks Y)) (after_blanks Y)
-nodes_quoted last Y c h f p =
-    ap (λ o. literal_by o last (after_blanks Y)) f
-    ∙ ap (λ (b : Bool). if b then indented_literal (after_blanks Y) else if is_punctuation c then quoted_literal (lines_while (Begins c) (after_blanks Y)) (after_blanks Y) else no_literal last (after_blanks Y)) (other_first (first_text (after_blanks Y)) c h f)
-    ∙ ap (λ (b : Bool). if b then quoted_literal (lines_while (Begins c) (after_blanks Y)) (after_blanks Y) else no_literal last (after_blanks Y)) p
-
-nodes_other : (last : ℕ) (Y : Block) (c : ℕ) → begins_with 32 (first_text (after_blanks Y)) ≡ false → first (first_text (after_blanks Y)) ≡ Some c → is_punctuation c ≡ false
-    → literal_nodes last Y ≡ no_literal last (after_blanks Y)
-nodes_other last Y c h f p =
-    ap (λ o. literal_by o last (after_blanks Y)) f
-    ∙ ap (λ (b : Bool). if b then indented_literal (after_blanks Y) else if is_punctuation c then quoted_literal (lines_while (Begins c) (after_blanks Y)) (after_blanks Y) else no_literal last (after_blanks Y)) (other_first (first_text (after_blanks Y)) c h f)
-    ∙ ap (λ (b : Bool). if b then quoted_literal (lines_while (Begins c) (after_blanks Y)) (after_blanks Y) else no_literal last (after_blanks Y)) p
-
-nodes_none : (last : ℕ) (Y : Block) → first (first_text (after_blanks Y)) ≡ None → literal_nodes last Y ≡ no_literal last (after_blanks Y)
-nodes_none last Y f = ap (λ o. literal_by o last (after_blanks Y)) f
+sized Y (Some c) f = by (c == 32) refl
+  where
+    by : (b : Bool) → (c == 32) ≡ b → literal_size Y ≡ size_by (Some c) (lines_while Blank Y) (after_blanks Y)
+    by true e =
+        let some = extent_some (after_blanks Y) (begins_by (first_text (after_blanks Y)) c f ∙ e) in
+        let all : extent 1 Y ≡ lines_while Blank Y + extent 1 (after_blanks Y) =
+        extent_after_blanks Y ∙ ap (with_blanks (lines_while Blank Y)) some.1 ∙ ap (λ n. lines_while Blank Y + n) (sym some.1) in
+        rw (lt-ltb 0 (extent 1 Y) (omega (arith, all, some.1)), e) all
+    by false e =
+        no_extent Y (extent_none (after_blanks Y) (begins_by (first_text (after_blanks Y)) c f ∙ e) (not_blank (first_text (after_blanks Y)) c f))
+        ∙ ap (λ o. quoted_len o (lines_while Blank Y) Y) f ∙ rw e refl
 
 -- ---- quoted literal blocks
 
@@ -301,71 +267,42 @@ colons_last (suc n) (l ∷ m ∷ ms) h = colons_after l.text (joined (take (suc 
 
 -- ---- a literal block after blank lines
 
--- the place after a literal block, by the place after the blank lines before it
-place_after_blanks : (B : Block) (i j n size : ℕ) → j ≡ i + lines_while Blank (drop i B) → size ≡ lines_while Blank (drop i B) + n → j + n ≡ i + size
-place_after_blanks B i j n size e f = omega (arith, e, f)
+-- what it gives and how many lines it has, by the first character after those
+literal_here : (B : Block) (i j last : ℕ) {o : Option ℕ} → j ≡ i + lines_while Blank (drop i B) → first (first_text (drop j B)) ≡ o
+    → (literal_by o last (drop j B) ≡ literal_nodes last (drop i B)) × (literal_size (drop i B) ≡ size_by o (lines_while Blank (drop i B)) (drop j B))
+literal_here B i j last {o} e f =
+    let same : after_blanks (drop i B) ≡ drop j B = lines_after B i (lines_while Blank (drop i B)) j e in (
+      sym (ap (λ Z. literal_by (first (first_text Z)) last Z) same ∙ ap (λ o. literal_by o last (drop j B)) f),
+      sized (drop i B) o (ap (λ Z. first (first_text Z)) same ∙ f) ∙ ap (size_by o (lines_while Blank (drop i B))) same,
+    )
 
--- the lines after the blank ones
-lines_after_blanks : (B : Block) (i j : ℕ) → j ≡ i + lines_while Blank (drop i B) → after_blanks (drop i B) ≡ drop j B
-lines_after_blanks B i j e = lines_after B i (lines_while Blank (drop i B)) j e
+begins_first : (t : List ℕ) (c : ℕ) → begins_with c t ≡ true → first t ≡ Some c
+begins_first [] c h = absurd (let no : false ≡ true = h in cc)
+begins_first (d ∷ ds) c h = ap Some (eqb-true d c h)
 
 pub indented_here : (B : Block) (i j last : ℕ) → j ≡ i + lines_while Blank (drop i B) → begins_with 32 (first_text (drop j B)) ≡ true
     → (indented_literal (drop j B) ≡ literal_nodes last (drop i B)) × (j + extent 1 (drop j B) ≡ i + literal_size (drop i B))
-indented_here B i j last e h =
-    let same : after_blanks (drop i B) ≡ drop j B = lines_after_blanks B i j e in
-    let space : begins_with 32 (first_text (after_blanks (drop i B))) ≡ true = ap (λ X. begins_with 32 (first_text X)) same ∙ h in (
-      ap indented_literal (sym same) ∙ sym (nodes_indented last (drop i B) space),
-      place_after_blanks B i j (extent 1 (drop j B)) (literal_size (drop i B)) e (size_indented (drop i B) space ∙ ap (λ X. lines_while Blank (drop i B) + extent 1 X) same),
-    )
+indented_here B i j last e h = let k = literal_here B i j last e (begins_first (first_text (drop j B)) 32 h) in (k.0, omega (arith, e, k.1))
 
 pub quoted_here : (B : Block) (i j last c : ℕ) → j ≡ i + lines_while Blank (drop i B) → begins_with 32 (first_text (drop j B)) ≡ false → first (first_text (drop j B)) ≡ Some c
     → is_punctuation c ≡ true
     → (quoted_literal (lines_while (Begins c) (drop j B)) (drop j B) ≡ literal_nodes last (drop i B)) × (j + lines_while (Begins c) (drop j B) ≡ i + literal_size (drop i B))
 quoted_here B i j last c e h f p =
-    let same : after_blanks (drop i B) ≡ drop j B = lines_after_blanks B i j e in
-    let space : begins_with 32 (first_text (after_blanks (drop i B))) ≡ false = ap (λ X. begins_with 32 (first_text X)) same ∙ h in
-    let first_char : first (first_text (after_blanks (drop i B))) ≡ Some c = ap (λ X. first (first_text X)) same ∙ f in (
-      ap (λ X. quoted_literal (lines_while (Begins c) X) X) (sym same) ∙ sym (nodes_quoted last (drop i B) c space first_char p),
-      place_after_blanks B i j (lines_while (Begins c) (drop j B)) (literal_size (drop i B)) e (size_quoted (drop i B) c space first_char p ∙ ap (λ X. lines_while Blank (drop i B) + lines_while (Begins c) X) same),
-    )
+    let other : (c == 32) ≡ false = sym (begins_by (first_text (drop j B)) c f) ∙ h in
+    let k = literal_here B i j last e f in
+    let given : literal_by (Some c) last (drop j B) ≡ quoted_literal (lines_while (Begins c) (drop j B)) (drop j B) = rw (other, p) refl in
+    let size : size_by (Some c) (lines_while Blank (drop i B)) (drop j B) ≡ lines_while Blank (drop i B) + lines_while (Begins c) (drop j B) = rw (other, p) refl in
+    (sym given ∙ k.0, omega (arith, e, k.1, size))
 
 pub other_here : (B : Block) (i j last c : ℕ) → j ≡ i + lines_while Blank (drop i B) → begins_with 32 (first_text (drop j B)) ≡ false → first (first_text (drop j B)) ≡ Some c
     → is_punctuation c ≡ false → (no_literal last (drop j B) ≡ literal_nodes last (drop i B)) × (i ≡ i + literal_size (drop i B))
 other_here B i j last c e h f p =
-    let same : after_blanks (drop i B) ≡ drop j B = lines_after_blanks B i j e in
-    let space : begins_with 32 (first_text (after_blanks (drop i B))) ≡ false = ap (λ X. begins_with 32 (first_text X)) same ∙ h in
-    let first_char : first (first_text (after_blanks (drop i B))) ≡ Some c = ap (λ X. first (first_text X)) same ∙ f in (
-      ap (no_literal last) (sym same) ∙ sym (nodes_other last (drop i B) c space first_char p),
-      omega (arith, size_other (drop i B) c space first_char p),
-    )
+    let other : (c == 32) ≡ false = sym (begins_by (first_text (drop j B)) c f) ∙ h in
+    let k = literal_here B i j last e f in
+    let given : literal_by (Some c) last (drop j B) ≡ no_literal last (drop j B) = rw (other, p) refl in
+    let size : size_by (Some c) (lines_while Blank (drop i B)) (drop j B) ≡ 0 = rw (other, p) refl in
+    (sym given ∙ k.0, omega (arith, k.1, size))
 
 pub none_here : (B : Block) (i j last : ℕ) → j ≡ i + lines_while Blank (drop i B) → first (first_text (drop j B)) ≡ None
     → (no_literal last (drop j B) ≡ literal_nodes last (drop i B)) × (i ≡ i + literal_size (drop i B))
-none_here B i j last e f =
-    let same : after_blanks (drop i B) ≡ drop j B = lines_after_blanks B i j e in
-    let first_char : first (first_text (after_blanks (drop i B))) ≡ None = ap (λ X. first (first_text X)) same ∙ f in (
-      ap (no_literal last) (sym same) ∙ sym (nodes_none last (drop i B) first_char),
-      omega (arith, size_none (drop i B) first_char),
-    )
-
--- ---- doctest blocks
-
--- a doctest block ends before the first blank line
-pub doctest_end : (B : Block) (i at stop : ℕ) → i ≡ at → stop ≡ i + lines_while Filled (drop i B) → stop ≡ at + doctest_size (drop at B)
-unfolding doctest_size
-doctest_end B i at stop e h = h ∙ ap (λ k. k + lines_while Filled (drop k B)) e
-
-pub doctest_is : (B : Block) (i at stop line : ℕ) (text : List ℕ) (node : Node) → i ≡ at → node ≡ preserved_node DoctestBlock line text → line ≡ first_number (drop i B) → text ≡ span_source B (span_to i stop)
-    → node ≡ doctest_node B (span_to at stop)
-doctest_is B i at stop line text node e n l t = rw (n, l, t, e) refl
-
--- the looks at a doctest block: at each of its lines, and at the line after it, and then at its lines again
-pub doctest_looks : (B : Block) (i at stop before closed end after run : ℕ) → i ≡ at → stop ≡ i + lines_while Filled (drop i B) → capped before ≤ closed → closed ≤ before + run
-    → end ≤ closed + reach (lines_while Filled (drop i B)) (drop i B) → capped (closed + lines_while Filled (drop i B)) ≤ end → after ≤ end + (stop - i)
-    → capped (end + length (slice_range B i stop)) ≤ after
-    → (after ≤ before + run + 29 * reach (doctest_size (drop at B)) (drop at B)) × (capped (before + doctest_size (drop at B)) ≤ after)
-unfolding doctest_size
-doctest_looks B i at stop before closed end after run e s low high most least again each =
-    let size : lines_while Filled (drop i B) ≡ lines_while Filled (drop at B) = ap (λ k. lines_while Filled (drop k B)) e in
-    let far : reach (lines_while Filled (drop i B)) (drop i B) ≡ reach (lines_while Filled (drop at B)) (drop at B) = ap (λ k. reach (lines_while Filled (drop k B)) (drop k B)) e in
-    (omega (arith, high, most, again, s, size, far), omega (arith, low, least, each, size))
+none_here B i j last e f = let k = literal_here B i j last e f in (k.0, omega (arith, k.1))

@@ -106,14 +106,10 @@ attributed_paid old new B p k next line before found read after a box left L res
 -- A block quote, after the end of the open run: its lines are those of the extent, which is looked at once, and then it is read as quotes.
 pub block_quote_paid : (l closed new : OpenBlock) (B : Block) (p : Part) (s : Step) (done : Result (List Item × ℕ) ℕ) (n before mid found after : ℕ) → l.at < length B → IsBegun (drop l.at B) Begins.Quote
     → IsClosed done l closed n no_run → capped before ≤ mid → mid ≤ before + run_looks l.run
-    → p ≡ indented_part closed.at (drop closed.at B) → found ≤ mid + reach (extent 1 (drop closed.at B)) (drop closed.at B)
-    → capped (mid + reach (extent 1 (drop closed.at B)) (drop closed.at B)) ≤ found
+    → p ≡ indented_part l.at (drop l.at B) → found ≤ mid + reach (extent 1 (drop l.at B)) (drop l.at B) → capped (mid + reach (extent 1 (drop l.at B)) (drop l.at B)) ≤ found
     → AreQuotesPaid closed new B p p.to s found after → IsPaid 29 l new B s before after
-block_quote_paid l closed new B p s done n before mid found after inside begun cl low run is look each h =
+block_quote_paid l closed new B p s done n before mid found after inside begun cl low run part looks all h =
     let X : Block = drop l.at B in
-    let part : p ≡ indented_part l.at X = is ∙ ap (λ i. indented_part i (drop i B)) cl.at in
-    let looks : found ≤ mid + reach (extent 1 X) X = subst (λ i. found ≤ mid + reach (extent 1 (drop i B)) (drop i B)) cl.at look in
-    let all : capped (mid + reach (extent 1 X) X) ≤ found = subst (λ i. capped (mid + reach (extent 1 (drop i B)) (drop i B)) ≤ found) cl.at each in
     let from : p.from ≡ l.at = ap (λ (q : Part). q.from) part in
     let to : p.to ≡ l.at + extent 1 X = ap (λ (q : Part). q.to) part in
     let some : l.at < l.at + extent 1 X = next_some (next_of Begins.Quote l B begun tt) inside in

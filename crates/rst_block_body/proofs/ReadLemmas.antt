@@ -1,5 +1,5 @@
 -- Calls that read the construct at the next line: what they give where they can't go on, and where looks come before them.
-use Rattle.std.proofs.Common.{◌≡◌, ℕ, ◌+◌, ◌<◌, ◌≤◌, List, drop, length, Result, Err, arith, subst}
+use Rattle.std.proofs.Common.{◌≡◌, ℕ, ◌+◌, ◌<◌, ◌≤◌, List, drop, length, Result, Err, arith, refl, subst}
 use Rattle.std.specs.Prelude.{◌==◌}
 use Rattle.std.proofs.lemmas.Result.{IfOk-weaker}
 use Rattle.rst_text.specs.Block.{Block}
@@ -20,6 +20,7 @@ use Rattle.rst_block_nodes.specs.declared.fault.BlockFault.TheVariants.{TooDeep,
 use Rattle.rst_block_state.specs.declared.open_block.OpenBlock.{OpenBlock}
 use Rattle.rst_block_state.specs.declared.step.Step.{Step}
 use Rattle.rst_block_state.specs.declared.texts.Pass.{Pass}
+use Rattle.rst_block_state.proofs.Calls.{refused_as}
 use Rattle.rst_block_state.proofs.LedgerLemmas.{size_reached}
 use Rattle.rst_block_state.proofs.NextConstructs.{next_refused, run_of}
 use Rattle.rst_block_body.specs.ReadSteps.{IsReadStep}
@@ -29,6 +30,11 @@ use Rattle.rst_block_body.specs.ReadSteps.{IsReadStep}
 pub refused : {each : ℕ} {B : Block} {old new : OpenBlock} {before after : Pass} {result : Result Step BlockFault} {fault : BlockFault} → result ≡ Err fault
     → Keeps (Err fault) (λ s. comes new B s after.numbers) (reads old B before.numbers) → IsReadStep each B old before new after result
 refused e h = record { step = rw e tt; read = rw e h; paid = rw e tt }
+
+-- where a call before it can't go on
+pub call_refused : {A : Type 0} {each : ℕ} {B : Block} {old new : OpenBlock} {before after : Pass} {result : Result Step BlockFault} (first : A → Result (List Item × ℕ) ℕ) (fault : BlockFault) → result ≡ Err fault
+    → Keeps (Err fault) first (reads old B before.numbers) → IsReadStep each B old before new after result
+call_refused first fault e h = refused e (refused_as fault first _ _ _ refl h)
 
 -- where the open run can't be ended
 pub close_refuses : {each : ℕ} {B : Block} {old new : OpenBlock} {before after : Pass} {result : Result Step BlockFault} {closed : Result (List Item × ℕ) ℕ} (fault : BlockFault) → result ≡ Err fault

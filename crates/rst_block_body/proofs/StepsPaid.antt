@@ -1,5 +1,5 @@
 -- The looks of one step after the other.
-use Rattle.std.proofs.Common.{◌≡◌, ℕ, ◌+◌, ◌-◌, ◌*◌, ◌<◌, ◌≤◌, Bool, [], length, drop, Option, Some, None, Result, IfOk, arith, refl, ap, sym, subst, ◌∙◌, inl, inr}
+use Rattle.std.proofs.Common.{◌≡◌, ℕ, ◌+◌, ◌-◌, ◌*◌, ◌<◌, ◌≤◌, Bool, [], length, drop, Option, Some, None, Result, IfOk, arith, refl, ap, sym, subst, ◌∙◌}
 use Rattle.std.specs.Prelude.{◌==◌}
 use Rattle.std.proofs.lemmas.Result.{IfOk-weaker}
 use Rattle.rst_text.specs.Looked.{capped}
@@ -17,14 +17,12 @@ use Rattle.rst_markup_tables.specs.declared.results.TableFault.{TableFault}
 use Rattle.rst_markup_tables.specs.declared.results.TableResult.{TableResult}
 use Rattle.rst_markup_tables.specs.declared.results.TableResult.TheVariants.{Malformed}
 use Rattle.rst_block_state.specs.looks.Budget.{sum_of}
-use Rattle.rst_block_state.specs.Constructs.{Construct, grid, simple}
-use Rattle.rst_block_state.specs.Inside.{opened_by, cell_blocks, cells_by}
+use Rattle.rst_block_state.specs.Inside.{cell_blocks}
 use Rattle.rst_block_state.specs.looks.Ledger.{unread_at, totals, place_after, next_blocks, next_cells, run_looks, end_looks, most_after, least_after, most_left, least_left, GoesOn, IsPaid, Takes}
 use Rattle.rst_block_state.specs.machine.Meanings.{deepest}
-use Rattle.rst_block_state.specs.machine.NextLine.{IsNextConstruct, IsTableAt}
+use Rattle.rst_block_state.specs.machine.NextLine.{IsTableAt}
 use Rattle.rst_block_state.specs.looks.Reaches.{reach_at}
 use Rattle.rst_block_state.specs.Texts.{lines_in}
-use Rattle.rst_block_state.specs.Within.{Within}
 use Rattle.rst_block_nodes.specs.declared.fault.BlockFault.{BlockFault}
 use Rattle.rst_block_state.specs.declared.open_block.OpenBlock.{OpenBlock}
 use Rattle.rst_block_state.specs.declared.waits.Waits.{Waits}
@@ -34,7 +32,6 @@ use Rattle.rst_block_state.proofs.LedgerLemmas.{construct, size_reached}
 use Rattle.rst_block_state.proofs.NextConstructs.{IsFilled, next_of}
 use Rattle.rst_block_state.proofs.PaidSteps.{one_look, paid_next, reach_of}
 use Rattle.rst_block_body.proofs.TableSteps.{IsNextTable, next_table}
-use Rattle.rst_block_state.proofs.WaitingLooks.{last_block}
 
 -- ---- one after the other
 
@@ -93,21 +90,6 @@ simple_found titles X before after h few some =
     let size : construct_size titles X ≡ simple_size X = ap (λ k. row_size k titles X) (sym h.kind) in
     (omega (arith, few, far), omega (arith, some, size))
 
--- the next construct is a table of a kind: it opens no block, and its cells are those of what is found
-record IsTableOf (l : OpenBlock) (B : Block) (t : TableResult) : Type 0 where
-  what : Construct
-  next : IsNextConstruct l B what (construct_size (l.depth == 0) (drop l.at B))
-  alone : (c : Within) → opened_by what c B l.at (drop l.at B) ≡ []
-  cells : cells_by what B l.at ≡ cell_blocks t
-
-table_kind : (l : OpenBlock) (B : Block) (t : TableResult) → IsTableAt B l.at t → IsTableOf l B t
-table_kind l B t (inl (h, e)) =
-    let n = next_of begun.Grid l B h tt in
-    record { what = grid; next = record { filled = n.filled; construct = n.construct; size = refl }; alone = λ c. refl; cells = ap cell_blocks (sym e) }
-table_kind l B t (inr (h, e)) =
-    let n = next_of begun.Simple l B h tt in
-    record { what = simple; next = record { filled = n.filled; construct = n.construct; size = refl }; alone = λ c. refl; cells = ap cell_blocks (sym e) }
-
 -- A table, at which such looks were taken to find it. Then the run before it ended, and there are the looks at the message on a malformed one, a look at
 -- the line after the table, and one at the end of a run.
 table_paid : {l new : OpenBlock} {B : Block} {t : TableResult} {s : Step} {before found after : ℕ} → IsTableAt B l.at t → l.at < length B → GoesOn s → new.depth ≡ l.depth → place_after new s ≡ end_of t
@@ -115,43 +97,21 @@ table_paid : {l new : OpenBlock} {B : Block} {t : TableResult} {s : Step} {befor
     → after + end_looks new s ≤ found + run_looks l.run + (end_of t - l.at) + 2 → capped found ≤ after → IsPaid 29 l new B s before after
 table_paid {l} {new} {B} {t} {s} {before} {found} {after} h inside goes depth place blocks cells few some most least =
     let X : Block = drop l.at B in
-    let n : ℕ = construct_size (l.depth == 0) X in
-    let kind : IsTableOf l B t = table_kind l B t h in
-    let there : IsNextTable l B t = next_table l B t h in
-    let end : end_of t ≡ l.at + n = there.end ∙ ap (λ k. l.at + k) (sym there.next.size) in
-    let first : l.at < l.at + n = (end_inside (l.depth == 0) B l.at inside).0 in
-    let all : after + end_looks new s ≤ before + run_looks l.run + 29 * reach_at (l.depth == 0) X = omega (arith, few, most, end, first, size_reached (l.depth == 0) X) in
-    paid_next 29 l new B kind.what n s before after kind.next goes depth (place ∙ end) (ap (totals l.depth) (blocks ∙ sym (kind.alone (unread_at l.depth)))) (ap (totals l.depth) (cells ∙ sym kind.cells)) all (omega (arith, some, least))
+    let is : IsNextTable l B t = next_table l B t h in
+    let first = (end_inside (l.depth == 0) B l.at inside).0 in
+    let all : after + end_looks new s ≤ before + run_looks l.run + 29 * reach_at (l.depth == 0) X = omega (arith, few, most, is.end, is.next.size, first, size_reached (l.depth == 0) X) in
+    paid_next 29 l new B is.what is.lines s before after is.next goes depth (place ∙ is.end) (ap (totals l.depth) (blocks ∙ sym (is.opens (unread_at l.depth)))) (ap (totals l.depth) (cells ∙ sym is.cells)) all
+    (omega (arith, some, least, is.next.size))
 
 -- a malformed table, whose lines its message shows
-pub malformed_paid : {l new : OpenBlock} {B : Block} {end : ℕ} {fault : TableFault} (mid before found closed reported after : ℕ) → IsTableAt B l.at (Malformed end fault) → l.at < length B → new.depth ≡ l.depth → new.at ≡ end
-    → found ≤ before + 4 * reach_at (l.depth == 0) (drop l.at B) → capped (before + (construct_size (l.depth == 0) (drop l.at B) - 1)) ≤ found → mid ≡ l.at → closed ≤ found + run_looks l.run → capped found ≤ closed
-    → reported ≤ closed + (end - mid) → capped closed ≤ reported → after ≤ reported + 1 → capped reported ≤ after → IsPaid 29 l new B Next before after
-malformed_paid {l} {new} mid before found closed reported after h inside depth at few some place run low most at_least one more =
-    table_paid h inside tt depth at refl refl few some (omega (arith, place, run, most, one, one_look new.run)) (omega (arith, low, at_least, more))
+pub malformed_paid : {l new : OpenBlock} {B : Block} {end : ℕ} {fault : TableFault} (before found closed reported after : ℕ) → IsTableAt B l.at (Malformed end fault) → l.at < length B → new.depth ≡ l.depth → new.at ≡ end
+    → found ≤ before + 4 * reach_at (l.depth == 0) (drop l.at B) → capped (before + (construct_size (l.depth == 0) (drop l.at B) - 1)) ≤ found → closed ≤ found + run_looks l.run → capped found ≤ closed
+    → reported ≤ closed + (end - l.at) → capped closed ≤ reported → after ≤ reported + 1 → capped reported ≤ after → IsPaid 29 l new B Next before after
+malformed_paid {l} {new} before found closed reported after h inside depth at few some run low most at_least one more =
+    table_paid h inside tt depth at refl refl few some (omega (arith, run, most, one, one_look new.run)) (omega (arith, low, at_least, more))
 
 -- a table whose cells come next
 pub cells_paid : {l new : OpenBlock} {B : Block} (t : TableResult) (before found after : ℕ) → IsTableAt B l.at t → l.at < length B → new.depth ≡ l.depth
     → found ≤ before + 4 * reach_at (l.depth == 0) (drop l.at B) → capped (before + (construct_size (l.depth == 0) (drop l.at B) - 1)) ≤ found → after ≤ found + run_looks l.run → capped found ≤ after
     → IsPaid 29 l new B (Cells t) before after
 cells_paid {l} {new} t before found after h inside depth few some run low = table_paid h inside tt depth refl refl refl few some (omega (arith, run, one_look new.run)) low
-
--- ---- below the last level
-
--- a block inside was looked at that is blank
-pub first_taken : (l : OpenBlock) (B : Block) (w : Waits) (first : Part) (second : Option Part) (before after : ℕ) → second ≡ None → l.depth ≡ deepest
-    → capped (before + length (lines_in B first)) ≤ after → after ≤ before + length (lines_in B first)
-    → Takes (most_left l B (Open w first second)) (least_left l B (Open w first second)) before (most_after l B w None) (least_after l B w None) after
-unfolding sum_of
-first_taken l B w first second before after none deep some few =
-    subst (λ o. Takes (most_left l B (Open w first o)) (least_left l B (Open w first o)) before (most_after l B w None) (least_after l B w None) after) (sym none)
-    (last_block l B w first None before after deep (omega (arith, few)) (omega (arith, some)))
-
--- two of them
-pub both_taken : (l : OpenBlock) (B : Block) (w : Waits) (first p : Part) (second : Option Part) (before mid after : ℕ) → second ≡ Some p → l.depth ≡ deepest
-    → capped (before + length (lines_in B first)) ≤ mid → mid ≤ before + length (lines_in B first) → capped (mid + length (lines_in B p)) ≤ after → after ≤ mid + length (lines_in B p)
-    → Takes (most_left l B (Open w first second)) (least_left l B (Open w first second)) before (most_after l B w None) (least_after l B w None) after
-unfolding sum_of
-both_taken l B w first p second before mid after two deep some few more most =
-    subst (λ o. Takes (most_left l B (Open w first o)) (least_left l B (Open w first o)) before (most_after l B w None) (least_after l B w None) after) (sym two)
-    (last_block l B w first (Some p) before after deep (omega (arith, few, most)) (omega (arith, some, more)))

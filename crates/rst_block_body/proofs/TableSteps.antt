@@ -1,5 +1,5 @@
 -- A table at the next line of a block: its cells are read next, or it is malformed and its message takes its place.
-use Rattle.std.proofs.Common.{◌≡◌, ℕ, ◌+◌, ◌<◌, ◌≤◌, List, ◌∷◌, ◌++◌, length, take, drop, map, Option, Some, None, arith, refl, sym, ◌∙◌, ap, inl, inr}
+use Rattle.std.proofs.Common.{◌≡◌, ℕ, ◌+◌, ◌<◌, ◌≤◌, List, [], ◌∷◌, ◌++◌, length, take, drop, map, Option, Some, None, arith, refl, sym, ◌∙◌, ap, inl, inr}
 use Rattle.std.proofs.lemmas.List.{map-append}
 use Rattle.rst_text.specs.Block.{Block, first_number}
 use Rattle.rst_tree.specs.declared.node.Node.{Node}
@@ -24,12 +24,13 @@ use Rattle.rst_markup_tables.proofs.EndLemmas.{rows-size, simple_by_end}
 use Rattle.rst_markup_tables.proofs.RowLemmas.{dashes-length}
 use Rattle.rst_markup_tables.proofs.TilingLemmas.{grid_table-is}
 use Rattle.rst_block_state.specs.Constructs.{Construct, grid, simple}
+use Rattle.rst_block_state.specs.Inside.{opened_by, cell_blocks, cells_by}
 use Rattle.rst_block_state.specs.Joins.{alone_ending}
 use Rattle.rst_block_state.specs.machine.Meanings.{within_at, done_of, reads, reads_from, comes}
 use Rattle.rst_block_state.specs.machine.NextLine.{IsNextConstruct, IsTableAt}
 use Rattle.rst_block_state.specs.Nodes.{piece_of, plainly, ending_notes}
 use Rattle.rst_block_state.specs.Numbered.{Numbered, then_read, ◌>>=◌, just, before}
-use Rattle.rst_block_state.specs.machine.OpenBlocks.{IsMoved, HasMore}
+use Rattle.rst_block_state.specs.machine.OpenBlocks.{HasMoreAt}
 use Rattle.rst_block_state.specs.machine.Rest.{no_run, rest}
 use Rattle.rst_block_state.specs.machine.RestLaws.{IsAlone}
 use Rattle.rst_block_state.specs.machine.Steps.{IsStep}
@@ -39,7 +40,7 @@ use Rattle.rst_block_state.specs.Titles.{Item, plain}
 use Rattle.rst_block_state.specs.Within.{Within}
 use Rattle.rst_block_state.specs.declared.open_block.OpenBlock.{OpenBlock}
 use Rattle.rst_block_state.specs.declared.step.Step.TheVariants.{Cells}
-use Rattle.rst_block_state.proofs.Changes.{moved_more, reads_from_is, more_is_read}
+use Rattle.rst_block_state.proofs.Changes.{reads_from_is, more_is_read}
 use Rattle.rst_block_state.proofs.NextConstructs.{next_of, next_some, span_to, next_found, HasEnded, next_alone}
 use Rattle.rst_block_state.proofs.NumberedLemmas.{same_after, after_after, before_before, before_then, at_number}
 
@@ -79,6 +80,8 @@ pub record IsNextTable (l : OpenBlock) (B : Block) (t : TableResult) : Type 0 wh
   pub ending : alone_ending what ≡ alone_ending grid
   pub piece : (c : Within) → piece_of c B (next_found l what lines) ≡ plainly (table_nodes c B (span_to l.at (l.at + lines)) t)
   pub end : end_of t ≡ l.at + lines
+  pub opens : (c : Within) → opened_by what c B l.at (drop l.at B) ≡ []
+  pub cells : cells_by what B l.at ≡ cell_blocks t
 
 -- where a grid table begins, what is found is its table
 pub grid_there : (B : Block) (i : ℕ) (found : TableResult) → IsBegun (drop i B) begun.Grid → IsGridTable B i found → IsTableAt B i found
@@ -94,6 +97,8 @@ next_table l B t (inl (h, e)) = record {
   ending = refl;
   piece = λ c. ap (λ u. plainly (table_nodes c B (span_to l.at (l.at + grid_size (drop l.at B))) u)) (sym e);
   end = ap end_of e ∙ grid_end B l.at;
+  opens = λ c. refl;
+  cells = ap cell_blocks (sym e);
 }
 next_table l B t (inr (h, e)) = record {
   what = simple;
@@ -103,6 +108,8 @@ next_table l B t (inr (h, e)) = record {
   ending = refl;
   piece = λ c. ap (λ u. plainly (table_nodes c B (span_to l.at (l.at + simple_size (drop l.at B))) u)) (sym e);
   end = ap end_of e ∙ simple_end B l.at;
+  opens = λ c. refl;
+  cells = ap cell_blocks (sym e);
 }
 
 -- ---- what the block gives
@@ -129,11 +136,13 @@ table_comes {old} {mid} {B} {t} {n} {m} h e =
     ∙ sym (next_alone h.next h.alone e)
 
 -- a malformed one is its message, with the WARNING where no blank line follows
-pub malformed_reads : {old mid moved new : OpenBlock} {B : Block} {end : ℕ} {fault : TableFault} {n m : ℕ} → IsNextTable old B (Malformed end fault)
-    → HasEnded old mid B n m → IsMoved mid moved → moved.at ≡ end
-    → HasMore moved new (message_with_lines Error (first_number (drop mid.at B)) (malformed_text fault.detail) (span_source B (span_to mid.at end)) ∷ ending_notes (alone_ending grid) (drop end B))
+pub malformed_reads : {old mid new : OpenBlock} {B : Block} {end : ℕ} {fault : TableFault} {n m : ℕ} → IsNextTable old B (Malformed end fault) → HasEnded old mid B n m
+    → HasMoreAt mid new (message_with_lines Error (first_number (drop old.at B)) (malformed_text fault.detail) (span_source B (span_to old.at end)) ∷ ending_notes (alone_ending grid) (drop end B)) end
     → reads new B m ≡ reads old B n
-malformed_reads {B = B} {m = m} h e g at more = at_number m (more_is_read B (moved_more g at more)) ∙ table_comes h e
+malformed_reads {mid = mid} {B = B} {end = end} {fault = fault} {m = m} h e more =
+    at_number m (more_is_read B more)
+    ∙ ap (λ i. reads_from mid B (message_with_lines Error (first_number (drop i B)) (malformed_text fault.detail) (span_source B (span_to i end)) ∷ ending_notes (alone_ending grid) (drop end B)) end m) (sym e.closed.at)
+    ∙ table_comes h e
 
 -- a table whose cells come next ends after its first line
 pub table_steps : (l : OpenBlock) (B : Block) (t : TableResult) (to : ℕ) → IsNextTable l B t → ((end : ℕ) (fault : TableFault) → t ≡ Malformed end fault → ⊥) → to ≡ l.at → l.at < length B

@@ -1,19 +1,17 @@
--- Texts, step by step: of lines of a line block, of paragraphs and of titles over an underline. No rule of markup: it is what their definitions give,
--- part by part.
-use Rattle.std.specs.Prelude.{ℕ, ◌+◌, ◌-◌, false, List, [], ◌∷◌, ◌++◌, drop, map, codes, if◌then◌else◌, Option, unwrap_or}
+-- Texts, step by step: of lines of a line block and of paragraphs. No rule of markup: it is what their definitions give, part by part.
+use Rattle.std.specs.Prelude.{ℕ, Bool, ◌+◌, ◌-◌, List, [], ◌∷◌, ◌++◌, drop, map, codes, if◌then◌else◌}
 use Rattle.std.specs.List.{join_with_byte}
-use Rattle.std.specs.Option.{option_to_list}
 use Rattle.rst_text.specs.Block.{Line, Block, first_number}
 use Rattle.rst_tree.specs.declared.node.Node.{Node}
-use Rattle.rst_tree.specs.declared.note.Level.TheVariants.{Error, Severe}
+use Rattle.rst_tree.specs.declared.note.Level.TheVariants.{Error}
 use Rattle.rst_markup_lines.specs.Closing.{ends_in_colons}
-use Rattle.rst_markup_lines.specs.TextStart.{first}
-use Rattle.rst_markup_blocks.specs.Conditions.{next_text}
 use Rattle.rst_markup_blocks.specs.Sizes.{literal_size}
-use Rattle.rst_block_nodes.specs.declared.heading.Style.{Style}
+use Rattle.rst_markup_blocks.specs.declared.form.TextForm.{TextForm}
+use Rattle.rst_markup_blocks.specs.declared.form.TextForm.TheVariants.{ShortUnderline}
+use Rattle.rst_block_state.specs.Constructs.{short_underline}
 use Rattle.rst_block_state.specs.Literals.{announced, text_paragraph, after_paragraph}
 use Rattle.rst_block_state.specs.Numbered.{Numbered, ◌>>=◌, just}
-use Rattle.rst_block_state.specs.Texts.{message_with_lines, unless_blank}
+use Rattle.rst_block_state.specs.Texts.{unless_blank}
 
 -- ---- lines of a line block
 
@@ -39,13 +37,9 @@ paragraph_between t i j B = do
 abbrev pub paragraph_end : List ℕ → ℕ → Block → ℕ
 paragraph_end t j B = j + (if ends_in_colons t then literal_size (drop j B) else 0)
 
--- ---- titles
+-- ---- forms of a text
 
--- the style of a title over its underline, by the two lines with which X begins
-abbrev pub under_style : Block → Style
-under_style X = record { character = unwrap_or (first (next_text X)) 32; overlined = false }
-
--- the messages on a title over its underline where none is recognized, after the WARNING on the underline; X begins with these lines
-abbrev pub unexpected_notes : Option Node → List ℕ → Block → List Node
-unexpected_notes warning lines X =
-    option_to_list warning ++ message_with_lines Severe (first_number (drop 1 X)) (codes "Unexpected section title.") lines ∷ []
+-- the messages that come with a paragraph whose text has a form, after those that explain why it is a text
+abbrev pub form_notes : TextForm → Bool → Block → List Node
+form_notes ShortUnderline titles X = short_underline titles X
+form_notes _ titles X = []

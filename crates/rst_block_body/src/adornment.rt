@@ -16,7 +16,7 @@ use rst_block_nodes::{Style, message};
 use rst_block_state::{
     OpenBlock, Pass, Result, Step, alone, heading_of, number_at, short_warning, source,
 };
-use rst_markup_blocks::{Adorned, adorned_at, below_text, text_at};
+use rst_markup_blocks::{Adorned, adorned_at, below_text};
 use rst_markup_lines::Adornment;
 use rst_text::{View, indentation, skip};
 use rst_tree::{Level, Node, Tag};
@@ -91,11 +91,10 @@ fn transition(view: &View<'_>, level: &mut OpenBlock, pass: &mut Pass) -> Result
     requires found { IsNextConstruct level.old (block_of view.now) transition 1 }
     ensures { IsReadStep 27 (block_of view.now) level.old pass.old level.new pass.new result }
 {
-    level.close(view, pass)?;
     let at = level.at;
-    let node = Node::element(pass.alloc, Tag::Transition, number_at(view, at));
-    level.go_to(at.saturating_add(1));
-    level.push(node)?;
+    level.close(view, pass)?;
+    level.go_to(at + 1);
+    level.push(Node::element(pass.alloc, Tag::Transition, number_at(view, at)))?;
     Ok(Step::Next)
 }
 
@@ -117,9 +116,9 @@ fn wrong(view: &View<'_>, level: &mut OpenBlock, form: WrongForm, pass: &mut Pas
     ensures { IsReadStep 27 (block_of view.now) level.old pass.old level.new pass.new result }
 {
     let alloc = pass.alloc;
-    level.close(view, pass)?;
     let at = level.at;
-    let end = at.saturating_add(form.lines);
+    let end = at + form.lines;
+    level.close(view, pass)?;
     let block = source(alloc, view, at, end, &mut pass.looks)?;
     let line = number_at(view, at);
     let node = message(alloc, form.gravity, line, form.text, Some(block.as_str()))?;
@@ -141,24 +140,20 @@ fn overlined(
     requires titles { level.old.depth ≡ 0 }
     ensures { IsReadStep 27 (block_of view.now) level.old pass.old level.new pass.new result }
 {
-    level.close(view, pass)?;
     let at = level.at;
-    let end = at.saturating_add(3);
+    let end = at + 3;
+    level.close(view, pass)?;
     let lines = source(pass.alloc, view, at, end, &mut pass.looks)?;
-    let warning = short_warning(
-        pass.alloc,
-        short,
-        number_at(view, at),
-        "Title overline too short.",
-        lines.as_str(),
-    )?;
-    let line = number_at(view, at.saturating_add(1));
-    let text = text_at(view, at.saturating_add(1), &mut pass.looks);
+    let line = number_at(view, at);
+    let text = "Title overline too short.";
+    let warning = short_warning(pass.alloc, short, line, text, lines.as_str())?;
+    let text = below_text(view, at, 1, &mut pass.looks);
     let style = Style {
         character: mark.character,
         overlined: true,
     };
     let text = skip(text, indentation(text));
+    let line = number_at(view, at + 1);
     let heading = heading_of(style, text, line, warning, lines, pass)?;
     level.go_to(end);
     level.push_heading(pass.alloc, heading)?;

@@ -8,9 +8,9 @@ ghost use Rattle.rst_markup_blocks.specs.declared.form.TextForm.TheVariants.{Def
 ghost use Rattle.rst_block_state.specs.machine.NextLine.{IsText};
 ghost use Rattle.rst_block_body.specs.ReadSteps.{IsReadStep};
 
-use super::field::join_list;
-use rst_block_nodes::{append, term_and_classifiers};
-use rst_block_state::{ListKind, OpenBlock, Pass, Result, Run, Step, Waits, indented, number_at};
+use super::item::{Item, enter_list};
+use rst_block_nodes::term_and_classifiers;
+use rst_block_state::{OpenBlock, Pass, Result, Step, Waits, indented, number_at};
 use rst_text::View;
 use rst_tree::{Node, Tag};
 
@@ -29,23 +29,15 @@ pub(crate) fn definition(
     let at = level.at;
     let line = number_at(view, at);
     let body = indented(view, at + 1, &mut pass.looks);
-    let kind = ListKind::Definition;
-    join_list(view, level, kind, Tag::DefinitionList, body.to, pass)?;
-    if let Run::List(open) = &mut level.run {
-        append(&mut open.before, infos)?;
-    }
+    enter_list(view, level, Item::Definition(infos), body, pass)?;
     let term = view.line(at, &mut pass.looks);
     let heads = term_and_classifiers(pass.alloc, term, line, &mut pass.numbers)?;
-    level.go_to(body.to);
-    Ok(Step::Open {
-        waits: Waits::ListedBody {
-            line,
-            item: Tag::DefinitionListItem,
-            body: Tag::Definition,
-            heads: heads.heads,
-            notes: heads.notes,
-        },
-        first: body,
-        second: None,
-    })
+    let waits = Waits::ListedBody {
+        line,
+        item: Tag::DefinitionListItem,
+        body: Tag::Definition,
+        heads: heads.heads,
+        notes: heads.notes,
+    };
+    Ok(level.open(body.to, body, waits))
 }

@@ -4,6 +4,7 @@
 pub mod adornment;
 mod definition;
 pub mod field;
+mod item;
 pub mod line;
 pub mod list;
 pub mod option;

@@ -53,12 +53,15 @@ fn add_line(level: &mut OpenBlock, text: BarText, end: usize) -> Result<()>
     ensures line { Gives (λ _. HasLine level.old level.new (line_added text end (open_run_of level.old.run))
         × (level.old.at < end → level.new.at ≡ end)) result }
 {
-    if let Run::Lines { lines, end: last } = &mut level.run {
-        lines.push(text)?;
-        *last = end;
-    }
     level.go_to(end);
-    Ok(())
+    match &mut level.run {
+        Run::Lines { lines, end: last } => {
+            lines.push(text)?;
+            *last = end;
+            Ok(())
+        }
+        _ => Ok(()),
+    }
 }
 
 /// The text after a bar and in the indented lines below it. A bar that is alone has no indentation of its own, and

@@ -1,16 +1,14 @@
 //! Items of option lists (Markup Specification, 'Option Lists').
-ghost use Rattle.std.specs.Prelude.{◌≡◌, ◌<◌, IfOk};
+ghost use Rattle.std.specs.Prelude.{◌≡◌, IfOk};
 ghost use Rattle.std.specs.Str.{chars};
 ghost use Rattle.rst_text.specs.ViewBlock.{block_of};
 ghost use Rattle.rst_block_state.specs.Lists as lists;
 ghost use Rattle.rst_markup_blocks.specs.declared.begun.Begun.TheVariants.{OptionItem};
 ghost use Rattle.rst_block_body.specs.ReadSteps.{BeginsAt, IsReadStep};
 
-use super::field::join_list;
+use super::item::{Item, enter_list};
 use rst_block_nodes::{element_of, option};
-use rst_block_state::{
-    ListKind, OpenBlock, Pass, Result, Step, Waits, excerpt_after, hanging, number_at,
-};
+use rst_block_state::{OpenBlock, Pass, Result, Step, Waits, excerpt_after, hanging, number_at};
 use rst_markup_lines::{Marker, listed_options};
 use rst_text::{View, skip};
 use rst_tree::{Attrs, Node, Tag};
@@ -30,28 +28,17 @@ pub fn option_item(
     let line = number_at(view, at);
     let group = option_group(pass.alloc, view.line(at, &mut pass.looks), line)?;
     let body = hanging(view, at, marker, &mut pass.looks);
-    join_list(
-        view,
-        level,
-        ListKind::OptionItem,
-        Tag::OptionList,
-        body.to,
-        pass,
-    )?;
+    enter_list(view, level, Item::OptionItem(marker), body, pass)?;
     let mut heads = Vec::with_capacity(pass.alloc, 2)?;
     heads.push(group)?;
-    level.go_to(body.to);
-    Ok(Step::Open {
-        waits: Waits::ListedBody {
-            line,
-            item: Tag::OptionListItem,
-            body: Tag::Description,
-            heads,
-            notes: Vec::new(pass.alloc),
-        },
-        first: body,
-        second: None,
-    })
+    let waits = Waits::ListedBody {
+        line,
+        item: Tag::OptionListItem,
+        body: Tag::Description,
+        heads,
+        notes: Vec::new(pass.alloc),
+    };
+    Ok(level.open(body.to, body, waits))
 }
 
 /// The options at the front of a line.

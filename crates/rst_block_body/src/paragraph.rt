@@ -36,8 +36,8 @@ pub fn doctest_block(view: &View<'_>, level: &mut OpenBlock, pass: &mut Pass) ->
     ensures { IsReadStep 29 (block_of view.now) level.old pass.old level.new pass.new result }
 {
     let alloc = pass.alloc;
-    level.close(view, pass)?;
     let at = level.at;
+    level.close(view, pass)?;
     let end = lines_end(view, at, LineTest::Filled, &mut pass.looks);
     let text = source(alloc, view, at, end, &mut pass.looks)?;
     let node = preserved(alloc, Tag::DoctestBlock, number_at(view, at), text.as_str())?;
@@ -151,12 +151,8 @@ fn literal(view: &View<'_>, level: &mut OpenBlock, end: usize, pass: &mut Pass) 
     if begins_with(' ', text) {
         let lines = indented(view, start, &mut pass.looks);
         let text = joined(alloc, &inside(view, lines), &mut pass.looks)?;
-        let node = preserved(
-            alloc,
-            Tag::LiteralBlock,
-            number_at(view, start),
-            text.as_str(),
-        )?;
+        let line = number_at(view, start);
+        let node = preserved(alloc, Tag::LiteralBlock, line, text.as_str())?;
         let warning = "Literal block ends without a blank line; unexpected unindent.";
         level.go_to(lines.to);
         level.push(node)?;
@@ -199,12 +195,8 @@ fn quoted_literal(
 {
     let end = lines_end(view, start, LineTest::Begins(quote), &mut pass.looks);
     let text = source(pass.alloc, view, start, end, &mut pass.looks)?;
-    let node = preserved(
-        pass.alloc,
-        Tag::LiteralBlock,
-        number_at(view, start),
-        text.as_str(),
-    )?;
+    let line = number_at(view, start);
+    let node = preserved(pass.alloc, Tag::LiteralBlock, line, text.as_str())?;
     level.go_to(end);
     level.push(node)?;
     let next = text_at(view, end, &mut pass.looks);

@@ -26,8 +26,9 @@ pub fn block_quote(view: &View<'_>, level: &mut OpenBlock, pass: &mut Pass) -> R
     requires { BeginsAt (block_of view.now) level.old Quote }
     ensures { IsReadStep 29 (block_of view.now) level.old pass.old level.new pass.new result }
 {
+    let at = level.at;
     level.close(view, pass)?;
-    let quote = indented(view, level.at, &mut pass.looks);
+    let quote = indented(view, at, &mut pass.looks);
     quote_part(view, level, quote, pass)
 }
 
@@ -53,36 +54,29 @@ pub fn quote_part(
     let lines = inside(view, quote);
     match first_attribution(&lines, &mut pass.looks) {
         None => {
-            level.go_to(quote.to);
-            Ok(Step::Open {
-                waits: Waits::Quote {
-                    line,
-                    attribution: None,
-                    rest: None,
-                    end: quote.to,
-                },
-                first: quote,
-                second: None,
-            })
+            let waits = Waits::Quote {
+                line,
+                attribution: None,
+                rest: None,
+                end: quote.to,
+            };
+            Ok(level.open(quote.to, quote, waits))
         }
         Some((place, found)) => {
             let made = attribution_text(&lines, place, found, pass)?;
             let attribution = Box::new(pass.alloc, made)?;
             let next = lines_end(&lines, found.end, LineTest::Blank, &mut pass.looks);
-            level.go_to(quote.from + next);
-            Ok(Step::Open {
-                waits: Waits::Quote {
-                    line,
-                    attribution: Some(attribution),
-                    rest: rest_of(quote, next),
-                    end: quote.to,
-                },
-                first: Part {
-                    to: quote.from + place,
-                    ..quote
-                },
-                second: None,
-            })
+            let waits = Waits::Quote {
+                line,
+                attribution: Some(attribution),
+                rest: rest_of(quote, next),
+                end: quote.to,
+            };
+            let first = Part {
+                to: quote.from + place,
+                ..quote
+            };
+            Ok(level.open(quote.from + next, first, waits))
         }
     }
 }
@@ -151,13 +145,8 @@ fn attribution_text(
         },
     );
     let text = joined(pass.alloc, &text, &mut pass.looks)?;
-    let made = with_text(
-        pass.alloc,
-        Tag::Attribution,
-        line,
-        text.as_str(),
-        line,
-        &mut pass.numbers,
-    )?;
+    let text = text.as_str();
+    let numbers = &mut pass.numbers;
+    let made = with_text(pass.alloc, Tag::Attribution, line, text, line, numbers)?;
     Ok(made)
 }

@@ -9,7 +9,7 @@ ghost use Rattle.rst_block_nodes.specs.Elements.{element_of, entry_node};
 ghost use Rattle.rst_block_nodes.specs.Sections.{filled};
 ghost use Rattle.rst_block_state.specs.machine.Steps as spec;
 ghost use Rattle.rst_block_state.specs.Tables.{table_node};
-ghost use Rattle.rst_block_state.specs.Texts.{message_with_lines, warned};
+ghost use Rattle.rst_block_state.specs.Texts.{warned};
 ghost use Rattle.rst_block_state.specs.machine.Meanings.{Keeps, comes, reads};
 ghost use Rattle.rst_block_state.specs.machine.NextLine.{IsTableAt};
 ghost use Rattle.rst_block_state.specs.machine.OpenBlocks as blocks;
@@ -44,10 +44,10 @@ pub fn table(
         pass.old.looks ≤ before + 4 * reach_at titles X → capped (before + (construct_size titles X - 1)) ≤ pass.old.looks
         → IfOk result (λ s. IsPaid 29 level.old level.new B s before pass.new.looks) }
 {
+    let at = level.at;
     level.close(view, pass)?;
     match found {
         TableResult::Malformed { end, note } => {
-            let at = level.at;
             let text = malformed_text(pass.alloc, note.detail)?;
             let lines = source(pass.alloc, view, at, end, &mut pass.looks)?;
             let line = number_at(view, at);

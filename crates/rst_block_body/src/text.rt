@@ -4,10 +4,10 @@ ghost use Rattle.rst_text.specs.Looked.{Looked};
 ghost use Rattle.rst_text.specs.ViewBlock.{block_of};
 ghost use Rattle.rst_block_state.specs.machine.NextLine.{IsText};
 ghost use Rattle.rst_block_state.specs.machine.OpenBlocks.{Gives, ReadsItems, HasMore};
-ghost use Rattle.rst_block_state.specs.Constructs as constructs;
 ghost use Rattle.rst_block_state.specs.Texts.{span_source};
 ghost use Rattle.rst_block_state.specs.Titles as titles;
 ghost use Rattle.rst_block_body.specs.ReadSteps.{IsReadStep};
+ghost use Rattle.rst_block_body.specs.TextSteps.{form_notes};
 
 use super::definition::definition;
 use super::paragraph::paragraph;
@@ -15,7 +15,7 @@ use rst_block_nodes::{Style, message};
 use rst_block_state::{
     OpenBlock, Pass, Result, Step, heading_of, number_at, short_warning, source,
 };
-use rst_markup_blocks::{TextForm, below_text, text_at, text_form};
+use rst_markup_blocks::{TextForm, below_text, text_form};
 use rst_markup_lines::first_char;
 use rst_text::View;
 use rst_tree::{Level, Node};
@@ -37,46 +37,40 @@ pub fn text_line(
     let next = below_text(view, at, 1, &mut pass.looks);
     match text_form(text, next) {
         TextForm::Definition => definition(view, level, infos, pass),
-        TextForm::Paragraph => {
-            level.close(view, pass)?;
-            level.append(infos)?;
-            paragraph(view, level, pass)?;
-            Ok(Step::Next)
-        }
-        TextForm::ShortUnderline => {
-            level.close(view, pass)?;
-            level.append(infos)?;
-            put_short_underline(pass.alloc, view, level)?;
-            paragraph(view, level, pass)?;
-            Ok(Step::Next)
-        }
         TextForm::Title { short } => {
             level.close(view, pass)?;
             level.append(infos)?;
             underlined(view, level, short, pass)?;
             Ok(Step::Next)
         }
+        form => {
+            level.close(view, pass)?;
+            level.append(infos)?;
+            put_short_underline(pass.alloc, view, level, form)?;
+            paragraph(view, level, pass)?;
+            Ok(Step::Next)
+        }
     }
 }
 
-/// Puts the message on a possible underline after the last node, where titles are allowed.
-fn put_short_underline(alloc: Global, view: &View<'_>, level: &mut OpenBlock) -> Result<()>
+/// Puts the message on a possible underline after the last node, if a text of this form has one and titles are allowed.
+fn put_short_underline(
+    alloc: Global,
+    view: &View<'_>,
+    level: &mut OpenBlock,
+    form: TextForm,
+) -> Result<()>
     requires inside { level.old.at < length (block_of view.now) }
-    ensures more { let notes = constructs.short_underline (level.old.depth == 0) (drop level.old.at (block_of view.now)) in
+    ensures more { let notes = form_notes form (level.old.depth == 0) (drop level.old.at (block_of view.now)) in
         Gives (λ _. HasMore level.old level.new notes) result }
 {
-    if !level.titles() {
+    if !matches!(form, TextForm::ShortUnderline) || !level.titles() {
         return Ok(());
     }
     let text =
         "Possible title underline, too short for the title.\nTreating it as ordinary text because it's so short.";
-    let info = message(
-        alloc,
-        Level::Info,
-        number_at(view, level.at.saturating_add(1)),
-        text,
-        None,
-    )?;
+    let line = number_at(view, level.at + 1);
+    let info = message(alloc, Level::Info, line, text, None)?;
     level.push(info)
 }
 
@@ -90,25 +84,18 @@ fn underlined(view: &View<'_>, level: &mut OpenBlock, short: bool, pass: &mut Pa
     ensures looked { IfOk result (λ _. Looked 2 4 pass.old.looks pass.new.looks) }
 {
     let at = level.at;
-    let next = at.saturating_add(1);
-    let end = at.saturating_add(2);
-    let lines = source(pass.alloc, view, at, end, &mut pass.looks)?;
-    let under = number_at(view, next);
-    let warning = short_warning(
-        pass.alloc,
-        short,
-        under,
-        "Title underline too short.",
-        lines.as_str(),
-    )?;
+    let lines = source(pass.alloc, view, at, at + 2, &mut pass.looks)?;
+    let under = number_at(view, at + 1);
+    let text = "Title underline too short.";
+    let warning = short_warning(pass.alloc, short, under, text, lines.as_str())?;
     if level.titles() {
         let style = Style {
-            character: first_char(text_at(view, next, &mut pass.looks)).unwrap_or(' '),
+            character: first_char(below_text(view, at, 1, &mut pass.looks)).unwrap_or(' '),
             overlined: false,
         };
         let text = view.line(at, &mut pass.looks);
         let heading = heading_of(style, text, number_at(view, at), warning, lines, pass)?;
-        level.go_to(end);
+        level.go_to(at + 2);
         return level.push_heading(pass.alloc, heading);
     }
     if let Some(warning) = warning {
@@ -117,6 +104,6 @@ fn underlined(view: &View<'_>, level: &mut OpenBlock, short: bool, pass: &mut Pa
     let text = "Unexpected section title.";
     let literal_block = Some(lines.as_str());
     let severe = message(pass.alloc, Level::Severe, under, text, literal_block)?;
-    level.go_to(end);
+    level.go_to(at + 2);
     level.push(severe)
 }

@@ -25,7 +25,7 @@ use Rattle.rst_block_state.specs.declared.open_block.OpenBlock.{OpenBlock}
 use Rattle.rst_block_state.specs.declared.waits.Waits.{Waits}
 use Rattle.rst_block_state.specs.declared.run.Run.TheVariants.{None as NoRun}
 use Rattle.rst_block_state.specs.declared.step.Step.{Step}
-use Rattle.rst_block_state.specs.declared.step.Step.TheVariants.{Next, Open, Cells, Done}
+use Rattle.rst_block_state.specs.declared.step.Step.TheVariants.{Begin, Next, Open, Cells, Done}
 use Rattle.rst_block_state.proofs.MeaningLemmas.{not_zero}
 use Rattle.rst_block_state.proofs.RestLemmas.{found_over, found_blanks, found_text}
 use Rattle.rst_block_state.proofs.UnpaidLemmas.{begin, paid, passed}
@@ -164,6 +164,7 @@ paid_construct old new B s before after inside text h least = by s h.goes h.plac
 
     by : (t : Step) → GoesOn t → place_after new t ≡ j → totals D (next_blocks B t) ≡ opened → totals D (next_cells t) ≡ cells → after + end_looks new t ≤ before + run_looks old.run + 32 * reach_at (D == 0) (drop old.at B)
         → Takes (most_left old B Next) (least_left old B Next) before (most_left new B t) (least_left new B t) after
+    by Begin g p b c few = absurd g
     by Next g p b c few = same Next g p b c few
     by (Open w first second) g p b c few = same (Open w first second) g p b c few
     by (Cells t) g p b c few = same (Cells t) g p b c few
@@ -201,26 +202,23 @@ unfolding most_in least_in
 counted S [] f = record { most = omega arith; least = omega arith }
 counted S (g ∷ fs) f = record { most = omega (arith, (counted S fs f).most); least = omega (arith, (counted S fs f).least) }
 
--- what a block inside may take that is read from its first line on
-inner : (depth : ℕ) (new : OpenBlock) (C : Block) → depth < deepest → new.depth ≡ suc depth → new.at ≡ 0 → new.run ≡ NoRun
-    → (most_left new C Next ≤ 128 * total true (deepest - depth) false C) × (least_left new C Next ≡ total true (deepest - depth) false C)
-unfolding sum_of
-inner depth new C h d p r =
-    let b = begun (suc depth) C (omega (arith, h)) in
+pub cell_text : (depth : ℕ) (C : Block) → total_at (suc depth) C ≡ total true (deepest - depth) false C
+cell_text depth C =
     let e : suc deepest - suc depth ≡ deepest - depth = omega arith in
-    let t : total_at (suc depth) C ≡ total true (deepest - depth) false C = ap (λ z. total true (suc deepest - suc depth) z C) (not_zero depth) ∙ ap (λ n. total true n false C) e in
-    let m : most_from new.depth C new.at ≡ most_from (suc depth) C 0 = ap (λ k. most_from k C new.at) d ∙ ap (most_from (suc depth) C) p in
-    let l : least_from new.depth C new.at ≡ least_from (suc depth) C 0 = ap (λ k. least_from k C new.at) d ∙ ap (least_from (suc depth) C) p in
-    (omega (arith, b.most, t, m, ap run_looks r), omega (arith, b.least, t, l))
+    ap (λ z. total true (suc deepest - suc depth) z C) (not_zero depth) ∙ ap (λ n. total true n false C) e
 
-pub opened : (l new : OpenBlock) (B : Block) (w : Waits) (first : Part) (second : Option Part) → l.depth < deepest → new.depth ≡ suc l.depth → new.at ≡ 0 → new.run ≡ NoRun
-    → (most_after l B w second + most_left new (lines_in B first) Next ≤ most_left l B (Open w first second))
-    × (least_left l B (Open w first second) ≤ least_after l B w second + least_left new (lines_in B first) Next)
+pub opened : (l new : OpenBlock) (B : Block) (w : Waits) (first : Part) (second : Option Part) → new.depth ≡ suc l.depth
+    → (most_after l B w second + most_left new (lines_in B first) Begin ≡ most_left l B (Open w first second))
+    × (least_after l B w second + least_left new (lines_in B first) Begin ≡ least_left l B (Open w first second))
 unfolding sum_of
-opened l new B w first second h d p r = let i = inner l.depth new (lines_in B first) h d p r in (omega (arith, i.0), omega (arith, i.1))
+opened l new B w first second d =
+    let t : total_at new.depth (lines_in B first) ≡ total true (deepest - l.depth) false (lines_in B first) = ap (λ n. total_at n (lines_in B first)) d ∙ cell_text l.depth (lines_in B first) in
+    (omega (arith, t), omega (arith, t))
 
-pub second_opened : (l new : OpenBlock) (B : Block) (w : Waits) (second : Part) → l.depth < deepest → new.depth ≡ suc l.depth → new.at ≡ 0 → new.run ≡ NoRun
-    → (most_after l B w None + most_left new (lines_in B second) Next ≤ most_after l B w (Some second))
-    × (least_after l B w (Some second) ≤ least_after l B w None + least_left new (lines_in B second) Next)
+pub second_opened : (l new : OpenBlock) (B : Block) (w : Waits) (second : Part) → new.depth ≡ suc l.depth
+    → (most_after l B w None + most_left new (lines_in B second) Begin ≡ most_after l B w (Some second))
+    × (least_after l B w None + least_left new (lines_in B second) Begin ≡ least_after l B w (Some second))
 unfolding sum_of
-second_opened l new B w second h d p r = let i = inner l.depth new (lines_in B second) h d p r in (omega (arith, i.0), omega (arith, i.1))
+second_opened l new B w second d =
+    let t : total_at new.depth (lines_in B second) ≡ total true (deepest - l.depth) false (lines_in B second) = ap (λ n. total_at n (lines_in B second)) d ∙ cell_text l.depth (lines_in B second) in
+    (omega (arith, t), omega (arith, t))

@@ -1,10 +1,9 @@
 -- The next construct of a block: what begins at its next line, what the block gives by it, and what it gives once the open run has ended.
-use Rattle.std.proofs.Common.{◌≡◌, ℕ, zero, suc, ◌+◌, ◌-◌, ◌^◌, ◌<◌, ◌≤◌, min, Bool, true, false, cond, List, [], ◌∷◌, ◌++◌, length, drop, map, Ok, Err, arith, refl, sym, ◌∙◌, ap}
+use Rattle.std.proofs.Common.{◌≡◌, ℕ, zero, suc, ◌+◌, ◌-◌, ◌<◌, ◌≤◌, Bool, true, false, cond, List, [], ◌∷◌, ◌++◌, length, drop, map, Ok, Err, arith, refl, sym, ◌∙◌, ap}
 use Rattle.std.specs.Prelude.{◌==◌}
-use Rattle.std.proofs.lemmas.List.{drop-drop, map-append}
-use Rattle.rst_text.specs.Block.{Block, is_blank, first_text, first_number}
+use Rattle.std.proofs.lemmas.List.{drop-drop}
+use Rattle.rst_text.specs.Block.{Block, is_blank, first_text}
 use Rattle.rst_tree.specs.declared.node.Node.{Node}
-use Rattle.rst_tree.specs.declared.note.Level.{Level}
 use Rattle.rst_markup_blocks.specs.Begun.{IsBegun, kind_in}
 use Rattle.rst_markup_blocks.specs.Conditions.{next_text}
 use Rattle.rst_markup_blocks.specs.Ends.{row_size}
@@ -19,9 +18,6 @@ use Rattle.rst_markup_blocks.specs.declared.form.TextForm.{TextForm}
 use Rattle.rst_markup_blocks.specs.declared.kind.Kind.TheVariants as kinds
 use Rattle.rst_markup_blocks.specs.declared.lines.LineTest.TheVariants.{Blank as BlankTest}
 use Rattle.rst_markup_blocks.proofs.PartitionLemmas.{end_inside}
-use Rattle.rst_markup_blocks.proofs.RowLemmas.{row_at}
-use Rattle.rst_block_nodes.specs.Sections.{title_of}
-use Rattle.rst_block_nodes.specs.declared.heading.Heading.{Heading}
 use Rattle.rst_block_state.specs.machine.Begins.{construct_with}
 use Rattle.rst_block_state.specs.Constructs.{Construct, Found, text_by}
 use Rattle.rst_block_state.specs.Joins.{alone_ending}
@@ -29,15 +25,14 @@ use Rattle.rst_block_state.specs.machine.Meanings.{deepest, open_run_of, within_
 use Rattle.rst_block_state.specs.machine.NextLine.{IsText, IsNextConstruct}
 use Rattle.rst_block_state.specs.Nodes.{piece_of, ending_notes}
 use Rattle.rst_block_state.specs.Numbered.{Numbered, then_read, ◌>>=◌, just, before}
-use Rattle.rst_block_state.specs.machine.OpenBlocks.{IsMoved, HasMoreAt, HasTitle, IsClosed}
+use Rattle.rst_block_state.specs.machine.OpenBlocks.{IsMoved, IsClosed}
 use Rattle.rst_block_state.specs.machine.Rest.{OpenRun, no_run, closed_run, rest, rest_with}
 use Rattle.rst_block_state.specs.machine.RestLaws.{found_as, IsAlone}
-use Rattle.rst_block_state.specs.Texts.{message_with_lines, span_source}
-use Rattle.rst_block_state.specs.Titles.{Item, plain, titled}
+use Rattle.rst_block_state.specs.Titles.{Item, plain}
 use Rattle.rst_block_state.specs.declared.open_block.OpenBlock.{OpenBlock}
 use Rattle.rst_block_state.specs.declared.step.Step.TheVariants.{Done}
 use Rattle.rst_block_state.proofs.BegunLemmas.{marks_tell_constructs}
-use Rattle.rst_block_state.proofs.Changes.{done_moved, done_more, done_closed, done_title, reads_is}
+use Rattle.rst_block_state.proofs.Changes.{done_moved, done_closed, reads_is}
 use Rattle.rst_block_state.proofs.NumberedLemmas.{same_after, before_before, before_then, same_before, at_number}
 pub use Rattle.rst_block_state.proofs.RestLemmas.{lines_after, span_to}
 use Rattle.rst_block_state.proofs.RestLemmas.{rest_over, rest_blanks, rest_text, alone_begins}
@@ -91,15 +86,6 @@ next_some {l} {B} h inside = omega (arith, h.size, (end_inside (l.depth == 0) B 
 
 pub next_within : {l : OpenBlock} {B : Block} {what : Construct} {lines : ℕ} → IsNextConstruct l B what lines → l.at < length B → l.at + lines ≤ length B
 next_within {l} {B} h inside = omega (arith, h.size, (end_inside (l.depth == 0) B l.at inside).1)
-
--- the place after its lines
-pub end_after_lines : (old mid end lines length : ℕ) → mid ≡ old → end ≡ min (mid + lines) 18446744073709551615 → old + lines ≤ length → length < 2 ^ 64 → end ≡ old + lines
-end_after_lines old mid end lines length e h within few = omega (arith, e, h, within, few)
-
--- the block goes on there
-pub goes_after_lines : (old mid moved end lines length : ℕ) → mid ≡ old → end ≡ min (mid + lines) 18446744073709551615 → old < old + lines → old + lines ≤ length → length < 2 ^ 64 → (mid < end → moved ≡ end)
-    → moved ≡ old + lines
-goes_after_lines old mid moved end lines length e h some within few there = let at : moved ≡ end = there (omega (arith, e, h, some, within, few)) in omega (arith, at, e, h, within, few)
 
 -- the next construct with its lines
 abbrev pub next_found : OpenBlock → Construct → ℕ → Found
@@ -195,26 +181,6 @@ next_items {old} {mid} {B} {what} {lines} {n} {m} {k} new items h a e p done dep
     ∙ ap (λ r. then_read (λ others. just (done_of mid ++ others)) (then_read (λ some. before (some ++ E) R) r)) (sym p)
     ∙ sym (next_alone h a e)
 
--- the same, where these are nodes
-pub next_nodes : {old mid new : OpenBlock} {B : Block} {what : Construct} {lines n m k : ℕ} (nodes : List Node) → IsNextConstruct old B what lines → IsAlone what → HasEnded old mid B n m
-    → piece_of (within_at old.depth) B (next_found old what lines) m ≡ Ok (map plain nodes, k)
-    → HasMoreAt mid new (nodes ++ ending_notes (alone_ending what) (drop (old.at + lines) B)) (old.at + lines) → reads new B k ≡ reads old B n
-next_nodes {old} {mid} {new} {B} {what} {lines} nodes h a e p more =
-    let E : List Node = ending_notes (alone_ending what) (drop (old.at + lines) B) in
-    next_items new (map plain nodes) h a e p (done_more more ∙ ap (λ items. done_of mid ++ items) (map-append plain nodes E)) more.depth more.at more.run
-
--- the same, where it is a title
-pub next_title : {old mid moved new : OpenBlock} {B : Block} {what : Construct} {heading : Heading} {lines n m k : ℕ} → IsNextConstruct old B what lines → IsAlone what → HasEnded old mid B n m
-    → piece_of (within_at old.depth) B (next_found old what lines) m ≡ Ok (titled (title_of heading) ∷ [], k)
-    → ending_notes (alone_ending what) (drop (old.at + lines) B) ≡ [] → IsMoved mid moved → moved.at ≡ old.at + lines → HasTitle moved new heading → reads new B k ≡ reads old B n
-next_title {old} {mid} {moved} {new} {B} {what} {heading} {lines} h a e p none g at more =
-    let item : List Item = titled (title_of heading) ∷ [] in
-    next_items new (titled (title_of heading) ∷ []) h a e p
-    (done_title more
-    ∙ ap (λ items. items ++ item) (done_moved g)
-    ∙ ap (λ (notes : List Node). done_of mid ++ (item ++ map plain notes)) (sym none))
-    (more.depth ∙ g.depth) (more.at ∙ at) (more.run ∙ g.run)
-
 -- ---- lines without a construct
 
 -- the lines that pass as blank are blank
@@ -254,13 +220,3 @@ over_reads {old} {new} {B} {n} {m} e h =
 -- where it is nested too deeply, so is the block
 pub over_refused : (l : OpenBlock) (B : Block) (n line : ℕ) → length B ≤ l.at → run_of l B n ≡ Err line → reads l B n ≡ Err line
 over_refused l B n line h k = over_is l B n h ∙ ap (then_read (λ others. just (done_of l ++ others))) k
-
--- ---- messages
-
--- a message that shows the construct's lines
-pub message_is : (B : Block) (level : Level) (text bytes : List ℕ) (node : Node) (at mid number end stop : ℕ) → mid ≡ at → node ≡ message_with_lines level number text bytes → number ≡ first_number (drop mid B)
-    → bytes ≡ span_source B (span_to mid end) → end ≡ stop → node ≡ message_with_lines level (first_number (drop at B)) text (span_source B (span_to at stop))
-message_is B level text bytes node at mid number end stop m h n b e =
-    h
-    ∙ ap (λ i. message_with_lines level i text bytes) (n ∙ ap (λ i. first_number (drop i B)) m)
-    ∙ ap (message_with_lines level (first_number (drop at B)) text) (b ∙ ap (λ i. span_source B (span_to i end)) m ∙ ap (λ i. span_source B (span_to at i)) e)

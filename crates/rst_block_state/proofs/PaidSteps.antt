@@ -1,9 +1,8 @@
 -- The next construct of a block is paid for, by the mark that is found at the next line.
-use Rattle.std.proofs.Common.{◌≡◌, ℕ, ◌+◌, ◌-◌, ◌*◌, ◌≤◌, Bool, List, [], Result, Ok, Err, IfOk, drop, arith, refl, sym, ap, ◌∙◌, subst}
+use Rattle.std.proofs.Common.{◌≡◌, ℕ, ◌+◌, ◌-◌, ◌*◌, ◌≤◌, Bool, List, Result, Ok, Err, IfOk, drop, arith, refl, sym, ap, ◌∙◌, subst}
 use Rattle.std.specs.Prelude.{◌==◌}
 use Rattle.rst_text.specs.Block.{Block}
 use Rattle.rst_text.specs.Looked.{capped}
-use Rattle.rst_tree.specs.declared.node.Node.{Node}
 use Rattle.rst_markup_blocks.specs.Begun.{IsBegun, kind_in}
 use Rattle.rst_markup_blocks.specs.Ends.{row_size, row_reach}
 use Rattle.rst_markup_blocks.specs.declared.begun.Begun.{Begun}
@@ -13,16 +12,13 @@ use Rattle.rst_block_state.specs.Inside.{opened_by, cells_by}
 use Rattle.rst_block_state.specs.looks.Ledger.{unread_at, totals, place_after, next_blocks, next_cells, run_looks, end_looks, GoesOn, IsPaid, Opens}
 use Rattle.rst_block_state.specs.machine.Meanings.{open_run_of}
 use Rattle.rst_block_state.specs.machine.NextLine.{IsNextConstruct}
-use Rattle.rst_block_state.specs.machine.OpenBlocks.{IsMoved, HasMoreAt, IsClosed}
 use Rattle.rst_block_state.specs.looks.Reaches.{reach_at}
 use Rattle.rst_block_state.specs.machine.Rest.{no_run}
-use Rattle.rst_block_state.specs.Titles.{Item}
 use Rattle.rst_block_nodes.specs.declared.fault.BlockFault.{BlockFault}
 use Rattle.rst_block_state.specs.declared.open_block.OpenBlock.{OpenBlock}
 use Rattle.rst_block_state.specs.declared.run.Run.{Run}
-use Rattle.rst_block_state.specs.declared.run.Run.TheVariants.{None as NoRun, List as ListRun, Lines, Explicit as ExplicitRun}
+use Rattle.rst_block_state.specs.declared.run.Run.TheVariants.{None as NoRun}
 use Rattle.rst_block_state.specs.declared.step.Step.{Step}
-use Rattle.rst_block_state.specs.declared.step.Step.TheVariants.{Next}
 use Rattle.rst_block_state.proofs.NextConstructs.{IsFilled, next_of}
 
 -- an open run takes a look at its end, or none
@@ -66,16 +62,6 @@ paid_begun each begun l new B s before after h f goes depth place blocks cells m
 pub ended_looks : (r : Run) → open_run_of r ≡ no_run → run_looks r ≡ 0
 ended_looks NoRun h = refl
 ended_looks _ h = cc
-
--- a construct that opens no block, of which nodes came after the end of the open run
-pub paid_alone : (each : ℕ) (begun : Begun) (l closed gone new : OpenBlock) (B : Block) (read : Result (List Item × ℕ) ℕ) (m : ℕ) (more : List Node) (before after : ℕ) → IsBegun (drop l.at B) begun → IsFilled begun
-    → opened_by (construct_with begun (l.depth == 0) (drop l.at B)) (unread_at l.depth) B l.at (drop l.at B) ≡ [] → cells_by (construct_with begun (l.depth == 0) (drop l.at B)) B l.at ≡ []
-    → IsClosed read l closed m no_run → IsMoved closed gone → gone.at ≡ l.at + row_size (kind_in begun) (l.depth == 0) (drop l.at B) → HasMoreAt gone new more gone.at
-    → after ≤ before + run_looks l.run + each * row_reach (kind_in begun) (l.depth == 0) (drop l.at B) → capped (before + (row_size (kind_in begun) (l.depth == 0) (drop l.at B) - 1)) ≤ after
-    → IsPaid each l new B Next before after
-paid_alone each begun l closed gone new B read m more before after h f none empty cl g at k most least =
-    let ended : run_looks new.run ≡ 0 = ap run_looks (k.run ∙ g.run) ∙ ended_looks closed.run cl.run in
-    paid_begun each begun l new B Next before after h f tt (k.depth ∙ g.depth ∙ cl.depth) (k.at ∙ at) (sym (ap (totals l.depth) none)) (sym (ap (totals l.depth) empty)) (omega (arith, ended, most)) least
 
 -- ---- parts of constructs
 

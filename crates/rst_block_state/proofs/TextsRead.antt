@@ -1,24 +1,14 @@
 -- Texts that were read are those of the definition.
-use Rattle.std.proofs.Common.{◌≡◌, ℕ, List, [], ◌∷◌, length, Option, Ok, sym, ap, ◌∙◌}
-use Rattle.rst_tree.specs.Sends.{counted_on}
+use Rattle.std.proofs.Common.{◌≡◌, ℕ, List, [], ◌∷◌, Option, Ok, sym, ap, ◌∙◌}
 use Rattle.rst_tree.specs.declared.node.Node.{Node}
 use Rattle.rst_tree.specs.declared.tag.Tag.{Tag}
 use Rattle.rst_tree.specs.declared.tag.Tag.TheVariants.{Title as TitleTag}
-use Rattle.rst_block_nodes.specs.Results.{HoldsText}
-use Rattle.rst_block_nodes.specs.declared.texted.Texted.{Texted}
-use Rattle.rst_block_nodes.proofs.ReadingBridges.{texted_read}
 use Rattle.rst_block_nodes.specs.declared.heading.Style.{Style}
 use Rattle.rst_block_nodes.specs.Sections.{filled}
 use Rattle.rst_block_state.specs.Directives.{titled_element}
 use Rattle.rst_block_state.specs.Numbered.{then_read, just}
 use Rattle.rst_block_state.specs.Texts.{texted}
 use Rattle.rst_block_state.specs.Titles.{titled, title_item}
-
--- an element that holds a text that begins in its own line, with the messages on the text and the number after theirs
-pub texted_reads_as : (tag : Tag) (line at : ℕ) (t u : List ℕ) (number next : ℕ) (made : Texted) → line ≡ at → t ≡ u → HoldsText tag line t line number made
-    → next ≡ counted_on number (length made.notes.items) → texted tag at u at number ≡ Ok ((made.element, made.notes.items), next)
-texted_reads_as tag line at t u number next made l e h n =
-    sym (ap (λ x. texted tag line x line number) e ∙ ap (λ x. texted tag x u x number) l) ∙ texted_read tag line t line number next made h n
 
 -- a title with that element
 pub title_reads : (style : Style) (t : List ℕ) (line : ℕ) (warning : Option Node) (lines : List ℕ) (number next : ℕ) (element : Node) (notes : List Node)

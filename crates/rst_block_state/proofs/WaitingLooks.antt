@@ -28,7 +28,7 @@ use Rattle.rst_block_state.specs.declared.open_block.OpenBlock.{OpenBlock}
 use Rattle.rst_block_state.specs.declared.waits.Waits.{Waits}
 use Rattle.rst_block_state.specs.declared.waits.Waits.TheVariants.{ListItem, ListedBody, Quote, Element, Figure, Replacement}
 use Rattle.rst_block_state.specs.declared.step.Step.{Step}
-use Rattle.rst_block_state.specs.declared.step.Step.TheVariants.{Next, Open, Cells, Done}
+use Rattle.rst_block_state.specs.declared.step.Step.TheVariants.{Begin, Next, Open, Cells, Done}
 use Rattle.rst_block_state.proofs.LedgerLemmas.{sum_append}
 use Rattle.rst_block_state.proofs.MeaningLemmas.{not_zero}
 use Rattle.rst_block_state.proofs.QuoteCounts.{attribution_within}
@@ -140,38 +140,11 @@ quotes_go_on l new B line end made p s before after h = by s h.goes h.place h.bl
 
     by : (t : Step) → GoesOn t → place_after new t ≡ p.to → totals D (next_blocks B t) ≡ totals D quotes → next_cells t ≡ [] → after + end_looks new t ≤ before + run_looks l.run + (1 + 16 * (p.to - p.from))
         → Takes (most_after l B (Quote line made (Some p) end) None) (least_after l B (Quote line made (Some p) end) None) before (most_left new B t) (least_left new B t) after
+    by Begin g place blocks cells few = absurd g
     by Done g place blocks cells few = absurd g
     by t g place blocks cells few = same t place blocks cells few
 
--- ---- below the last level
-
-flat_totals : (d : ℕ) (Cs : List Block) → d ≡ deepest → totals d Cs ≡ sum_of length Cs
-unfolding sum_of total
-flat_totals d [] h = refl
-flat_totals d (C ∷ Cs) h =
-    let e : deepest - d ≡ 0 = omega (arith, h) in
-    omega (arith, flat_totals d Cs h, ap (λ n. total true n false C) e)
-
-pub last_block : (l : OpenBlock) (B : Block) (w : Waits) (first : Part) (second : Option Part) (before after : ℕ) → l.depth ≡ deepest
-    → after ≤ before + 128 * sum_of length (lines_in B first ∷ part_blocks B second) → capped (before + sum_of length (lines_in B first ∷ part_blocks B second)) ≤ after
-    → Takes (most_left l B (Open w first second)) (least_left l B (Open w first second)) before (most_after l B w None) (least_after l B w None) after
-unfolding sum_of
-last_block l B w first second before after d few some =
-    let f : Block → ℕ = total true (deepest - l.depth) false in
-    let parts : List Block = lines_in B first ∷ part_blocks B second in
-    let flat = flat_totals l.depth parts d in
-    let split : totals l.depth (parts ++ quotes_left B w) ≡ totals l.depth parts + totals l.depth (quotes_left B w) = sum_append f parts (quotes_left B w) in
-    record {
-      no_more = omega (arith, few, flat, split);
-      no_less = omega (arith, some, flat, split);
-    }
-
 -- ---- cells
-
-pub cell_text : (depth : ℕ) (C : Block) → total_at (suc depth) C ≡ total true (deepest - depth) false C
-cell_text depth C =
-    let e : suc deepest - suc depth ≡ deepest - depth = omega arith in
-    ap (λ z. total true (suc deepest - suc depth) z C) (not_zero depth) ∙ ap (λ n. total true n false C) e
 
 map_append : (cs ds : List Cell) → map (λ (c : Cell). c.lines) (cs ++ ds) ≡ map (λ (c : Cell). c.lines) cs ++ map (λ (c : Cell). c.lines) ds
 map_append [] ds = refl

@@ -3,9 +3,11 @@ ghost use Rattle.std.specs.Prelude.{◌≡◌, ◌<◌, []};
 
 use super::fault::Result;
 use super::run::{ListKind, OpenList, Run};
+use super::step::Step;
 use super::texts::{Pass, number_at, unindent};
+use super::waits::Waits;
 use rst_block_nodes::Heading;
-use rst_markup_blocks::text_at;
+use rst_markup_blocks::{Part, text_at};
 use rst_markup_lines::is_blank;
 use rst_text::View;
 use rst_tree::Node;
@@ -30,7 +32,7 @@ pub struct OpenBlock {
 }
 
 impl OpenBlock {
-    ghost use Rattle.std.specs.Prelude.{ℕ, suc, ◌+◌, ◌-◌, ◌^◌, ◌≤◌, ◌==◌, ◌∷◌, drop};
+    ghost use Rattle.std.specs.Prelude.{ℕ, suc, None, ◌+◌, ◌-◌, ◌^◌, ◌≤◌, ◌==◌, ◌∷◌, drop};
     ghost use Rattle.rst_text.specs.Looked.{capped};
     ghost use Rattle.rst_text.specs.ViewBlock.{block_of};
     ghost use Rattle.rst_block_state.specs.machine.Meanings.{IsNew, deepest, joining_in, open_run_of};
@@ -38,6 +40,7 @@ impl OpenBlock {
     ghost use Rattle.rst_block_state.specs.machine.OpenBlocks as spec;
     ghost use Rattle.rst_block_state.specs.machine.Rest.{closed_run, no_run};
     ghost use Rattle.rst_block_state.specs.Texts.{warned};
+    ghost use Rattle.rst_block_state.specs.declared.step.Step.TheVariants.{Open};
 
     /// A block of which nothing was read.
     pub fn new(alloc: Global, depth: usize) -> OpenBlock
@@ -70,6 +73,21 @@ impl OpenBlock {
         ensures moved { spec.IsMoved self.old self.new }
     {
         self.at = end.max(self.at + 1);
+    }
+
+    /// Has this part of its lines read as a block inside, for what waits for it, and goes on at a later line.
+    pub fn open(&mut self, to: usize, first: Part, waits: Waits) -> Step
+        requires { self.old.at < to }
+        ensures step { result ≡ Open waits first None }
+        ensures at { self.new.at ≡ to }
+        ensures moved { spec.IsMoved self.old self.new }
+    {
+        self.at = to;
+        Step::Open {
+            waits,
+            first,
+            second: None,
+        }
     }
 
     /// Adds a new node after the last. It is marked by a pass over it, the only one.

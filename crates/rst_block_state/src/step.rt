@@ -7,6 +7,8 @@ use rst_markup_tables::TableResult;
 /// What a step leads to.
 #[derive(Drop)]
 pub enum Step {
+    /// A block begins, of which nothing was read.
+    Begin,
     /// The block goes on.
     Next,
     /// A block inside is read first: these two parts of the view, one after the other.

@@ -24,7 +24,7 @@ use Rattle.rst_block_state.specs.declared.waits.Waits.TheVariants.{Quote, Figure
 use Rattle.rst_block_state.specs.declared.run.Run.{Run}
 use Rattle.rst_block_state.specs.declared.run.Run.TheVariants.{None as NoRun}
 use Rattle.rst_block_state.specs.declared.step.Step.{Step}
-use Rattle.rst_block_state.specs.declared.step.Step.TheVariants.{Next, Open, Cells, Done}
+use Rattle.rst_block_state.specs.declared.step.Step.TheVariants.{Begin, Next, Open, Cells, Done}
 
 -- ---- blocks
 
@@ -130,12 +130,14 @@ end_looks l _ = run_looks l.run
 
 -- no more looks than this are taken in a block by what comes next, and after that
 abbrev pub most_left : OpenBlock → Block → Step → ℕ
+most_left l B Begin = 128 * total_at l.depth B
 most_left l B Done = 0
 most_left l B s =
     end_looks l s + 128 * (totals l.depth (next_blocks B s) + totals l.depth (next_cells s)) + most_from l.depth B (place_after l s)
 
 -- no fewer looks than this
 abbrev pub least_left : OpenBlock → Block → Step → ℕ
+least_left l B Begin = total_at l.depth B
 least_left l B Done = 0
 least_left l B s = totals l.depth (next_blocks B s) + totals l.depth (next_cells s) + least_from l.depth B (place_after l s)
 
@@ -143,12 +145,12 @@ least_left l B s = totals l.depth (next_blocks B s) + totals l.depth (next_cells
 
 -- no more looks than this are taken in the block that waited, and in the part of it that comes next
 abbrev pub ended_most : Block → OpenBlock → Ended → ℕ
-ended_most S l (Waiting f part) = most_after f.level (placement_block S f.placement) f.waits f.second + most_left l (block_of part) Next
+ended_most S l (Waiting f part) = most_after f.level (placement_block S f.placement) f.waits f.second + most_left l (block_of part) Begin
 ended_most S l (EndedGoesOn view s) = most_left l (block_of view) s
 
 -- no fewer looks than this
 abbrev pub ended_least : Block → OpenBlock → Ended → ℕ
-ended_least S l (Waiting f part) = least_after f.level (placement_block S f.placement) f.waits f.second + least_left l (block_of part) Next
+ended_least S l (Waiting f part) = least_after f.level (placement_block S f.placement) f.waits f.second + least_left l (block_of part) Begin
 ended_least S l (EndedGoesOn view s) = least_left l (block_of view) s
 
 -- ---- the argument of a directive
@@ -162,6 +164,7 @@ argument_lines argument = 0
 
 -- a block goes on
 abbrev pub GoesOn : Step → Type 0
+GoesOn Begin = ⊥
 GoesOn Done = ⊥
 GoesOn s = Unit {0}
 

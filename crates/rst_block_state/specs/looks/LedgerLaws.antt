@@ -31,7 +31,7 @@ use Rattle.rst_block_state.specs.declared.waits.Waits.{Waits}
 use Rattle.rst_block_state.specs.declared.waits.Waits.TheVariants.{Quote}
 use Rattle.rst_block_state.specs.declared.run.Run.TheVariants.{None as NoRun}
 use Rattle.rst_block_state.specs.declared.step.Step.{Step}
-use Rattle.rst_block_state.specs.declared.step.Step.TheVariants.{Next, Open, Cells, Done}
+use Rattle.rst_block_state.specs.declared.step.Step.TheVariants.{Begin, Next, Open, Cells, Done}
 
 -- ---- one block
 
@@ -73,17 +73,15 @@ LastIsCounted = (S : Block) (fs : List Frame) (f : Frame) → IsCounted S fs f
 
 -- a block inside is opened for one that waits from then on: no look is taken
 abbrev pub OpenedIsPaid : Type 0
-OpenedIsPaid = (l new : OpenBlock) (B : Block) (w : Waits) (first : Part) (second : Option Part) → l.depth < deepest
-    → new.depth ≡ suc l.depth → new.at ≡ 0 → new.run ≡ NoRun
-    → (most_after l B w second + most_left new (lines_in B first) Next ≤ most_left l B (Open w first second))
-    × (least_left l B (Open w first second) ≤ least_after l B w second + least_left new (lines_in B first) Next)
+OpenedIsPaid = (l new : OpenBlock) (B : Block) (w : Waits) (first : Part) (second : Option Part) → new.depth ≡ suc l.depth
+    → (most_after l B w second + most_left new (lines_in B first) Begin ≡ most_left l B (Open w first second))
+    × (least_after l B w second + least_left new (lines_in B first) Begin ≡ least_left l B (Open w first second))
 
 -- the same of the other part, once the first was read
 abbrev pub SecondIsPaid : Type 0
-SecondIsPaid = (l new : OpenBlock) (B : Block) (w : Waits) (second : Part) → l.depth < deepest → new.depth ≡ suc l.depth → new.at ≡ 0
-    → new.run ≡ NoRun
-    → (most_after l B w None + most_left new (lines_in B second) Next ≤ most_after l B w (Some second))
-    × (least_after l B w (Some second) ≤ least_after l B w None + least_left new (lines_in B second) Next)
+SecondIsPaid = (l new : OpenBlock) (B : Block) (w : Waits) (second : Part) → new.depth ≡ suc l.depth
+    → (most_after l B w None + most_left new (lines_in B second) Begin ≡ most_after l B w (Some second))
+    × (least_after l B w None + least_left new (lines_in B second) Begin ≡ least_after l B w (Some second))
 
 -- ---- quotes
 
@@ -115,14 +113,6 @@ QuotesArePaid = (l new : OpenBlock) (B : Block) (line end : ℕ) (made : Option 
     → Takes (most_after l B (Quote line made (Some p) end) None) (least_after l B (Quote line made (Some p) end) None) before
     (most_left new B s) (least_left new B s) after
 
--- below the last level: its parts are blank, and a look or more, no more than 128, is taken at each of their lines
-abbrev pub LastBlockIsPaid : Type 0
-LastBlockIsPaid = (l : OpenBlock) (B : Block) (w : Waits) (first : Part) (second : Option Part) (before after : ℕ) → l.depth ≡ deepest
-    → after ≤ before + 128 * sum_of length (lines_in B first ∷ part_blocks B second)
-    → capped (before + sum_of length (lines_in B first ∷ part_blocks B second)) ≤ after
-    → Takes (most_left l B (Open w first second)) (least_left l B (Open w first second)) before
-    (most_after l B w None) (least_after l B w None) after
-
 -- ---- cells
 
 -- a cell is a text that is inside one block more than its table
@@ -143,10 +133,6 @@ TableIsPaid = (l new : OpenBlock) (B : Block) (t : TableResult) (before mid afte
     → Takes (most_left l B (Cells t)) (least_left l B (Cells t)) before (most_left new B Next) (least_left new B Next) after
 
 -- ---- texts
-
--- a text without lines takes no look
-abbrev pub EmptyTextIsFree : Type 0
-EmptyTextIsFree = (depth : ℕ) → total_at depth [] ≡ 0
 
 -- a text below the last level takes a look for each of its lines
 abbrev pub LastTextIsFlat : Type 0

@@ -1,10 +1,10 @@
 -- Blocks that wait for one inside them, and the block that is being read.
-use Rattle.std.specs.Prelude.{◌≡◌, ℕ, suc, ◌<◌, List, [], ◌∷◌, length, Option, None, Some}
+use Rattle.std.specs.Prelude.{◌≡◌, ℕ, suc, ◌<◌, ◌≤◌, List, [], ◌∷◌, length, Option, None, Some}
 use Rattle.rst_text.specs.Block.{Block}
 use Rattle.rst_text.specs.ViewBlock.{block_of, source_of, IsPlacement, placement_block}
 use Rattle.rst_markup_blocks.specs.Parts.{IsBlock}
 use Rattle.rst_markup_blocks.specs.declared.part.Part.{Part}
-use Rattle.rst_block_state.specs.machine.Meanings.{IsNew, after, comes, within_at}
+use Rattle.rst_block_state.specs.machine.Meanings.{IsNew, after, comes, deepest, within_at}
 use Rattle.rst_block_state.specs.Numbered.{Numbered, ◌>>=◌}
 use Rattle.rst_block_state.specs.machine.Steps.{IsBlockIf, IsTable, IsWaiting, IsResumed}
 use Rattle.rst_block_state.specs.Titles.{Item}
@@ -13,7 +13,7 @@ use Rattle.rst_block_state.specs.declared.frame.Ended.{Ended}
 use Rattle.rst_block_state.specs.declared.frame.Ended.TheVariants.{Waiting, GoesOn}
 use Rattle.rst_block_state.specs.declared.open_block.OpenBlock.{OpenBlock}
 use Rattle.rst_block_state.specs.declared.step.Step.{Step}
-use Rattle.rst_block_state.specs.declared.step.Step.TheVariants.{Next, Open, Cells, Done}
+use Rattle.rst_block_state.specs.declared.step.Step.TheVariants.{Begin, Next, Open, Cells, Done}
 
 -- a block of a text that waits: its parts are those of its lines
 abbrev pub IsFrame : Block → Frame → Type 0
@@ -31,12 +31,13 @@ abbrev pub AreNested : ℕ → List Frame → Type 0
 AreNested depth [] = Unit {0}
 AreNested depth (f ∷ fs) = (f.level.depth ≡ depth) × AreNested (suc depth) fs
 
--- what may come next in a block that goes on at a place
-abbrev pub IsNow : Block → ℕ → Step → Type 0
-IsNow B at Next = Unit {0}
-IsNow B at (Open w first second) = IsBlock B first × IsBlockIf B second × IsWaiting B at w
-IsNow B at (Cells table) = (at < length B) × IsTable at table
-IsNow B at Done = Unit {0}
+-- what may come next in a block; below the last level it is nothing but the block's begin and its end
+abbrev pub IsNow : Block → OpenBlock → Step → Type 0
+IsNow B l Begin = IsNew l × (l.depth ≤ suc deepest)
+IsNow B l Next = l.depth ≤ deepest
+IsNow B l (Open w first second) = (l.depth ≤ deepest) × IsBlock B first × IsBlockIf B second × IsWaiting B l.at w
+IsNow B l (Cells table) = (l.depth ≤ deepest) × (l.at < length B) × IsTable l.at table
+IsNow B l Done = Unit {0}
 
 -- there is a part that is read after another
 abbrev pub HasSecond : Option Part → Type 0

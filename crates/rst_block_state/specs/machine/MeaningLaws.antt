@@ -28,19 +28,19 @@ use Rattle.rst_block_state.specs.declared.frame.Frame.{Frame}
 use Rattle.rst_block_state.specs.declared.open_block.OpenBlock.{OpenBlock}
 use Rattle.rst_block_state.specs.declared.waits.Waits.{Waits}
 use Rattle.rst_block_state.specs.declared.waits.Waits.TheVariants.{ListItem, Quote}
-use Rattle.rst_block_state.specs.declared.step.Step.TheVariants.{Open}
+use Rattle.rst_block_state.specs.declared.step.Step.TheVariants.{Begin, Open}
 
 -- ---- blocks that wait
 
--- a block of which nothing was read gives all that it means
+-- what is still to come of a block of which nothing was read is all that it gives
 abbrev pub NewBlockIsAll : Type 0
-NewBlockIsAll = (l : OpenBlock) (B : Block) (number : ℕ) → IsNew l → reads l B number ≡ block_items (within_at l.depth) B number
+NewBlockIsAll = (l : OpenBlock) (B : Block) (number : ℕ) → IsNew l → l.depth ≤ deepest → reads l B number ≡ comes l B Begin number
 
 -- some blocks that wait, and one inside of them that waits for the part X of its lines: it is as if this part were read in a block of its own
 abbrev pub PartIsBlock : Type 0
-PartIsBlock = (S : Block) (fs : List Frame) (f : Frame) (l : OpenBlock) (X : Block) (number : ℕ) → l.depth ≡ suc f.level.depth
-    → suc f.level.depth ≤ deepest → IsNew l
-    → plug S (fs ++ f ∷ []) (reads l X) number
+PartIsBlock = (S : Block) (fs : List Frame) (f : Frame) (l : OpenBlock) (X : Block) (number : ℕ) → f.level.depth ≤ deepest
+    → l.depth ≡ suc f.level.depth
+    → plug S (fs ++ f ∷ []) (comes l X Begin) number
     ≡ plug S fs ((within_at f.level.depth).inner X >>= λ ns.
     after f.level (placement_block S f.placement) f.waits f.second f.nodes ns) number
 
@@ -59,31 +59,6 @@ pub record IsRefusedBelow (n : ℕ) (X : Block) (read : Result (List Node × ℕ
 -- a block below the last level is refused at its first line that isn't blank
 abbrev pub BelowLastLevel : Type 0
 BelowLastLevel = (X : Block) (number : ℕ) → IsRefusedBelow (lines_while Blank X) X (below_last_level X number) number
-
--- below the last level a part, if there is one, is blank
-abbrev pub IsBlankPart : Block → Option Part → ℕ → Type 0
-IsBlankPart B None number = Unit {0}
-IsBlankPart B (Some p) number = below_last_level (lines_in B p) number ≡ Ok ([], number)
-
--- below the last level the second part is refused, if there is one, and the first is blank
-abbrev pub IsRefusedSecond : Block → Part → Option Part → ℕ → ℕ → Type 0
-IsRefusedSecond B first None number line = ⊥
-IsRefusedSecond B first (Some p) number line =
-    (below_last_level (lines_in B first) number ≡ Ok ([], number)) × (below_last_level (lines_in B p) number ≡ Err line)
-
--- below the last level one of two parts is refused
-abbrev pub IsRefused : Block → Part → Option Part → ℕ → ℕ → Type 0
-IsRefused B first second number line = (below_last_level (lines_in B first) number ≡ Err line) ⊎ IsRefusedSecond B first second number line
-
--- parts below the last level give no nodes, or are refused
-abbrev pub LastBlockIsFlat : Type 0
-LastBlockIsFlat = (l : OpenBlock) (B : Block) (w : Waits) (first : Part) (second : Option Part) (number : ℕ) → l.depth ≡ deepest
-    → below_last_level (lines_in B first) number ≡ Ok ([], number) → IsBlankPart B second number
-    → comes l B (Open w first second) number ≡ resumed l B w [] number
-
-abbrev pub LastBlockIsRefused : Type 0
-LastBlockIsRefused = (l : OpenBlock) (B : Block) (w : Waits) (first : Part) (second : Option Part) (number line : ℕ) → l.depth ≡ deepest
-    → IsRefused B first second number line → comes l B (Open w first second) number ≡ Err line
 
 -- the quotes of some lines are the same under each count that isn't less than the number of lines
 abbrev pub EnoughQuotes : Type 0

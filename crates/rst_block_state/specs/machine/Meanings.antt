@@ -36,7 +36,7 @@ use Rattle.rst_block_state.specs.declared.run.OpenList.{OpenList}
 use Rattle.rst_block_state.specs.declared.run.Run.{Run}
 use Rattle.rst_block_state.specs.declared.run.Run.TheVariants.{None as NoRun, List as ListRun, Lines, Explicit}
 use Rattle.rst_block_state.specs.declared.step.Step.{Step}
-use Rattle.rst_block_state.specs.declared.step.Step.TheVariants.{Next, Open, Cells, Done}
+use Rattle.rst_block_state.specs.declared.step.Step.TheVariants.{Begin, Next, Open, Cells, Done}
 
 -- ---- the open run
 
@@ -159,6 +159,7 @@ plug S (f ∷ fs) read = do
 
 -- what the block that is read gives by what comes next in it
 abbrev pub comes : OpenBlock → Block → Step → Numbered (List Item)
+comes l B Begin = text_items l.depth B
 comes l B Next = reads l B
 comes l B (Open w first second) = do
   ns ← (within_at l.depth).inner (lines_in B first)

@@ -6,7 +6,7 @@ use Rattle.rst_markup_blocks.specs.declared.part.Part.{Part}
 use Rattle.rst_markup_tables.specs.declared.results.TableResult.{TableResult}
 use Rattle.rst_markup_tables.specs.declared.results.TableResult.TheVariants.{Table, Malformed}
 use Rattle.rst_block_state.specs.declared.step.Step.{Step}
-use Rattle.rst_block_state.specs.declared.step.Step.TheVariants.{Next, Open, Cells, Done}
+use Rattle.rst_block_state.specs.declared.step.Step.TheVariants.{Begin, Next, Open, Cells, Done}
 use Rattle.rst_block_state.specs.declared.waits.Waits.{Waits}
 use Rattle.rst_block_state.specs.declared.waits.Waits.TheVariants.{Quote}
 
@@ -31,6 +31,7 @@ IsTable at (Malformed end fault) = ⊥
 
 -- a step from one place to another
 abbrev pub IsStep : Block → ℕ → ℕ → Step → Type 0
+IsStep B at to Begin = ⊥
 IsStep B at to Next = at < to
 IsStep B at to (Open w first second) = (at < to) × IsBlock B first × IsBlockIf B second × IsWaiting B to w
 IsStep B at to (Cells table) = (to ≡ at) × (at < length B) × IsTable at table
@@ -38,6 +39,7 @@ IsStep B at to Done = Unit {0}
 
 -- what comes next in a block that goes on at a place: a step, after some that only go on, or the block's end
 abbrev pub IsNext : Block → ℕ → ℕ → Step → Type 0
+IsNext B at to Begin = ⊥
 IsNext B at to Next = (at < length B) × (at < to)
 IsNext B at to (Open w first second) = (at < length B) × (at < to) × IsBlock B first × IsBlockIf B second × IsWaiting B to w
 IsNext B at to (Cells table) = (at ≤ to) × (to < length B) × IsTable to table

@@ -33,7 +33,7 @@ returns-in-Some-clause-paid c =
     second_waits (source_of c.args.whole.now) c.args.frame c.replace.result c.replace.new.dest c.in-Some.second (block_of c.inside-part.result) c.args.pass.now.looks c.in-Some.is
     (c.replace.ensures.value ∙ c.replace-done.ensures.after)
     (c.inside-part.ensures.block ∙ ap (λ Y. lines_in Y c.in-Some.second) c.at-view.ensures.block)
-    c.requires.deepest (ap (λ (l : OpenBlock). l.depth) c.replace.ensures.after ∙ c.new.ensures.depth ∙ c.requires.depth) (rw c.replace.ensures.after c.new.ensures.begun)
+    (ap (λ (l : OpenBlock). l.depth) c.replace.ensures.after ∙ c.new.ensures.depth ∙ c.requires.depth)
 
 pub returns-clause-paid : goal.returns-clause-paid
 returns-clause-paid c =

@@ -1,5 +1,5 @@
-use Rattle.rst_block.proofs.DocumentLooks.{empty_text, last_text, bounded}
+use Rattle.rst_block.proofs.DocumentLooks.{last_text, bounded}
 use Rattle.rst_block.proofs.laws.documents_are_bounded.Goals as goal
 
 pub returns : goal.returns
-returns c = record { empty = empty_text; flat = last_text; bounded = bounded }
+returns c = record { flat = last_text; bounded = bounded }

@@ -1,4 +1,4 @@
-use Rattle.std.proofs.Common.{◌≡◌, ◌⊎◌, inl, inr, ℕ, suc, ◌-◌, ◌^◌, ◌≤◌, List, [], length, drop, arith, rules, refl, sym, ap, ◌∙◌, map, vec_items}
+use Rattle.std.proofs.Common.{◌≡◌, ◌⊎◌, inl, inr, ℕ, suc, ◌-◌, ◌^◌, ◌≤◌, List, [], length, drop, arith, rules, refl, sym, subst, ap, ◌∙◌, map, vec_items}
 use Rattle.std.proofs.lemmas.List.{drop_all, nil_from_length, take_all}
 use Rattle.std.proofs.lemmas.Result.{IfOk-weaker}
 use Rattle.std.specs.Vec.Iter.{into_iter_items}
@@ -11,25 +11,22 @@ use Rattle.rst_tree.specs.declared.tag.Tag.TheVariants.{Row}
 use Rattle.rst_markup_tables.specs.declared.results.TableResult.TheVariants.{Table}
 use Rattle.rst_block_nodes.specs.Elements.{element_of}
 use Rattle.rst_block_state.specs.Inside.{cell_blocks}
-use Rattle.rst_block_state.specs.looks.Ledger.{totals}
-use Rattle.rst_block_state.specs.machine.Meanings.{comes, deepest, done_of, reads, within_at}
-use Rattle.rst_block_state.specs.Nodes.{block_items}
+use Rattle.rst_block_state.specs.looks.Ledger.{TakesFor, total_at, totals}
+use Rattle.rst_block_state.specs.machine.Meanings.{comes, done_of, reads, text_items, within_at}
 use Rattle.rst_block_state.specs.Numbered.{just, then_read}
 use Rattle.rst_block_state.specs.Tables.{entry_of, row_of, table_node}
 use Rattle.rst_block_state.specs.declared.frame.Frame.{Frame}
-use Rattle.rst_block_state.specs.declared.step.Step.TheVariants.{Next, Cells}
+use Rattle.rst_block_state.specs.declared.step.Step.TheVariants.{Begin, Next, Cells}
 use Rattle.rst_block_state.proofs.Calls.{refuses}
 use Rattle.rst_block.proofs.CellsRead.{each_begins, each_ends, each_goes_on, each_keeps, entries_keep, entry_next, table_keeps, then_keeps, table_reads}
-use Rattle.rst_block.proofs.LastLevel.{flat_text, flat_text_fails}
-use Rattle.rst_block.proofs.MachinePaid.{none_read, some_read, next_cell, row_paid, next_row, rows_paid, table_paid, text_begins, block_goes_on, text_ends, flat_paid}
+use Rattle.rst_block.proofs.MachinePaid.{none_read, some_read, next_cell, row_paid, next_row, rows_paid, table_paid, text_begins, block_goes_on, text_ends}
 use Rattle.rst_block.proofs.Stack.{below, goes_on}
 use Rattle.rst_block_body.proofs.StepsPaid.{takes_then}
-use Rattle.rst_block.proofs.Waiting.{plug_begins, plug_fails, plug_goes_on, plug_over}
-use Rattle.rst_block.proofs.machine.+machine.Goals.{read-else-len-gt0-via-then-len-gt0+else-level-le-DEEPEST, read-else-len-gt0-via-else-len-gt0}
+use Rattle.rst_block.proofs.Waiting.{plug_alone, plug_fails, plug_goes_on}
 use Rattle.rst_block.proofs.machine.+machine.Goals as goal
 
-pub read_blocks-loop-table-init : goal.read_blocks-loop-table-init
-read_blocks-loop-table-init t c =
+pub read-loop-table-init : goal.read-loop-table-init
+read-loop-table-init t c =
     let base : ℕ = c.len-base.result in
     let all : length c.args.frames.now ≤ base = omega (arith, c.len-base.ensures) in
     let none : drop base c.args.frames.now ≡ [] = drop_all base c.args.frames.now all in
@@ -40,26 +37,27 @@ read_blocks-loop-table-init t c =
         room = omega (arith, c.len-base.ensures, c.requires.depth);
         waiting = rw none tt;
         text = refl;
-        now = tt;
+        now = (c.requires.new, c.requires.depth);
         depth = omega (arith, c.len-base.ensures);
         nested = rw none tt;
       };
       outer = take_all base c.args.frames.now all;
-      read = plug_begins (source_of c.args.whole.now) (drop base c.args.frames.now) c.args.level.now (block_of c.args.whole.now) c.args.level.now.depth c.args.pass.now.numbers none c.requires.new refl;
-      paid = text_begins (source_of c.args.whole.now) (drop base c.args.frames.now) c.args.level.now (block_of c.args.whole.now) c.args.level.now.depth c.args.pass.now.looks none c.requires.new refl c.requires.depth;
+      read = plug_alone (source_of c.whole-whole.result) (drop base c.args.frames.now) (comes c.args.level.now (block_of c.whole-whole.result) Begin) c.args.pass.now.numbers none;
+      paid = text_begins (source_of c.whole-whole.result) (drop base c.args.frames.now) c.args.level.now (block_of c.whole-whole.result) c.args.pass.now.looks none;
     }
 
-pub read_blocks-loop-table-smaller : goal.read_blocks-loop-table-smaller
-read_blocks-loop-table-smaller t c =
+pub read-loop-table-smaller : goal.read-loop-table-smaller
+read-loop-table-smaller t c =
+    let S : Block = source_of c.whole-whole.result in
     let h = rw c.in-Some.is at c.in_ok-read_on.ensures.reading in
     let less = rw c.in-Some.is at c.in_ok-read_on.ensures.less in
     let n : ℕ = length (block_of c.read_on.new.view) in
-    rw c.in_ok-cells-in-Some.ensures.frames (below (goes_on (2 ^ 64) (250 - c.args.level.now.depth) (source_of c.args.whole.now) (drop c.len-base.result c.read_on.new.frames)
-    n c.read_on.new.level.at n c.cells.new.level.at (Cells c.in-Some.table) Next (omega (arith, h.now.0, c.in_ok-cells-in-Some.ensures.later))) less)
+    rw c.in_ok-cells-in-Some.ensures.frames (below (goes_on (2 ^ 64) (251 - c.args.level.now.depth) S (drop c.len-base.result c.read_on.new.frames)
+    n c.read_on.new.level.at n c.cells.new.level.at (Cells c.in-Some.table) Next (omega (arith, h.now.1, c.in_ok-cells-in-Some.ensures.later))) less)
 
-pub read_blocks-loop-table-preserved : goal.read_blocks-loop-table-preserved
-read_blocks-loop-table-preserved t c =
-    let S : Block = source_of c.args.whole.now in
+pub read-loop-table-preserved : goal.read-loop-table-preserved
+read-loop-table-preserved t c =
+    let S : Block = source_of c.whole-whole.result in
     let B : Block = block_of c.read_on.new.view in
     let fs : List Frame = drop c.len-base.result c.read_on.new.frames in
     let h = rw c.in-Some.is at c.in_ok-read_on.ensures.reading in
@@ -67,67 +65,37 @@ read_blocks-loop-table-preserved t c =
     let paid = rw c.in-Some.is at c.in_ok-read_on.ensures.paid in
     let same : c.cells.new.frames ≡ c.read_on.new.frames = c.in_ok-cells-in-Some.ensures.frames in
     record {
-      reading = rw same (record { base = h.base; under = h.under; room = h.room; waiting = h.waiting; text = h.text; now = tt; depth = c.in_ok-cells-in-Some.ensures.kept ∙ h.depth; nested = h.nested });
+      reading = rw same (record { base = h.base; under = h.under; room = h.room; waiting = h.waiting; text = h.text; now = omega (arith, c.in_ok-cells-in-Some.ensures.kept, h.now.0); depth = c.in_ok-cells-in-Some.ensures.kept ∙ h.depth; nested = h.nested });
       outer = rw same (c.in_ok-read_on.ensures.outer ∙ c.loop-table.invariant.outer);
       read = rw same (plug_goes_on S fs (reads c.cells.new.level B) (comes c.read_on.new.level B (Cells c.in-Some.table)) c.cells.new.pass.numbers c.read_on.new.pass.numbers _ c.in_ok-cells-in-Some.ensures.read
           (read ∙ c.loop-table.invariant.read));
       paid = rw same (block_goes_on _ _ S fs c.read_on.new.level c.cells.new.level B (Cells c.in-Some.table) Next _ _ _ (takes_then c.loop-table.invariant.paid paid) c.in_ok-cells-in-Some.ensures.paid);
     }
 
-pub read_blocks-returns-in-None-clause-read : goal.read_blocks-returns-in-None-clause-read
-read_blocks-returns-in-None-clause-read t c =
+pub read-returns-in-None-clause-read : goal.read-returns-in-None-clause-read
+read-returns-in-None-clause-read t c =
     let last = rw c.in-None.is at c.in_ok-read_on.ensures.last in
-    let read = rw c.in-None.is at c.in_ok-read_on.ensures.read in
     let none : drop c.len-base.result c.read_on.new.frames ≡ [] = drop_all c.len-base.result c.read_on.new.frames (omega (arith, last)) in
-    plug_over (source_of c.args.whole.now) (drop c.len-base.result c.read_on.new.frames) c.read_on.new.level c.read_on.new.pass.numbers (block_items (within_at c.args.level.now.depth) (block_of c.args.whole.now) c.args.pass.now.numbers) none
-    (read ∙ c.loop-table.invariant.read)
+    sym (plug_alone (source_of c.whole-whole.result) (drop c.len-base.result c.read_on.new.frames) (just (done_of c.read_on.new.level)) c.read_on.new.pass.numbers none)
+    ∙ (rw c.in-None.is at c.in_ok-read_on.ensures.read ∙ c.loop-table.invariant.read ∙ ap (λ X. text_items c.args.level.now.depth X c.args.pass.now.numbers) c.whole-whole.ensures)
 
-pub read_blocks-returns-in-None-clause-paid : goal.read_blocks-returns-in-None-clause-paid
-read_blocks-returns-in-None-clause-paid t c =
+pub read-returns-in-None-clause-paid : goal.read-returns-in-None-clause-paid
+read-returns-in-None-clause-paid t c =
     let last = rw c.in-None.is at c.in_ok-read_on.ensures.last in
-    let paid = rw c.in-None.is at c.in_ok-read_on.ensures.paid in
     let none : drop c.len-base.result c.read_on.new.frames ≡ [] = drop_all c.len-base.result c.read_on.new.frames (omega (arith, last)) in
-    text_ends _ (source_of c.args.whole.now) (drop c.len-base.result c.read_on.new.frames) c.read_on.new.level (block_of c.read_on.new.view) _ _ none (takes_then c.loop-table.invariant.paid paid)
+    subst (λ X. TakesFor (total_at c.args.level.now.depth X) c.args.pass.now.looks c.read_on.new.pass.looks) c.whole-whole.ensures
+    (text_ends _ (source_of c.whole-whole.result) (drop c.len-base.result c.read_on.new.frames) c.read_on.new.level (block_of c.read_on.new.view) _ _ none
+    (takes_then c.loop-table.invariant.paid (rw c.in-None.is at c.in_ok-read_on.ensures.paid)))
 
-pub read_blocks-returns-in_err-cells-in-Some-clause-read : goal.read_blocks-returns-in_err-cells-in-Some-clause-read
-read_blocks-returns-in_err-cells-in-Some-clause-read t c =
+pub read-returns-in-None-clause-lines : goal.read-returns-in-None-clause-lines
+read-returns-in-None-clause-lines t c = ap are_lines (sym c.whole-whole.ensures) ∙ are_lines-block_of c.whole-whole.result
+
+pub read-returns-in_err-cells-in-Some-clause-read : goal.read-returns-in_err-cells-in-Some-clause-read
+read-returns-in_err-cells-in-Some-clause-read t c =
     let read = rw c.in-Some.is at c.in_ok-read_on.ensures.read in
     refuses _ c.in_err-cells-in-Some.field-0.0 _ _ (search rules)
-    (plug_fails (source_of c.args.whole.now) (drop c.len-base.result c.read_on.new.frames) (comes c.read_on.new.level (block_of c.read_on.new.view) (Cells c.in-Some.table)) c.read_on.new.pass.numbers
-    (block_items (within_at c.args.level.now.depth) (block_of c.args.whole.now) c.args.pass.now.numbers) c.in_err-cells-in-Some.field-0.0 _ _ (read ∙ c.loop-table.invariant.read) c.in_err-cells-in-Some.ensures.read)
-
-pub read-returns-in_err-not_blank-clause-read : goal.read-returns-in_err-not_blank-clause-read
-read-returns-in_err-not_blank-clause-read t c =
-    let flat : (length c.args.lines.now ≡ 0) ⊎ (c.args.level.now.depth ≡ suc deepest) = elim c.else-len-gt0.branch [
-      | read-else-len-gt0-via-then-len-gt0+else-level-le-DEEPEST w ↦ inr (omega (arith, w.if-level-le-DEEPEST.false, c.requires.depth))
-      | read-else-len-gt0-via-else-len-gt0 w ↦ inl (omega (arith, w.if-len-gt0.false, c.len.ensures, ap length c.whole-whole.ensures))
-    ] in
-    refuses c.from_residual.result c.in_err-not_blank.field-0.0 _ _ (search rules)
-    (flat_text_fails c.args.level.now.depth (block_of c.whole-whole.result) c.args.lines.now c.args.pass.now.numbers c.in_err-not_blank.field-0.0 _ flat c.whole-whole.ensures c.in_err-not_blank.ensures.blank)
-
-pub read-returns-clause-read : goal.read-returns-clause-read
-read-returns-clause-read t c =
-    let flat : (length c.args.lines.now ≡ 0) ⊎ (c.args.level.now.depth ≡ suc deepest) = elim c.else-len-gt0.branch [
-      | read-else-len-gt0-via-then-len-gt0+else-level-le-DEEPEST w ↦ inr (omega (arith, w.if-level-le-DEEPEST.false, c.requires.depth))
-      | read-else-len-gt0-via-else-len-gt0 w ↦ inl (omega (arith, w.if-len-gt0.false, c.len.ensures, ap length c.whole-whole.ensures))
-    ] in
-    ap (λ k. just (done_of c.args.level.now) k) c.in_ok-not_blank.ensures.numbers
-    ∙ flat_text c.args.level.now.depth (block_of c.whole-whole.result) c.args.lines.now c.args.level.now c.args.pass.now.numbers c.in_ok-not_blank.field-0 c.requires.depth flat c.whole-whole.ensures c.in_ok-not_blank.ensures.blank c.requires.new
-
-pub read-returns-clause-paid : goal.read-returns-clause-paid
-read-returns-clause-paid t c =
-    let flat : (length c.args.lines.now ≡ 0) ⊎ (c.args.level.now.depth ≡ suc deepest) = elim c.else-len-gt0.branch [
-      | read-else-len-gt0-via-then-len-gt0+else-level-le-DEEPEST w ↦ inr (omega (arith, w.if-level-le-DEEPEST.false, c.requires.depth))
-      | read-else-len-gt0-via-else-len-gt0 w ↦ inl (omega (arith, w.if-len-gt0.false, c.len.ensures, ap length c.whole-whole.ensures))
-    ] in
-    flat_paid c.args.level.now.depth (block_of c.whole-whole.result) c.args.lines.now _ _ flat c.whole-whole.ensures c.in_ok-not_blank.ensures.looked.1 c.in_ok-not_blank.ensures.each
-
-pub read-returns-then-level-le-DEEPEST-clause-lines : goal.read-returns-then-level-le-DEEPEST-clause-lines
-read-returns-then-level-le-DEEPEST-clause-lines t c =
-    IfOk-weaker c.read_blocks.result _ _ (λ _ _. ap are_lines (sym c.whole-whole.ensures) ∙ are_lines-block_of c.whole-whole.result) c.read_blocks.ensures.paid
-
-pub read-returns-clause-lines : goal.read-returns-clause-lines
-read-returns-clause-lines t c = ap are_lines (sym c.whole-whole.ensures) ∙ are_lines-block_of c.whole-whole.result
+    (plug_fails (source_of c.whole-whole.result) (drop c.len-base.result c.read_on.new.frames) (comes c.read_on.new.level (block_of c.read_on.new.view) (Cells c.in-Some.table)) c.read_on.new.pass.numbers
+    (text_items c.args.level.now.depth c.args.lines.now c.args.pass.now.numbers) c.in_err-cells-in-Some.field-0.0 _ _ (read ∙ c.loop-table.invariant.read ∙ ap (λ X. text_items c.args.level.now.depth X c.args.pass.now.numbers) c.whole-whole.ensures) c.in_err-cells-in-Some.ensures.read)
 
 pub cells-returns-in_err-made-clause-read : goal.cells-returns-in_err-made-clause-read
 cells-returns-in_err-made-clause-read t c =

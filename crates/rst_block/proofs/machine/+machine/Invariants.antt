@@ -4,21 +4,16 @@ use Rattle.rst_text.specs.ViewBlock.{block_of, source_of}
 use Rattle.rst_markup_tables.specs.declared.results.TableResult.TheVariants.{Table}
 use Rattle.rst_block_state.specs.Inside.{cell_blocks}
 use Rattle.rst_block_state.specs.looks.Ledger.{total_at, totals}
-use Rattle.rst_block_state.specs.machine.Meanings.{plug, reads, within_at}
-use Rattle.rst_block_state.specs.Nodes.{block_items}
+use Rattle.rst_block_state.specs.machine.Meanings.{comes, plug, text_items, within_at}
 use Rattle.rst_block_state.specs.Numbered.{each}
 use Rattle.rst_block_state.specs.Tables.{entry_of, row_of}
-use Rattle.rst_block_state.specs.declared.step.Step.TheVariants.{Next}
 use Rattle.rst_block.specs.Reading.{IsReading, text_left}
 use Rattle.rst_block.proofs.CellsRead.{each_after}
 use Rattle.rst_block.proofs.MachinePaid.{AreLeft, cell_lines, row_lines, IsPaidFor}
 use Rattle.rst_block.proofs.machine.+machine.Given as goal
 
 abbrev pub decreases-read : goal.decreases-read
-decreases-read l = 5 * (251 - l.level.now.depth) + 2
-
-abbrev pub decreases-read_blocks : goal.decreases-read_blocks
-decreases-read_blocks l = 5 * (251 - l.level.now.depth) + 1
+decreases-read l = 5 * (251 - l.level.now.depth) + 1
 
 abbrev pub decreases-cells : goal.decreases-cells
 decreases-cells l = 5 * (251 - l.depth) + 5
@@ -29,17 +24,17 @@ decreases-rows_of l = 5 * (251 - l.depth) + 4
 abbrev pub decreases-entries_of : goal.decreases-entries_of
 decreases-entries_of l = 5 * (251 - l.depth) + 3
 
--- the blocks that wait make of what is left in the block that is read all that the text gives
-abbrev pub invariant-read_blocks-loop-table : goal.invariant-read_blocks-loop-table
-invariant-read_blocks-loop-table l = record {
-  reading : IsReading l.depth l.base (source_of l.fn.whole) l.frames l.level l.view Next;
+-- the blocks that wait make of what comes in the block that is read all that the text gives
+abbrev pub invariant-read-loop-table : goal.invariant-read-loop-table
+invariant-read-loop-table l = record {
+  reading : IsReading l.depth l.base (source_of l.whole) l.frames l.level l.view l.now;
   outer : take l.base l.frames ≡ l.fn.frames;
-  read : plug (source_of l.fn.whole) (drop l.base l.frames) (reads l.level (block_of l.view)) l.pass.numbers ≡ block_items (within_at l.depth) (block_of l.fn.whole) l.fn.pass.numbers;
-  paid : IsPaidFor (128 * total_at l.depth (block_of l.fn.whole)) (total_at l.depth (block_of l.fn.whole)) (source_of l.fn.whole) (drop l.base l.frames) l.level (block_of l.view) Next l.fn.pass.looks l.pass.looks;
+  read : plug (source_of l.whole) (drop l.base l.frames) (comes l.level (block_of l.view) l.now) l.pass.numbers ≡ text_items l.depth (block_of l.whole) l.fn.pass.numbers;
+  paid : IsPaidFor (128 * total_at l.depth (block_of l.whole)) (total_at l.depth (block_of l.whole)) (source_of l.whole) (drop l.base l.frames) l.level (block_of l.view) l.now l.fn.pass.looks l.pass.looks;
 }
 
-abbrev pub decreases-read_blocks-loop-table : goal.decreases-read_blocks-loop-table
-decreases-read_blocks-loop-table l = text_left l.depth l.base (source_of l.fn.whole) l.frames l.level l.view Next
+abbrev pub decreases-read-loop-table : goal.decreases-read-loop-table
+decreases-read-loop-table l = text_left l.depth l.base (source_of l.whole) l.frames l.level l.view l.now
 
 abbrev pub invariant-rows_of-loop-cells : goal.invariant-rows_of-loop-cells
 invariant-rows_of-loop-cells l = record {

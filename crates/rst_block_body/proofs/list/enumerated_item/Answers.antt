@@ -1,63 +1,35 @@
-use Rattle.std.proofs.Common.{◌≡◌, None, arith, refl, sym, ap, ◌∙◌, rules}
-use Rattle.std.specs.Prelude.{option_map}
+use Rattle.std.proofs.Common.{List, [], ◌∙◌, drop, arith, refl, rules}
 use Rattle.rst_text.specs.ViewBlock.{block_of}
-use Rattle.rst_block_state.specs.machine.Meanings.{joining_in}
+use Rattle.rst_tree.specs.declared.node.Node.{Node}
+use Rattle.rst_tree.specs.declared.tag.Tag.TheVariants.{ListItem as ListItemTag}
+use Rattle.rst_markup_blocks.specs.Sizes.{item_size}
+use Rattle.rst_block_nodes.specs.Elements.{element_of}
+use Rattle.rst_block_state.specs.Constructs.{enumerated_item}
 use Rattle.rst_block_state.specs.declared.waits.Waits.TheVariants.{ListItem}
-use Rattle.rst_block_body.proofs.ListItems.{item_end_later, next_enumerated, item_refused, enumerated_made, listed_joins, listed_begins, enumerated_joins, enumerated_run}
-use Rattle.rst_block_body.proofs.ListsPaid.{found_item, paid_item}
-use Rattle.rst_block_body.proofs.ReadLemmas.{close_refuses}
+use Rattle.rst_block_body.proofs.ListItems.{item_to, next_enumerated, item_opens}
+use Rattle.rst_block_body.proofs.ListsPaid.{paid_item}
+use Rattle.rst_block_body.proofs.ReadLemmas.{call_refused}
 use Rattle.rst_block_body.proofs.list.enumerated_item.Goals as goal
 
-pub returns-in-Some : goal.returns-in-Some
-returns-in-Some c =
-    let B = block_of c.args.view.now in
-    let l = c.args.level.now in
-    let n = c.args.pass.now.numbers in
-    let start = c.args.pass.now.looks in
-    let mid = c.item_part-body.new.looks in
-    let part = c.item_part-body.ensures.part in
-    let moved = c.open_item.ensures.moved in
-    let next = next_enumerated l B c.requires.begun part in
-    let joins = sym (ap (option_map (λ kind. joining_in kind)) c.in-Some.is) ∙ c.going_on.ensures in
-    let there = c.open_item.ensures.there (rw c.join.ensures.at (item_end_later next c.requires.inside)) in
-    record {
-      step = search rules;
-      read = listed_joins n refl c.open_item.ensures.waits next (enumerated_joins l c.args.enumerator c.item_part-body.result.to joins) c.join.ensures.run moved there
-          (enumerated_made l B c.args.enumerator n c.number_at-line.ensures part);
-      paid = paid_item 29 (ListItem c.number_at-line.result) c.item_part-body.result start start mid mid (omega arith) next part
-          (found_item B l.at c.args.enumerator.marker start mid part c.item_part-body.ensures.reach c.item_part-body.ensures.low) c.open_item.ensures.waits tt refl
-          (moved.depth ∙ c.join.ensures.run.depth) there (omega arith) (omega arith) (omega arith);
-    }
+pub enter_list-requires-clause-next : goal.enter_list-requires-clause-next
+enter_list-requires-clause-next c = next_enumerated _ _ c.requires.begun c.item_part-body.ensures.part
 
-pub returns-in_err-close : goal.returns-in_err-close
-returns-in_err-close c =
-    let l = c.args.level.now in
-    let none : c.going_on.result ≡ None = search rules in
-    let begins = sym (ap (option_map (λ kind. joining_in kind)) none) ∙ c.going_on.ensures in
-    close_refuses c.in_err-close.field-0.0 (search rules) c.in_err-close.ensures.closed
-    (λ line h. item_refused _ (next_enumerated l (block_of c.args.view.now) c.requires.begun c.item_part-body.ensures.part) (enumerated_joins l c.args.enumerator c.item_part-body.result.to begins) h)
+pub returns-in_err-enter_list : goal.returns-in_err-enter_list
+returns-in_err-enter_list c = call_refused _ c.in_err-enter_list.field-0.0 (search rules) c.in_err-enter_list.ensures.read
 
 pub returns : goal.returns
 returns c =
-    let B = block_of c.args.view.now in
     let l = c.args.level.now in
-    let k = c.close.new.pass.numbers in
-    let start = c.args.pass.now.looks in
-    let mid = c.item_part-body.new.looks in
-    let stop = c.item_part-body.result.to in
-    let part = c.item_part-body.ensures.part in
-    let moved = c.open_item-2.ensures.moved in
-    let next = next_enumerated l B c.requires.begun part in
-    let closed = enumerated_run B c.args.enumerator stop c.in_ok-close.ensures.closed c.close.ensures.at c.in_ok-begin_enumerated_list.ensures.run in
-    let none : c.going_on.result ≡ None = search rules in
-    let begins = sym (ap (option_map (λ kind. joining_in kind)) none) ∙ c.going_on.ensures in
-    let there = c.open_item-2.ensures.there (rw (c.in_ok-begin_enumerated_list.ensures.run.at, c.close.ensures.at) (item_end_later next c.requires.inside)) in
+    let X = drop l.at (block_of c.args.view.now) in
+    let found = c.item_part-body.ensures in
+    let next = next_enumerated l (block_of c.args.view.now) c.requires.begun found.part in
+    let list = c.in_ok-enter_list.ensures.list in
+    let opened = c.open.ensures in
+    let waits = ListItem c.number_at-line.result in
+    let node = λ (ns : List Node). element_of ListItemTag [] ns c.number_at-line.result in
     record {
       step = search rules;
-      read = rw c.begin_enumerated_list.ensures.numbers (listed_begins c.args.pass.now.numbers k c.open_item-2.ensures.waits next (enumerated_joins l c.args.enumerator stop begins) closed moved there
-          (enumerated_made l B c.args.enumerator k c.number_at-line.ensures part));
-      paid = paid_item 29 (ListItem c.number_at-line.result) c.item_part-body.result start start mid c.begin_enumerated_list.new.pass.looks (omega arith) next part
-          (found_item B l.at c.args.enumerator.marker start mid part c.item_part-body.ensures.reach c.item_part-body.ensures.low) c.open_item-2.ensures.waits tt refl
-          (moved.depth ∙ c.in_ok-begin_enumerated_list.ensures.run.depth ∙ c.in_ok-close.ensures.closed.depth) there (omega arith)
-          (omega (arith, c.close.ensures.low, c.begin_enumerated_list.ensures.looked.0)) (omega (arith, c.close.ensures.run, c.begin_enumerated_list.ensures.looked.1));
+      read = item_opens (block_of c.args.view.now) (enumerated_item c.args.enumerator) waits c.item_part-body.result node _ _ opened.step list c.in_ok-enter_list.ensures.read opened.moved opened.at (λ ns. refl) (λ w. rw (c.number_at-line.ensures, found.part) refl);
+      paid = paid_item 29 waits c.item_part-body.result (item_size c.args.enumerator.marker X) _ _ _ _ (omega arith) c.requires.inside next (item_to l.at c.args.enumerator.marker X found.part) found.reach found.low opened.step tt refl
+          (opened.moved.depth ∙ list.depth) opened.at (omega arith) (omega (arith, c.enter_list.ensures.looked.0)) (omega (arith, c.enter_list.ensures.looked.1));
     }

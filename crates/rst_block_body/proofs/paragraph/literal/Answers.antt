@@ -29,7 +29,7 @@ returns-then-begins_with c =
     let e : to ≡ start + extent 1 (drop start B) = ap (λ p. p.to) c.indented-lines.ensures.part in
     let bytes = c.as_str.ensures.value ∙ c.in_ok-text.ensures.bytes ∙ ap spelled c.inside.ensures.block ∙ ap (λ p. spelled (lines_in B p)) c.indented-lines.ensures.part in
     let notes : List Node = warned (codes "Literal block ends without a blank line; unexpected unindent.") (drop to B) in
-    let nodes = ap (λ (node : Node). node ∷ notes) c.in_ok-node.ensures ∙ indented_whole B start to c.number_at.result c.as_str.result.now e c.number_at.ensures bytes in
+    let nodes = ap (λ (node : Node). node ∷ notes) c.in_ok-node.ensures ∙ indented_whole B start to c.number_at-line.result c.as_str.result.now e c.number_at-line.ensures bytes in
     let first = moved_more c.go_to.ensures.moved (c.go_to.ensures.there (omega (arith, c.requires.is_later, ends.end, e)) ∙ e) c.in_ok-push.ensures.more in
     record {
       gone = gives_map _ _ c.warn.result c.warn.ensures.more (λ _ g. more_as h.0 h.1 (more_as nodes refl (more_more first g)));
@@ -69,11 +69,11 @@ returns-in_ok-warning-in_default c =
       | in_default-via-in-Some+else-is_punctuation w ↦ other_here B end start last w.in-Some.quote c.lines_end-start.ensures.end space (rw c.text_at-text.ensures.text at (sym c.first_char.ensures ∙ w.in-Some.is)) (sym w.is_punctuation.ensures ∙ w.if-is_punctuation.false)
       | in_default-via-in_default w ↦ none_here B end start last c.lines_end-start.ensures.end (rw c.text_at-text.ensures.text at (sym c.first_char.ensures ∙ w.in_default.is))
     ] in
-    let place : ((start < length B) × (c.number_at-in_default.result ≡ first_number (drop start B))) ⊎ ((length B ≤ start) × (c.number_at-in_default.result ≡ last)) = elim c.if-start-len.branch [
-      | then-start-len w ↦ inl (omega (arith, w.if-start-len.true, c.len.ensures), c.number_at-in_default.ensures ∙ ap (λ i. first_number (drop i B)) w.place-is)
-      | else-start-len w ↦ inr (omega (arith, w.if-start-len.false, c.len.ensures), c.number_at-in_default.ensures ∙ ap (λ i. first_number (drop i B)) (let e : c.if-start-len.place ≡ end - 1 = omega arith in e))
+    let place : ((start < length B) × (c.number_at.result ≡ first_number (drop start B))) ⊎ ((length B ≤ start) × (c.number_at.result ≡ last)) = elim c.if-start-len.branch [
+      | then-start-len w ↦ inl (omega (arith, w.if-start-len.true, c.len.ensures), c.number_at.ensures ∙ ap (λ i. first_number (drop i B)) w.place-is)
+      | else-start-len w ↦ inr (omega (arith, w.if-start-len.false, c.len.ensures), c.number_at.ensures ∙ ap (λ i. first_number (drop i B)) (let e : c.if-start-len.place ≡ end - 1 = omega arith in e))
     ] in
-    let nodes = ap (λ node. node ∷ []) c.in_ok-warning-in_default.ensures ∙ no_literal_is B start c.number_at-in_default.result last place ∙ h.0 in
+    let nodes = ap (λ node. node ∷ []) c.in_ok-warning-in_default.ensures ∙ no_literal_is B start c.number_at.result last place ∙ h.0 in
     record {
       gone = gives_map _ _ c.push-in_default.result c.push-in_default.ensures.more (λ _ g. more_as nodes refl (moved_more c.go_to-in_default.ensures.moved (c.go_to-in_default.ensures.there c.requires.is_later ∙ h.1) g));
       numbers = search rules;

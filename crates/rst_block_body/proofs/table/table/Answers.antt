@@ -1,17 +1,12 @@
-use Rattle.std.proofs.Common.{◌≡◌, ℕ, ◌+◌, ◌∷◌, codes, drop, arith, rules, subst, ◌∙◌, ap}
-use Rattle.rst_text.specs.Block.{Block, first_number}
+use Rattle.std.proofs.Common.{◌≡◌, ℕ, ◌+◌, arith, rules, subst, ◌∙◌, ap}
+use Rattle.rst_text.specs.Block.{Block}
 use Rattle.rst_text.specs.ViewBlock.{block_of}
-use Rattle.rst_tree.specs.declared.node.Node.{Node}
-use Rattle.rst_tree.specs.declared.note.Level.TheVariants.{Error}
-use Rattle.rst_markup_tables.specs.Messages.{malformed_text}
 use Rattle.rst_markup_tables.specs.declared.results.TableResult.TheVariants.{Malformed}
 use Rattle.rst_block_state.specs.machine.Meanings.{reads}
 use Rattle.rst_block_state.specs.machine.NextLine.{IsTableAt}
-use Rattle.rst_block_state.specs.machine.OpenBlocks.{HasMore}
-use Rattle.rst_block_state.specs.Texts.{message_with_lines, span_source, warned}
 use Rattle.rst_block_state.proofs.Calls.{close_refuses}
 use Rattle.rst_block_state.proofs.Changes.{more_more, moved_more}
-use Rattle.rst_block_state.proofs.NextConstructs.{next_some, span_to, has_ended, next_refused}
+use Rattle.rst_block_state.proofs.NextConstructs.{next_some, has_ended, next_refused}
 use Rattle.rst_block_body.proofs.StepsPaid.{malformed_paid, cells_paid}
 use Rattle.rst_block_body.proofs.TableSteps.{IsNextTable, next_table, table_comes, malformed_reads, table_steps}
 use Rattle.rst_block_body.proofs.table.table.Goals as goal
@@ -27,7 +22,6 @@ pub returns-in_ok-after_table-in-Malformed : goal.returns-in_ok-after_table-in-M
 returns-in_ok-after_table-in-Malformed c =
     let B : Block = block_of c.args.view.now in
     let l = c.args.level.now in
-    let mid = c.close.new.self in
     let new = c.after_table.new.level in
     let closed = c.in_ok-close.ensures.closed in
     let end : ℕ = c.in-Malformed.end in
@@ -36,18 +30,13 @@ returns-in_ok-after_table-in-Malformed c =
     let t : IsNextTable l B (Malformed end fault) = next_table l B (Malformed end fault) here in
     let stop : end ≡ l.at + t.lines = t.end in
     let at : c.go_to.new.self.at ≡ end = c.go_to.ensures.there (omega (arith, c.close.ensures.at, stop, next_some t.next c.requires.inside)) in
-    let error : c.in_ok-error-in-Malformed.error ≡ message_with_lines Error (first_number (drop mid.at B)) (malformed_text fault.detail) (span_source B (span_to mid.at end)) = search rules in
-    let nodes : c.in_ok-error-in-Malformed.error ∷ warned (codes "Blank line required after table.") (drop c.push.new.self.at B)
-    ≡ message_with_lines Error (first_number (drop mid.at B)) (malformed_text fault.detail) (span_source B (span_to mid.at end)) ∷ warned (codes "Blank line required after table.") (drop end B) =
-    ap (λ (n : Node). n ∷ warned (codes "Blank line required after table.") (drop c.push.new.self.at B)) error
-    ∙ ap (λ i. message_with_lines Error (first_number (drop mid.at B)) (malformed_text fault.detail) (span_source B (span_to mid.at end)) ∷ warned (codes "Blank line required after table.") (drop i B)) (c.push.ensures.at ∙ at) in
-    let both = more_more c.in_ok-push-in-Malformed.ensures.more c.in_ok-after_table-in-Malformed.ensures.more in
-    let more = moved_more c.go_to.ensures.moved at both in
+    let more = rw (c.in_ok-error-in-Malformed.ensures, c.number_at-line.ensures, c.as_str-in-Malformed.ensures.value, c.in_ok-text-in-Malformed.ensures, c.as_str.ensures.value, c.in_ok-lines-in-Malformed.ensures.bytes, c.push.ensures.at ∙ at) at (
+    moved_more c.go_to.ensures.moved at (more_more c.in_ok-push-in-Malformed.ensures.more c.in_ok-after_table-in-Malformed.ensures.more)) in
     record {
       step = search rules;
       kept = more.depth ∙ closed.depth;
-      read = ap (reads new B) c.in_ok-after_table-in-Malformed.ensures.numbers ∙ malformed_reads t (has_ended B _ closed) c.go_to.ensures.moved at (subst (HasMore c.go_to.new.self new) nodes both);
-      paid = λ before few some. malformed_paid mid.at before _ _ _ _ here c.requires.inside (more.depth ∙ closed.depth) more.at few some c.close.ensures.at
+      read = ap (reads new B) c.in_ok-after_table-in-Malformed.ensures.numbers ∙ malformed_reads t (has_ended B _ closed) more;
+      paid = λ before few some. malformed_paid before _ _ _ _ here c.requires.inside (more.depth ∙ closed.depth) more.at few some
           c.close.ensures.run c.close.ensures.low c.source.ensures.most (omega (arith, c.in_ok-lines-in-Malformed.ensures.each)) c.after_table.ensures.looked.1 (omega (arith, c.after_table.ensures.looked.0));
     }
 
