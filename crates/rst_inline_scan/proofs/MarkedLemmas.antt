@@ -29,11 +29,7 @@ string-fits t (c ∷ d ∷ cs) i some h = let rest = string-fits t (d ∷ cs) (i
 -- start-strings and end-strings are not empty, and no start-string begins with a backslash
 strings : (markup : Markup) → (0 < start_len markup) × (0 < end_len markup) × ((get_or (start_string markup) 0 0 == 92) ≡ false)
 strings Strong = (omega arith, omega arith, refl)
-strings Emphasis = (omega arith, omega arith, refl)
-strings Literal = (omega arith, omega arith, refl)
-strings Target = (omega arith, omega arith, refl)
-strings Substitution = (omega arith, omega arith, refl)
-strings Interpreted = (omega arith, omega arith, refl)
+strings _ = (omega arith, omega arith, refl)
 
 pub start-some : (markup : Markup) → 0 < start_len markup
 start-some markup = (strings markup).0
@@ -73,12 +69,8 @@ at_or_after None i h = omega arith
 
 start_of-above : (markup : Markup) (t : Text) (i : ℕ) → i ≤ start_of markup t i
 unfolding start_of
-start_of-above Strong t i = omega arith
-start_of-above Emphasis t i = omega arith
-start_of-above Literal t i = omega arith
-start_of-above Target t i = omega arith
-start_of-above Substitution t i = omega arith
 start_of-above Interpreted t i = at_or_after (role_end t i) i (λ e h. (role_end-fits t i e h).0)
+start_of-above _ t i = omega arith
 
 -- ---- the piece
 

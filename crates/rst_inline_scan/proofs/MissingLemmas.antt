@@ -1,7 +1,10 @@
 -- What is remembered stays true.
-use Rattle.std.proofs.Common.{ℕ, ◌≤◌, length, arith}
+use Rattle.std.proofs.Common.{◌≡◌, inl, inr, ℕ, ◌<◌, ◌≤◌, [], ◌∷◌, length, get_or, set, refl, sym, ap, subst, ◌∙◌, arith}
+use Rattle.std.proofs.lemmas.Bool.{cases_eq}
+use Rattle.std.proofs.lemmas.Grind.{get_or-set_at}
+use Rattle.std.proofs.lemmas.List.{get_or-set_other}
 use Rattle.rst_text.specs.Characters.{Text}
-use Rattle.rst_inline_scan.specs.Missing.{with_unended, IsUnended, IsMissing}
+use Rattle.rst_inline_scan.specs.Missing.{code, IsUnended, IsMissing}
 use Rattle.rst_inline_scan.specs.declared.piece.Markup.{Markup}
 use Rattle.rst_inline_scan.specs.declared.piece.Markup.TheVariants.{Strong, Emphasis, Literal, Target, Substitution, Interpreted}
 use Rattle.rst_inline_scan.specs.declared.missing.Missing.{Missing}
@@ -11,22 +14,35 @@ use Rattle.rst_inline_scan.proofs.MarkedLemmas.{start-fits, start-some}
 pub none-past : (markup : Markup) (t : Text) → IsUnended markup t (length t)
 none-past markup t i q order past mark = absurd (let l = start-fits markup t q mark in let some = start-some markup in omega arith)
 
-pub IsMissing-with : (markup : Markup) (t : Text) (missing : Missing) (place q : ℕ) → IsMissing t missing place → IsUnended markup t q → IsMissing t (with_unended missing markup q) place
-IsMissing-with Strong t missing place q known h = record { strong = h; emphasis = known.emphasis; literal = known.literal; target = known.target; substitution = known.substitution; interpreted = known.interpreted; names = known.names; uris = known.uris }
-IsMissing-with Emphasis t missing place q known h = record { strong = known.strong; emphasis = h; literal = known.literal; target = known.target; substitution = known.substitution; interpreted = known.interpreted; names = known.names; uris = known.uris }
-IsMissing-with Literal t missing place q known h = record { strong = known.strong; emphasis = known.emphasis; literal = h; target = known.target; substitution = known.substitution; interpreted = known.interpreted; names = known.names; uris = known.uris }
-IsMissing-with Target t missing place q known h = record { strong = known.strong; emphasis = known.emphasis; literal = known.literal; target = h; substitution = known.substitution; interpreted = known.interpreted; names = known.names; uris = known.uris }
-IsMissing-with Substitution t missing place q known h = record { strong = known.strong; emphasis = known.emphasis; literal = known.literal; target = known.target; substitution = h; interpreted = known.interpreted; names = known.names; uris = known.uris }
-IsMissing-with Interpreted t missing place q known h = record { strong = known.strong; emphasis = known.emphasis; literal = known.literal; target = known.target; substitution = known.substitution; interpreted = h; names = known.names; uris = known.uris }
+-- the markup with a code
+abbrev with_code : ℕ → Markup
+with_code n = get_or (Strong ∷ Emphasis ∷ Literal ∷ Target ∷ Substitution ∷ Interpreted ∷ []) n Strong
+
+coded : (markup : Markup) → with_code (code markup) ≡ markup
+coded Strong = refl
+coded _ = refl
+
+-- a list of the same for all markup
+pub alike : (markup : Markup) (n : ℕ) → get_or (n ∷ n ∷ n ∷ n ∷ n ∷ n ∷ []) (code markup) 0 ≡ n
+alike Strong n = refl
+alike _ n = refl
+
+pub IsMissing-with : (markup : Markup) (t : Text) (missing : Missing) (place q n : ℕ) → IsMissing t missing place → IsUnended markup t q → n ≡ code markup → n < length missing.unended
+    → IsMissing t (record missing { unended = set missing.unended n q }) place
+IsMissing-with markup t missing place q n known h is inside = record {
+  unended = λ other. elim (cases_eq n (code other)) [
+    | inl same ↦
+        let one : markup ≡ other = sym (coded markup) ∙ ap with_code (sym is ∙ same) ∙ coded other in
+        rw (get_or-set_at missing.unended n (code other) q 0 (sym same) inside) (subst (λ (m : Markup). IsUnended m t q) one h)
+    | inr apart ↦ rw (get_or-set_other missing.unended n (code other) q 0 (λ e. apart (sym e))) (known.unended other)
+  ];
+  names = known.names;
+  uris = known.uris;
+}
 
 pub IsMissing-later : (t : Text) (missing : Missing) (place next : ℕ) → place ≤ next → IsMissing t missing place → IsMissing t missing next
 IsMissing-later t missing place next h known = record {
-  strong = known.strong;
-  emphasis = known.emphasis;
-  literal = known.literal;
-  target = known.target;
-  substitution = known.substitution;
-  interpreted = known.interpreted;
+  unended = known.unended;
   names = λ i above below. known.names i (omega arith) below;
   uris = λ i above below. known.uris i (omega arith) below;
 }

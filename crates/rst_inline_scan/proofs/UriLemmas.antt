@@ -1,7 +1,8 @@
 -- Standalone URIs.
-use Rattle.std.proofs.Common.{◌≡◌, ◌↔◌, ⊎_elim, inl, inr, ℕ, ◌+◌, ◌-◌, ◌<◌, ◌≤◌, Bool, true, false, not, ◌&&◌, ◌==◌, cond, List, [], ◌∷◌, ◌++◌, Option, Some, None, length, option_and_then, option_map, get_or, unwrap_or, true≢false, refl, sym, ap, ◌∙◌, subst, arith}
+use Rattle.std.proofs.Common.{◌≡◌, ◌↔◌, ⊎_elim, inl, inr, ℕ, ◌+◌, ◌-◌, ◌<◌, ◌≤◌, Bool, true, false, not, ◌&&◌, ◌==◌, cond, List, [], ◌∷◌, ◌++◌, Option, Some, None, length, drop, map, option_and_then, option_map, get_or, unwrap_or, true≢false, refl, sym, ap, ◌∙◌, subst, arith}
 use Rattle.std.specs.Prelude.{nat_lt, find}
-use Rattle.std.specs.List.{list_all}
+use Rattle.std.specs.List.{list_all, zip}
+use Rattle.std.proofs.lemmas.List.{drop_more}
 use Rattle.std.specs.Char.{to_ascii_lowercase}
 use Rattle.std.specs.Str.{chars, IsUtf8}
 use Rattle.std.proofs.Math.Utf8.{encodes}
@@ -65,6 +66,29 @@ scheme-fits t i (c ∷ cs) h within =
     let less : i < length t = letter.0 in
     let rest : i + 1 + length cs ≤ length t = scheme-fits t (i + 1) cs here.1 (omega arith) in
     omega arith
+
+-- a word that is longer than the rest of the text is not there
+pub begins-short : (t word : Text) (i : ℕ) → i ≤ length t → (length word ≤ length t - i → ⊥) → has_any_case t i word ≡ false
+begins-short t word i within long = by (has_any_case t i word) (λ stands. scheme-fits t i word stands within)
+  where
+    by : (b : Bool) → (b ≡ true → i + length word ≤ length t) → b ≡ false
+    by true fits = absurd (long (let e = fits refl in omega arith))
+    by false fits = refl
+
+-- one that is not is compared a character at a time
+pub begins-pairs : (t word : Text) (i : ℕ) → length word ≤ length t - i → list_all (λ (p : ℕ × ℕ). to_ascii_lowercase p.0 == p.1) (zip (drop i t) word) ≡ has_any_case t i word
+begins-pairs t [] i fits = none (drop i t)
+  where
+    none : (rest : Text) → list_all (λ (p : ℕ × ℕ). to_ascii_lowercase p.0 == p.1) (zip rest []) ≡ true
+    none [] = refl
+    none (c ∷ cs) = refl
+begins-pairs t (c ∷ cs) i fits =
+    let here : drop i t ≡ get_or t i 0 ∷ drop (i + 1) t = drop_more t i 0 (omega arith) in
+    rw (here, lt-ltb i (length t) (omega arith)) (ap (λ b. to_ascii_lowercase (get_or t i 0) == c && b) (begins-pairs t cs (i + 1) (omega arith)))
+
+-- a word that is not there is not the first of some that is
+pub find-more : {W : Type 0} (p : Text → Bool) (word : W → Text) (words : List W) (i : ℕ) (d : W) → i < length words → p (word (get_or words i d)) ≡ false → find p (map word (drop (i + 1) words)) ≡ find p (map word (drop i words))
+find-more p word words i d below fails = rw (drop_more words i d below, fails) refl
 
 -- the characters of a scheme are some of a URI
 pub record Begins (t : Text) (i limit : ℕ) : Type 0 where

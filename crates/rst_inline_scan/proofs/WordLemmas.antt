@@ -256,15 +256,3 @@ word-passed t from i to escaped run here known inside =
 
 pub no-letter-at : (t : Text) (i c : ℕ) → get_or t i 0 ≡ c → c < 128 → is_ascii_alphanumeric c ≡ false → is_alnum_at t i ≡ false
 no-letter-at t i c h low e = rw (h, sym (is_alphanumeric-ascii c low) ∙ e) (grind (arith, nat_tests))
-
-quiet : (t : Text) (i : ℕ) → (get_or t i 0 == 95) ≡ false → (get_or t i 0 == 58) ≡ false → is_joint (get_or t i 0) ≡ false → is_alnum_at t i ≡ false → false ≡ goes_on t i
-unfolding goes_on is_name_at
-quiet t i a b joint letter = rw (a, b, letter, joint) (grind (arith, nat_tests))
-
-pub goes_on-space : (t : Text) (i : ℕ) → get_or t i 0 ≡ 32 → false ≡ goes_on t i
-unfolding is_joint
-goes_on-space t i h = quiet t i (ap (λ c. c == 95) h) (ap (λ c. c == 58) h) (ap is_joint h) (no-letter-at t i 32 h (omega arith) refl)
-
-pub goes_on-feed : (t : Text) (i : ℕ) → get_or t i 0 ≡ 10 → false ≡ goes_on t i
-unfolding is_joint
-goes_on-feed t i h = quiet t i (ap (λ c. c == 95) h) (ap (λ c. c == 58) h) (ap is_joint h) (no-letter-at t i 10 h (omega arith) refl)

@@ -1,21 +1,9 @@
 //! Calm characters, which are stepped over: at them no markup begins but a name or a URI, and none of these ends.
-ghost use Rattle.std.specs.Prelude.{◌≡◌, ℕ, ◌-◌, ◌<◌, ◌≤◌, ◌&&◌, ◌==◌, false, List, slice_index, length, IfOk, map};
-ghost use Rattle.rst_inline_scan.specs.Calm.{AreBytesOf, byte_of, is_of_name, IsScanned};
+ghost use Rattle.std.specs.Prelude.{◌≡◌, ℕ, ◌<◌, ◌≤◌, List, length};
+ghost use Rattle.rst_inline_scan.specs.Calm.{AreBytesOf, is_of_name, IsScanned};
 
 use rst_text::{ByteTest, is_joint, run_end};
-use std::alloc::{AllocError, Global};
 use std::simd::prelude::*;
-
-/// A byte for each character: that of ASCII, or one past ASCII.
-pub(crate) fn bytes_of(alloc: Global, text: &[char]) -> Result<Vec<u8>, AllocError>
-    ensures { IfOk result (λ bytes. bytes.items ≡ map byte_of text.now) }
-{
-    let mut bytes = Vec::with_capacity(alloc, text.len())?;
-    for c in text {
-        bytes.push_reserved(if c.is_ascii() { *c as u8 } else { 128 });
-    }
-    Ok(bytes)
-}
 
 /// Whether a byte is calm: none that markup begins or a name ends with, and no backslash.
 struct Calm;
@@ -49,21 +37,6 @@ fn is_of_name(byte: u8) -> bool
     !byte.is_ascii() || byte.is_ascii_alphanumeric() || is_joint(char::from(byte))
 }
 
-/// Where the name begins that ends at `to`, but no place before `from`.
-fn name_start(bytes: &[u8], from: usize, to: usize) -> usize
-    requires order { from ≤ to }
-    requires within { to ≤ length bytes.now }
-    ensures above { from ≤ result }
-    ensures below { result ≤ to }
-    ensures edge { from < result → is_of_name (slice_index bytes.now (result - 1)) ≡ false }
-{
-    let mut start = to;
-    while from < start && is_of_name(bytes[start - 1]) {
-        start -= 1;
-    }
-    start
-}
-
 /// The place after the bytes from the place on that are calm, or underscores before a letter or a digit, but not inside a name; and
 /// whether the character there is escaped, where `escaped` gives whether the one at `place` is. Up to `searched` earlier steps have
 /// looked, so there nothing is looked for again.
@@ -83,6 +56,9 @@ pub(crate) fn step(bytes: &[u8], place: usize, escaped: bool, searched: &mut usi
     if at == bytes.len() {
         return (at, escaped & (place == at));
     }
-    let start = name_start(bytes, place, at);
+    let mut start = at;
+    while place < start && is_of_name(bytes[start - 1]) {
+        start -= 1;
+    }
     (start, escaped & (place == start))
 }

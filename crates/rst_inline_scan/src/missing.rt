@@ -3,7 +3,7 @@ ghost use Rattle.std.specs.Prelude.{◌≡◌, ◌<◌, ◌≤◌, true, Some, l
 ghost use Rattle.rst_inline_scan.specs.Marked.{has_start, markup_end, tail_of};
 ghost use Rattle.rst_inline_scan.specs.Names.{name_end};
 ghost use Rattle.rst_inline_scan.specs.Uri.{uri_end};
-ghost use Rattle.rst_inline_scan.specs.Missing.{unended_from, with_unended, IsMissing};
+ghost use Rattle.rst_inline_scan.specs.Missing.{IsMissing};
 
 use super::names::name_end;
 use super::piece::{Markup, Tail};
@@ -12,13 +12,8 @@ use super::uri::uri_end;
 /// What is absent after a place.
 #[derive(Clone, Copy)]
 pub(crate) struct Missing {
-    // From these places on no start-string of that markup has an end.
-    strong: usize,
-    emphasis: usize,
-    literal: usize,
-    target: usize,
-    substitution: usize,
-    interpreted: usize,
+    // For each kind of markup the place from which on no start-string of it has an end.
+    unended: [usize; 6],
     // Below these places no reference by name and no URI begins.
     names: usize,
     uris: usize,
@@ -29,42 +24,10 @@ impl Missing {
     pub(crate) fn of(text: &[char]) -> Missing
         ensures { IsMissing text.now result 0 }
     {
-        let len = text.len();
         Missing {
-            strong: len,
-            emphasis: len,
-            literal: len,
-            target: len,
-            substitution: len,
-            interpreted: len,
+            unended: [text.len(); 6],
             names: 0,
             uris: 0,
-        }
-    }
-
-    fn unended_from(&self, markup: Markup) -> usize
-        ensures { result ≡ unended_from self.now markup }
-    {
-        match markup {
-            Markup::Strong => self.strong,
-            Markup::Emphasis => self.emphasis,
-            Markup::Literal => self.literal,
-            Markup::Target => self.target,
-            Markup::Substitution => self.substitution,
-            Markup::Interpreted => self.interpreted,
-        }
-    }
-
-    fn set_unended(&mut self, markup: Markup, place: usize)
-        ensures { self.new ≡ with_unended self.old markup place }
-    {
-        match markup {
-            Markup::Strong => self.strong = place,
-            Markup::Emphasis => self.emphasis = place,
-            Markup::Literal => self.literal = place,
-            Markup::Target => self.target = place,
-            Markup::Substitution => self.substitution = place,
-            Markup::Interpreted => self.interpreted = place,
         }
     }
 
@@ -84,12 +47,12 @@ impl Missing {
         ensures tail { IfSome result (λ found. tail_of markup text.now found.0 ≡ Some found.1) }
         ensures known { IsMissing text.now self.new place }
     {
-        if self.unended_from(markup) <= start {
+        if self.unended[markup as usize] <= start {
             return None;
         }
         let found = markup.end(text, place, start);
         if let None = found {
-            self.set_unended(markup, start);
+            self.unended[markup as usize] = start;
         }
         found
     }

@@ -8,7 +8,7 @@ ghost use Rattle.rst_inline_scan.specs.Reading.{plain_if};
 ghost use Rattle.rst_inline_scan.specs.Missing.{IsMissing};
 ghost use Rattle.rst_inline_scan.specs.Words.{IsWord};
 
-use super::calm::{bytes_of, step};
+use super::calm::step;
 use super::characters::may_precede_start;
 use super::footnotes::label;
 use super::missing::Missing;
@@ -90,7 +90,10 @@ fn piece_at(
 pub fn pieces_of(alloc: Global, text: &[char]) -> Result<Vec<Piece>, AllocError>
     ensures { IfOk result (λ pieces. IsPieces text.now 0 pieces.items) }
 {
-    let bytes = bytes_of(alloc, text)?;
+    let mut bytes = Vec::with_capacity(alloc, text.len())?;
+    for c in text {
+        bytes.push_reserved(if c.is_ascii() { *c as u8 } else { 128 });
+    }
     pieces_by(alloc, text, &bytes)
 }
 
@@ -102,7 +105,7 @@ pub fn pieces_of_ascii(alloc: Global, text: &[char], bytes: &[u8]) -> Result<Vec
     pieces_by(alloc, text, bytes)
 }
 
-/// The same with a byte for each character: the steps over what holds no markup are wider in bytes.
+/// The same with a byte for each character: that of ASCII, or one past ASCII. The steps over what holds no markup are wider in bytes.
 fn pieces_by(alloc: Global, text: &[char], bytes: &[u8]) -> Result<Vec<Piece>, AllocError>
     requires { AreBytesOf text.now bytes.now }
     ensures { IfOk result (λ pieces. IsPieces text.now 0 pieces.items) }

@@ -2,36 +2,29 @@
 ghost use Rattle.std.specs.Prelude.{◌≡◌, ◌<◌, ◌≤◌, ◌↔◌, ℕ, length, IsTrue};
 ghost use Rattle.std.specs.Str.{chars};
 ghost use Rattle.std.specs.List.{list_all};
-ghost use Rattle.rst_inline_scan.specs.Uri.{has_letter, has_any_case, scheme_end, is_uri_char, is_uri_trail, uri_stop, uri_close, uri_end, uri, IsUri, is_ascii_uri};
+ghost use Rattle.rst_inline_scan.specs.Uri.{has_any_case, scheme_end, is_uri_char, is_uri_trail, uri_stop, uri_close, uri_end, uri, IsUri, is_ascii_uri};
 ghost use Rattle.rst_inline_scan.specs.Missing.{IsMissing};
 
 use super::characters::is_free_after;
 use super::missing::Missing;
 use super::piece::{Kind, Piece};
 
-/// Whether the character, which is in lower case, is at the place in any case.
-fn has_letter(text: &[char], place: usize, c: u8) -> bool
-    ensures { result ≡ has_letter text.now place c }
-{
-    match text.get(place) {
-        Some(letter) => letter.to_ascii_lowercase() == char::from(c),
-        None => false,
-    }
-}
+/// The schemes, in lower case, with what is between them and what they name.
+const SCHEMES: [&str; 7] = [
+    "file://", "ftp://", "http://", "https://", "irc://", "mailto:", "news:",
+];
 
 /// Whether the word, which is in lower case, is at the place in any case.
-fn begins_at(text: &[char], place: usize, word: &[u8]) -> bool
+fn begins_at(text: &[char], place: usize, word: &str) -> bool
     requires { place ≤ length text.now }
     ensures { result ≡ has_any_case text.now place word.now }
 {
-    let mut at = place;
-    for c in word {
-        if !has_letter(text, at, *c) {
-            return false;
-        }
-        at += 1;
-    }
-    true
+    let rest = &text[place..];
+    word.len() <= rest.len()
+        && rest
+            .iter()
+            .zip(word.as_bytes())
+            .all(|(c, b)| c.to_ascii_lowercase() == char::from(*b))
 }
 
 /// The place after the scheme that begins at the place.
@@ -40,26 +33,10 @@ fn scheme_end(text: &[char], place: usize) -> Option<usize>
     requires { place ≤ length text.now }
     ensures { result ≡ scheme_end text.now place }
 {
-    if begins_at(text, place, b"file://") {
-        return Some(place + 7);
-    }
-    if begins_at(text, place, b"ftp://") {
-        return Some(place + 6);
-    }
-    if begins_at(text, place, b"http://") {
-        return Some(place + 7);
-    }
-    if begins_at(text, place, b"https://") {
-        return Some(place + 8);
-    }
-    if begins_at(text, place, b"irc://") {
-        return Some(place + 6);
-    }
-    if begins_at(text, place, b"mailto:") {
-        return Some(place + 7);
-    }
-    if begins_at(text, place, b"news:") {
-        return Some(place + 5);
+    for scheme in &SCHEMES {
+        if begins_at(text, place, scheme) {
+            return Some(place + scheme.len());
+        }
     }
     None
 }
@@ -202,50 +179,21 @@ fn are_uri_chars(bytes: &[u8]) -> bool
 fn ascii_scheme_end(bytes: &[u8]) -> Option<usize>
     ensures { result ≡ scheme_end bytes.now 0 }
 {
-    if begins_with_ignoring_case(bytes, b"file://") {
-        return Some(7);
-    }
-    if begins_with_ignoring_case(bytes, b"ftp://") {
-        return Some(6);
-    }
-    if begins_with_ignoring_case(bytes, b"http://") {
-        return Some(7);
-    }
-    if begins_with_ignoring_case(bytes, b"https://") {
-        return Some(8);
-    }
-    if begins_with_ignoring_case(bytes, b"irc://") {
-        return Some(6);
-    }
-    if begins_with_ignoring_case(bytes, b"mailto:") {
-        return Some(7);
-    }
-    if begins_with_ignoring_case(bytes, b"news:") {
-        return Some(5);
+    for scheme in &SCHEMES {
+        if begins_with_ignoring_case(bytes, scheme) {
+            return Some(scheme.len());
+        }
     }
     None
 }
 
 /// Whether the bytes begin with the word, which is in lower case, in any case.
-fn begins_with_ignoring_case(bytes: &[u8], word: &[u8]) -> bool
+fn begins_with_ignoring_case(bytes: &[u8], word: &str) -> bool
     ensures { result ≡ has_any_case bytes.now 0 word.now }
 {
-    let mut at = 0;
-    for c in word {
-        if !has_byte(bytes, at, *c) {
-            return false;
-        }
-        at += 1;
-    }
-    true
-}
-
-/// The same for bytes.
-fn has_byte(bytes: &[u8], place: usize, c: u8) -> bool
-    ensures { result ≡ has_letter bytes.now place c }
-{
-    match bytes.get(place) {
-        Some(byte) => byte.to_ascii_lowercase() == c,
-        None => false,
-    }
+    word.len() <= bytes.len()
+        && bytes
+            .iter()
+            .zip(word.as_bytes())
+            .all(|(c, b)| c.to_ascii_lowercase() == *b)
 }

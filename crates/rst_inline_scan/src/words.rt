@@ -2,7 +2,7 @@
 ghost use Rattle.std.specs.Prelude.{◌≡◌, ◌≤◌, length};
 ghost use Rattle.rst_inline_scan.specs.Words.{IsWord, goes_on};
 
-use rst_text::is_name_at;
+use rst_text::{has, is_name_at};
 
 /// The end of the word that begins at the place, which may be empty.
 pub(crate) fn word_end(text: &[char], place: usize) -> usize
@@ -23,10 +23,7 @@ pub(crate) fn word_end(text: &[char], place: usize) -> usize
 pub(crate) fn goes_on(text: &[char], place: usize) -> bool
     ensures { result ≡ goes_on text.now place }
 {
-    match text.get(place) {
-        Some('_' | ':') => true,
-        Some(' ' | '\n') => false,
-        Some(_) => is_name_at(text, place),
-        None => false,
-    }
+    has(text, place, '_')
+        || has(text, place, ':')
+        || (place < text.len() && is_name_at(text, place))
 }

@@ -11,3 +11,9 @@ invariant-loop-at l = record {
 
 abbrev pub decreases-loop-at : goal.decreases-loop-at
 decreases-loop-at l = length l.bytes - l.at
+
+abbrev pub invariant-loop-start : goal.invariant-loop-start
+invariant-loop-start l = (l.place ≤ l.start) × (l.start ≤ l.at)
+
+abbrev pub decreases-loop-start : goal.decreases-loop-start
+decreases-loop-start l = l.start - l.place

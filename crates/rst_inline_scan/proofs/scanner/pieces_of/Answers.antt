@@ -1,7 +1,12 @@
-use Rattle.std.proofs.Common.{◌∙◌, ap, map}
+use Rattle.std.proofs.Common.{◌≡◌, ◌++◌, ◌∙◌, sym, ap, map, append-nil, arith}
+use Rattle.std.proofs.lemmas.List.{at_drop_all}
 use Rattle.rst_inline_scan.specs.Calm.{byte_of}
 use Rattle.rst_inline_scan.proofs.CalmLemmas.{bytes-of_bytes}
 use Rattle.rst_inline_scan.proofs.scanner.pieces_of.Goals as goal
 
 pub pieces_by-requires : goal.pieces_by-requires
-pieces_by-requires c = ap (map byte_of) (c.deref.ensures.value ∙ c.in_ok-bytes.ensures) ∙ bytes-of_bytes c.args.text.now
+pieces_by-requires c =
+    let t = c.args.text.now in
+    let all = at_drop_all (λ rest. c.loop-c.bytes.items ++ map byte_of rest) t c.loop-c.c-index (omega arith) in
+    let made : c.loop-c.bytes.items ≡ map byte_of t = sym (append-nil c.loop-c.bytes.items) ∙ sym all ∙ c.loop-c.invariant.all in
+    ap (map byte_of) (c.deref.ensures.value ∙ made) ∙ bytes-of_bytes t

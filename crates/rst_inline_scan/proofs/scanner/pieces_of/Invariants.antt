@@ -1,6 +1,6 @@
 use Rattle.std.proofs.Common.{◌≡◌, ◌++◌, drop, map, length, vec_len, vec_capacity}
 use Rattle.rst_inline_scan.specs.Calm.{byte_of}
-use Rattle.rst_inline_scan.proofs.calm.bytes_of.Given as goal
+use Rattle.rst_inline_scan.proofs.scanner.pieces_of.Given as goal
 
 abbrev pub invariant-loop-c : goal.invariant-loop-c
 invariant-loop-c l = record {
