@@ -39,6 +39,10 @@ pub chars_of_star : chars (42 ∷ []) ≡ 42 ∷ []
 unfolding chars
 chars_of_star = refl
 
+pub no_characters : chars [] ≡ []
+unfolding chars
+no_characters = refl
+
 -- the bytes of a text are those that its characters spell
 pub spelled_again : (bs : List ℕ) → IsUtf8 bs → bs ≡ text_bytes (chars bs)
 spelled_again bs utf8 = sym (encodes-chars bs utf8)

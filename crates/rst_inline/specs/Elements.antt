@@ -15,7 +15,7 @@ use Rattle.rst_tree.specs.declared.tag.Tag.{Tag}
 use Rattle.rst_tree.specs.declared.tag.Tag.TheVariants.{Target, Reference, SubstitutionReference, FootnoteReference, CitationReference, Problematic}
 use Rattle.rst_text.specs.Characters.{Text}
 use Rattle.rst_inline_scan.specs.declared.piece.Suffix.{Suffix}
-use Rattle.rst_inline_scan.specs.declared.piece.Suffix.TheVariants.{Anonymous as Nameless}
+use Rattle.rst_inline_scan.specs.declared.piece.Suffix.TheVariants.{Bare, Anonymous as Nameless}
 use Rattle.rst_inline.specs.Parts.{text_bytes}
 
 -- an attribute whose value is a text
@@ -78,6 +78,11 @@ outer_attrs _ source display_text = attr Rawsource (text_value source) ∷ attr 
 -- a substitution that is a reference, too: the reference encloses it
 abbrev pub outer_node : Suffix → Text → Text → Node → ℕ → Node
 outer_node suffix source display_text inner line = Element Reference (outer_attrs suffix source display_text) (forest_of (inner ∷ [])) line
+
+-- a substitution reference, alone or, where underscores follow it, with a reference around it
+abbrev pub substituted_node : Suffix → Text → Text → Text → ℕ → Node
+substituted_node Bare inner outer display_text line = substitution_node inner display_text line
+substituted_node suffix inner outer display_text line = outer_node suffix outer display_text (substitution_node inner display_text line) line
 
 -- ---- footnotes and citations
 

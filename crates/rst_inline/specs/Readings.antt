@@ -23,7 +23,7 @@ use Rattle.rst_inline.specs.declared.reading.Meaning.TheVariants.{Nothing, One, 
 use Rattle.rst_inline.specs.Parts.{part, source, content, text_bytes}
 use Rattle.rst_inline.specs.Roles.{role_tag}
 use Rattle.rst_inline.specs.Embedded.{embedded_at, enclosed, is_alias, meant, phrase_display_text}
-use Rattle.rst_inline.specs.Elements.{text_element, reference_node, uri_node, embedded_node, inline_target_node, uri_target_node, substitution_node, outer_node, label_reference_node}
+use Rattle.rst_inline.specs.Elements.{text_element, reference_node, uri_node, embedded_node, inline_target_node, uri_target_node, substituted_node, label_reference_node}
 
 -- ---- messages
 
@@ -59,11 +59,6 @@ plain_meaning (Some text) = One (Words text)
 abbrev pub plain_reading : Text → Meaning
 plain_reading [] = Nothing
 plain_reading (c ∷ cs) = One (Words (text_bytes (c ∷ cs)))
-
--- a substitution reference, alone or, where underscores follow it, with a reference around it
-abbrev pub substitution_reading : Suffix → Text → Text → Text → ℕ → Meaning
-substitution_reading Bare inner outer display_text line = One (substitution_node inner display_text line)
-substitution_reading suffix inner outer display_text line = One (outer_node suffix outer display_text (substitution_node inner display_text line) line)
 
 -- A phrase with an embedded alias refers to a name; one with an embedded URI leaves a target, too, unless it is anonymous.
 abbrev pub embedded_reading : Suffix → Text → Text → Text → Bool → ℕ → Meaning
@@ -120,7 +115,7 @@ reading_by (Marked Strong suffix) t p line = One (text_element tag.Strong [] (un
 reading_by (Marked Emphasis suffix) t p line = One (text_element tag.Emphasis [] (unescaped (content t p)) line)
 reading_by (Marked Literal suffix) t p line = One (text_element tag.Literal [] (content t p) line)
 reading_by (Marked Target suffix) t p line = One (inline_target_node (unescaped (content t p)) line)
-reading_by (Marked Substitution suffix) t p line = substitution_reading suffix (part t p.from (p.content_to + 1)) (source t p) (unescaped (content t p)) line
+reading_by (Marked Substitution suffix) t p line = One (substituted_node suffix (part t p.from (p.content_to + 1)) (source t p) (unescaped (content t p)) line)
 reading_by (Marked Interpreted suffix) t p line = interpreted_reading (has_prefix_role p) suffix t p line
 reading_by (Unended markup) t p line = Wrong Warning (phrase_text (unended_phrase markup))
 reading_by Label t p line = One (label_reference_node (source t p) (content t p) line)

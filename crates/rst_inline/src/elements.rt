@@ -1,8 +1,6 @@
 //! Elements of inline markup.
 ghost use Rattle.std.specs.Prelude.{◌≡◌, true, chars, IfOk};
 ghost use Rattle.rst_tree.specs.Attributes.{are_keys_in_order};
-ghost use Rattle.rst_tree.specs.Forest.{bare};
-ghost use Rattle.rst_tree.specs.declared.node.Node.TheVariants.{Element};
 ghost use Rattle.rst_inline.specs.Elements.{text_children, text_element, problematic_node};
 
 use rst_tree::{Attrs, Children, Entry, Key, Node, Result, Tag, Text, Value};
@@ -38,19 +36,6 @@ pub(crate) fn element(
         children,
         line,
     })
-}
-
-/// An element with attributes, whose names rise, that holds nothing.
-pub(crate) fn bare_element(alloc: Global, tag: Tag, attrs: Vec<Entry>, line: usize) -> Node
-    requires { are_keys_in_order attrs.items ≡ true }
-    ensures { result ≡ Element tag attrs.items bare line }
-{
-    Node::Element {
-        tag,
-        attrs: Attrs::of(attrs),
-        children: Children::new(alloc),
-        line,
-    }
 }
 
 /// What is wrong as it is written, with the number of its message.

@@ -1,7 +1,5 @@
 //! Embedded URIs and aliases.
 ghost use Rattle.std.specs.Prelude.{◌≡◌, ◌+◌, ◌<◌, ◌≤◌, length, IfSome, ◌&&◌, ◌==◌};
-ghost use Rattle.std.specs.List.{list_any};
-ghost use Rattle.rst_text.specs.Characters.{is_white};
 ghost use Rattle.rst_inline.specs.Embedded.{ends_with, last_angle, embedded_at, dark_end, is_alias};
 
 use rst_text::{escapes, has, is_dark, is_white};
@@ -69,13 +67,6 @@ pub(crate) fn is_alias(enclosed: &[char]) -> bool
     ensures { result ≡ is_alias enclosed.now }
 {
     1 < enclosed.len() && ends_with(enclosed, '_')
-}
-
-/// Whether there is a white character among these.
-pub(crate) fn has_white(text: &[char]) -> bool
-    ensures { result ≡ list_any is_white text.now }
-{
-    text.iter().any(|c| is_white(*c))
 }
 
 /// The place after the last character before `place` that isn't white.

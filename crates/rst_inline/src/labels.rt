@@ -3,7 +3,7 @@ ghost use Rattle.std.specs.Prelude.{◌≡◌, chars, IfOk};
 ghost use Rattle.std.specs.List.{list_all};
 ghost use Rattle.rst_inline.specs.Elements.{is_digit, autonumbered_reference_node};
 
-use super::elements::bare_element;
+use super::elements::element;
 use super::texts::{name_value, spell, text_value};
 use rst_tree::{Entry, Key, Node, Result, Tag, Value};
 use std::alloc::Global;
@@ -16,6 +16,7 @@ pub(crate) fn are_digits(label: &[char]) -> bool
 }
 
 /// A footnote that is numbered, alone or with a name.
+#[tactic(auto, using(crate::proofs::TextLemmas::no_characters))]
 pub(crate) fn numbered_footnote(
     alloc: Global,
     source: &str,
@@ -31,7 +32,7 @@ pub(crate) fn numbered_footnote(
                 Entry::new(Key::Auto, Value::Number(1)),
                 Entry::new(Key::Rawsource, written),
             ]?;
-            Ok(bare_element(alloc, Tag::FootnoteReference, attrs, line))
+            element(alloc, Tag::FootnoteReference, attrs, "", line)
         }
         _ => {
             let name = spell(alloc, name)?;
@@ -41,7 +42,7 @@ pub(crate) fn numbered_footnote(
                 Entry::new(Key::Rawsource, written),
                 Entry::new(Key::Refname, refname),
             ]?;
-            Ok(bare_element(alloc, Tag::FootnoteReference, attrs, line))
+            element(alloc, Tag::FootnoteReference, attrs, "", line)
         }
     }
 }

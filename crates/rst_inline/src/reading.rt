@@ -1,25 +1,24 @@
 //! What pieces mean.
 ghost use Rattle.std.specs.Prelude.{◌<◌, ◌≤◌, ◌+◌, ◌≡◌, [], length, IfOk, chars};
 ghost use Rattle.std.specs.Cow.{cow_str_bytes};
-ghost use Rattle.rst_tree.specs.declared.tag.Tag.TheVariants.{Literal};
 ghost use Rattle.rst_text.specs.Escapes.{unescaped};
 ghost use Rattle.rst_inline_scan.specs.Pieces.{IsWithin};
 ghost use Rattle.rst_inline.specs.declared.reading.Meaning.TheVariants.{One, Wrong};
-ghost use Rattle.rst_inline.specs.Elements.{text_element, inline_target_node, label_reference_node, reference_node, uri_node};
+ghost use Rattle.rst_inline.specs.Elements.{text_element, inline_target_node, label_reference_node, substituted_node, uri_node};
 ghost use Rattle.rst_inline.specs.Embedded.{meant, phrase_display_text};
 ghost use Rattle.rst_inline.specs.Parts.{part, source, content};
-ghost use Rattle.rst_inline.specs.Readings.{plain_meaning, plain_reading, substitution_reading, embedded_reading, phrase_reading, role_reading, has_prefix_role, interpreted_reading, reading};
+ghost use Rattle.rst_inline.specs.Readings.{plain_meaning, plain_reading, embedded_reading, phrase_reading, role_reading, has_prefix_role, interpreted_reading, reading};
 
-use super::elements::{bare_element, element, text_nodes};
-use super::embedded::{dark_end, embedded_at, has_white, is_alias};
+use super::elements::element;
+use super::embedded::{dark_end, embedded_at, is_alias};
 use super::labels::{are_digits, numbered_footnote};
 use super::references::{embedded_reference, named_attrs, outer_reference, reference};
 use super::roles::role_tag;
 use super::texts::{name_value, normalized_value, part, spell, text_value};
 use super::written::Written;
 use rst_inline_scan::{Kind, Markup, Piece, Suffix};
-use rst_text::{unescaped, without_white};
-use rst_tree::{Attrs, Children, Entry, Key, Level, Node, Phrase, Result, Tag, Text, Value};
+use rst_text::{is_white, unescaped, without_white};
+use rst_tree::{Children, Entry, Key, Level, Node, Phrase, Result, Tag, Text, Value};
 use std::alloc::{AllocError, Global};
 use std::borrow::CowStr;
 
@@ -54,28 +53,14 @@ impl Written<'_> {
         ensures { IfOk result (λ reading. reading ≡ One (text_element tag [] (unescaped (content self.now.characters.items piece)) self.now.line)) }
     {
         let display_text = self.unescaped(piece.content_from, piece.content_to)?;
-        let children = text_nodes(self.alloc, display_text.as_str())?;
-        Ok(Meaning::One(Node::Element {
-            tag,
-            attrs: Attrs::new(self.alloc),
-            children,
-            line: self.line,
-        }))
-    }
-
-    #[inline(never)]
-    fn literal(&self, piece: Piece) -> Result<Meaning>
-        ensures { IfOk result (λ reading. reading ≡ One (text_element Literal [] (content self.now.characters.items piece) self.now.line)) }
-    {
-        let display_text = self.part(piece.content_from, piece.content_to);
         let attrs = Vec::new(self.alloc);
-        let node = element(self.alloc, Tag::Literal, attrs, display_text, self.line)?;
+        let node = element(self.alloc, tag, attrs, display_text.as_str(), self.line)?;
         Ok(Meaning::One(node))
     }
 
     #[inline(never)]
-    fn inline_target(&self, piece: Piece) -> Result<Meaning>
-        ensures { IfOk result (λ reading. reading ≡ One (inline_target_node (unescaped (content self.now.characters.items piece)) self.now.line)) }
+    fn inline_target(&self, piece: Piece) -> Result<Node>
+        ensures { IfOk result (λ node. node ≡ inline_target_node (unescaped (content self.now.characters.items piece)) self.now.line) }
     {
         let display_text = self.unescaped(piece.content_from, piece.content_to)?;
         let display_text = display_text.as_str();
@@ -83,14 +68,13 @@ impl Written<'_> {
             Entry::new(Key::Inline, Value::Number(1)),
             Entry::new(Key::OwnName, name_value(self.alloc, display_text)?),
         ]?;
-        let node = element(self.alloc, Tag::Target, attrs, display_text, self.line)?;
-        Ok(Meaning::One(node))
+        element(self.alloc, Tag::Target, attrs, display_text, self.line)
     }
 
     #[inline(never)]
-    fn substituted(&self, suffix: Suffix, piece: Piece) -> Result<Meaning>
+    fn substituted(&self, suffix: Suffix, piece: Piece) -> Result<Node>
         requires { IsWithin self.now.characters.items piece }
-        ensures { IfOk result (λ reading. reading ≡ substitution_reading suffix (part self.now.characters.items piece.from (piece.content_to + 1)) (source self.now.characters.items piece) (unescaped (content self.now.characters.items piece)) self.now.line) }
+        ensures { IfOk result (λ node. node ≡ substituted_node suffix (part self.now.characters.items piece.from (piece.content_to + 1)) (source self.now.characters.items piece) (unescaped (content self.now.characters.items piece)) self.now.line) }
     {
         let display_text = self.unescaped(piece.content_from, piece.content_to)?;
         let display_text = display_text.as_str();
@@ -104,18 +88,10 @@ impl Written<'_> {
         let tag = Tag::SubstitutionReference;
         let node = element(self.alloc, tag, attrs, display_text, self.line)?;
         match suffix {
-            Suffix::Bare => Ok(Meaning::One(node)),
+            Suffix::Bare => Ok(node),
             _ => {
                 let outer = self.part(piece.from, piece.to);
-                let node = outer_reference(
-                    self.alloc,
-                    suffix,
-                    outer,
-                    display_text,
-                    node,
-                    self.line,
-                )?;
-                Ok(Meaning::One(node))
+                outer_reference(self.alloc, suffix, outer, display_text, node, self.line)
             }
         }
     }
@@ -129,7 +105,7 @@ impl Written<'_> {
         if is_alias(enclosed) {
             return self.unescaped(low, high - 1);
         }
-        if !has_white(enclosed) {
+        if !enclosed.iter().any(|c| is_white(*c)) {
             return self.unescaped(low, high);
         }
         let plain = unescaped(self.alloc, enclosed)?;
@@ -157,6 +133,7 @@ impl Written<'_> {
     }
 
     /// A phrase with an embedded URI or alias.
+    #[tactic(auto, using(crate::proofs::TextLemmas::no_characters))]
     fn embedded(
         &self,
         suffix: Suffix,
@@ -186,7 +163,7 @@ impl Written<'_> {
                     Entry::new(Key::OwnName, name),
                     Entry::new(Key::Refuri, uri),
                 ]?;
-                let target = bare_element(self.alloc, Tag::Target, attrs, self.line);
+                let target = element(self.alloc, Tag::Target, attrs, "", self.line)?;
                 let nodes = vec![in self.alloc; node, target]?;
                 Ok(Meaning::Two(Children::of(nodes)))
             }
@@ -264,18 +241,15 @@ impl Written<'_> {
     }
 
     /// A reference to a footnote or a citation.
-    #[tactic(auto, using(crate::proofs::TextLemmas::chars_of_star))]
+    #[tactic(auto, using(crate::proofs::TextLemmas::chars_of_star, crate::proofs::TextLemmas::no_characters))]
     #[inline(never)]
-    fn label(&self, piece: Piece) -> Result<Meaning>
-        ensures { IfOk result (λ reading. reading ≡ One (label_reference_node (source self.now.characters.items piece) (content self.now.characters.items piece) self.now.line)) }
+    fn label(&self, piece: Piece) -> Result<Node>
+        ensures { IfOk result (λ node. node ≡ label_reference_node (source self.now.characters.items piece) (content self.now.characters.items piece) self.now.line) }
     {
         let source = self.part(piece.from, piece.to);
         let label = part(&self.characters, piece.content_from, piece.content_to);
         match label {
-            ['#', name @ ..] => {
-                let node = numbered_footnote(self.alloc, source, name, self.line)?;
-                Ok(Meaning::One(node))
-            }
+            ['#', name @ ..] => numbered_footnote(self.alloc, source, name, self.line),
             // A footnote with a symbol.
             ['*', ..] => {
                 let written = text_value(self.alloc, source)?;
@@ -284,8 +258,7 @@ impl Written<'_> {
                     Entry::new(Key::Auto, auto),
                     Entry::new(Key::Rawsource, written),
                 ]?;
-                let node = bare_element(self.alloc, Tag::FootnoteReference, attrs, self.line);
-                Ok(Meaning::One(node))
+                element(self.alloc, Tag::FootnoteReference, attrs, "", self.line)
             }
             _ => {
                 let written = text_value(self.alloc, source)?;
@@ -300,35 +273,22 @@ impl Written<'_> {
                 } else {
                     Tag::CitationReference
                 };
-                let node = element(self.alloc, tag, attrs, display_text.as_str(), self.line)?;
-                Ok(Meaning::One(node))
+                element(self.alloc, tag, attrs, display_text.as_str(), self.line)
             }
         }
     }
 
-    /// A reference by a simple name.
-    #[inline(never)]
-    fn named(&self, suffix: Suffix, piece: Piece) -> Result<Meaning>
-        ensures { IfOk result (λ reading. let display_text = content self.now.characters.items piece in reading ≡ One (reference_node suffix (source self.now.characters.items piece) display_text display_text self.now.line)) }
-    {
-        let source = self.part(piece.from, piece.to);
-        let name = self.part(piece.content_from, piece.content_to);
-        let node = reference(self.alloc, suffix, source, name, self.line)?;
-        Ok(Meaning::One(node))
-    }
-
     /// A standalone URI.
     #[inline(never)]
-    fn uri(&self, piece: Piece) -> Result<Meaning>
-        ensures { IfOk result (λ reading. reading ≡ One (uri_node (source self.now.characters.items piece) self.now.line)) }
+    fn uri(&self, piece: Piece) -> Result<Node>
+        ensures { IfOk result (λ node. node ≡ uri_node (source self.now.characters.items piece) self.now.line) }
     {
         let source = self.part(piece.from, piece.to);
         let attrs = vec![in self.alloc;
             Entry::new(Key::Rawsource, text_value(self.alloc, source)?),
             Entry::new(Key::Refuri, text_value(self.alloc, source)?),
         ]?;
-        let node = element(self.alloc, Tag::Reference, attrs, source, self.line)?;
-        Ok(Meaning::One(node))
+        element(self.alloc, Tag::Reference, attrs, source, self.line)
     }
 
     /// What a piece of the text means.
@@ -345,9 +305,16 @@ impl Written<'_> {
             },
             Kind::Marked(Markup::Strong, _) => self.text_element_of(Tag::Strong, piece),
             Kind::Marked(Markup::Emphasis, _) => self.text_element_of(Tag::Emphasis, piece),
-            Kind::Marked(Markup::Literal, _) => self.literal(piece),
-            Kind::Marked(Markup::Target, _) => self.inline_target(piece),
-            Kind::Marked(Markup::Substitution, suffix) => self.substituted(suffix, piece),
+            Kind::Marked(Markup::Literal, _) => {
+                let display_text = self.part(piece.content_from, piece.content_to);
+                let attrs = Vec::new(self.alloc);
+                let node = element(self.alloc, Tag::Literal, attrs, display_text, self.line)?;
+                Ok(Meaning::One(node))
+            }
+            Kind::Marked(Markup::Target, _) => Ok(Meaning::One(self.inline_target(piece)?)),
+            Kind::Marked(Markup::Substitution, suffix) => {
+                Ok(Meaning::One(self.substituted(suffix, piece)?))
+            }
             Kind::Marked(Markup::Interpreted, suffix) => self.interpreted(suffix, piece),
             Kind::Unended(markup) => {
                 let phrase = match markup {
@@ -360,9 +327,14 @@ impl Written<'_> {
                 };
                 Ok(Meaning::Wrong(Level::Warning, Text::of_phrase(self.alloc, phrase)))
             }
-            Kind::Label => self.label(piece),
-            Kind::Reference(suffix) => self.named(suffix, piece),
-            Kind::Uri => self.uri(piece),
+            Kind::Label => Ok(Meaning::One(self.label(piece)?)),
+            Kind::Reference(suffix) => {
+                let source = self.part(piece.from, piece.to);
+                let name = self.part(piece.content_from, piece.content_to);
+                let node = reference(self.alloc, suffix, source, name, self.line)?;
+                Ok(Meaning::One(node))
+            }
+            Kind::Uri => Ok(Meaning::One(self.uri(piece)?)),
         }
     }
 }
