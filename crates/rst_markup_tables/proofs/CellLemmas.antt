@@ -1,10 +1,11 @@
 -- The lines of a cell.
-use Rattle.std.proofs.Common.{◌≡◌, ℕ, zero, suc, ◌-◌, ◌<◌, true, false, List, [], ◌∷◌, drop, take, refl, sym, ap, ◌∙◌, subst, arith, map, Option, Some, None, chars}
+use Rattle.std.proofs.Common.{◌≡◌, ℕ, zero, suc, ◌-◌, ◌<◌, true, false, List, [], ◌∷◌, length, drop, take, refl, sym, ap, ◌∙◌, subst, arith, map, Option, Some, None, chars}
 use Rattle.std.specs.List.{list_any}
-use Rattle.std.specs.Str.{drop_trailing_whitespace, all_scalars, encode_utf8_all, trim_end, IsAscii, IsUtf8}
+use Rattle.std.specs.String.Boundary.{IsSplitPoint}
+use Rattle.std.specs.Str.{drop_trailing_whitespace, all_scalars, encode_utf8_all, trim_end, IsAscii, IsTrimEnd, IsUtf8}
 use Rattle.std.proofs.lemmas.Bool.{cond_both}
 use Rattle.std.proofs.lemmas.Bool.Decides.{nat_tests}
-use Rattle.std.proofs.lemmas.Str.{chars-encodes}
+use Rattle.std.proofs.lemmas.Str.{chars-encodes, IsCharBoundary-from_take}
 use Rattle.unicode_width.specs.Width.{char_width}
 use Rattle.rst_text.specs.Block.{Line, Block, indentation, is_blank}
 use Rattle.rst_text.specs.Lines.{is_line_end, is_line_text}
@@ -67,6 +68,13 @@ cut-keeps P prefixes rests left (Some right) ps h =
 cut-keeps P prefixes rests left None ps h = let rest = characters-drop left ps in subst P (sym rest.1) (rests rest.0 (characters ps) h)
 
 -- ---- the text of a cell in a line
+
+-- a text may be cut where it is trimmed
+pub trimmed-cut : (bytes trimmed : List ℕ) → IsUtf8 bytes → IsUtf8 trimmed → IsTrimEnd bytes trimmed → IsSplitPoint bytes (length trimmed) × (take (length trimmed) bytes ≡ trimmed)
+trimmed-cut bytes trimmed good fine is =
+    let front : take (length trimmed) bytes ≡ trimmed = ap (λ n. take n bytes) is.4 ∙ sym is.1 in
+    let between = IsCharBoundary-from_take bytes (length trimmed) good (omega (arith, is.4, is.5)) (subst IsUtf8 (sym front) fine) in
+    ((between.0, λ _ inside. between.1 inside), front)
 
 pub read_text : (left : ℕ) (right : Option ℕ) (row places : List Place) (bytes trimmed : List ℕ) → places ≡ cut_places left right row → AreOfLine row → bytes ≡ encode_utf8_all (characters places) → IsUtf8 trimmed → trimmed ≡ trim_end bytes
     → (chars trimmed ≡ drop_trailing_whitespace (characters (cut_places left right row))) × (is_line_text (chars trimmed) ≡ true)

@@ -107,13 +107,9 @@ cell_of row_rank column_rank G r = record {
 abbrev pub row_cells : (ℕ → ℕ) → (ℕ → ℕ) → Grid → List Rectangle → ℕ → List Cell
 row_cells row_rank column_rank G rs n = map (cell_of row_rank column_rank G) (filter (λ r. row_rank r.top == n) rs)
 
--- the rows, one between each bound and the next
-abbrev pub cell_rows : (ℕ → ℕ) → (ℕ → ℕ) → Grid → List Rectangle → ℕ → List (List Cell)
-cell_rows row_rank column_rank G rs count = map (row_cells row_rank column_rank G rs) (range_with_len 0 count)
-
--- the rows of a tiled table, each with the cells that begin in it
+-- the rows of a tiled table, one between each bound and the next, each with the cells that begin in it
 abbrev pub table_rows : Grid → List Rectangle → List (List Cell)
-table_rows G rs = cell_rows (below (is_row G rs)) (below (is_column G rs)) G rs (below (is_row G rs) (length G) - 1)
+table_rows G rs = let row_rank = below (is_row G rs) in map (row_cells row_rank (below (is_column G rs)) G rs) (range_with_len 0 (row_rank (length G) - 1))
 
 -- the widths of the columns of a tiled table
 abbrev pub column_widths : Grid → List Rectangle → List ℕ

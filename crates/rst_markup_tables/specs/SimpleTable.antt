@@ -173,13 +173,9 @@ first_in_margin T (r ∷ rs) = option_or (text_in_margin T (row_spans T r) r.fro
 abbrev pub lines_of_row : Grid → RowLines → Grid
 lines_of_row T r = slice_range T r.from r.to
 
--- how many places the longest of some lines has, 0 where there are none
-abbrev pub longest_line_len : Grid → ℕ
-longest_line_len lines = fold max 0 (map (λ line. length line.places) lines)
-
--- how many places the longest line of the rows has
+-- how many places the longest line of the rows has, 0 where there are none
 abbrev pub longest_of : Grid → List RowLines → ℕ
-longest_of T rows = longest_line_len (flat_map (lines_of_row T) rows)
+longest_of T rows = fold max 0 (map (λ line. length line.places) (flat_map (lines_of_row T) rows))
 
 -- the k-th span
 abbrev pub span_of : List RuleSpan → ℕ → RuleSpan

@@ -42,7 +42,9 @@ fn cell_text(
             continue;
         }
     }
-    String::from_str(alloc, text.trim_end())
+    let len = text.trim_end().len();
+    text.truncate(len);
+    Ok(text)
 }
 
 /// The texts of a cell in the lines at some places, with these places. Empty ones are left out.
@@ -103,11 +105,14 @@ fn least_indent(texts: &[(usize, String)]) -> usize
 }
 
 /// Texts without their first `n` characters.
-fn shortened(alloc: Global, texts: &[(usize, String)], n: usize) -> Result<Vec<(usize, String)>>
-    ensures { IfOk result (λ short. texts_with short.items ≡ map (λ (t : ℕ × List ℕ). (t.0, drop n t.1)) (texts_with texts.now)) }
+fn shortened(alloc: Global, texts: Vec<(usize, String)>, n: usize) -> Result<Vec<(usize, String)>>
+    ensures { IfOk result (λ short. texts_with short.items ≡ map (λ (t : ℕ × List ℕ). (t.0, drop n t.1)) (texts_with texts.items)) }
 {
+    if n == 0 {
+        return Ok(texts);
+    }
     let mut short = Vec::with_capacity(alloc, texts.len())?;
-    for (k, text) in texts {
+    for (k, text) in &texts {
         let text = String::from_str(alloc, skip(text.as_str(), n))?;
         short.push((*k, text))?;
     }
@@ -130,19 +135,15 @@ pub(crate) fn cell_lines(
 {
     let texts = cell_texts(alloc, lines, among, left, right)?;
     let least = least_indent(&texts);
-    let short = shortened(alloc, &texts, least)?;
-    let Some(last) = lines.last() else {
-        return Ok(CellLines {
-            first: 0,
-            count: 0,
-            texts: short,
-        });
-    };
+    let texts = shortened(alloc, texts, least)?;
     let count = lines.len();
-    let first = last.number() - (count - 1);
+    let first = match lines.last() {
+        Some(last) => last.number() - (count - 1),
+        None => 0,
+    };
     Ok(CellLines {
         first,
         count,
-        texts: short,
+        texts,
     })
 }

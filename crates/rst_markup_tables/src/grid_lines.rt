@@ -147,7 +147,9 @@ pub(crate) fn put_dashes(
 {
     if let Some(k) = head {
         let places = dashes(alloc, lines[k].places())?;
-        lines[k] = TableLine::with(lines[k].number(), places);
+        let number = lines[k].number();
+        let line = TableLine { number, places };
+        lines[k] = line;
     }
     Ok(())
 }

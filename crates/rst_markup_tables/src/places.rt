@@ -32,8 +32,8 @@ impl Place {
 /// A line of a table: its number and its places.
 #[derive(Drop)]
 pub(crate) struct TableLine {
-    number: usize,
-    places: Vec<Place>,
+    pub(crate) number: usize,
+    pub(crate) places: Vec<Place>,
 }
 
 impl Model for TableLine {
@@ -50,14 +50,6 @@ impl Model for TableLine {
 
 impl TableLine {
     ghost use Rattle.rst_markup_tables.specs.Cells.{AreOfLine};
-
-    /// The line with this number and these places.
-    pub(crate) fn with(number: usize, places: Vec<Place>) -> TableLine
-        requires { AreOfLine places.items }
-        ensures { result ≡ record { number = number; places = places.items } }
-    {
-        TableLine { number, places }
-    }
 
     /// The line's number in its document.
     pub(crate) fn number(&self) -> usize

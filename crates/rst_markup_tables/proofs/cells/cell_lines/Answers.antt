@@ -6,10 +6,10 @@ use Rattle.rst_markup_tables.specs.Places.{Grid, no_row}
 use Rattle.rst_markup_tables.proofs.Texts.{cell_block-is, cell-placed, drop_each}
 use Rattle.rst_markup_tables.proofs.cells.cell_lines.Goals as goal
 
-pub invariant_of-result-2 : goal.invariant_of-result-2
-invariant_of-result-2 c =
+pub invariant_of-result : goal.invariant_of-result
+invariant_of-result c =
     let texts = c.in_ok-texts.ensures.texts ∙ ap (texts_among c.args.left c.args.right c.args.lines.now) c.requires.among in
-    (cell-placed c.args.left c.args.right c.args.lines.now c.least_indent-least.result _ _ texts c.in_ok-texts.ensures.lines (c.in_ok-short.ensures ∙ ap (λ ts. drop_each c.least_indent-least.result (texts_with ts)) c.deref-2.ensures.value), search rules, search rules)
+    (cell-placed c.args.left c.args.right c.args.lines.now c.least_indent-least.result _ _ texts c.in_ok-texts.ensures.lines (c.in_ok-texts-2.ensures), search rules, search rules)
 
 pub returns : goal.returns
 returns c =
@@ -17,5 +17,5 @@ returns c =
     let least : ℕ = c.least_indent-least.result in
     let texts = c.in_ok-texts.ensures.texts ∙ ap (texts_among c.args.left c.args.right G) c.requires.among in
     let indent = c.least_indent-least.ensures ∙ ap (λ ts. least_indent (as_lines (texts_with ts))) c.deref.ensures.value in
-    let first : c.number.result - (length G - 1) ≡ (get_or G 0 no_row).number = search rules in
-    cell_block-is c.args.left c.args.right G _ least _ _ c.requires.numbered first texts indent (c.in_ok-short.ensures ∙ ap (λ ts. drop_each least (texts_with ts)) c.deref-2.ensures.value)
+    let first : c.match-last.first ≡ (get_or G 0 no_row).number = search rules in
+    cell_block-is c.args.left c.args.right G _ least _ _ c.requires.numbered first texts indent (c.in_ok-texts-2.ensures)
